@@ -1,0 +1,146 @@
+-- The form of each kind: which fields it has, and their limits. SHAPE and RANGE look at nothing else.
+use Prim.Native.Nat.{ℕ, _^_}
+use mathlib.Core.Bool.{Bool, true, false, not, cond, _||_}
+use mathlib.Core.List.{List, [], _∷_, _++_}
+use lib.Dec.{eqb, ltb, leb}
+use lib.ListN.{length}
+use Rattle.paper_lower.specs.Lists.{Maybe}
+use Rattle.paper_lower.specs.Lists.Maybe.{none, just}
+use Rattle.paper_lower.specs.Checks.{Check, SHAPE, RANGE}
+use Rattle.paper_lower.specs.Records.{Bytes, Record, decode}
+
+-- What may stand in a field: nothing but zero; a number up to a limit; anything that fits; an operation and an object.
+pub data Field : Type 0 where
+  · : Field
+  to : ℕ → Field
+  any : Field
+  pair : Field
+
+-- "Users 0 to 1,023. Roles 0 to 63. Permissions 0 to 255. Tasks 0 to 63. Templates 0 to 15. Partitionings 0 to 15.
+-- Subjects (sessions) 0 to 127. Instances (orders) 0 to 63."
+abbrev pub user : Field
+user = to 1023
+
+abbrev pub role : Field
+role = to 63
+
+abbrev pub permission : Field
+permission = to 255
+
+abbrev pub task : Field
+task = to 63
+
+abbrev pub template : Field
+template = to 15
+
+abbrev pub partitioning : Field
+partitioning = to 15
+
+abbrev pub subject : Field
+subject = to 127
+
+abbrev pub order : Field
+order = to 63
+
+pub record Form : Type 0 where
+  pub kind : ℕ
+  pub n : Field
+  pub a : Field
+  pub b : Field
+  pub c : Field
+  pub m : Field
+
+abbrev pub form : ℕ → Field → Field → Field → Field → Field → Form
+form kind n a b c m = record { kind = kind; n = n; a = a; b = b; c = c; m = m }
+
+-- The table: kind, then n, a, b, c, m. "Policy kinds:"
+unfoldable pub policyForms : List Form
+policyForms =
+    form 1 · user · · ·
+    ∷ form 2 · role · · ·
+    ∷ form 3 · permission any any ·
+    ∷ form 4 · user role · ·
+    ∷ form 5 · role permission · ·
+    ∷ form 6 · task template · ·
+    ∷ form 7 · task role · ·
+    ∷ form 8 · task permission · ·
+    ∷ form 9 any · · · any
+    ∷ form 10 any · · · any
+    ∷ form 11 any · · · any
+    ∷ form 12 · partitioning · · any
+    ∷ form 13 · template · · ·
+    ∷ form 14 any task · · ·
+    ∷ form 15 · task task · ·
+    ∷ form 16 · task task · ·
+    ∷ []
+
+-- "Request kinds:", those of the lower part
+unfoldable pub lowerForms : List Form
+lowerForms =
+    form 32 · user · · ·
+    ∷ form 33 · user · · ·
+    ∷ form 34 · user role · ·
+    ∷ form 35 · user role · ·
+    ∷ form 36 · role permission · ·
+    ∷ form 37 · role permission · ·
+    ∷ form 40 · subject user · any
+    ∷ form 41 · subject · · ·
+    ∷ form 42 · subject role · ·
+    ∷ form 43 · subject role · ·
+    ∷ form 56 · subject any any ·
+    ∷ []
+
+-- and those of the upper part
+unfoldable pub upperForms : List Form
+upperForms =
+    form 48 · order template · ·
+    ∷ form 49 · order · · ·
+    ∷ form 50 · subject order task ·
+    ∷ form 51 · subject order task ·
+    ∷ form 52 · subject order task ·
+    ∷ form 57 · subject order task pair
+    ∷ []
+
+unfoldable pub requestForms : List Form
+requestForms = lowerForms ++ upperForms
+
+-- the form of a kind, if the call takes the kind
+unfoldable pub formOf : List Form → ℕ → Maybe Form
+formOf [] k = none
+formOf (f ∷ fs) k = cond (eqb (f .kind) k) (just f) (formOf fs k)
+
+-- "unused field not zero, m of kind 57 too large"
+unfoldable pub misplaced : Field → ℕ → Bool
+misplaced · x = not (eqb x 0)
+misplaced (to k) x = false
+misplaced any x = false
+misplaced pair x = leb (2 ^ 32) x
+
+-- "a number above its limit"
+unfoldable pub above : Field → ℕ → Bool
+above · x = false
+above (to k) x = ltb k x
+above any x = false
+above pair x = false
+
+-- "kind not of this call, unused field not zero, m of kind 57 too large"
+unfoldable pub misshapen : Maybe Form → Record → Bool
+misshapen none r = true
+misshapen (just f) r =
+    misplaced (f .n) (r .n) || misplaced (f .a) (r .a) || misplaced (f .b) (r .b) || misplaced (f .c) (r .c) || misplaced (f .m) (r .m)
+
+unfoldable pub outOfRange : Maybe Form → Record → Bool
+outOfRange none r = false
+outOfRange (just f) r = above (f .n) (r .n) || above (f .a) (r .a) || above (f .b) (r .b) || above (f .c) (r .c) || above (f .m) (r .m)
+
+-- the two checks that every record meets first; SHAPE also "not 16 bytes"
+unfoldable pub formChecks : List Form → Bytes → List Check
+formChecks fs s =
+    (not (eqb (length s) 16) || misshapen (formOf fs (decode s .kind)) (decode s), SHAPE)
+    ∷ (outOfRange (formOf fs (decode s .kind)) (decode s), RANGE)
+    ∷ []
+
+-- What this page defines, opened together where a case is computed.
+unfoldable pub formsOpen : Unit {0}
+unfolding policyForms lowerForms upperForms requestForms formOf misplaced above misshapen outOfRange formChecks
+formsOpen = tt

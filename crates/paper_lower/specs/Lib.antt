@@ -1,0 +1,13 @@
+pub mod Sets
+pub mod Lists
+pub mod Checks
+pub mod Records
+pub mod Forms
+pub mod Kinds
+pub mod Tables
+pub mod Policy
+pub mod Load
+pub mod Roles
+pub mod Sessions
+pub mod Words
+pub mod Samples

@@ -1,0 +1,64 @@
+-- Requests 32 to 37: users, their roles, and what roles may do. (32, 34 and 36 are kinds 1, 4 and 5 after the load.)
+use Prim.Native.Nat.{ℕ}
+use mathlib.Core.Bool.{Bool, false, not, cond, _&&_, _||_}
+use mathlib.Core.List.{List, [], _∷_}
+use lib.Dec.{eqb}
+use Rattle.paper_lower.specs.Sets.{Set, empty, has, minus, unionBelow}
+use Rattle.paper_lower.specs.Lists.{upd, someBelow, there}
+use Rattle.paper_lower.specs.Checks.{Check, UNKNOWN, IN-USE}
+use Rattle.paper_lower.specs.Kinds.{Kind, on}
+use Rattle.paper_lower.specs.Tables.{Policy, Sessions, Lower, withPeople, withPermissions, withPolicy, withAssigned, withHolders}
+use Rattle.paper_lower.specs.Policy.{userChecks, userNext, assignChecks, assignNext, giveChecks, giveNext}
+
+-- subject k is a live one of user u
+unfoldable pub ofUser : Sessions → ℕ → ℕ → Bool
+ofUser s u k = s .live k && eqb (s .user k) u
+
+-- "active at a time, over all the user's subjects together"
+unfoldable pub activeOf : Sessions → ℕ → Set
+activeOf s u = unionBelow 128 (λ k. cond (ofUser s u k) (s .active k) empty)
+
+-- ---- "33 delete user a." IN USE: "while the user has a live subject" (or, judged above, an entry in an open instance).
+unfoldable pub deleteChecks : Lower → ℕ → List Check
+deleteChecks t a = (not (t .policy .people .users a), UNKNOWN) ∷ (someBelow 128 (ofUser (t .sessions) a), IN-USE) ∷ []
+
+-- "Deleting a user also removes the user's assignments."
+unfoldable pub deleteNext : Policy → ℕ → Policy
+deleteNext p a =
+    withPeople p (record { users = upd (p .people .users) a false; roles = p .people .roles; assigned = upd (p .people .assigned) a empty })
+
+-- ---- "35 take it back": role b from user a. IN USE: "while the role is active in a subject of that user".
+unfoldable pub takeBackChecks : Lower → ℕ → ℕ → List Check
+takeBackChecks t a b =
+    (not (t .policy .people .users a) || not (has (t .policy .people .roles) b) || not (has (t .policy .people .assigned a) b), UNKNOWN)
+    ∷ (has (activeOf (t .sessions) a) b, IN-USE)
+    ∷ []
+
+unfoldable pub takeBackNext : Policy → ℕ → ℕ → Policy
+takeBackNext p a b = withPeople p (withAssigned (p .people) (upd (p .people .assigned) a (minus (p .people .assigned a) b)))
+
+-- ---- "37 take it back": permission b from role a.
+unfoldable pub withdrawChecks : Policy → ℕ → ℕ → List Check
+withdrawChecks p a b =
+    (not (has (p .people .roles) a) || not (there (p .permissions .declared b)) || not (has (p .permissions .holders b) a), UNKNOWN)
+    ∷ []
+
+unfoldable pub withdrawNext : Policy → ℕ → ℕ → Policy
+withdrawNext p a b =
+    withPermissions p (withHolders (p .permissions) (upd (p .permissions .holders) b (minus (p .permissions .holders b) a)))
+
+-- ---- All of them. "32 add user a." "34 assign role b to user a." "36 give role a permission b."
+unfoldable pub roleKinds : List (Kind Lower)
+roleKinds =
+    on 32 (λ t r. userChecks (t .policy) (r .a)) (λ t r. withPolicy t (userNext (t .policy) (r .a)))
+    ∷ on 33 (λ t r. deleteChecks t (r .a)) (λ t r. withPolicy t (deleteNext (t .policy) (r .a)))
+    ∷ on 34 (λ t r. assignChecks (t .policy) (r .a) (r .b)) (λ t r. withPolicy t (assignNext (t .policy) (r .a) (r .b)))
+    ∷ on 35 (λ t r. takeBackChecks t (r .a) (r .b)) (λ t r. withPolicy t (takeBackNext (t .policy) (r .a) (r .b)))
+    ∷ on 36 (λ t r. giveChecks (t .policy) (r .a) (r .b)) (λ t r. withPolicy t (giveNext (t .policy) (r .a) (r .b)))
+    ∷ on 37 (λ t r. withdrawChecks (t .policy) (r .a) (r .b)) (λ t r. withPolicy t (withdrawNext (t .policy) (r .a) (r .b)))
+    ∷ []
+
+-- What this page defines, opened together where a case is computed.
+unfoldable pub rolesOpen : Unit {0}
+unfolding ofUser activeOf deleteChecks deleteNext takeBackChecks takeBackNext withdrawChecks withdrawNext roleKinds
+rolesOpen = tt

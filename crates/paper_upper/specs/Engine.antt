@@ -1,0 +1,31 @@
+-- The whole engine: its request. (Its load is the lower part's, and leaves no subject, no order and no entry.)
+use mathlib.Core.List.{List, _++_}
+use Rattle.paper_lower.specs.Lists.{each}
+use Rattle.paper_lower.specs.Records.{Bytes}
+use Rattle.paper_lower.specs.Forms.{requestForms}
+use Rattle.paper_lower.specs.Kinds.{Kind, on, Answer, answer}
+use Rattle.paper_lower.specs.Tables.{Policy, Lower}
+use Rattle.paper_lower.specs.Sessions.{lowerKinds, lowerOf, lowerOpen}
+use Rattle.paper_upper.specs.Orders.{Engine, noOrders, withLower, ordersOpen}
+use Rattle.paper_upper.specs.Rules.{rulesOpen}
+use Rattle.paper_upper.specs.Requests.{upperKinds, requestsOpen}
+
+-- a kind of the lower part, over the whole engine
+unfoldable pub raised : Kind Lower → Kind Engine
+raised k = on (k .kind) (λ t r. k .checks (t .lower) r) (λ t r. withLower t (k .next (t .lower) r))
+
+-- the first kind with a number counts: 33 and 41 are those of the upper part
+unfoldable pub requestKinds : List (Kind Engine)
+requestKinds = upperKinds ++ each raised lowerKinds
+
+unfoldable pub request : Engine → Bytes → Answer Engine
+request t s = answer requestForms requestKinds t s
+
+-- the engine after a load
+unfoldable pub engineOf : Policy → Engine
+engineOf p = record { lower = lowerOf p; orders = noOrders }
+
+-- All pages of both parts, opened together where a case is computed.
+unfoldable pub engineOpen : Unit {0}
+unfolding lowerOpen ordersOpen rulesOpen requestsOpen raised requestKinds request engineOf
+engineOpen = tt

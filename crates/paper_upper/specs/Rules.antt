@@ -1,0 +1,74 @@
+-- The claim rules, for a claim of task t by user u in instance i. Those that go through a list answer the place of the first rule broken,
+-- from 1 and in policy order, or 0.
+use Prim.Native.Nat.{ℕ}
+use mathlib.Core.Bool.{Bool, not, cond, _&&_, _||_}
+use mathlib.Core.List.{List, [], _∷_}
+use lib.Dec.{eqb, leb}
+use Rattle.paper_lower.specs.Sets.{Set, has, minus, overlap, meets, within}
+use Rattle.paper_lower.specs.Lists.{Maybe, holds, some, many, keep, place, firstOf}
+use Rattle.paper_lower.specs.Checks.{Check, BEFORE, SEPARATION, BLOCK, ALONE, BOUND, COUNT}
+use Rattle.paper_lower.specs.Tables.{Tasks, Limit, Block, Pair, Rules}
+use Rattle.paper_lower.specs.Policy.{tasksOf}
+use Rattle.paper_upper.specs.Orders.{Entry, ofTask, tasksBy, tasksDone, tasksOthers}
+
+-- "BEFORE: some task required before t has no done entry in the instance."
+unfoldable pub missing : Set → ℕ → Pair → Bool
+missing finished t x = eqb (x .b) t && not (has finished (x .a))
+
+unfoldable pub before : Rules → Set → ℕ → ℕ
+before k finished t = place (missing finished t) (k .befores)
+
+-- "SEPARATION: a task set with t in it has n or more members in D other than t."
+unfoldable pub crowded : Set → ℕ → Limit → Bool
+crowded d t l = has (l .members) t && leb (l .n) (overlap (l .members) (minus d t))
+
+unfoldable pub separation : Rules → Set → ℕ → ℕ
+separation k d t = place (crowded d t) (k .taskSets)
+
+-- "BLOCK: in a partitioning that has t in a block, D meets another block. The search ends at the first such block of the first such
+-- partitioning, partitionings by number and blocks in policy order."
+unfoldable pub own : ℕ → ℕ → Block → Bool
+own q t x = eqb (x .partitioning) q && has (x .tasks) t
+
+unfoldable pub strange : ℕ → Set → ℕ → Block → Bool
+strange q d t x = eqb (x .partitioning) q && not (has (x .tasks) t) && meets (x .tasks) d
+
+unfoldable pub blockIn : Rules → Set → ℕ → ℕ → ℕ
+blockIn k d t q = cond (some (own q t) (k .blocks)) (place (strange q d t) (k .blocks)) 0
+
+unfoldable pub block : Rules → Set → ℕ → ℕ
+block k d t = firstOf 0 16 (blockIn k d t)
+
+-- "ALONE: the template is banned for lone workers and every task of it other than t is in D."
+unfoldable pub alone : Tasks → Maybe ℕ → Set → ℕ → Bool
+alone k template d t = holds (λ j. k .banned j && within (minus (tasksOf k j) t) d) template
+
+-- "BOUND: a task bound with t, on either side of the binding, has an entry of another user."
+unfoldable pub tied : Set → ℕ → Pair → Bool
+tied others t x = eqb (x .a) t && has others (x .b) || eqb (x .b) t && has others (x .a)
+
+unfoldable pub bound : Rules → Set → ℕ → ℕ
+bound k others t = place (tied others t) (k .bindings)
+
+-- "COUNT: t has a limit and that many entries already, of anyone."
+unfoldable pub spent : Tasks → ℕ → ℕ → Bool
+spent k times t = holds (λ n. leb n times) (k .most t)
+
+-- ---- "the claim rules, in this order"
+abbrev pub found : ℕ → Bool
+found k = not (eqb k 0)
+
+unfoldable pub ruleChecks : Tasks → Rules → Maybe ℕ → List Entry → ℕ → ℕ → ℕ → List Check
+ruleChecks k rules template es i u t =
+    (found (before rules (tasksDone i es) t), BEFORE)
+    ∷ (found (separation rules (tasksBy i u es) t), SEPARATION)
+    ∷ (found (block rules (tasksBy i u es) t), BLOCK)
+    ∷ (alone k template (tasksBy i u es) t, ALONE)
+    ∷ (found (bound rules (tasksOthers i u es) t), BOUND)
+    ∷ (spent k (many (keep (ofTask i t) es)) t, COUNT)
+    ∷ []
+
+-- What this page defines, opened together where a case is computed.
+unfoldable pub rulesOpen : Unit {0}
+unfolding missing before crowded separation own strange blockIn block alone tied bound spent ruleChecks
+rulesOpen = tt
