@@ -1,0 +1,5 @@
+pub mod ReplyLaws
+pub mod DoneLaws
+pub mod CellLaws
+pub mod RowLaws
+pub mod SearchLaws
