@@ -56,7 +56,7 @@ impl Set {
     pub fn overlap(self, other: Set) -> u64
         ensures { λ r. ⌜ r ≡ overlap (self .bits) (other .bits) ⌝ }
     {
-        u64::count_ones(self.bits & other.bits) as u64
+        self.meet(other).count()
     }
 
     pub fn meets(self, other: Set) -> bool

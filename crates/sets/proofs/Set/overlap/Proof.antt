@@ -1,21 +1,19 @@
--- The count of the common ones is 01's overlap, and fits a word.
-use mathlib.Core.Path.{sym}
-use native.Mathlib.Omega.{arith}
-use lib.Bits.{bitAnd, and-lt}
-use lib.Count.{ones-le}
+-- The size of the common members is 01's overlap.
+use mathlib.Core.Path.{ap, _∙_}
 use borrow.Author.Needs.{needs}
-use Rattle.sets.proofs.SetLaws.{overlap-ones}
+use Rattle.paper_lower.specs.Sets.{size, overlap}
 use Rattle.sets.proofs.Set.overlap.Statement.{statement}
 use Rattle.sets.proofs.Set.overlap.Tie as tie
 
-cast-result : tie.Need-cast-result
-cast-result c =
-    let m = c .before .before .args .self .bits in
-    let k = c .before .before .args .other .bits in
-    omega (arith, ones-le 64 (bitAnd m k) (and-lt 64 m k (search needs) (search needs)))
+meet-requires : tie.Need-meet-requires
+meet-requires c κs = search needs
+
+count-requires : tie.Need-count-requires
+count-requires c κs = search needs
 
 returns : tie.Need-returns
-returns c = sym (overlap-ones (c .before .before .args .self .bits) (c .before .before .args .other .bits))
+unfolding overlap
+returns c = c .count .ensures ∙ ap size (c .before .meet .ensures)
 
 pub overlap-spec : {M : Type 1} → statement M
-overlap-spec = tie.close (tie.spec cast-result returns)
+overlap-spec = tie.close (tie.spec meet-requires count-requires returns)
