@@ -190,6 +190,10 @@ has-other d c x n = has-plus d c x ∙ ap (λ b. has d x || b) (ne-eqb x c n) �
 pub plus-member : (d : Set) (c x : ℕ) → has (plus d c) x ≡ true → (x ≡ c) ⊎ (has d x ≡ true)
 plus-member d c x h = ⊎-elim (λ e. inl e) (λ n. inr (sym (has-other d c x n) ∙ h)) (same-or-other x c)
 
+pub plus-old : (d : Set) (c : ℕ) → has d c ≡ true → plus d c ≡ d
+plus-old d c h =
+    same-members (plus d c) d (λ x. ⊎-elim (λ (e : x ≡ c). rw e (has-new d c ∙ sym h)) (λ n. has-other d c x n) (same-or-other x c))
+
 pub has-gone : (d : Set) (c : ℕ) → has (minus d c) c ≡ false
 has-gone d c = bit-hasnt (minus d c) c (minus-same d c)
 
@@ -220,6 +224,27 @@ collect-below (suc n) f x l =
     (λ n'. collect-step n f x
     ∙ ap₂ _||_ (collect-below n f x (omega arith)) (ap (λ b. f n && b) (ne-eqb x n n') ∙ and-false (f n)) ∙ or-false (f x))
     (same-or-other x n)
+
+pub collect-same : (n : ℕ) (f g : ℕ → Bool) → ((x : ℕ) → x < n → f x ≡ g x) → collect n f ≡ collect n g
+unfolding collect
+collect-same zero f g h = refl
+collect-same (suc n) f g h =
+    ap₂ (λ (b : Bool) (m : Set). cond b (plus m n) m) (h n (omega arith)) (collect-same n f g (λ x l. h x (omega arith)))
+
+-- one number more that has the property
+pub collect-plus : (n : ℕ) (f g : ℕ → Bool) (t : ℕ) → t < n → g t ≡ true → ((x : ℕ) → (x ≡ t → ⊥) → g x ≡ f x)
+    → collect n g ≡ plus (collect n f) t
+collect-plus n f g t l new old =
+    same-members (collect n g) (plus (collect n f) t) (λ x. go x (same-or-other x t) (ltb x n) refl)
+  where
+    go : (x : ℕ) → (x ≡ t) ⊎ (x ≡ t → ⊥) → (b : Bool) → ltb x n ≡ b → has (collect n g) x ≡ has (plus (collect n f) t) x
+    go x (inl e) b o = rw e (collect-below n g t l ∙ new ∙ sym (has-new (collect n f) t))
+    go x (inr e) false o =
+        let above = ltb-false x n o in
+        collect-above n g x above ∙ sym (has-other (collect n f) t x e ∙ collect-above n f x above)
+    go x (inr e) true o =
+        let below = ltb-true x n o in
+        collect-below n g x below ∙ old x e ∙ sym (has-other (collect n f) t x e ∙ collect-below n f x below)
 
 -- a set below 2 ^ n has members below n alone, and a set of such members is below 2 ^ n
 pub has-above : (n : ℕ) (m : Set) (i : ℕ) → m < 2 ^ n → n ≤ i → has m i ≡ false
