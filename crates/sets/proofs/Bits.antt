@@ -1,8 +1,8 @@
 -- The bits of a number, lowest first: the bits of the operations, and that numbers with the same bits are equal.
 use mathlib.Core.Path.{_≡_, refl, sym, ap, _∙_}
 use mathlib.Core.Logic.{_⊎_, inl, inr, ⊎-elim}
-use Prim.Native.Nat.{ℕ, zero, suc, _+_, _*_, _/_, _%_, _^_, _<_, _≤_, min, max}
-use native.Mathlib.Nat.{pow-suc, one-mul}
+use Prim.Native.Nat.{ℕ, zero, suc, _+_, _-_, _*_, _/_, _%_, _^_, _<_, _≤_, min, max}
+use native.Mathlib.Nat.{pow-suc, one-mul, not-suc-le-zero}
 use native.Mathlib.Numerals.{one-add}
 use native.Mathlib.Omega.{arith}
 use native.Mathlib.Decide.{ℕ-discrete}
@@ -136,6 +136,16 @@ pub bit-xor : (i a b : ℕ) → bit i (bitXor a b) ≡ differ (bit i a) (bit i b
 unfolding bit
 bit-xor zero a b = xor-low a b
 bit-xor (suc i) a b = ap (bit i) (xor-half a b) ∙ bit-xor i (a / 2) (b / 2)
+
+-- `!a` in the code, of n digits
+pub bit-not : (n i a : ℕ) → a < 2 ^ n → i < n → bit i (2 ^ n - 1 - a) + bit i a ≡ 1
+unfolding bit
+bit-not zero i a h l = absurd (not-suc-le-zero l)
+bit-not (suc n) zero a h l = let p = pow-suc 2 n in omega arith
+bit-not (suc n) (suc i) a h l =
+    let p = pow-suc 2 n in
+    let e : (2 ^ suc n - 1 - a) / 2 ≡ 2 ^ n - 1 - a / 2 = omega arith in
+    ap (λ (x : ℕ). bit i x + bit i (a / 2)) e ∙ bit-not n i (a / 2) (omega arith) (omega arith)
 
 -- ---- the number with one bit
 pow-half : (t : ℕ) → 2 ^ suc t / 2 ≡ 2 ^ t

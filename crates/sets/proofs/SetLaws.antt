@@ -2,17 +2,17 @@
 use mathlib.Core.Path.{_≡_, refl, sym, ap, ap₂, _∙_}
 use mathlib.Core.Bool.{Bool, true, false, not, cond, _&&_, _||_, or-true, or-false}
 use mathlib.Core.Logic.{_⊎_, inl, inr, ⊎-elim}
-use Prim.Native.Nat.{ℕ, zero, suc, _+_, _/_, _%_, _^_, _<_, _≤_, min, max}
+use Prim.Native.Nat.{ℕ, zero, suc, _+_, _-_, _/_, _%_, _^_, _<_, _≤_, min, max}
 use native.Mathlib.Omega.{arith}
 use native.Mathlib.Nat.{le-refl, not-suc-le-zero}
-use borrow.Author.Tests.{eq-eqb, ne-eqb, eqb-true, eqb-false, not-true, not-false}
+use borrow.Author.Tests.{eq-eqb, ne-eqb, eqb-true, eqb-false, ltb-true, ltb-false, not-true, not-false}
 use lib.Arith.{half-le}
-use lib.Dec.{eqb}
+use lib.Dec.{eqb, ltb}
 use lib.Pow.{pow-lt, pow-pos}
 use lib.Bits.{bitAnd, bitOr, bitXor, differ, and-zero-r, and-comm, or-comm, and-lt, or-lt}
 use lib.Count.{ones, ones-step, ones-le}
 use Rattle.paper_lower.specs.Sets.{Set, empty, has, plus, minus, union, cut, onesIn, size, overlap, meets, within, collect, unionBelow}
-use Rattle.sets.proofs.Bits.{bit, bit-le, bit-shr, bit-zero, same-or-other, le-bits, ext-bits, ones-bits, some-bit, bit-above, below-bits, bit-or, bit-and, bit-xor, bit-one, bit-other, ones-or, and-or-in, and-or-out}
+use Rattle.sets.proofs.Bits.{bit, bit-le, bit-shr, bit-zero, same-or-other, le-bits, ext-bits, ones-bits, some-bit, bit-above, below-bits, bit-or, bit-and, bit-xor, bit-not, bit-one, bit-other, ones-or, and-or-in, and-or-out}
 
 -- ---- membership is a bit
 abbrev pub digit : Bool → ℕ
@@ -85,6 +85,30 @@ minus-other i m t n =
     (λ h. ap (bit i) (minus-in m t h) ∙ bit-xor i m (2 ^ t) ∙ rw (bit-other i t n) (differ-zero (bit i m)))
     (λ h. ap (bit i) (minus-out m t h))
     (in-or-out (has m t))
+
+-- as the code takes it out
+pub minus-mask : (n : ℕ) (m : Set) (t : ℕ) → m < 2 ^ n → t < n → bitAnd m (2 ^ n - 1 - 2 ^ t) ≡ minus m t
+minus-mask n m t h l = ext-bits (bitAnd m (2 ^ n - 1 - 2 ^ t)) (minus m t) (λ i. go i (same-or-other i t) (ltb i n) refl)
+  where
+    go : (i : ℕ) → (i ≡ t) ⊎ (i ≡ t → ⊥) → (b : Bool) → ltb i n ≡ b → bit i (bitAnd m (2 ^ n - 1 - 2 ^ t)) ≡ bit i (minus m t)
+    go i (inl e) b o =
+        let a = bit-and t m (2 ^ n - 1 - 2 ^ t) in
+        let b = bit-not n t (2 ^ t) (pow-lt l) l in
+        let c = bit-one t in
+        let d = minus-same m t in
+        rw e (omega arith)
+    go i (inr e) false o =
+        let a = bit-and i m (2 ^ n - 1 - 2 ^ t) in
+        let b = bit-above n i m h (ltb-false i n o) in
+        let d = minus-other i m t e in
+        omega arith
+    go i (inr e) true o =
+        let a = bit-and i m (2 ^ n - 1 - 2 ^ t) in
+        let b = bit-not n i (2 ^ t) (pow-lt l) (ltb-true i n o) in
+        let c = bit-other i t e in
+        let d = minus-other i m t e in
+        let f = bit-le i m in
+        omega arith
 
 -- one member more, after it was taken out
 pub plus-minus : (m : Set) (t : ℕ) → plus m t ≡ plus (minus m t) t
@@ -166,6 +190,10 @@ has-other d c x n = has-plus d c x ∙ ap (λ b. has d x || b) (ne-eqb x c n) �
 pub plus-member : (d : Set) (c x : ℕ) → has (plus d c) x ≡ true → (x ≡ c) ⊎ (has d x ≡ true)
 plus-member d c x h = ⊎-elim (λ e. inl e) (λ n. inr (sym (has-other d c x n) ∙ h)) (same-or-other x c)
 
+pub plus-old : (d : Set) (c : ℕ) → has d c ≡ true → plus d c ≡ d
+plus-old d c h =
+    same-members (plus d c) d (λ x. ⊎-elim (λ (e : x ≡ c). rw e (has-new d c ∙ sym h)) (λ n. has-other d c x n) (same-or-other x c))
+
 pub has-gone : (d : Set) (c : ℕ) → has (minus d c) c ≡ false
 has-gone d c = bit-hasnt (minus d c) c (minus-same d c)
 
@@ -196,6 +224,27 @@ collect-below (suc n) f x l =
     (λ n'. collect-step n f x
     ∙ ap₂ _||_ (collect-below n f x (omega arith)) (ap (λ b. f n && b) (ne-eqb x n n') ∙ and-false (f n)) ∙ or-false (f x))
     (same-or-other x n)
+
+pub collect-same : (n : ℕ) (f g : ℕ → Bool) → ((x : ℕ) → x < n → f x ≡ g x) → collect n f ≡ collect n g
+unfolding collect
+collect-same zero f g h = refl
+collect-same (suc n) f g h =
+    ap₂ (λ (b : Bool) (m : Set). cond b (plus m n) m) (h n (omega arith)) (collect-same n f g (λ x l. h x (omega arith)))
+
+-- one number more that has the property
+pub collect-plus : (n : ℕ) (f g : ℕ → Bool) (t : ℕ) → t < n → g t ≡ true → ((x : ℕ) → (x ≡ t → ⊥) → g x ≡ f x)
+    → collect n g ≡ plus (collect n f) t
+collect-plus n f g t l new old =
+    same-members (collect n g) (plus (collect n f) t) (λ x. go x (same-or-other x t) (ltb x n) refl)
+  where
+    go : (x : ℕ) → (x ≡ t) ⊎ (x ≡ t → ⊥) → (b : Bool) → ltb x n ≡ b → has (collect n g) x ≡ has (plus (collect n f) t) x
+    go x (inl e) b o = rw e (collect-below n g t l ∙ new ∙ sym (has-new (collect n f) t))
+    go x (inr e) false o =
+        let above = ltb-false x n o in
+        collect-above n g x above ∙ sym (has-other (collect n f) t x e ∙ collect-above n f x above)
+    go x (inr e) true o =
+        let below = ltb-true x n o in
+        collect-below n g x below ∙ old x e ∙ sym (has-other (collect n f) t x e ∙ collect-below n f x below)
 
 -- a set below 2 ^ n has members below n alone, and a set of such members is below 2 ^ n
 pub has-above : (n : ℕ) (m : Set) (i : ℕ) → m < 2 ^ n → n ≤ i → has m i ≡ false

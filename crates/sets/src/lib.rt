@@ -1,0 +1,91 @@
+// Sets of roles or of tasks, one word each: bit i stands for role or task i.
+// Each operation equals document 01's definition of it (paper_lower, Sets).
+ghost use mathlib.Core.Path.{_≡_};
+ghost use Prim.Native.Nat.{_<_};
+ghost use lib.Dec.{eqb};
+ghost use Rattle.paper_lower.specs.Sets.{empty, has, plus, minus, union, cut, size, overlap, meets, within};
+
+pub struct Set {
+    pub bits: u64,
+}
+
+impl Set {
+    pub const EMPTY: Set = Set { bits: 0 };
+
+    pub fn has(self, i: u64) -> bool
+        requires { ⌜ i < 64 ⌝ }
+        ensures { λ r. ⌜ r ≡ has (self .bits) i ⌝ }
+    {
+        (self.bits >> i) % 2 == 1
+    }
+
+    pub fn with(self, i: u64) -> Set
+        requires { ⌜ i < 64 ⌝ }
+        ensures { λ r. ⌜ r .bits ≡ plus (self .bits) i ⌝ }
+    {
+        Set {
+            bits: self.bits | (1 << i),
+        }
+    }
+
+    pub fn without(self, i: u64) -> Set
+        requires { ⌜ i < 64 ⌝ }
+        ensures { λ r. ⌜ r .bits ≡ minus (self .bits) i ⌝ }
+    {
+        Set {
+            bits: self.bits & !(1 << i),
+        }
+    }
+
+    pub fn union(self, other: Set) -> Set
+        ensures { λ r. ⌜ r .bits ≡ union (self .bits) (other .bits) ⌝ }
+    {
+        Set {
+            bits: self.bits | other.bits,
+        }
+    }
+
+    pub fn meet(self, other: Set) -> Set
+        ensures { λ r. ⌜ r .bits ≡ cut (self .bits) (other .bits) ⌝ }
+    {
+        Set {
+            bits: self.bits & other.bits,
+        }
+    }
+
+    pub fn overlap(self, other: Set) -> u64
+        ensures { λ r. ⌜ r ≡ overlap (self .bits) (other .bits) ⌝ }
+    {
+        self.meet(other).count()
+    }
+
+    pub fn meets(self, other: Set) -> bool
+        ensures { λ r. ⌜ r ≡ meets (self .bits) (other .bits) ⌝ }
+    {
+        self.bits & other.bits != 0
+    }
+
+    pub fn within(self, other: Set) -> bool
+        ensures { λ r. ⌜ r ≡ within (self .bits) (other .bits) ⌝ }
+    {
+        self.bits & other.bits == self.bits
+    }
+
+    pub fn count(self) -> u64
+        ensures { λ r. ⌜ r ≡ size (self .bits) ⌝ }
+    {
+        u64::count_ones(self.bits) as u64
+    }
+
+    pub fn is_empty(self) -> bool
+        ensures { λ r. ⌜ r ≡ eqb (self .bits) empty ⌝ }
+    {
+        self.bits == 0
+    }
+}
+
+pub fn set_of(bits: u64) -> Set
+    ensures { λ r. ⌜ r .bits ≡ bits ⌝ }
+{
+    Set { bits: bits }
+}
