@@ -1,5 +1,6 @@
 -- The tables of the upper part: open instances, and the entries in use. And what the rules ask of entries.
 use Prim.Native.Nat.{ℕ}
+use mathlib.Core.Path.{_≡_}
 use mathlib.Core.Bool.{Bool, true, false, not, cond, _&&_}
 use mathlib.Core.List.{List, [], _∷_}
 use lib.Dec.{eqb}
@@ -42,6 +43,19 @@ pub record Orders : Type 0 where
 pub record Engine : Type 0 where
   pub lower : Lower
   pub orders : Orders
+
+-- the same entries, in whatever order
+pub data Same : List Entry → List Entry → Type 0 where
+  all : Same [] []
+  one : {e : Entry} {xs ys : List Entry} → Same xs ys → Same (e ∷ xs) (e ∷ ys)
+  swap : {e f : Entry} {xs : List Entry} → Same (e ∷ f ∷ xs) (f ∷ e ∷ xs)
+  then : {xs ys zs : List Entry} → Same xs ys → Same ys zs → Same xs zs
+
+-- the same tables: "the ledger slot that a new entry takes" is no part of them
+pub record SameTables (t t′ : Engine) : Type 0 where
+  pub lower : t .lower ≡ t′ .lower
+  pub opened : t .orders .opened ≡ t′ .orders .opened
+  pub entries : Same (t .orders .entries) (t′ .orders .entries)
 
 unfoldable pub noOrders : Orders
 noOrders = record { opened = λ _. none; entries = [] }
