@@ -1,16 +1,43 @@
--- Cases of the lower part, one table and one statement. (All others, those marked P among them, stand with the whole engine.)
-use Prim.Native.Nat.{ℕ, _+_, _^_}
-use mathlib.Core.Bool.{Bool, true}
+-- Cases of the lower part alone, one table and one statement. 01's own cases, those marked P, stand with the whole engine.
+use Prim.Native.Nat.{_+_, _^_}
+use mathlib.Core.Bool.{true}
 use mathlib.Core.Path.{_≡_, refl}
 use mathlib.Core.List.{List, [], _∷_}
 use Rattle.paper_lower.specs.Lists.{every}
 use Rattle.paper_lower.specs.Checks.{GRANTED, SHAPE, RANGE, UNKNOWN, TAKEN, IN-USE, RULE, NOT-ASSIGNED, STATIC, DYNAMIC, DENIED}
-use Rattle.paper_lower.specs.Words.{Case, refuses, accepts, _⇒_, comesOut, wordsOpen, user, role, permission, userHas, roleHas, task, staticSet, dynamicSet, block, bound, addUser, deleteUser, assign, takeBack, give, withdraw, create, destroy, activate, deactivate, openOrder, check}
+use Rattle.paper_lower.specs.Words.{Case, refuses, accepts, _⇒_, comesOut, wordsOpen, user, role, permission, userHas, roleHas, task, staticSet, dynamicSet, taskSet, block, ban, atMost, bound, isBefore, addUser, deleteUser, assign, takeBack, give, withdraw, create, destroy, activate, deactivate, openOrder, check}
 use Rattle.paper_lower.specs.Sessions.{lowerRequest, lowerOf, lowerOpen}
 
 unfoldable pub samples : List Case
 samples =
-    accepts [] (addUser 1023 ⇒ GRANTED ∷ addUser 1024 ⇒ RANGE ∷ [])
+    -- numbers above 255 are numbers of their own; the upper part's kinds are no kinds here, even out of range
+    accepts (user 300 ∷ []) (addUser 44 ⇒ GRANTED ∷ addUser 300 ⇒ TAKEN ∷ addUser 1023 ⇒ GRANTED ∷ addUser 1024 ⇒ RANGE ∷ openOrder 0 0 ⇒ SHAPE ∷ openOrder 64 0 ⇒ SHAPE ∷ [])
+    -- a static set judges the roles that would be, and n of them are allowed
+    ∷ accepts (user 300 ∷ role 0 ∷ role 1 ∷ role 2 ∷ staticSet 2 7 ∷ userHas 300 0 ∷ userHas 300 1 ∷ []) (assign 300 2 ⇒ STATIC ∷ assign 300 1 ⇒ TAKEN ∷ assign 300 3 ⇒ UNKNOWN ∷ takeBack 300 0 ⇒ GRANTED ∷ assign 300 2 ⇒ GRANTED ∷ [])
+    ∷ refuses (user 300 ∷ role 0 ∷ role 1 ∷ staticSet 1 3 ∷ userHas 300 0 ∷ userHas 300 1 ∷ []) STATIC 6
+    ∷ refuses (user 300 ∷ role 0 ∷ role 1 ∷ userHas 300 0 ∷ userHas 300 1 ∷ staticSet 1 3 ∷ []) STATIC 6
+    -- a dynamic set counts the union over the user's subjects
+    ∷ accepts (user 300 ∷ user 44 ∷ role 0 ∷ role 63 ∷ userHas 300 0 ∷ userHas 300 63 ∷ userHas 44 63 ∷ dynamicSet 1 (1 + 2 ^ 63) ∷ [])
+    (create 5 300 1 ⇒ GRANTED ∷ create 6 44 (2 ^ 63) ⇒ GRANTED ∷ create 7 300 (2 ^ 63) ⇒ DYNAMIC ∷ create 7 300 1 ⇒ GRANTED ∷ activate 7 63 ⇒ DYNAMIC ∷ takeBack 300 0 ⇒ IN-USE ∷ deactivate 5 0 ⇒ GRANTED ∷ destroy 7 ⇒ GRANTED ∷ takeBack 300 0 ⇒ GRANTED ∷ activate 5 63 ⇒ GRANTED ∷ [])
+    -- the first refusal in the order of the numbers
+    ∷ accepts (user 300 ∷ role 0 ∷ role 1 ∷ userHas 300 0 ∷ [])
+    (create 5 300 1 ⇒ GRANTED ∷ create 5 300 4 ⇒ UNKNOWN ∷ create 5 300 2 ⇒ TAKEN ∷ create 6 300 2 ⇒ NOT-ASSIGNED ∷ activate 5 0 ⇒ TAKEN ∷ activate 5 1 ⇒ NOT-ASSIGNED ∷ deactivate 5 1 ⇒ UNKNOWN ∷ deleteUser 300 ⇒ IN-USE ∷ destroy 5 ⇒ GRANTED ∷ destroy 5 ⇒ UNKNOWN ∷ deleteUser 300 ⇒ GRANTED ∷ addUser 300 ⇒ GRANTED ∷ create 5 300 1 ⇒ NOT-ASSIGNED ∷ [])
+    -- permissions
+    ∷ accepts (user 300 ∷ role 0 ∷ userHas 300 0 ∷ permission 255 65535 0 ∷ roleHas 0 255 ∷ [])
+    (create 127 300 1 ⇒ GRANTED ∷ check 127 65535 0 ⇒ GRANTED ∷ check 127 0 65535 ⇒ DENIED ∷ check 126 65535 0 ⇒ UNKNOWN ∷ give 0 255 ⇒ TAKEN ∷ withdraw 0 255 ⇒ GRANTED ∷ withdraw 0 255 ⇒ UNKNOWN ∷ check 127 65535 0 ⇒ DENIED ∷ [])
+    ∷ refuses (permission 0 1 2 ∷ permission 1 1 2 ∷ []) TAKEN 2
+    -- rule records: repeated, ill made, of two templates
+    ∷ refuses (task 0 0 ∷ task 1 0 ∷ taskSet 1 3 ∷ taskSet 1 3 ∷ []) TAKEN 4
+    ∷ refuses (task 0 0 ∷ task 1 0 ∷ taskSet 2 3 ∷ []) RULE 3
+    ∷ refuses (task 0 0 ∷ task 1 1 ∷ taskSet 1 3 ∷ []) RULE 3
+    ∷ refuses (task 0 0 ∷ task 1 1 ∷ block 0 1 ∷ block 0 2 ∷ []) RULE 4
+    ∷ refuses (task 0 0 ∷ task 1 0 ∷ block 0 1 ∷ block 1 1 ∷ block 0 3 ∷ []) RULE 5
+    ∷ refuses (task 0 0 ∷ block 0 0 ∷ []) RULE 2
+    ∷ refuses (task 0 0 ∷ ban 0 ∷ ban 1 ∷ []) UNKNOWN 3
+    ∷ refuses (task 0 0 ∷ atMost 0 0 ∷ []) RULE 2
+    ∷ refuses (task 0 0 ∷ task 1 0 ∷ bound 0 1 ∷ bound 1 0 ∷ []) TAKEN 4
+    ∷ refuses (task 0 0 ∷ task 1 1 ∷ isBefore 0 1 ∷ []) RULE 3
+    ∷ accepts (task 0 0 ∷ task 1 0 ∷ isBefore 0 1 ∷ isBefore 1 0 ∷ []) []
     ∷ []
 
 pub all-come-out : every (comesOut lowerRequest lowerOf) samples ≡ true

@@ -1,4 +1,5 @@
--- The cases marked P, one table and one statement; 01's listing is its first row.
+-- 01's cases marked P, one table and one statement; its first row is 01's listing. A row is a policy with what its load gives, and
+-- requests with the reply that each is given.
 use Prim.Native.Nat.{ℕ, _+_, _^_}
 use mathlib.Core.Bool.{Bool, true}
 use mathlib.Core.Path.{_≡_, refl}
@@ -10,7 +11,17 @@ use Rattle.paper_lower.specs.Checks.{GRANTED, SHAPE, RANGE, UNKNOWN, TAKEN, IN-
 use Rattle.paper_lower.specs.Words.{Case, refuses, accepts, _⇒_, comesOut, wordsOpen, user, role, permission, userHas, roleHas, task, openTo, carries, staticSet, dynamicSet, taskSet, block, ban, atMost, bound, isBefore, addUser, deleteUser, assign, takeBack, give, withdraw, create, destroy, activate, deactivate, openOrder, endOrder, claim, release, done, check, taskCheck}
 use Rattle.paper_upper.specs.Engine.{request, engineOf, engineOpen}
 
--- "Policy, 11 records: .. Thirteen requests: .. The whole output:"
+-- ---- What many rows begin with.
+
+-- users u and v with role 0, to which tasks 0 and 1 of template 0 are open
+unfoldable pub clerks : ℕ → ℕ → List Bytes
+clerks u v = user u ∷ user v ∷ role 0 ∷ userHas u 0 ∷ userHas v 0 ∷ task 0 0 ∷ task 1 0 ∷ openTo 0 0 ∷ openTo 1 0 ∷ []
+
+-- subject 5 is u's, subject 6 is v's; order 0 is open
+unfoldable pub desks : ℕ → ℕ → List Said
+desks u v = create 5 u 1 ⇒ GRANTED ∷ create 6 v 1 ⇒ GRANTED ∷ openOrder 0 0 ⇒ GRANTED ∷ []
+
+-- ---- "Policy, 11 records: .. Thirteen requests: .. The whole output:" Requests 6 and 8 are P cases: a held prerequisite is not done; SEPARATION.
 unfoldable pub listing : Case
 listing =
     accepts
@@ -30,9 +41,137 @@ listing =
     ∷ endOrder 0 ⇒ UNKNOWN
     ∷ [])
 
-unfoldable pub cases : List Case
-cases = listing ∷ []
+-- ---- "user 1,023 accepted, 1,024 RANGE."
+unfoldable pub lastUser : List Case
+lastUser =
+    accepts (user 1023 ∷ []) (addUser 1023 ⇒ TAKEN ∷ addUser 1022 ⇒ GRANTED ∷ addUser 1024 ⇒ RANGE ∷ deleteUser 1024 ⇒ RANGE ∷ [])
+    ∷ refuses (user 1023 ∷ user 1024 ∷ user 1 ∷ []) RANGE 2
+    ∷ []
 
+-- ---- "users 44 and 300, and 255 and 256, are different people to every rule."
+unfoldable pub differentPeople : ℕ → ℕ → List Case
+differentPeople u v =
+    -- declared, assigned, active and deleted by himself
+    accepts (user u ∷ role 0 ∷ userHas u 0 ∷ task 0 0 ∷ openTo 0 0 ∷ [])
+    (create 6 v 0 ⇒ UNKNOWN
+    ∷ addUser u ⇒ TAKEN
+    ∷ addUser v ⇒ GRANTED
+    ∷ create 6 v 1 ⇒ NOT-ASSIGNED
+    ∷ assign v 0 ⇒ GRANTED
+    ∷ create 5 u 1 ⇒ GRANTED
+    ∷ openOrder 0 0 ⇒ GRANTED
+    ∷ claim 5 0 0 ⇒ GRANTED
+    ∷ takeBack u 0 ⇒ IN-USE
+    ∷ takeBack v 0 ⇒ GRANTED
+    ∷ deleteUser u ⇒ IN-USE
+    ∷ deleteUser v ⇒ GRANTED
+    ∷ deleteUser v ⇒ UNKNOWN
+    ∷ [])
+    -- static
+    ∷ accepts (user u ∷ user v ∷ role 0 ∷ role 1 ∷ userHas u 0 ∷ userHas v 1 ∷ staticSet 1 3 ∷ [])
+    (assign u 1 ⇒ STATIC ∷ assign v 0 ⇒ STATIC ∷ takeBack u 0 ⇒ GRANTED ∷ assign v 0 ⇒ STATIC ∷ assign u 1 ⇒ GRANTED ∷ [])
+    -- dynamic
+    ∷ accepts (user u ∷ user v ∷ role 0 ∷ role 1 ∷ userHas u 0 ∷ userHas u 1 ∷ userHas v 0 ∷ userHas v 1 ∷ dynamicSet 1 3 ∷ [])
+    (create 5 u 1 ⇒ GRANTED ∷ create 6 v 2 ⇒ GRANTED ∷ create 7 u 2 ⇒ DYNAMIC ∷ activate 6 0 ⇒ DYNAMIC ∷ destroy 5 ⇒ GRANTED ∷ activate 6 0 ⇒ DYNAMIC ∷ create 7 u 2 ⇒ GRANTED ∷ [])
+    -- task set
+    ∷ accepts (clerks u v ++ (taskSet 1 3 ∷ []))
+    (desks u v ++ (claim 5 0 0 ⇒ GRANTED ∷ claim 5 0 1 ⇒ SEPARATION ∷ claim 6 0 1 ⇒ GRANTED ∷ done 5 0 0 ⇒ GRANTED ∷ claim 6 0 0 ⇒ SEPARATION ∷ release 6 0 1 ⇒ GRANTED ∷ claim 6 0 0 ⇒ GRANTED ∷ []))
+    -- block
+    ∷ accepts (clerks u v ++ (block 0 1 ∷ block 0 2 ∷ []))
+    (desks u v ++ (claim 5 0 0 ⇒ GRANTED ∷ claim 5 0 1 ⇒ BLOCK ∷ claim 6 0 1 ⇒ GRANTED ∷ done 5 0 0 ⇒ GRANTED ∷ claim 6 0 0 ⇒ BLOCK ∷ []))
+    -- lone worker
+    ∷ accepts (clerks u v ++ (ban 0 ∷ []))
+    (desks u v ++ (claim 5 0 0 ⇒ GRANTED ∷ claim 5 0 1 ⇒ ALONE ∷ claim 6 0 1 ⇒ GRANTED ∷ done 5 0 0 ⇒ GRANTED ∷ claim 6 0 0 ⇒ ALONE ∷ []))
+    -- binding
+    ∷ accepts (clerks u v ++ (bound 0 1 ∷ [])) (desks u v ++ (claim 5 0 0 ⇒ GRANTED ∷ claim 6 0 1 ⇒ BOUND ∷ claim 5 0 1 ⇒ GRANTED ∷ []))
+    ∷ accepts (clerks u v ++ (bound 1 0 ∷ [])) (desks u v ++ (claim 5 0 0 ⇒ GRANTED ∷ claim 6 0 1 ⇒ BOUND ∷ claim 5 0 1 ⇒ GRANTED ∷ []))
+    -- count, of anyone
+    ∷ accepts (clerks u v ++ (atMost 1 0 ∷ []))
+    (desks u v ++ (claim 5 0 0 ⇒ GRANTED ∷ claim 6 0 0 ⇒ TAKEN ∷ done 5 0 0 ⇒ GRANTED ∷ claim 6 0 0 ⇒ COUNT ∷ claim 5 0 0 ⇒ COUNT ∷ []))
+    -- prerequisite, done by anyone
+    ∷ accepts (clerks u v ++ (isBefore 0 1 ∷ []))
+    (desks u v ++ (claim 6 0 1 ⇒ BEFORE ∷ claim 5 0 0 ⇒ GRANTED ∷ claim 6 0 1 ⇒ BEFORE ∷ done 6 0 0 ⇒ NOT-YOURS ∷ done 5 0 0 ⇒ GRANTED ∷ claim 6 0 1 ⇒ GRANTED ∷ []))
+    ∷ []
+
+-- ---- "set of 2 with n = 1 accepted; n = 2 and n = 0 RULE."
+unfoldable pub setsOfTwo : (ℕ → ℕ → Bytes) → List Case
+setsOfTwo kind =
+    accepts (role 0 ∷ role 1 ∷ task 0 0 ∷ task 1 0 ∷ kind 1 3 ∷ []) []
+    ∷ refuses (role 0 ∷ role 1 ∷ task 0 0 ∷ task 1 0 ∷ kind 2 3 ∷ []) RULE 5
+    ∷ refuses (role 0 ∷ role 1 ∷ task 0 0 ∷ task 1 0 ∷ kind 0 3 ∷ []) RULE 5
+    ∷ []
+
+-- ---- "block {0,1} then {1,2} of one partitioning: RULE." "binding (2,3) after (3,2): TAKEN."
+unfoldable pub fourTasks : List Bytes
+fourTasks = task 0 0 ∷ task 1 0 ∷ task 2 0 ∷ task 3 0 ∷ []
+
+unfoldable pub blocksAndBindings : List Case
+blocksAndBindings =
+    refuses (fourTasks ++ (block 7 3 ∷ block 7 6 ∷ [])) RULE 6
+    ∷ accepts (fourTasks ++ (block 7 3 ∷ block 6 6 ∷ block 7 4 ∷ [])) []
+    ∷ refuses (fourTasks ++ (bound 3 2 ∷ bound 2 3 ∷ [])) TAKEN 6
+    ∷ refuses (fourTasks ++ (bound 3 2 ∷ bound 3 2 ∷ [])) TAKEN 6
+    ∷ accepts (fourTasks ++ (bound 3 2 ∷ bound 2 1 ∷ isBefore 3 2 ∷ isBefore 2 3 ∷ [])) []
+    ∷ []
+
+-- ---- "count limit 2, one entry done, one held: TAKEN; after the release, granted; two done: COUNT."
+unfoldable pub countLimit : Case
+countLimit =
+    accepts (clerks 300 301 ++ (atMost 2 0 ∷ []))
+    (desks 300 301 ++ (claim 5 0 0 ⇒ GRANTED ∷ done 5 0 0 ⇒ GRANTED ∷ claim 6 0 0 ⇒ GRANTED ∷ claim 5 0 0 ⇒ TAKEN ∷ release 6 0 0 ⇒ GRANTED ∷ claim 5 0 0 ⇒ GRANTED ∷ done 5 0 0 ⇒ GRANTED ∷ claim 6 0 0 ⇒ COUNT ∷ []))
+
+-- ---- "dynamic set n = 1, a second of its roles in another subject of the same user: DYNAMIC."
+unfoldable pub twoSubjects : Case
+twoSubjects =
+    accepts (user 300 ∷ role 0 ∷ role 1 ∷ role 63 ∷ userHas 300 0 ∷ userHas 300 1 ∷ userHas 300 63 ∷ dynamicSet 1 (1 + 2 ^ 63) ∷ [])
+    (create 5 300 1 ⇒ GRANTED ∷ create 6 300 (2 ^ 63) ⇒ DYNAMIC ∷ create 6 300 3 ⇒ GRANTED ∷ activate 6 63 ⇒ DYNAMIC ∷ deactivate 5 0 ⇒ GRANTED ∷ activate 6 63 ⇒ DYNAMIC ∷ deactivate 6 0 ⇒ GRANTED ∷ activate 6 63 ⇒ GRANTED ∷ [])
+
+-- ---- Beside the P cases: what wrong definitions would let pass.
+unfoldable pub beside : List Case
+beside =
+    -- a task done and claimed again counts once in a set, and its own block is no other; an ended order's entries are gone
+    accepts (clerks 300 301 ++ (taskSet 1 3 ∷ block 3 1 ∷ block 3 2 ∷ []))
+    (desks 300 301 ++ (claim 5 0 0 ⇒ GRANTED ∷ done 5 0 0 ⇒ GRANTED ∷ claim 5 0 0 ⇒ GRANTED ∷ done 5 0 0 ⇒ GRANTED ∷ claim 5 0 1 ⇒ SEPARATION ∷ endOrder 0 ⇒ GRANTED ∷ openOrder 0 0 ⇒ GRANTED ∷ claim 5 0 1 ⇒ GRANTED ∷ []))
+    -- where two rules are broken, the lower number
+    ∷ accepts (clerks 300 301 ++ (taskSet 1 3 ∷ block 0 1 ∷ block 0 2 ∷ ban 0 ∷ isBefore 0 1 ∷ []))
+    (desks 300 301 ++ (claim 5 0 0 ⇒ GRANTED ∷ claim 5 0 1 ⇒ BEFORE ∷ done 5 0 0 ⇒ GRANTED ∷ claim 5 0 1 ⇒ SEPARATION ∷ []))
+    ∷ accepts (clerks 300 301 ++ (block 0 1 ∷ block 0 2 ∷ ban 0 ∷ bound 0 1 ∷ atMost 1 1 ∷ []))
+    (desks 300 301 ++ (claim 6 0 1 ⇒ GRANTED ∷ done 6 0 1 ⇒ GRANTED ∷ claim 6 0 0 ⇒ BLOCK ∷ claim 5 0 1 ⇒ COUNT ∷ claim 5 0 0 ⇒ BOUND ∷ []))
+    -- n of a set, and one more: t itself is not counted
+    ∷ accepts (clerks 300 301 ++ (task 2 0 ∷ openTo 2 0 ∷ taskSet 2 7 ∷ []))
+    (desks 300 301 ++ (claim 5 0 0 ⇒ GRANTED ∷ claim 5 0 1 ⇒ GRANTED ∷ claim 5 0 2 ⇒ SEPARATION ∷ done 5 0 0 ⇒ GRANTED ∷ claim 5 0 0 ⇒ GRANTED ∷ []))
+    -- the search for a block goes on to the next partitioning; two orders do not meet
+    ∷ accepts (clerks 300 301 ++ (block 2 3 ∷ block 9 1 ∷ block 9 2 ∷ []))
+    (desks 300 301 ++ (claim 5 0 0 ⇒ GRANTED ∷ claim 5 0 1 ⇒ BLOCK ∷ openOrder 1 0 ⇒ GRANTED ∷ claim 5 1 1 ⇒ GRANTED ∷ []))
+    -- a task in no block is free of the partitioning
+    ∷ accepts (clerks 300 301 ++ (block 2 1 ∷ [])) (desks 300 301 ++ (claim 5 0 1 ⇒ GRANTED ∷ claim 5 0 0 ⇒ GRANTED ∷ []))
+    -- a banned template with one task; a task of a banned template claimed again by its only worker
+    ∷ accepts (user 300 ∷ role 0 ∷ userHas 300 0 ∷ task 0 0 ∷ openTo 0 0 ∷ ban 0 ∷ []) (create 5 300 1 ⇒ GRANTED ∷ openOrder 0 0 ⇒ GRANTED ∷ claim 5 0 0 ⇒ ALONE ∷ [])
+    ∷ accepts (clerks 300 301 ++ (ban 0 ∷ [])) (desks 300 301 ++ (claim 5 0 0 ⇒ GRANTED ∷ done 5 0 0 ⇒ GRANTED ∷ claim 5 0 0 ⇒ GRANTED ∷ []))
+    -- a deleted number does not return while its entries live; a subject with a task stays
+    ∷ accepts (clerks 300 301)
+    (desks 300 301 ++ (claim 5 0 0 ⇒ GRANTED ∷ destroy 5 ⇒ IN-USE ∷ done 5 0 0 ⇒ GRANTED ∷ destroy 5 ⇒ GRANTED ∷ deleteUser 300 ⇒ IN-USE ∷ endOrder 0 ⇒ GRANTED ∷ deleteUser 300 ⇒ GRANTED ∷ addUser 300 ⇒ GRANTED ∷ create 5 300 1 ⇒ NOT-ASSIGNED ∷ []))
+    -- the subject that claimed holds the task, and not another subject of its user
+    ∷ accepts (clerks 300 301)
+    (desks 300 301 ++ (create 7 300 1 ⇒ GRANTED ∷ claim 5 0 0 ⇒ GRANTED ∷ release 7 0 0 ⇒ NOT-YOURS ∷ done 7 0 0 ⇒ NOT-YOURS ∷ taskCheck 7 0 0 1 2 ⇒ NOT-YOURS ∷ taskCheck 5 0 0 1 2 ⇒ DENIED ∷ release 5 0 0 ⇒ GRANTED ∷ release 5 0 0 ⇒ NOT-YOURS ∷ []))
+    -- STATIC at the set's own record
+    ∷ refuses (user 300 ∷ role 0 ∷ role 1 ∷ userHas 300 0 ∷ userHas 300 1 ∷ staticSet 1 3 ∷ []) STATIC 6
+    -- checks and task checks
+    ∷ accepts (clerks 300 301 ++ (role 1 ∷ task 2 0 ∷ openTo 2 1 ∷ permission 7 40 50 ∷ permission 8 40 51 ∷ roleHas 0 7 ∷ carries 0 8 ∷ []))
+    (desks 300 301 ++ (check 5 40 50 ⇒ GRANTED ∷ check 5 40 51 ⇒ DENIED ∷ check 5 50 40 ⇒ DENIED ∷ taskCheck 5 0 0 40 51 ⇒ NOT-YOURS ∷ claim 5 0 2 ⇒ NO-ROLE ∷ claim 5 0 3 ⇒ UNKNOWN ∷ claim 5 0 0 ⇒ GRANTED
+    ∷ taskCheck 5 0 0 40 51 ⇒ GRANTED ∷ taskCheck 6 0 0 40 51 ⇒ NOT-YOURS ∷ taskCheck 5 0 0 40 50 ⇒ DENIED ∷ withdraw 0 7 ⇒ GRANTED ∷ check 5 40 50 ⇒ DENIED ∷ give 0 8 ⇒ GRANTED ∷ check 5 40 51 ⇒ GRANTED ∷ []))
+    -- a cut record; requests that are none; an empty policy
+    ∷ refuses (user 300 ∷ (1 ∷ 0 ∷ []) ∷ []) SHAPE 2
+    ∷ accepts [] ((1 ∷ []) ⇒ SHAPE ∷ user 3 ⇒ SHAPE ∷ taskCheck 0 0 0 0 65536 ⇒ SHAPE ∷ taskCheck 0 0 0 65535 65535 ⇒ UNKNOWN ∷ claim 128 0 0 ⇒ RANGE ∷ claim 0 0 0 ⇒ UNKNOWN ∷ [])
+    ∷ []
+
+unfoldable pub cases : List Case
+cases =
+    listing ∷ countLimit ∷ twoSubjects ∷ lastUser ++ beside ++ blocksAndBindings
+    ++ setsOfTwo staticSet ++ setsOfTwo dynamicSet ++ setsOfTwo taskSet
+    ++ differentPeople 44 300 ++ differentPeople 300 44 ++ differentPeople 255 256 ++ differentPeople 256 255
+
+-- Every row comes out as it stands above.
 pub all-come-out : every (comesOut request engineOf) cases ≡ true
-unfolding engineOpen wordsOpen listing cases
+unfolding engineOpen wordsOpen clerks desks listing lastUser differentPeople setsOfTwo fourTasks blocksAndBindings countLimit twoSubjects beside cases
 all-come-out = refl
