@@ -1,0 +1,95 @@
+-- Replies and next tables depend on the entries only up to their order: row by row of the table of kinds, then along a run.
+use Prim.Native.Nat.{ℕ, zero, suc}
+use mathlib.Core.Path.{_≡_, refl, sym, ap, subst, _∙_}
+use mathlib.Core.List.{List, [], _∷_, _++_}
+use Rattle.paper_lower.specs.Lists.{Every, Maybe, each}
+use Rattle.paper_lower.specs.Checks.{Check, first, granted}
+use Rattle.paper_lower.specs.Records.{Bytes, Record, decode}
+use Rattle.paper_lower.specs.Forms.{requestForms, formChecks}
+use Rattle.paper_lower.specs.Kinds.{Kind, on, chosen, replyTo, answer, Said, run, after}
+use Rattle.paper_lower.specs.Tables.{Lower}
+use Rattle.paper_lower.proofs.ListLaws.{every-map, every-append, every-each, every-all}
+use Rattle.paper_lower.proofs.KindLaws.{of-chosen}
+use Rattle.paper_lower.specs.Sessions.{lowerKinds}
+use Rattle.paper_upper.specs.Orders.{Standing, Entry, Same, Orders, Engine, SameTables, tasksBy, tasksDone, tasksOthers}
+use Rattle.paper_upper.specs.Orders.Same.{one}
+use Rattle.paper_upper.specs.Rules.{ruleChecks}
+use Rattle.paper_upper.specs.Requests.{deleteAbove, destroyAbove, openChecks, openNext, endChecks, endNext, unknown, claimChecks, claimNext, holdChecks, releaseNext, doneNext, taskCheckChecks, upperKinds}
+use Rattle.paper_upper.specs.Engine.{raised, requestKinds, request}
+use Rattle.engine.specs.Respects.{Respects, RunsRespect}
+use Rattle.engine.proofs.SameLaws.{same-refl, some-same, many-same, many-kept, tasks-same, keep-same, each-same}
+
+infixr 5 _⨾_
+-- a row's law, and those of the rows behind it
+abbrev _⨾_ : {A B : Type 0} → A → B → A × B
+a ⨾ b = (a, b)
+
+-- ---- Tables that differ in the order of their entries alone.
+abbrev engine : Lower → (ℕ → Maybe ℕ) → List Entry → Engine
+engine x opened es = record { lower = x; orders = record { opened = opened; entries = es } }
+
+abbrev Alike : Kind Engine → Record → Engine → Engine → Type 0
+Alike k r t t′ = (k .checks t r ≡ k .checks t′ r) × SameTables (k .next t r) (k .next t′ r)
+
+abbrev InAnyOrder : Kind Engine → Type 0
+InAnyOrder k = (x : Lower) (opened : ℕ → Maybe ℕ) (es es′ : List Entry) → Same es es′ → (r : Record) → Alike k r (engine x opened es) (engine x opened es′)
+
+-- tables that are the same differ in that alone
+in-any-order : (k : Kind Engine) → InAnyOrder k → (t t′ : Engine) → SameTables t t′ → (r : Record) → Alike k r t t′
+in-any-order k f t t′ h r =
+    subst (λ (x : Lower). Alike k r t (engine x (t′ .orders .opened) (t′ .orders .entries))) (h .lower)
+    (subst (λ (o : ℕ → Maybe ℕ). Alike k r t (engine (t .lower) o (t′ .orders .entries))) (h .opened)
+    (f (t .lower) (t .orders .opened) (t .orders .entries) (t′ .orders .entries) (h .entries) r))
+
+-- tables that a row leaves: the same but for the order of their entries
+left : {x : Lower} {opened : ℕ → Maybe ℕ} {es es′ : List Entry} → Same es es′ → SameTables (engine x opened es) (engine x opened es′)
+left h = record { lower = refl; opened = refl; entries = h }
+
+-- a kind of the lower part looks at no entry
+lower-row : (k : Kind Lower) → InAnyOrder (raised k)
+unfolding raised
+lower-row k x opened es es′ h r = (refl, left h)
+
+upper-rows : Every InAnyOrder upperKinds
+unfolding upperKinds deleteAbove destroyAbove openChecks openNext endChecks endNext claimChecks claimNext holdChecks releaseNext doneNext taskCheckChecks ruleChecks tasksBy tasksDone tasksOthers unknown
+upper-rows =
+    (λ x opened es es′ h r. (rw (some-same _ h), left h))
+    ⨾ (λ x opened es es′ h r. (rw (some-same _ h), left h))
+    ⨾ (λ x opened es es′ h r. (refl, left h))
+    ⨾ (λ x opened es es′ h r. (rw (some-same _ h), left (keep-same _ h)))
+    ⨾ (λ x opened es es′ h r. (rw (some-same _ h, tasks-same _ h, tasks-same _ h, tasks-same _ h, many-kept _ h, many-same h), left (one h)))
+    ⨾ (λ x opened es es′ h r. (rw (some-same _ h), left (keep-same _ h)))
+    ⨾ (λ x opened es es′ h r. (rw (some-same _ h), left (each-same _ h)))
+    ⨾ (λ x opened es es′ h r. (rw (some-same _ h), left h))
+    ⨾ tt
+
+rows : Every InAnyOrder requestKinds
+unfolding requestKinds
+rows = every-append InAnyOrder upperKinds (each raised lowerKinds) upper-rows (every-each InAnyOrder raised lowerKinds (every-all lowerKinds lower-row))
+
+-- ---- One request, and a run.
+same-reply : (k : Kind Engine) (r : Record) (cs : List Check) (t t′ : Engine) → Alike k r t t′ → first (cs ++ k .checks t r) ≡ first (cs ++ k .checks t′ r)
+same-reply k r cs t t′ a = ap (λ (xs : List Check). first (cs ++ xs)) (a .0)
+
+granted-same : (q : ℕ) {t t′ u u′ : Engine} → SameTables t t′ → SameTables u u′ → SameTables (granted q t u) (granted q t′ u′)
+granted-same zero h k = h
+granted-same (suc q) h k = k
+
+pub respects : Respects
+unfolding request answer replyTo chosen
+respects t t′ h s =
+    let a = of-chosen (λ n k. (t t′ : Engine) → SameTables t t′ → (r : Record) → Alike k r t t′) requestKinds
+    (every-map requestKinds (λ k f. in-any-order k f) rows) (λ n t t′ h r. (refl, h)) (decode s .kind) t t′ h (decode s) in
+    let q = same-reply (chosen requestKinds (decode s .kind)) (decode s) (formChecks requestForms s) t t′ a in
+    (q, rw (← q) (granted-same (replyTo requestForms requestKinds t s) (a .1) h))
+
+pub runs-respect : RunsRespect
+unfolding run after
+runs-respect t t′ h [] = (refl, h)
+runs-respect t t′ h (s ∷ ss) =
+    let a = respects t t′ h s in
+    let b = runs-respect (request t s .tables) (request t′ s .tables) (a .1) ss in (
+      ap (λ (q : ℕ). record { request = s; reply = q } ∷ run request (request t s .tables) ss) (a .0)
+          ∙ ap (λ (xs : List Said). record { request = s; reply = request t′ s .reply } ∷ xs) (b .0),
+      b .1,
+    )
