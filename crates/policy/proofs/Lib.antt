@@ -1,1 +1,3 @@
 mod WordLaws
+mod Elsewhere
+mod StoreLaws
