@@ -1,0 +1,5 @@
+pub mod Span
+pub mod Words
+pub mod Lines
+pub mod Fields
+pub mod Judging
