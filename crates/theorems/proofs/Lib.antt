@@ -1,0 +1,5 @@
+pub mod Rows
+pub mod Loads
+pub mod Made
+pub mod WellMade
+pub mod EntryLaws
