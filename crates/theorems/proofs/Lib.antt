@@ -3,3 +3,15 @@ pub mod Loads
 pub mod Made
 pub mod WellMade
 pub mod EntryLaws
+pub mod UserRules
+pub mod TaskSets
+pub mod Blocks
+pub mod LoneWorkers
+pub mod CountLaws
+pub mod CountLimits
+pub mod Bindings
+pub mod Prerequisites
+pub mod Ledger
+pub mod Sound
+pub mod Roles
+pub mod LoadedRoles

@@ -1,12 +1,13 @@
 -- The rules and the tasks of an accepted policy are its records.
 use Prim.Native.Nat.{ℕ}
 use mathlib.Core.Path.{_≡_, refl, sym, ap, subst, _∙_}
-use mathlib.Core.Bool.{Bool, true, false, cond, _&&_, _||_, true≢false, or-true, or-false}
+use mathlib.Core.Bool.{Bool, true, false, not, cond, _&&_, _||_, true≢false, or-true, or-false}
 use mathlib.Core.List.{List, [], _∷_, _++_, append-nil}
-use borrow.Author.Tests.{eqb-true}
+use mathlib.Core.Logic.{_↔_}
+use borrow.Author.Tests.{eqb-true, eq-eqb}
 use lib.Dec.{eqb}
 use Rattle.paper_lower.specs.Sets.{plus}
-use Rattle.paper_lower.specs.Lists.{upd, Maybe, holds, there, some, add, keep, each}
+use Rattle.paper_lower.specs.Lists.{upd, Maybe, holds, there, some, add, keep, each, place, Every}
 use Rattle.paper_lower.specs.Lists.Maybe.{none, just}
 use Rattle.paper_lower.specs.Records.{Bytes, Record}
 use Rattle.paper_lower.specs.Forms.{policyForms}
@@ -14,6 +15,7 @@ use Rattle.paper_lower.specs.Kinds.{chosen}
 use Rattle.paper_lower.specs.Tables.{Tasks, Limit, Block, Pair, Rules, Policy, noPolicy}
 use Rattle.paper_lower.specs.Policy.{userNext, roleNext, permissionNext, assignNext, giveNext, taskChecks, taskNext, openToNext, carriesNext, staticNext, dynamicNext, taskSetNext, blockNext, banNext, mostChecks, mostNext, bindNext, beforeNext, policyKinds}
 use Rattle.paper_lower.specs.Load.{load, recordsOf}
+use Rattle.paper_lower.proofs.ListLaws.{every-each, place-none, none-place}
 use Rattle.paper_lower.proofs.CheckLaws.{Passed}
 use Rattle.theorems.specs.OverEntries.{ofKind}
 use Rattle.theorems.proofs.Rows.{_⨾_, Rows}
@@ -168,3 +170,15 @@ made policy h =
       bindings = listed (λ k. k .bindings) 15 aPair (λ n r k. refl) noPolicy (recordsOf policy) (x .0);
       befores = listed (λ k. k .befores) 16 aPair (λ n r k. refl) noPolicy (recordsOf policy) (x .0);
     })
+
+-- ---- what is asked of the rules is asked of the records
+pub of-each : {A B : Type 0} (P : B → Type 0) (f : A → B) (xs : List A) → Every P (each f xs) → Every (λ x. P (f x)) xs
+unfolding each
+of-each P f [] h = tt
+of-each P f (x ∷ xs) h = (h .0, of-each P f xs (h .1))
+
+pub places : {X : Type 0} (p : X → Bool) (item : Record → X) (xs : List X) (rs : List Record) → xs ≡ each item rs → (not (eqb (place p xs) 0) ≡ false) ↔ Every (λ r. p (item r) ≡ false) rs
+places p item xs rs e = (
+  λ h. of-each (λ x. p x ≡ false) item rs (subst (Every (λ x. p x ≡ false)) e (place-none p xs h)),
+  λ h. ap not (eq-eqb (place p xs) 0 (none-place p xs (subst (Every (λ x. p x ≡ false)) (sym e) (every-each (λ x. p x ≡ false) item rs h)))),
+)

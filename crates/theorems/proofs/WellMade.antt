@@ -204,7 +204,7 @@ module _ (k : Tasks) (ru : Rules) (i : WellMade (k .template) ru) where
 
 -- ---- the rows
 -- field a is within its limit
-a-within : (k a : ℕ) (b : Bool) → false || ltb k a || b || false || false ≡ false → a ≤ k
+pub a-within : (k a : ℕ) (b : Bool) → false || ltb k a || b || false || false ≡ false → a ≤ k
 a-within k a b g = ltb-false k a (or-none (ltb k a) b (or-none _ _ (or-none _ _ g .0) .0) .0)
 
 rows : Rows policyForms (λ n p r x. WellMade (p .tasks .template) (p .rules) → WellMade (x .tasks .template) (x .rules)) policyKinds
