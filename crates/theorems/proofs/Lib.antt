@@ -12,6 +12,10 @@ pub mod CountLimits
 pub mod Bindings
 pub mod Prerequisites
 pub mod Ledger
+pub mod Meets
 pub mod Sound
 pub mod Roles
 pub mod LoadedRoles
+pub mod Keeps
+pub mod Outside
+pub mod Theorems

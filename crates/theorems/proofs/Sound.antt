@@ -2,14 +2,13 @@
 use Prim.Native.Nat.{ℕ}
 use mathlib.Core.Path.{_≡_, refl}
 use mathlib.Core.Bool.{true, false, not}
-use mathlib.Core.List.{List, [], _∷_}
-use mathlib.Core.Logic.{_↔_, Iff·trans}
+use mathlib.Core.List.{List}
+use mathlib.Core.Logic.{Iff·trans}
 use native.Mathlib.Omega.{arith}
 use lib.Dec.{leb}
 use Rattle.paper_lower.specs.Sets.{empty}
 use Rattle.paper_lower.specs.Lists.{there, some, many, keep, Every}
 use Rattle.paper_lower.specs.Lists.Maybe.{none, just}
-use Rattle.paper_lower.specs.Checks.{Check}
 use Rattle.paper_lower.specs.Records.{Record}
 use Rattle.paper_lower.specs.Tables.{Tasks, Rules}
 use Rattle.paper_lower.specs.Policy.{hasTask}
@@ -17,11 +16,12 @@ use Rattle.paper_lower.proofs.ListLaws.{every-all}
 use Rattle.paper_lower.proofs.CheckLaws.{Passed}
 use Rattle.paper_upper.specs.Orders.{Orders, noOrders, inOrder, heldBy, tasksWhere, tasksBy}
 use Rattle.paper_upper.specs.Rules.{ruleChecks}
-use Rattle.theorems.specs.OverEntries.{ofKind, TaskSets, Blocks, LoneWorkers, Bindings, CountLimits, Prerequisites, Rule, claimRules}
+use Rattle.theorems.specs.OverEntries.{ofKind, TaskSets, Blocks, LoneWorkers, Bindings, CountLimits, Prerequisites, claimRules}
 use Rattle.theorems.specs.WellMade.{WellMade, Ledger}
 use Rattle.theorems.proofs.Rows.{_⨾_}
 use Rattle.theorems.proofs.EntryLaws.{opening, ending, claiming, releasing, finishing}
 use Rattle.theorems.proofs.Made.{Made}
+use Rattle.theorems.proofs.Meets.{Meet, meet-passed}
 use Rattle.theorems.proofs.UserRules.{users-open, users-claim, users-finish, users-end, users-release}
 use Rattle.theorems.proofs.TaskSets.{SetsOf, sets-empty, sets-less, sets-claim}
 use Rattle.theorems.proofs.Blocks.{BlocksOf, blocks-empty, blocks-less, blocks-claim}
@@ -30,19 +30,6 @@ use Rattle.theorems.proofs.Bindings.{bindings-less, bindings-finish, bi
 use Rattle.theorems.proofs.CountLimits.{counts-less, counts-finish, counts-claim}
 use Rattle.theorems.proofs.Prerequisites.{befores-end, befores-release, befores-finish, befores-claim}
 use Rattle.theorems.proofs.Ledger.{heldTask, ledger-open, ledger-end, ledger-release, ledger-finish, ledger-claim}
-
--- each check has the number of its rule, and applies where the rule would not be kept
-abbrev pub Meet : (Rule → Type 0) → List Check → List Rule → Type 0
-Meet K [] [] = Unit {0}
-Meet K [] (k ∷ ks) = ⊥
-Meet K (c ∷ cs) [] = ⊥
-Meet K (c ∷ cs) (k ∷ ks) = ((c .1 ≡ k .reply) × ((c .0 ≡ false) ↔ K k)) × Meet K cs ks
-
-meet-passed : (K : Rule → Type 0) (cs : List Check) (ks : List Rule) → Meet K cs ks → Passed cs → Every K ks
-meet-passed K [] [] m p = tt
-meet-passed K [] (k ∷ ks) m p = absurd m
-meet-passed K (c ∷ cs) [] m p = tt
-meet-passed K (c ∷ cs) (k ∷ ks) m p = (m .0 .1 .0 (p .0), meet-passed K cs ks (m .1) (p .1))
 
 module _ (policy : List Record) where
   pub record Sound (o : Orders) : Type 0 where
