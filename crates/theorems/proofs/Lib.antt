@@ -19,3 +19,4 @@ pub mod LoadedRoles
 pub mod Keeps
 pub mod Outside
 pub mod Theorems
+pub mod FirstRule
