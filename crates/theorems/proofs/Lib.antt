@@ -20,3 +20,4 @@ pub mod Keeps
 pub mod Outside
 pub mod Theorems
 pub mod FirstRule
+pub mod InUse
