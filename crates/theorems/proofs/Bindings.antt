@@ -1,13 +1,13 @@
 -- "any entry of a task and any entry of a task bound to it are of one user"
 use Prim.Native.Nat.{ℕ}
-use mathlib.Core.Path.{_≡_, refl, sym, ap, _∙_}
-use mathlib.Core.Bool.{Bool, true, false, not, cond, _&&_, _||_, true≢false}
+use mathlib.Core.Path.{_≡_, refl, sym, _∙_}
+use mathlib.Core.Bool.{Bool, true, false, not, _&&_, _||_, true≢false}
 use mathlib.Core.List.{List, _∷_}
 use mathlib.Core.Logic.{_↔_}
 use borrow.Author.Tests.{eqb-true, eqb-false, eq-eqb, not-true}
 use lib.Dec.{eqb}
 use Rattle.paper_lower.specs.Sets.{has}
-use Rattle.paper_lower.specs.Lists.{Maybe, some, keep, each, Every}
+use Rattle.paper_lower.specs.Lists.{Maybe, keep, each, Every}
 use Rattle.paper_lower.specs.Records.{Record}
 use Rattle.paper_lower.specs.Tables.{Tasks, Rules}
 use Rattle.paper_lower.proofs.ListLaws.{or-none, both, not-both, every-map, every-both, every-kept, every-each, every-pull, some-none, none-some}

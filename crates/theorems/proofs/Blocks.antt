@@ -1,14 +1,14 @@
 -- "no user has entries in two blocks of one partitioning"
 use Prim.Native.Nat.{ℕ, _<_}
 use native.Mathlib.Nat.{zero-add}
-use mathlib.Core.Path.{_≡_, refl, sym, ap, subst, _∙_}
+use mathlib.Core.Path.{_≡_, refl, sym, ap, _∙_}
 use mathlib.Core.Bool.{Bool, true, false, not, cond, _&&_, true≢false, false≢true}
 use mathlib.Core.List.{List, [], _∷_}
 use mathlib.Core.Logic.{_↔_}
 use borrow.Author.Tests.{eqb-true, eq-eqb, not-true, not-false}
 use lib.Dec.{eqb}
 use Rattle.paper_lower.specs.Sets.{Set, empty, has, plus, meets}
-use Rattle.paper_lower.specs.Lists.{Maybe, some, each, place, firstOf, Every}
+use Rattle.paper_lower.specs.Lists.{Maybe, some, each, place, Every}
 use Rattle.paper_lower.specs.Records.{Record}
 use Rattle.paper_lower.specs.Tables.{Tasks, Block, Rules}
 use Rattle.paper_lower.proofs.ListLaws.{both, not-both, every-map, every-all, every-both, every-each, some-elim, some-of, place-none, none-place, first-none, none-first}
@@ -89,7 +89,7 @@ module _ (ru : Rules) (d : Set) (c : ℕ) where
   block-forth : (f : ℕ → Maybe ℕ) → WellMade f ru → block ru d c ≡ 0 → EveryTwo (Single d) (ru .blocks) → EveryTwo (Single (plus d c)) (ru .blocks)
   block-forth f well z h =
       two-both (λ k l. Single d k l → Single (plus d c) k l) (Single d) (Single (plus d c)) (ru .blocks) (λ k l g s. g s)
-      (two-both _ (λ k l. Free d c k l × Free d c l k) _ (ru .blocks) one-pair (well .disjoint) (two-of-every (Free d c) (ru .blocks) (nothing-strange (well .partitionings) z))) h
+      (two-both _ (λ k l. Free d c k l × Free d c l k) _ (ru .blocks) one-pair (well .blocks .disjoint) (two-of-every (Free d c) (ru .blocks) (nothing-strange (well .blocks .partitionings) z))) h
 
   block-back : EveryTwo (Single (plus d c)) (ru .blocks) → block ru d c ≡ 0
   unfolding block blockIn own strange

@@ -1,13 +1,13 @@
 -- "a limited task has at most n entries"
 use Prim.Native.Nat.{ℕ, suc, _≤_}
-use mathlib.Core.Path.{_≡_, refl, sym, ap, _∙_}
-use mathlib.Core.Bool.{Bool, true, false, not, cond, _&&_}
+use mathlib.Core.Path.{_≡_, refl, sym, _∙_}
+use mathlib.Core.Bool.{Bool, true, false, cond, _&&_}
 use mathlib.Core.List.{List, _∷_}
 use mathlib.Core.Logic.{_↔_}
 use native.Mathlib.Omega.{arith}
 use borrow.Author.Tests.{eqb-true, eq-eqb, leb-false, lt-leb}
 use lib.Dec.{eqb, leb}
-use Rattle.paper_lower.specs.Lists.{Maybe, many, keep, Every}
+use Rattle.paper_lower.specs.Lists.{Maybe, many, keep}
 use Rattle.paper_lower.specs.Records.{Record}
 use Rattle.paper_lower.specs.Tables.{Tasks, Rules}
 use Rattle.paper_lower.proofs.ListLaws.{both, not-both, every-map, every-both, some-none, none-some}

@@ -1,7 +1,7 @@
 -- Laws of entries: what an opening, an end, a claim, a release and a done leave of them, and of the tasks that they name.
 use Prim.Native.Nat.{ℕ}
 use mathlib.Core.Path.{_≡_, refl, sym, ap, _∙_}
-use mathlib.Core.Bool.{Bool, true, false, not, cond, _&&_, _||_, true≢false, false≢true, or-true}
+use mathlib.Core.Bool.{Bool, true, false, not, cond, _&&_, _||_, true≢false, or-true}
 use mathlib.Core.List.{List, [], _∷_}
 use borrow.Author.Tests.{eqb-true, eq-eqb, ne-eqb}
 use lib.Dec.{eqb}
@@ -10,7 +10,7 @@ use Rattle.paper_lower.specs.Lists.{upd, Maybe, there, some, keep, each, Every}
 use Rattle.paper_lower.specs.Lists.Maybe.{none, just}
 use Rattle.paper_lower.proofs.ListLaws.{both}
 use Rattle.sets.proofs.SetLaws.{Part, part-has, has-empty, has-plus}
-use Rattle.paper_upper.specs.Orders.{Standing, isDone, Entry, entry, Orders, inOrder, ofUser, heldBy, tasksWhere, tasksBy, tasksDone}
+use Rattle.paper_upper.specs.Orders.{isDone, Entry, entry, Orders, inOrder, ofUser, heldBy, tasksWhere, tasksBy, tasksDone}
 use Rattle.paper_upper.specs.Orders.Standing.{held, done}
 use Rattle.paper_upper.specs.Requests.{turned}
 

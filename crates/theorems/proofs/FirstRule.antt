@@ -1,31 +1,28 @@
 -- A claim's reply, and the first rule broken.
-use Prim.Native.Nat.{ℕ, _<_}
-use mathlib.Core.Path.{_≡_, refl, sym, ap, subst, _∙_}
-use mathlib.Core.Bool.{true, false, not, _&&_}
+use Prim.Native.Nat.{ℕ}
+use mathlib.Core.Path.{_≡_, ap, subst, _∙_}
+use mathlib.Core.Bool.{not, _&&_}
 use mathlib.Core.List.{List, [], _∷_, _++_}
 use native.Mathlib.Omega.{arith}
 use lib.Dec.{leb}
 use Rattle.paper_lower.specs.Sets.{meets}
-use Rattle.paper_lower.specs.Lists.{some, many, Every}
+use Rattle.paper_lower.specs.Lists.{some, many}
 use Rattle.paper_lower.specs.Checks.{Check, first, UNKNOWN, TAKEN, NO-ROLE, BEFORE, FULL}
 use Rattle.paper_lower.specs.Records.{Bytes, Record, decode}
 use Rattle.paper_lower.specs.Forms.{requestForms, formChecks}
 use Rattle.paper_lower.specs.Kinds.{chosen, replyTo, answer}
-use Rattle.paper_lower.specs.Load.{recordsOf}
-use Rattle.paper_lower.proofs.CheckLaws.{Passed, first-passed}
+use Rattle.paper_lower.proofs.CheckLaws.{first-passed}
 use Rattle.paper_upper.specs.Orders.{Engine, isHeld, ofTask}
 use Rattle.paper_upper.specs.Rules.{ruleChecks}
 use Rattle.paper_upper.specs.Requests.{unknown, claimChecks, upperKinds}
 use Rattle.paper_upper.specs.Engine.{requestKinds, request}
-use Rattle.theorems.specs.Outside.{Told, telling, hear}
+use Rattle.theorems.specs.Outside.{telling, hear}
 use Rattle.theorems.specs.OverEntries.{claimRules}
-use Rattle.theorems.specs.Theorems.{tablesAfter, toldAfter, replyAfter, held, Reaches, FirstBroken, ClaimsMeetTheFirst}
+use Rattle.theorems.specs.Theorems.{held, Reaches, FirstBroken}
 use Rattle.theorems.proofs.EntryLaws.{claiming}
-use Rattle.theorems.proofs.Meets.{Above, reaches-passed, first-broken}
+use Rattle.theorems.proofs.Meets.{reaches-passed, first-broken}
 use Rattle.theorems.proofs.Sound.{rules-meet}
 use Rattle.theorems.proofs.Keeps.{Kept}
-use Rattle.theorems.proofs.Outside.{told-is-held}
-use Rattle.theorems.proofs.Theorems.{kept-after}
 
 module _ (t : Engine) (s : Bytes) (e : decode s .kind ≡ 50) where
   abbrev r : Record
@@ -70,7 +67,3 @@ module _ (t : Engine) (s : Bytes) (e : decode s .kind ≡ 50) where
       (first-broken policy _ rules full claimRules
       (rules-meet policy (t .orders) (k .1) (t .lower .policy .tasks) (t .lower .policy .rules) (k .0 .made) (k .0 .well) (r .a) (r .b) (t .lower .sessions .user (r .a)) (r .c))
       (omega arith) (omega arith))
-
-pub claims-meet-the-first : ClaimsMeetTheFirst
-claims-meet-the-first policy accepted ss s e h =
-    rw (told-is-held policy accepted ss) (first-of-six (tablesAfter policy ss) s e (recordsOf policy) (kept-after policy accepted ss) h)

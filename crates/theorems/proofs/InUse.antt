@@ -1,39 +1,33 @@
 -- The entries in use are counted by the requests and the replies, and FULL is given at 2,048.
-use Prim.Native.Nat.{ℕ, suc, _+_, _-_, _≤_, _<_}
+use Prim.Native.Nat.{ℕ, _+_, _-_, _≤_}
 use mathlib.Core.Path.{_≡_, refl, sym, ap, _∙_}
-use mathlib.Core.Bool.{Bool, true, false, not, cond, _&&_, _||_, true≢false, false≢true}
-use mathlib.Core.List.{List, [], _∷_, _++_}
-use mathlib.Core.Logic.{_⊎_, ⊎-elim, _↔_}
+use mathlib.Core.Bool.{Bool, true, false, not, _&&_, true≢false, false≢true}
+use mathlib.Core.List.{List}
+use mathlib.Core.Logic.{⊎-elim}
 use native.Mathlib.Omega.{arith}
-use borrow.Author.Tests.{eqb-true, eq-eqb, ne-eqb, leb-true, leb-false, le-leb, not-false}
-use lib.Dec.{eqb, leb}
-use Rattle.paper_lower.specs.Lists.{upd, Maybe, holds, there, some, many, keep, each, Every}
+use borrow.Author.Tests.{eqb-true, eq-eqb, ne-eqb, not-false}
+use lib.Dec.{eqb}
+use Rattle.paper_lower.specs.Lists.{upd, holds, there, some, many, keep, each, Every}
 use Rattle.paper_lower.specs.Lists.Maybe.{none, just}
-use Rattle.paper_lower.specs.Checks.{FULL, first}
-use Rattle.paper_lower.specs.Records.{Bytes, Record, decode}
+use Rattle.paper_lower.specs.Records.{Bytes, Record}
 use Rattle.paper_lower.specs.Forms.{requestForms}
-use Rattle.paper_lower.specs.Kinds.{chosen, run, after}
+use Rattle.paper_lower.specs.Kinds.{chosen}
 use Rattle.paper_lower.specs.Load.{load, recordsOf}
 use Rattle.paper_lower.specs.Roles.{roleKinds}
 use Rattle.paper_lower.specs.Sessions.{sessionKinds, lowerKinds}
 use Rattle.paper_lower.proofs.ListLaws.{both, upd-same, upd-other, every-map}
 use Rattle.sets.proofs.Bits.{same-or-other}
-use Rattle.paper_upper.specs.Orders.{Standing, isHeld, isHeldBy, Entry, entry, Orders, Engine, noOrders, inOrder, ofTask, heldBy}
+use Rattle.paper_upper.specs.Orders.{Standing, isHeld, isHeldBy, Entry, Orders, noOrders, inOrder, ofTask, heldBy}
 use Rattle.paper_upper.specs.Orders.Standing.{held, done}
 use Rattle.paper_upper.specs.Requests.{openChecks, openNext, endChecks, endNext, claimChecks, claimNext, holdChecks, releaseNext, doneNext, turned, upperKinds}
-use Rattle.paper_upper.specs.Engine.{raised, requestKinds, request, engineOf}
-use Rattle.theorems.specs.Outside.{followed}
-use Rattle.theorems.specs.WellMade.{Ledger}
+use Rattle.paper_upper.specs.Engine.{raised, requestKinds, engineOf}
 use Rattle.theorems.specs.InUse.{Tally, noTally, counting, count, inUse}
-use Rattle.theorems.specs.Theorems.{tablesAfter, saidAfter, replyAfter, Counted, EntriesAreCounted}
+use Rattle.theorems.specs.Theorems.{tablesAfter, saidAfter}
 use Rattle.theorems.proofs.Rows.{_⨾_, Rows, run-follows}
 use Rattle.theorems.proofs.EntryLaws.{opening, ending, claiming, releasing, finishing, turned-same}
 use Rattle.theorems.proofs.CountLaws.{count-imp, count-same, count-keep, count-each, many-each, count-split, count-none, count-some}
 use Rattle.theorems.proofs.Ledger.{heldTask}
 use Rattle.theorems.proofs.Keeps.{Kept, is-open, kept-rows, kept-load}
-use Rattle.theorems.proofs.Outside.{told-is-held}
-use Rattle.theorems.proofs.Theorems.{ledger-is-sound}
-use Rattle.theorems.proofs.FirstRule.{full-reply}
 
 record Tallied (o : Orders) (x : Tally) : Type 0 where
   all : x .ended + x .releases + many (o .entries) ≡ x .claims
@@ -157,30 +151,10 @@ rows policy =
     ⨾ (λ t r g p i y h. h) ⨾ (λ t r g p i y h. h) ⨾ (λ t r g p i y h. h) ⨾ (λ t r g p i y h. h) ⨾ (λ t r g p i y h. h) ⨾ tt
 
 -- ---- the whole
-counted : (policy : Bytes) → load policy .reply ≡ 0 → (ss : List Bytes) → inUse (saidAfter policy ss) ≡ many (tablesAfter policy ss .orders .entries)
+pub counted : (policy : Bytes) → load policy .reply ≡ 0 → (ss : List Bytes) → inUse (saidAfter policy ss) ≡ many (tablesAfter policy ss .orders .entries)
 unfolding inUse count engineOf noOrders noTally many keep
 counted policy accepted ss =
     let x = run-follows (Kept (recordsOf policy)) (λ t y. Tallied (t .orders) y) (λ n y r. chosen counting n .next y r) (kept-rows (recordsOf policy)) (rows (recordsOf policy))
     (engineOf (load policy .tables)) noTally ss (kept-load policy accepted) (record { all = refl; since = λ i l. refl }) in
     let y = x .all in
     omega arith
-
-pub entries-are-counted : EntriesAreCounted
-entries-are-counted policy accepted ss =
-    let c = counted policy accepted ss in
-    let room = ledger-is-sound policy accepted ss .room in
-    record {
-      entries = c ∙ ap (λ (x : _). many (x .orders .entries)) (sym (told-is-held policy accepted ss));
-      room = omega arith;
-      full = λ s e h.
-          let q = full-reply (tablesAfter policy ss) s e h in
-          (λ w. go (leb 2048 (many (tablesAfter policy ss .orders .entries))) refl (sym q ∙ w), λ w. q ∙ rw (le-leb 2048 (many (tablesAfter policy ss .orders .entries)) (omega arith)));
-    }
-  where
-    go : (b : Bool) → leb 2048 (many (tablesAfter policy ss .orders .entries)) ≡ b → cond b FULL 0 ≡ FULL → inUse (saidAfter policy ss) ≡ 2048
-    go true e w =
-        let l = leb-true 2048 (many (tablesAfter policy ss .orders .entries)) e in
-        let c = counted policy accepted ss in
-        let room = ledger-is-sound policy accepted ss .room in
-        omega arith
-    go false e w = let z : ⊥ = omega arith in absurd z

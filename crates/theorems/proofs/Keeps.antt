@@ -1,13 +1,13 @@
 -- All that holds after an accepted load and is kept by every request.
 use Prim.Native.Nat.{ℕ}
-use mathlib.Core.Path.{_≡_, refl, ap, _∙_}
-use mathlib.Core.Bool.{Bool, true, false, not, _&&_, _||_}
-use mathlib.Core.List.{List, [], _∷_, _++_}
+use mathlib.Core.Path.{_≡_, refl}
+use mathlib.Core.Bool.{Bool, true, false, not}
+use mathlib.Core.List.{List, [], _∷_}
 use native.Mathlib.Omega.{arith}
 use borrow.Author.Tests.{not-false}
 use lib.Dec.{ltb, leb}
 use Rattle.paper_lower.specs.Sets.{has, within}
-use Rattle.paper_lower.specs.Lists.{Maybe, holds, there, is, many, each}
+use Rattle.paper_lower.specs.Lists.{Maybe, holds, there, many, each}
 use Rattle.paper_lower.specs.Lists.Maybe.{none, just}
 use Rattle.paper_lower.specs.Checks.{FULL}
 use Rattle.paper_lower.specs.Records.{Bytes, Record}
@@ -24,7 +24,8 @@ use Rattle.paper_upper.specs.Rules.{ruleChecks}
 use Rattle.paper_upper.specs.Requests.{openChecks, openNext, endNext, unknown, claimChecks, claimNext, releaseNext, doneNext, upperKinds}
 use Rattle.paper_upper.specs.Engine.{raised, requestKinds, engineOf}
 use Rattle.theorems.specs.WellMade.{WellMade}
-use Rattle.theorems.proofs.Rows.{_⨾_, Rows}
+use Rattle.theorems.specs.Theorems.{tablesAfter, AfterEvery}
+use Rattle.theorems.proofs.Rows.{_⨾_, Rows, run-keeps}
 use Rattle.theorems.proofs.Made.{Made, made}
 use Rattle.theorems.proofs.WellMade.{a-within, load-well-made}
 use Rattle.theorems.proofs.Sound.{Sound, sound-start, sound-open, sound-end, sound-claim, sound-release, sound-finish}
@@ -103,3 +104,7 @@ kept-rows policy =
 pub kept-load : (policy : Bytes) → load policy .reply ≡ 0 → Kept (recordsOf policy) (engineOf (load policy .tables))
 unfolding engineOf lowerOf
 kept-load policy h = (record { made = made policy h; well = load-well-made policy h }, sound-start (recordsOf policy), loaded-limited policy h)
+
+pub kept-after : AfterEvery (λ policy requests. Kept (recordsOf policy) (tablesAfter policy requests))
+kept-after policy accepted ss =
+    run-keeps (Kept (recordsOf policy)) (kept-rows (recordsOf policy)) (engineOf (load policy .tables)) ss (kept-load policy accepted)

@@ -18,6 +18,6 @@ pub mod Roles
 pub mod LoadedRoles
 pub mod Keeps
 pub mod Outside
-pub mod Theorems
 pub mod FirstRule
 pub mod InUse
+pub mod Theorems

@@ -1,18 +1,17 @@
 -- After an accepted load every user's roles are within the static sets, and there is no subject.
 use Prim.Native.Nat.{ℕ, _<_, _≤_}
 use mathlib.Core.Path.{_≡_, refl, sym, ap, _∙_}
-use mathlib.Core.Bool.{Bool, true, false, not, _&&_, _||_, true≢false, false≢true}
+use mathlib.Core.Bool.{Bool, true, false, not, _&&_, true≢false, false≢true}
 use mathlib.Core.List.{List}
-use mathlib.Core.Logic.{_⊎_, ⊎-elim}
+use mathlib.Core.Logic.{⊎-elim}
 use native.Mathlib.Omega.{arith}
 use borrow.Author.Tests.{ltb-false, not-false}
-use lib.Dec.{ltb}
 use Rattle.paper_lower.specs.Sets.{Set, empty, has, plus, overlap}
-use Rattle.paper_lower.specs.Lists.{upd, someBelow, some, add, Every}
+use Rattle.paper_lower.specs.Lists.{upd, someBelow, some, add}
 use Rattle.paper_lower.specs.Records.{Bytes}
 use Rattle.paper_lower.specs.Forms.{policyForms, formOf, above, outOfRange}
-use Rattle.paper_lower.specs.Tables.{Limit, Policy, noPolicy, noSessions}
-use Rattle.paper_lower.specs.Policy.{breaks, userChecks, userNext, roleNext, permissionNext, assignChecks, assignNext, giveNext, taskNext, openToNext, carriesNext, staticChecks, staticNext, dynamicNext, taskSetNext, blockNext, banNext, mostNext, bindNext, beforeNext, policyKinds}
+use Rattle.paper_lower.specs.Tables.{Limit, noPolicy, noSessions}
+use Rattle.paper_lower.specs.Policy.{breaks, userNext, roleNext, permissionNext, assignChecks, assignNext, giveNext, taskNext, openToNext, carriesNext, staticChecks, staticNext, dynamicNext, taskSetNext, blockNext, banNext, mostNext, bindNext, beforeNext, policyKinds}
 use Rattle.paper_lower.specs.Load.{load, recordsOf}
 use Rattle.paper_lower.proofs.ListLaws.{or-none, not-both, upd-same, upd-other, none-below, every-added}
 use Rattle.sets.proofs.Bits.{same-or-other}

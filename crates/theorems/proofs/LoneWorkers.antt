@@ -1,9 +1,9 @@
 -- "in a banned template no user has entries in every task"
 use Prim.Native.Nat.{ℕ}
 use mathlib.Core.Path.{_≡_, refl, sym, ap, _∙_}
-use mathlib.Core.Bool.{Bool, true, false, not, _&&_, true≢false, false≢true}
+use mathlib.Core.Bool.{Bool, true, false, _&&_, true≢false, false≢true}
 use mathlib.Core.List.{List}
-use mathlib.Core.Logic.{_⊎_, ⊎-elim, _↔_}
+use mathlib.Core.Logic.{⊎-elim, _↔_}
 use native.Mathlib.Omega.{arith}
 use borrow.Author.Tests.{eqb-true, eqb-false, eq-eqb, not-true}
 use lib.Dec.{eqb}
@@ -15,7 +15,7 @@ use Rattle.paper_lower.specs.Tables.{Tasks, Rules}
 use Rattle.paper_lower.specs.Policy.{tasksOf, hasTask}
 use Rattle.paper_lower.proofs.ListLaws.{both, not-both, every-map, every-all, some-elim, some-of}
 use Rattle.sets.proofs.Bits.{same-or-other, some-bit}
-use Rattle.sets.proofs.SetLaws.{Part, has-part, bit-has, has-empty, has-new, has-old, has-other, has-kept, has-gone, within-has, has-within, within-minus, collect-below}
+use Rattle.sets.proofs.SetLaws.{Part, has-part, bit-has, has-empty, has-new, has-old, has-other, has-kept, has-gone, within-has, has-within, collect-below}
 use Rattle.paper_upper.specs.Rules.{alone}
 use Rattle.theorems.specs.OverEntries.{ofKind}
 use Rattle.theorems.specs.WellMade.{WellMade}

@@ -1,5 +1,5 @@
 -- Checks against rules: the first check that applies is the first rule that is not kept.
-use Prim.Native.Nat.{ℕ, zero, _<_, _≤_}
+use Prim.Native.Nat.{ℕ, _<_}
 use mathlib.Core.Path.{_≡_, refl, sym, subst, _∙_}
 use mathlib.Core.Bool.{Bool, true, false, not, cond, true≢false}
 use mathlib.Core.List.{List, [], _∷_, _++_}
@@ -9,8 +9,8 @@ use lib.Dec.{eqb, T}
 use Rattle.paper_lower.specs.Lists.{Every}
 use Rattle.paper_lower.specs.Checks.{Check, first}
 use Rattle.paper_lower.specs.Records.{Record}
-use Rattle.paper_lower.proofs.ListLaws.{every-map, every-all, every-both, every-left}
-use Rattle.paper_lower.proofs.CheckLaws.{Numbered, Passed, passed, first-passed, first-stops}
+use Rattle.paper_lower.proofs.ListLaws.{every-map, every-left}
+use Rattle.paper_lower.proofs.CheckLaws.{Numbered, Passed, passed, first-stops}
 use Rattle.sets.proofs.Bits.{same-or-other}
 use Rattle.paper_upper.specs.Orders.{Orders}
 use Rattle.theorems.specs.OverEntries.{Rule}

@@ -1,10 +1,9 @@
 -- What is told from outside is what the tables hold.
-use Prim.Native.Nat.{ℕ}
 use mathlib.Core.Path.{_≡_, refl, sym, ap, _∙_}
-use mathlib.Core.List.{List, [], _∷_, _++_}
+use mathlib.Core.List.{List, [], _∷_}
 use Rattle.paper_lower.specs.Lists.{each, Every}
-use Rattle.paper_lower.specs.Records.{Bytes, Record}
-use Rattle.paper_lower.specs.Kinds.{chosen, run}
+use Rattle.paper_lower.specs.Records.{Record}
+use Rattle.paper_lower.specs.Kinds.{chosen}
 use Rattle.paper_lower.specs.Tables.{Policy, noPolicy}
 use Rattle.paper_lower.specs.Policy.{userNext, roleNext, permissionNext, assignNext, giveNext, taskNext, openToNext, carriesNext, staticNext, dynamicNext, taskSetNext, blockNext, banNext, mostNext, bindNext, beforeNext, policyKinds}
 use Rattle.paper_lower.specs.Load.{load, recordsOf}
@@ -12,16 +11,16 @@ use Rattle.paper_lower.specs.Roles.{deleteNext, takeBackNext, withdrawNext, rol
 use Rattle.paper_lower.specs.Sessions.{createNext, destroyNext, activateNext, deactivateNext, sessionKinds, lowerKinds, lowerOf}
 use Rattle.paper_lower.proofs.ListLaws.{every-map, every-all}
 use Rattle.paper_upper.specs.Orders.{Engine}
-use Rattle.paper_upper.specs.Requests.{openNext, endNext, claimNext, releaseNext, doneNext, upperKinds}
-use Rattle.paper_upper.specs.Engine.{raised, requestKinds, request, engineOf}
-use Rattle.theorems.specs.Outside.{Told, nothing, telling, hear, hearAll, followed, outside}
-use Rattle.theorems.specs.Theorems.{saidAfter, held, ToldIsHeld}
+use Rattle.paper_upper.specs.Requests.{openNext, endNext, claimNext, releaseNext, doneNext, turned, upperKinds}
+use Rattle.paper_upper.specs.Engine.{raised, requestKinds, engineOf}
+use Rattle.theorems.specs.Outside.{Told, nothing, telling, hear, hearAll, outside}
+use Rattle.theorems.specs.Theorems.{held, ToldIsHeld}
 use Rattle.theorems.proofs.Rows.{_⨾_, run-follows}
 use Rattle.theorems.proofs.Loads.{step, filled, Accepted, fits-rows, load-accepted}
 
 -- ---- requests
 request-rows : Every (λ k. (t : Engine) (r : Record) → chosen telling (k .kind) .next (held t) r ≡ held (k .next t r)) requestKinds
-unfolding requestKinds upperKinds raised lowerKinds roleKinds sessionKinds each telling chosen userNext assignNext giveNext deleteNext takeBackNext withdrawNext createNext destroyNext activateNext deactivateNext openNext endNext claimNext releaseNext doneNext
+unfolding requestKinds upperKinds raised lowerKinds roleKinds sessionKinds each telling chosen userNext assignNext giveNext deleteNext takeBackNext withdrawNext createNext destroyNext activateNext deactivateNext openNext endNext claimNext releaseNext doneNext turned
 request-rows =
     (λ t r. refl) ⨾ (λ t r. refl) ⨾ (λ t r. refl) ⨾ (λ t r. refl) ⨾ (λ t r. refl) ⨾ (λ t r. refl) ⨾ (λ t r. refl) ⨾ (λ t r. refl)
     ⨾ (λ t r. refl) ⨾ (λ t r. refl) ⨾ (λ t r. refl) ⨾ (λ t r. refl) ⨾ (λ t r. refl) ⨾ (λ t r. refl)

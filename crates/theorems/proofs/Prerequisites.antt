@@ -11,7 +11,7 @@ use Rattle.paper_lower.specs.Lists.{Maybe, keep, each, Every}
 use Rattle.paper_lower.specs.Records.{Record}
 use Rattle.paper_lower.specs.Tables.{Tasks, Rules}
 use Rattle.paper_lower.proofs.ListLaws.{both, not-both, and-false, every-map, every-both, every-kept, every-each}
-use Rattle.sets.proofs.SetLaws.{Part, has-part}
+use Rattle.sets.proofs.SetLaws.{has-part}
 use Rattle.paper_upper.specs.Orders.{Standing, isDone, isHeldBy, Entry, entry, Orders, inOrder, ofTask, heldBy, tasksWhere, tasksDone}
 use Rattle.paper_upper.specs.Orders.Standing.{held, done}
 use Rattle.paper_upper.specs.Rules.{missing, before, found}

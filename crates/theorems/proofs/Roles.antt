@@ -1,22 +1,21 @@
 -- Static sets, dynamic sets and active roles: what a load gives, and what each request of people and subjects leaves.
 use Prim.Native.Nat.{ℕ, _<_, _≤_}
 use mathlib.Core.Path.{_≡_, refl, sym, ap, _∙_}
-use mathlib.Core.Bool.{Bool, true, false, not, cond, _&&_, _||_, true≢false, false≢true}
+use mathlib.Core.Bool.{Bool, true, false, cond, _&&_, true≢false, false≢true}
 use mathlib.Core.List.{List}
-use mathlib.Core.Logic.{_⊎_, ⊎-elim}
+use mathlib.Core.Logic.{⊎-elim}
 use native.Mathlib.Omega.{arith}
-use borrow.Author.Tests.{eqb-true, eq-eqb, ltb-false, not-false}
-use lib.Dec.{eqb, ltb}
+use borrow.Author.Tests.{eqb-true, eq-eqb, ltb-false}
+use lib.Dec.{eqb}
 use Rattle.paper_lower.specs.Sets.{Set, empty, has, plus, minus, union, overlap, within}
 use Rattle.paper_lower.specs.Lists.{upd, someBelow, some, Every}
-use Rattle.paper_lower.specs.Tables.{Limit, Rules, People, Sessions, Lower, noSessions, withAssigned, withActive}
-use Rattle.paper_lower.specs.Policy.{breaks, userChecks, assignChecks}
-use Rattle.paper_lower.specs.Roles.{ofUser, activeOf, deleteChecks, takeBackChecks}
-use Rattle.paper_lower.specs.Sessions.{createChecks, createNext, destroyNext, activateChecks, activateNext, deactivateChecks, deactivateNext}
-use Rattle.paper_lower.proofs.ListLaws.{or-none, both, upd-same, upd-other, none-below, every-map, every-all, some-none}
-use Rattle.paper_lower.proofs.CheckLaws.{Passed}
+use Rattle.paper_lower.specs.Tables.{Limit, Rules, People, Sessions, noSessions, withAssigned, withActive}
+use Rattle.paper_lower.specs.Policy.{breaks}
+use Rattle.paper_lower.specs.Roles.{ofUser, activeOf}
+use Rattle.paper_lower.specs.Sessions.{createNext, destroyNext, activateNext, deactivateNext}
+use Rattle.paper_lower.proofs.ListLaws.{both, upd-same, upd-other, none-below, every-map, every-all, some-none}
 use Rattle.sets.proofs.Bits.{same-or-other}
-use Rattle.sets.proofs.SetLaws.{in-or-out, has-plus, has-kept, Part, part-refl, part-empty, part-plus, part-more, part-trans, part-minus, part-left, part-right, has-part, within-has, has-within, within-plus, within-trans, within-minus, overlap-empty, overlap-part, union-le, union-ge, plus-member}
+use Rattle.sets.proofs.SetLaws.{has-kept, Part, part-refl, part-empty, part-plus, part-more, part-trans, part-minus, part-left, part-right, has-part, within-has, has-within, within-plus, within-trans, within-minus, overlap-empty, overlap-part, union-le, union-ge, plus-member}
 
 -- no set of the list has more than n of the roles m
 abbrev pub Within : List Limit → Set → Type 0

@@ -1,8 +1,8 @@
 -- Rows of the tables of kinds: what every row does, every request does, and every run.
 use Prim.Native.Nat.{ℕ, zero, suc}
 use mathlib.Core.Path.{_≡_, refl}
-use mathlib.Core.Bool.{true, false, true≢false}
-use mathlib.Core.List.{List, [], _∷_, _++_}
+use mathlib.Core.Bool.{false, true≢false}
+use mathlib.Core.List.{List, [], _∷_}
 use native.Mathlib.Omega.{arith}
 use Rattle.paper_lower.specs.Lists.{each, Every}
 use Rattle.paper_lower.specs.Checks.{granted}

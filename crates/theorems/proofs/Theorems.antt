@@ -1,35 +1,31 @@
 -- The theorems.
-use Prim.Native.Nat.{ℕ, _<_, _≤_}
-use mathlib.Core.Path.{_≡_, refl, sym, ap, subst, _∙_}
-use mathlib.Core.Bool.{true, false}
-use mathlib.Core.List.{List, [], _∷_, _++_}
+use Prim.Native.Nat.{ℕ, _≤_}
+use mathlib.Core.Path.{_≡_, refl, sym, ap, _∙_}
+use mathlib.Core.Bool.{Bool, true, false, cond}
+use borrow.Author.Tests.{leb-true, le-leb}
 use native.Mathlib.Omega.{arith}
 use lib.Dec.{leb}
 use Rattle.paper_lower.specs.Sets.{overlap}
-use Rattle.paper_lower.specs.Lists.{each, many, Every}
-use Rattle.paper_lower.specs.Checks.{Check, first, UNKNOWN, TAKEN, NO-ROLE, BEFORE, FULL}
-use Rattle.paper_lower.specs.Records.{Bytes, Record, decode}
-use Rattle.paper_lower.specs.Forms.{requestForms, formChecks}
-use Rattle.paper_lower.specs.Kinds.{chosen, replyTo, answer}
-use Rattle.paper_lower.specs.Tables.{Limit}
+use Rattle.paper_lower.specs.Lists.{each, many}
+use Rattle.paper_lower.specs.Checks.{FULL}
+use Rattle.paper_lower.specs.Forms.{requestForms}
 use Rattle.paper_lower.specs.Policy.{userNext, assignNext, giveNext}
 use Rattle.paper_lower.specs.Load.{recordsOf}
 use Rattle.paper_lower.specs.Roles.{activeOf, deleteNext, takeBackNext, withdrawNext, roleKinds}
 use Rattle.paper_lower.specs.Sessions.{sessionKinds, lowerKinds}
-use Rattle.paper_upper.specs.Orders.{Engine, ofTask}
 use Rattle.paper_upper.specs.Requests.{openNext, endNext, claimNext, releaseNext, doneNext, upperKinds}
-use Rattle.paper_upper.specs.Engine.{raised, requestKinds, request, engineOf}
+use Rattle.paper_upper.specs.Engine.{raised, requestKinds, request}
+use Rattle.theorems.specs.Outside.{Told}
 use Rattle.theorems.specs.OverEntries.{ofKind}
-use Rattle.theorems.specs.Theorems.{tablesAfter, AfterEvery, OrdersKeepTheRules, ClerksKeepTheLimits, RulesAreWellMade, LedgerIsSound, RequestsChangeNoRule}
-use Rattle.theorems.proofs.Rows.{_⨾_, Rows, numbered, answer-rows, run-keeps}
+use Rattle.theorems.specs.InUse.{inUse}
+use Rattle.theorems.specs.Theorems.{tablesAfter, saidAfter, OrdersKeepTheRules, ClerksKeepTheLimits, ClaimsMeetTheFirst, EntriesAreCounted, RulesAreWellMade, LedgerIsSound, RequestsChangeNoRule}
+use Rattle.theorems.proofs.Rows.{_⨾_, Rows, numbered, answer-rows}
 use Rattle.theorems.proofs.Made.{aLimit, of-each}
 use Rattle.theorems.proofs.Sound.{kept}
-use Rattle.theorems.proofs.Roles.{Within}
-use Rattle.theorems.proofs.Keeps.{Kept, kept-rows, kept-load}
+use Rattle.theorems.proofs.Keeps.{kept-after}
 use Rattle.theorems.proofs.Outside.{told-is-held}
-
-pub kept-after : AfterEvery (λ policy requests. Kept (recordsOf policy) (tablesAfter policy requests))
-kept-after policy accepted ss = run-keeps (Kept (recordsOf policy)) (kept-rows (recordsOf policy)) (engineOf (Rattle.paper_lower.specs.Load.load policy .tables)) ss (kept-load policy accepted)
+use Rattle.theorems.proofs.FirstRule.{first-of-six, full-reply}
+use Rattle.theorems.proofs.InUse.{counted}
 
 pub orders-keep-the-rules : OrdersKeepTheRules
 orders-keep-the-rules policy accepted ss = rw (told-is-held policy accepted ss) (kept (recordsOf policy) (tablesAfter policy ss .orders) (kept-after policy accepted ss .1))
@@ -64,3 +60,25 @@ unfolding request
 requests-change-no-rule t s =
     answer-rows requestForms (λ n t r x. (x .lower .policy .tasks ≡ t .lower .policy .tasks) × (x .lower .policy .rules ≡ t .lower .policy .rules)) requestKinds numbered rows t s
     (λ q x. (x .lower .policy .tasks ≡ t .lower .policy .tasks) × (x .lower .policy .rules ≡ t .lower .policy .rules)) (λ x h. h) (λ q. (refl, refl))
+
+-- ---- claims
+pub claims-meet-the-first : ClaimsMeetTheFirst
+claims-meet-the-first policy accepted ss s e h =
+    rw (told-is-held policy accepted ss) (first-of-six (tablesAfter policy ss) s e (recordsOf policy) (kept-after policy accepted ss) h)
+
+pub entries-are-counted : EntriesAreCounted
+entries-are-counted policy accepted ss =
+    let c = counted policy accepted ss in
+    let l = ledger-is-sound policy accepted ss .room in
+    record {
+      entries = c ∙ ap (λ (x : Told). many (x .orders .entries)) (sym (told-is-held policy accepted ss));
+      room = omega arith;
+      full = λ s e h. let q = full-reply (tablesAfter policy ss) s e h in (λ w. at c l (leb 2048 used) refl (sym q ∙ w), λ w. q ∙ rw (le-leb 2048 used (omega arith)));
+    }
+  where
+    used : ℕ
+    used = many (tablesAfter policy ss .orders .entries)
+
+    at : inUse (saidAfter policy ss) ≡ used → used ≤ 2048 → (b : Bool) → leb 2048 used ≡ b → cond b FULL 0 ≡ FULL → inUse (saidAfter policy ss) ≡ 2048
+    at c l true e w = let m = leb-true 2048 used e in omega arith
+    at c l false e w = let z : ⊥ = omega arith in absurd z

@@ -1,11 +1,10 @@
 -- A rule over the tasks of one user in one order, that fewer tasks keep: what each request leaves of it.
 use Prim.Native.Nat.{ℕ}
-use mathlib.Core.Path.{_≡_, refl, sym, ap, _∙_}
+use mathlib.Core.Path.{_≡_}
 use mathlib.Core.Bool.{true, false, not}
-use mathlib.Core.List.{List, _∷_}
-use mathlib.Core.Logic.{_⊎_, ⊎-elim, _↔_}
+use mathlib.Core.Logic.{⊎-elim, _↔_}
 use Rattle.paper_lower.specs.Sets.{Set, empty, plus}
-use Rattle.paper_lower.specs.Lists.{upd, Maybe, there, Every}
+use Rattle.paper_lower.specs.Lists.{Maybe, there, Every}
 use Rattle.paper_lower.specs.Lists.Maybe.{none, just}
 use Rattle.paper_lower.proofs.ListLaws.{upd-same, upd-other}
 use Rattle.sets.proofs.Bits.{same-or-other}

@@ -3,24 +3,23 @@ use Prim.Native.Nat.{ℕ, zero, suc, _≤_, _<_}
 use mathlib.Core.Path.{_≡_, refl, sym, ap, _∙_}
 use mathlib.Core.Bool.{Bool, true, false, not, cond, _&&_, _||_, true≢false, false≢true}
 use mathlib.Core.List.{List, [], _∷_}
-use mathlib.Core.Logic.{_⊎_, inl, inr, ⊎-elim}
+use mathlib.Core.Logic.{⊎-elim}
 use native.Mathlib.Omega.{arith}
-use borrow.Author.Tests.{eqb-true, leb-true, ltb-true, ltb-false, eqb-false, eq-eqb, not-false}
+use borrow.Author.Tests.{eqb-true, leb-true, ltb-true, ltb-false, eqb-false, not-false}
 use lib.Dec.{eqb, leb, ltb}
 use Rattle.paper_lower.specs.Sets.{Set, empty, has, union, size, meets, within, collect}
 use Rattle.paper_lower.specs.Lists.{upd, someBelow, Maybe, holds, there, is, add, Every}
 use Rattle.paper_lower.specs.Lists.Maybe.{none, just}
-use Rattle.paper_lower.specs.Records.{Bytes, Record}
+use Rattle.paper_lower.specs.Records.{Bytes}
 use Rattle.paper_lower.specs.Forms.{policyForms, formOf, above, outOfRange}
-use Rattle.paper_lower.specs.Tables.{Tasks, Limit, Block, Pair, Rules, Policy, noPolicy, withStatics, withDynamics, withTaskSets, withBlocks, withBindings, withBefores}
+use Rattle.paper_lower.specs.Tables.{Tasks, Limit, Block, Pair, Rules, noPolicy, withStatics, withDynamics, withTaskSets, withBlocks, withBindings, withBefores}
 use Rattle.paper_lower.specs.Policy.{tasksOf, oneTemplate, together, illMade, userNext, roleNext, permissionNext, assignNext, giveNext, taskChecks, taskNext, openToNext, carriesNext, staticChecks, staticNext, dynamicChecks, dynamicNext, taskSetChecks, taskSetNext, partitioned, blockChecks, blockNext, banNext, mostNext, bindChecks, bindNext, beforeChecks, beforeNext, policyKinds}
 use Rattle.paper_lower.specs.Load.{load, recordsOf}
-use Rattle.paper_lower.proofs.ListLaws.{or-none, both, upd-same, upd-other, every-map, every-added}
-use Rattle.paper_lower.proofs.CheckLaws.{Passed}
+use Rattle.paper_lower.proofs.ListLaws.{or-none, both, upd-other, every-map, every-added}
 use Rattle.sets.proofs.Bits.{same-or-other}
 use Rattle.sets.proofs.SetLaws.{Part, part-trans, part-left, part-right, within-part, has-part, collect-above, collect-below, none-common, meets-none}
 use Rattle.theorems.specs.OverEntries.{EveryTwo}
-use Rattle.theorems.specs.WellMade.{Limits, AllOf, Linked, WellMade}
+use Rattle.theorems.specs.WellMade.{Limits, AllOf, Linked, WellCut, WellMade}
 use Rattle.theorems.proofs.Rows.{_⨾_, Rows}
 use Rattle.theorems.proofs.Loads.{load-keeps, load-accepted}
 
@@ -77,21 +76,25 @@ module _ (f : ℕ → Maybe ℕ) (a b : ℕ) (new : there (f a) ≡ false) where
   unfolding holds
   still t j h = upd-other f a t (just b) (λ e. true≢false (sym (ap there (sym (ap f e) ∙ h)) ∙ new)) ∙ h
 
+  still-linked : (x : Pair) → Linked f x → Linked (upd f a (just b)) x
+  still-linked x y = (y .0, (y .1 .0, still (x .a) (y .1 .0) (y .1 .1), still (x .b) (y .1 .0) (y .1 .2)))
+
   task-more : (k : Rules) → a < 64 → WellMade f k → WellMade (upd f a (just b)) k
   task-more k l i = record {
     tasks = λ t j h. ⊎-elim (λ (e : t ≡ a). omega arith) (λ n. i .tasks t j (sym (upd-other f a t (just b) n) ∙ h)) (same-or-other t a);
     statics = i .statics;
     dynamics = i .dynamics;
     taskSets = every-map (k .taskSets) (λ s x. (x .0, (x .1 .0, λ t h. still t (x .1 .0) (x .1 .1 t h)))) (i .taskSets);
-    partitionings = i .partitionings;
-    one-template = λ q. let x = i .one-template q in (x .0, every-map (k .blocks) (λ s y e t h. still t (x .0) (y e t h)) (x .1));
-    disjoint = i .disjoint;
-    bindings = every-map (k .bindings) more (i .bindings);
-    befores = every-map (k .befores) more (i .befores);
+    blocks = record {
+      partitionings = i .blocks .partitionings;
+      one-template = λ q.
+          let x = i .blocks .one-template q in
+          (x .0, every-map (k .blocks) (λ s y e t h. still t (x .0) (y e t h)) (x .1));
+      disjoint = i .blocks .disjoint;
+    };
+    bindings = every-map (k .bindings) still-linked (i .bindings);
+    befores = every-map (k .befores) still-linked (i .befores);
   }
-    where
-      more : (x : Pair) → Linked f x → Linked (upd f a (just b)) x
-      more x y = (y .0, (y .1 .0, still (x .a) (y .1 .0) (y .1 .1), still (x .b) (y .1 .0) (y .1 .2)))
 
 -- ---- one block more
 two-added : {A : Type 0} (R : A → A → Type 0) (xs : List A) (y : A) → EveryTwo R xs → Every (λ x. R x y) xs → EveryTwo R (add xs y)
@@ -109,98 +112,65 @@ in-partitioned q (x ∷ xs) = go (eqb (x .partitioning) q) refl (in-partitioned 
     go true e h = (λ _. part-left _ _, every-map xs (λ k p i. part-trans _ _ _ (p i) (part-right (x .tasks) (partitioned q xs))) h)
     go false e h = (λ i. absurd (eqb-false _ _ e i), h)
 
-block-more : (k : Tasks) (ru : Rules) (a : ℕ) (m : Set) → a < 16 → not (oneTemplate k (union m (partitioned a (ru .blocks)))) ≡ false → meets m (partitioned a (ru .blocks)) ≡ false
-    → WellMade (k .template) ru → WellMade (k .template) (withBlocks ru (add (ru .blocks) (record { partitioning = a; tasks = m })))
-block-more k ru a m l one apart i = record {
-  tasks = i .tasks;
-  statics = i .statics;
-  dynamics = i .dynamics;
-  taskSets = i .taskSets;
-  bindings = i .bindings;
-  befores = i .befores;
-  partitionings = every-added (λ b. b .partitioning < 16) (ru .blocks) _ (i .partitionings) l;
-  one-template = λ q. ⊎-elim (λ e. same q e) (λ n. let x = i .one-template q in (x .0, every-added (λ b. b .partitioning ≡ q → AllOf (k .template) (x .0) (b .tasks)) (ru .blocks) _ (x .1) (λ e. absurd (n e)))) (same-or-other a q);
-  disjoint = two-added _ (ru .blocks) _ (i .disjoint) (every-map (ru .blocks) (λ b p (e : b .partitioning ≡ a). meets-none (b .tasks) m (λ t x y. none-common m _ t apart y (has-part _ _ t (p e) x))) (in-partitioned a (ru .blocks)));
-}
-  where
-    same : (q : ℕ) → a ≡ q → (j : ℕ) × Every (λ b. b .partitioning ≡ q → AllOf (k .template) j (b .tasks)) (add (ru .blocks) (record { partitioning = a; tasks = m }))
-    same q e =
-        let x = one-of k (union m (partitioned a (ru .blocks))) one in (
-          x .0,
-          every-added (λ b. b .partitioning ≡ q → AllOf (k .template) (x .0) (b .tasks)) (ru .blocks) _
-              (every-map (ru .blocks) (λ b p w. all-of k (b .tasks) (x .0) (part-trans _ _ _ (p (w ∙ sym e)) (part-trans _ _ _ (part-right m _) (x .1)))) (in-partitioned a (ru .blocks)))
-              (λ _. all-of k m (x .0) (part-trans _ _ _ (part-left m _) (x .1))),
-        )
+module _ (k : Tasks) (bs : List Block) (a : ℕ) (m : Set) where
+  abbrev new : Block
+  new = record { partitioning = a; tasks = m }
 
--- ---- one limit or one pair more
-module _ (k : Tasks) (ru : Rules) (i : WellMade (k .template) ru) where
-  static-more : (n : ℕ) (m : Set) → illMade n m ≡ false → WellMade (k .template) (withStatics ru (add (ru .statics) (record { n = n; members = m })))
-  static-more n m h = record {
-    tasks = i .tasks;
-    dynamics = i .dynamics;
-    taskSets = i .taskSets;
-    partitionings = i .partitionings;
-    one-template = i .one-template;
-    disjoint = i .disjoint;
-    bindings = i .bindings;
-    befores = i .befores;
-    statics = every-added Limits (ru .statics) _ (i .statics) (limits n m h);
+  abbrev Of : ℕ → ℕ → Block → Type 0
+  Of q j b = b .partitioning ≡ q → AllOf (k .template) j (b .tasks)
+
+  -- all of one template with the blocks of the same partitioning
+  same : (q : ℕ) → a ≡ q → not (oneTemplate k (union m (partitioned a bs))) ≡ false → (j : ℕ) × Every (Of q j) (add bs new)
+  same q e one =
+      let x = one-of k (union m (partitioned a bs)) one in (
+        x .0,
+        every-added (Of q (x .0)) bs new
+            (every-map bs (λ b p w. all-of k (b .tasks) (x .0) (part-trans _ _ _ (p (w ∙ sym e)) (part-trans _ _ _ (part-right m _) (x .1)))) (in-partitioned a bs))
+            (λ _. all-of k m (x .0) (part-trans _ _ _ (part-left m _) (x .1))),
+      )
+
+  apart : meets m (partitioned a bs) ≡ false → Every (λ b. b .partitioning ≡ a → meets (b .tasks) m ≡ false) bs
+  apart h = every-map bs (λ b p e. meets-none (b .tasks) m (λ t x y. none-common m _ t h y (has-part _ _ t (p e) x))) (in-partitioned a bs)
+
+  block-more : a < 16 → not (oneTemplate k (union m (partitioned a bs))) ≡ false → meets m (partitioned a bs) ≡ false → WellCut (k .template) bs → WellCut (k .template) (add bs new)
+  block-more l one free i = record {
+    partitionings = every-added (λ b. b .partitioning < 16) bs new (i .partitionings) l;
+    one-template = λ q. ⊎-elim (λ e. same q e one)
+        (λ n. let x = i .one-template q in (x .0, every-added (Of q (x .0)) bs new (x .1) (λ e. absurd (n e)))) (same-or-other a q);
+    disjoint = two-added _ bs new (i .disjoint) (apart free);
   }
 
-  dynamic-more : (n : ℕ) (m : Set) → illMade n m ≡ false → WellMade (k .template) (withDynamics ru (add (ru .dynamics) (record { n = n; members = m })))
-  dynamic-more n m h = record {
-    tasks = i .tasks;
-    statics = i .statics;
-    taskSets = i .taskSets;
-    partitionings = i .partitionings;
-    one-template = i .one-template;
-    disjoint = i .disjoint;
-    bindings = i .bindings;
-    befores = i .befores;
-    dynamics = every-added Limits (ru .dynamics) _ (i .dynamics) (limits n m h);
-  }
+-- ---- one rule more
+module _ (f : ℕ → Maybe ℕ) (ru : Rules) (i : WellMade f ru) where
+  with-statics : (ls : List Limit) → Every Limits ls → WellMade f (withStatics ru ls)
+  with-statics ls h =
+      record { tasks = i .tasks; statics = h; dynamics = i .dynamics; taskSets = i .taskSets; blocks = i .blocks; bindings = i .bindings; befores = i .befores }
 
-  task-set-more : (n : ℕ) (m : Set) → illMade n m || not (oneTemplate k m) ≡ false → WellMade (k .template) (withTaskSets ru (add (ru .taskSets) (record { n = n; members = m })))
-  task-set-more n m h =
-      let x = or-none (illMade n m) (not (oneTemplate k m)) h in
-      let y = one-of k m (x .1) in
-      record {
-        tasks = i .tasks;
-        statics = i .statics;
-        dynamics = i .dynamics;
-        partitionings = i .partitionings;
-        one-template = i .one-template;
-        disjoint = i .disjoint;
-        bindings = i .bindings;
-        befores = i .befores;
-        taskSets = every-added (λ l. Limits l × ((j : ℕ) × AllOf (k .template) j (l .members))) (ru .taskSets) _ (i .taskSets) (limits n m (x .0), (y .0, all-of k m (y .0) (y .1)));
-      }
+  with-dynamics : (ls : List Limit) → Every Limits ls → WellMade f (withDynamics ru ls)
+  with-dynamics ls h =
+      record { tasks = i .tasks; statics = i .statics; dynamics = h; taskSets = i .taskSets; blocks = i .blocks; bindings = i .bindings; befores = i .befores }
 
-  binding-more : (a b : ℕ) → eqb a b || not (together k a b) ≡ false → WellMade (k .template) (withBindings ru (add (ru .bindings) (record { a = a; b = b })))
-  binding-more a b h = record {
-    tasks = i .tasks;
-    statics = i .statics;
-    dynamics = i .dynamics;
-    taskSets = i .taskSets;
-    partitionings = i .partitionings;
-    one-template = i .one-template;
-    disjoint = i .disjoint;
-    befores = i .befores;
-    bindings = every-added (Linked (k .template)) (ru .bindings) _ (i .bindings) (linked k a b h);
-  }
+  with-task-sets : (ls : List Limit) → Every (λ l. Limits l × ((j : ℕ) × AllOf f j (l .members))) ls → WellMade f (withTaskSets ru ls)
+  with-task-sets ls h =
+      record { tasks = i .tasks; statics = i .statics; dynamics = i .dynamics; taskSets = h; blocks = i .blocks; bindings = i .bindings; befores = i .befores }
 
-  before-more : (a b : ℕ) → eqb a b || not (together k a b) ≡ false → WellMade (k .template) (withBefores ru (add (ru .befores) (record { a = a; b = b })))
-  before-more a b h = record {
-    tasks = i .tasks;
-    statics = i .statics;
-    dynamics = i .dynamics;
-    taskSets = i .taskSets;
-    partitionings = i .partitionings;
-    one-template = i .one-template;
-    disjoint = i .disjoint;
-    bindings = i .bindings;
-    befores = every-added (Linked (k .template)) (ru .befores) _ (i .befores) (linked k a b h);
-  }
+  with-blocks : (bs : List Block) → WellCut f bs → WellMade f (withBlocks ru bs)
+  with-blocks bs h =
+      record { tasks = i .tasks; statics = i .statics; dynamics = i .dynamics; taskSets = i .taskSets; blocks = h; bindings = i .bindings; befores = i .befores }
+
+  with-bindings : (ps : List Pair) → Every (Linked f) ps → WellMade f (withBindings ru ps)
+  with-bindings ps h =
+      record { tasks = i .tasks; statics = i .statics; dynamics = i .dynamics; taskSets = i .taskSets; blocks = i .blocks; bindings = h; befores = i .befores }
+
+  with-befores : (ps : List Pair) → Every (Linked f) ps → WellMade f (withBefores ru ps)
+  with-befores ps h =
+      record { tasks = i .tasks; statics = i .statics; dynamics = i .dynamics; taskSets = i .taskSets; blocks = i .blocks; bindings = i .bindings; befores = h }
+
+task-set : (k : Tasks) (n : ℕ) (m : Set) → illMade n m || not (oneTemplate k m) ≡ false → Limits (record { n = n; members = m }) × ((j : ℕ) × AllOf (k .template) j m)
+task-set k n m h =
+    let x = or-none (illMade n m) (not (oneTemplate k m)) h in
+    let y = one-of k m (x .1) in
+    (limits n m (x .0), (y .0, all-of k m (y .0) (y .1)))
 
 -- ---- the rows
 -- field a is within its limit
@@ -211,21 +181,34 @@ rows : Rows policyForms (λ n p r x. WellMade (p .tasks .template) (p .rules) �
 unfolding policyKinds policyForms formOf outOfRange above userNext roleNext permissionNext assignNext giveNext taskChecks taskNext openToNext carriesNext staticChecks staticNext dynamicChecks dynamicNext taskSetChecks taskSetNext blockChecks blockNext banNext mostNext bindChecks bindNext beforeChecks beforeNext
 rows =
     (λ p r g c i. i) ⨾ (λ p r g c i. i) ⨾ (λ p r g c i. i) ⨾ (λ p r g c i. i) ⨾ (λ p r g c i. i)
-    ⨾ (λ p r g c i. task-more (p .tasks .template) (r .a) (r .b) (c .0) (p .rules) (let l = a-within 63 (r .a) (ltb 15 (r .b)) g in omega arith) i)
+    ⨾ (λ p r g c i. task-more _ (r .a) (r .b) (c .0) (p .rules) (let l = a-within 63 (r .a) (ltb 15 (r .b)) g in omega arith) i)
     ⨾ (λ p r g c i. i) ⨾ (λ p r g c i. i)
-    ⨾ (λ p r g c i. static-more (p .tasks) (p .rules) i (r .n) (r .m) (c .1 .1 .0))
-    ⨾ (λ p r g c i. dynamic-more (p .tasks) (p .rules) i (r .n) (r .m) (c .1 .1 .0))
-    ⨾ (λ p r g c i. task-set-more (p .tasks) (p .rules) i (r .n) (r .m) (c .1 .1 .0))
-    ⨾ (λ p r g c i. let x = or-none _ (meets (r .m) (partitioned (r .a) (p .rules .blocks))) (c .1 .1 .0) in
-    block-more (p .tasks) (p .rules) (r .a) (r .m) (let l = a-within 15 (r .a) false g in omega arith) (or-none (eqb (r .m) empty) _ (x .0) .1) (x .1) i)
+    ⨾ (λ p r g c i. with-statics _ (p .rules) i _ (every-added Limits (p .rules .statics) _ (i .statics) (limits (r .n) (r .m) (c .1 .1 .0))))
+    ⨾ (λ p r g c i. with-dynamics _ (p .rules) i _ (every-added Limits (p .rules .dynamics) _ (i .dynamics) (limits (r .n) (r .m) (c .1 .1 .0))))
+    ⨾ (λ p r g c i. with-task-sets _ (p .rules) i _ (every-added _ (p .rules .taskSets) _ (i .taskSets) (task-set (p .tasks) (r .n) (r .m) (c .1 .1 .0))))
+    ⨾ (λ p r g c i.
+    let x = or-none _ (meets (r .m) (partitioned (r .a) (p .rules .blocks))) (c .1 .1 .0) in
+    let y = or-none (eqb (r .m) empty) _ (x .0) in
+    let l = a-within 15 (r .a) false g in
+    with-blocks _ (p .rules) i _ (block-more (p .tasks) (p .rules .blocks) (r .a) (r .m) (omega arith) (y .1) (x .1) (i .blocks)))
     ⨾ (λ p r g c i. i) ⨾ (λ p r g c i. i)
-    ⨾ (λ p r g c i. binding-more (p .tasks) (p .rules) i (r .a) (r .b) (c .1 .1 .0))
-    ⨾ (λ p r g c i. before-more (p .tasks) (p .rules) i (r .a) (r .b) (c .1 .1 .0))
+    ⨾ (λ p r g c i. with-bindings _ (p .rules) i _ (every-added _ (p .rules .bindings) _ (i .bindings) (linked (p .tasks) (r .a) (r .b) (c .1 .1 .0))))
+    ⨾ (λ p r g c i. with-befores _ (p .rules) i _ (every-added _ (p .rules .befores) _ (i .befores) (linked (p .tasks) (r .a) (r .b) (c .1 .1 .0))))
     ⨾ tt
 
-pub load-well-made : (policy : Bytes) → load policy .reply ≡ 0 → WellMade (load policy .tables .tasks .template) (load policy .tables .rules)
+start : WellMade (noPolicy .tasks .template) (noPolicy .rules)
 unfolding noPolicy
+start = record {
+  tasks = λ t j (e : none ≡ just j). let z : _≡_ {A = ℕ} 0 1 = cc in absurd (omega arith);
+  statics = tt;
+  dynamics = tt;
+  taskSets = tt;
+  blocks = record { partitionings = tt; one-template = λ q. (0, tt); disjoint = tt };
+  bindings = tt;
+  befores = tt;
+}
+
+pub load-well-made : (policy : Bytes) → load policy .reply ≡ 0 → WellMade (load policy .tables .tasks .template) (load policy .tables .rules)
 load-well-made policy h =
     let x = load-accepted policy h in
-    rw (x .1) (load-keeps (λ p. WellMade (p .tasks .template) (p .rules)) rows noPolicy (recordsOf policy) (x .0)
-    (record { tasks = λ t j (e : none ≡ just j). let z : _≡_ {A = ℕ} 0 1 = cc in absurd (omega arith); statics = tt; dynamics = tt; taskSets = tt; partitionings = tt; one-template = λ q. (0, tt); disjoint = tt; bindings = tt; befores = tt }))
+    rw (x .1) (load-keeps (λ p. WellMade (p .tasks .template) (p .rules)) rows noPolicy (recordsOf policy) (x .0) start)

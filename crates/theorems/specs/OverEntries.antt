@@ -34,16 +34,21 @@ TaskSets policy = OfUsers (λ template tasks. Every (λ r. overlap (r .m) tasks 
 
 -- "no user has entries in two blocks of one partitioning"
 abbrev pub Blocks : List Record → Orders → Type 0
-Blocks policy = OfUsers (λ template tasks. EveryTwo (λ r q. r .a ≡ q .a → meets (r .m) tasks ≡ true → meets (q .m) tasks ≡ true → ⊥) (ofKind 12 policy))
+Blocks policy =
+    OfUsers (λ template tasks.
+    EveryTwo (λ r q. r .a ≡ q .a → meets (r .m) tasks ≡ true → meets (q .m) tasks ≡ true → ⊥) (ofKind 12 policy))
 
 -- "in a banned template no user has entries in every task"
 abbrev pub LoneWorkers : List Record → Orders → Type 0
-LoneWorkers policy = OfUsers (λ template tasks. Every (λ r. template ≡ just (r .a) → Every (λ q. q .b ≡ r .a → has tasks (q .a) ≡ true) (ofKind 6 policy) → ⊥) (ofKind 13 policy))
+LoneWorkers policy =
+    OfUsers (λ template tasks.
+    Every (λ r. template ≡ just (r .a) → Every (λ q. q .b ≡ r .a → has tasks (q .a) ≡ true) (ofKind 6 policy) → ⊥) (ofKind 13 policy))
 
 -- "any entry of a task and any entry of a task bound to it are of one user"
 abbrev pub Bindings : List Record → Orders → Type 0
 Bindings policy o =
-    Every (λ r. Every (λ e. Every (λ f. e .instance ≡ f .instance → e .task ≡ r .a → f .task ≡ r .b → e .user ≡ f .user) (o .entries)) (o .entries)) (ofKind 15 policy)
+    Every (λ r. Every (λ e. Every (λ f.
+    e .instance ≡ f .instance → e .task ≡ r .a → f .task ≡ r .b → e .user ≡ f .user) (o .entries)) (o .entries)) (ofKind 15 policy)
 
 -- "a limited task has at most n entries"
 abbrev pub CountLimits : List Record → Orders → Type 0
@@ -51,7 +56,8 @@ CountLimits policy o = (i : ℕ) → Every (λ r. many (keep (ofTask i (r .a)) (
 
 -- "a task with an entry has a done entry for each task required before it"
 abbrev pub Prerequisites : List Record → Orders → Type 0
-Prerequisites policy o = Every (λ r. Every (λ e. e .task ≡ r .b → has (tasksDone (e .instance) (o .entries)) (r .a) ≡ true) (o .entries)) (ofKind 16 policy)
+Prerequisites policy o =
+    Every (λ r. Every (λ e. e .task ≡ r .b → has (tasksDone (e .instance) (o .entries)) (r .a) ≡ true) (o .entries)) (ofKind 16 policy)
 
 -- ---- Each is a claim rule: the reply to a claim that would break it. "the claim rules, in this order"
 pub record Rule : Type 1 where

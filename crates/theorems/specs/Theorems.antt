@@ -2,7 +2,7 @@
 use Prim.Native.Nat.{ℕ, _≤_, _<_}
 use mathlib.Core.Path.{_≡_}
 use mathlib.Core.Logic.{_↔_}
-use mathlib.Core.List.{List, [], _∷_}
+use mathlib.Core.List.{List}
 use Rattle.paper_lower.specs.Lists.{many, Every}
 use Rattle.paper_lower.specs.Checks.{GRANTED, BEFORE, FULL}
 use Rattle.paper_lower.specs.Records.{Bytes, Record, decode}
@@ -58,7 +58,8 @@ Reaches k reply = reply < k → reply ≡ GRANTED
 -- The reply, against the rules over some orders.
 pub record FirstBroken (rules : List Rule) (policy : List Record) (o : Orders) (reply : ℕ) : Type 0 where
   -- it is a rule's: that rule is broken, and those before it are kept
-  pub refused : Every (λ k. reply ≡ k .reply → (k .Kept policy o → ⊥) × Every (λ j. j .reply < k .reply → j .Kept policy o) rules) rules
+  pub refused :
+      Every (λ k. reply ≡ k .reply → (k .Kept policy o → ⊥) × Every (λ j. j .reply < k .reply → j .Kept policy o) rules) rules
   -- it is none of theirs: all are kept
   pub others : Every (λ k. reply ≡ k .reply → ⊥) rules → Every (λ k. k .Kept policy o) rules
 
@@ -83,7 +84,10 @@ EntriesAreCounted = AfterEvery Counted
 
 -- ---- What a load gives, and every request keeps.
 abbrev pub RulesAreWellMade : Type 0
-RulesAreWellMade = AfterEvery (λ policy requests. WellMade (tablesAfter policy requests .lower .policy .tasks .template) (tablesAfter policy requests .lower .policy .rules))
+RulesAreWellMade =
+    AfterEvery (λ policy requests.
+    let p = tablesAfter policy requests .lower .policy in
+    WellMade (p .tasks .template) (p .rules))
 
 abbrev pub LedgerIsSound : Type 0
 LedgerIsSound = AfterEvery (λ policy requests. Ledger (tablesAfter policy requests .orders))
@@ -91,4 +95,6 @@ LedgerIsSound = AfterEvery (λ policy requests. Ledger (tablesAfter policy reque
 -- "changing rules after a load" is "not offered"
 abbrev pub RequestsChangeNoRule : Type 0
 RequestsChangeNoRule =
-    (t : Engine) (s : Bytes) → (request t s .tables .lower .policy .tasks ≡ t .lower .policy .tasks) × (request t s .tables .lower .policy .rules ≡ t .lower .policy .rules)
+    (t : Engine) (s : Bytes)
+    → (request t s .tables .lower .policy .tasks ≡ t .lower .policy .tasks)
+    × (request t s .tables .lower .policy .rules ≡ t .lower .policy .rules)

@@ -2,11 +2,11 @@
 use Prim.Native.Nat.{ℕ, _<_, _≤_}
 use mathlib.Core.Path.{_≡_}
 use mathlib.Core.Bool.{true, false, _&&_}
-use mathlib.Core.List.{List, [], _∷_}
+use mathlib.Core.List.{List}
 use Rattle.paper_lower.specs.Sets.{Set, has, size, meets}
 use Rattle.paper_lower.specs.Lists.{Maybe, there, many, keep, Every}
 use Rattle.paper_lower.specs.Lists.Maybe.{just}
-use Rattle.paper_lower.specs.Tables.{Limit, Pair, Rules}
+use Rattle.paper_lower.specs.Tables.{Limit, Block, Pair, Rules}
 use Rattle.paper_upper.specs.Orders.{isHeld, Orders, ofTask}
 use Rattle.theorems.specs.OverEntries.{EveryTwo}
 
@@ -24,6 +24,14 @@ AllOf template j m = (t : ℕ) → has m t ≡ true → template t ≡ just j
 abbrev pub Linked : (ℕ → Maybe ℕ) → Pair → Type 0
 Linked template x = (x .a ≡ x .b → ⊥) × ((j : ℕ) × (template (x .a) ≡ just j) × (template (x .b) ≡ just j))
 
+pub record WellCut (template : ℕ → Maybe ℕ) (blocks : List Block) : Type 0 where
+  -- "Partitionings 0 to 15."
+  pub partitionings : Every (λ k. k .partitioning < 16) blocks
+  -- "of another template than the partitioning's earlier blocks"
+  pub one-template : (q : ℕ) → (j : ℕ) × Every (λ k. k .partitioning ≡ q → AllOf template j (k .tasks)) blocks
+  -- "or sharing a task with one"
+  pub disjoint : EveryTwo (λ k l. k .partitioning ≡ l .partitioning → meets (k .tasks) (l .tasks) ≡ false) blocks
+
 pub record WellMade (template : ℕ → Maybe ℕ) (rules : Rules) : Type 0 where
   -- "Tasks 0 to 63."
   pub tasks : (t j : ℕ) → template t ≡ just j → t < 64
@@ -31,12 +39,7 @@ pub record WellMade (template : ℕ → Maybe ℕ) (rules : Rules) : Type 0 wher
   pub dynamics : Every Limits (rules .dynamics)
   -- "if the tasks are not all of one template"
   pub taskSets : Every (λ l. Limits l × ((j : ℕ) × AllOf template j (l .members))) (rules .taskSets)
-  -- "Partitionings 0 to 15."
-  pub partitionings : Every (λ k. k .partitioning < 16) (rules .blocks)
-  -- "of another template than the partitioning's earlier blocks"
-  pub one-template : (q : ℕ) → (j : ℕ) × Every (λ k. k .partitioning ≡ q → AllOf template j (k .tasks)) (rules .blocks)
-  -- "or sharing a task with one"
-  pub disjoint : EveryTwo (λ k l. k .partitioning ≡ l .partitioning → meets (k .tasks) (l .tasks) ≡ false) (rules .blocks)
+  pub blocks : WellCut template (rules .blocks)
   -- "15 and 16 if a = b or the templates differ"
   pub bindings : Every (Linked template) (rules .bindings)
   pub befores : Every (Linked template) (rules .befores)
