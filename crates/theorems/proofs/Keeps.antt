@@ -1,0 +1,110 @@
+-- All that holds after an accepted load and is kept by every request.
+use Prim.Native.Nat.{ℕ}
+use mathlib.Core.Path.{_≡_, refl}
+use mathlib.Core.Bool.{Bool, true, false, not}
+use mathlib.Core.List.{List, [], _∷_}
+use native.Mathlib.Omega.{arith}
+use borrow.Author.Tests.{not-false}
+use lib.Dec.{ltb, leb}
+use Rattle.paper_lower.specs.Sets.{has, within}
+use Rattle.paper_lower.specs.Lists.{Maybe, holds, there, many, each}
+use Rattle.paper_lower.specs.Lists.Maybe.{none, just}
+use Rattle.paper_lower.specs.Checks.{FULL}
+use Rattle.paper_lower.specs.Records.{Bytes, Record}
+use Rattle.paper_lower.specs.Forms.{lowerForms, upperForms, requestForms, formOf, above, outOfRange}
+use Rattle.paper_lower.specs.Tables.{Tasks, Rules}
+use Rattle.paper_lower.specs.Policy.{userChecks, userNext, assignChecks, assignNext, giveNext}
+use Rattle.paper_lower.specs.Load.{load, recordsOf}
+use Rattle.paper_lower.specs.Roles.{deleteChecks, deleteNext, takeBackChecks, takeBackNext, withdrawNext, roleKinds}
+use Rattle.paper_lower.specs.Sessions.{createChecks, activateChecks, deactivateChecks, sessionKinds, lowerKinds, lowerOf}
+use Rattle.paper_lower.proofs.ListLaws.{or-none, every-left, every-right}
+use Rattle.paper_lower.proofs.CheckLaws.{Passed}
+use Rattle.paper_upper.specs.Orders.{Engine}
+use Rattle.paper_upper.specs.Rules.{ruleChecks}
+use Rattle.paper_upper.specs.Requests.{openChecks, openNext, endNext, unknown, claimChecks, claimNext, releaseNext, doneNext, upperKinds}
+use Rattle.paper_upper.specs.Engine.{raised, requestKinds, engineOf}
+use Rattle.theorems.specs.WellMade.{WellMade}
+use Rattle.theorems.specs.Theorems.{tablesAfter, AfterEvery}
+use Rattle.theorems.proofs.Rows.{_⨾_, Rows, run-keeps}
+use Rattle.theorems.proofs.Made.{Made, made}
+use Rattle.theorems.proofs.WellMade.{a-within, load-well-made}
+use Rattle.theorems.proofs.Sound.{Sound, sound-start, sound-open, sound-end, sound-claim, sound-release, sound-finish}
+use Rattle.theorems.proofs.Roles.{Limited, adds, deletes, assigns, takes, creates, destroys, activates, deactivates}
+use Rattle.theorems.proofs.LoadedRoles.{loaded-limited}
+
+pub record Given (policy : List Record) (k : Tasks) (ru : Rules) : Type 0 where
+  pub made : Made policy k ru
+  pub well : WellMade (k .template) ru
+
+abbrev pub Kept : List Record → Engine → Type 0
+Kept policy t =
+    Given policy (t .lower .policy .tasks) (t .lower .policy .rules)
+    × Sound policy (t .orders)
+    × Limited (t .lower .policy .people) (t .lower .sessions) (t .lower .policy .rules)
+
+there-if : (p : ℕ → Bool) (x : Maybe ℕ) → holds p x ≡ true → there x ≡ true
+unfolding holds
+there-if p none h = h
+there-if p (just j) h = refl
+
+-- the instance of a claim that is not UNKNOWN is open
+pub is-open : (t : Engine) (a b c : ℕ) → unknown t a b c ≡ false → there (t .orders .opened b) ≡ true
+unfolding unknown
+is-open t a b c h = there-if _ (t .orders .opened b) (not-false _ (or-none (not (t .lower .sessions .live a)) _ h .1))
+
+claim-row : (policy : List Record) (t : Engine) (a b c : ℕ) → Passed (claimChecks t a b c) → Kept policy t → Kept policy (claimNext t a b c)
+unfolding claimChecks claimNext
+claim-row policy t a b c p i =
+    let rules = ruleChecks (t .lower .policy .tasks) (t .lower .policy .rules) (t .orders .opened b) (t .orders .entries) b (t .lower .sessions .user a) c in (
+      i .0,
+      sound-claim policy (t .orders) (i .1) (t .lower .policy .tasks) (t .lower .policy .rules) (i .0 .made) (i .0 .well) a b (t .lower .sessions .user a) c
+          (is-open t a b c (p .0)) (p .1 .0) (every-right (λ x. x .0 ≡ false) rules ((leb 2048 (many (t .orders .entries)), FULL) ∷ []) (p .1 .1 .1) .0) (every-left (λ x. x .0 ≡ false) rules _ (p .1 .1 .1)),
+      i .2,
+    )
+
+pub kept-rows : (policy : List Record) → Rows requestForms (λ n t r x. Kept policy t → Kept policy x) requestKinds
+unfolding requestKinds upperKinds raised lowerKinds roleKinds sessionKinds each requestForms lowerForms upperForms formOf outOfRange above userChecks userNext assignChecks assignNext giveNext deleteChecks deleteNext takeBackChecks takeBackNext withdrawNext createChecks activateChecks deactivateChecks openChecks openNext endNext releaseNext doneNext
+kept-rows policy =
+    (λ t r g p i. (i .0, i .1, deletes _ _ _ (i .2) (r .a) (p .1 .0)))
+    ⨾ (λ t r g p i. (i .0, i .1, destroys _ _ _ (i .2) (r .a)))
+    ⨾ (λ t r g p i. (i .0, sound-open policy (t .orders) (i .1) _ _ (i .0 .made) (i .0 .well) (r .a) (r .b) (not-false _ (p .0)) (p .1 .0), i .2))
+    ⨾ (λ t r g p i. (i .0, sound-end policy (t .orders) (i .1) (r .a), i .2))
+    ⨾ (λ t r g p i. claim-row policy t (r .a) (r .b) (r .c) p i)
+    ⨾ (λ t r g p i. (i .0, sound-release policy (t .orders) (i .1) (r .a) (r .b) (r .c), i .2))
+    ⨾ (λ t r g p i. (i .0, sound-finish policy (t .orders) (i .1) (r .a) (r .b) (r .c), i .2))
+    ⨾ (λ t r g p i. i)
+    ⨾ (λ t r g p i. (i .0, i .1, adds _ _ _ (i .2) (r .a) (p .0)))
+    ⨾ (λ t r g p i. (i .0, i .1, deletes _ _ _ (i .2) (r .a) (p .1 .0)))
+    ⨾ (λ t r g p i. (i .0, i .1, assigns _ _ _ (i .2) (r .a) (r .b) (p .1 .1 .0)))
+    ⨾ (λ t r g p i. (i .0, i .1, takes _ _ _ (i .2) (r .a) (r .b) (p .1 .0)))
+    ⨾ (λ t r g p i. i)
+    ⨾ (λ t r g p i. i)
+    ⨾ (λ t r g p i. (
+      i .0,
+      i .1,
+      creates _ _ _ (i .2) (r .a) (r .b) (r .m) (let l = a-within 127 (r .a) (ltb 1023 (r .b)) g in omega arith)
+          (not-false _ (or-none (not (t .lower .policy .people .users (r .b))) (not (within (r .m) (t .lower .policy .people .roles))) (p .0) .0)) (not-false _ (p .1 .1 .0)) (p .1 .1 .1 .0),
+    ))
+    ⨾ (λ t r g p i. (i .0, i .1, destroys _ _ _ (i .2) (r .a)))
+    ⨾ (λ t r g p i. (
+      i .0,
+      i .1,
+      activates _ _ _ (i .2) (r .a) (r .b)
+          (not-false _ (or-none (not (t .lower .sessions .live (r .a))) (not (has (t .lower .policy .people .roles) (r .b))) (p .0) .0)) (not-false _ (p .1 .1 .0)) (p .1 .1 .1 .0),
+    ))
+    ⨾ (λ t r g p i. (
+      i .0,
+      i .1,
+      deactivates _ _ _ (i .2) (r .a) (r .b)
+          (not-false _ (or-none (not (t .lower .sessions .live (r .a))) _ (or-none _ (not (has (t .lower .sessions .active (r .a)) (r .b))) (p .0) .0) .0)),
+    ))
+    ⨾ (λ t r g p i. i)
+    ⨾ tt
+
+pub kept-load : (policy : Bytes) → load policy .reply ≡ 0 → Kept (recordsOf policy) (engineOf (load policy .tables))
+unfolding engineOf lowerOf
+kept-load policy h = (record { made = made policy h; well = load-well-made policy h }, sound-start (recordsOf policy), loaded-limited policy h)
+
+pub kept-after : AfterEvery (λ policy requests. Kept (recordsOf policy) (tablesAfter policy requests))
+kept-after policy accepted ss =
+    run-keeps (Kept (recordsOf policy)) (kept-rows (recordsOf policy)) (engineOf (load policy .tables)) ss (kept-load policy accepted)

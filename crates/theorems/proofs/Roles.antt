@@ -1,0 +1,157 @@
+-- Static sets, dynamic sets and active roles: what a load gives, and what each request of people and subjects leaves.
+use Prim.Native.Nat.{ℕ, _<_, _≤_}
+use mathlib.Core.Path.{_≡_, refl, sym, ap, _∙_}
+use mathlib.Core.Bool.{Bool, true, false, cond, _&&_, true≢false, false≢true}
+use mathlib.Core.List.{List}
+use mathlib.Core.Logic.{⊎-elim}
+use native.Mathlib.Omega.{arith}
+use borrow.Author.Tests.{eqb-true, eq-eqb, ltb-false}
+use lib.Dec.{eqb}
+use Rattle.paper_lower.specs.Sets.{Set, empty, has, plus, minus, union, overlap, within}
+use Rattle.paper_lower.specs.Lists.{upd, someBelow, some, Every}
+use Rattle.paper_lower.specs.Tables.{Limit, Rules, People, Sessions, noSessions, withAssigned, withActive}
+use Rattle.paper_lower.specs.Policy.{breaks}
+use Rattle.paper_lower.specs.Roles.{ofUser, activeOf}
+use Rattle.paper_lower.specs.Sessions.{createNext, destroyNext, activateNext, deactivateNext}
+use Rattle.paper_lower.proofs.ListLaws.{both, upd-same, upd-other, none-below, every-map, every-all, some-none}
+use Rattle.sets.proofs.Bits.{same-or-other}
+use Rattle.sets.proofs.SetLaws.{has-kept, Part, part-refl, part-empty, part-plus, part-more, part-trans, part-minus, part-left, part-right, has-part, within-has, has-within, within-plus, within-trans, within-minus, overlap-empty, overlap-part, union-le, union-ge, plus-member}
+
+-- no set of the list has more than n of the roles m
+abbrev pub Within : List Limit → Set → Type 0
+Within ls m = Every (λ l. overlap (l .members) m ≤ l .n) ls
+
+pub within-none : (ls : List Limit) → Within ls empty
+within-none ls = every-all ls (λ l. let o = overlap-empty (l .members) in omega arith)
+
+within-less : (ls : List Limit) (m k : Set) → Part m k → Within ls k → Within ls m
+within-less ls m k p h = every-map ls (λ l x. let o = overlap-part (l .members) m k p in omega arith) h
+
+-- where STATIC and DYNAMIC do not apply
+pub not-broken : (ls : List Limit) (m : Set) → some (breaks m) ls ≡ false → Within ls m
+unfolding breaks
+not-broken ls m h = every-map ls (λ l x. ltb-false (l .n) (overlap (l .members) m) x) (some-none (breaks m) ls h)
+
+pub record Limited (p : People) (s : Sessions) (ru : Rules) : Type 0 where
+  pub statics : (u : ℕ) → Within (ru .statics) (p .assigned u)
+  pub dynamics : (u : ℕ) → Within (ru .dynamics) (activeOf s u)
+  pub small : (k : ℕ) → s .live k ≡ true → k < 128
+  pub known : (k : ℕ) → s .live k ≡ true → p .users (s .user k) ≡ true
+  pub active : (k : ℕ) → s .live k ≡ true → within (s .active k) (p .assigned (s .user k)) ≡ true
+
+-- ---- the active roles of a user
+of-user : (s : Sessions) (u k : ℕ) → s .live k ≡ true → s .user k ≡ u → ofUser s u k ≡ true
+unfolding ofUser
+of-user s u k l e = rw (l, eq-eqb (s .user k) u e)
+
+own-active : (s : Sessions) (u k : ℕ) → k < 128 → s .live k ≡ true → s .user k ≡ u → Part (s .active k) (activeOf s u)
+unfolding activeOf
+own-active s u k b l e = rw (of-user s u k l e) at (union-ge 128 (λ k. cond (ofUser s u k) (s .active k) empty) k b)
+
+active-le : (s : Sessions) (u : ℕ) (z : Set) → ((k : ℕ) → k < 128 → s .live k ≡ true → s .user k ≡ u → Part (s .active k) z) → Part (activeOf s u) z
+unfolding activeOf ofUser
+active-le s u z h = union-le 128 (λ k. cond (ofUser s u k) (s .active k) empty) z (λ k l. go k l (ofUser s u k) refl)
+  where
+    go : (k : ℕ) → k < 128 → (b : Bool) → s .live k && eqb (s .user k) u ≡ b → Part (cond b (s .active k) empty) z
+    go k l true e = let x = both (s .live k) (eqb (s .user k) u) e in h k l (x .0) (eqb-true _ _ (x .1))
+    go k l false e = part-empty z
+
+pub none-active : (ls : List Limit) (u : ℕ) → Within ls (activeOf noSessions u)
+unfolding noSessions
+none-active ls u = within-less ls _ empty (active-le noSessions u empty (λ k b l e. absurd (false≢true l))) (within-none ls)
+
+-- ---- people: one user's roles anew
+module _ (p : People) (s : Sessions) (ru : Rules) (h : Limited p s ru) where
+  reassigned : (users : ℕ → Bool) (a : ℕ) (m : Set) → ((k : ℕ) → s .live k ≡ true → users (s .user k) ≡ true) → Within (ru .statics) m
+      → ((k : ℕ) → s .live k ≡ true → s .user k ≡ a → within (s .active k) m ≡ true) → Limited (record { users = users; roles = p .roles; assigned = upd (p .assigned) a m }) s ru
+  reassigned users a m known w own = record {
+    statics = λ u. ⊎-elim (λ e. rw (upd-same (p .assigned) a u m e) w) (λ n. rw (upd-other (p .assigned) a u m n) (h .statics u)) (same-or-other u a);
+    dynamics = h .dynamics;
+    small = h .small;
+    known = known;
+    active = λ k l. ⊎-elim (λ e. rw (upd-same (p .assigned) a (s .user k) m e) (own k l e)) (λ n. rw (upd-other (p .assigned) a (s .user k) m n) (h .active k l)) (same-or-other (s .user k) a);
+  }
+
+  pub adds : (a : ℕ) → p .users a ≡ false → Limited (record { users = upd (p .users) a true; roles = p .roles; assigned = upd (p .assigned) a empty }) s ru
+  adds a new =
+      reassigned (upd (p .users) a true) a empty (λ k l. upd-other (p .users) a (s .user k) true (other k l) ∙ h .known k l) (within-none (ru .statics)) (λ k l e. absurd (other k l e))
+    where
+      other : (k : ℕ) → s .live k ≡ true → s .user k ≡ a → ⊥
+      other k l e = true≢false (sym (h .known k l) ∙ ap (p .users) e ∙ new)
+
+  pub deletes : (a : ℕ) → someBelow 128 (ofUser s a) ≡ false → Limited (record { users = upd (p .users) a false; roles = p .roles; assigned = upd (p .assigned) a empty }) s ru
+  deletes a gone =
+      reassigned (upd (p .users) a false) a empty (λ k l. upd-other (p .users) a (s .user k) false (other k l) ∙ h .known k l) (within-none (ru .statics)) (λ k l e. absurd (other k l e))
+    where
+      other : (k : ℕ) → s .live k ≡ true → s .user k ≡ a → ⊥
+      other k l e = true≢false (sym (of-user s a k l e) ∙ none-below 128 (ofUser s a) gone k (h .small k l))
+
+  pub assigns : (a b : ℕ) → some (breaks (plus (p .assigned a) b)) (ru .statics) ≡ false → Limited (withAssigned p (upd (p .assigned) a (plus (p .assigned a) b))) s ru
+  assigns a b c = reassigned (p .users) a (plus (p .assigned a) b) (h .known) (not-broken (ru .statics) _ c) (λ k l e. within-plus (s .active k) (p .assigned a) b (rw (← e) (h .active k l)))
+
+  pub takes : (a b : ℕ) → has (activeOf s a) b ≡ false → Limited (withAssigned p (upd (p .assigned) a (minus (p .assigned a) b))) s ru
+  takes a b c = reassigned (p .users) a (minus (p .assigned a) b) (h .known) (within-less (ru .statics) _ _ (part-minus (p .assigned a) b) (h .statics a)) (λ k l e.
+      has-within (s .active k) (minus (p .assigned a) b) (λ t x.
+      has-kept (p .assigned a) b t (λ q. true≢false (sym (has-part _ _ t (own-active s a k (h .small k l) l e) x) ∙ ap (has (activeOf s a)) q ∙ c)) ∙ within-has (s .active k) (p .assigned a) t (rw (← e) (h .active k l)) x))
+
+-- ---- subjects: one subject's row anew
+pub record Elsewhere (a : ℕ) (s z : Sessions) : Type 0 where
+  pub live : (k : ℕ) → (k ≡ a → ⊥) → z .live k ≡ s .live k
+  pub user : (k : ℕ) → (k ≡ a → ⊥) → z .user k ≡ s .user k
+  pub active : (k : ℕ) → (k ≡ a → ⊥) → z .active k ≡ s .active k
+
+seated-part : (a : ℕ) (s z : Sessions) → Elsewhere a s z → (u : ℕ) (m : Set) → Part (activeOf s u) m → (z .live a ≡ true → z .user a ≡ u → Part (z .active a) m) → Part (activeOf z u) m
+seated-part a s z same u m h own = active-le z u m (λ k b l e. ⊎-elim
+    (λ (q : k ≡ a). rw q (own (rw q at l) (rw q at e)))
+    (λ n. rw (same .active k n) (part-trans _ _ _ (own-active s u k b (sym (same .live k n) ∙ l) (sym (same .user k n) ∙ e)) h)) (same-or-other k a))
+
+module _ (p : People) (s : Sessions) (ru : Rules) (h : Limited p s ru) (a : ℕ) where
+  -- the set z was checked for the subject's user; everybody else's roles are no more than before
+  seated : (z : Sessions) → Elsewhere a s z
+      → (z .live a ≡ true → (a < 128) × (p .users (z .user a) ≡ true) × (within (z .active a) (p .assigned (z .user a)) ≡ true))
+      → (m : Set) → (z .live a ≡ true → Within (ru .dynamics) m × Part (activeOf s (z .user a)) m × Part (z .active a) m) → Limited p z ru
+  seated z same row m checked = record {
+    statics = h .statics;
+    dynamics = λ u. go u (z .live a) refl;
+    small = λ k l. ⊎-elim (λ (e : k ≡ a). let r = row (rw e at l) in let b = r .0 in omega arith) (λ n. h .small k (sym (same .live k n) ∙ l)) (same-or-other k a);
+    known = λ k l. ⊎-elim (λ e. rw e (row (rw e at l) .1)) (λ n. rw (same .user k n) (h .known k (sym (same .live k n) ∙ l))) (same-or-other k a);
+    active = λ k l. ⊎-elim (λ e. rw e (row (rw e at l) .2)) (λ n. rw (same .user k n, same .active k n) (h .active k (sym (same .live k n) ∙ l))) (same-or-other k a);
+  }
+    where
+      go : (u : ℕ) (b : Bool) → z .live a ≡ b → Within (ru .dynamics) (activeOf z u)
+      go u true l = ⊎-elim
+          (λ (e : z .user a ≡ u). within-less (ru .dynamics) _ m (seated-part a s z same u m (rw e at (checked l .1)) (λ _ _. checked l .2)) (checked l .0))
+          (λ n. within-less (ru .dynamics) _ _ (seated-part a s z same u (activeOf s u) (part-refl _) (λ _ e. absurd (n e))) (h .dynamics u)) (same-or-other (z .user a) u)
+      go u false l = within-less (ru .dynamics) _ _ (seated-part a s z same u (activeOf s u) (part-refl _) (λ i e. absurd (true≢false (sym i ∙ l)))) (h .dynamics u)
+
+  pub creates : (b : ℕ) (m : Set) → a < 128 → p .users b ≡ true → within m (p .assigned b) ≡ true → some (breaks (union (activeOf s b) m)) (ru .dynamics) ≡ false → Limited p (createNext s a b m) ru
+  unfolding createNext
+  creates b m small user mine c =
+      seated _ (record { live = λ k. upd-other (s .live) a k true; user = λ k. upd-other (s .user) a k b; active = λ k. upd-other (s .active) a k m })
+      (λ l. (small, rw (upd-same (s .user) a a b refl) user, rw (upd-same (s .user) a a b refl, upd-same (s .active) a a m refl) mine))
+      (union (activeOf s b) m)
+      (λ l. (not-broken (ru .dynamics) _ c, rw (upd-same (s .user) a a b refl) (part-left _ _), rw (upd-same (s .active) a a m refl) (part-right _ _)))
+
+  pub destroys : Limited p (destroyNext s a) ru
+  unfolding destroyNext
+  destroys =
+      seated _ (record { live = λ k. upd-other (s .live) a k false; user = λ k. upd-other (s .user) a k 0; active = λ k. upd-other (s .active) a k empty })
+      (λ l. absurd (false≢true (sym (upd-same (s .live) a a false refl) ∙ l))) empty (λ l. absurd (false≢true (sym (upd-same (s .live) a a false refl) ∙ l)))
+
+  anew : (m z : Set) → s .live a ≡ true → within m (p .assigned (s .user a)) ≡ true → Within (ru .dynamics) z → Part (activeOf s (s .user a)) z → Part m z → Limited p (withActive s (upd (s .active) a m)) ru
+  anew m z live mine w q r =
+      seated _ (record { live = λ k n. refl; user = λ k n. refl; active = λ k. upd-other (s .active) a k m })
+      (λ l. (h .small a live, h .known a live, rw (upd-same (s .active) a a m refl) mine)) z (λ l. (w, q, rw (upd-same (s .active) a a m refl) r))
+
+  pub activates : (b : ℕ) → s .live a ≡ true → has (p .assigned (s .user a)) b ≡ true → some (breaks (plus (activeOf s (s .user a)) b)) (ru .dynamics) ≡ false → Limited p (activateNext s a b) ru
+  unfolding activateNext
+  activates b live mine c =
+      anew (plus (s .active a) b) (plus (activeOf s (s .user a)) b) live
+      (has-within _ _ (λ t x. ⊎-elim (λ (e : t ≡ b). rw e mine) (λ y. within-has _ _ t (h .active a live) y) (plus-member (s .active a) b t x)))
+      (not-broken (ru .dynamics) _ c) (part-more _ _ b (part-refl _)) (part-plus _ _ b (own-active s (s .user a) a (h .small a live) live refl))
+
+  pub deactivates : (b : ℕ) → s .live a ≡ true → Limited p (deactivateNext s a b) ru
+  unfolding deactivateNext
+  deactivates b live =
+      anew (minus (s .active a) b) (activeOf s (s .user a)) live (within-trans _ (s .active a) _ (within-minus (s .active a) b) (h .active a live))
+      (h .dynamics (s .user a)) (part-refl _) (part-trans _ _ _ (part-minus (s .active a) b) (own-active s (s .user a) a (h .small a live) live refl))

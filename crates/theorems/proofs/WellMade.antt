@@ -1,0 +1,214 @@
+-- Every accepted load leaves rules that are well made.
+use Prim.Native.Nat.{ℕ, zero, suc, _≤_, _<_}
+use mathlib.Core.Path.{_≡_, refl, sym, ap, _∙_}
+use mathlib.Core.Bool.{Bool, true, false, not, cond, _&&_, _||_, true≢false, false≢true}
+use mathlib.Core.List.{List, [], _∷_}
+use mathlib.Core.Logic.{⊎-elim}
+use native.Mathlib.Omega.{arith}
+use borrow.Author.Tests.{eqb-true, leb-true, ltb-true, ltb-false, eqb-false, not-false}
+use lib.Dec.{eqb, leb, ltb}
+use Rattle.paper_lower.specs.Sets.{Set, empty, has, union, size, meets, within, collect}
+use Rattle.paper_lower.specs.Lists.{upd, someBelow, Maybe, holds, there, is, add, Every}
+use Rattle.paper_lower.specs.Lists.Maybe.{none, just}
+use Rattle.paper_lower.specs.Records.{Bytes}
+use Rattle.paper_lower.specs.Forms.{policyForms, formOf, above, outOfRange}
+use Rattle.paper_lower.specs.Tables.{Tasks, Limit, Block, Pair, Rules, noPolicy, withStatics, withDynamics, withTaskSets, withBlocks, withBindings, withBefores}
+use Rattle.paper_lower.specs.Policy.{tasksOf, oneTemplate, together, illMade, userNext, roleNext, permissionNext, assignNext, giveNext, taskChecks, taskNext, openToNext, carriesNext, staticChecks, staticNext, dynamicChecks, dynamicNext, taskSetChecks, taskSetNext, partitioned, blockChecks, blockNext, banNext, mostNext, bindChecks, bindNext, beforeChecks, beforeNext, policyKinds}
+use Rattle.paper_lower.specs.Load.{load, recordsOf}
+use Rattle.paper_lower.proofs.ListLaws.{or-none, both, upd-other, every-map, every-added}
+use Rattle.sets.proofs.Bits.{same-or-other}
+use Rattle.sets.proofs.SetLaws.{Part, part-trans, part-left, part-right, within-part, has-part, collect-above, collect-below, none-common, meets-none}
+use Rattle.theorems.specs.OverEntries.{EveryTwo}
+use Rattle.theorems.specs.WellMade.{Limits, AllOf, Linked, WellCut, WellMade}
+use Rattle.theorems.proofs.Rows.{_⨾_, Rows}
+use Rattle.theorems.proofs.Loads.{load-keeps, load-accepted}
+
+-- ---- what is there
+pub holds-just : {A : Type 0} (p : A → Bool) (x : Maybe A) → holds p x ≡ true → (y : A) × (x ≡ just y) × (p y ≡ true)
+unfolding holds
+holds-just p none h = absurd (false≢true h)
+holds-just p (just y) h = (y, refl, h)
+
+pub is-just : (j : ℕ) (x : Maybe ℕ) → is j x ≡ true → x ≡ just j
+is-just j x h = let y = holds-just (λ n. eqb n j) x h in y .1 ∙ ap (λ (n : ℕ). just n) (eqb-true _ _ (y .2))
+
+below-some : (n : ℕ) (f : ℕ → Bool) → someBelow n f ≡ true → (k : ℕ) × (f k ≡ true)
+unfolding someBelow
+below-some zero f h = absurd (false≢true h)
+below-some (suc n) f h = go (f n) refl h (below-some n f)
+  where
+    go : (b : Bool) → f n ≡ b → b || someBelow n f ≡ true → (someBelow n f ≡ true → (k : ℕ) × (f k ≡ true)) → (k : ℕ) × (f k ≡ true)
+    go true e h rest = (n, e)
+    go false e h rest = rest h
+
+pub in-collect : (n : ℕ) (f : ℕ → Bool) (x : ℕ) → has (collect n f) x ≡ true → (x < n) × (f x ≡ true)
+in-collect n f x h = go (ltb x n) refl
+  where
+    go : (b : Bool) → ltb x n ≡ b → (x < n) × (f x ≡ true)
+    go true e = let l = ltb-true x n e in (l, sym (collect-below n f x l) ∙ h)
+    go false e = absurd (true≢false (sym h ∙ collect-above n f x (ltb-false x n e)))
+
+all-of : (k : Tasks) (m : Set) (j : ℕ) → Part m (tasksOf k j) → AllOf (k .template) j m
+unfolding tasksOf
+all-of k m j h t e = is-just j (k .template t) (in-collect 64 _ t (has-part m _ t h e) .1)
+
+-- ---- the checks of RULE
+limits : (n : ℕ) (m : Set) → illMade n m ≡ false → Limits (record { n = n; members = m })
+unfolding illMade
+limits n m h =
+    let x = both (leb 1 n) (ltb n (size m)) (not-false (leb 1 n && ltb n (size m)) h) in
+    (leb-true 1 n (x .0), ltb-true n (size m) (x .1))
+
+one-of : (k : Tasks) (m : Set) → not (oneTemplate k m) ≡ false → (j : ℕ) × Part m (tasksOf k j)
+unfolding oneTemplate
+one-of k m h = let x = below-some 16 (λ j. within m (tasksOf k j)) (not-false _ h) in (x .0, within-part m (tasksOf k (x .0)) (x .1))
+
+linked : (k : Tasks) (a b : ℕ) → eqb a b || not (together k a b) ≡ false → Linked (k .template) (record { a = a; b = b })
+unfolding together
+linked k a b h =
+    let x = or-none (eqb a b) (not (together k a b)) h in
+    let y = holds-just (λ j. is j (k .template b)) (k .template a) (not-false _ (x .1)) in
+    (eqb-false a b (x .0), (y .0, y .1, is-just (y .0) (k .template b) (y .2)))
+
+-- ---- one task more
+module _ (f : ℕ → Maybe ℕ) (a b : ℕ) (new : there (f a) ≡ false) where
+  still : (t j : ℕ) → f t ≡ just j → upd f a (just b) t ≡ just j
+  unfolding holds
+  still t j h = upd-other f a t (just b) (λ e. true≢false (sym (ap there (sym (ap f e) ∙ h)) ∙ new)) ∙ h
+
+  still-linked : (x : Pair) → Linked f x → Linked (upd f a (just b)) x
+  still-linked x y = (y .0, (y .1 .0, still (x .a) (y .1 .0) (y .1 .1), still (x .b) (y .1 .0) (y .1 .2)))
+
+  task-more : (k : Rules) → a < 64 → WellMade f k → WellMade (upd f a (just b)) k
+  task-more k l i = record {
+    tasks = λ t j h. ⊎-elim (λ (e : t ≡ a). omega arith) (λ n. i .tasks t j (sym (upd-other f a t (just b) n) ∙ h)) (same-or-other t a);
+    statics = i .statics;
+    dynamics = i .dynamics;
+    taskSets = every-map (k .taskSets) (λ s x. (x .0, (x .1 .0, λ t h. still t (x .1 .0) (x .1 .1 t h)))) (i .taskSets);
+    blocks = record {
+      partitionings = i .blocks .partitionings;
+      one-template = λ q.
+          let x = i .blocks .one-template q in
+          (x .0, every-map (k .blocks) (λ s y e t h. still t (x .0) (y e t h)) (x .1));
+      disjoint = i .blocks .disjoint;
+    };
+    bindings = every-map (k .bindings) still-linked (i .bindings);
+    befores = every-map (k .befores) still-linked (i .befores);
+  }
+
+-- ---- one block more
+two-added : {A : Type 0} (R : A → A → Type 0) (xs : List A) (y : A) → EveryTwo R xs → Every (λ x. R x y) xs → EveryTwo R (add xs y)
+unfolding add
+two-added R [] y h k = (tt, tt)
+two-added R (x ∷ xs) y h k = (every-added (R x) xs y (h .0) (k .0), two-added R xs y (h .1) (k .1))
+
+in-partitioned : (q : ℕ) (bs : List Block) → Every (λ k. k .partitioning ≡ q → Part (k .tasks) (partitioned q bs)) bs
+unfolding partitioned
+in-partitioned q [] = tt
+in-partitioned q (x ∷ xs) = go (eqb (x .partitioning) q) refl (in-partitioned q xs)
+  where
+    go : (b : Bool) → eqb (x .partitioning) q ≡ b → Every (λ k. k .partitioning ≡ q → Part (k .tasks) (partitioned q xs)) xs
+        → Every (λ k. k .partitioning ≡ q → Part (k .tasks) (cond b (union (x .tasks) (partitioned q xs)) (partitioned q xs))) (x ∷ xs)
+    go true e h = (λ _. part-left _ _, every-map xs (λ k p i. part-trans _ _ _ (p i) (part-right (x .tasks) (partitioned q xs))) h)
+    go false e h = (λ i. absurd (eqb-false _ _ e i), h)
+
+module _ (k : Tasks) (bs : List Block) (a : ℕ) (m : Set) where
+  abbrev new : Block
+  new = record { partitioning = a; tasks = m }
+
+  abbrev Of : ℕ → ℕ → Block → Type 0
+  Of q j b = b .partitioning ≡ q → AllOf (k .template) j (b .tasks)
+
+  -- all of one template with the blocks of the same partitioning
+  same : (q : ℕ) → a ≡ q → not (oneTemplate k (union m (partitioned a bs))) ≡ false → (j : ℕ) × Every (Of q j) (add bs new)
+  same q e one =
+      let x = one-of k (union m (partitioned a bs)) one in (
+        x .0,
+        every-added (Of q (x .0)) bs new
+            (every-map bs (λ b p w. all-of k (b .tasks) (x .0) (part-trans _ _ _ (p (w ∙ sym e)) (part-trans _ _ _ (part-right m _) (x .1)))) (in-partitioned a bs))
+            (λ _. all-of k m (x .0) (part-trans _ _ _ (part-left m _) (x .1))),
+      )
+
+  apart : meets m (partitioned a bs) ≡ false → Every (λ b. b .partitioning ≡ a → meets (b .tasks) m ≡ false) bs
+  apart h = every-map bs (λ b p e. meets-none (b .tasks) m (λ t x y. none-common m _ t h y (has-part _ _ t (p e) x))) (in-partitioned a bs)
+
+  block-more : a < 16 → not (oneTemplate k (union m (partitioned a bs))) ≡ false → meets m (partitioned a bs) ≡ false → WellCut (k .template) bs → WellCut (k .template) (add bs new)
+  block-more l one free i = record {
+    partitionings = every-added (λ b. b .partitioning < 16) bs new (i .partitionings) l;
+    one-template = λ q. ⊎-elim (λ e. same q e one)
+        (λ n. let x = i .one-template q in (x .0, every-added (Of q (x .0)) bs new (x .1) (λ e. absurd (n e)))) (same-or-other a q);
+    disjoint = two-added _ bs new (i .disjoint) (apart free);
+  }
+
+-- ---- one rule more
+module _ (f : ℕ → Maybe ℕ) (ru : Rules) (i : WellMade f ru) where
+  with-statics : (ls : List Limit) → Every Limits ls → WellMade f (withStatics ru ls)
+  with-statics ls h =
+      record { tasks = i .tasks; statics = h; dynamics = i .dynamics; taskSets = i .taskSets; blocks = i .blocks; bindings = i .bindings; befores = i .befores }
+
+  with-dynamics : (ls : List Limit) → Every Limits ls → WellMade f (withDynamics ru ls)
+  with-dynamics ls h =
+      record { tasks = i .tasks; statics = i .statics; dynamics = h; taskSets = i .taskSets; blocks = i .blocks; bindings = i .bindings; befores = i .befores }
+
+  with-task-sets : (ls : List Limit) → Every (λ l. Limits l × ((j : ℕ) × AllOf f j (l .members))) ls → WellMade f (withTaskSets ru ls)
+  with-task-sets ls h =
+      record { tasks = i .tasks; statics = i .statics; dynamics = i .dynamics; taskSets = h; blocks = i .blocks; bindings = i .bindings; befores = i .befores }
+
+  with-blocks : (bs : List Block) → WellCut f bs → WellMade f (withBlocks ru bs)
+  with-blocks bs h =
+      record { tasks = i .tasks; statics = i .statics; dynamics = i .dynamics; taskSets = i .taskSets; blocks = h; bindings = i .bindings; befores = i .befores }
+
+  with-bindings : (ps : List Pair) → Every (Linked f) ps → WellMade f (withBindings ru ps)
+  with-bindings ps h =
+      record { tasks = i .tasks; statics = i .statics; dynamics = i .dynamics; taskSets = i .taskSets; blocks = i .blocks; bindings = h; befores = i .befores }
+
+  with-befores : (ps : List Pair) → Every (Linked f) ps → WellMade f (withBefores ru ps)
+  with-befores ps h =
+      record { tasks = i .tasks; statics = i .statics; dynamics = i .dynamics; taskSets = i .taskSets; blocks = i .blocks; bindings = i .bindings; befores = h }
+
+task-set : (k : Tasks) (n : ℕ) (m : Set) → illMade n m || not (oneTemplate k m) ≡ false → Limits (record { n = n; members = m }) × ((j : ℕ) × AllOf (k .template) j m)
+task-set k n m h =
+    let x = or-none (illMade n m) (not (oneTemplate k m)) h in
+    let y = one-of k m (x .1) in
+    (limits n m (x .0), (y .0, all-of k m (y .0) (y .1)))
+
+-- ---- the rows
+-- field a is within its limit
+pub a-within : (k a : ℕ) (b : Bool) → false || ltb k a || b || false || false ≡ false → a ≤ k
+a-within k a b g = ltb-false k a (or-none (ltb k a) b (or-none _ _ (or-none _ _ g .0) .0) .0)
+
+rows : Rows policyForms (λ n p r x. WellMade (p .tasks .template) (p .rules) → WellMade (x .tasks .template) (x .rules)) policyKinds
+unfolding policyKinds policyForms formOf outOfRange above userNext roleNext permissionNext assignNext giveNext taskChecks taskNext openToNext carriesNext staticChecks staticNext dynamicChecks dynamicNext taskSetChecks taskSetNext blockChecks blockNext banNext mostNext bindChecks bindNext beforeChecks beforeNext
+rows =
+    (λ p r g c i. i) ⨾ (λ p r g c i. i) ⨾ (λ p r g c i. i) ⨾ (λ p r g c i. i) ⨾ (λ p r g c i. i)
+    ⨾ (λ p r g c i. task-more _ (r .a) (r .b) (c .0) (p .rules) (let l = a-within 63 (r .a) (ltb 15 (r .b)) g in omega arith) i)
+    ⨾ (λ p r g c i. i) ⨾ (λ p r g c i. i)
+    ⨾ (λ p r g c i. with-statics _ (p .rules) i _ (every-added Limits (p .rules .statics) _ (i .statics) (limits (r .n) (r .m) (c .1 .1 .0))))
+    ⨾ (λ p r g c i. with-dynamics _ (p .rules) i _ (every-added Limits (p .rules .dynamics) _ (i .dynamics) (limits (r .n) (r .m) (c .1 .1 .0))))
+    ⨾ (λ p r g c i. with-task-sets _ (p .rules) i _ (every-added _ (p .rules .taskSets) _ (i .taskSets) (task-set (p .tasks) (r .n) (r .m) (c .1 .1 .0))))
+    ⨾ (λ p r g c i.
+    let x = or-none _ (meets (r .m) (partitioned (r .a) (p .rules .blocks))) (c .1 .1 .0) in
+    let y = or-none (eqb (r .m) empty) _ (x .0) in
+    let l = a-within 15 (r .a) false g in
+    with-blocks _ (p .rules) i _ (block-more (p .tasks) (p .rules .blocks) (r .a) (r .m) (omega arith) (y .1) (x .1) (i .blocks)))
+    ⨾ (λ p r g c i. i) ⨾ (λ p r g c i. i)
+    ⨾ (λ p r g c i. with-bindings _ (p .rules) i _ (every-added _ (p .rules .bindings) _ (i .bindings) (linked (p .tasks) (r .a) (r .b) (c .1 .1 .0))))
+    ⨾ (λ p r g c i. with-befores _ (p .rules) i _ (every-added _ (p .rules .befores) _ (i .befores) (linked (p .tasks) (r .a) (r .b) (c .1 .1 .0))))
+    ⨾ tt
+
+start : WellMade (noPolicy .tasks .template) (noPolicy .rules)
+unfolding noPolicy
+start = record {
+  tasks = λ t j (e : none ≡ just j). let z : _≡_ {A = ℕ} 0 1 = cc in absurd (omega arith);
+  statics = tt;
+  dynamics = tt;
+  taskSets = tt;
+  blocks = record { partitionings = tt; one-template = λ q. (0, tt); disjoint = tt };
+  bindings = tt;
+  befores = tt;
+}
+
+pub load-well-made : (policy : Bytes) → load policy .reply ≡ 0 → WellMade (load policy .tables .tasks .template) (load policy .tables .rules)
+load-well-made policy h =
+    let x = load-accepted policy h in
+    rw (x .1) (load-keeps (λ p. WellMade (p .tasks .template) (p .rules)) rows noPolicy (recordsOf policy) (x .0) start)

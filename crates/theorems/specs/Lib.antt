@@ -1,0 +1,5 @@
+pub mod Outside
+pub mod OverEntries
+pub mod WellMade
+pub mod InUse
+pub mod Theorems

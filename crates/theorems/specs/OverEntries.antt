@@ -1,0 +1,87 @@
+-- The rules over an order's entries, "without any claim", and the limits over roles: read from the policy's records and from what is told.
+use Prim.Native.Nat.{ℕ, _≤_}
+use mathlib.Core.Path.{_≡_}
+use mathlib.Core.Bool.{true}
+use mathlib.Core.List.{List, [], _∷_}
+use lib.Dec.{eqb}
+use Rattle.paper_lower.specs.Sets.{Set, has, overlap, meets, within}
+use Rattle.paper_lower.specs.Lists.{Maybe, many, keep, Every}
+use Rattle.paper_lower.specs.Lists.Maybe.{just}
+use Rattle.paper_lower.specs.Checks.{BEFORE, SEPARATION, BLOCK, ALONE, BOUND, COUNT}
+use Rattle.paper_lower.specs.Records.{Record}
+use Rattle.paper_lower.specs.Roles.{activeOf}
+use Rattle.paper_upper.specs.Orders.{Orders, ofTask, tasksBy, tasksDone}
+use Rattle.theorems.specs.Outside.{Told}
+
+-- the policy's records of a kind
+unfoldable pub ofKind : ℕ → List Record → List Record
+ofKind k policy = keep (λ r. eqb (r .kind) k) policy
+
+-- a statement about every two of a list
+abbrev pub EveryTwo : {A : Type 0} → (A → A → Type 0) → List A → Type 0
+EveryTwo P [] = Unit {0}
+EveryTwo P (x ∷ xs) = Every (P x) xs × EveryTwo P xs
+
+-- a statement about every order's template and the tasks in which a user has entries there, for every user
+abbrev pub OfUsers : (Maybe ℕ → Set → Type 0) → Orders → Type 0
+OfUsers P o = (i u : ℕ) → P (o .opened i) (tasksBy i u (o .entries))
+
+-- ---- "They hold when:"
+
+-- "no user has entries in more than n different tasks of a task set"
+abbrev pub TaskSets : List Record → Orders → Type 0
+TaskSets policy = OfUsers (λ template tasks. Every (λ r. overlap (r .m) tasks ≤ r .n) (ofKind 11 policy))
+
+-- "no user has entries in two blocks of one partitioning"
+abbrev pub Blocks : List Record → Orders → Type 0
+Blocks policy =
+    OfUsers (λ template tasks.
+    EveryTwo (λ r q. r .a ≡ q .a → meets (r .m) tasks ≡ true → meets (q .m) tasks ≡ true → ⊥) (ofKind 12 policy))
+
+-- "in a banned template no user has entries in every task"
+abbrev pub LoneWorkers : List Record → Orders → Type 0
+LoneWorkers policy =
+    OfUsers (λ template tasks.
+    Every (λ r. template ≡ just (r .a) → Every (λ q. q .b ≡ r .a → has tasks (q .a) ≡ true) (ofKind 6 policy) → ⊥) (ofKind 13 policy))
+
+-- "any entry of a task and any entry of a task bound to it are of one user"
+abbrev pub Bindings : List Record → Orders → Type 0
+Bindings policy o =
+    Every (λ r. Every (λ e. Every (λ f.
+    e .instance ≡ f .instance → e .task ≡ r .a → f .task ≡ r .b → e .user ≡ f .user) (o .entries)) (o .entries)) (ofKind 15 policy)
+
+-- "a limited task has at most n entries"
+abbrev pub CountLimits : List Record → Orders → Type 0
+CountLimits policy o = (i : ℕ) → Every (λ r. many (keep (ofTask i (r .a)) (o .entries)) ≤ r .n) (ofKind 14 policy)
+
+-- "a task with an entry has a done entry for each task required before it"
+abbrev pub Prerequisites : List Record → Orders → Type 0
+Prerequisites policy o =
+    Every (λ r. Every (λ e. e .task ≡ r .b → has (tasksDone (e .instance) (o .entries)) (r .a) ≡ true) (o .entries)) (ofKind 16 policy)
+
+-- ---- Each is a claim rule: the reply to a claim that would break it. "the claim rules, in this order"
+pub record Rule : Type 1 where
+  pub reply : ℕ
+  pub Kept : List Record → Orders → Type 0
+
+abbrev pub rule : ℕ → (List Record → Orders → Type 0) → Rule
+rule reply Kept = record { reply = reply; Kept = Kept }
+
+abbrev pub claimRules : List Rule
+claimRules =
+    rule BEFORE Prerequisites
+    ∷ rule SEPARATION TaskSets
+    ∷ rule BLOCK Blocks
+    ∷ rule ALONE LoneWorkers
+    ∷ rule BOUND Bindings
+    ∷ rule COUNT CountLimits
+    ∷ []
+
+-- ---- Roles.
+pub record RoleLimits (policy : List Record) (x : Told) : Type 0 where
+  -- "A static set allows a user at most n of its roles among those assigned."
+  pub statics : (u : ℕ) → Every (λ r. overlap (r .m) (x .assigned u) ≤ r .n) (ofKind 9 policy)
+  -- "A dynamic set allows a user at most n of its roles active at a time, over all the user's subjects together."
+  pub dynamics : (u : ℕ) → Every (λ r. overlap (r .m) (activeOf (x .sessions) u) ≤ r .n) (ofKind 10 policy)
+  -- "Active roles are always assigned ones."
+  pub active : (s : ℕ) → x .sessions .live s ≡ true → within (x .sessions .active s) (x .assigned (x .sessions .user s)) ≡ true
