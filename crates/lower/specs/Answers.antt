@@ -1,0 +1,31 @@
+-- What the lower part's two calls promise, for every content of the buffers and every byte string.
+use Prim.Native.Nat.{ℕ}
+use mathlib.Core.Bool.{Bool, cond, _&&_}
+use mathlib.Core.List.{List}
+use mathlib.Core.Path.{_≡_}
+use lib.Dec.{eqb}
+use lib.ListN.{length}
+use Rattle.paper_lower.specs.Checks.{ROOM}
+use Rattle.paper_lower.specs.Records.{Bytes}
+use Rattle.paper_lower.specs.Kinds.{Answer}
+use Rattle.paper_lower.specs.Tables.{Lower}
+use Rattle.paper_lower.specs.Sessions.{lowerRequest}
+use Rattle.replies.specs.Replies.{numberOf}
+use Rattle.replies.specs.declared.Reply.{Reply}
+use Rattle.policy.specs.Layout.{policyWords}
+use Rattle.sessions.specs.Reading.{sessionsWords}
+use Rattle.sessions.specs.Lower.{lowerTables}
+
+-- both buffers have their lengths
+abbrev pub fit : List ℕ → List ℕ → Bool
+fit p s = eqb (length p) policyWords && eqb (length s) sessionsWords
+
+-- "ROOM: a lent state buffer has not its fixed length; nothing is written"
+abbrev pub requestAnswer : Bytes → List ℕ → List ℕ → Answer Lower
+requestAnswer bytes p s = cond (fit p s) (lowerRequest (lowerTables p s) bytes) (record { reply = ROOM; tables = lowerTables p s })
+
+pub record Requested (bytes : Bytes) (p s p′ s′ : List ℕ) (r : Reply) : Type 0 where
+  pub replies : numberOf r ≡ requestAnswer bytes p s .reply
+  pub tables : lowerTables p′ s′ ≡ requestAnswer bytes p s .tables
+  -- "Refused requests change no byte of the state."
+  pub kept : (numberOf r ≡ 0 → ⊥) → (p′ ≡ p) × (s′ ≡ s)

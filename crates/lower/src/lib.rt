@@ -1,0 +1,56 @@
+// The lower part alone: policy, roles and sessions, as dealers build it. Its two calls take any bytes and any buffers.
+ghost use mathlib.Core.Path.{_≡_};
+ghost use lib.ListN.{length};
+ghost use Rattle.paper_lower.specs.Checks.{first};
+ghost use Rattle.paper_lower.specs.Forms.{lowerForms};
+ghost use Rattle.paper_lower.specs.Kinds.{chosen};
+ghost use Rattle.paper_lower.specs.Sessions.{lowerKinds};
+ghost use Rattle.records.specs.Reading.{paperOf};
+ghost use Rattle.records.specs.Limits.{Limits};
+ghost use Rattle.policy.specs.Layout.{policyWords};
+ghost use Rattle.sessions.specs.Reading.{sessionsWords};
+ghost use Rattle.sessions.specs.Lower.{lowerTables};
+ghost use Rattle.lower.specs.Stepped.{Stepped};
+ghost use Rattle.lower.specs.Answers.{Requested};
+use records::Call;
+use records::Judged;
+use records::Record;
+use replies::Reply;
+use sets::Set;
+
+// A request that SHAPE and RANGE let pass.
+pub fn step(r: Record, p: &mut [u64], s: &mut [u64]) -> Reply
+    requires { ⌜ (length (now p) ≡ policyWords) × ((length (now s) ≡ sessionsWords) × Limits lowerForms r) ⌝ }
+    ensures { λ x. ⌜ Stepped (first (chosen lowerKinds (r .kind) .checks (lowerTables (now (p .entry)) (now (s .entry))) (paperOf r))) (chosen lowerKinds (r .kind) .next (lowerTables (now (p .entry)) (now (s .entry))) (paperOf r)) (now (p .entry)) (now (s .entry)) (now (p .exit)) (now (s .exit)) x ⌝ }
+{
+    let kind = r.kind;
+    match kind {
+        32 => declarations::user(p, r.a),
+        33 => roles::delete(p, s, r.a),
+        34 => declarations::assign(p, r.a, r.b),
+        35 => roles::take_back(p, s, r.a, r.b),
+        36 => declarations::give(p, r.a, r.b),
+        37 => roles::withdraw(p, r.a, r.b),
+        40 => subjects::create(p, s, r.a, r.b, Set { bits: r.m }),
+        41 => subjects::destroy(s, r.a),
+        42 => subjects::activate(p, s, r.a, r.b),
+        43 => subjects::deactivate(p, s, r.a, r.b),
+        56 => subjects::check_reply(p, s, r.a, r.b, r.c),
+        _ => Reply::Shape,
+    }
+}
+
+// Any bytes as a request to the lower part.
+pub fn request(bytes: &[u8], p: &mut [u64], s: &mut [u64]) -> Reply
+    ensures { λ r. ⌜ Requested (now (bytes .entry)) (now (p .entry)) (now (s .entry)) (now (p .exit)) (now (s .exit)) r ⌝ }
+{
+    if (p.len() != 3480) | (s.len() != 256) {
+        return Reply::Room;
+    }
+    let j = records::judge(Call::Lower, bytes);
+    match j {
+        Judged::Shape => Reply::Shape,
+        Judged::Range => Reply::Range,
+        Judged::Fine(r) => step(r, p, s),
+    }
+}
