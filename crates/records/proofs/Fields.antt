@@ -1,18 +1,26 @@
 -- A field against its form: the paper's two tests as tests on bits and limits.
 use mathlib.Core.Path.{_≡_, refl, sym, _∙_, ap}
-use mathlib.Core.Bool.{Bool, true, false, not, _||_}
+use mathlib.Core.Bool.{Bool, true, false, not, _||_, true≢false}
 use mathlib.Core.Logic.{⊎-elim}
-use Prim.Native.Nat.{ℕ, zero, suc, _+_, _-_, _*_, _/_, _%_, _^_, _<_, _≤_}
+use Prim.Native.Nat.{ℕ, zero, suc, _+_, _-_, _*_, _/_, _^_, _<_, _≤_}
 use native.Mathlib.Nat.{mod-eq-of-lt, eq-zero-or-pos}
 use native.Mathlib.Omega.{arith}
 use lib.Bits.{bitAnd, and-mask, and-high, and-block, and-zero-r}
-use lib.Dec.{T, eqb, ltb, leb, lit<}
+use lib.Dec.{eqb, ltb, leb}
 use borrow.Author.Tests.{eq-eqb, ne-eqb, lt-leb, le-leb, le-ltb, eqb-true, not-false}
 use Rattle.paper_lower.specs.Records.{Record}
 use Rattle.paper_lower.specs.Forms.{Field, Form, misplaced, above}
 use Rattle.paper_lower.specs.Forms.Field.{·, to, any, pair}
 use Rattle.records.specs.Reading.{ofPaper, Small}
 use Rattle.records.specs.Table.{barred, barredFirst, limit}
+
+-- of the five fields none has it
+pub none-of : (n a b c m : Bool) → n || a || b || c || m ≡ false → (n ≡ false) × (a ≡ false) × (b ≡ false) × (c ≡ false) × (m ≡ false)
+none-of false false false false m e = (refl, refl, refl, refl, e)
+none-of false false false true m e = absurd (true≢false e)
+none-of false false true c m e = absurd (true≢false e)
+none-of false true b c m e = absurd (true≢false e)
+none-of true a b c m e = absurd (true≢false e)
 
 -- ---- SHAPE: "unused field not zero, m of kind 57 too large".
 

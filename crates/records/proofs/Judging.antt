@@ -1,37 +1,30 @@
 -- What the code of `judge` finds, read as the paper's two checks and as the verdict on them.
-use mathlib.Core.Path.{_≡_, refl, sym, _∙_, ap}
-use mathlib.Core.Bool.{Bool, true, false, not, _||_, or-false, true≢false}
+use mathlib.Core.Path.{_≡_, refl, _∙_, ap}
+use mathlib.Core.Bool.{true, false, or-false, true≢false}
 use mathlib.Core.List.{List}
 use Prim.Native.Nat.{ℕ, _+_, _*_}
 use native.Mathlib.Omega.{arith}
 use lib.Bits.{bitAnd}
 use lib.Dec.{T, eqb}
 use lib.ListN.{length}
-use borrow.Author.Tests.{eq-eqb, ne-eqb, not-true}
+use borrow.Author.Tests.{eq-eqb, ne-eqb}
 use Rattle.paper_lower.specs.Lists.{Maybe}
 use Rattle.paper_lower.specs.Lists.Maybe.{none, just}
 use Rattle.paper_lower.specs.Records.{Bytes, Record as PaperRecord, number, decode}
 use Rattle.paper_lower.specs.Forms.{Field, Form as PaperForm, formOf, misplaced, above, misshapen, outOfRange, formChecks}
 use Rattle.paper_lower.specs.Forms.Field.{·, to, any, pair}
 use Rattle.records.specs.Reading.{paperOf, ofPaper, Small, Decoded}
-use Rattle.records.specs.Table.{formsOf, bitOf, lineOf, tableAt, misshapes, outranges}
-use Rattle.records.specs.Verdict.{judged, Verdict}
+use Rattle.records.specs.Table.{bitOf, tableAt, misshapes, outranges}
+use Rattle.records.specs.Verdict.{formsOf, judged, Verdict}
 use Rattle.records.specs.declared.Record.{Record}
 use Rattle.records.specs.declared.Form.{Form}
 use Rattle.records.specs.declared.Call.{Call}
 use Rattle.records.specs.declared.Judged.the-variants.{Shape, Range, Fine}
 use Rattle.records.proofs.Span.{holds-true}
 use Rattle.records.proofs.Lines.{free, stands, taken, line-is, n-free, m-free, table-stands}
-use Rattle.records.proofs.Fields.{first-bits, eight-byte-bits, above-limit}
+use Rattle.records.proofs.Fields.{none-of, first-bits, eight-byte-bits, above-limit}
 
 -- ---- A record against its line.
-
-none-holds : (n a b c m : Bool) → n || a || b || c || m ≡ false → (a ≡ false) × (b ≡ false) × (c ≡ false)
-none-holds false false false false m e = (refl, refl, refl)
-none-holds false false false true m e = absurd (true≢false e)
-none-holds false false true c m e = absurd (true≢false e)
-none-holds false true b c m e = absurd (true≢false e)
-none-holds true a b c m e = absurd (true≢false e)
 
 above-free : (f : Field) (x : ℕ) → T (free f) → above f x ≡ false
 unfolding above
@@ -58,13 +51,13 @@ module _ (call : Call) (p : PaperRecord) (h : Small (ofPaper p)) (l : Form) wher
   unfolding misshapen outOfRange
   range-is none t e = absurd (true≢false e)
   range-is (just f) t e =
-      let placed = none-holds (misplaced (f .n) (p .n)) (misplaced (f .a) (p .a)) (misplaced (f .b) (p .b)) (misplaced (f .c) (p .c)) (misplaced (f .m) (p .m)) e in
+      let placed = none-of (misplaced (f .n) (p .n)) (misplaced (f .a) (p .a)) (misplaced (f .b) (p .b)) (misplaced (f .c) (p .c)) (misplaced (f .m) (p .m)) e in
       rw (
         above-free (f .n) (p .n) (n-free call f l t),
         above-free (f .m) (p .m) (m-free call f l t),
-        above-limit (h .a) (f .a) (placed .0),
-        above-limit (h .b) (f .b) (placed .1),
-        above-limit (h .c) (f .c) (placed .2),
+        above-limit (h .a) (f .a) (placed .1),
+        above-limit (h .b) (f .b) (placed .2),
+        above-limit (h .c) (f .c) (placed .3),
         or-false,
         ap (λ k. k .3) (line-is call f l t),
         ap (λ k. k .4) (line-is call f l t),
@@ -77,7 +70,8 @@ pub cut : (fs : List PaperForm) (s : Bytes) → (length s ≡ 16 → ⊥) → Ve
 unfolding judged formChecks
 cut fs s h = record { answers = simp (ne-eqb (length s) 16 h); bounded = tt }
 
-module _ (call : Call) (s : Bytes) (r : Record) (l : Form) (x : ℕ) (len : length s ≡ 16) (d : Decoded s r) (el : l ≡ tableAt (r .kind)) (ex : x ≡ number 0 8 s) where
+module _ (call : Call) {s : Bytes} {r : Record} {l : Form} {x : ℕ} (len : length s ≡ 16) (d : Decoded s r)
+    (el : l ≡ tableAt (r .kind)) (ex : x ≡ number 0 8 s) where
   word-is : x ≡ r .kind + 256 * r .n + 65536 * r .a + 4294967296 * r .b + 281474976710656 * r .c
   unfolding number decode
   word-is =

@@ -3,3 +3,4 @@ pub mod Words
 pub mod Lines
 pub mod Fields
 pub mod Judging
+pub mod Passing

@@ -76,6 +76,14 @@ abbrev pub Rest : List (List ℕ) → ℕ → Type 0
 Rest [] k = Unit
 Rest (ks ∷ arms) k = Rest arms k × (OneOf ks k → ⊥)
 
+-- the arms of a `match` whose every arm has one key, the keys in the order of the arms
+abbrev onto : List ℕ → List (List ℕ) → List (List ℕ)
+onto [] arms = arms
+onto (k ∷ ks) arms = onto ks ((k ∷ []) ∷ arms)
+
+abbrev pub oneEach : List ℕ → List (List ℕ)
+oneEach ks = onto ks []
+
 hit-one : (x : ℕ) (xs : List ℕ) (k : ℕ) → T (hit (x ∷ xs) k) → OneOf (x ∷ xs) k
 hit-one x [] k t = eqb→eq k x (not-not (eqb k x) t)
 hit-one x (y ∷ xs) k t =

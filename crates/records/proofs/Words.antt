@@ -5,7 +5,7 @@ use native.Mathlib.Numerals.{towards-suc}
 use native.Mathlib.Omega.{arith}
 use lib.ListN.{getD}
 use Rattle.paper_lower.specs.Records.{Bytes, number, decode}
-use Rattle.records.specs.Reading.{Small, Decoded}
+use Rattle.records.specs.Reading.{Decoded}
 
 pub four : (s : Bytes) (at : ℕ) {x₀ x₁ x₂ x₃ : ℕ} → x₀ ≡ getD s at 0 → x₁ ≡ getD s (at + 1) 0 → x₂ ≡ getD s (at + 2) 0 → x₃ ≡ getD s (at + 3) 0
     → x₀ + 256 * x₁ + 65536 * x₂ + 16777216 * x₃ ≡ number at 4 s

@@ -10,6 +10,7 @@ paperOf r = record { kind = r .kind; n = r .n; a = r .a; b = r .b; c = r .c; m =
 abbrev pub ofPaper : PaperRecord → Record
 ofPaper p = record { kind = p .kind; n = p .n; a = p .a; b = p .b; c = p .c; m = p .m }
 
+-- the fields of a record that was read from bytes
 pub record Small (r : Record) : Type 0 where
   pub kind : r .kind < 256
   pub n : r .n < 256
@@ -18,6 +19,7 @@ pub record Small (r : Record) : Type 0 where
   pub c : r .c < 65536
   pub m : r .m < 2 ^ 64
 
+-- what decode promises
 pub record Decoded (s : Bytes) (r : Record) : Type 0 where
   pub reads : paperOf r ≡ decode s
   pub small : Small r

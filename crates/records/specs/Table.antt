@@ -1,7 +1,7 @@
 -- The paper's forms as the lines of the one decision over kinds.
 use Prim.Native.Nat.{ℕ, _+_, _-_, _*_, _^_}
 use mathlib.Core.Bool.{Bool, not, cond, _||_}
-use mathlib.Core.List.{List, _++_}
+use mathlib.Core.List.{_++_}
 use lib.Bits.{bitAnd}
 use lib.Dec.{eqb, ltb}
 use Rattle.paper_lower.specs.Lists.{Maybe, holds, there}
@@ -12,12 +12,6 @@ use Rattle.records.specs.declared.Form.{Form}
 use Rattle.records.specs.declared.Record.{Record}
 use Rattle.records.specs.declared.Call.{Call}
 use Rattle.records.specs.declared.Call.the-variants.{Load, Lower, Request}
-
--- the forms that a call takes
-abbrev pub formsOf : Call → List PaperForm
-formsOf Load = policyForms
-formsOf Lower = lowerForms
-formsOf Request = requestForms
 
 -- a call among the calls of a line
 abbrev pub bitOf : Call → ℕ
@@ -32,7 +26,7 @@ barred ones (to k) = 0
 barred ones any = 0
 barred ones pair = ones - (2 ^ 32 - 1)
 
--- those of the first word, and of m
+-- those of the first word
 abbrev pub barredFirst : PaperForm → ℕ
 barredFirst f =
     2 ^ 8 * barred 255 (f .n) + 2 ^ 16 * barred 65535 (f .a) + 2 ^ 32 * barred 65535 (f .b) + 2 ^ 48 * barred 65535 (f .c)
@@ -44,6 +38,7 @@ limit ones (to k) = k
 limit ones any = ones
 limit ones pair = 2 ^ 32 - 1
 
+-- a form as a line of the table; the line of no kind is taken by no call
 abbrev pub lineOf : ℕ → Maybe PaperForm → Form
 lineOf calls none = record { 0 = 0; 1 = 0; 2 = 0; 3 = 0; 4 = 0; 5 = 0 }
 lineOf calls (just f) =
@@ -61,6 +56,7 @@ unfoldable pub callsOf : ℕ → ℕ
 callsOf k =
     cond (there (formOf policyForms k)) 1 0 + cond (there (formOf lowerForms k)) 2 0 + cond (there (formOf requestForms k)) 4 0
 
+-- the line of a kind
 unfoldable pub tableAt : ℕ → Form
 tableAt k = lineOf (callsOf k) (formOf (policyForms ++ requestForms) k)
 

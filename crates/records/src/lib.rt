@@ -6,8 +6,8 @@ ghost use Prim.Native.Nat.{_+_, _<_};
 ghost use lib.ListN.{length};
 ghost use Rattle.paper_lower.specs.Records.{number};
 ghost use Rattle.records.specs.Reading.{Decoded};
-ghost use Rattle.records.specs.Table.{formsOf, bitOf, tableAt, misshapes, outranges};
-ghost use Rattle.records.specs.Verdict.{Verdict};
+ghost use Rattle.records.specs.Table.{bitOf, tableAt, misshapes, outranges};
+ghost use Rattle.records.specs.Verdict.{formsOf, Verdict};
 
 pub struct Record {
     pub kind: u64,
@@ -25,12 +25,14 @@ pub enum Call {
     Request,
 }
 
+// What the bytes of a record are found to be.
 pub enum Judged {
     Shape,
     Range,
     Fine(Record),
 }
 
+// A byte that was read, with its bound.
 fn wide(x: u8) -> u64
     ensures { λ r. ⌜ (r ≡ x) × (r < 256) ⌝ }
 {
@@ -57,6 +59,7 @@ fn word(s: &[u8], at: usize) -> u64
     low + 4294967296 * high
 }
 
+// By two words of eight bytes, which the compiler reads at once.
 pub fn decode(s: &[u8]) -> Record
     requires { ⌜ length (now s) ≡ 16 ⌝ }
     ensures { λ r. ⌜ Decoded (now (s .entry)) r ⌝ }
@@ -73,14 +76,14 @@ pub fn decode(s: &[u8]) -> Record
     }
 }
 
-// The calls that take a kind: the lower part's kinds are the whole engine's too.
+// The calls that take a kind, a bit for each call. The whole engine takes the lower part's kinds too.
 const LOAD: u64 = 1;
 
 const LOWER: u64 = 6;
 
 const UPPER: u64 = 4;
 
-// The bits of the record's first word, and of m, that a field has.
+// The fields that must be zero, by their bits in the record's first word and in m.
 const NO_N: u64 = 0xff00;
 
 const NO_A: u64 = 0xffff0000;
@@ -91,8 +94,9 @@ const NO_C: u64 = 0xffff000000000000;
 
 const NO_M: u64 = 0xffffffffffffffff;
 
-const PAIR: u64 = 0xffffffff00000000;
+const ABOVE_PAIR: u64 = 0xffffffff00000000;
 
+// The limits.
 const USER: u64 = 1023;
 
 const ROLE: u64 = 63;
@@ -111,9 +115,10 @@ const ORDER: u64 = 63;
 
 const ANY: u64 = 65535;
 
-// What a kind asks of a record: the calls that take it; the bits of the first word, and of m, that must be zero; the limits of a, b, c.
+// The form of a kind: the calls that take it; the bits of the first word, and of m, that must be zero; the limits of a, b and c.
 struct Form(u64, u64, u64, u64, u64, u64);
 
+// The one decision over kinds. Each kind has a line of its own, as neighbours in one line would be tested as a range before the others.
 fn form_of(kind: u64) -> Form
     requires { ⌜ kind < 256 ⌝ }
     ensures { λ f. ⌜ f ≡ tableAt kind ⌝ }
@@ -151,7 +156,7 @@ fn form_of(kind: u64) -> Form
         51 => Form(UPPER, NO_N, NO_M, SUBJECT, ORDER, TASK),
         52 => Form(UPPER, NO_N, NO_M, SUBJECT, ORDER, TASK),
         56 => Form(LOWER, NO_N, NO_M, SUBJECT, ANY, ANY),
-        57 => Form(UPPER, NO_N, PAIR, SUBJECT, ORDER, TASK),
+        57 => Form(UPPER, NO_N, ABOVE_PAIR, SUBJECT, ORDER, TASK),
         _ => Form(0, 0, 0, 0, 0, 0),
     }
 }
@@ -166,18 +171,21 @@ fn bit(call: Call) -> u64
     }
 }
 
+// SHAPE, of sixteen bytes. The fields that must be zero are tested together, by the word that holds them.
 fn misshapen(call: Call, f: Form, first: u64, m: u64) -> bool
     ensures { λ r. ⌜ r ≡ misshapes (bitOf call) f first m ⌝ }
 {
     (f.0 & bit(call) == 0) | (first & f.1 != 0) | (m & f.2 != 0)
 }
 
+// RANGE, of a record that is not misshapen.
 fn out_of_range(f: Form, r: Record) -> bool
     ensures { λ x. ⌜ x ≡ outranges f r ⌝ }
 {
     (f.3 < r.a) | (f.4 < r.b) | (f.5 < r.c)
 }
 
+// The first two checks on any bytes, for any call.
 pub fn judge(call: Call, s: &[u8]) -> Judged
     ensures { λ j. ⌜ Verdict (formsOf call) (now (s .entry)) j ⌝ }
 {

@@ -1,18 +1,16 @@
--- Written from Proof.tmpl by 'prove expand': edit that file.
+-- `form_of` gives each kind the line that is computed from the paper's tables: at its key, and by one test over all kinds for those that have none.
 use Prim.Native.Nat.{ℕ, zero-le}
 use mathlib.Core.List.{List, [], _∷_}
 use Rattle.records.specs.Table.{tableAt, tableOpen}
-use Rattle.records.proofs.Span.{rest}
+use Rattle.records.proofs.Span.{oneEach, rest}
 use Rattle.records.proofs.Lines.{same, same-sound}
 use Rattle.records.proofs.form_of.Statement.{statement}
 use Rattle.records.proofs.form_of.Tie as tie
-use Rattle.records.proofs.form_of.Reads as reads
-use Rattle.records.proofs.form_of.Lts as lts
 
--- the keys, the last first
-abbrev arms : List (List ℕ)
-arms =
-    (57 ∷ []) ∷ (56 ∷ []) ∷ (52 ∷ []) ∷ (51 ∷ []) ∷ (50 ∷ []) ∷ (49 ∷ []) ∷ (48 ∷ []) ∷ (43 ∷ []) ∷ (42 ∷ []) ∷ (41 ∷ []) ∷ (40 ∷ []) ∷ (37 ∷ []) ∷ (36 ∷ []) ∷ (35 ∷ []) ∷ (34 ∷ []) ∷ (33 ∷ []) ∷ (32 ∷ []) ∷ (16 ∷ []) ∷ (15 ∷ []) ∷ (14 ∷ []) ∷ (13 ∷ []) ∷ (12 ∷ []) ∷ (11 ∷ []) ∷ (10 ∷ []) ∷ (9 ∷ []) ∷ (8 ∷ []) ∷ (7 ∷ []) ∷ (6 ∷ []) ∷ (5 ∷ []) ∷ (4 ∷ []) ∷ (3 ∷ []) ∷ (2 ∷ []) ∷ (1 ∷ []) ∷ []
+-- the keys of the arms
+abbrev kinds : List ℕ
+kinds =
+    1 ∷ 2 ∷ 3 ∷ 4 ∷ 5 ∷ 6 ∷ 7 ∷ 8 ∷ 9 ∷ 10 ∷ 11 ∷ 12 ∷ 13 ∷ 14 ∷ 15 ∷ 16 ∷ 32 ∷ 33 ∷ 34 ∷ 35 ∷ 36 ∷ 37 ∷ 40 ∷ 41 ∷ 42 ∷ 43 ∷ 48 ∷ 49 ∷ 50 ∷ 51 ∷ 52 ∷ 56 ∷ 57 ∷ []
 
 returns : tie.Need-returns
 unfolding tableOpen
@@ -148,7 +146,7 @@ returns-33 c = rw (c .match .keys33)
 
 returns-34 : tie.Need-returns-34
 unfolding tableOpen
-returns-34 c = rest same same-sound tableAt (record { 0 = 0; 1 = 0; 2 = 0; 3 = 0; 4 = 0; 5 = 0 }) arms 0 256 tt (c .before .args .kind) (c .match .rest) zero-le (c .before .pre)
+returns-34 c = rest same same-sound tableAt (record { 0 = 0; 1 = 0; 2 = 0; 3 = 0; 4 = 0; 5 = 0 }) (oneEach kinds) 0 256 tt (c .before .args .kind) (c .match .rest) zero-le (c .before .pre)
 
 pub form-of-spec : {M : Type 1} → statement M
 form-of-spec =

@@ -1,11 +1,8 @@
--- Written from Proof.tmpl by 'prove expand': edit that file.
+-- `quad` gives the paper's number of four bytes.
 use borrow.Author.Needs.{needs}
 use Rattle.records.proofs.Words.{four}
 use Rattle.records.proofs.quad.Statement.{statement}
 use Rattle.records.proofs.quad.Tie as tie
-use Rattle.records.proofs.quad.Reads as reads
-use Rattle.records.proofs.quad.Lts as lts
-use Rattle.records.proofs.wide.Reads as wide-reads
 
 shared-slice-read-wide : tie.Need-shared-slice-read-wide
 shared-slice-read-wide c = search needs

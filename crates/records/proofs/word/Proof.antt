@@ -1,13 +1,10 @@
--- Written from Proof.tmpl by 'prove expand': edit that file.
+-- `word` gives the paper's number of eight bytes, which fits as each of them is below 256.
 use Prim.Native.Nat.{_+_}
 use native.Mathlib.Omega.{arith}
 use borrow.Author.Needs.{needs}
 use Rattle.records.proofs.Words.{eight, four-small, eight-small}
 use Rattle.records.proofs.word.Statement.{statement}
 use Rattle.records.proofs.word.Tie as tie
-use Rattle.records.proofs.word.Reads as reads
-use Rattle.records.proofs.word.Lts as lts
-use Rattle.records.proofs.quad.Reads as quad-reads
 
 quad-requires : tie.Need-quad-requires
 quad-requires c κs = search needs
