@@ -1,4 +1,3 @@
--- Written from Proof.tmpl by 'prove expand': edit that file.
 -- Two rows of the table compared in their templates, where the first has one.
 use Prim.Native.Nat.{ℕ}
 use mathlib.Core.Path.{sym, ap₂, _∙_}

@@ -1,4 +1,3 @@
--- Written from Proof.tmpl by 'prove expand': edit that file.
 -- Both fields of the row compared.
 use borrow.Author.Needs.{needs}
 use Rattle.paper_lower.specs.Policy.{sameBlock}

@@ -1,4 +1,3 @@
--- Written from Proof.tmpl by 'prove expand': edit that file.
 -- The template's tasks are not none.
 use borrow.Author.Needs.{needs}
 use Rattle.paper_lower.specs.Policy.{hasTask}

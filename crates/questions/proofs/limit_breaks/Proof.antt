@@ -1,4 +1,3 @@
--- Written from Proof.tmpl by 'prove expand': edit that file.
 -- The row's n against the size of the overlap with its members.
 use borrow.Author.Needs.{needs}
 use Rattle.paper_lower.specs.Policy.{breaks}

@@ -1,4 +1,3 @@
--- Written from Proof.tmpl by 'prove expand': edit that file.
 -- A permission for another pair answers no; one for this pair is asked for its set.
 use borrow.Author.Tests.{not-true, not-false}
 use borrow.Author.Needs.{needs}

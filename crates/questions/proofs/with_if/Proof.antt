@@ -1,4 +1,3 @@
--- Written from Proof.tmpl by 'prove expand': edit that file.
 -- One member more, or the set as it was.
 use borrow.Author.Needs.{needs}
 use Rattle.questions.proofs.with_if.Statement.{statement}

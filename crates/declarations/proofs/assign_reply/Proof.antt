@@ -1,0 +1,58 @@
+-- Each test of the code is the check of its place.
+use borrow.Author.Needs.{needs}
+use Rattle.paper_lower.specs.Policy.{assignChecks}
+use Rattle.declarations.proofs.assign_reply.Statement.{statement}
+use Rattle.declarations.proofs.assign_reply.Tie as tie
+
+user-declared-requires : tie.Need-user-declared-requires
+user-declared-requires c κs = search needs
+
+declared-roles-requires : tie.Need-declared-roles-requires
+declared-roles-requires c κs = search needs
+
+has-requires : tie.Need-has-requires
+has-requires c κs = search needs
+
+returns : tie.Need-returns
+unfolding assignChecks
+returns c = simp (← c .before .before .before .user-declared .ensures, ← c .before .before .declared-roles .ensures, ← c .before .has .ensures, c .if1 .taken)
+
+assigned-requires : tie.Need-assigned-requires
+assigned-requires c κs = search needs
+
+has-requires-2 : tie.Need-has-requires-2
+has-requires-2 c κs = search needs
+
+returns-2 : tie.Need-returns-2
+unfolding assignChecks
+returns-2 c = simp (← c .before .before .before .before .before .before .user-declared .ensures, ← c .before .before .before .before .before .declared-roles .ensures, ← c .before .before .before .before .has .ensures, c .before .before .before .if1 .left, ← c .before .before .assigned .ensures, ← c .before .has2 .ensures, c .if2 .taken)
+
+with-requires : tie.Need-with-requires
+with-requires c κs = search needs
+
+broken-requires : tie.Need-broken-requires
+broken-requires c κs = search needs
+
+returns-3 : tie.Need-returns-3
+unfolding assignChecks
+returns-3 c = simp (← c .before .before .before .before .before .before .before .before .before .user-declared .ensures, ← c .before .before .before .before .before .before .before .before .declared-roles .ensures, ← c .before .before .before .before .before .before .before .has .ensures, c .before .before .before .before .before .before .if1 .left, ← c .before .before .before .before .before .assigned .ensures, ← c .before .before .before .before .has2 .ensures, c .before .before .before .if2 .left, ← c .before .before .with .ensures, ← c .before .broken .ensures, c .if3 .taken)
+
+returns-4 : tie.Need-returns-4
+unfolding assignChecks
+returns-4 c = simp (← c .before .before .before .before .before .before .before .before .before .user-declared .ensures, ← c .before .before .before .before .before .before .before .before .declared-roles .ensures, ← c .before .before .before .before .before .before .before .has .ensures, c .before .before .before .before .before .before .if1 .left, ← c .before .before .before .before .before .assigned .ensures, ← c .before .before .before .before .has2 .ensures, c .before .before .before .if2 .left, ← c .before .before .with .ensures, ← c .before .broken .ensures, c .if3 .left)
+
+pub assign-reply-spec : {M : Type 1} → statement M
+assign-reply-spec =
+    tie.close
+    (tie.spec
+    user-declared-requires
+    declared-roles-requires
+    has-requires
+    returns
+    assigned-requires
+    has-requires-2
+    returns-2
+    with-requires
+    broken-requires
+    returns-3
+    returns-4)

@@ -1,0 +1,54 @@
+-- Each test of the code is the check of its place.
+use borrow.Author.Tests.{le-leb, lt-leb}
+use borrow.Author.Needs.{needs}
+use Rattle.policy.proofs.RuleLaws.{limits-many}
+use Rattle.rule_records.specs.Shared.{limitChecks}
+use Rattle.rule_records.proofs.limit_reply.Statement.{statement}
+use Rattle.rule_records.proofs.limit_reply.Tie as tie
+
+within-requires : tie.Need-within-requires
+within-requires c κs = search needs
+
+returns : tie.Need-returns
+unfolding limitChecks
+returns c = simp (← c .before .within .ensures, c .if1 .taken)
+
+limit-repeated-requires : tie.Need-limit-repeated-requires
+limit-repeated-requires c κs = search needs
+
+returns-2 : tie.Need-returns-2
+unfolding limitChecks
+returns-2 c = simp (← c .before .before .before .within .ensures, c .before .before .if1 .left, ← c .before .limit-repeated .ensures, c .if2 .taken)
+
+returns-3 : tie.Need-returns-3
+unfolding limitChecks
+returns-3 c = simp (← c .before .before .before .before .within .ensures, c .before .before .before .if1 .left, ← c .before .before .limit-repeated .ensures, c .before .if2 .left, c .if3 .taken)
+
+returns-4 : tie.Need-returns-4
+unfolding limitChecks
+returns-4 c = simp (← c .before .before .before .before .before .within .ensures, c .before .before .before .before .if1 .left, ← c .before .before .before .limit-repeated .ensures, c .before .before .if2 .left, c .before .if3 .left, c .if4 .taken)
+
+limit-count-requires : tie.Need-limit-count-requires
+limit-count-requires c κs = search needs
+
+returns-5 : tie.Need-returns-5
+unfolding limitChecks
+returns-5 c = simp (← c .before .before .before .before .before .before .before .within .ensures, c .before .before .before .before .before .before .if1 .left, ← c .before .before .before .before .before .limit-repeated .ensures, c .before .before .before .before .if2 .left, c .before .before .before .if3 .left, c .before .before .if4 .left, limits-many (c .before .before .before .before .before .before .before .before .before .args .p .now) (c .before .before .before .before .before .before .before .before .before .args .which) (c .before .before .before .before .before .before .before .before .before .pre .1), ← c .before .limit-count .ensures .0, le-leb _ _ (c .if5 .taken))
+
+returns-6 : tie.Need-returns-6
+unfolding limitChecks
+returns-6 c = simp (← c .before .before .before .before .before .before .before .within .ensures, c .before .before .before .before .before .before .if1 .left, ← c .before .before .before .before .before .limit-repeated .ensures, c .before .before .before .before .if2 .left, c .before .before .before .if3 .left, c .before .before .if4 .left, limits-many (c .before .before .before .before .before .before .before .before .before .args .p .now) (c .before .before .before .before .before .before .before .before .before .args .which) (c .before .before .before .before .before .before .before .before .before .pre .1), ← c .before .limit-count .ensures .0, lt-leb _ _ (c .if5 .left))
+
+pub limit-reply-spec : {M : Type 1} → statement M
+limit-reply-spec =
+    tie.close
+    (tie.spec
+    within-requires
+    returns
+    limit-repeated-requires
+    returns-2
+    returns-3
+    returns-4
+    limit-count-requires
+    returns-5
+    returns-6)
