@@ -14,7 +14,7 @@ use Rattle.paper_lower.specs.Tables.{Tasks, Block, Rules}
 use Rattle.paper_lower.proofs.ListLaws.{both, not-both, every-map, every-all, every-both, every-each, some-elim, some-of, place-none, none-place, first-none, none-first}
 use Rattle.sets.proofs.SetLaws.{Part, part-refl, part-more, meets-empty, meets-plus, meets-part, meets-new, none-common}
 use Rattle.paper_upper.specs.Rules.{own, strange, blockIn, block, found}
-use Rattle.theorems.specs.OverEntries.{ofKind, EveryTwo}
+use Rattle.theorems.specs.OverEntries.{ofKind, EveryTwo, OneBlock}
 use Rattle.theorems.specs.WellMade.{WellMade}
 use Rattle.theorems.proofs.Made.{aBlock, Made, of-each}
 
@@ -120,7 +120,7 @@ module _ (ru : Rules) (d : Set) (c : ℕ) where
 -- ---- over the records
 module _ (policy : List Record) where
   abbrev pub BlocksOf : Maybe ℕ → Set → Type 0
-  BlocksOf template d = EveryTwo (λ r q. r .a ≡ q .a → meets (r .m) d ≡ true → meets (q .m) d ≡ true → ⊥) (ofKind 12 policy)
+  BlocksOf template d = EveryTwo (OneBlock d) (ofKind 12 policy)
 
   pub blocks-empty : (m : Maybe ℕ) → BlocksOf m empty
   blocks-empty m = two-all _ (ofKind 12 policy) (λ r q i x y. false≢true (sym (meets-empty (r .m)) ∙ x))

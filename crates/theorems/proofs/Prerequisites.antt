@@ -16,12 +16,9 @@ use Rattle.paper_upper.specs.Orders.{Standing, isDone, isHeldBy, Entry, entry, 
 use Rattle.paper_upper.specs.Orders.Standing.{held, done}
 use Rattle.paper_upper.specs.Rules.{missing, before, found}
 use Rattle.paper_upper.specs.Requests.{turned}
-use Rattle.theorems.specs.OverEntries.{ofKind, Prerequisites}
+use Rattle.theorems.specs.OverEntries.{ofKind, Ready, Prerequisites}
 use Rattle.theorems.proofs.EntryLaws.{ending, claiming, releasing, finishing, where-kept, turned-same, done-turned}
 use Rattle.theorems.proofs.Made.{aPair, Made, places}
-
-abbrev Ready : List Entry → Record → Entry → Type 0
-Ready es r e = e .task ≡ r .b → has (tasksDone (e .instance) es) (r .a) ≡ true
 
 -- a done entry is held by no one
 not-held : (i t a : ℕ) (e : Entry) → isDone (e .standing) ≡ true → not (heldBy i t a e) ≡ true
