@@ -35,14 +35,18 @@ module _ (policy : List Record) (o : Orders) (h : CountLimits policy o) where
   abbrev times : ℕ → ℕ → ℕ
   times i t = many (keep (ofTask i t) (o .entries))
 
-  pub counts-claim : (k : Tasks) (ru : Rules) → Made policy k ru → (a b u c : ℕ) → (spent k (times b c) c ≡ false) ↔ CountLimits policy (claiming o a b u c)
+  pub counts-claim : (k : Tasks) (ru : Rules) → Made policy k ru → (a b u c : ℕ)
+      → (spent k (times b c) c ≡ false) ↔ CountLimits policy (claiming o a b u c)
   unfolding spent ofTask inOrder many keep
   counts-claim k ru made a b u c = (
-    λ e i. every-both (ofKind 14 policy) (λ r x y. forth i r x (eqb b i && eqb c (r .a)) refl y) (h i) (some-none _ (ofKind 14 policy) (sym (made .most (λ n. leb n (times b c)) c) ∙ e)),
-    λ w. made .most (λ n. leb n (times b c)) c ∙ none-some _ (ofKind 14 policy) (every-map (ofKind 14 policy) (λ r x. back r (eqb c (r .a)) refl x) (w b)),
+    λ e i. every-both (ofKind 14 policy) (λ r x y. forth i r x (eqb b i && eqb c (r .a)) refl y) (h i)
+        (some-none _ (ofKind 14 policy) (sym (made .most (λ n. leb n (times b c)) c) ∙ e)),
+    λ w. made .most (λ n. leb n (times b c)) c ∙ none-some _ (ofKind 14 policy)
+        (every-map (ofKind 14 policy) (λ r x. back r (eqb c (r .a)) refl x) (w b)),
   )
     where
-      forth : (i : ℕ) (r : Record) → AtMost (o .entries) i r → (x : Bool) → eqb b i && eqb c (r .a) ≡ x → eqb c (r .a) && leb (r .n) (times b c) ≡ false
+      forth : (i : ℕ) (r : Record) → AtMost (o .entries) i r → (x : Bool) → eqb b i && eqb c (r .a) ≡ x
+          → eqb c (r .a) && leb (r .n) (times b c) ≡ false
           → AtMost (entry b u c (held a) ∷ o .entries) i r
       forth i r old true e y =
           let s = both (eqb b i) (eqb c (r .a)) e in

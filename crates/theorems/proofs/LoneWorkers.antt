@@ -40,9 +40,13 @@ module _ (policy : List Record) where
     all-in : (j : ℕ) (d : Set) → EveryTask policy j d ↔ ((t : ℕ) → has (tasksOf k j) t ≡ true → has d t ≡ true)
     unfolding tasksOf
     all-in j d = (
-      λ h t e. some-elim (λ q. eqb t (q .a) && eqb (q .b) j) (has d t ≡ true) (ofKind 6 policy) (sym (made .template (λ n. eqb n j) t) ∙ in-collect 64 _ t e .1)
-          (every-map (ofKind 6 policy) (λ q f x. let s = both (eqb t (q .a)) (eqb (q .b) j) x in ap (has d) (eqb-true _ _ (s .0)) ∙ f (eqb-true _ _ (s .1))) h),
-      λ h. every-map (ofKind 6 policy) (λ q f e. h (q .a) (at (q .a) (made .template (λ n. eqb n j) (q .a) ∙ f (q .a) (both-are (eq-eqb (q .a) (q .a) refl) (eq-eqb (q .b) j e)))))
+      λ h t e. some-elim (λ q. eqb t (q .a) && eqb (q .b) j) (has d t ≡ true) (ofKind 6 policy)
+          (sym (made .template (λ n. eqb n j) t) ∙ in-collect 64 _ t e .1)
+          (every-map (ofKind 6 policy) (λ q f x.
+          let s = both (eqb t (q .a)) (eqb (q .b) j) x in
+          ap (has d) (eqb-true _ _ (s .0)) ∙ f (eqb-true _ _ (s .1))) h),
+      λ h. every-map (ofKind 6 policy)
+          (λ q f e. h (q .a) (at (q .a) (made .template (λ n. eqb n j) (q .a) ∙ f (q .a) (both-are (eq-eqb (q .a) (q .a) refl) (eq-eqb (q .b) j e)))))
           (some-of (λ t q. eqb t (q .a) && eqb (q .b) j) (ofKind 6 policy)),
     )
       where
@@ -76,7 +80,8 @@ module _ (policy : List Record) where
     lone-claim m d c = (
       λ h. every-map (ofKind 13 policy) (λ r f i all.
           let w : k .banned (r .a) && within (minus (tasksOf k (r .a)) c) d ≡ false = rw i at h in
-          true≢false (sym (others-in (r .a) d c .1 all) ∙ not-both _ _ w (made .banned (r .a) ∙ f (r .a) (eq-eqb (r .a) (r .a) refl)))) (some-of (λ j r. eqb j (r .a)) (ofKind 13 policy)),
+          true≢false (sym (others-in (r .a) d c .1 all) ∙ not-both _ _ w (made .banned (r .a) ∙ f (r .a) (eq-eqb (r .a) (r .a) refl))))
+          (some-of (λ j r. eqb j (r .a)) (ofKind 13 policy)),
       λ h. back m h,
     )
       where
@@ -84,7 +89,9 @@ module _ (policy : List Record) where
         broken j h true e =
             let s = both (k .banned j) (within (minus (tasksOf k j) c) d) e in
             some-elim (λ r. eqb j (r .a)) (true ≡ false) (ofKind 13 policy) (sym (made .banned j) ∙ s .0)
-            (every-map (ofKind 13 policy) (λ r f x. let i = eqb-true j (r .a) x in absurd (f (ap (λ (n : ℕ). just n) i) (rw (← i) (others-in j d c .0 (s .1))))) h)
+            (every-map (ofKind 13 policy) (λ r f x.
+            let i = eqb-true j (r .a) x in
+            absurd (f (ap (λ (n : ℕ). just n) i) (rw (← i) (others-in j d c .0 (s .1))))) h)
         broken j h false e = refl
 
         back : (m : Maybe ℕ) → LoneOf m (plus d c) → alone k m d c ≡ false

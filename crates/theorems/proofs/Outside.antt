@@ -38,7 +38,8 @@ unfolding hearAll hear filled
 heard-records p [] a = refl
 heard-records p (r ∷ rs) a =
     ap (λ (x : Told). hearAll x rs)
-    (fits-rows (λ n p r x. chosen telling n .next (held (engineOf p)) r ≡ held (engineOf x)) (every-map policyKinds (λ k h p r g c. h p r) load-rows) p r (a .0))
+    (fits-rows (λ n p r x. chosen telling n .next (held (engineOf p)) r ≡ held (engineOf x))
+    (every-map policyKinds (λ k h p r g c. h p r) load-rows) p r (a .0))
     ∙ heard-records (step p r) rs (a .1)
 
 -- ---- the whole

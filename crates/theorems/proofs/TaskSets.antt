@@ -38,7 +38,8 @@ module _ (policy : List Record) where
   pub sets-less : (m : Maybe ℕ) (d e : Set) → Part d e → SetsOf m e → SetsOf m d
   sets-less m d e p h = every-map (ofKind 11 policy) (λ r x. let o = overlap-part (r .m) d e p in omega arith) h
 
-  pub sets-claim : (k : Tasks) (ru : Rules) → Made policy k ru → (m : Maybe ℕ) (d : Set) (c : ℕ) → SetsOf m d → (found (separation ru d c) ≡ false) ↔ SetsOf m (plus d c)
+  pub sets-claim : (k : Tasks) (ru : Rules) → Made policy k ru → (m : Maybe ℕ) (d : Set) (c : ℕ) → SetsOf m d
+      → (found (separation ru d c) ≡ false) ↔ SetsOf m (plus d c)
   unfolding separation
   sets-claim k ru made m d c h =
       let x = places (crowded d c) aLimit (ru .taskSets) (ofKind 11 policy) (made .taskSets) in (

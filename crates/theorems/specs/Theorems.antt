@@ -92,9 +92,9 @@ RulesAreWellMade =
 abbrev pub LedgerIsSound : Type 0
 LedgerIsSound = AfterEvery (λ policy requests. Ledger (tablesAfter policy requests .orders))
 
--- "changing rules after a load" is "not offered"
+-- "changing rules after a load are not offered"
+abbrev pub SameRules : Engine → Engine → Type 0
+SameRules t x = (x .lower .policy .tasks ≡ t .lower .policy .tasks) × (x .lower .policy .rules ≡ t .lower .policy .rules)
+
 abbrev pub RequestsChangeNoRule : Type 0
-RequestsChangeNoRule =
-    (t : Engine) (s : Bytes)
-    → (request t s .tables .lower .policy .tasks ≡ t .lower .policy .tasks)
-    × (request t s .tables .lower .policy .rules ≡ t .lower .policy .rules)
+RequestsChangeNoRule = (t : Engine) (s : Bytes) → SameRules t (request t s .tables)
