@@ -18,7 +18,7 @@ use Rattle.paper_upper.specs.Requests.{unknown, claimChecks, upperKinds}
 use Rattle.paper_upper.specs.Engine.{requestKinds, request}
 use Rattle.theorems.specs.Outside.{telling, hear}
 use Rattle.theorems.specs.OverEntries.{claimRules}
-use Rattle.theorems.specs.Theorems.{held, Reaches, FirstBroken}
+use Rattle.theorems.specs.Theorems.{shown, Reaches, FirstBroken}
 use Rattle.theorems.proofs.EntryLaws.{claiming}
 use Rattle.theorems.proofs.Meets.{reaches-passed, first-broken}
 use Rattle.theorems.proofs.Sound.{rules-meet}
@@ -62,12 +62,12 @@ module _ (t : Engine) (s : Bytes) (e : decode s .kind ≡ 50) where
       (reaches-passed FULL (early ++ rules) full (omega arith) (omega arith) (subst (Reaches FULL) claim-reply h))
 
   -- the orders, were it granted
-  entered : hear (held t) r .orders ≡ claiming (t .orders) (r .a) (r .b) (t .lower .sessions .user (r .a)) (r .c)
+  entered : hear (shown t) r .orders ≡ claiming (t .orders) (r .a) (r .b) (t .lower .sessions .user (r .a)) (r .c)
   unfolding hear telling chosen
-  entered = ap (λ (n : ℕ). chosen telling n .next (held t) r .orders) e
+  entered = ap (λ (n : ℕ). chosen telling n .next (shown t) r .orders) e
 
   pub first-of-six : (policy : List Record) → Kept policy t → Reaches BEFORE (request t s .reply)
-      → FirstBroken claimRules policy (hear (held t) r .orders) (request t s .reply)
+      → FirstBroken claimRules policy (hear (shown t) r .orders) (request t s .reply)
   unfolding ruleChecks
   first-of-six policy k h =
       rw (entered, rule-reply h)

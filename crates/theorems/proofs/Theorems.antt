@@ -18,23 +18,23 @@ use Rattle.paper_upper.specs.Engine.{raised, requestKinds, request}
 use Rattle.theorems.specs.Outside.{Told}
 use Rattle.theorems.specs.OverEntries.{ofKind}
 use Rattle.theorems.specs.InUse.{inUse}
-use Rattle.theorems.specs.Theorems.{tablesAfter, saidAfter, OrdersKeepTheRules, ClerksKeepTheLimits, ClaimsMeetTheFirst, EntriesAreCounted, RulesAreWellMade, LedgerIsSound, SameRules, RequestsChangeNoRule}
+use Rattle.theorems.specs.Theorems.{tablesAfter, saidAfter, OrdersKeepTheRules, ClerksKeepTheLimits, FirstRuleBroken, EntriesInUse, RulesAreWellMade, LedgerIsSound, SameRules, RequestsChangeNoRule}
 use Rattle.theorems.proofs.Rows.{_⨾_, Rows, numbered, answer-rows}
 use Rattle.theorems.proofs.Made.{aLimit, of-each}
 use Rattle.theorems.proofs.Sound.{kept}
 use Rattle.theorems.proofs.Keeps.{kept-after}
-use Rattle.theorems.proofs.Outside.{told-is-held}
+use Rattle.theorems.proofs.Outside.{told-is-true}
 use Rattle.theorems.proofs.FirstRule.{first-of-six, full-reply}
 use Rattle.theorems.proofs.InUse.{counted}
 
 pub orders-keep-the-rules : OrdersKeepTheRules
 orders-keep-the-rules policy accepted ss =
-    rw (told-is-held policy accepted ss) (kept (recordsOf policy) (tablesAfter policy ss .orders) (kept-after policy accepted ss .1))
+    rw (told-is-true policy accepted ss) (kept (recordsOf policy) (tablesAfter policy ss .orders) (kept-after policy accepted ss .1))
 
 pub clerks-keep-the-limits : ClerksKeepTheLimits
 clerks-keep-the-limits policy accepted ss =
     let k = kept-after policy accepted ss in
-    rw (told-is-held policy accepted ss)
+    rw (told-is-true policy accepted ss)
     (record {
       statics = λ u. of-each (λ l. overlap (l .members) (tablesAfter policy ss .lower .policy .people .assigned u) ≤ l .n) aLimit
           (ofKind 9 (recordsOf policy)) (rw (k .0 .made .statics) at (k .2 .statics u));
@@ -64,16 +64,16 @@ requests-change-no-rule t s =
     answer-rows requestForms (λ n t r x. SameRules t x) requestKinds numbered rows t s (λ q x. SameRules t x) (λ x h. h) (λ q. (refl, refl))
 
 -- ---- claims
-pub claims-meet-the-first : ClaimsMeetTheFirst
-claims-meet-the-first policy accepted ss s e h =
-    rw (told-is-held policy accepted ss) (first-of-six (tablesAfter policy ss) s e (recordsOf policy) (kept-after policy accepted ss) h)
+pub first-rule-broken : FirstRuleBroken
+first-rule-broken policy accepted ss s e h =
+    rw (told-is-true policy accepted ss) (first-of-six (tablesAfter policy ss) s e (recordsOf policy) (kept-after policy accepted ss) h)
 
-pub entries-are-counted : EntriesAreCounted
-entries-are-counted policy accepted ss =
+pub entries-in-use : EntriesInUse
+entries-in-use policy accepted ss =
     let c = counted policy accepted ss in
     let l = ledger-is-sound policy accepted ss .room in
     record {
-      entries = c ∙ ap (λ (x : Told). many (x .orders .entries)) (sym (told-is-held policy accepted ss));
+      entries = c ∙ ap (λ (x : Told). many (x .orders .entries)) (sym (told-is-true policy accepted ss));
       room = omega arith;
       full = λ s e h. let q = full-reply (tablesAfter policy ss) s e h in
           (λ w. at c l (leb 2048 used) refl (sym q ∙ w), λ w. q ∙ rw (le-leb 2048 used (omega arith)));
