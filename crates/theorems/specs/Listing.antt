@@ -17,9 +17,9 @@ after-nine = refl
 
 -- two entries are in use, and none after the last request
 pub in-use-then : inUse (take 9 (listing .requests)) ≡ 2
-unfolding lowerOpen wordsOpen listing followed noTally counting count inUse
+unfolding lowerOpen listing followed noTally counting count inUse
 in-use-then = refl
 
 pub in-use-last : inUse (listing .requests) ≡ 0
-unfolding lowerOpen wordsOpen listing followed noTally counting count inUse
+unfolding lowerOpen listing followed noTally counting count inUse
 in-use-last = refl
