@@ -14,7 +14,7 @@ use Rattle.paper_lower.specs.Tables.{Tasks, Block, Rules}
 use Rattle.paper_lower.proofs.ListLaws.{both, not-both, every-map, every-all, every-both, every-each, some-elim, some-of, place-none, none-place, first-none, none-first}
 use Rattle.sets.proofs.SetLaws.{Part, part-refl, part-more, meets-empty, meets-plus, meets-part, meets-new, none-common}
 use Rattle.paper_upper.specs.Rules.{own, strange, blockIn, block, found}
-use Rattle.theorems.specs.OverEntries.{ofKind, EveryTwo}
+use Rattle.theorems.specs.OverEntries.{ofKind, EveryTwo, OneBlock}
 use Rattle.theorems.specs.WellMade.{WellMade}
 use Rattle.theorems.proofs.Made.{aBlock, Made, of-each}
 
@@ -45,7 +45,8 @@ module _ {A : Type 0} where
       (every-both xs (λ y p q. (p, q .0)) (h .0 .1) (h .1), two-of-every R xs (every-map xs (λ y q. q .1) (h .1)))
 
   -- and back, for two that differ
-  every-of-two : (R D : A → A → Type 0) → ((x : A) → D x x → ⊥) → ((x y : A) → R x y → R y x) → (xs : List A) → EveryTwo R xs → Every (λ x. Every (λ y. D x y → R x y) xs) xs
+  every-of-two : (R D : A → A → Type 0) → ((x : A) → D x x → ⊥) → ((x y : A) → R x y → R y x) → (xs : List A) → EveryTwo R xs
+      → Every (λ x. Every (λ y. D x y → R x y) xs) xs
   every-of-two R D irr turn [] h = tt
   every-of-two R D irr turn (x ∷ xs) h = (
     (λ d. absurd (irr x d), every-map xs (λ y r d. r) (h .0)),
@@ -69,14 +70,18 @@ module _ (ru : Rules) (d : Set) (c : ℕ) where
       at true n e z = ap not (eq-eqb n 0 z)
       at false n e z = absurd (false≢true e)
 
-      go : (k : Block) → k .partitioning < 16 → ((q : ℕ) → own q c k ≡ true → some (own q c) (ru .blocks) ≡ true) → (b : Bool) → has (k .tasks) c ≡ b → Every (λ l. Free d c k l) (ru .blocks)
+      go : (k : Block) → k .partitioning < 16 → ((q : ℕ) → own q c k ≡ true → some (own q c) (ru .blocks) ≡ true) → (b : Bool) → has (k .tasks) c ≡ b
+          → Every (λ l. Free d c k l) (ru .blocks)
       go k l s true e =
           let z : blockIn ru d c (k .partitioning) ≡ 0 = rw zero-add at (first-none 0 16 (blockIn ru d c) h (k .partitioning) l) in
-          every-map (ru .blocks) (λ x n _ m y. not-both (eqb (x .partitioning) (k .partitioning) && not (has (x .tasks) c)) (meets (x .tasks) d) n (rw (eq-eqb _ _ (sym m), y)))
-          (place-none (strange (k .partitioning) d c) (ru .blocks) (at (some (own (k .partitioning) c) (ru .blocks)) _ (s (k .partitioning) (rw (eq-eqb (k .partitioning) (k .partitioning) refl, e))) z))
+          every-map (ru .blocks) (λ x n _ m y.
+          not-both (eqb (x .partitioning) (k .partitioning) && not (has (x .tasks) c)) (meets (x .tasks) d) n (rw (eq-eqb _ _ (sym m), y)))
+          (place-none (strange (k .partitioning) d c) (ru .blocks)
+          (at (some (own (k .partitioning) c) (ru .blocks)) _ (s (k .partitioning) (rw (eq-eqb (k .partitioning) (k .partitioning) refl, e))) z))
       go k l s false e = every-all (ru .blocks) (λ x i. absurd (false≢true (sym e ∙ i)))
 
-  one-pair : (k l : Block) → (k .partitioning ≡ l .partitioning → meets (k .tasks) (l .tasks) ≡ false) → Free d c k l × Free d c l k → Single d k l → Single (plus d c) k l
+  one-pair : (k l : Block) → (k .partitioning ≡ l .partitioning → meets (k .tasks) (l .tasks) ≡ false) → Free d c k l × Free d c l k → Single d k l
+      → Single (plus d c) k l
   unfolding Free
   one-pair k l apart free s e x y = go (has (k .tasks) c) refl (has (l .tasks) c) refl
     where
@@ -89,7 +94,8 @@ module _ (ru : Rules) (d : Set) (c : ℕ) where
   block-forth : (f : ℕ → Maybe ℕ) → WellMade f ru → block ru d c ≡ 0 → EveryTwo (Single d) (ru .blocks) → EveryTwo (Single (plus d c)) (ru .blocks)
   block-forth f well z h =
       two-both (λ k l. Single d k l → Single (plus d c) k l) (Single d) (Single (plus d c)) (ru .blocks) (λ k l g s. g s)
-      (two-both _ (λ k l. Free d c k l × Free d c l k) _ (ru .blocks) one-pair (well .blocks .disjoint) (two-of-every (Free d c) (ru .blocks) (nothing-strange (well .blocks .partitionings) z))) h
+      (two-both _ (λ k l. Free d c k l × Free d c l k) _ (ru .blocks) one-pair (well .blocks .disjoint)
+      (two-of-every (Free d c) (ru .blocks) (nothing-strange (well .blocks .partitionings) z))) h
 
   block-back : EveryTwo (Single (plus d c)) (ru .blocks) → block ru d c ≡ 0
   unfolding block blockIn own strange
@@ -108,7 +114,8 @@ module _ (ru : Rules) (d : Set) (c : ℕ) where
           let i = both (eqb (k .partitioning) q) (has (k .tasks) c) e in
           let y = both (eqb (l .partitioning) q && not (has (l .tasks) c)) (meets (l .tasks) d) x in
           let z = both (eqb (l .partitioning) q) (not (has (l .tasks) c)) (y .0) in
-          absurd (s (i .1, not-true _ (z .1)) (eqb-true _ _ (i .0) ∙ sym (eqb-true _ _ (z .0))) (meets-new (k .tasks) d c (i .1)) (meets-part (l .tasks) d (plus d c) (part-more d d c (part-refl d)) (y .1)))
+          absurd (s (i .1, not-true _ (z .1)) (eqb-true _ _ (i .0) ∙ sym (eqb-true _ _ (z .0))) (meets-new (k .tasks) d c (i .1))
+          (meets-part (l .tasks) d (plus d c) (part-more d d c (part-refl d)) (y .1)))
 
       go : (q : ℕ) (b : Bool) → some (own q c) (ru .blocks) ≡ b → cond b (place (strange q d c) (ru .blocks)) 0 ≡ 0
       go q true e =
@@ -120,7 +127,7 @@ module _ (ru : Rules) (d : Set) (c : ℕ) where
 -- ---- over the records
 module _ (policy : List Record) where
   abbrev pub BlocksOf : Maybe ℕ → Set → Type 0
-  BlocksOf template d = EveryTwo (λ r q. r .a ≡ q .a → meets (r .m) d ≡ true → meets (q .m) d ≡ true → ⊥) (ofKind 12 policy)
+  BlocksOf template d = EveryTwo (OneBlock d) (ofKind 12 policy)
 
   pub blocks-empty : (m : Maybe ℕ) → BlocksOf m empty
   blocks-empty m = two-all _ (ofKind 12 policy) (λ r q i x y. false≢true (sym (meets-empty (r .m)) ∙ x))
@@ -128,7 +135,8 @@ module _ (policy : List Record) where
   pub blocks-less : (m : Maybe ℕ) (d e : Set) → Part d e → BlocksOf m e → BlocksOf m d
   blocks-less m d e p h = two-map _ _ (ofKind 12 policy) (λ r q s i x y. s i (meets-part (r .m) d e p x) (meets-part (q .m) d e p y)) h
 
-  pub blocks-claim : (k : Tasks) (ru : Rules) → Made policy k ru → WellMade (k .template) ru → (m : Maybe ℕ) (d : Set) (c : ℕ) → BlocksOf m d → (found (block ru d c) ≡ false) ↔ BlocksOf m (plus d c)
+  pub blocks-claim : (k : Tasks) (ru : Rules) → Made policy k ru → WellMade (k .template) ru → (m : Maybe ℕ) (d : Set) (c : ℕ) → BlocksOf m d
+      → (found (block ru d c) ≡ false) ↔ BlocksOf m (plus d c)
   blocks-claim k ru made well m d c h = (
     λ e. records (plus d c) .1 (block-forth ru d c (k .template) well (eqb-true _ _ (not-false _ e)) (records d .0 h)),
     λ w. ap not (eq-eqb (block ru d c) 0 (block-back ru d c (records (plus d c) .0 w))),

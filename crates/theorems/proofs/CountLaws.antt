@@ -13,7 +13,8 @@ module _ {A : Type 0} where
   count-imp p q [] f = omega arith
   count-imp p q (x ∷ xs) f = go (p x) refl (q x) refl (count-imp p q xs f)
     where
-      go : (b : Bool) → p x ≡ b → (c : Bool) → q x ≡ c → many (keep p xs) ≤ many (keep q xs) → many (cond b (x ∷ keep p xs) (keep p xs)) ≤ many (cond c (x ∷ keep q xs) (keep q xs))
+      go : (b : Bool) → p x ≡ b → (c : Bool) → q x ≡ c → many (keep p xs) ≤ many (keep q xs)
+          → many (cond b (x ∷ keep p xs) (keep p xs)) ≤ many (cond c (x ∷ keep q xs) (keep q xs))
       go true e true d h = omega arith
       go true e false d h = absurd (true≢false (sym (f x e) ∙ d))
       go false e true d h = omega arith
@@ -41,7 +42,8 @@ module _ {A : Type 0} where
   count-each p f [] = refl
   count-each p f (x ∷ xs) = go (p (f x)) (count-each p f xs)
     where
-      go : (b : Bool) → many (keep p (each f xs)) ≡ many (keep (λ x. p (f x)) xs) → many (cond b (f x ∷ keep p (each f xs)) (keep p (each f xs))) ≡ many (cond b (x ∷ keep (λ x. p (f x)) xs) (keep (λ x. p (f x)) xs))
+      go : (b : Bool) → many (keep p (each f xs)) ≡ many (keep (λ x. p (f x)) xs)
+          → many (cond b (f x ∷ keep p (each f xs)) (keep p (each f xs))) ≡ many (cond b (x ∷ keep (λ x. p (f x)) xs) (keep (λ x. p (f x)) xs))
       go true h = ap suc h
       go false h = h
 

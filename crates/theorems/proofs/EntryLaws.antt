@@ -45,7 +45,8 @@ unfolding some keep
 some-keep p q [] = refl
 some-keep p q (x ∷ xs) = go (q x) (some-keep p q xs)
   where
-    go : (b : Bool) → some p (keep q xs) ≡ some (λ x. q x && p x) xs → some p (cond b (x ∷ keep q xs) (keep q xs)) ≡ (b && p x) || some (λ x. q x && p x) xs
+    go : (b : Bool) → some p (keep q xs) ≡ some (λ x. q x && p x) xs
+        → some p (cond b (x ∷ keep q xs) (keep q xs)) ≡ (b && p x) || some (λ x. q x && p x) xs
     go true h = ap (λ b. p x || b) h
     go false h = h
 
@@ -65,7 +66,8 @@ unfolding tasksWhere some
 has-where p [] t = has-empty t
 has-where p (e ∷ es) t = go (p e) (has-where p es t)
   where
-    go : (b : Bool) → has (tasksWhere p es) t ≡ some (λ e. p e && eqb t (e .task)) es → has (cond b (plus (tasksWhere p es) (e .task)) (tasksWhere p es)) t ≡ (b && eqb t (e .task)) || some (λ e. p e && eqb t (e .task)) es
+    go : (b : Bool) → has (tasksWhere p es) t ≡ some (λ e. p e && eqb t (e .task)) es
+        → has (cond b (plus (tasksWhere p es) (e .task)) (tasksWhere p es)) t ≡ (b && eqb t (e .task)) || some (λ e. p e && eqb t (e .task)) es
     go true h = has-plus _ (e .task) t ∙ ap (λ b. b || eqb t (e .task)) h ∙ or-swap _ (eqb t (e .task))
     go false h = h
 
@@ -83,13 +85,19 @@ where-kept p q es f =
     ∙ some-imp (λ e. p e && eqb t (e .task)) _ es (λ e x. rw (f e (both (p e) (eqb t (e .task)) x .0)) x) (sym (has-where p es t) ∙ h))
 
 -- ---- done changes nothing but the standing
-pub turned-same : {A : Type 0} (f : Entry → A) (i t a : ℕ) (e : Entry) → f (entry (e .instance) (e .user) (e .task) done) ≡ f e → f (turned i t a e) ≡ f e
+abbrev pub asDone : Entry → Entry
+asDone e = entry (e .instance) (e .user) (e .task) done
+
+pub turned-cases : (P : Entry → Type 0) (i t a : ℕ) (e : Entry) → P (asDone e) → P e → P (turned i t a e)
 unfolding turned
-turned-same f i t a e h = go (heldBy i t a e)
+turned-cases P i t a e p q = go (heldBy i t a e)
   where
-    go : (b : Bool) → f (cond b (entry (e .instance) (e .user) (e .task) done) e) ≡ f e
-    go true = h
-    go false = refl
+    go : (b : Bool) → P (cond b (asDone e) e)
+    go true = p
+    go false = q
+
+pub turned-same : {A : Type 0} (f : Entry → A) (i t a : ℕ) (e : Entry) → f (asDone e) ≡ f e → f (turned i t a e) ≡ f e
+turned-same f i t a e h = turned-cases (λ x. f x ≡ f e) i t a e h refl
 
 pub by-turned : (i u b c a : ℕ) (es : List Entry) → tasksBy i u (each (turned b c a) es) ≡ tasksBy i u es
 unfolding tasksBy tasksWhere each ofUser inOrder
@@ -98,21 +106,23 @@ by-turned i u b c a (e ∷ es) =
     rw (turned-same (ofUser i u) b c a e refl, turned-same (λ e. e .task) b c a e refl, by-turned i u b c a es)
 
 pub done-turned : (i b c a : ℕ) (es : List Entry) → Part (tasksDone i es) (tasksDone i (each (turned b c a) es))
-unfolding tasksDone inOrder turned isDone
+unfolding tasksDone inOrder isDone
 done-turned i b c a es =
     part-has _ _ (λ t h.
     has-where _ (each (turned b c a) es) t ∙ some-each _ (turned b c a) es
-    ∙ some-imp (λ e. (inOrder i e && isDone (e .standing)) && eqb t (e .task)) _ es (λ e. go t e (heldBy b c a e)) (sym (has-where _ es t) ∙ h))
+    ∙ some-imp (test t) _ es (λ e k. turned-cases (λ x. test t x ≡ true) b c a e (now t e k) k) (sym (has-where _ es t) ∙ h))
   where
-    go : (t : ℕ) (e : Entry) (x : Bool) → (eqb (e .instance) i && isDone (e .standing)) && eqb t (e .task) ≡ true
-        → (eqb (cond x (entry (e .instance) (e .user) (e .task) done) e .instance) i && isDone (cond x (entry (e .instance) (e .user) (e .task) done) e .standing)) && eqb t (cond x (entry (e .instance) (e .user) (e .task) done) e .task) ≡ true
-    go t e true h =
-        let s = both (eqb (e .instance) i && isDone (e .standing)) (eqb t (e .task)) h in
-        rw (both (eqb (e .instance) i) (isDone (e .standing)) (s .0) .0, s .1)
-    go t e false h = h
+    test : ℕ → Entry → Bool
+    test t e = (inOrder i e && isDone (e .standing)) && eqb t (e .task)
+
+    now : (t : ℕ) (e : Entry) → test t e ≡ true → test t (asDone e) ≡ true
+    now t e h =
+        let s = both (inOrder i e && isDone (e .standing)) (eqb t (e .task)) h in
+        rw (both (inOrder i e) (isDone (e .standing)) (s .0) .0, s .1)
 
 -- ---- one entry more
-pub claimed-by : (P : ℕ → ℕ → Set → Type 0) (es : List Entry) (a b u c : ℕ) → P b u (plus (tasksBy b u es) c) → ((i v : ℕ) → P i v (tasksBy i v es)) → (i v : ℕ) → P i v (tasksBy i v (entry b u c (held a) ∷ es))
+pub claimed-by : (P : ℕ → ℕ → Set → Type 0) (es : List Entry) (a b u c : ℕ) → P b u (plus (tasksBy b u es) c) → ((i v : ℕ) → P i v (tasksBy i v es))
+    → (i v : ℕ) → P i v (tasksBy i v (entry b u c (held a) ∷ es))
 unfolding tasksBy tasksWhere ofUser inOrder
 claimed-by P es a b u c new old i v = go (eqb b i && eqb u v) refl
   where
@@ -125,7 +135,8 @@ unfolding tasksBy tasksWhere ofUser inOrder
 by-claimant es a b u c = rw (eq-eqb b b refl, eq-eqb u u refl)
 
 -- ---- an order that is not open has no entries
-pub no-entries : (f : ℕ → Maybe ℕ) (a u : ℕ) (es : List Entry) → Every (λ e. there (f (e .instance)) ≡ true) es → there (f a) ≡ false → tasksBy a u es ≡ empty
+pub no-entries : (f : ℕ → Maybe ℕ) (a u : ℕ) (es : List Entry) → Every (λ e. there (f (e .instance)) ≡ true) es → there (f a) ≡ false
+    → tasksBy a u es ≡ empty
 unfolding tasksBy tasksWhere ofUser inOrder
 no-entries f a u [] h n = refl
 no-entries f a u (e ∷ es) h n =

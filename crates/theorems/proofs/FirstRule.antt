@@ -18,7 +18,7 @@ use Rattle.paper_upper.specs.Requests.{unknown, claimChecks, upperKinds}
 use Rattle.paper_upper.specs.Engine.{requestKinds, request}
 use Rattle.theorems.specs.Outside.{telling, hear}
 use Rattle.theorems.specs.OverEntries.{claimRules}
-use Rattle.theorems.specs.Theorems.{held, Reaches, FirstBroken}
+use Rattle.theorems.specs.Theorems.{shown, Reaches, FirstBroken}
 use Rattle.theorems.proofs.EntryLaws.{claiming}
 use Rattle.theorems.proofs.Meets.{reaches-passed, first-broken}
 use Rattle.theorems.proofs.Sound.{rules-meet}
@@ -38,7 +38,9 @@ module _ (t : Engine) (s : Bytes) (e : decode s .kind ≡ 50) where
       ∷ [])
 
   abbrev rules : List Check
-  rules = ruleChecks (t .lower .policy .tasks) (t .lower .policy .rules) (t .orders .opened (r .b)) (t .orders .entries) (r .b) (t .lower .sessions .user (r .a)) (r .c)
+  rules =
+      ruleChecks (t .lower .policy .tasks) (t .lower .policy .rules) (t .orders .opened (r .b)) (t .orders .entries) (r .b)
+      (t .lower .sessions .user (r .a)) (r .c)
 
   abbrev full : List Check
   full = (leb 2048 (many (t .orders .entries)), FULL) ∷ []
@@ -49,21 +51,27 @@ module _ (t : Engine) (s : Bytes) (e : decode s .kind ≡ 50) where
 
   pub rule-reply : Reaches BEFORE (request t s .reply) → request t s .reply ≡ first (rules ++ full)
   unfolding formChecks
-  rule-reply h = claim-reply ∙ first-passed early (rules ++ full) (reaches-passed BEFORE early (rules ++ full) (omega arith) (omega arith) (subst (Reaches BEFORE) claim-reply h))
+  rule-reply h =
+      claim-reply ∙ first-passed early (rules ++ full)
+      (reaches-passed BEFORE early (rules ++ full) (omega arith) (omega arith) (subst (Reaches BEFORE) claim-reply h))
 
   pub full-reply : Reaches FULL (request t s .reply) → request t s .reply ≡ first full
   unfolding formChecks ruleChecks
-  full-reply h = claim-reply ∙ first-passed (early ++ rules) full (reaches-passed FULL (early ++ rules) full (omega arith) (omega arith) (subst (Reaches FULL) claim-reply h))
+  full-reply h =
+      claim-reply ∙ first-passed (early ++ rules) full
+      (reaches-passed FULL (early ++ rules) full (omega arith) (omega arith) (subst (Reaches FULL) claim-reply h))
 
   -- the orders, were it granted
-  entered : hear (held t) r .orders ≡ claiming (t .orders) (r .a) (r .b) (t .lower .sessions .user (r .a)) (r .c)
+  entered : hear (shown t) r .orders ≡ claiming (t .orders) (r .a) (r .b) (t .lower .sessions .user (r .a)) (r .c)
   unfolding hear telling chosen
-  entered = ap (λ (n : ℕ). chosen telling n .next (held t) r .orders) e
+  entered = ap (λ (n : ℕ). chosen telling n .next (shown t) r .orders) e
 
-  pub first-of-six : (policy : List Record) → Kept policy t → Reaches BEFORE (request t s .reply) → FirstBroken claimRules policy (hear (held t) r .orders) (request t s .reply)
+  pub first-of-six : (policy : List Record) → Kept policy t → Reaches BEFORE (request t s .reply)
+      → FirstBroken claimRules policy (hear (shown t) r .orders) (request t s .reply)
   unfolding ruleChecks
   first-of-six policy k h =
       rw (entered, rule-reply h)
       (first-broken policy _ rules full claimRules
-      (rules-meet policy (t .orders) (k .1) (t .lower .policy .tasks) (t .lower .policy .rules) (k .0 .made) (k .0 .well) (r .a) (r .b) (t .lower .sessions .user (r .a)) (r .c))
+      (rules-meet policy (t .orders) (k .1) (t .lower .policy .tasks) (t .lower .policy .rules) (k .0 .made) (k .0 .well) (r .a) (r .b)
+      (t .lower .sessions .user (r .a)) (r .c))
       (omega arith) (omega arith))

@@ -1,12 +1,12 @@
 -- All that holds after an accepted load and is kept by every request.
 use Prim.Native.Nat.{ℕ}
 use mathlib.Core.Path.{_≡_, refl}
-use mathlib.Core.Bool.{Bool, true, false, not}
+use mathlib.Core.Bool.{Bool, true, false, not, _||_}
 use mathlib.Core.List.{List, [], _∷_}
 use native.Mathlib.Omega.{arith}
 use borrow.Author.Tests.{not-false}
 use lib.Dec.{ltb, leb}
-use Rattle.paper_lower.specs.Sets.{has, within}
+use Rattle.paper_lower.specs.Sets.{has}
 use Rattle.paper_lower.specs.Lists.{Maybe, holds, there, many, each}
 use Rattle.paper_lower.specs.Lists.Maybe.{none, just}
 use Rattle.paper_lower.specs.Checks.{FULL}
@@ -55,12 +55,17 @@ is-open t a b c h = there-if _ (t .orders .opened b) (not-false _ (or-none (not 
 claim-row : (policy : List Record) (t : Engine) (a b c : ℕ) → Passed (claimChecks t a b c) → Kept policy t → Kept policy (claimNext t a b c)
 unfolding claimChecks claimNext
 claim-row policy t a b c p i =
-    let rules = ruleChecks (t .lower .policy .tasks) (t .lower .policy .rules) (t .orders .opened b) (t .orders .entries) b (t .lower .sessions .user a) c in (
-      i .0,
-      sound-claim policy (t .orders) (i .1) (t .lower .policy .tasks) (t .lower .policy .rules) (i .0 .made) (i .0 .well) a b (t .lower .sessions .user a) c
-          (is-open t a b c (p .0)) (p .1 .0) (every-right (λ x. x .0 ≡ false) rules ((leb 2048 (many (t .orders .entries)), FULL) ∷ []) (p .1 .1 .1) .0) (every-left (λ x. x .0 ≡ false) rules _ (p .1 .1 .1)),
-      i .2,
-    )
+    let k = t .lower .policy .tasks in
+    let ru = t .lower .policy .rules in
+    let u = t .lower .sessions .user a in
+    let rules = ruleChecks k ru (t .orders .opened b) (t .orders .entries) b u c in
+    let room = every-right (λ x. x .0 ≡ false) rules ((leb 2048 (many (t .orders .entries)), FULL) ∷ []) (p .1 .1 .1) in
+    let passed = every-left (λ x. x .0 ≡ false) rules _ (p .1 .1 .1) in
+    (i .0, sound-claim policy (t .orders) (i .1) k ru (i .0 .made) (i .0 .well) a b u c (is-open t a b c (p .0)) (p .1 .0) (room .0) passed, i .2)
+
+-- the first of the things named is known
+named : (x y : Bool) → not x || y ≡ false → x ≡ true
+named x y h = not-false x (or-none (not x) y h .0)
 
 pub kept-rows : (policy : List Record) → Rows requestForms (λ n t r x. Kept policy t → Kept policy x) requestKinds
 unfolding requestKinds upperKinds raised lowerKinds roleKinds sessionKinds each requestForms lowerForms upperForms formOf outOfRange above userChecks userNext assignChecks assignNext giveNext deleteChecks deleteNext takeBackChecks takeBackNext withdrawNext createChecks activateChecks deactivateChecks openChecks openNext endNext releaseNext doneNext
@@ -79,25 +84,17 @@ kept-rows policy =
     ⨾ (λ t r g p i. (i .0, i .1, takes _ _ _ (i .2) (r .a) (r .b) (p .1 .0)))
     ⨾ (λ t r g p i. i)
     ⨾ (λ t r g p i. i)
-    ⨾ (λ t r g p i. (
-      i .0,
-      i .1,
-      creates _ _ _ (i .2) (r .a) (r .b) (r .m) (let l = a-within 127 (r .a) (ltb 1023 (r .b)) g in omega arith)
-          (not-false _ (or-none (not (t .lower .policy .people .users (r .b))) (not (within (r .m) (t .lower .policy .people .roles))) (p .0) .0)) (not-false _ (p .1 .1 .0)) (p .1 .1 .1 .0),
-    ))
+    ⨾ (λ t r g p i.
+    let l = a-within 127 (r .a) (ltb 1023 (r .b)) g in
+    let u = named (t .lower .policy .people .users (r .b)) _ (p .0) in
+    (i .0, i .1, creates _ _ _ (i .2) (r .a) (r .b) (r .m) (omega arith) u (not-false _ (p .1 .1 .0)) (p .1 .1 .1 .0)))
     ⨾ (λ t r g p i. (i .0, i .1, destroys _ _ _ (i .2) (r .a)))
-    ⨾ (λ t r g p i. (
-      i .0,
-      i .1,
-      activates _ _ _ (i .2) (r .a) (r .b)
-          (not-false _ (or-none (not (t .lower .sessions .live (r .a))) (not (has (t .lower .policy .people .roles) (r .b))) (p .0) .0)) (not-false _ (p .1 .1 .0)) (p .1 .1 .1 .0),
-    ))
-    ⨾ (λ t r g p i. (
-      i .0,
-      i .1,
-      deactivates _ _ _ (i .2) (r .a) (r .b)
-          (not-false _ (or-none (not (t .lower .sessions .live (r .a))) _ (or-none _ (not (has (t .lower .sessions .active (r .a)) (r .b))) (p .0) .0) .0)),
-    ))
+    ⨾ (λ t r g p i.
+    let l = named (t .lower .sessions .live (r .a)) _ (p .0) in
+    (i .0, i .1, activates _ _ _ (i .2) (r .a) (r .b) l (not-false _ (p .1 .1 .0)) (p .1 .1 .1 .0)))
+    ⨾ (λ t r g p i.
+    let l = named (t .lower .sessions .live (r .a)) _ (or-none _ (not (has (t .lower .sessions .active (r .a)) (r .b))) (p .0) .0) in
+    (i .0, i .1, deactivates _ _ _ (i .2) (r .a) (r .b) l))
     ⨾ (λ t r g p i. i)
     ⨾ tt
 

@@ -10,7 +10,7 @@ use Rattle.paper_lower.specs.Sets.{Set, empty, has, plus, overlap}
 use Rattle.paper_lower.specs.Lists.{upd, someBelow, some, add}
 use Rattle.paper_lower.specs.Records.{Bytes}
 use Rattle.paper_lower.specs.Forms.{policyForms, formOf, above, outOfRange}
-use Rattle.paper_lower.specs.Tables.{Limit, noPolicy, noSessions}
+use Rattle.paper_lower.specs.Tables.{Limit, Policy, noPolicy, noSessions}
 use Rattle.paper_lower.specs.Policy.{breaks, userNext, roleNext, permissionNext, assignChecks, assignNext, giveNext, taskNext, openToNext, carriesNext, staticChecks, staticNext, dynamicNext, taskSetNext, blockNext, banNext, mostNext, bindNext, beforeNext, policyKinds}
 use Rattle.paper_lower.specs.Load.{load, recordsOf}
 use Rattle.paper_lower.proofs.ListLaws.{or-none, not-both, upd-same, upd-other, none-below, every-added}
@@ -30,16 +30,20 @@ record Assigned (users : ℕ → Bool) (assigned : ℕ → Set) (statics : List 
 module _ (users : ℕ → Bool) (assigned : ℕ → Set) (statics : List Limit) (i : Assigned users assigned statics) where
   declares : (a : ℕ) → a < 1024 → Assigned (upd users a true) (upd assigned a empty) statics
   declares a l = record {
-    bare = λ u n. ⊎-elim (λ e. upd-same assigned a u empty e) (λ q. upd-other assigned a u empty q ∙ i .bare u (sym (upd-other users a u true q) ∙ n)) (same-or-other u a);
+    bare = λ u n. ⊎-elim (λ e. upd-same assigned a u empty e)
+        (λ q. upd-other assigned a u empty q ∙ i .bare u (sym (upd-other users a u true q) ∙ n)) (same-or-other u a);
     small = λ u n. ⊎-elim (λ (e : u ≡ a). omega arith) (λ q. i .small u (sym (upd-other users a u true q) ∙ n)) (same-or-other u a);
-    hold = λ u. ⊎-elim (λ e. rw (upd-same assigned a u empty e) (within-none statics)) (λ q. rw (upd-other assigned a u empty q) (i .hold u)) (same-or-other u a);
+    hold = λ u. ⊎-elim (λ e. rw (upd-same assigned a u empty e) (within-none statics)) (λ q. rw (upd-other assigned a u empty q) (i .hold u))
+        (same-or-other u a);
   }
 
   assigns : (a : ℕ) (m : Set) → users a ≡ true → some (breaks m) statics ≡ false → Assigned users (upd assigned a m) statics
   assigns a m known c = record {
-    bare = λ u n. ⊎-elim (λ (e : u ≡ a). absurd (true≢false (sym known ∙ ap users (sym e) ∙ n))) (λ q. upd-other assigned a u m q ∙ i .bare u n) (same-or-other u a);
+    bare = λ u n. ⊎-elim (λ (e : u ≡ a). absurd (true≢false (sym known ∙ ap users (sym e) ∙ n))) (λ q. upd-other assigned a u m q ∙ i .bare u n)
+        (same-or-other u a);
     small = i .small;
-    hold = λ u. ⊎-elim (λ e. rw (upd-same assigned a u m e) (not-broken statics m c)) (λ q. rw (upd-other assigned a u m q) (i .hold u)) (same-or-other u a);
+    hold = λ u. ⊎-elim (λ e. rw (upd-same assigned a u m e) (not-broken statics m c)) (λ q. rw (upd-other assigned a u m q) (i .hold u))
+        (same-or-other u a);
   }
 
   limits : (l : Limit) → someBelow 1024 (λ u. users u && breaks (assigned u) l) ≡ false → Assigned users assigned (add statics l)
@@ -54,14 +58,18 @@ module _ (users : ℕ → Bool) (assigned : ℕ → Set) (statics : List Limit) 
       go u true e = ltb-false (l .n) _ (not-both (users u) _ (none-below 1024 (λ u. users u && breaks (assigned u) l) c u (i .small u e)) e)
       go u false e = let o = overlap-empty (l .members) in rw (i .bare u e) (omega arith)
 
-rows : Rows policyForms (λ n p r x. Assigned (p .people .users) (p .people .assigned) (p .rules .statics) → Assigned (x .people .users) (x .people .assigned) (x .rules .statics)) policyKinds
+abbrev InOrder : Policy → Type 0
+InOrder p = Assigned (p .people .users) (p .people .assigned) (p .rules .statics)
+
+rows : Rows policyForms (λ n p r x. InOrder p → InOrder x) policyKinds
 unfolding policyKinds policyForms formOf outOfRange above userNext roleNext permissionNext assignChecks assignNext giveNext taskNext openToNext carriesNext staticChecks staticNext dynamicNext taskSetNext blockNext banNext mostNext bindNext beforeNext
 rows =
-    (λ p r g c i. declares (p .people .users) (p .people .assigned) (p .rules .statics) i (r .a) (let l = a-within 1023 (r .a) false g in omega arith))
+    (λ p r g c i. declares _ _ _ i (r .a) (let l = a-within 1023 (r .a) false g in omega arith))
     ⨾ (λ p r g c i. i) ⨾ (λ p r g c i. i)
-    ⨾ (λ p r g c i. assigns (p .people .users) (p .people .assigned) (p .rules .statics) i (r .a) (plus (p .people .assigned (r .a)) (r .b)) (not-false _ (or-none (not (p .people .users (r .a))) (not (has (p .people .roles) (r .b))) (c .0) .0)) (c .1 .1 .0))
+    ⨾ (λ p r g c i. assigns _ _ _ i (r .a) (plus (p .people .assigned (r .a)) (r .b))
+    (not-false _ (or-none (not (p .people .users (r .a))) (not (has (p .people .roles) (r .b))) (c .0) .0)) (c .1 .1 .0))
     ⨾ (λ p r g c i. i) ⨾ (λ p r g c i. i) ⨾ (λ p r g c i. i) ⨾ (λ p r g c i. i)
-    ⨾ (λ p r g c i. limits (p .people .users) (p .people .assigned) (p .rules .statics) i (record { n = r .n; members = r .m }) (c .1 .1 .1 .0))
+    ⨾ (λ p r g c i. limits _ _ _ i (record { n = r .n; members = r .m }) (c .1 .1 .1 .0))
     ⨾ (λ p r g c i. i) ⨾ (λ p r g c i. i) ⨾ (λ p r g c i. i) ⨾ (λ p r g c i. i) ⨾ (λ p r g c i. i) ⨾ (λ p r g c i. i) ⨾ (λ p r g c i. i)
     ⨾ tt
 
@@ -69,7 +77,7 @@ pub loaded-limited : (policy : Bytes) → load policy .reply ≡ 0 → Limited (
 unfolding noPolicy noSessions
 loaded-limited policy h =
     let x = load-accepted policy h in
-    let y = load-keeps (λ p. Assigned (p .people .users) (p .people .assigned) (p .rules .statics)) rows noPolicy (recordsOf policy) (x .0)
+    let y = load-keeps InOrder rows noPolicy (recordsOf policy) (x .0)
     (record { bare = λ u e. refl; small = λ u e. absurd (false≢true e); hold = λ u. tt }) in
     record {
       statics = rw (x .1) (y .hold);

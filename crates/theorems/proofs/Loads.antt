@@ -39,11 +39,13 @@ abbrev pub Accepted : Policy → List Record → Type 0
 Accepted p [] = Unit {0}
 Accepted p (r ∷ rs) = Fits p r × Accepted (step p r) rs
 
-pub fits-rows : (P : ℕ → Policy → Record → Policy → Type 0) → Rows policyForms P policyKinds → (p : Policy) (r : Record) → Fits p r → P (r .kind) p r (step p r)
+pub fits-rows : (P : ℕ → Policy → Record → Policy → Type 0) → Rows policyForms P policyKinds → (p : Policy) (r : Record) → Fits p r
+    → P (r .kind) p r (step p r)
 fits-rows P rows p r f = of-rows policyForms P policyKinds rows p r (f .range) (f .checks)
 
 -- an invariant of every row is one of the load
-pub load-keeps : (I : Policy → Type 0) → Rows policyForms (λ n p r x. I p → I x) policyKinds → (p : Policy) (rs : List Record) → Accepted p rs → I p → I (filled p rs)
+pub load-keeps : (I : Policy → Type 0) → Rows policyForms (λ n p r x. I p → I x) policyKinds → (p : Policy) (rs : List Record) → Accepted p rs → I p
+    → I (filled p rs)
 unfolding filled
 load-keeps I rows p [] a i = i
 load-keeps I rows p (r ∷ rs) a i = load-keeps I rows (step p r) rs (a .1) (fits-rows (λ n p r x. I p → I x) rows p r (a .0) i)

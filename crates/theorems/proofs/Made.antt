@@ -68,7 +68,8 @@ rows =
     ⨾ (λ p r g c. (refl, refl)) ⨾ (λ p r g c. (refl, refl)) ⨾ (λ p r g c. (refl, refl)) ⨾ (λ p r g c. (refl, refl)) ⨾ (λ p r g c. (refl, refl))
     ⨾ (λ p r g c. (refl, refl)) ⨾ tt
 
-made-step : (p : Policy) (r : Record) → Fits p r → (step p r .rules ≡ addRule (r .kind) r (p .rules)) × (step p r .tasks ≡ setTask (r .kind) r (p .tasks))
+made-step : (p : Policy) (r : Record) → Fits p r
+    → (step p r .rules ≡ addRule (r .kind) r (p .rules)) × (step p r .tasks ≡ setTask (r .kind) r (p .tasks))
 made-step p r f = fits-rows (λ n p r x. (x .rules ≡ addRule n r (p .rules)) × (x .tasks ≡ setTask n r (p .tasks))) rows p r f
 
 -- ---- a list of rules, of the records of kind c
@@ -87,7 +88,8 @@ listed {X} f c item one p (r ∷ rs) a =
     ∙ ap (λ (xs : List X). xs ++ each item (ofKind c rs)) (ap f (made-step p r (a .0) .0) ∙ one (r .kind) r (p .rules))
     ∙ go (eqb (r .kind) c)
   where
-    go : (b : Bool) → cond b (add (f (p .rules)) (item r)) (f (p .rules)) ++ each item (ofKind c rs) ≡ f (p .rules) ++ each item (cond b (r ∷ ofKind c rs) (ofKind c rs))
+    go : (b : Bool)
+        → cond b (add (f (p .rules)) (item r)) (f (p .rules)) ++ each item (ofKind c rs) ≡ f (p .rules) ++ each item (cond b (r ∷ ofKind c rs) (ofKind c rs))
     go true = add-more (f (p .rules)) (item r) (each item (ofKind c rs))
     go false = refl
 
@@ -97,7 +99,8 @@ unfolding holds
 not-there p none h = refl
 not-there p (just x) h = absurd (true≢false h)
 
-set-once : (f : ℕ → Maybe ℕ) (a v : ℕ) (p : ℕ → Bool) (t : ℕ) (s : Bool) → there (f a) ≡ false → holds p (upd f a (just v) t) || s ≡ holds p (f t) || (eqb t a && p v || s)
+set-once : (f : ℕ → Maybe ℕ) (a v : ℕ) (p : ℕ → Bool) (t : ℕ) (s : Bool) → there (f a) ≡ false
+    → holds p (upd f a (just v) t) || s ≡ holds p (f t) || (eqb t a && p v || s)
 unfolding upd holds
 set-once f a v p t s h = go (eqb t a) refl
   where
@@ -114,7 +117,8 @@ unfolding filled ofKind keep some
 noted f c v one free q t p [] a = sym (or-false (holds q (f (p .tasks) t)))
 noted f c v one free q t p (r ∷ rs) a =
     noted f c v one free q t (step p r) rs (a .1)
-    ∙ ap (λ (g : ℕ → Maybe ℕ). holds q (g t) || some (λ r. eqb t (r .a) && q (v r)) (ofKind c rs)) (ap f (made-step p r (a .0) .1) ∙ one (r .kind) r (p .tasks))
+    ∙ ap (λ (g : ℕ → Maybe ℕ). holds q (g t) || some (λ r. eqb t (r .a) && q (v r)) (ofKind c rs))
+    (ap f (made-step p r (a .0) .1) ∙ one (r .kind) r (p .tasks))
     ∙ go (eqb (r .kind) c) refl
   where
     go : (b : Bool) → eqb (r .kind) c ≡ b
@@ -125,11 +129,13 @@ noted f c v one free q t p (r ∷ rs) a =
 
 task-new : (p : Policy) (r : Record) → Fits p r → r .kind ≡ 6 → there (p .tasks .template (r .a)) ≡ false
 unfolding policyKinds chosen taskChecks
-task-new p r f e = let c : Passed (chosen policyKinds 6 .checks p r) = subst (λ (k : ℕ). Passed (chosen policyKinds k .checks p r)) e (f .checks) in c .0
+task-new p r f e =
+    let c : Passed (chosen policyKinds 6 .checks p r) = subst (λ (k : ℕ). Passed (chosen policyKinds k .checks p r)) e (f .checks) in c .0
 
 most-new : (p : Policy) (r : Record) → Fits p r → r .kind ≡ 14 → there (p .tasks .most (r .a)) ≡ false
 unfolding policyKinds chosen mostChecks
-most-new p r f e = let c : Passed (chosen policyKinds 14 .checks p r) = subst (λ (k : ℕ). Passed (chosen policyKinds k .checks p r)) e (f .checks) in c .1 .0
+most-new p r f e =
+    let c : Passed (chosen policyKinds 14 .checks p r) = subst (λ (k : ℕ). Passed (chosen policyKinds k .checks p r)) e (f .checks) in c .1 .0
 
 -- ---- bans
 mark-once : (f : ℕ → Bool) (a j : ℕ) (s : Bool) → upd f a true j || s ≡ f j || (eqb j a || s)
@@ -140,7 +146,8 @@ mark-once f a j s = go (eqb j a) (f j)
     go true b = sym (or-true b)
     go false b = refl
 
-marked : (j : ℕ) (p : Policy) (rs : List Record) → Accepted p rs → filled p rs .tasks .banned j ≡ p .tasks .banned j || some (λ r. eqb j (r .a)) (ofKind 13 rs)
+marked : (j : ℕ) (p : Policy) (rs : List Record) → Accepted p rs
+    → filled p rs .tasks .banned j ≡ p .tasks .banned j || some (λ r. eqb j (r .a)) (ofKind 13 rs)
 unfolding filled ofKind keep some
 marked j p [] a = sym (or-false (p .tasks .banned j))
 marked j p (r ∷ rs) a =
@@ -177,7 +184,8 @@ unfolding each
 of-each P f [] h = tt
 of-each P f (x ∷ xs) h = (h .0, of-each P f xs (h .1))
 
-pub places : {X : Type 0} (p : X → Bool) (item : Record → X) (xs : List X) (rs : List Record) → xs ≡ each item rs → (not (eqb (place p xs) 0) ≡ false) ↔ Every (λ r. p (item r) ≡ false) rs
+pub places : {X : Type 0} (p : X → Bool) (item : Record → X) (xs : List X) (rs : List Record) → xs ≡ each item rs
+    → (not (eqb (place p xs) 0) ≡ false) ↔ Every (λ r. p (item r) ≡ false) rs
 places p item xs rs e = (
   λ h. of-each (λ x. p x ≡ false) item rs (subst (Every (λ x. p x ≡ false)) e (place-none p xs h)),
   λ h. ap not (eq-eqb (place p xs) 0 (none-place p xs (subst (Every (λ x. p x ≡ false)) (sym e) (every-each (λ x. p x ≡ false) item rs h)))),

@@ -47,7 +47,11 @@ first-says n (x ∷ xs) a = go (x .0) refl (first-says (x .1) xs (a .1))
       every-map xs (λ y l. (λ m. let z : ⊥ = omega arith in absurd z, λ q. let z : ⊥ = omega arith in absurd z)) (all-above (x .1) xs (a .1)),
     )
     go false e h = (
-      (λ l. e, λ q. let b = a .0 in ⊎-elim (λ z. let w : ⊥ = omega arith in absurd w) (λ l. let w : ⊥ = omega arith in absurd w) (first-above (x .1) xs (a .1))),
+      (
+        λ l. e,
+        λ q. let b = a .0 in ⊎-elim (λ z. let w : ⊥ = omega arith in absurd w) (λ l. let w : ⊥ = omega arith in absurd w)
+            (first-above (x .1) xs (a .1)),
+      ),
       h,
     )
 
@@ -56,7 +60,8 @@ first-among : (xs : List Check) → Every (λ x. first xs ≡ x .1 → ⊥) xs �
 first-among [] h = refl
 first-among (x ∷ xs) h = go (x .0) h (first-among xs)
   where
-    go : (b : Bool) → Every (λ y. cond b (x .1) (first xs) ≡ y .1 → ⊥) (x ∷ xs) → (Every (λ y. first xs ≡ y .1 → ⊥) xs → first xs ≡ 0) → cond b (x .1) (first xs) ≡ 0
+    go : (b : Bool) → Every (λ y. cond b (x .1) (first xs) ≡ y .1 → ⊥) (x ∷ xs) → (Every (λ y. first xs ≡ y .1 → ⊥) xs → first xs ≡ 0)
+        → cond b (x .1) (first xs) ≡ 0
     go true h rest = absurd (h .0 refl)
     go false h rest = rest (h .1)
 
@@ -65,7 +70,8 @@ pub reaches-passed : (k : ℕ) (xs ys : List Check) → Every (λ x. x .1 < k) x
 reaches-passed k [] ys l n h = tt
 reaches-passed k (x ∷ xs) ys l n h = go (x .0) refl h (reaches-passed k xs ys (l .1) (n .1))
   where
-    go : (b : Bool) → x .0 ≡ b → Reaches k (cond b (x .1) (first (xs ++ ys))) → (Reaches k (first (xs ++ ys)) → Passed xs) → (x .0 ≡ false) × Passed xs
+    go : (b : Bool) → x .0 ≡ b → Reaches k (cond b (x .1) (first (xs ++ ys))) → (Reaches k (first (xs ++ ys)) → Passed xs)
+        → (x .0 ≡ false) × Passed xs
     go true e h rest = absurd (subst (λ (i : ℕ). T (not (eqb i 0))) (h (l .0)) (n .0))
     go false e h rest = (e, rest h)
 
@@ -77,7 +83,8 @@ Meet K (x ∷ xs) [] = ⊥
 Meet K (x ∷ xs) (k ∷ ks) = ((x .1 ≡ k .reply) × ((x .0 ≡ false) ↔ K k)) × Meet K xs ks
 
 module _ (K : Rule → Type 0) (P : Check → Type 0) (Q : Rule → Type 0) where
-  meet-every : ((x : Check) (k : Rule) → x .1 ≡ k .reply → (x .0 ≡ false) ↔ K k → P x → Q k) → (xs : List Check) (ks : List Rule) → Meet K xs ks → Every P xs → Every Q ks
+  meet-every : ((x : Check) (k : Rule) → x .1 ≡ k .reply → (x .0 ≡ false) ↔ K k → P x → Q k) → (xs : List Check) (ks : List Rule) → Meet K xs ks
+      → Every P xs → Every Q ks
   meet-every f [] [] m h = tt
   meet-every f [] (k ∷ ks) m h = absurd m
   meet-every f (x ∷ xs) [] m h = tt
@@ -91,7 +98,8 @@ module _ (K : Rule → Type 0) (P : Check → Type 0) (Q : Rule → Type 0) wher
 pub meet-passed : (K : Rule → Type 0) (xs : List Check) (ks : List Rule) → Meet K xs ks → Passed xs → Every K ks
 meet-passed K xs ks m p = meet-every K (λ x. x .0 ≡ false) K (λ x k e i h. i .0 h) xs ks m p
 
-pub first-broken : (policy : List Record) (o : Orders) (xs ys : List Check) (ks : List Rule) → Meet (λ k. k .Kept policy o) xs ks → Above 0 (xs ++ ys) → Numbered xs → FirstBroken ks policy o (first (xs ++ ys))
+pub first-broken : (policy : List Record) (o : Orders) (xs ys : List Check) (ks : List Rule) → Meet (λ k. k .Kept policy o) xs ks → Above 0 (xs ++ ys)
+    → Numbered xs → FirstBroken ks policy o (first (xs ++ ys))
 first-broken policy o xs ys ks m a n = record {
   refused = meet-every K (Says q) _ (λ x k e i h z. (
     λ w. true≢false (sym (h .1 (z ∙ sym e)) ∙ i .1 w),

@@ -16,12 +16,9 @@ use Rattle.paper_upper.specs.Orders.{Standing, isDone, isHeldBy, Entry, entry, 
 use Rattle.paper_upper.specs.Orders.Standing.{held, done}
 use Rattle.paper_upper.specs.Rules.{missing, before, found}
 use Rattle.paper_upper.specs.Requests.{turned}
-use Rattle.theorems.specs.OverEntries.{ofKind, Prerequisites}
+use Rattle.theorems.specs.OverEntries.{ofKind, Ready, Prerequisites}
 use Rattle.theorems.proofs.EntryLaws.{ending, claiming, releasing, finishing, where-kept, turned-same, done-turned}
 use Rattle.theorems.proofs.Made.{aPair, Made, places}
-
-abbrev Ready : List Entry → Record → Entry → Type 0
-Ready es r e = e .task ≡ r .b → has (tasksDone (e .instance) es) (r .a) ≡ true
 
 -- a done entry is held by no one
 not-held : (i t a : ℕ) (e : Entry) → isDone (e .standing) ≡ true → not (heldBy i t a e) ≡ true
@@ -54,24 +51,32 @@ one-before es a b u c r old = (
 
 module _ (policy : List Record) (o : Orders) (h : Prerequisites policy o) where
   -- entries are removed, and no done ones of an order that keeps one
-  fewer : (f : ℕ → Maybe ℕ) (q : Entry → Bool) → ((e g : Entry) → q e ≡ true → inOrder (e .instance) g && isDone (g .standing) ≡ true → q g ≡ true) → Prerequisites policy (record { opened = f; entries = keep q (o .entries) })
+  fewer : (f : ℕ → Maybe ℕ) (q : Entry → Bool) → ((e g : Entry) → q e ≡ true → inOrder (e .instance) g && isDone (g .standing) ≡ true → q g ≡ true)
+      → Prerequisites policy (record { opened = f; entries = keep q (o .entries) })
   unfolding tasksDone
-  fewer f q k = every-map (ofKind 16 policy) (λ r x. every-kept (Ready (o .entries) r) (Ready (keep q (o .entries)) r) q (o .entries) (λ e y g t. has-part _ _ (r .a) (where-kept _ q (o .entries) (λ d z. k e d y z)) (g t)) x) h
+  fewer f q k =
+      every-map (ofKind 16 policy) (λ r x. every-kept (Ready (o .entries) r) (Ready (keep q (o .entries)) r) q (o .entries)
+      (λ e y g t. has-part _ _ (r .a) (where-kept _ q (o .entries) (λ d z. k e d y z)) (g t)) x) h
 
   pub befores-end : (a : ℕ) → Prerequisites policy (ending o a)
   unfolding inOrder
   befores-end a = fewer (ending o a .opened) (λ e. not (inOrder a e)) (λ e g x y.
-      ap not (ne-eqb (g .instance) a (λ q. eqb-false (e .instance) a (not-true _ x) (sym (eqb-true _ _ (both (eqb (g .instance) (e .instance)) (isDone (g .standing)) y .0)) ∙ q))))
+      ap not (ne-eqb (g .instance) a
+      (λ q. eqb-false (e .instance) a (not-true _ x) (sym (eqb-true _ _ (both (eqb (g .instance) (e .instance)) (isDone (g .standing)) y .0)) ∙ q))))
 
   pub befores-release : (a b c : ℕ) → Prerequisites policy (releasing o a b c)
-  befores-release a b c = fewer (o .opened) (λ e. not (heldBy b c a e)) (λ e g x y. not-held b c a g (both (inOrder (e .instance) g) (isDone (g .standing)) y .1))
+  befores-release a b c =
+      fewer (o .opened) (λ e. not (heldBy b c a e)) (λ e g x y. not-held b c a g (both (inOrder (e .instance) g) (isDone (g .standing)) y .1))
 
   pub befores-finish : (a b c : ℕ) → Prerequisites policy (finishing o a b c)
   befores-finish a b c =
-      every-map (ofKind 16 policy) (λ r x. every-each (Ready (each (turned b c a) (o .entries)) r) (turned b c a) (o .entries) (every-map (o .entries) (λ e g t.
-      rw (turned-same (λ e. e .instance) b c a e refl) (has-part _ _ (r .a) (done-turned (e .instance) b c a (o .entries)) (g (sym (turned-same (λ e. e .task) b c a e refl) ∙ t)))) x)) h
+      every-map (ofKind 16 policy) (λ r x. every-each (Ready (each (turned b c a) (o .entries)) r) (turned b c a) (o .entries)
+      (every-map (o .entries) (λ e g t.
+      rw (turned-same (λ e. e .instance) b c a e refl)
+      (has-part _ _ (r .a) (done-turned (e .instance) b c a (o .entries)) (g (sym (turned-same (λ e. e .task) b c a e refl) ∙ t)))) x)) h
 
-  pub befores-claim : (k : Tasks) (ru : Rules) → Made policy k ru → (a b u c : ℕ) → (found (before ru (tasksDone b (o .entries)) c) ≡ false) ↔ Prerequisites policy (claiming o a b u c)
+  pub befores-claim : (k : Tasks) (ru : Rules) → Made policy k ru → (a b u c : ℕ)
+      → (found (before ru (tasksDone b (o .entries)) c) ≡ false) ↔ Prerequisites policy (claiming o a b u c)
   unfolding before
   befores-claim k ru made a b u c =
       let x = places (missing (tasksDone b (o .entries)) c) aPair (ru .befores) (ofKind 16 policy) (made .befores) in (

@@ -63,36 +63,47 @@ none-active ls u = within-less ls _ empty (active-le noSessions u empty (λ k b 
 -- ---- people: one user's roles anew
 module _ (p : People) (s : Sessions) (ru : Rules) (h : Limited p s ru) where
   reassigned : (users : ℕ → Bool) (a : ℕ) (m : Set) → ((k : ℕ) → s .live k ≡ true → users (s .user k) ≡ true) → Within (ru .statics) m
-      → ((k : ℕ) → s .live k ≡ true → s .user k ≡ a → within (s .active k) m ≡ true) → Limited (record { users = users; roles = p .roles; assigned = upd (p .assigned) a m }) s ru
+      → ((k : ℕ) → s .live k ≡ true → s .user k ≡ a → within (s .active k) m ≡ true)
+      → Limited (record { users = users; roles = p .roles; assigned = upd (p .assigned) a m }) s ru
   reassigned users a m known w own = record {
     statics = λ u. ⊎-elim (λ e. rw (upd-same (p .assigned) a u m e) w) (λ n. rw (upd-other (p .assigned) a u m n) (h .statics u)) (same-or-other u a);
     dynamics = h .dynamics;
     small = h .small;
     known = known;
-    active = λ k l. ⊎-elim (λ e. rw (upd-same (p .assigned) a (s .user k) m e) (own k l e)) (λ n. rw (upd-other (p .assigned) a (s .user k) m n) (h .active k l)) (same-or-other (s .user k) a);
+    active = λ k l. ⊎-elim (λ e. rw (upd-same (p .assigned) a (s .user k) m e) (own k l e))
+        (λ n. rw (upd-other (p .assigned) a (s .user k) m n) (h .active k l)) (same-or-other (s .user k) a);
   }
 
-  pub adds : (a : ℕ) → p .users a ≡ false → Limited (record { users = upd (p .users) a true; roles = p .roles; assigned = upd (p .assigned) a empty }) s ru
+  pub adds : (a : ℕ) → p .users a ≡ false
+      → Limited (record { users = upd (p .users) a true; roles = p .roles; assigned = upd (p .assigned) a empty }) s ru
   adds a new =
-      reassigned (upd (p .users) a true) a empty (λ k l. upd-other (p .users) a (s .user k) true (other k l) ∙ h .known k l) (within-none (ru .statics)) (λ k l e. absurd (other k l e))
+      reassigned (upd (p .users) a true) a empty (λ k l. upd-other (p .users) a (s .user k) true (other k l) ∙ h .known k l)
+      (within-none (ru .statics)) (λ k l e. absurd (other k l e))
     where
       other : (k : ℕ) → s .live k ≡ true → s .user k ≡ a → ⊥
       other k l e = true≢false (sym (h .known k l) ∙ ap (p .users) e ∙ new)
 
-  pub deletes : (a : ℕ) → someBelow 128 (ofUser s a) ≡ false → Limited (record { users = upd (p .users) a false; roles = p .roles; assigned = upd (p .assigned) a empty }) s ru
+  pub deletes : (a : ℕ) → someBelow 128 (ofUser s a) ≡ false
+      → Limited (record { users = upd (p .users) a false; roles = p .roles; assigned = upd (p .assigned) a empty }) s ru
   deletes a gone =
-      reassigned (upd (p .users) a false) a empty (λ k l. upd-other (p .users) a (s .user k) false (other k l) ∙ h .known k l) (within-none (ru .statics)) (λ k l e. absurd (other k l e))
+      reassigned (upd (p .users) a false) a empty (λ k l. upd-other (p .users) a (s .user k) false (other k l) ∙ h .known k l)
+      (within-none (ru .statics)) (λ k l e. absurd (other k l e))
     where
       other : (k : ℕ) → s .live k ≡ true → s .user k ≡ a → ⊥
       other k l e = true≢false (sym (of-user s a k l e) ∙ none-below 128 (ofUser s a) gone k (h .small k l))
 
-  pub assigns : (a b : ℕ) → some (breaks (plus (p .assigned a) b)) (ru .statics) ≡ false → Limited (withAssigned p (upd (p .assigned) a (plus (p .assigned a) b))) s ru
-  assigns a b c = reassigned (p .users) a (plus (p .assigned a) b) (h .known) (not-broken (ru .statics) _ c) (λ k l e. within-plus (s .active k) (p .assigned a) b (rw (← e) (h .active k l)))
+  pub assigns : (a b : ℕ) → some (breaks (plus (p .assigned a) b)) (ru .statics) ≡ false
+      → Limited (withAssigned p (upd (p .assigned) a (plus (p .assigned a) b))) s ru
+  assigns a b c =
+      reassigned (p .users) a (plus (p .assigned a) b) (h .known) (not-broken (ru .statics) _ c)
+      (λ k l e. within-plus (s .active k) (p .assigned a) b (rw (← e) (h .active k l)))
 
   pub takes : (a b : ℕ) → has (activeOf s a) b ≡ false → Limited (withAssigned p (upd (p .assigned) a (minus (p .assigned a) b))) s ru
-  takes a b c = reassigned (p .users) a (minus (p .assigned a) b) (h .known) (within-less (ru .statics) _ _ (part-minus (p .assigned a) b) (h .statics a)) (λ k l e.
-      has-within (s .active k) (minus (p .assigned a) b) (λ t x.
-      has-kept (p .assigned a) b t (λ q. true≢false (sym (has-part _ _ t (own-active s a k (h .small k l) l e) x) ∙ ap (has (activeOf s a)) q ∙ c)) ∙ within-has (s .active k) (p .assigned a) t (rw (← e) (h .active k l)) x))
+  takes a b c =
+      reassigned (p .users) a (minus (p .assigned a) b) (h .known) (within-less (ru .statics) _ _ (part-minus (p .assigned a) b) (h .statics a))
+      (λ k l e. has-within (s .active k) (minus (p .assigned a) b) (λ t x.
+      has-kept (p .assigned a) b t (λ q. true≢false (sym (has-part _ _ t (own-active s a k (h .small k l) l e) x) ∙ ap (has (activeOf s a)) q ∙ c))
+      ∙ within-has (s .active k) (p .assigned a) t (rw (← e) (h .active k l)) x))
 
 -- ---- subjects: one subject's row anew
 pub record Elsewhere (a : ℕ) (s z : Sessions) : Type 0 where
@@ -100,7 +111,8 @@ pub record Elsewhere (a : ℕ) (s z : Sessions) : Type 0 where
   pub user : (k : ℕ) → (k ≡ a → ⊥) → z .user k ≡ s .user k
   pub active : (k : ℕ) → (k ≡ a → ⊥) → z .active k ≡ s .active k
 
-seated-part : (a : ℕ) (s z : Sessions) → Elsewhere a s z → (u : ℕ) (m : Set) → Part (activeOf s u) m → (z .live a ≡ true → z .user a ≡ u → Part (z .active a) m) → Part (activeOf z u) m
+seated-part : (a : ℕ) (s z : Sessions) → Elsewhere a s z → (u : ℕ) (m : Set) → Part (activeOf s u) m
+    → (z .live a ≡ true → z .user a ≡ u → Part (z .active a) m) → Part (activeOf z u) m
 seated-part a s z same u m h own = active-le z u m (λ k b l e. ⊎-elim
     (λ (q : k ≡ a). rw q (own (rw q at l) (rw q at e)))
     (λ n. rw (same .active k n) (part-trans _ _ _ (own-active s u k b (sym (same .live k n) ∙ l) (sym (same .user k n) ∙ e)) h)) (same-or-other k a))
@@ -113,18 +125,24 @@ module _ (p : People) (s : Sessions) (ru : Rules) (h : Limited p s ru) (a : ℕ)
   seated z same row m checked = record {
     statics = h .statics;
     dynamics = λ u. go u (z .live a) refl;
-    small = λ k l. ⊎-elim (λ (e : k ≡ a). let r = row (rw e at l) in let b = r .0 in omega arith) (λ n. h .small k (sym (same .live k n) ∙ l)) (same-or-other k a);
+    small = λ k l. ⊎-elim (λ (e : k ≡ a). let r = row (rw e at l) in let b = r .0 in omega arith) (λ n. h .small k (sym (same .live k n) ∙ l))
+        (same-or-other k a);
     known = λ k l. ⊎-elim (λ e. rw e (row (rw e at l) .1)) (λ n. rw (same .user k n) (h .known k (sym (same .live k n) ∙ l))) (same-or-other k a);
-    active = λ k l. ⊎-elim (λ e. rw e (row (rw e at l) .2)) (λ n. rw (same .user k n, same .active k n) (h .active k (sym (same .live k n) ∙ l))) (same-or-other k a);
+    active = λ k l. ⊎-elim (λ e. rw e (row (rw e at l) .2)) (λ n. rw (same .user k n, same .active k n) (h .active k (sym (same .live k n) ∙ l)))
+        (same-or-other k a);
   }
     where
+      others : (u : ℕ) → (z .live a ≡ true → z .user a ≡ u → ⊥) → Within (ru .dynamics) (activeOf z u)
+      others u n = within-less (ru .dynamics) _ _ (seated-part a s z same u (activeOf s u) (part-refl _) (λ l e. absurd (n l e))) (h .dynamics u)
+
       go : (u : ℕ) (b : Bool) → z .live a ≡ b → Within (ru .dynamics) (activeOf z u)
       go u true l = ⊎-elim
-          (λ (e : z .user a ≡ u). within-less (ru .dynamics) _ m (seated-part a s z same u m (rw e at (checked l .1)) (λ _ _. checked l .2)) (checked l .0))
-          (λ n. within-less (ru .dynamics) _ _ (seated-part a s z same u (activeOf s u) (part-refl _) (λ _ e. absurd (n e))) (h .dynamics u)) (same-or-other (z .user a) u)
-      go u false l = within-less (ru .dynamics) _ _ (seated-part a s z same u (activeOf s u) (part-refl _) (λ i e. absurd (true≢false (sym i ∙ l)))) (h .dynamics u)
+          (λ (e : z .user a ≡ u). let c = checked l in within-less (ru .dynamics) _ m (seated-part a s z same u m (rw e at (c .1)) (λ _ _. c .2)) (c .0))
+          (λ n. others u (λ _ e. n e)) (same-or-other (z .user a) u)
+      go u false l = others u (λ i e. true≢false (sym i ∙ l))
 
-  pub creates : (b : ℕ) (m : Set) → a < 128 → p .users b ≡ true → within m (p .assigned b) ≡ true → some (breaks (union (activeOf s b) m)) (ru .dynamics) ≡ false → Limited p (createNext s a b m) ru
+  pub creates : (b : ℕ) (m : Set) → a < 128 → p .users b ≡ true → within m (p .assigned b) ≡ true
+      → some (breaks (union (activeOf s b) m)) (ru .dynamics) ≡ false → Limited p (createNext s a b m) ru
   unfolding createNext
   creates b m small user mine c =
       seated _ (record { live = λ k. upd-other (s .live) a k true; user = λ k. upd-other (s .user) a k b; active = λ k. upd-other (s .active) a k m })
@@ -136,14 +154,19 @@ module _ (p : People) (s : Sessions) (ru : Rules) (h : Limited p s ru) (a : ℕ)
   unfolding destroyNext
   destroys =
       seated _ (record { live = λ k. upd-other (s .live) a k false; user = λ k. upd-other (s .user) a k 0; active = λ k. upd-other (s .active) a k empty })
-      (λ l. absurd (false≢true (sym (upd-same (s .live) a a false refl) ∙ l))) empty (λ l. absurd (false≢true (sym (upd-same (s .live) a a false refl) ∙ l)))
+      (λ l. absurd (gone l)) empty (λ l. absurd (gone l))
+    where
+      gone : upd (s .live) a false a ≡ true → ⊥
+      gone l = false≢true (sym (upd-same (s .live) a a false refl) ∙ l)
 
-  anew : (m z : Set) → s .live a ≡ true → within m (p .assigned (s .user a)) ≡ true → Within (ru .dynamics) z → Part (activeOf s (s .user a)) z → Part m z → Limited p (withActive s (upd (s .active) a m)) ru
+  anew : (m z : Set) → s .live a ≡ true → within m (p .assigned (s .user a)) ≡ true → Within (ru .dynamics) z → Part (activeOf s (s .user a)) z
+      → Part m z → Limited p (withActive s (upd (s .active) a m)) ru
   anew m z live mine w q r =
       seated _ (record { live = λ k n. refl; user = λ k n. refl; active = λ k. upd-other (s .active) a k m })
       (λ l. (h .small a live, h .known a live, rw (upd-same (s .active) a a m refl) mine)) z (λ l. (w, q, rw (upd-same (s .active) a a m refl) r))
 
-  pub activates : (b : ℕ) → s .live a ≡ true → has (p .assigned (s .user a)) b ≡ true → some (breaks (plus (activeOf s (s .user a)) b)) (ru .dynamics) ≡ false → Limited p (activateNext s a b) ru
+  pub activates : (b : ℕ) → s .live a ≡ true → has (p .assigned (s .user a)) b ≡ true
+      → some (breaks (plus (activeOf s (s .user a)) b)) (ru .dynamics) ≡ false → Limited p (activateNext s a b) ru
   unfolding activateNext
   activates b live mine c =
       anew (plus (s .active a) b) (plus (activeOf s (s .user a)) b) live

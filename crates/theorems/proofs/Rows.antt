@@ -29,10 +29,12 @@ x ⨾ y = (x, y)
 module _ {T : Type 0} (fs : List Form) where
   -- what every kind of a list does with a record that it lets pass
   abbrev pub Rows : (ℕ → T → Record → T → Type 0) → List (Kind T) → Type 0
-  Rows P ks = Every (λ k. (t : T) (r : Record) → outOfRange (formOf fs (k .kind)) r ≡ false → Passed (k .checks t r) → P (k .kind) t r (k .next t r)) ks
+  Rows P ks =
+      Every (λ k. (t : T) (r : Record) → outOfRange (formOf fs (k .kind)) r ≡ false → Passed (k .checks t r) → P (k .kind) t r (k .next t r)) ks
 
   pub of-rows : (P : ℕ → T → Record → T → Type 0) (ks : List (Kind T)) → Rows P ks
-      → (t : T) (r : Record) → outOfRange (formOf fs (r .kind)) r ≡ false → Passed (chosen ks (r .kind) .checks t r) → P (r .kind) t r (chosen ks (r .kind) .next t r)
+      → (t : T) (r : Record) → outOfRange (formOf fs (r .kind)) r ≡ false → Passed (chosen ks (r .kind) .checks t r)
+      → P (r .kind) t r (chosen ks (r .kind) .next t r)
   unfolding chosen
   of-rows P ks rows t r g p =
       of-chosen (λ n k. (t : T) (r : Record) → outOfRange (formOf fs n) r ≡ false → Passed (k .checks t r) → P n t r (k .next t r)) ks rows
@@ -57,7 +59,8 @@ numbered =
     ⨾ (omega arith) ⨾ (omega arith) ⨾ (omega arith) ⨾ (omega arith) ⨾ (omega arith) ⨾ tt
 
 -- an invariant of every row is one of every run
-pub run-keeps : (I : Engine → Type 0) → Rows requestForms (λ n t r x. I t → I x) requestKinds → (t : Engine) (ss : List Bytes) → I t → I (after request t ss)
+pub run-keeps : (I : Engine → Type 0) → Rows requestForms (λ n t r x. I t → I x) requestKinds → (t : Engine) (ss : List Bytes) → I t
+    → I (after request t ss)
 unfolding after request
 run-keeps I rows t [] i = i
 run-keeps I rows t (s ∷ ss) i =

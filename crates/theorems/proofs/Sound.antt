@@ -16,7 +16,7 @@ use Rattle.paper_lower.proofs.ListLaws.{every-all}
 use Rattle.paper_lower.proofs.CheckLaws.{Passed}
 use Rattle.paper_upper.specs.Orders.{Orders, noOrders, inOrder, heldBy, tasksWhere, tasksBy}
 use Rattle.paper_upper.specs.Rules.{ruleChecks}
-use Rattle.theorems.specs.OverEntries.{ofKind, TaskSets, Blocks, LoneWorkers, Bindings, CountLimits, Prerequisites, claimRules}
+use Rattle.theorems.specs.OverEntries.{ofKind, TaskSets, Blocks, LoneWorkers, Bindings, CountLimits, Prerequisites, Rule, claimRules}
 use Rattle.theorems.specs.WellMade.{WellMade, Ledger}
 use Rattle.theorems.proofs.Rows.{_⨾_}
 use Rattle.theorems.proofs.EntryLaws.{opening, ending, claiming, releasing, finishing}
@@ -106,10 +106,12 @@ module _ (policy : List Record) where
       pub rules-meet : (a b u c : ℕ) → Meet (λ x. x .Kept policy (claiming o a b u c)) (ruleChecks k ru (o .opened b) (o .entries) b u c) claimRules
       unfolding ruleChecks
       rules-meet a b u c =
+          let m = o .opened b in
+          let d = tasksBy b u (o .entries) in
           (refl, befores-claim policy o (h .befores) k ru made a b u c)
-          ⨾ (refl, Iff·trans (sets-claim policy k ru made (o .opened b) (tasksBy b u (o .entries)) c (h .sets b u)) (users-claim (SetsOf policy) o a b u c (h .sets)))
-          ⨾ (refl, Iff·trans (blocks-claim policy k ru made well (o .opened b) (tasksBy b u (o .entries)) c (h .blocks b u)) (users-claim (BlocksOf policy) o a b u c (h .blocks)))
-          ⨾ (refl, Iff·trans (lone-claim policy k ru made well (o .opened b) (tasksBy b u (o .entries)) c) (users-claim (LoneOf policy) o a b u c (h .lone)))
+          ⨾ (refl, Iff·trans (sets-claim policy k ru made m d c (h .sets b u)) (users-claim (SetsOf policy) o a b u c (h .sets)))
+          ⨾ (refl, Iff·trans (blocks-claim policy k ru made well m d c (h .blocks b u)) (users-claim (BlocksOf policy) o a b u c (h .blocks)))
+          ⨾ (refl, Iff·trans (lone-claim policy k ru made well m d c) (users-claim (LoneOf policy) o a b u c (h .lone)))
           ⨾ (refl, bindings-claim policy o (h .bindings) k ru made a b u c)
           ⨾ (refl, counts-claim policy o (h .counts) k ru made a b u c)
           ⨾ tt
@@ -117,7 +119,8 @@ module _ (policy : List Record) where
       pub sound-claim : (a b u c : ℕ) → there (o .opened b) ≡ true → some (heldTask b c) (o .entries) ≡ false → leb 2048 (many (o .entries)) ≡ false
           → Passed (ruleChecks k ru (o .opened b) (o .entries) b u c) → Sound (claiming o a b u c)
       sound-claim a b u c stands free room p =
-          let r = meet-passed (λ x. x .Kept policy (claiming o a b u c)) (ruleChecks k ru (o .opened b) (o .entries) b u c) claimRules (rules-meet a b u c) p in
+          let K : Rule → Type 0 = λ x. x .Kept policy (claiming o a b u c) in
+          let r = meet-passed K (ruleChecks k ru (o .opened b) (o .entries) b u c) claimRules (rules-meet a b u c) p in
           record {
             ledger = ledger-claim o (h .ledger) a b u c stands free room;
             befores = r .0;

@@ -18,25 +18,28 @@ use Rattle.paper_upper.specs.Engine.{raised, requestKinds, request}
 use Rattle.theorems.specs.Outside.{Told}
 use Rattle.theorems.specs.OverEntries.{ofKind}
 use Rattle.theorems.specs.InUse.{inUse}
-use Rattle.theorems.specs.Theorems.{tablesAfter, saidAfter, OrdersKeepTheRules, ClerksKeepTheLimits, ClaimsMeetTheFirst, EntriesAreCounted, RulesAreWellMade, LedgerIsSound, RequestsChangeNoRule}
+use Rattle.theorems.specs.Theorems.{tablesAfter, saidAfter, OrdersKeepTheRules, ClerksKeepTheLimits, FirstRuleBroken, EntriesInUse, RulesAreWellMade, LedgerIsSound, SameRules, RequestsChangeNoRule}
 use Rattle.theorems.proofs.Rows.{_⨾_, Rows, numbered, answer-rows}
 use Rattle.theorems.proofs.Made.{aLimit, of-each}
 use Rattle.theorems.proofs.Sound.{kept}
 use Rattle.theorems.proofs.Keeps.{kept-after}
-use Rattle.theorems.proofs.Outside.{told-is-held}
+use Rattle.theorems.proofs.Outside.{told-is-true}
 use Rattle.theorems.proofs.FirstRule.{first-of-six, full-reply}
 use Rattle.theorems.proofs.InUse.{counted}
 
 pub orders-keep-the-rules : OrdersKeepTheRules
-orders-keep-the-rules policy accepted ss = rw (told-is-held policy accepted ss) (kept (recordsOf policy) (tablesAfter policy ss .orders) (kept-after policy accepted ss .1))
+orders-keep-the-rules policy accepted ss =
+    rw (told-is-true policy accepted ss) (kept (recordsOf policy) (tablesAfter policy ss .orders) (kept-after policy accepted ss .1))
 
 pub clerks-keep-the-limits : ClerksKeepTheLimits
 clerks-keep-the-limits policy accepted ss =
     let k = kept-after policy accepted ss in
-    rw (told-is-held policy accepted ss)
+    rw (told-is-true policy accepted ss)
     (record {
-      statics = λ u. of-each (λ l. overlap (l .members) (tablesAfter policy ss .lower .policy .people .assigned u) ≤ l .n) aLimit (ofKind 9 (recordsOf policy)) (rw (k .0 .made .statics) at (k .2 .statics u));
-      dynamics = λ u. of-each (λ l. overlap (l .members) (activeOf (tablesAfter policy ss .lower .sessions) u) ≤ l .n) aLimit (ofKind 10 (recordsOf policy)) (rw (k .0 .made .dynamics) at (k .2 .dynamics u));
+      statics = λ u. of-each (λ l. overlap (l .members) (tablesAfter policy ss .lower .policy .people .assigned u) ≤ l .n) aLimit
+          (ofKind 9 (recordsOf policy)) (rw (k .0 .made .statics) at (k .2 .statics u));
+      dynamics = λ u. of-each (λ l. overlap (l .members) (activeOf (tablesAfter policy ss .lower .sessions) u) ≤ l .n) aLimit
+          (ofKind 10 (recordsOf policy)) (rw (k .0 .made .dynamics) at (k .2 .dynamics u));
       active = k .2 .active;
     })
 
@@ -47,7 +50,7 @@ pub ledger-is-sound : LedgerIsSound
 ledger-is-sound policy accepted ss = kept-after policy accepted ss .1 .ledger
 
 -- ---- no request writes tasks or rules
-rows : Rows requestForms (λ n t r x. (x .lower .policy .tasks ≡ t .lower .policy .tasks) × (x .lower .policy .rules ≡ t .lower .policy .rules)) requestKinds
+rows : Rows requestForms (λ n t r x. SameRules t x) requestKinds
 unfolding requestKinds upperKinds raised lowerKinds roleKinds sessionKinds each userNext assignNext giveNext deleteNext takeBackNext withdrawNext openNext endNext claimNext releaseNext doneNext
 rows =
     (λ t r g p. (refl, refl)) ⨾ (λ t r g p. (refl, refl)) ⨾ (λ t r g p. (refl, refl)) ⨾ (λ t r g p. (refl, refl)) ⨾ (λ t r g p. (refl, refl))
@@ -58,27 +61,28 @@ rows =
 pub requests-change-no-rule : RequestsChangeNoRule
 unfolding request
 requests-change-no-rule t s =
-    answer-rows requestForms (λ n t r x. (x .lower .policy .tasks ≡ t .lower .policy .tasks) × (x .lower .policy .rules ≡ t .lower .policy .rules)) requestKinds numbered rows t s
-    (λ q x. (x .lower .policy .tasks ≡ t .lower .policy .tasks) × (x .lower .policy .rules ≡ t .lower .policy .rules)) (λ x h. h) (λ q. (refl, refl))
+    answer-rows requestForms (λ n t r x. SameRules t x) requestKinds numbered rows t s (λ q x. SameRules t x) (λ x h. h) (λ q. (refl, refl))
 
 -- ---- claims
-pub claims-meet-the-first : ClaimsMeetTheFirst
-claims-meet-the-first policy accepted ss s e h =
-    rw (told-is-held policy accepted ss) (first-of-six (tablesAfter policy ss) s e (recordsOf policy) (kept-after policy accepted ss) h)
+pub first-rule-broken : FirstRuleBroken
+first-rule-broken policy accepted ss s e h =
+    rw (told-is-true policy accepted ss) (first-of-six (tablesAfter policy ss) s e (recordsOf policy) (kept-after policy accepted ss) h)
 
-pub entries-are-counted : EntriesAreCounted
-entries-are-counted policy accepted ss =
+pub entries-in-use : EntriesInUse
+entries-in-use policy accepted ss =
     let c = counted policy accepted ss in
     let l = ledger-is-sound policy accepted ss .room in
     record {
-      entries = c ∙ ap (λ (x : Told). many (x .orders .entries)) (sym (told-is-held policy accepted ss));
+      entries = c ∙ ap (λ (x : Told). many (x .orders .entries)) (sym (told-is-true policy accepted ss));
       room = omega arith;
-      full = λ s e h. let q = full-reply (tablesAfter policy ss) s e h in (λ w. at c l (leb 2048 used) refl (sym q ∙ w), λ w. q ∙ rw (le-leb 2048 used (omega arith)));
+      full = λ s e h. let q = full-reply (tablesAfter policy ss) s e h in
+          (λ w. at c l (leb 2048 used) refl (sym q ∙ w), λ w. q ∙ rw (le-leb 2048 used (omega arith)));
     }
   where
     used : ℕ
     used = many (tablesAfter policy ss .orders .entries)
 
-    at : inUse (saidAfter policy ss) ≡ used → used ≤ 2048 → (b : Bool) → leb 2048 used ≡ b → cond b FULL 0 ≡ FULL → inUse (saidAfter policy ss) ≡ 2048
+    at : inUse (saidAfter policy ss) ≡ used → used ≤ 2048 → (b : Bool) → leb 2048 used ≡ b → cond b FULL 0 ≡ FULL
+        → inUse (saidAfter policy ss) ≡ 2048
     at c l true e w = let m = leb-true 2048 used e in omega arith
     at c l false e w = let z : ⊥ = omega arith in absurd z

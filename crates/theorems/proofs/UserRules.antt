@@ -14,7 +14,8 @@ use Rattle.theorems.specs.OverEntries.{OfUsers}
 use Rattle.theorems.proofs.EntryLaws.{opening, ending, claiming, releasing, finishing, where-less, by-turned, claimed-by, by-claimant, no-entries}
 
 module _ (P : Maybe ℕ → Set → Type 0) where
-  pub users-open : (o : Orders) (a b : ℕ) → Every (λ e. there (o .opened (e .instance)) ≡ true) (o .entries) → there (o .opened a) ≡ false → P (just b) empty → OfUsers P o → OfUsers P (opening o a b)
+  pub users-open : (o : Orders) (a b : ℕ) → Every (λ e. there (o .opened (e .instance)) ≡ true) (o .entries) → there (o .opened a) ≡ false
+      → P (just b) empty → OfUsers P o → OfUsers P (opening o a b)
   users-open o a b all new p h i u =
       ⊎-elim
       (λ (e : i ≡ a). rw (upd-same (o .opened) a i (just b) e, e, no-entries (o .opened) a u (o .entries) all new) p)

@@ -125,14 +125,16 @@ module _ (k : Tasks) (bs : List Block) (a : ℕ) (m : Set) where
       let x = one-of k (union m (partitioned a bs)) one in (
         x .0,
         every-added (Of q (x .0)) bs new
-            (every-map bs (λ b p w. all-of k (b .tasks) (x .0) (part-trans _ _ _ (p (w ∙ sym e)) (part-trans _ _ _ (part-right m _) (x .1)))) (in-partitioned a bs))
+            (every-map bs (λ b p w. all-of k (b .tasks) (x .0) (part-trans _ _ _ (p (w ∙ sym e)) (part-trans _ _ _ (part-right m _) (x .1))))
+            (in-partitioned a bs))
             (λ _. all-of k m (x .0) (part-trans _ _ _ (part-left m _) (x .1))),
       )
 
   apart : meets m (partitioned a bs) ≡ false → Every (λ b. b .partitioning ≡ a → meets (b .tasks) m ≡ false) bs
   apart h = every-map bs (λ b p e. meets-none (b .tasks) m (λ t x y. none-common m _ t h y (has-part _ _ t (p e) x))) (in-partitioned a bs)
 
-  block-more : a < 16 → not (oneTemplate k (union m (partitioned a bs))) ≡ false → meets m (partitioned a bs) ≡ false → WellCut (k .template) bs → WellCut (k .template) (add bs new)
+  block-more : a < 16 → not (oneTemplate k (union m (partitioned a bs))) ≡ false → meets m (partitioned a bs) ≡ false → WellCut (k .template) bs
+      → WellCut (k .template) (add bs new)
   block-more l one free i = record {
     partitionings = every-added (λ b. b .partitioning < 16) bs new (i .partitionings) l;
     one-template = λ q. ⊎-elim (λ e. same q e one)
@@ -166,7 +168,8 @@ module _ (f : ℕ → Maybe ℕ) (ru : Rules) (i : WellMade f ru) where
   with-befores ps h =
       record { tasks = i .tasks; statics = i .statics; dynamics = i .dynamics; taskSets = i .taskSets; blocks = i .blocks; bindings = i .bindings; befores = h }
 
-task-set : (k : Tasks) (n : ℕ) (m : Set) → illMade n m || not (oneTemplate k m) ≡ false → Limits (record { n = n; members = m }) × ((j : ℕ) × AllOf (k .template) j m)
+task-set : (k : Tasks) (n : ℕ) (m : Set) → illMade n m || not (oneTemplate k m) ≡ false
+    → Limits (record { n = n; members = m }) × ((j : ℕ) × AllOf (k .template) j m)
 task-set k n m h =
     let x = or-none (illMade n m) (not (oneTemplate k m)) h in
     let y = one-of k m (x .1) in
@@ -185,14 +188,16 @@ rows =
     ⨾ (λ p r g c i. i) ⨾ (λ p r g c i. i)
     ⨾ (λ p r g c i. with-statics _ (p .rules) i _ (every-added Limits (p .rules .statics) _ (i .statics) (limits (r .n) (r .m) (c .1 .1 .0))))
     ⨾ (λ p r g c i. with-dynamics _ (p .rules) i _ (every-added Limits (p .rules .dynamics) _ (i .dynamics) (limits (r .n) (r .m) (c .1 .1 .0))))
-    ⨾ (λ p r g c i. with-task-sets _ (p .rules) i _ (every-added _ (p .rules .taskSets) _ (i .taskSets) (task-set (p .tasks) (r .n) (r .m) (c .1 .1 .0))))
+    ⨾ (λ p r g c i. with-task-sets _ (p .rules) i _
+    (every-added _ (p .rules .taskSets) _ (i .taskSets) (task-set (p .tasks) (r .n) (r .m) (c .1 .1 .0))))
     ⨾ (λ p r g c i.
     let x = or-none _ (meets (r .m) (partitioned (r .a) (p .rules .blocks))) (c .1 .1 .0) in
     let y = or-none (eqb (r .m) empty) _ (x .0) in
     let l = a-within 15 (r .a) false g in
     with-blocks _ (p .rules) i _ (block-more (p .tasks) (p .rules .blocks) (r .a) (r .m) (omega arith) (y .1) (x .1) (i .blocks)))
     ⨾ (λ p r g c i. i) ⨾ (λ p r g c i. i)
-    ⨾ (λ p r g c i. with-bindings _ (p .rules) i _ (every-added _ (p .rules .bindings) _ (i .bindings) (linked (p .tasks) (r .a) (r .b) (c .1 .1 .0))))
+    ⨾ (λ p r g c i. with-bindings _ (p .rules) i _
+    (every-added _ (p .rules .bindings) _ (i .bindings) (linked (p .tasks) (r .a) (r .b) (c .1 .1 .0))))
     ⨾ (λ p r g c i. with-befores _ (p .rules) i _ (every-added _ (p .rules .befores) _ (i .befores) (linked (p .tasks) (r .a) (r .b) (c .1 .1 .0))))
     ⨾ tt
 

@@ -3,3 +3,4 @@ pub mod OverEntries
 pub mod WellMade
 pub mod InUse
 pub mod Theorems
+pub mod Listing

@@ -10,7 +10,7 @@ use Rattle.paper_lower.specs.Lists.Maybe.{just}
 use Rattle.paper_lower.specs.Checks.{BEFORE, SEPARATION, BLOCK, ALONE, BOUND, COUNT}
 use Rattle.paper_lower.specs.Records.{Record}
 use Rattle.paper_lower.specs.Roles.{activeOf}
-use Rattle.paper_upper.specs.Orders.{Orders, ofTask, tasksBy, tasksDone}
+use Rattle.paper_upper.specs.Orders.{Entry, Orders, ofTask, tasksBy, tasksDone}
 use Rattle.theorems.specs.Outside.{Told}
 
 -- the policy's records of a kind
@@ -22,42 +22,54 @@ abbrev pub EveryTwo : {A : Type 0} → (A → A → Type 0) → List A → Type 
 EveryTwo P [] = Unit {0}
 EveryTwo P (x ∷ xs) = Every (P x) xs × EveryTwo P xs
 
--- a statement about every order's template and the tasks in which a user has entries there, for every user
+-- a statement about an order's template and the tasks in which a user has entries there, for every order and every user
 abbrev pub OfUsers : (Maybe ℕ → Set → Type 0) → Orders → Type 0
 OfUsers P o = (i u : ℕ) → P (o .opened i) (tasksBy i u (o .entries))
+
+-- the set of the record, at most n of m, allows these members
+abbrev pub Allows : Record → Set → Type 0
+Allows r members = overlap (r .m) members ≤ r .n
 
 -- ---- "They hold when:"
 
 -- "no user has entries in more than n different tasks of a task set"
 abbrev pub TaskSets : List Record → Orders → Type 0
-TaskSets policy = OfUsers (λ template tasks. Every (λ r. overlap (r .m) tasks ≤ r .n) (ofKind 11 policy))
+TaskSets policy = OfUsers (λ template tasks. Every (λ r. Allows r tasks) (ofKind 11 policy))
 
 -- "no user has entries in two blocks of one partitioning"
+abbrev pub OneBlock : Set → Record → Record → Type 0
+OneBlock tasks r q = r .a ≡ q .a → meets (r .m) tasks ≡ true → meets (q .m) tasks ≡ true → ⊥
+
 abbrev pub Blocks : List Record → Orders → Type 0
-Blocks policy =
-    OfUsers (λ template tasks.
-    EveryTwo (λ r q. r .a ≡ q .a → meets (r .m) tasks ≡ true → meets (q .m) tasks ≡ true → ⊥) (ofKind 12 policy))
+Blocks policy = OfUsers (λ template tasks. EveryTwo (OneBlock tasks) (ofKind 12 policy))
 
 -- "in a banned template no user has entries in every task"
+abbrev pub EveryTask : List Record → ℕ → Set → Type 0
+EveryTask policy template tasks = Every (λ r. r .b ≡ template → has tasks (r .a) ≡ true) (ofKind 6 policy)
+
 abbrev pub LoneWorkers : List Record → Orders → Type 0
-LoneWorkers policy =
-    OfUsers (λ template tasks.
-    Every (λ r. template ≡ just (r .a) → Every (λ q. q .b ≡ r .a → has tasks (q .a) ≡ true) (ofKind 6 policy) → ⊥) (ofKind 13 policy))
+LoneWorkers policy = OfUsers (λ template tasks. Every (λ r. template ≡ just (r .a) → EveryTask policy (r .a) tasks → ⊥) (ofKind 13 policy))
 
 -- "any entry of a task and any entry of a task bound to it are of one user"
+abbrev pub OneUser : Record → Entry → Entry → Type 0
+OneUser r e f = e .instance ≡ f .instance → e .task ≡ r .a → f .task ≡ r .b → e .user ≡ f .user
+
 abbrev pub Bindings : List Record → Orders → Type 0
-Bindings policy o =
-    Every (λ r. Every (λ e. Every (λ f.
-    e .instance ≡ f .instance → e .task ≡ r .a → f .task ≡ r .b → e .user ≡ f .user) (o .entries)) (o .entries)) (ofKind 15 policy)
+Bindings policy o = Every (λ r. Every (λ e. Every (OneUser r e) (o .entries)) (o .entries)) (ofKind 15 policy)
 
 -- "a limited task has at most n entries"
+abbrev pub AtMost : List Entry → ℕ → Record → Type 0
+AtMost entries i r = many (keep (ofTask i (r .a)) entries) ≤ r .n
+
 abbrev pub CountLimits : List Record → Orders → Type 0
-CountLimits policy o = (i : ℕ) → Every (λ r. many (keep (ofTask i (r .a)) (o .entries)) ≤ r .n) (ofKind 14 policy)
+CountLimits policy o = (i : ℕ) → Every (AtMost (o .entries) i) (ofKind 14 policy)
 
 -- "a task with an entry has a done entry for each task required before it"
+abbrev pub Ready : List Entry → Record → Entry → Type 0
+Ready entries r e = e .task ≡ r .b → has (tasksDone (e .instance) entries) (r .a) ≡ true
+
 abbrev pub Prerequisites : List Record → Orders → Type 0
-Prerequisites policy o =
-    Every (λ r. Every (λ e. e .task ≡ r .b → has (tasksDone (e .instance) (o .entries)) (r .a) ≡ true) (o .entries)) (ofKind 16 policy)
+Prerequisites policy o = Every (λ r. Every (Ready (o .entries) r) (o .entries)) (ofKind 16 policy)
 
 -- ---- Each is a claim rule: the reply to a claim that would break it. "the claim rules, in this order"
 pub record Rule : Type 1 where
@@ -80,8 +92,8 @@ claimRules =
 -- ---- Roles.
 pub record RoleLimits (policy : List Record) (x : Told) : Type 0 where
   -- "A static set allows a user at most n of its roles among those assigned."
-  pub statics : (u : ℕ) → Every (λ r. overlap (r .m) (x .assigned u) ≤ r .n) (ofKind 9 policy)
+  pub statics : (u : ℕ) → Every (λ r. Allows r (x .assigned u)) (ofKind 9 policy)
   -- "A dynamic set allows a user at most n of its roles active at a time, over all the user's subjects together."
-  pub dynamics : (u : ℕ) → Every (λ r. overlap (r .m) (activeOf (x .sessions) u) ≤ r .n) (ofKind 10 policy)
+  pub dynamics : (u : ℕ) → Every (λ r. Allows r (activeOf (x .sessions) u)) (ofKind 10 policy)
   -- "Active roles are always assigned ones."
   pub active : (s : ℕ) → x .sessions .live s ≡ true → within (x .sessions .active s) (x .assigned (x .sessions .user s)) ≡ true

@@ -38,13 +38,13 @@ abbrev pub AfterEvery : (Bytes → List Bytes → Type 0) → Type 0
 AfterEvery P = (policy : Bytes) → load policy .reply ≡ GRANTED → (requests : List Bytes) → P policy requests
 
 -- ---- What is told is what the tables hold.
-abbrev pub held : Engine → Told
-held t = record { assigned = t .lower .policy .people .assigned; sessions = t .lower .sessions; orders = t .orders }
+abbrev pub shown : Engine → Told
+shown t = record { assigned = t .lower .policy .people .assigned; sessions = t .lower .sessions; orders = t .orders }
 
-abbrev pub ToldIsHeld : Type 0
-ToldIsHeld = AfterEvery (λ policy requests. toldAfter policy requests ≡ held (tablesAfter policy requests))
+abbrev pub ToldIsTrue : Type 0
+ToldIsTrue = AfterEvery (λ policy requests. toldAfter policy requests ≡ shown (tablesAfter policy requests))
 
--- ---- "Orders keep the rules": the entries told break none of the six rules, and the clerks' roles none of the limits.
+-- ---- Demand 3: the entries that are told break none of the six rules, and the clerks' roles none of the limits.
 abbrev pub OrdersKeepTheRules : Type 0
 OrdersKeepTheRules = AfterEvery (λ policy requests. Every (λ k. k .Kept (recordsOf policy) (toldAfter policy requests .orders)) claimRules)
 
@@ -63,10 +63,10 @@ pub record FirstBroken (rules : List Rule) (policy : List Record) (o : Orders) (
   -- it is none of theirs: all are kept
   pub others : Every (λ k. reply ≡ k .reply → ⊥) rules → Every (λ k. k .Kept policy o) rules
 
--- "First rule broken": a claim that every check before BEFORE lets pass is refused with the first of the six rules, in their order, that
--- entering it would break, and with none of them where entering it would break none.
-abbrev pub ClaimsMeetTheFirst : Type 0
-ClaimsMeetTheFirst =
+-- Demand 3, the second half: a claim that every check before BEFORE lets pass is refused with the first of the six rules, in their order,
+-- that entering it would break, and with none of them where entering it would break none.
+abbrev pub FirstRuleBroken : Type 0
+FirstRuleBroken =
     AfterEvery (λ policy requests. (claim : Bytes) → decode claim .kind ≡ 50 → Reaches BEFORE (replyAfter policy requests claim)
     → FirstBroken claimRules (recordsOf policy) (hear (toldAfter policy requests) (decode claim) .orders) (replyAfter policy requests claim))
 
@@ -79,8 +79,8 @@ pub record Counted (policy : Bytes) (requests : List Bytes) : Type 0 where
   pub full : (claim : Bytes) → decode claim .kind ≡ 50 → Reaches FULL (replyAfter policy requests claim)
       → (replyAfter policy requests claim ≡ FULL) ↔ (inUse (saidAfter policy requests) ≡ 2048)
 
-abbrev pub EntriesAreCounted : Type 0
-EntriesAreCounted = AfterEvery Counted
+abbrev pub EntriesInUse : Type 0
+EntriesInUse = AfterEvery Counted
 
 -- ---- What a load gives, and every request keeps.
 abbrev pub RulesAreWellMade : Type 0
@@ -92,9 +92,9 @@ RulesAreWellMade =
 abbrev pub LedgerIsSound : Type 0
 LedgerIsSound = AfterEvery (λ policy requests. Ledger (tablesAfter policy requests .orders))
 
--- "changing rules after a load" is "not offered"
+-- "Deleting roles and changing rules after a load are not offered."
+abbrev pub SameRules : Engine → Engine → Type 0
+SameRules t x = (x .lower .policy .tasks ≡ t .lower .policy .tasks) × (x .lower .policy .rules ≡ t .lower .policy .rules)
+
 abbrev pub RequestsChangeNoRule : Type 0
-RequestsChangeNoRule =
-    (t : Engine) (s : Bytes)
-    → (request t s .tables .lower .policy .tasks ≡ t .lower .policy .tasks)
-    × (request t s .tables .lower .policy .rules ≡ t .lower .policy .rules)
+RequestsChangeNoRule = (t : Engine) (s : Bytes) → SameRules t (request t s .tables)
