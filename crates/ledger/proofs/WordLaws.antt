@@ -54,7 +54,26 @@ parts m k lo hi x y apart joint = go (eqb lo x) (eqb hi y) refl refl
     go true false e f = ne-eqb m k (λ q. eqb-false _ _ f (apart q .1))
     go false b e f = ne-eqb m k (λ q. eqb-false _ _ e (apart q .0))
 
+regroup : (o h t s : Bool) → ((o && h) && t) && s ≡ ((o && t) && (h && s))
+regroup true true true s = refl
+regroup true true false s = refl
+regroup true false true s = refl
+regroup true false false s = refl
+regroup false h t s = refl
+
+holder-part : (d s a : ℕ) → d < 2 → eqb (s * 8192 + d * 64) (8192 * a) ≡ (eqb d 0 && eqb s a)
+holder-part zero s a h = parts (s * 8192 + 0) (8192 * a) 0 s 0 a (λ e. (refl, omega arith)) (λ e f. omega arith)
+holder-part (suc zero) s a h = ne-eqb (s * 8192 + 64) (8192 * a) (λ e. omega arith)
+holder-part (suc (suc d)) s a h = let z : ⊥ = omega arith in absurd z
+
 module _ (w : ℕ) where
+  not-done-bit : not (eqb (w / 64 % 2) 1) ≡ eqb (w / 64 % 2) 0
+  not-done-bit = go (eqb (w / 64 % 2) 1) refl
+    where
+      go : (b : Bool) → eqb (w / 64 % 2) 1 ≡ b → not b ≡ eqb (w / 64 % 2) 0
+      go true e = let d = eqb-true (w / 64 % 2) 1 e in sym (ne-eqb (w / 64 % 2) 0 (λ q. omega arith))
+      go false e = let d = eqb-false (w / 64 % 2) 1 e in sym (eq-eqb (w / 64 % 2) 0 (omega arith))
+
   pub is-done : isDone (standingOf w) ≡ eqb (w / 64 % 2) 1
   unfolding isDone standingOf
   is-done = go (eqb (w / 64 % 2) 1)
@@ -65,19 +84,19 @@ module _ (w : ℕ) where
 
   is-held : isHeld (standingOf w) ≡ eqb (w / 64 % 2) 0
   unfolding isHeld standingOf
-  is-held = go (eqb (w / 64 % 2) 1) refl
+  is-held = rw (← not-done-bit) (go (eqb (w / 64 % 2) 1))
     where
-      go : (b : Bool) → eqb (w / 64 % 2) 1 ≡ b → isHeld (cond b done (held (w / 8192 % 128))) ≡ eqb (w / 64 % 2) 0
-      go true e = let d = eqb-true (w / 64 % 2) 1 e in sym (ne-eqb (w / 64 % 2) 0 (λ q. omega arith))
-      go false e = let d = eqb-false (w / 64 % 2) 1 e in sym (eq-eqb (w / 64 % 2) 0 (omega arith))
+      go : (b : Bool) → isHeld (cond b done (held (w / 8192 % 128))) ≡ not b
+      go true = refl
+      go false = refl
 
   is-held-by : (a : ℕ) → isHeldBy a (standingOf w) ≡ (eqb (w / 64 % 2) 0 && eqb (w / 8192 % 128) a)
   unfolding isHeldBy standingOf
-  is-held-by a = go (eqb (w / 64 % 2) 1) refl
+  is-held-by a = rw (← not-done-bit) (go (eqb (w / 64 % 2) 1))
     where
-      go : (b : Bool) → eqb (w / 64 % 2) 1 ≡ b → isHeldBy a (cond b done (held (w / 8192 % 128))) ≡ (eqb (w / 64 % 2) 0 && eqb (w / 8192 % 128) a)
-      go true e = let d = eqb-true (w / 64 % 2) 1 e in rw (ne-eqb (w / 64 % 2) 0 (λ q. omega arith))
-      go false e = let d = eqb-false (w / 64 % 2) 1 e in rw (eq-eqb (w / 64 % 2) 0 (omega arith))
+      go : (b : Bool) → isHeldBy a (cond b done (held (w / 8192 % 128))) ≡ (not b && eqb (w / 8192 % 128) a)
+      go true = refl
+      go false = refl
 
   fits-is : (mask key : ℕ) → fits mask key w ≡ true → bitAnd w mask ≡ key
   unfolding fits
@@ -92,13 +111,6 @@ module _ (w : ℕ) where
 
   subject-part : (i t a : ℕ) → i < 64 → t < 64 → eqb (w % 1048576) (keyOf i t a) ≡ (eqb (w % 8192) (i + 128 * t) && eqb (w / 8192 % 128) a)
   subject-part i t a hi ht = parts (w % 1048576) (keyOf i t a) (w % 8192) (w / 8192 % 128) (i + 128 * t) a (λ e. (omega arith, omega arith)) (λ e f. omega arith)
-
-  regroup : (o h t s : Bool) → ((o && h) && t) && s ≡ ((o && t) && (h && s))
-  regroup true true true s = refl
-  regroup true true false s = refl
-  regroup true false true s = refl
-  regroup true false false s = refl
-  regroup false h t s = refl
 
   -- ---- and the tests
   pub fits-order : (i : ℕ) → fits 63 i w ≡ inOrder i (entryOf w)
@@ -124,11 +136,6 @@ module _ (w : ℕ) where
       ap (λ (n : ℕ). bitAnd n 1040448) e
       ∙ and-block 13 (w / 8192) 127 (w % 8192) 64 (omega arith) (lit< tt)
       ∙ rw (and-mask (w / 8192) 7, and-high (w % 8192) 1 6, d)
-
-  holder-part : (d s a : ℕ) → d < 2 → eqb (s * 8192 + d * 64) (8192 * a) ≡ (eqb d 0 && eqb s a)
-  holder-part zero s a h = parts (s * 8192 + 0) (8192 * a) 0 s 0 a (λ e. (refl, omega arith)) (λ e f. omega arith)
-  holder-part (suc zero) s a h = ne-eqb (s * 8192 + 64) (8192 * a) (λ e. omega arith)
-  holder-part (suc (suc d)) s a h = let z : ⊥ = omega arith in absurd z
 
   pub fits-holder : (a : ℕ) → fits 1040448 (8192 * a) w ≡ isHeldBy a (entryOf w .standing)
   unfolding fits entryOf

@@ -35,8 +35,9 @@ shared-slice-read-w c = search needs
 returns : tie.Need-returns Inv-loop μ-loop
 unfolding fits
 returns c =
-    let l = c .before .before .before .before .before .before .args .o .now in
-    sym (found-here l (fits (c .before .before .before .before .before .before .args .mask) (c .before .before .before .before .before .before .args .key)) (c .before .before .before .loop .k) _ (omega (arith, many-entries l)) (eq-eqb _ _ (c .if1 .taken)))
+    let b = c .before .before .before in
+    let a = b .before .before .before .args in
+    sym (found-here (a .o .now) (fits (a .mask) (a .key)) (b .loop .k) _ (omega (arith, many-entries (a .o .now))) (eq-eqb _ _ (c .if1 .taken)))
 
 add-k : tie.Need-add-k Inv-loop μ-loop
 add-k c = search needs
@@ -46,7 +47,10 @@ loop-less c = search needs
 
 loop-again : tie.Need-loop-again Inv-loop μ-loop
 unfolding fits
-loop-again c = (search needs, none-here _ (fits (c .before .before .before .before .before .before .args .mask) (c .before .before .before .before .before .before .args .key)) (c .before .before .before .loop .k) (c .before .before .before .loop .inv .1) (ne-eqb _ _ (c .if1 .left)))
+loop-again c =
+    let b = c .before .before .before in
+    let a = b .before .before .before .args in
+    (search needs, none-here (a .o .now) (fits (a .mask) (a .key)) (b .loop .k) (b .loop .inv .1) (ne-eqb _ _ (c .if1 .left)))
 
 returns-2 : tie.Need-returns-2 Inv-loop μ-loop
 returns-2 c =

@@ -41,10 +41,11 @@ same-length c = search needs
 
 returns : tie.Need-returns
 returns c =
-    let a = c .before .before .before .before .args in
+    let s = c .before .before .before .before in
+    let a = s .args in
     let l = a .o .now in
-    let p = c .before .before .before .before .pre .1 .1 in
-    rw (c .key-of .ensures) (entered l (c .before .before .before .before .pre .0) (c .before .in-use .result) (heldWord (a .i) (a .u) (a .t) (a .a)) (c .before .in-use .ensures .0 ∙ many-entries l) (search needs))
+    let p = s .pre .1 .1 in
+    rw (c .key-of .ensures) (entered l (s .pre .0) (c .before .in-use .result) (heldWord (a .i) (a .u) (a .t) (a .a)) (c .before .in-use .ensures .0 ∙ many-entries l) (search needs))
     ∙ ap (λ (e : Entry). withLedger (ordersOf l) (e ∷ ordersOf l .entries)) (held-word (a .i) (a .u) (a .t) (a .a) (p .1 .0) (p .0) (p .1 .1 .0) (p .1 .1 .1))
 
 pub enter-spec : {M : Type 1} → statement M

@@ -66,10 +66,11 @@ same-length c = search needs
 returns : tie.Need-returns Inv-loop μ-loop
 returns c =
     let b = c .before .loop in
-    let a = c .before .before .before .before .before .before .args in
+    let s = c .before .before .before .before .before .before in
+    let a = s .args in
     let l = a .o .now in
     let e : b .k ≡ inUse l = omega (arith, many-entries l) in
-    let read = each-entries l (turnedWord (keyOf (a .i) (a .t) (a .a))) (turned (a .i) (a .t) (a .a)) (λ w. turned-word w (a .i) (a .t) (a .a) (c .before .before .before .before .before .before .pre .1 .0) (c .before .before .before .before .before .before .pre .1 .1 .0)) in
+    let read = each-entries l (turnedWord (keyOf (a .i) (a .t) (a .a))) (turned (a .i) (a .t) (a .a)) (λ w. turned-word w (a .i) (a .t) (a .a) (s .pre .1 .0) (s .pre .1 .1 .0)) in
     changed-all (b .inv .1 .0) _ e (b .inv .1 .1) ∙ rw (c .before .before .key-of .ensures) (ap (withLedger (ordersOf l)) read)
 
 pub finish-spec : {M : Type 1} → statement M

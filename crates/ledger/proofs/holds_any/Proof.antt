@@ -16,7 +16,9 @@ any-entry-requires : tie.Need-any-entry-requires
 any-entry-requires c κs = search needs
 
 returns : tie.Need-returns
-returns c = c .any-entry .ensures ∙ some-entries (c .before .before .args .o .now) (fits 1040448 (8192 * c .before .before .args .a)) (λ e. isHeldBy (c .before .before .args .a) (e .standing)) (λ w. fits-holder w (c .before .before .args .a))
+returns c =
+    let a = c .before .before .args .a in
+    c .any-entry .ensures ∙ some-entries (c .before .before .args .o .now) (fits 1040448 (8192 * a)) (λ e. isHeldBy a (e .standing)) (λ w. fits-holder w a)
 
 pub holds-any-spec : {M : Type 1} → statement M
 holds-any-spec = tie.close (tie.spec mul-any-entry any-entry-requires returns)

@@ -16,9 +16,10 @@ any-entry-requires c κs = search needs
 
 returns : tie.Need-returns
 returns c =
-    let a = c .before .before .before .args in
+    let s = c .before .before .before in
+    let a = s .args in
     c .any-entry .ensures
-    ∙ rw (c .before .key-of .ensures) (some-entries (a .o .now) (fits 1048575 (keyOf (a .i) (a .t) (a .a))) (heldBy (a .i) (a .t) (a .a)) (λ w. fits-holding w (a .i) (a .t) (a .a) (c .before .before .before .pre .1 .0) (c .before .before .before .pre .1 .1 .0)))
+    ∙ rw (c .before .key-of .ensures) (some-entries (a .o .now) (fits 1048575 (keyOf (a .i) (a .t) (a .a))) (heldBy (a .i) (a .t) (a .a)) (λ w. fits-holding w (a .i) (a .t) (a .a) (s .pre .1 .0) (s .pre .1 .1 .0)))
 
 pub holds-task-spec : {M : Type 1} → statement M
 holds-task-spec = tie.close (tie.spec key-of-requires any-entry-requires returns)

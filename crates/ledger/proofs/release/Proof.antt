@@ -20,8 +20,9 @@ same-length c = search needs
 
 returns : tie.Need-returns
 returns c =
-    let a = c .before .before .before .before .before .before .args in
-    let read = keep-entries (a .o .now) (stays 1048575 (keyOf (a .i) (a .t) (a .a))) (λ e. not (heldBy (a .i) (a .t) (a .a) e)) (λ w. stays-not w _ _ (fits-holding w (a .i) (a .t) (a .a) (c .before .before .before .before .before .before .pre .1 .0) (c .before .before .before .before .before .before .pre .1 .1 .0))) in
+    let s = c .before .before .before .before .before .before in
+    let a = s .args in
+    let read = keep-entries (a .o .now) (stays 1048575 (keyOf (a .i) (a .t) (a .a))) (λ e. not (heldBy (a .i) (a .t) (a .a) e)) (λ w. stays-not w _ _ (fits-holding w (a .i) (a .t) (a .a) (s .pre .1 .0) (s .pre .1 .1 .0))) in
     c .before .before .remove .ensures ∙ rw (c .before .before .before .before .key-of .ensures) (ap (withLedger (ordersOf (a .o .now))) read)
 
 pub release-spec : {M : Type 1} → statement M

@@ -16,7 +16,9 @@ same-length : tie.Need-same-length
 same-length c = search needs
 
 returns : tie.Need-returns
-returns c = c .before .before .set-instance .ensures ∙ ap (withInstance (ordersOf (c .before .before .before .before .before .args .o .now)) (c .before .before .before .before .before .args .i)) (template-word (c .before .before .before .before .before .args .j) (c .before .before .before .before .before .pre .1 .1))
+returns c =
+    let s = c .before .before .before .before .before in
+    c .before .before .set-instance .ensures ∙ ap (withInstance (ordersOf (s .args .o .now)) (s .args .i)) (template-word (s .args .j) (s .pre .1 .1))
 
 pub set-opened-spec : {M : Type 1} → statement M
 set-opened-spec = tie.close (tie.spec add-set-instance set-instance-requires same-length returns)

@@ -21,7 +21,13 @@ pick-requires c κs = search needs
 
 returns : tie.Need-returns
 unfolding takenIn
-returns c = λ x. record { mine = c .before .before .before .before .with-if .ensures x; done = c .before .before .before .with-if2 .ensures x; others = c .before .before .with-if3 .ensures x; times = c .before .more-if .ensures x; held = c .pick .ensures x }
+returns c = λ x. record {
+  mine = c .before .before .before .before .with-if .ensures x;
+  done = c .before .before .before .with-if2 .ensures x;
+  others = c .before .before .with-if3 .ensures x;
+  times = c .before .more-if .ensures x;
+  held = c .pick .ensures x;
+}
 
 pub take-in-spec : {M : Type 1} → statement M
 take-in-spec =
