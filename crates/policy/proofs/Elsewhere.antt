@@ -1,0 +1,114 @@
+-- A store elsewhere: each group of tables, and each kind of rules, is kept by a store outside its own words.
+use Prim.Native.Nat.{ℕ, _+_, _*_, _≤_, _<_, _/_, _%_, min}
+use mathlib.Core.Bool.{Bool, true, false}
+use mathlib.Core.List.{List}
+use mathlib.Core.Path.{_≡_, refl}
+use native.Mathlib.Omega.{arith}
+use borrow.Author.Tests.{leb-true, leb-false}
+use lib.Dec.{leb}
+use lib.ListN.{set}
+use lib.Seq.{getD-set-other}
+use Rattle.paper_lower.specs.Tables.{withRules}
+use Rattle.replies.specs.Cells.{rows}
+use Rattle.replies.proofs.CellLaws.{column-below, column-above}
+use Rattle.policy.specs.Layout.{Table, tableIn, userTable, assignedTable, permissionTable, holderTable, carrierTable, templateTable, openToTable, mostTable, bannedTable, limitTable, memberTable, limitCount, limitAt, limitsIn, partitioningTable, blockTable, blockCount, blockAt, blocksIn, pairTable, pairCount, pairAt, pairsIn}
+use Rattle.policy.specs.Reading.{peopleIn, permissionsIn, tasksIn, rulesIn, policyOf}
+
+-- not one of the words from first to before last
+abbrev pub Outside : ℕ → ℕ → ℕ → Type 0
+Outside first last j = first ≤ j → last ≤ j
+
+narrow : {first last b e j : ℕ} → Outside first last j → (first ≤ b) × (e ≤ last) → Outside b e j
+narrow far h k = omega (arith, far (omega arith))
+
+pub table-off : {A : Type 0} (t : Table A) (l : List ℕ) (j v : ℕ) → Outside (t .first) (t .first + t .height) j → tableIn t (set l j v) ≡ tableIn t l
+table-off t l j v far = at (leb (t .first) j) refl
+  where
+    at : (here : Bool) → leb (t .first) j ≡ here → tableIn t (set l j v) ≡ tableIn t l
+    at true e = column-above (t .read) (t .past) (t .first) (t .height) l j v (far (leb-true (t .first) j e))
+    at false e = column-below (t .read) (t .past) (t .first) (t .height) l j v (leb-false (t .first) j e)
+
+module _ (l : List ℕ) (j v : ℕ) where
+  pub people-off : (0 < j) × Outside 8 2056 j → peopleIn (set l j v) ≡ peopleIn l
+  unfolding peopleIn
+  people-off h = λ x.
+      record {
+        users = table-off userTable l j v (narrow (h .1) (omega arith)) x;
+        roles = getD-set-other l j 0 v 0 (omega arith) x;
+        assigned = table-off assignedTable l j v (narrow (h .1) (omega arith)) x;
+      }
+
+  pub permissions-off : Outside 2056 2824 j → permissionsIn (set l j v) ≡ permissionsIn l
+  unfolding permissionsIn
+  permissions-off h = λ x.
+      record {
+        declared = table-off permissionTable l j v (narrow h (omega arith)) x;
+        holders = table-off holderTable l j v (narrow h (omega arith)) x;
+        carriers = table-off carrierTable l j v (narrow h (omega arith)) x;
+      }
+
+  pub tasks-off : Outside 2824 3032 j → tasksIn (set l j v) ≡ tasksIn l
+  unfolding tasksIn
+  tasks-off h = λ x.
+      record {
+        template = table-off templateTable l j v (narrow h (omega arith)) x;
+        openTo = table-off openToTable l j v (narrow h (omega arith)) x;
+        banned = table-off bannedTable l j v (narrow h (omega arith)) x;
+        most = table-off mostTable l j v (narrow h (omega arith)) x;
+      }
+
+  pub limits-off : (which : ℕ) → Outside (1 + which) (2 + which) j × Outside (3032 + 64 * which) (3096 + 64 * which) j → limitsIn which (set l j v) ≡ limitsIn which l
+  unfolding limitAt limitCount
+  limits-off which h = λ x.
+      rows
+      (λ k.
+      record {
+        n = table-off (limitTable which) l j v (narrow (h .1) (omega arith)) x k;
+        members = table-off (memberTable which) l j v (narrow (h .1) (omega arith)) x k;
+      })
+      (min (getD-set-other l j (1 + which) v 0 (λ e. omega (arith, h .0 (omega arith))) x) 32)
+
+  pub blocks-off : Outside 4 5 j × Outside 3224 3352 j → blocksIn (set l j v) ≡ blocksIn l
+  unfolding blockAt blockCount
+  blocks-off h = λ x.
+      rows
+      (λ k.
+      record {
+        partitioning = table-off partitioningTable l j v (narrow (h .1) (omega arith)) x k;
+        tasks = table-off blockTable l j v (narrow (h .1) (omega arith)) x k;
+      })
+      (min (getD-set-other l j 4 v 0 (λ e. omega (arith, h .0 (omega arith))) x) 64)
+
+  pub pairs-off : (which : ℕ) → Outside (5 + which) (6 + which) j × Outside (3352 + 64 * which) (3416 + 64 * which) j → pairsIn which (set l j v) ≡ pairsIn which l
+  unfolding pairAt pairCount
+  pairs-off which h = λ x.
+      rows
+      (λ k.
+      record {
+        a = table-off (pairTable which (λ w. w % 64)) l j v (narrow (h .1) (omega arith)) x k;
+        b = table-off (pairTable which (λ w. w / 64 % 64)) l j v (narrow (h .1) (omega arith)) x k;
+      })
+      (min (getD-set-other l j (5 + which) v 0 (λ e. omega (arith, h .0 (omega arith))) x) 64)
+
+  pub rules-off : Outside 1 7 j × Outside 3032 3480 j → rulesIn (set l j v) ≡ rulesIn l
+  unfolding rulesIn
+  rules-off h = λ x.
+      record {
+        statics = limits-off 0 (narrow (h .0) (omega arith), narrow (h .1) (omega arith)) x;
+        dynamics = limits-off 1 (narrow (h .0) (omega arith), narrow (h .1) (omega arith)) x;
+        taskSets = limits-off 2 (narrow (h .0) (omega arith), narrow (h .1) (omega arith)) x;
+        blocks = blocks-off (narrow (h .0) (omega arith), narrow (h .1) (omega arith)) x;
+        bindings = pairs-off 0 (narrow (h .0) (omega arith), narrow (h .1) (omega arith)) x;
+        befores = pairs-off 1 (narrow (h .0) (omega arith), narrow (h .1) (omega arith)) x;
+      }
+
+  -- ---- A store in the rules.
+  pub in-rules : (0 < j) × Outside 7 3032 j → policyOf (set l j v) ≡ withRules (policyOf l) (rulesIn (set l j v))
+  unfolding policyOf
+  in-rules h = λ x.
+      record {
+        people = people-off (h .0, narrow (h .1) (omega arith)) x;
+        permissions = permissions-off (narrow (h .1) (omega arith)) x;
+        tasks = tasks-off (narrow (h .1) (omega arith)) x;
+        rules = rulesIn (set l j v);
+      }

@@ -1,0 +1,3 @@
+mod WordLaws
+mod Elsewhere
+mod StoreLaws

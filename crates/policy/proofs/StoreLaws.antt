@@ -1,0 +1,145 @@
+-- What a setter's store does to the tables: the one row anew, all else kept. One law for every table of rows, by its first word.
+use Prim.Native.Nat.{ℕ, _+_, _*_, _≤_, _<_}
+use mathlib.Core.Bool.{Bool, true, false, cond}
+use mathlib.Core.List.{List}
+use mathlib.Core.Path.{_≡_, refl, ap, _∙_}
+use native.Mathlib.Omega.{arith}
+use borrow.Author.Tests.{eqb-true, eqb-false}
+use lib.Dec.{eqb}
+use lib.ListN.{length, set, length-set}
+use lib.Seq.{getD-set-same, getD-set-other}
+use Rattle.paper_lower.specs.Lists.{upd}
+use Rattle.paper_lower.specs.Tables.{Policy}
+use Rattle.replies.proofs.CellLaws.{column-same}
+use Rattle.policy.specs.Layout.{policyWords, flagOf, Table, tableIn, userTable, assignedTable, permissionTable, holderTable, carrierTable, templateTable, openToTable, mostTable, bannedTable}
+use Rattle.policy.specs.Reading.{peopleIn, permissionsIn, tasksIn, policyOf, rolesAnew, userAnew, assignedAnew, permissionAnew, holdersAnew, carriersAnew, templateAnew, openToAnew, bannedAnew, mostAnew}
+use Rattle.policy.proofs.WordLaws.{permission-word, template-word, most-word}
+use Rattle.policy.proofs.Elsewhere.{Outside, table-off, permissions-off, tasks-off, rules-off}
+
+-- the word b + i is the table's row i if the table starts at b, and else none of its words
+abbrev Beside : {A : Type 0} → Table A → ℕ → ℕ → Type 0
+Beside t b i = (t .first ≡ b → i < t .height) × ((t .first ≡ b → ⊥) → Outside (t .first) (t .first + t .height) (b + i))
+
+-- the word b + i is row i of one of the tables
+record RowOf (b i : ℕ) : Type 0 where
+  first : 8 ≤ b
+  last : b + i < 3032
+  users : Beside userTable b i
+  assigned : Beside assignedTable b i
+  declared : Beside permissionTable b i
+  holders : Beside holderTable b i
+  carriers : Beside carrierTable b i
+  template : Beside templateTable b i
+  openTo : Beside openToTable b i
+  banned : Beside bannedTable b i
+  most : Beside mostTable b i
+
+abbrev rowIf : {A : Type 0} → Table A → ℕ → (ℕ → A) → ℕ → ℕ → ℕ → A
+rowIf t b f i v = cond (eqb (t .first) b) (upd f i (t .read v)) f
+
+-- the tables with row i of the one at b anew
+abbrev rowAnew : ℕ → ℕ → ℕ → Policy → Policy
+rowAnew b i v t =
+    record {
+      people =
+          record {
+            users = rowIf userTable b (t .people .users) i v;
+            roles = t .people .roles;
+            assigned = rowIf assignedTable b (t .people .assigned) i v;
+          };
+      permissions =
+          record {
+            declared = rowIf permissionTable b (t .permissions .declared) i v;
+            holders = rowIf holderTable b (t .permissions .holders) i v;
+            carriers = rowIf carrierTable b (t .permissions .carriers) i v;
+          };
+      tasks =
+          record {
+            template = rowIf templateTable b (t .tasks .template) i v;
+            openTo = rowIf openToTable b (t .tasks .openTo) i v;
+            banned = rowIf bannedTable b (t .tasks .banned) i v;
+            most = rowIf mostTable b (t .tasks .most) i v;
+          };
+      rules = t .rules;
+    }
+
+module _ (l : List ℕ) (room : length l ≡ policyWords) where
+  table-after : {A : Type 0} (t : Table A) (b i v : ℕ) → Beside t b i → t .first + t .height ≤ policyWords → tableIn t (set l (b + i) v) ≡ rowIf t b (tableIn t l) i v
+  table-after t b i v h fits = at (eqb (t .first) b) refl
+    where
+      at : (here : Bool) → eqb (t .first) b ≡ here → tableIn t (set l (b + i) v) ≡ cond here (upd (tableIn t l) i (t .read v)) (tableIn t l)
+      at true e =
+          let q = eqb-true (t .first) b e in
+          rw (← q) (column-same (t .read) (t .past) (t .first) (t .height) l i v (h .0 q) (omega arith))
+      at false e = table-off t l (b + i) v (h .1 (eqb-false (t .first) b e))
+
+  row-set : (b i v : ℕ) → RowOf b i → policyOf (set l (b + i) v) ≡ rowAnew b i v (policyOf l)
+  unfolding policyOf peopleIn permissionsIn tasksIn
+  row-set b i v h = λ x.
+      record {
+        people =
+            record {
+              users = table-after userTable b i v (h .users) (omega arith) x;
+              roles = getD-set-other l (b + i) 0 v 0 (omega arith) x;
+              assigned = table-after assignedTable b i v (h .assigned) (omega arith) x;
+            };
+        permissions =
+            record {
+              declared = table-after permissionTable b i v (h .declared) (omega arith) x;
+              holders = table-after holderTable b i v (h .holders) (omega arith) x;
+              carriers = table-after carrierTable b i v (h .carriers) (omega arith) x;
+            };
+        tasks =
+            record {
+              template = table-after templateTable b i v (h .template) (omega arith) x;
+              openTo = table-after openToTable b i v (h .openTo) (omega arith) x;
+              banned = table-after bannedTable b i v (h .banned) (omega arith) x;
+              most = table-after mostTable b i v (h .most) (omega arith) x;
+            };
+        rules = rules-off l (b + i) v (omega (arith, h .first, h .last)) x;
+      }
+
+  pub roles-set : (v : ℕ) → policyOf (set l 0 v) ≡ rolesAnew (policyOf l) v
+  unfolding policyOf peopleIn
+  roles-set v = λ x.
+      record {
+        people =
+            record {
+              users = table-off userTable l 0 v (omega arith) x;
+              roles = getD-set-same l 0 v 0 (omega arith) x;
+              assigned = table-off assignedTable l 0 v (omega arith) x;
+            };
+        permissions = permissions-off l 0 v (omega arith) x;
+        tasks = tasks-off l 0 v (omega arith) x;
+        rules = rules-off l 0 v (omega arith) x;
+      }
+
+  module _ (i : ℕ) where
+    pub assigned-set : (v : ℕ) → i < 1024 → policyOf (set l (1032 + i) v) ≡ assignedAnew (policyOf l) i v
+    assigned-set v h = row-set 1032 i v (omega arith)
+
+    pub holders-set : (v : ℕ) → i < 256 → policyOf (set l (2312 + i) v) ≡ holdersAnew (policyOf l) i v
+    holders-set v h = row-set 2312 i v (omega arith)
+
+    pub carriers-set : (v : ℕ) → i < 256 → policyOf (set l (2568 + i) v) ≡ carriersAnew (policyOf l) i v
+    carriers-set v h = row-set 2568 i v (omega arith)
+
+    pub open-to-set : (v : ℕ) → i < 64 → policyOf (set l (2888 + i) v) ≡ openToAnew (policyOf l) i v
+    open-to-set v h = row-set 2888 i v (omega arith)
+
+    pub banned-set : i < 16 → policyOf (set l (3016 + i) 1) ≡ bannedAnew (policyOf l) i
+    banned-set h = row-set 3016 i 1 (omega arith)
+
+    pub permission-set : (operation object : ℕ) → i < 256 → operation < 65536 → object < 65536 → policyOf (set l (2056 + i) (4294967296 + operation + 65536 * object)) ≡ permissionAnew (policyOf l) i operation object
+    permission-set operation object h p q = row-set 2056 i (4294967296 + operation + 65536 * object) (omega arith) ∙ rw (permission-word operation object p q)
+
+    pub template-set : (j : ℕ) → i < 64 → j < 16 → policyOf (set l (2824 + i) (16 + j)) ≡ templateAnew (policyOf l) i j
+    template-set j h p = row-set 2824 i (16 + j) (omega arith) ∙ rw (template-word j p)
+
+    pub most-set : (n : ℕ) → i < 64 → 0 < n → n < 256 → policyOf (set l (2952 + i) n) ≡ mostAnew (policyOf l) i n
+    most-set n h p q = row-set 2952 i n (omega arith) ∙ rw (most-word n p q)
+
+pub user-set : (l : List ℕ) → length l ≡ policyWords → (i v : ℕ) → i < 1024 → policyOf (set (set l (8 + i) v) (1032 + i) 0) ≡ userAnew (policyOf l) i (flagOf v)
+user-set l room i v h =
+    let next : length (set l (8 + i) v) ≡ policyWords = rw length-set room in
+    assigned-set (set l (8 + i) v) next i 0 h ∙ ap (λ t. assignedAnew t i 0) (row-set l room 8 i v (omega arith))

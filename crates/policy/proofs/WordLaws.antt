@@ -1,0 +1,82 @@
+-- Packed words: the one compare by which a getter reads a word, and what a setter's word reads as.
+use Prim.Native.Nat.{ℕ, _+_, _*_, _<_, _/_, _%_}
+use mathlib.Core.Bool.{Bool, true, false, not, cond, _&&_}
+use mathlib.Core.Path.{_≡_, refl, ap, _∙_}
+use native.Mathlib.Omega.{arith}
+use borrow.Author.Tests.{eqb-true, eqb-false, eq-eqb, ne-eqb}
+use lib.Dec.{eqb, leb}
+use Rattle.paper_lower.specs.Lists.{Maybe, holds, there, is}
+use Rattle.paper_lower.specs.Lists.Maybe.{none, just}
+use Rattle.paper_lower.specs.Policy.{isFor}
+use Rattle.policy.specs.Layout.{permissionOf, templateOf, mostOf}
+
+-- one compare of the whole for a compare of each of two parts
+parts : (x a p q r s : ℕ) → (p ≡ q → r ≡ s → x ≡ a) → (x ≡ a → (p ≡ q) × (r ≡ s)) → eqb x a ≡ eqb p q && eqb r s
+parts x a p q r s join split = at (eqb p q) refl (eqb r s) refl
+  where
+    at : (t : Bool) → eqb p q ≡ t → (u : Bool) → eqb r s ≡ u → eqb x a ≡ t && u
+    at true e true f = eq-eqb x a (join (eqb-true p q e) (eqb-true r s f))
+    at true e false f = ne-eqb x a (λ h. eqb-false r s f (split h .1))
+    at false e u f = ne-eqb x a (λ h. eqb-false p q e (split h .0))
+
+there-if : {A : Type 0} (t : Bool) (x : A) → t ≡ there (cond t (just x) none)
+unfolding holds
+there-if true x = refl
+there-if false x = refl
+
+holds-if : {A : Type 0} (p : A → Bool) (t : Bool) (x : A) → t && p x ≡ holds p (cond t (just x) none)
+unfolding holds
+holds-if p true x = refl
+holds-if p false x = refl
+
+module _ (w : ℕ) where
+  pub permission-there : eqb (w / 4294967296 % 2) 1 ≡ there (permissionOf w)
+  unfolding permissionOf
+  permission-there = there-if _ _
+
+  pub permission-is : (operation object : ℕ) → operation < 65536 → object < 65536 → eqb (w % 8589934592) (4294967296 + operation + 65536 * object) ≡ holds (isFor operation object) (permissionOf w)
+  unfolding permissionOf isFor
+  permission-is operation object h k =
+      parts (w % 8589934592) (4294967296 + operation + 65536 * object) (w / 4294967296 % 2) 1 (w % 4294967296) (operation + 65536 * object) (omega arith) (omega arith)
+      ∙ ap (_&&_ (eqb (w / 4294967296 % 2) 1)) (parts (w % 4294967296) (operation + 65536 * object) (w % 65536) operation (w / 65536 % 65536) object (omega arith) (omega arith))
+      ∙ holds-if (isFor operation object) (eqb (w / 4294967296 % 2) 1) (record { operation = w % 65536; object = w / 65536 % 65536 })
+
+  pub template-there : eqb (w / 16 % 2) 1 ≡ there (templateOf w)
+  unfolding templateOf
+  template-there = there-if _ _
+
+  pub template-is : (j : ℕ) → j < 16 → eqb (w % 32) (16 + j) ≡ is j (templateOf w)
+  unfolding templateOf
+  template-is j h = parts (w % 32) (16 + j) (w / 16 % 2) 1 (w % 16) j (omega arith) (omega arith) ∙ holds-if (λ n. eqb n j) (eqb (w / 16 % 2) 1) (w % 16)
+
+  pub most-there : not (eqb (w % 256) 0) ≡ there (mostOf w)
+  unfolding mostOf
+  most-there = there-if _ _
+
+  pub most-reached : (times : ℕ) → not (eqb (w % 256) 0) && leb (w % 256) times ≡ holds (λ n. leb n times) (mostOf w)
+  unfolding mostOf
+  most-reached times = holds-if (λ n. leb n times) (not (eqb (w % 256) 0)) (w % 256)
+
+-- ---- What a setter's word reads as.
+pub permission-word : (operation object : ℕ) → operation < 65536 → object < 65536 → permissionOf (4294967296 + operation + 65536 * object) ≡ just (record { operation = operation; object = object })
+unfolding permissionOf
+permission-word operation object h k =
+    let w = 4294967296 + operation + 65536 * object in
+    let bit : w / 4294967296 % 2 ≡ 1 = omega arith in
+    let high : w / 65536 ≡ 65536 + object = omega arith in
+    let low : w % 65536 ≡ operation = omega arith in
+    let mid : (65536 + object) % 65536 ≡ object = omega arith in
+    simp (bit, low, high, mid)
+
+pub template-word : (j : ℕ) → j < 16 → templateOf (16 + j) ≡ just j
+unfolding templateOf
+template-word j h =
+    let bit : (16 + j) / 16 % 2 ≡ 1 = omega arith in
+    let low : (16 + j) % 16 ≡ j = omega arith in
+    simp (bit, low)
+
+pub most-word : (n : ℕ) → 0 < n → n < 256 → mostOf n ≡ just n
+unfolding mostOf
+most-word n h k =
+    let low : n % 256 ≡ n = omega arith in
+    rw (low, ne-eqb n 0 (omega arith))

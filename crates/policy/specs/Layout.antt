@@ -1,0 +1,118 @@
+-- The words of the policy buffer: where each table stands, and how one word of it reads. Every word reads as something.
+use Prim.Native.Nat.{ℕ, _+_, _*_, _/_, _%_, min}
+use mathlib.Core.Bool.{Bool, false, not, cond}
+use mathlib.Core.List.{List}
+use lib.Dec.{eqb}
+use lib.ListN.{getD}
+use Rattle.paper_lower.specs.Lists.{Maybe}
+use Rattle.paper_lower.specs.Lists.Maybe.{none, just}
+use Rattle.paper_lower.specs.Sets.{Set, empty}
+use Rattle.paper_lower.specs.Tables.{Permission, Limit, Block, Pair}
+use Rattle.replies.specs.Cells.{column, rows}
+
+abbrev pub policyWords : ℕ
+policyWords = 3480
+
+-- ---- How a word reads.
+abbrev pub same : ℕ → ℕ
+same w = w
+
+abbrev pub flagOf : ℕ → Bool
+flagOf w = eqb (w % 2) 1
+
+-- bit 32 set: the operation in the lowest 16 bits, the object in the next 16
+unfoldable pub permissionOf : ℕ → Maybe Permission
+permissionOf w = cond (eqb (w / 4294967296 % 2) 1) (just (record { operation = w % 65536; object = w / 65536 % 65536 })) none
+
+-- bit 4 set: the template in the lowest 4 bits
+unfoldable pub templateOf : ℕ → Maybe ℕ
+templateOf w = cond (eqb (w / 16 % 2) 1) (just (w % 16)) none
+
+-- the lowest 8 bits, 0 being no limit
+unfoldable pub mostOf : ℕ → Maybe ℕ
+mostOf w = cond (not (eqb (w % 256) 0)) (just (w % 256)) none
+
+-- ---- A table: its first word, its rows of one word each, how a word reads, and what is past the last row.
+pub record Table (A : Type 0) : Type 0 where
+  pub first : ℕ
+  pub height : ℕ
+  pub read : ℕ → A
+  pub past : A
+
+abbrev pub tableIn : {A : Type 0} → Table A → List ℕ → ℕ → A
+tableIn t l = column (t .read) (t .past) (t .first) (t .height) l
+
+-- ---- The tables. The declared roles are word 0.
+abbrev pub userTable : Table Bool
+userTable = record { first = 8; height = 1024; read = flagOf; past = false }
+
+abbrev pub assignedTable : Table Set
+assignedTable = record { first = 1032; height = 1024; read = same; past = empty }
+
+abbrev pub permissionTable : Table (Maybe Permission)
+permissionTable = record { first = 2056; height = 256; read = permissionOf; past = none }
+
+abbrev pub holderTable : Table Set
+holderTable = record { first = 2312; height = 256; read = same; past = empty }
+
+abbrev pub carrierTable : Table Set
+carrierTable = record { first = 2568; height = 256; read = same; past = empty }
+
+abbrev pub templateTable : Table (Maybe ℕ)
+templateTable = record { first = 2824; height = 64; read = templateOf; past = none }
+
+abbrev pub openToTable : Table Set
+openToTable = record { first = 2888; height = 64; read = same; past = empty }
+
+abbrev pub mostTable : Table (Maybe ℕ)
+mostTable = record { first = 2952; height = 64; read = mostOf; past = none }
+
+abbrev pub bannedTable : Table Bool
+bannedTable = record { first = 3016; height = 16; read = flagOf; past = false }
+
+-- ---- The rules: of each kind a kept number, cut at the limit, and the rows.
+
+-- limits by kind: static sets 0, dynamic sets 1, task sets 2
+abbrev pub limitTable : ℕ → Table ℕ
+limitTable which = record { first = 3032 + 64 * which; height = 32; read = same; past = 0 }
+
+abbrev pub memberTable : ℕ → Table Set
+memberTable which = record { first = 3064 + 64 * which; height = 32; read = same; past = empty }
+
+unfoldable pub limitCount : ℕ → List ℕ → ℕ
+limitCount which l = min (getD l (1 + which) 0) 32
+
+unfoldable pub limitAt : ℕ → List ℕ → ℕ → Limit
+limitAt which l k = record { n = tableIn (limitTable which) l k; members = tableIn (memberTable which) l k }
+
+abbrev pub partitioningTable : Table ℕ
+partitioningTable = record { first = 3224; height = 64; read = λ w. w % 16; past = 0 }
+
+abbrev pub blockTable : Table Set
+blockTable = record { first = 3288; height = 64; read = same; past = empty }
+
+unfoldable pub blockCount : List ℕ → ℕ
+blockCount l = min (getD l 4 0) 64
+
+unfoldable pub blockAt : List ℕ → ℕ → Block
+blockAt l k = record { partitioning = tableIn partitioningTable l k; tasks = tableIn blockTable l k }
+
+-- pairs by kind: bindings 0, prerequisites 1; both tasks in one word, the second in bits 6 to 11
+abbrev pub pairTable : ℕ → (ℕ → ℕ) → Table ℕ
+pairTable which read = record { first = 3352 + 64 * which; height = 64; read = read; past = 0 }
+
+unfoldable pub pairCount : ℕ → List ℕ → ℕ
+pairCount which l = min (getD l (5 + which) 0) 64
+
+unfoldable pub pairAt : ℕ → List ℕ → ℕ → Pair
+pairAt which l k = record { a = tableIn (pairTable which (λ w. w % 64)) l k; b = tableIn (pairTable which (λ w. w / 64 % 64)) l k }
+
+-- ---- The kept rows, in policy order.
+abbrev pub limitsIn : ℕ → List ℕ → List Limit
+limitsIn which l = rows (limitAt which l) (limitCount which l)
+
+abbrev pub blocksIn : List ℕ → List Block
+blocksIn l = rows (blockAt l) (blockCount l)
+
+abbrev pub pairsIn : ℕ → List ℕ → List Pair
+pairsIn which l = rows (pairAt which l) (pairCount which l)

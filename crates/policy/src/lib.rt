@@ -1,0 +1,303 @@
+// The policy buffer, word by word: getters and setters of its tables, one row a word. specs/Layout.antt has the layout.
+ghost use mathlib.Core.Path.{_≡_};
+ghost use Prim.Native.Nat.{_<_, _≤_, min};
+ghost use lib.Dec.{leb};
+ghost use lib.ListN.{length};
+ghost use Rattle.paper_lower.specs.Lists.{holds, there, is};
+ghost use Rattle.paper_lower.specs.Policy.{isFor};
+ghost use Rattle.policy.specs.Layout.{policyWords, flagOf, limitCount, limitAt, blockCount, blockAt, pairCount, pairAt};
+ghost use Rattle.policy.specs.Reading.{policyOf, Cleared, rolesAnew, userAnew, assignedAnew, permissionAnew, holdersAnew, carriersAnew, templateAnew, openToAnew, bannedAnew, mostAnew, limitAdded, blockAdded, pairAdded};
+use sets::Set;
+
+// ---- People.
+
+pub fn declared_roles(p: &[u64]) -> Set
+    requires { ⌜ length (now p) ≡ policyWords ⌝ }
+    ensures { λ r. ⌜ r .bits ≡ policyOf (now (p .entry)) .people .roles ⌝ }
+{
+    Set { bits: p[0] }
+}
+
+pub fn set_declared_roles(p: &mut [u64], roles: Set)
+    requires { ⌜ length (now p) ≡ policyWords ⌝ }
+    ensures { λ _. ⌜ policyOf (now (p .exit)) ≡ rolesAnew (policyOf (now (p .entry))) (roles .bits) ⌝ }
+{
+    p[0] = roles.bits;
+}
+
+pub fn user_declared(p: &[u64], a: usize) -> bool
+    requires { ⌜ (length (now p) ≡ policyWords) × (a < 1024) ⌝ }
+    ensures { λ r. ⌜ r ≡ policyOf (now (p .entry)) .people .users a ⌝ }
+{
+    p[8 + a] % 2 == 1
+}
+
+// A user declared (1) or no longer (0), with no roles.
+pub fn set_user(p: &mut [u64], a: usize, declared: u64)
+    requires { ⌜ (length (now p) ≡ policyWords) × (a < 1024) ⌝ }
+    ensures { λ _. ⌜ policyOf (now (p .exit)) ≡ userAnew (policyOf (now (p .entry))) a (flagOf declared) ⌝ }
+{
+    p[8 + a] = declared;
+    p[1032 + a] = 0;
+}
+
+pub fn assigned(p: &[u64], a: usize) -> Set
+    requires { ⌜ (length (now p) ≡ policyWords) × (a < 1024) ⌝ }
+    ensures { λ r. ⌜ r .bits ≡ policyOf (now (p .entry)) .people .assigned a ⌝ }
+{
+    Set { bits: p[1032 + a] }
+}
+
+pub fn set_assigned(p: &mut [u64], a: usize, roles: Set)
+    requires { ⌜ (length (now p) ≡ policyWords) × (a < 1024) ⌝ }
+    ensures { λ _. ⌜ policyOf (now (p .exit)) ≡ assignedAnew (policyOf (now (p .entry))) a (roles .bits) ⌝ }
+{
+    p[1032 + a] = roles.bits;
+}
+
+// ---- Permissions.
+
+pub fn permission_declared(p: &[u64], b: usize) -> bool
+    requires { ⌜ (length (now p) ≡ policyWords) × (b < 256) ⌝ }
+    ensures { λ r. ⌜ r ≡ there (policyOf (now (p .entry)) .permissions .declared b) ⌝ }
+{
+    p[2056 + b] / 4294967296 % 2 == 1
+}
+
+// Whether permission b is declared, and for this operation on this object: one compare of the word.
+pub fn permission_is(p: &[u64], b: usize, operation: u64, object: u64) -> bool
+    requires { ⌜ (length (now p) ≡ policyWords) × ((b < 256) × ((operation < 65536) × (object < 65536))) ⌝ }
+    ensures { λ r. ⌜ r ≡ holds (isFor operation object) (policyOf (now (p .entry)) .permissions .declared b) ⌝ }
+{
+    p[2056 + b] % 8589934592 == 4294967296 + operation + 65536 * object
+}
+
+pub fn set_permission(p: &mut [u64], a: usize, operation: u64, object: u64)
+    requires { ⌜ (length (now p) ≡ policyWords) × ((a < 256) × ((operation < 65536) × (object < 65536))) ⌝ }
+    ensures { λ _. ⌜ policyOf (now (p .exit)) ≡ permissionAnew (policyOf (now (p .entry))) a operation object ⌝ }
+{
+    p[2056 + a] = 4294967296 + operation + 65536 * object;
+}
+
+pub fn holders(p: &[u64], b: usize) -> Set
+    requires { ⌜ (length (now p) ≡ policyWords) × (b < 256) ⌝ }
+    ensures { λ r. ⌜ r .bits ≡ policyOf (now (p .entry)) .permissions .holders b ⌝ }
+{
+    Set { bits: p[2312 + b] }
+}
+
+pub fn set_holders(p: &mut [u64], b: usize, roles: Set)
+    requires { ⌜ (length (now p) ≡ policyWords) × (b < 256) ⌝ }
+    ensures { λ _. ⌜ policyOf (now (p .exit)) ≡ holdersAnew (policyOf (now (p .entry))) b (roles .bits) ⌝ }
+{
+    p[2312 + b] = roles.bits;
+}
+
+pub fn carriers(p: &[u64], b: usize) -> Set
+    requires { ⌜ (length (now p) ≡ policyWords) × (b < 256) ⌝ }
+    ensures { λ r. ⌜ r .bits ≡ policyOf (now (p .entry)) .permissions .carriers b ⌝ }
+{
+    Set { bits: p[2568 + b] }
+}
+
+pub fn set_carriers(p: &mut [u64], b: usize, tasks: Set)
+    requires { ⌜ (length (now p) ≡ policyWords) × (b < 256) ⌝ }
+    ensures { λ _. ⌜ policyOf (now (p .exit)) ≡ carriersAnew (policyOf (now (p .entry))) b (tasks .bits) ⌝ }
+{
+    p[2568 + b] = tasks.bits;
+}
+
+// ---- Tasks.
+
+pub fn task_declared(p: &[u64], t: usize) -> bool
+    requires { ⌜ (length (now p) ≡ policyWords) × (t < 64) ⌝ }
+    ensures { λ r. ⌜ r ≡ there (policyOf (now (p .entry)) .tasks .template t) ⌝ }
+{
+    p[2824 + t] / 16 % 2 == 1
+}
+
+// Whether task t is declared, and of template j.
+pub fn task_is_of(p: &[u64], t: usize, j: u64) -> bool
+    requires { ⌜ (length (now p) ≡ policyWords) × ((t < 64) × (j < 16)) ⌝ }
+    ensures { λ r. ⌜ r ≡ is j (policyOf (now (p .entry)) .tasks .template t) ⌝ }
+{
+    p[2824 + t] % 32 == 16 + j
+}
+
+pub fn set_template(p: &mut [u64], t: usize, j: u64)
+    requires { ⌜ (length (now p) ≡ policyWords) × ((t < 64) × (j < 16)) ⌝ }
+    ensures { λ _. ⌜ policyOf (now (p .exit)) ≡ templateAnew (policyOf (now (p .entry))) t j ⌝ }
+{
+    p[2824 + t] = 16 + j;
+}
+
+pub fn open_to(p: &[u64], t: usize) -> Set
+    requires { ⌜ (length (now p) ≡ policyWords) × (t < 64) ⌝ }
+    ensures { λ r. ⌜ r .bits ≡ policyOf (now (p .entry)) .tasks .openTo t ⌝ }
+{
+    Set { bits: p[2888 + t] }
+}
+
+pub fn set_open_to(p: &mut [u64], t: usize, roles: Set)
+    requires { ⌜ (length (now p) ≡ policyWords) × (t < 64) ⌝ }
+    ensures { λ _. ⌜ policyOf (now (p .exit)) ≡ openToAnew (policyOf (now (p .entry))) t (roles .bits) ⌝ }
+{
+    p[2888 + t] = roles.bits;
+}
+
+pub fn banned(p: &[u64], j: usize) -> bool
+    requires { ⌜ (length (now p) ≡ policyWords) × (j < 16) ⌝ }
+    ensures { λ r. ⌜ r ≡ policyOf (now (p .entry)) .tasks .banned j ⌝ }
+{
+    p[3016 + j] % 2 == 1
+}
+
+pub fn set_banned(p: &mut [u64], j: usize)
+    requires { ⌜ (length (now p) ≡ policyWords) × (j < 16) ⌝ }
+    ensures { λ _. ⌜ policyOf (now (p .exit)) ≡ bannedAnew (policyOf (now (p .entry))) j ⌝ }
+{
+    p[3016 + j] = 1;
+}
+
+pub fn task_limited(p: &[u64], t: usize) -> bool
+    requires { ⌜ (length (now p) ≡ policyWords) × (t < 64) ⌝ }
+    ensures { λ r. ⌜ r ≡ there (policyOf (now (p .entry)) .tasks .most t) ⌝ }
+{
+    p[2952 + t] % 256 != 0
+}
+
+// Whether task t has a limit, and `times` reaches it.
+pub fn limit_reached(p: &[u64], t: usize, times: u64) -> bool
+    requires { ⌜ (length (now p) ≡ policyWords) × (t < 64) ⌝ }
+    ensures { λ r. ⌜ r ≡ holds (λ n. leb n times) (policyOf (now (p .entry)) .tasks .most t) ⌝ }
+{
+    let most = p[2952 + t] % 256;
+    (most != 0) & (most <= times)
+}
+
+pub fn set_most(p: &mut [u64], t: usize, n: u64)
+    requires { ⌜ (length (now p) ≡ policyWords) × ((t < 64) × ((0 < n) × (n < 256))) ⌝ }
+    ensures { λ _. ⌜ policyOf (now (p .exit)) ≡ mostAnew (policyOf (now (p .entry))) t n ⌝ }
+{
+    p[2952 + t] = n;
+}
+
+// ---- Rules: limits (static sets 0, dynamic sets 1, task sets 2), blocks, pairs (bindings 0, prerequisites 1).
+
+pub fn limit_count(p: &[u64], which: usize) -> usize
+    requires { ⌜ (length (now p) ≡ policyWords) × (which < 3) ⌝ }
+    ensures { λ r. ⌜ (r ≡ limitCount which (now (p .entry))) × (r ≤ 32) ⌝ }
+{
+    cut(p[1 + which], 32)
+}
+
+// A kept number of rows, cut at its limit.
+fn cut(count: u64, most: usize) -> usize
+    requires { ⌜ most ≤ 64 ⌝ }
+    ensures { λ r. ⌜ r ≡ min count most ⌝ }
+{
+    if count < most as u64 {
+        count as usize
+    } else {
+        most
+    }
+}
+
+pub fn limit_n(p: &[u64], which: usize, k: usize) -> u64
+    requires { ⌜ (length (now p) ≡ policyWords) × ((which < 3) × (k < 32)) ⌝ }
+    ensures { λ r. ⌜ r ≡ limitAt which (now (p .entry)) k .n ⌝ }
+{
+    p[3032 + 64 * which + k]
+}
+
+pub fn limit_members(p: &[u64], which: usize, k: usize) -> Set
+    requires { ⌜ (length (now p) ≡ policyWords) × ((which < 3) × (k < 32)) ⌝ }
+    ensures { λ r. ⌜ r .bits ≡ limitAt which (now (p .entry)) k .members ⌝ }
+{
+    Set {
+        bits: p[3064 + 64 * which + k],
+    }
+}
+
+pub fn add_limit(p: &mut [u64], which: usize, n: u64, members: Set)
+    requires { ⌜ (length (now p) ≡ policyWords) × ((which < 3) × (limitCount which (now p) < 32)) ⌝ }
+    ensures { λ _. ⌜ policyOf (now (p .exit)) ≡ limitAdded (policyOf (now (p .entry))) which n (members .bits) ⌝ }
+{
+    let k = limit_count(p, which);
+    p[3032 + 64 * which + k] = n;
+    p[3064 + 64 * which + k] = members.bits;
+    p[1 + which] = k as u64 + 1;
+}
+
+pub fn block_count(p: &[u64]) -> usize
+    requires { ⌜ length (now p) ≡ policyWords ⌝ }
+    ensures { λ r. ⌜ (r ≡ blockCount (now (p .entry))) × (r ≤ 64) ⌝ }
+{
+    cut(p[4], 64)
+}
+
+pub fn block_partitioning(p: &[u64], k: usize) -> u64
+    requires { ⌜ (length (now p) ≡ policyWords) × (k < 64) ⌝ }
+    ensures { λ r. ⌜ r ≡ blockAt (now (p .entry)) k .partitioning ⌝ }
+{
+    p[3224 + k] % 16
+}
+
+pub fn block_tasks(p: &[u64], k: usize) -> Set
+    requires { ⌜ (length (now p) ≡ policyWords) × (k < 64) ⌝ }
+    ensures { λ r. ⌜ r .bits ≡ blockAt (now (p .entry)) k .tasks ⌝ }
+{
+    Set { bits: p[3288 + k] }
+}
+
+pub fn add_block(p: &mut [u64], partitioning: u64, tasks: Set)
+    requires { ⌜ (length (now p) ≡ policyWords) × ((partitioning < 16) × (blockCount (now p) < 64)) ⌝ }
+    ensures { λ _. ⌜ policyOf (now (p .exit)) ≡ blockAdded (policyOf (now (p .entry))) partitioning (tasks .bits) ⌝ }
+{
+    let k = block_count(p);
+    p[3224 + k] = partitioning;
+    p[3288 + k] = tasks.bits;
+    p[4] = k as u64 + 1;
+}
+
+pub fn pair_count(p: &[u64], which: usize) -> usize
+    requires { ⌜ (length (now p) ≡ policyWords) × (which < 2) ⌝ }
+    ensures { λ r. ⌜ (r ≡ pairCount which (now (p .entry))) × (r ≤ 64) ⌝ }
+{
+    cut(p[5 + which], 64)
+}
+
+pub fn pair_a(p: &[u64], which: usize, k: usize) -> u64
+    requires { ⌜ (length (now p) ≡ policyWords) × ((which < 2) × (k < 64)) ⌝ }
+    ensures { λ r. ⌜ (r ≡ pairAt which (now (p .entry)) k .a) × (r < 64) ⌝ }
+{
+    p[3352 + 64 * which + k] % 64
+}
+
+pub fn pair_b(p: &[u64], which: usize, k: usize) -> u64
+    requires { ⌜ (length (now p) ≡ policyWords) × ((which < 2) × (k < 64)) ⌝ }
+    ensures { λ r. ⌜ (r ≡ pairAt which (now (p .entry)) k .b) × (r < 64) ⌝ }
+{
+    p[3352 + 64 * which + k] / 64 % 64
+}
+
+pub fn add_pair(p: &mut [u64], which: usize, a: u64, b: u64)
+    requires { ⌜ (length (now p) ≡ policyWords) × ((which < 2) × ((a < 64) × ((b < 64) × (pairCount which (now p) < 64)))) ⌝ }
+    ensures { λ _. ⌜ policyOf (now (p .exit)) ≡ pairAdded (policyOf (now (p .entry))) which a b ⌝ }
+{
+    let k = pair_count(p, which);
+    p[3352 + 64 * which + k] = a + 64 * b;
+    p[5 + which] = k as u64 + 1;
+}
+
+// ---- The empty policy: every word 0.
+pub fn clear(p: &mut [u64])
+    requires { ⌜ length (now p) ≡ policyWords ⌝ }
+    ensures { λ _. ⌜ Cleared (now (p .exit)) ⌝ }
+{
+    let mut i = 0;
+    while i < 3480 {
+        p[i] = 0;
+        i += 1;
+    }
+}
