@@ -28,6 +28,41 @@ table-off t l j v far = at (leb (t .first) j) refl
     at true e = column-above (t .read) (t .past) (t .first) (t .height) l j v (far (leb-true (t .first) j e))
     at false e = column-below (t .read) (t .past) (t .first) (t .height) l j v (leb-false (t .first) j e)
 
+-- ---- The kinds of rules.
+pub limits-off : (which : ℕ) (l : List ℕ) (j v : ℕ) → Outside (1 + which) (2 + which) j × Outside (3032 + 64 * which) (3096 + 64 * which) j → limitsIn which (set l j v) ≡ limitsIn which l
+unfolding limitAt limitCount
+limits-off which l j v h = λ x.
+    rows
+    (λ k.
+    record {
+      n = table-off (limitTable which) l j v (narrow (h .1) (omega arith)) x k;
+      members = table-off (memberTable which) l j v (narrow (h .1) (omega arith)) x k;
+    })
+    (min (getD-set-other l j (1 + which) v 0 (λ e. omega (arith, h .0 (omega arith))) x) 32)
+
+pub blocks-off : (l : List ℕ) (j v : ℕ) → Outside 4 5 j × Outside 3224 3352 j → blocksIn (set l j v) ≡ blocksIn l
+unfolding blockAt blockCount
+blocks-off l j v h = λ x.
+    rows
+    (λ k.
+    record {
+      partitioning = table-off partitioningTable l j v (narrow (h .1) (omega arith)) x k;
+      tasks = table-off blockTable l j v (narrow (h .1) (omega arith)) x k;
+    })
+    (min (getD-set-other l j 4 v 0 (λ e. omega (arith, h .0 (omega arith))) x) 64)
+
+pub pairs-off : (which : ℕ) (l : List ℕ) (j v : ℕ) → Outside (5 + which) (6 + which) j × Outside (3352 + 64 * which) (3416 + 64 * which) j → pairsIn which (set l j v) ≡ pairsIn which l
+unfolding pairAt pairCount
+pairs-off which l j v h = λ x.
+    rows
+    (λ k.
+    record {
+      a = table-off (pairTable which (λ w. w % 64)) l j v (narrow (h .1) (omega arith)) x k;
+      b = table-off (pairTable which (λ w. w / 64 % 64)) l j v (narrow (h .1) (omega arith)) x k;
+    })
+    (min (getD-set-other l j (5 + which) v 0 (λ e. omega (arith, h .0 (omega arith))) x) 64)
+
+-- ---- The groups of tables.
 module _ (l : List ℕ) (j v : ℕ) where
   pub people-off : (0 < j) × Outside 8 2056 j → peopleIn (set l j v) ≡ peopleIn l
   unfolding peopleIn
@@ -57,49 +92,16 @@ module _ (l : List ℕ) (j v : ℕ) where
         most = table-off mostTable l j v (narrow h (omega arith)) x;
       }
 
-  pub limits-off : (which : ℕ) → Outside (1 + which) (2 + which) j × Outside (3032 + 64 * which) (3096 + 64 * which) j → limitsIn which (set l j v) ≡ limitsIn which l
-  unfolding limitAt limitCount
-  limits-off which h = λ x.
-      rows
-      (λ k.
-      record {
-        n = table-off (limitTable which) l j v (narrow (h .1) (omega arith)) x k;
-        members = table-off (memberTable which) l j v (narrow (h .1) (omega arith)) x k;
-      })
-      (min (getD-set-other l j (1 + which) v 0 (λ e. omega (arith, h .0 (omega arith))) x) 32)
-
-  pub blocks-off : Outside 4 5 j × Outside 3224 3352 j → blocksIn (set l j v) ≡ blocksIn l
-  unfolding blockAt blockCount
-  blocks-off h = λ x.
-      rows
-      (λ k.
-      record {
-        partitioning = table-off partitioningTable l j v (narrow (h .1) (omega arith)) x k;
-        tasks = table-off blockTable l j v (narrow (h .1) (omega arith)) x k;
-      })
-      (min (getD-set-other l j 4 v 0 (λ e. omega (arith, h .0 (omega arith))) x) 64)
-
-  pub pairs-off : (which : ℕ) → Outside (5 + which) (6 + which) j × Outside (3352 + 64 * which) (3416 + 64 * which) j → pairsIn which (set l j v) ≡ pairsIn which l
-  unfolding pairAt pairCount
-  pairs-off which h = λ x.
-      rows
-      (λ k.
-      record {
-        a = table-off (pairTable which (λ w. w % 64)) l j v (narrow (h .1) (omega arith)) x k;
-        b = table-off (pairTable which (λ w. w / 64 % 64)) l j v (narrow (h .1) (omega arith)) x k;
-      })
-      (min (getD-set-other l j (5 + which) v 0 (λ e. omega (arith, h .0 (omega arith))) x) 64)
-
   pub rules-off : Outside 1 7 j × Outside 3032 3480 j → rulesIn (set l j v) ≡ rulesIn l
   unfolding rulesIn
   rules-off h = λ x.
       record {
-        statics = limits-off 0 (narrow (h .0) (omega arith), narrow (h .1) (omega arith)) x;
-        dynamics = limits-off 1 (narrow (h .0) (omega arith), narrow (h .1) (omega arith)) x;
-        taskSets = limits-off 2 (narrow (h .0) (omega arith), narrow (h .1) (omega arith)) x;
-        blocks = blocks-off (narrow (h .0) (omega arith), narrow (h .1) (omega arith)) x;
-        bindings = pairs-off 0 (narrow (h .0) (omega arith), narrow (h .1) (omega arith)) x;
-        befores = pairs-off 1 (narrow (h .0) (omega arith), narrow (h .1) (omega arith)) x;
+        statics = limits-off 0 l j v (narrow (h .0) (omega arith), narrow (h .1) (omega arith)) x;
+        dynamics = limits-off 1 l j v (narrow (h .0) (omega arith), narrow (h .1) (omega arith)) x;
+        taskSets = limits-off 2 l j v (narrow (h .0) (omega arith), narrow (h .1) (omega arith)) x;
+        blocks = blocks-off l j v (narrow (h .0) (omega arith), narrow (h .1) (omega arith)) x;
+        bindings = pairs-off 0 l j v (narrow (h .0) (omega arith), narrow (h .1) (omega arith)) x;
+        befores = pairs-off 1 l j v (narrow (h .0) (omega arith), narrow (h .1) (omega arith)) x;
       }
 
   -- ---- A store in the rules.
