@@ -57,6 +57,18 @@ module _ (w : ℕ) where
   unfolding mostOf
   most-reached times = holds-if (λ n. leb n times) (not (eqb (w % 256) 0)) (w % 256)
 
+-- two words of one template: one compare of both, where the first has a template
+pub template-same : (w v : ℕ) → eqb (w / 16 % 2) 1 && eqb (v % 32) (w % 32) ≡ holds (λ j. is j (templateOf v)) (templateOf w)
+unfolding templateOf holds
+template-same w v = at (eqb (w / 16 % 2) 1) refl
+  where
+    at : (t : Bool) → eqb (w / 16 % 2) 1 ≡ t → t && eqb (v % 32) (w % 32) ≡ holds (λ j. is j (templateOf v)) (cond t (just (w % 16)) none)
+    at true e =
+        let bit : w / 16 % 2 ≡ 1 = eqb-true _ _ e in
+        let whole : w % 32 ≡ 16 + w % 16 = omega arith in
+        rw whole (template-is v (w % 16) (omega arith))
+    at false e = refl
+
 -- ---- What a setter's word reads as.
 pub permission-word : (operation object : ℕ) → operation < 65536 → object < 65536 → permissionOf (4294967296 + operation + 65536 * object) ≡ just (record { operation = operation; object = object })
 unfolding permissionOf

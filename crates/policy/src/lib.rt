@@ -4,7 +4,7 @@ ghost use Prim.Native.Nat.{_<_, _≤_, min};
 ghost use lib.Dec.{leb};
 ghost use lib.ListN.{length};
 ghost use Rattle.paper_lower.specs.Lists.{holds, there, is};
-ghost use Rattle.paper_lower.specs.Policy.{isFor};
+ghost use Rattle.paper_lower.specs.Policy.{isFor, together};
 ghost use Rattle.policy.specs.Layout.{policyWords, flagOf, limitCount, limitAt, blockCount, blockAt, pairCount, pairAt};
 ghost use Rattle.policy.specs.Reading.{policyOf, Cleared, rolesAnew, userAnew, assignedAnew, permissionAnew, holdersAnew, carriersAnew, templateAnew, openToAnew, bannedAnew, mostAnew, limitAdded, blockAdded, pairAdded};
 use sets::Set;
@@ -122,6 +122,15 @@ pub fn task_is_of(p: &[u64], t: usize, j: u64) -> bool
     ensures { λ r. ⌜ r ≡ is j (policyOf (now (p .entry)) .tasks .template t) ⌝ }
 {
     p[2824 + t] % 32 == 16 + j
+}
+
+// Whether tasks a and b are declared, and of one template.
+pub fn same_template(p: &[u64], a: usize, b: usize) -> bool
+    requires { ⌜ (length (now p) ≡ policyWords) × ((a < 64) × (b < 64)) ⌝ }
+    ensures { λ r. ⌜ r ≡ together (policyOf (now (p .entry)) .tasks) a b ⌝ }
+{
+    let word = p[2824 + a];
+    (word / 16 % 2 == 1) & (p[2824 + b] % 32 == word % 32)
 }
 
 pub fn set_template(p: &mut [u64], t: usize, j: u64)
