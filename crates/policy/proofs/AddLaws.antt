@@ -12,11 +12,10 @@ use Rattle.paper_lower.specs.Lists.{upd, add, Every}
 use Rattle.paper_lower.specs.Tables.{Limit, Block, Pair, withRules}
 use Rattle.paper_lower.proofs.ListLaws.{upd-same, upd-other}
 use Rattle.replies.specs.Cells.{rows}
-use Rattle.replies.proofs.CellLaws.{column-same}
 use Rattle.replies.proofs.RowLaws.{rows-same, rows-more}
 use Rattle.policy.specs.Layout.{policyWords, Table, tableIn, limitTable, memberTable, limitCount, limitAt, limitsIn, partitioningTable, blockTable, blockCount, blockAt, blocksIn, pairTable, pairCount, pairAt, pairsIn}
 use Rattle.policy.specs.Reading.{rulesIn, policyOf, withLimits, withPairs, limitAdded, blockAdded, pairAdded}
-use Rattle.policy.proofs.Elsewhere.{Outside, table-off, limits-off, blocks-off, pairs-off, in-rules}
+use Rattle.policy.proofs.TableLaws.{Outside, table-same, table-off, limits-off, blocks-off, pairs-off, in-rules}
 use Rattle.policy.proofs.RuleLaws.{limits-are, pairs-are}
 
 -- ---- Several stores, first to last: each at a word, of a value.
@@ -62,9 +61,6 @@ by-kind rulesOf which l next xs same w other = at (eqb w which) refl
     at false e = other (eqb-false w which e)
 
 -- ---- A row more of two tables, and their kept number one higher.
-table-same : {A : Type 0} (t : Table A) (l : List ℕ) (k v : ℕ) → k < t .height → t .first + t .height ≤ length l → tableIn t (set l (t .first + k) v) ≡ upd (tableIn t l) k (t .read v)
-table-same t = column-same (t .read) (t .past) (t .first) (t .height)
-
 rows-added : {A : Type 0} (make : ℕ → ℕ → A) (f g : ℕ → ℕ) (k u v : ℕ) → rows (λ i. make (upd f k u i) (upd g k v i)) (k + 1) ≡ add (rows (λ i. make (f i) (g i)) k) (make u v)
 rows-added make f g k u v =
     rows-more (λ i. make (upd f k u i) (upd g k v i)) k

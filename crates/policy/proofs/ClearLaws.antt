@@ -1,14 +1,14 @@
 -- A buffer of zeros reads as the empty policy.
 use Prim.Native.Nat.{ℕ, _+_, _≤_}
 use mathlib.Core.List.{List, [], _++_, append-nil}
-use mathlib.Core.Path.{_≡_, refl, sym, ap, subst, _∙_}
+use mathlib.Core.Path.{_≡_, refl, ap, _∙_}
 use native.Mathlib.Omega.{arith}
 use lib.ListN.{length, getD, replicate, drop, drop-of-length-le}
 use Rattle.paper_lower.specs.Tables.{noPolicy}
 use Rattle.replies.specs.Cells.{rows}
 use Rattle.replies.proofs.CellLaws.{column-zeros, zeros-at}
 use Rattle.replies.proofs.RowLaws.{rows-end}
-use Rattle.policy.specs.Layout.{policyWords, permissionOf, templateOf, mostOf, Table, tableIn, userTable, assignedTable, permissionTable, holderTable, carrierTable, templateTable, openToTable, mostTable, bannedTable, limitCount, limitAt, limitsIn, blockCount, blockAt, blocksIn, pairCount, pairAt, pairsIn}
+use Rattle.policy.specs.Layout.{policyWords, permissionOf, templateOf, mostOf, Table, tableIn, userTable, assignedTable, permissionTable, holderTable, carrierTable, templateTable, openToTable, mostTable, bannedTable, limitCount, limitsIn, blockCount, blocksIn, pairCount, pairsIn}
 use Rattle.policy.specs.Reading.{peopleIn, permissionsIn, tasksIn, rulesIn, policyOf, Cleared}
 
 table-zeros : {A : Type 0} (t : Table A) (n : ℕ) → t .read 0 ≡ t .past → tableIn t (replicate n 0) ≡ (λ i. t .past)

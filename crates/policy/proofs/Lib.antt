@@ -1,5 +1,5 @@
 mod WordLaws
-mod Elsewhere
+mod TableLaws
 mod StoreLaws
 mod AddLaws
 mod ClearLaws

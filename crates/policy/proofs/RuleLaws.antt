@@ -1,5 +1,5 @@
 -- The rules of the policy as the kept rows of the buffer, for the loops above: their lists, their numbers, and what every content keeps.
-use Prim.Native.Nat.{ℕ, zero, suc, _+_, _≤_, _<_}
+use Prim.Native.Nat.{ℕ, zero, suc, _≤_, _<_}
 use mathlib.Core.List.{List}
 use mathlib.Core.Path.{_≡_, refl, ap, _∙_}
 use native.Mathlib.Omega.{arith}

@@ -10,11 +10,10 @@ use lib.ListN.{length, set, length-set}
 use lib.Seq.{getD-set-same, getD-set-other}
 use Rattle.paper_lower.specs.Lists.{upd}
 use Rattle.paper_lower.specs.Tables.{Policy}
-use Rattle.replies.proofs.CellLaws.{column-same}
 use Rattle.policy.specs.Layout.{policyWords, flagOf, Table, tableIn, userTable, assignedTable, permissionTable, holderTable, carrierTable, templateTable, openToTable, mostTable, bannedTable}
 use Rattle.policy.specs.Reading.{peopleIn, permissionsIn, tasksIn, policyOf, rolesAnew, userAnew, assignedAnew, permissionAnew, holdersAnew, carriersAnew, templateAnew, openToAnew, bannedAnew, mostAnew}
 use Rattle.policy.proofs.WordLaws.{permission-word, template-word, most-word}
-use Rattle.policy.proofs.Elsewhere.{Outside, table-off, permissions-off, tasks-off, rules-off}
+use Rattle.policy.proofs.TableLaws.{Outside, table-same, table-off, permissions-off, tasks-off, rules-off}
 
 -- the word b + i is the table's row i if the table starts at b, and else none of its words
 abbrev Beside : {A : Type 0} → Table A → ℕ → ℕ → Type 0
@@ -70,7 +69,7 @@ module _ (l : List ℕ) (room : length l ≡ policyWords) where
       at : (here : Bool) → eqb (t .first) b ≡ here → tableIn t (set l (b + i) v) ≡ cond here (upd (tableIn t l) i (t .read v)) (tableIn t l)
       at true e =
           let q = eqb-true (t .first) b e in
-          rw (← q) (column-same (t .read) (t .past) (t .first) (t .height) l i v (h .0 q) (omega arith))
+          rw (← q) (table-same t l i v (h .0 q) (omega arith))
       at false e = table-off t l (b + i) v (h .1 (eqb-false (t .first) b e))
 
   row-set : (b i v : ℕ) → RowOf b i → policyOf (set l (b + i) v) ≡ rowAnew b i v (policyOf l)

@@ -5,7 +5,7 @@ use mathlib.Core.Path.{_≡_, refl, ap, _∙_}
 use native.Mathlib.Omega.{arith}
 use borrow.Author.Tests.{eqb-true, eqb-false, eq-eqb, ne-eqb}
 use lib.Dec.{eqb, leb}
-use Rattle.paper_lower.specs.Lists.{Maybe, holds, there, is}
+use Rattle.paper_lower.specs.Lists.{holds, there, is}
 use Rattle.paper_lower.specs.Lists.Maybe.{none, just}
 use Rattle.paper_lower.specs.Policy.{isFor}
 use Rattle.policy.specs.Layout.{permissionOf, templateOf, mostOf}

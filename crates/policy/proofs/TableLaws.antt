@@ -1,4 +1,4 @@
--- A store elsewhere: each group of tables, and each kind of rules, is kept by a store outside its own words.
+-- A store at one word: a row anew of the table that it is in; each other table, group of tables and kind of rules is kept.
 use Prim.Native.Nat.{ℕ, _+_, _*_, _≤_, _<_, _/_, _%_, min}
 use mathlib.Core.Bool.{Bool, true, false}
 use mathlib.Core.List.{List}
@@ -6,11 +6,12 @@ use mathlib.Core.Path.{_≡_, refl}
 use native.Mathlib.Omega.{arith}
 use borrow.Author.Tests.{leb-true, leb-false}
 use lib.Dec.{leb}
-use lib.ListN.{set}
+use lib.ListN.{length, set}
 use lib.Seq.{getD-set-other}
+use Rattle.paper_lower.specs.Lists.{upd}
 use Rattle.paper_lower.specs.Tables.{withRules}
 use Rattle.replies.specs.Cells.{rows}
-use Rattle.replies.proofs.CellLaws.{column-below, column-above}
+use Rattle.replies.proofs.CellLaws.{column-same, column-below, column-above}
 use Rattle.policy.specs.Layout.{Table, tableIn, userTable, assignedTable, permissionTable, holderTable, carrierTable, templateTable, openToTable, mostTable, bannedTable, limitTable, memberTable, limitCount, limitAt, limitsIn, partitioningTable, blockTable, blockCount, blockAt, blocksIn, pairTable, pairCount, pairAt, pairsIn}
 use Rattle.policy.specs.Reading.{peopleIn, permissionsIn, tasksIn, rulesIn, policyOf}
 
@@ -20,6 +21,9 @@ Outside first last j = first ≤ j → last ≤ j
 
 narrow : {first last b e j : ℕ} → Outside first last j → (first ≤ b) × (e ≤ last) → Outside b e j
 narrow far h k = omega (arith, far (omega arith))
+
+pub table-same : {A : Type 0} (t : Table A) (l : List ℕ) (k v : ℕ) → k < t .height → t .first + t .height ≤ length l → tableIn t (set l (t .first + k) v) ≡ upd (tableIn t l) k (t .read v)
+table-same t = column-same (t .read) (t .past) (t .first) (t .height)
 
 pub table-off : {A : Type 0} (t : Table A) (l : List ℕ) (j v : ℕ) → Outside (t .first) (t .first + t .height) j → tableIn t (set l j v) ≡ tableIn t l
 table-off t l j v far = at (leb (t .first) j) refl

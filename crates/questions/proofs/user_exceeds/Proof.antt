@@ -1,0 +1,23 @@
+-- Written from Proof.tmpl by 'prove expand': edit that file.
+-- The user's flag, and n against the size of the overlap with the user's roles.
+use borrow.Author.Needs.{needs}
+use Rattle.paper_lower.specs.Policy.{breaks}
+use Rattle.questions.proofs.user_exceeds.Statement.{statement}
+use Rattle.questions.proofs.user_exceeds.Tie as tie
+
+user-declared-requires : tie.Need-user-declared-requires
+user-declared-requires c κs = search needs
+
+assigned-requires : tie.Need-assigned-requires
+assigned-requires c κs = search needs
+
+overlap-requires : tie.Need-overlap-requires
+overlap-requires c κs = search needs
+
+returns : tie.Need-returns
+unfolding breaks
+returns c = rw (c .before .before .user-declared .ensures, c .overlap .ensures, c .before .assigned .ensures)
+
+pub user-exceeds-spec : {M : Type 1} → statement M
+user-exceeds-spec =
+    tie.close (tie.spec user-declared-requires assigned-requires overlap-requires returns)

@@ -1,0 +1,20 @@
+-- What one row answers to a question of all rows.
+use Prim.Native.Nat.{ℕ}
+use mathlib.Core.Bool.{Bool, cond, _&&_}
+use lib.Dec.{eqb}
+use Rattle.paper_lower.specs.Sets.{Set, has, union, meets}
+use Rattle.paper_lower.specs.Lists.{holds}
+use Rattle.paper_lower.specs.Tables.{People, Permissions, Block}
+use Rattle.paper_lower.specs.Policy.{breaks, isFor}
+
+abbrev pub opens : Permissions → Set → ℕ → ℕ → ℕ → Bool
+opens k m operation object i = holds (isFor operation object) (k .declared i) && meets (k .holders i) m
+
+abbrev pub bears : Permissions → ℕ → ℕ → ℕ → ℕ → Bool
+bears k t operation object i = holds (isFor operation object) (k .declared i) && has (k .carriers i) t
+
+abbrev pub exceeds : People → ℕ → Set → ℕ → Bool
+exceeds k n m u = k .users u && breaks (k .assigned u) (record { n = n; members = m })
+
+abbrev pub joined : ℕ → Block → Set → Set
+joined a x rest = cond (eqb (x .partitioning) a) (union (x .tasks) rest) rest

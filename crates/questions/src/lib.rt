@@ -1,0 +1,285 @@
+// What the kinds ask of the policy: searches and folds over its rows, each equal to document 01's question of the policy's tables.
+// It rests on the getters of the policy buffer and on nothing of its layout.
+ghost use mathlib.Core.Path.{_≡_};
+ghost use mathlib.Core.Bool.{cond, _&&_};
+ghost use Prim.Native.Nat.{_<_};
+ghost use lib.ListN.{length};
+ghost use Rattle.paper_lower.specs.Sets.{has, plus};
+ghost use Rattle.paper_lower.specs.Lists.{someBelow, holds, some};
+ghost use Rattle.paper_lower.specs.Policy.{breaks, isFor, declaredTasks, tasksOf, hasTask, oneTemplate, sameLimit, sameBlock, samePair, partitioned};
+ghost use Rattle.paper_lower.specs.Sessions.{allowed};
+ghost use Rattle.policy.specs.Layout.{policyWords, limitAt, blockAt, pairAt};
+ghost use Rattle.policy.specs.Reading.{policyOf, limitsOf, pairsOf};
+ghost use Rattle.questions.specs.Rows.{opens, bears, exceeds, joined};
+use sets::Set;
+
+// ---- Permissions.
+
+// Whether some permission is for this operation on this object.
+pub fn pair_declared(p: &[u64], operation: u64, object: u64) -> bool
+    requires { ⌜ (length (now p) ≡ policyWords) × ((operation < 65536) × (object < 65536)) ⌝ }
+    ensures { λ r. ⌜ r ≡ someBelow 256 (λ i. holds (isFor operation object) (policyOf (now (p .entry)) .permissions .declared i)) ⌝ }
+{
+    let mut i = 0;
+    while i < 256 {
+        if policy::permission_is(p, i, operation, object) {
+            return true;
+        }
+        i += 1;
+    }
+    false
+}
+
+// Whether permission i is for this operation on this object, and one of the roles m has it.
+fn permission_opens(p: &[u64], i: usize, m: Set, operation: u64, object: u64) -> bool
+    requires { ⌜ (length (now p) ≡ policyWords) × ((i < 256) × ((operation < 65536) × (object < 65536))) ⌝ }
+    ensures { λ r. ⌜ r ≡ opens (policyOf (now (p .entry)) .permissions) (m .bits) operation object i ⌝ }
+{
+    if !policy::permission_is(p, i, operation, object) {
+        return false;
+    }
+    policy::holders(p, i).meets(m)
+}
+
+// Whether one of the roles m may do this operation on this object.
+pub fn allowed(p: &[u64], m: Set, operation: u64, object: u64) -> bool
+    requires { ⌜ (length (now p) ≡ policyWords) × ((operation < 65536) × (object < 65536)) ⌝ }
+    ensures { λ r. ⌜ r ≡ allowed (policyOf (now (p .entry)) .permissions) (m .bits) operation object ⌝ }
+{
+    let mut i = 0;
+    while i < 256 {
+        if permission_opens(p, i, m, operation, object) {
+            return true;
+        }
+        i += 1;
+    }
+    false
+}
+
+// Whether permission i is for this operation on this object, and task t carries it.
+fn permission_borne(p: &[u64], i: usize, t: u64, operation: u64, object: u64) -> bool
+    requires { ⌜ (length (now p) ≡ policyWords) × ((i < 256) × ((t < 64) × ((operation < 65536) × (object < 65536)))) ⌝ }
+    ensures { λ r. ⌜ r ≡ bears (policyOf (now (p .entry)) .permissions) t operation object i ⌝ }
+{
+    if !policy::permission_is(p, i, operation, object) {
+        return false;
+    }
+    policy::carriers(p, i).has(t)
+}
+
+// Whether task t carries a permission for this operation on this object.
+pub fn carried(p: &[u64], t: u64, operation: u64, object: u64) -> bool
+    requires { ⌜ (length (now p) ≡ policyWords) × ((t < 64) × ((operation < 65536) × (object < 65536))) ⌝ }
+    ensures { λ r. ⌜ r ≡ someBelow 256 (λ i. holds (isFor operation object) (policyOf (now (p .entry)) .permissions .declared i) && has (policyOf (now (p .entry)) .permissions .carriers i) t) ⌝ }
+{
+    let mut i = 0;
+    while i < 256 {
+        if permission_borne(p, i, t, operation, object) {
+            return true;
+        }
+        i += 1;
+    }
+    false
+}
+
+// ---- Tasks.
+
+fn with_if(m: Set, t: u64, more: bool) -> Set
+    requires { ⌜ t < 64 ⌝ }
+    ensures { λ r. ⌜ r .bits ≡ cond more (plus (m .bits) t) (m .bits) ⌝ }
+{
+    if more { m.with(t) } else { m }
+}
+
+pub fn declared_tasks(p: &[u64]) -> Set
+    requires { ⌜ length (now p) ≡ policyWords ⌝ }
+    ensures { λ r. ⌜ r .bits ≡ declaredTasks (policyOf (now (p .entry)) .tasks) ⌝ }
+{
+    let mut all = Set::EMPTY;
+    let mut t = 0;
+    while t < 64 {
+        all = with_if(all, t as u64, policy::task_declared(p, t));
+        t += 1;
+    }
+    all
+}
+
+pub fn tasks_of(p: &[u64], j: u64) -> Set
+    requires { ⌜ (length (now p) ≡ policyWords) × (j < 16) ⌝ }
+    ensures { λ r. ⌜ r .bits ≡ tasksOf (policyOf (now (p .entry)) .tasks) j ⌝ }
+{
+    let mut all = Set::EMPTY;
+    let mut t = 0;
+    while t < 64 {
+        all = with_if(all, t as u64, policy::task_is_of(p, t, j));
+        t += 1;
+    }
+    all
+}
+
+pub fn has_task(p: &[u64], j: u64) -> bool
+    requires { ⌜ (length (now p) ≡ policyWords) × (j < 16) ⌝ }
+    ensures { λ r. ⌜ r ≡ hasTask (policyOf (now (p .entry)) .tasks) j ⌝ }
+{
+    !tasks_of(p, j).is_empty()
+}
+
+// Whether the tasks m are all of one template.
+pub fn one_template(p: &[u64], m: Set) -> bool
+    requires { ⌜ length (now p) ≡ policyWords ⌝ }
+    ensures { λ r. ⌜ r ≡ oneTemplate (policyOf (now (p .entry)) .tasks) (m .bits) ⌝ }
+{
+    let mut j = 0;
+    while j < 16 {
+        if m.within(tasks_of(p, j)) {
+            return true;
+        }
+        j += 1;
+    }
+    false
+}
+
+// ---- Limits: static sets 0, dynamic sets 1, task sets 2.
+
+// Whether the roles m are more than row k allows: the ones of m cut with its members, compared with its n.
+fn limit_breaks(p: &[u64], which: usize, k: usize, m: Set) -> bool
+    requires { ⌜ (length (now p) ≡ policyWords) × ((which < 3) × (k < 32)) ⌝ }
+    ensures { λ r. ⌜ r ≡ breaks (m .bits) (limitAt which (now (p .entry)) k) ⌝ }
+{
+    policy::limit_n(p, which, k) < policy::limit_members(p, which, k).overlap(m)
+}
+
+// Whether the roles m break some limit.
+pub fn broken(p: &[u64], which: usize, m: Set) -> bool
+    requires { ⌜ (length (now p) ≡ policyWords) × (which < 3) ⌝ }
+    ensures { λ r. ⌜ r ≡ some (breaks (m .bits)) (limitsOf (policyOf (now (p .entry)) .rules) which) ⌝ }
+{
+    let n = policy::limit_count(p, which);
+    let mut k = 0;
+    while k < n {
+        if limit_breaks(p, which, k, m) {
+            return true;
+        }
+        k += 1;
+    }
+    false
+}
+
+fn limit_is(p: &[u64], which: usize, k: usize, n: u64, m: Set) -> bool
+    requires { ⌜ (length (now p) ≡ policyWords) × ((which < 3) × (k < 32)) ⌝ }
+    ensures { λ r. ⌜ r ≡ sameLimit n (m .bits) (limitAt which (now (p .entry)) k) ⌝ }
+{
+    (policy::limit_n(p, which, k) == n) & (policy::limit_members(p, which, k).bits == m.bits)
+}
+
+pub fn limit_repeated(p: &[u64], which: usize, n: u64, m: Set) -> bool
+    requires { ⌜ (length (now p) ≡ policyWords) × (which < 3) ⌝ }
+    ensures { λ r. ⌜ r ≡ some (sameLimit n (m .bits)) (limitsOf (policyOf (now (p .entry)) .rules) which) ⌝ }
+{
+    let count = policy::limit_count(p, which);
+    let mut k = 0;
+    while k < count {
+        if limit_is(p, which, k, n, m) {
+            return true;
+        }
+        k += 1;
+    }
+    false
+}
+
+// Whether user u is declared and has more than n of the roles m.
+fn user_exceeds(p: &[u64], u: usize, n: u64, m: Set) -> bool
+    requires { ⌜ (length (now p) ≡ policyWords) × (u < 1024) ⌝ }
+    ensures { λ r. ⌜ r ≡ exceeds (policyOf (now (p .entry)) .people) n (m .bits) u ⌝ }
+{
+    policy::user_declared(p, u) & (n < m.overlap(policy::assigned(p, u)))
+}
+
+// Whether some user has more than n of the roles m.
+pub fn user_breaks(p: &[u64], n: u64, m: Set) -> bool
+    requires { ⌜ length (now p) ≡ policyWords ⌝ }
+    ensures { λ r. ⌜ r ≡ someBelow 1024 (λ u. policyOf (now (p .entry)) .people .users u && breaks (policyOf (now (p .entry)) .people .assigned u) (record { n = n; members = m .bits })) ⌝ }
+{
+    let mut u = 0;
+    while u < 1024 {
+        if user_exceeds(p, u, n, m) {
+            return true;
+        }
+        u += 1;
+    }
+    false
+}
+
+// ---- Blocks.
+
+fn block_is(p: &[u64], k: usize, a: u64, m: Set) -> bool
+    requires { ⌜ (length (now p) ≡ policyWords) × (k < 64) ⌝ }
+    ensures { λ r. ⌜ r ≡ sameBlock a (m .bits) (blockAt (now (p .entry)) k) ⌝ }
+{
+    (policy::block_partitioning(p, k) == a) & (policy::block_tasks(p, k).bits == m.bits)
+}
+
+pub fn block_repeated(p: &[u64], a: u64, m: Set) -> bool
+    requires { ⌜ length (now p) ≡ policyWords ⌝ }
+    ensures { λ r. ⌜ r ≡ some (sameBlock a (m .bits)) (policyOf (now (p .entry)) .rules .blocks) ⌝ }
+{
+    let count = policy::block_count(p);
+    let mut k = 0;
+    while k < count {
+        if block_is(p, k, a, m) {
+            return true;
+        }
+        k += 1;
+    }
+    false
+}
+
+// The tasks of block k, if it is of partitioning a, and those gathered from the blocks behind it.
+fn with_block(p: &[u64], k: usize, a: u64, rest: Set) -> Set
+    requires { ⌜ (length (now p) ≡ policyWords) × (k < 64) ⌝ }
+    ensures { λ r. ⌜ r .bits ≡ joined a (blockAt (now (p .entry)) k) (rest .bits) ⌝ }
+{
+    if policy::block_partitioning(p, k) == a {
+        policy::block_tasks(p, k).union(rest)
+    } else {
+        rest
+    }
+}
+
+// The tasks in a partitioning's blocks.
+pub fn partitioned(p: &[u64], a: u64) -> Set
+    requires { ⌜ length (now p) ≡ policyWords ⌝ }
+    ensures { λ r. ⌜ r .bits ≡ partitioned a (policyOf (now (p .entry)) .rules .blocks) ⌝ }
+{
+    let mut all = Set::EMPTY;
+    let mut k = policy::block_count(p);
+    while 0 < k {
+        k -= 1;
+        all = with_block(p, k, a, all);
+    }
+    all
+}
+
+// ---- Pairs: bindings 0, prerequisites 1.
+
+fn pair_is(p: &[u64], which: usize, k: usize, a: u64, b: u64) -> bool
+    requires { ⌜ (length (now p) ≡ policyWords) × ((which < 2) × (k < 64)) ⌝ }
+    ensures { λ r. ⌜ r ≡ samePair a b (pairAt which (now (p .entry)) k) ⌝ }
+{
+    (policy::pair_a(p, which, k) == a) & (policy::pair_b(p, which, k) == b)
+}
+
+pub fn pair_repeated(p: &[u64], which: usize, a: u64, b: u64) -> bool
+    requires { ⌜ (length (now p) ≡ policyWords) × (which < 2) ⌝ }
+    ensures { λ r. ⌜ r ≡ some (samePair a b) (pairsOf (policyOf (now (p .entry)) .rules) which) ⌝ }
+{
+    let count = policy::pair_count(p, which);
+    let mut k = 0;
+    while k < count {
+        if pair_is(p, which, k, a, b) {
+            return true;
+        }
+        k += 1;
+    }
+    false
+}

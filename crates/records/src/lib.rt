@@ -1,0 +1,207 @@
+// Records by value, and the two checks that every record meets first: SHAPE and RANGE, from the bytes alone.
+// It rests on nothing but the paper's definitions.
+
+ghost use mathlib.Core.Path.{_≡_};
+ghost use Prim.Native.Nat.{_+_, _<_};
+ghost use lib.ListN.{length};
+ghost use Rattle.paper_lower.specs.Records.{number};
+ghost use Rattle.records.specs.Reading.{Decoded};
+ghost use Rattle.records.specs.Table.{bitOf, tableAt, misshapes, outranges};
+ghost use Rattle.records.specs.Verdict.{formsOf, Verdict};
+
+pub struct Record {
+    pub kind: u64,
+    pub n: u64,
+    pub a: u64,
+    pub b: u64,
+    pub c: u64,
+    pub m: u64,
+}
+
+// Which call a record is given to: the load, the lower part's request, or the whole engine's.
+pub enum Call {
+    Load,
+    Lower,
+    Request,
+}
+
+// What the bytes of a record are found to be.
+pub enum Judged {
+    Shape,
+    Range,
+    Fine(Record),
+}
+
+// A byte that was read, with its bound.
+fn wide(x: u8) -> u64
+    ensures { λ r. ⌜ (r ≡ x) × (r < 256) ⌝ }
+{
+    x as u64
+}
+
+fn quad(s: &[u8], at: usize) -> u64
+    requires { ⌜ at + 3 < length (now s) ⌝ }
+    ensures { λ r. ⌜ r ≡ number at 4 (now (s .entry)) ⌝ }
+{
+    let b0 = wide(s[at]);
+    let b1 = wide(s[at + 1]);
+    let b2 = wide(s[at + 2]);
+    let b3 = wide(s[at + 3]);
+    b0 + 256 * b1 + 65536 * b2 + 16777216 * b3
+}
+
+fn word(s: &[u8], at: usize) -> u64
+    requires { ⌜ at + 7 < length (now s) ⌝ }
+    ensures { λ r. ⌜ r ≡ number at 8 (now (s .entry)) ⌝ }
+{
+    let low = quad(s, at);
+    let high = quad(s, at + 4);
+    low + 4294967296 * high
+}
+
+// By two words of eight bytes, which the compiler reads at once.
+pub fn decode(s: &[u8]) -> Record
+    requires { ⌜ length (now s) ≡ 16 ⌝ }
+    ensures { λ r. ⌜ Decoded (now (s .entry)) r ⌝ }
+{
+    let first = word(s, 0);
+    let m = word(s, 8);
+    Record {
+        kind: first % 256,
+        n: first / 256 % 256,
+        a: first / 65536 % 65536,
+        b: first / 4294967296 % 65536,
+        c: first / 281474976710656,
+        m,
+    }
+}
+
+// The calls that take a kind, a bit for each call. The whole engine takes the lower part's kinds too.
+const LOAD: u64 = 1;
+
+const LOWER: u64 = 6;
+
+const UPPER: u64 = 4;
+
+// The fields that must be zero, by their bits in the record's first word and in m.
+const NO_N: u64 = 0xff00;
+
+const NO_A: u64 = 0xffff0000;
+
+const NO_B: u64 = 0xffff00000000;
+
+const NO_C: u64 = 0xffff000000000000;
+
+const NO_M: u64 = 0xffffffffffffffff;
+
+const ABOVE_PAIR: u64 = 0xffffffff00000000;
+
+// The limits.
+const USER: u64 = 1023;
+
+const ROLE: u64 = 63;
+
+const PERMISSION: u64 = 255;
+
+const TASK: u64 = 63;
+
+const TEMPLATE: u64 = 15;
+
+const PARTITIONING: u64 = 15;
+
+const SUBJECT: u64 = 127;
+
+const ORDER: u64 = 63;
+
+const ANY: u64 = 65535;
+
+// The form of a kind: the calls that take it; the bits of the first word, and of m, that must be zero; the limits of a, b and c.
+struct Form(u64, u64, u64, u64, u64, u64);
+
+// The one decision over kinds. Each kind has a line of its own, as neighbours in one line would be tested as a range before the others.
+fn form_of(kind: u64) -> Form
+    requires { ⌜ kind < 256 ⌝ }
+    ensures { λ f. ⌜ f ≡ tableAt kind ⌝ }
+{
+    match kind {
+        1 => Form(LOAD, NO_N | NO_B | NO_C, NO_M, USER, 0, 0),
+        2 => Form(LOAD, NO_N | NO_B | NO_C, NO_M, ROLE, 0, 0),
+        3 => Form(LOAD, NO_N, NO_M, PERMISSION, ANY, ANY),
+        4 => Form(LOAD, NO_N | NO_C, NO_M, USER, ROLE, 0),
+        5 => Form(LOAD, NO_N | NO_C, NO_M, ROLE, PERMISSION, 0),
+        6 => Form(LOAD, NO_N | NO_C, NO_M, TASK, TEMPLATE, 0),
+        7 => Form(LOAD, NO_N | NO_C, NO_M, TASK, ROLE, 0),
+        8 => Form(LOAD, NO_N | NO_C, NO_M, TASK, PERMISSION, 0),
+        9 => Form(LOAD, NO_A | NO_B | NO_C, 0, 0, 0, 0),
+        10 => Form(LOAD, NO_A | NO_B | NO_C, 0, 0, 0, 0),
+        11 => Form(LOAD, NO_A | NO_B | NO_C, 0, 0, 0, 0),
+        12 => Form(LOAD, NO_N | NO_B | NO_C, 0, PARTITIONING, 0, 0),
+        13 => Form(LOAD, NO_N | NO_B | NO_C, NO_M, TEMPLATE, 0, 0),
+        14 => Form(LOAD, NO_B | NO_C, NO_M, TASK, 0, 0),
+        15 => Form(LOAD, NO_N | NO_C, NO_M, TASK, TASK, 0),
+        16 => Form(LOAD, NO_N | NO_C, NO_M, TASK, TASK, 0),
+        32 => Form(LOWER, NO_N | NO_B | NO_C, NO_M, USER, 0, 0),
+        33 => Form(LOWER, NO_N | NO_B | NO_C, NO_M, USER, 0, 0),
+        34 => Form(LOWER, NO_N | NO_C, NO_M, USER, ROLE, 0),
+        35 => Form(LOWER, NO_N | NO_C, NO_M, USER, ROLE, 0),
+        36 => Form(LOWER, NO_N | NO_C, NO_M, ROLE, PERMISSION, 0),
+        37 => Form(LOWER, NO_N | NO_C, NO_M, ROLE, PERMISSION, 0),
+        40 => Form(LOWER, NO_N | NO_C, 0, SUBJECT, USER, 0),
+        41 => Form(LOWER, NO_N | NO_B | NO_C, NO_M, SUBJECT, 0, 0),
+        42 => Form(LOWER, NO_N | NO_C, NO_M, SUBJECT, ROLE, 0),
+        43 => Form(LOWER, NO_N | NO_C, NO_M, SUBJECT, ROLE, 0),
+        48 => Form(UPPER, NO_N | NO_C, NO_M, ORDER, TEMPLATE, 0),
+        49 => Form(UPPER, NO_N | NO_B | NO_C, NO_M, ORDER, 0, 0),
+        50 => Form(UPPER, NO_N, NO_M, SUBJECT, ORDER, TASK),
+        51 => Form(UPPER, NO_N, NO_M, SUBJECT, ORDER, TASK),
+        52 => Form(UPPER, NO_N, NO_M, SUBJECT, ORDER, TASK),
+        56 => Form(LOWER, NO_N, NO_M, SUBJECT, ANY, ANY),
+        57 => Form(UPPER, NO_N, ABOVE_PAIR, SUBJECT, ORDER, TASK),
+        _ => Form(0, 0, 0, 0, 0, 0),
+    }
+}
+
+fn bit(call: Call) -> u64
+    ensures { λ r. ⌜ r ≡ bitOf call ⌝ }
+{
+    match call {
+        Call::Load => 1,
+        Call::Lower => 2,
+        Call::Request => 4,
+    }
+}
+
+// SHAPE, of sixteen bytes. The fields that must be zero are tested together, by the word that holds them.
+fn misshapen(call: Call, f: Form, first: u64, m: u64) -> bool
+    ensures { λ r. ⌜ r ≡ misshapes (bitOf call) f first m ⌝ }
+{
+    (f.0 & bit(call) == 0) | (first & f.1 != 0) | (m & f.2 != 0)
+}
+
+// RANGE, of a record that is not misshapen.
+fn out_of_range(f: Form, r: Record) -> bool
+    ensures { λ x. ⌜ x ≡ outranges f r ⌝ }
+{
+    (f.3 < r.a) | (f.4 < r.b) | (f.5 < r.c)
+}
+
+// The first two checks on any bytes, for any call.
+pub fn judge(call: Call, s: &[u8]) -> Judged
+    ensures { λ j. ⌜ Verdict (formsOf call) (now (s .entry)) j ⌝ }
+{
+    if s.len() != 16 {
+        return Judged::Shape;
+    }
+    let r = decode(s);
+    let kind = r.kind;
+    let m = r.m;
+    let first = word(s, 0);
+    let f = form_of(kind);
+    if misshapen(call, f, first, m) {
+        return Judged::Shape;
+    }
+    if out_of_range(f, r) {
+        return Judged::Range;
+    }
+    Judged::Fine(r)
+}
