@@ -1,0 +1,72 @@
+-- Gathering, an entry at a time; and the number of a task's entries is no more than there are.
+use Prim.Native.Nat.{ℕ, _+_, _≤_}
+use mathlib.Core.Bool.{Bool, true, false, not, cond, _&&_, _||_}
+use mathlib.Core.List.{List, _∷_}
+use mathlib.Core.Path.{_≡_, refl}
+use native.Mathlib.Omega.{arith}
+use lib.Dec.{eqb}
+use lib.ListN.{getD}
+use Rattle.paper_lower.specs.Sets.{plus}
+use Rattle.paper_lower.specs.Lists.{some, many, keep, each}
+use Rattle.paper_upper.specs.Orders.{Standing, Entry, isHeld, isDone, inOrder, ofTask, ofUser, tasksWhere, tasksBy, tasksDone, tasksOthers}
+use Rattle.paper_upper.specs.Orders.Standing.{held, done}
+use Rattle.ledger.specs.declared.Gathered.{Gathered}
+use Rattle.ledger.specs.Reading.{entryOf, newestFirst, wordsTo}
+use Rattle.ledger.specs.Gathering.{digit, gatheredOf, takenIn, withEntry}
+use Rattle.ledger.proofs.ListLaws.{many-kept, many-each}
+use Rattle.ledger.proofs.OrdersLaws.{words-more, many-words}
+
+digit-or : (a b : Bool) → cond a 1 (digit b) ≡ digit (a || b)
+digit-or true b = refl
+digit-or false b = refl
+
+one-held : (x : Standing) (b y : Bool) → cond (b && not (isDone x)) 1 (digit y) ≡ digit ((b && isHeld x) || y)
+unfolding isHeld isDone
+one-held (held a) b y = digit-or (b && true) y
+one-held done b y = digit-or (b && false) y
+
+one-more : (b : Bool) (e : Entry) (es : List Entry) → cond b (many es + 1) (many es) ≡ many (cond b (e ∷ es) es)
+unfolding many
+one-more true e es = omega arith
+one-more false e es = refl
+
+module _ (i u t : ℕ) where
+  -- what is gathered of an entry and those behind it, where it is of the instance or not
+  gatheredIf : Bool → Entry → List Entry → Gathered
+  gatheredIf b e es =
+      record {
+        mine = cond (b && eqb (e .user) u) (plus (tasksBy i u es) (e .task)) (tasksBy i u es);
+        done = cond (b && isDone (e .standing)) (plus (tasksDone i es) (e .task)) (tasksDone i es);
+        others = cond (b && not (eqb (e .user) u)) (plus (tasksOthers i u es) (e .task)) (tasksOthers i u es);
+        times = many (cond (b && eqb (e .task) t) (e ∷ keep (ofTask i t) es) (keep (ofTask i t) es));
+        held = digit (((b && eqb (e .task) t) && isHeld (e .standing)) || some (λ e. ofTask i t e && isHeld (e .standing)) es);
+      }
+
+  gathered-if : (b : Bool) (e : Entry) (es : List Entry) → cond b (takenIn u t (e .user) (e .task) (isDone (e .standing)) (gatheredOf i u t es)) (gatheredOf i u t es) ≡ gatheredIf b e es
+  unfolding gatheredIf gatheredOf takenIn
+  gathered-if true e es = λ x. record {
+    mine = cond (eqb (e .user) u) (plus (tasksBy i u es) (e .task)) (tasksBy i u es);
+    done = cond (isDone (e .standing)) (plus (tasksDone i es) (e .task)) (tasksDone i es);
+    others = cond (not (eqb (e .user) u)) (plus (tasksOthers i u es) (e .task)) (tasksOthers i u es);
+    times = one-more (eqb (e .task) t) e (keep (ofTask i t) es) x;
+    held = one-held (e .standing) (eqb (e .task) t) (some (λ e. ofTask i t e && isHeld (e .standing)) es) x;
+  }
+  gathered-if false e es = refl
+
+  pub entry-more : (e : Entry) (es : List Entry) → withEntry i u t e (gatheredOf i u t es) ≡ gatheredOf i u t (e ∷ es)
+  unfolding withEntry gatheredIf gatheredOf tasksBy tasksDone tasksOthers tasksWhere ofUser ofTask some keep
+  entry-more e es = gathered-if (inOrder i e) e es
+
+  -- ---- The walk: after k turns, what is gathered of the first k words.
+  pub gather-none : (l : List ℕ) → _≡_ {A = Gathered} (record { mine = 0; done = 0; others = 0; times = 0; held = 0 }) (gatheredOf i u t (each entryOf (wordsTo l 0)))
+  unfolding each wordsTo newestFirst gatheredOf tasksBy tasksDone tasksOthers tasksWhere many keep some
+  gather-none l = refl
+
+  pub gather-turn : (l : List ℕ) (k : ℕ) {g : Gathered} → g ≡ gatheredOf i u t (each entryOf (wordsTo l k)) → withEntry i u t (entryOf (getD l (65 + k) 0)) g ≡ gatheredOf i u t (each entryOf (wordsTo l (k + 1)))
+  unfolding each
+  gather-turn l k h = rw (words-more l k, h) (entry-more (entryOf (getD l (65 + k) 0)) (each entryOf (wordsTo l k)))
+
+  pub times-le : (l : List ℕ) (k : ℕ) {g : Gathered} → g ≡ gatheredOf i u t (each entryOf (wordsTo l k)) → g .times ≤ k
+  unfolding gatheredOf
+  times-le l k h =
+      rw h (omega (arith, many-kept (ofTask i t) (each entryOf (wordsTo l k)), many-each entryOf (wordsTo l k), many-words l k))

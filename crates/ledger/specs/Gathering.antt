@@ -1,0 +1,38 @@
+-- What a claim of task t by user u in instance i asks of the entries, all of it gathered in one walk.
+use Prim.Native.Nat.{ℕ, _+_}
+use mathlib.Core.Bool.{Bool, not, cond, _&&_}
+use mathlib.Core.List.{List}
+use lib.Dec.{eqb}
+use Rattle.paper_lower.specs.Sets.{plus}
+use Rattle.paper_lower.specs.Lists.{some, many, keep}
+use Rattle.paper_upper.specs.Orders.{Entry, isHeld, isDone, inOrder, ofTask, tasksBy, tasksDone, tasksOthers}
+use Rattle.ledger.specs.declared.Gathered.{Gathered}
+
+-- a Boolean as a number
+abbrev pub digit : Bool → ℕ
+digit b = cond b 1 0
+
+unfoldable pub gatheredOf : ℕ → ℕ → ℕ → List Entry → Gathered
+gatheredOf i u t es =
+    record {
+      mine = tasksBy i u es;
+      done = tasksDone i es;
+      others = tasksOthers i u es;
+      times = many (keep (ofTask i t) es);
+      held = digit (some (λ e. ofTask i t e && isHeld (e .standing)) es);
+    }
+
+-- one entry more of the instance: its user, its task, and whether it is done
+unfoldable pub takenIn : ℕ → ℕ → ℕ → ℕ → Bool → Gathered → Gathered
+takenIn u t user task finished g =
+    record {
+      mine = cond (eqb user u) (plus (g .mine) task) (g .mine);
+      done = cond finished (plus (g .done) task) (g .done);
+      others = cond (not (eqb user u)) (plus (g .others) task) (g .others);
+      times = cond (eqb task t) (g .times + 1) (g .times);
+      held = cond (eqb task t && not finished) 1 (g .held);
+    }
+
+-- one entry more
+unfoldable pub withEntry : ℕ → ℕ → ℕ → Entry → Gathered → Gathered
+withEntry i u t e g = cond (inOrder i e) (takenIn u t (e .user) (e .task) (isDone (e .standing)) g) g

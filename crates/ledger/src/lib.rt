@@ -1,0 +1,309 @@
+// The orders buffer: 64 instances, and the ledger, whose entries stand one behind the other, a word each.
+// Each function equals what paper_upper defines over the tables that the buffer reads as (specs/Reading).
+ghost use mathlib.Core.Path.{_≡_};
+ghost use Prim.Native.Nat.{_+_, _/_, _%_, _<_, _≤_};
+ghost use lib.ListN.{length};
+ghost use mathlib.Core.Bool.{cond, not, _&&_};
+ghost use mathlib.Core.List.{_∷_};
+ghost use lib.Dec.{eqb};
+ghost use Rattle.paper_lower.specs.Sets.{plus};
+ghost use Rattle.paper_lower.specs.Lists.{some, many, keep, each};
+ghost use Rattle.paper_lower.specs.Lists.Maybe.{just, none};
+ghost use Rattle.paper_upper.specs.Orders.{entry, isHeld, isHeldBy, inOrder, heldBy};
+ghost use Rattle.paper_upper.specs.Orders.Standing.{held};
+ghost use Rattle.paper_upper.specs.Requests.{turned};
+ghost use Rattle.ledger.specs.Reading.{ordersWords, Cleared, ordersOf, wordsOf, withInstance, withLedger, openedOf, inOpenOrder, templateOf, entryOf, keyOf, fits, stays, turnedWord};
+ghost use Rattle.ledger.specs.Gathering.{gatheredOf, takenIn, withEntry};
+use sets::set_of;
+
+// The length of the buffer, the word of the first entry, and how many entries there are at most.
+const WORDS: usize = 2113;
+
+const FIRST: usize = 65;
+
+const MOST: u64 = 2048;
+
+// What of an entry's word a test looks at: its instance; and whether it is held; and its task and subject; or only whether it is held, and its subject.
+const ORDER: u64 = 63;
+
+const ORDER_HELD: u64 = 127;
+
+const HELD_BY: u64 = 1048575;
+
+const HOLDER: u64 = 1040448;
+
+pub struct Instance {
+    pub open: bool,
+    pub template: u64,
+}
+
+pub fn opened(o: &[u64], i: u64) -> Instance
+    requires { ⌜ (length (now o) ≡ ordersWords) × (i < 64) ⌝ }
+    ensures { λ r. ⌜ (openedOf r ≡ ordersOf (now (o .entry)) .opened i) × (r .template < 16) ⌝ }
+{
+    let w = o[1 + i as usize];
+    Instance {
+        open: w / 16 % 2 == 1,
+        template: w % 16,
+    }
+}
+
+fn set_instance(o: &mut [u64], i: u64, w: u64)
+    requires { ⌜ (length (now o) ≡ ordersWords) × (i < 64) ⌝ }
+    ensures { λ _. ⌜ ordersOf (now (o .exit)) ≡ withInstance (ordersOf (now (o .entry))) i (templateOf w) ⌝ }
+{
+    o[1 + i as usize] = w;
+}
+
+pub fn set_opened(o: &mut [u64], i: u64, j: u64)
+    requires { ⌜ (length (now o) ≡ ordersWords) × ((i < 64) × (j < 16)) ⌝ }
+    ensures { λ _. ⌜ ordersOf (now (o .exit)) ≡ withInstance (ordersOf (now (o .entry))) i (just j) ⌝ }
+{
+    set_instance(o, i, 16 + j);
+}
+
+pub fn in_use(o: &[u64]) -> usize
+    requires { ⌜ length (now o) ≡ ordersWords ⌝ }
+    ensures { λ r. ⌜ (r ≡ many (ordersOf (now (o .entry)) .entries)) × (r ≤ 2048) ⌝ }
+{
+    let n = o[0];
+    if n < MOST { n as usize } else { MOST as usize }
+}
+
+// The tasks of one instance with an entry of the user, with a done entry, with an entry of another user; the entries of one task, and 1 where one of
+// them is held. All are u64: the padding of a bool would go through memory at each turn.
+pub struct Gathered {
+    pub mine: u64,
+    pub done: u64,
+    pub others: u64,
+    pub times: u64,
+    pub held: u64,
+}
+
+fn pick(c: bool, a: u64, b: u64) -> u64
+    ensures { λ r. ⌜ r ≡ cond c a b ⌝ }
+{
+    if c { a } else { b }
+}
+
+fn more_if(c: bool, n: u64) -> u64
+    requires { ⌜ n < 2048 ⌝ }
+    ensures { λ r. ⌜ r ≡ cond c (n + 1) n ⌝ }
+{
+    if c { n + 1 } else { n }
+}
+
+fn with_if(c: bool, tasks: u64, t: u64) -> u64
+    requires { ⌜ t < 64 ⌝ }
+    ensures { λ r. ⌜ r ≡ cond c (plus tasks t) tasks ⌝ }
+{
+    let more = set_of(tasks).with(t);
+    pick(c, more.bits, tasks)
+}
+
+// One entry more of the instance, without a branch.
+fn take_in(g: Gathered, w: u64, u: u64, t: u64) -> Gathered
+    requires { ⌜ g .times < 2048 ⌝ }
+    ensures { λ r. ⌜ r ≡ takenIn u t (w / 1048576 % 1024) (w / 128 % 64) (eqb (w / 64 % 2) 1) g ⌝ }
+{
+    let task = w / 128 % 64;
+    let own = w / 1048576 % 1024 == u;
+    let this = task == t;
+    let finished = w / 64 % 2 == 1;
+    let mine = with_if(own, g.mine, task);
+    let done = with_if(finished, g.done, task);
+    let others = with_if(!own, g.others, task);
+    let times = more_if(this, g.times);
+    let held = pick(this & !finished, 1, g.held);
+    Gathered {
+        mine,
+        done,
+        others,
+        times,
+        held,
+    }
+}
+
+// One compare before anything else is read of the word: most words are of other instances.
+fn step(g: Gathered, w: u64, i: u64, u: u64, t: u64) -> Gathered
+    requires { ⌜ g .times < 2048 ⌝ }
+    ensures { λ r. ⌜ r ≡ withEntry i u t (entryOf w) g ⌝ }
+{
+    if w % 64 != i {
+        return g;
+    }
+    take_in(g, w, u, t)
+}
+
+// What a claim of task t by user u in instance i asks of the entries.
+pub fn gather(o: &[u64], i: u64, u: u64, t: u64) -> Gathered
+    requires { ⌜ length (now o) ≡ ordersWords ⌝ }
+    ensures { λ r. ⌜ r ≡ gatheredOf i u t (ordersOf (now (o .entry)) .entries) ⌝ }
+{
+    let n = in_use(o);
+    let mut g = Gathered {
+        mine: 0,
+        done: 0,
+        others: 0,
+        times: 0,
+        held: 0,
+    };
+    let mut k = 0;
+    while k < n {
+        let w = o[FIRST + k];
+        g = step(g, w, i, u, t);
+        k += 1;
+    }
+    g
+}
+
+// The part of an entry's word below its user: task t of instance i, held by subject a.
+fn key_of(i: u64, t: u64, a: u64) -> u64
+    requires { ⌜ (i < 64) × ((t < 64) × (a < 128)) ⌝ }
+    ensures { λ r. ⌜ r ≡ keyOf i t a ⌝ }
+{
+    i + 128 * t + 8192 * a
+}
+
+// Subject a, of user u, takes task t of instance i: the entry takes the next word.
+pub fn enter(o: &mut [u64], i: u64, u: u64, t: u64, a: u64)
+    requires { ⌜ (length (now o) ≡ ordersWords) × ((many (ordersOf (now o) .entries) < 2048) × ((u < 1024) × ((i < 64) × ((t < 64) × (a < 128))))) ⌝ }
+    ensures { λ _. ⌜ ordersOf (now (o .exit)) ≡ withLedger (ordersOf (now (o .entry))) (entry i u t (held a) ∷ ordersOf (now (o .entry)) .entries) ⌝ }
+{
+    let n = in_use(o);
+    let key = key_of(i, t, a);
+    o[FIRST + n] = key + 1048576 * u;
+    o[0] = n as u64 + 1;
+}
+
+// Removes each entry whose word, cut by the mask, is the key; the others keep their order. Each word is stored, and where it is not to stay it is
+// stored over: a branch would be hard to foretell.
+fn remove(o: &mut [u64], mask: u64, key: u64)
+    requires { ⌜ length (now o) ≡ ordersWords ⌝ }
+    ensures { λ _. ⌜ ordersOf (now (o .exit)) ≡ withLedger (ordersOf (now (o .entry))) (each entryOf (keep (stays mask key) (wordsOf (now (o .entry))))) ⌝ }
+{
+    let n = in_use(o);
+    let mut to: u64 = 0;
+    let mut k = 0;
+    while k < n {
+        let w = o[FIRST + k];
+        o[FIRST + to as usize] = w;
+        to = more_if(w & mask != key, to);
+        k += 1;
+    }
+    o[0] = to;
+}
+
+pub fn release(o: &mut [u64], i: u64, t: u64, a: u64)
+    requires { ⌜ (length (now o) ≡ ordersWords) × ((i < 64) × ((t < 64) × (a < 128))) ⌝ }
+    ensures { λ _. ⌜ ordersOf (now (o .exit)) ≡ withLedger (ordersOf (now (o .entry))) (keep (λ e. not (heldBy i t a e)) (ordersOf (now (o .entry)) .entries)) ⌝ }
+{
+    let key = key_of(i, t, a);
+    remove(o, HELD_BY, key);
+}
+
+// The instance is closed, and its entries go.
+pub fn end_order(o: &mut [u64], i: u64)
+    requires { ⌜ (length (now o) ≡ ordersWords) × (i < 64) ⌝ }
+    ensures { λ _. ⌜ ordersOf (now (o .exit)) ≡ withInstance (withLedger (ordersOf (now (o .entry))) (keep (λ e. not (inOrder i e)) (ordersOf (now (o .entry)) .entries))) i none ⌝ }
+{
+    remove(o, ORDER, i);
+    set_instance(o, i, 0);
+}
+
+fn turn(w: u64, key: u64) -> u64
+    requires { ⌜ key % 128 < 64 ⌝ }
+    ensures { λ r. ⌜ r ≡ turnedWord key w ⌝ }
+{
+    if w & HELD_BY == key { w + 64 } else { w }
+}
+
+pub fn finish(o: &mut [u64], i: u64, t: u64, a: u64)
+    requires { ⌜ (length (now o) ≡ ordersWords) × ((i < 64) × ((t < 64) × (a < 128))) ⌝ }
+    ensures { λ _. ⌜ ordersOf (now (o .exit)) ≡ withLedger (ordersOf (now (o .entry))) (each (turned i t a) (ordersOf (now (o .entry)) .entries)) ⌝ }
+{
+    let n = in_use(o);
+    let key = key_of(i, t, a);
+    let mut k = 0;
+    while k < n {
+        let w = o[FIRST + k];
+        o[FIRST + k] = turn(w, key);
+        k += 1;
+    }
+}
+
+// Whether the word of some entry, cut by the mask, is the key.
+fn any_entry(o: &[u64], mask: u64, key: u64) -> bool
+    requires { ⌜ length (now o) ≡ ordersWords ⌝ }
+    ensures { λ r. ⌜ r ≡ some (fits mask key) (wordsOf (now (o .entry))) ⌝ }
+{
+    let n = in_use(o);
+    let mut k = 0;
+    while k < n {
+        let w = o[FIRST + k];
+        if w & mask == key {
+            return true;
+        }
+        k += 1;
+    }
+    false
+}
+
+pub fn holds_task(o: &[u64], i: u64, t: u64, a: u64) -> bool
+    requires { ⌜ (length (now o) ≡ ordersWords) × ((i < 64) × ((t < 64) × (a < 128))) ⌝ }
+    ensures { λ r. ⌜ r ≡ some (heldBy i t a) (ordersOf (now (o .entry)) .entries) ⌝ }
+{
+    let key = key_of(i, t, a);
+    any_entry(o, HELD_BY, key)
+}
+
+pub fn order_held(o: &[u64], i: u64) -> bool
+    requires { ⌜ (length (now o) ≡ ordersWords) × (i < 64) ⌝ }
+    ensures { λ r. ⌜ r ≡ some (λ e. inOrder i e && isHeld (e .standing)) (ordersOf (now (o .entry)) .entries) ⌝ }
+{
+    any_entry(o, ORDER_HELD, i)
+}
+
+// Whether the subject holds any task, of whatever instance.
+pub fn holds_any(o: &[u64], a: u64) -> bool
+    requires { ⌜ (length (now o) ≡ ordersWords) × (a < 128) ⌝ }
+    ensures { λ r. ⌜ r ≡ some (λ e. isHeldBy a (e .standing)) (ordersOf (now (o .entry)) .entries) ⌝ }
+{
+    any_entry(o, HOLDER, 8192 * a)
+}
+
+fn is_in_open(o: &[u64], w: u64, u: u64) -> bool
+    requires { ⌜ length (now o) ≡ ordersWords ⌝ }
+    ensures { λ r. ⌜ r ≡ inOpenOrder (ordersOf (now (o .entry))) u (entryOf w) ⌝ }
+{
+    let x = opened(o, w % 64);
+    (w / 1048576 % 1024 == u) & x.open
+}
+
+// Whether the user has an entry in an open instance.
+pub fn in_open_order(o: &[u64], u: u64) -> bool
+    requires { ⌜ length (now o) ≡ ordersWords ⌝ }
+    ensures { λ r. ⌜ r ≡ some (inOpenOrder (ordersOf (now (o .entry))) u) (ordersOf (now (o .entry)) .entries) ⌝ }
+{
+    let n = in_use(o);
+    let mut k = 0;
+    while k < n {
+        let w = o[FIRST + k];
+        if is_in_open(o, w, u) {
+            return true;
+        }
+        k += 1;
+    }
+    false
+}
+
+pub fn clear(o: &mut [u64])
+    requires { ⌜ length (now o) ≡ ordersWords ⌝ }
+    ensures { λ _. ⌜ Cleared (now (o .exit)) ⌝ }
+{
+    let mut k = 0;
+    while k < WORDS {
+        o[k] = 0;
+        k += 1;
+    }
+}
