@@ -1,10 +1,10 @@
--- What a store does to a column, and columns of zeros.
+-- What a store does to a column, columns of zeros, and packed words.
 use Prim.Native.Nat.{ℕ, zero, suc, _+_, _≤_, _<_}
-use mathlib.Core.Bool.{Bool, true, false, cond}
+use mathlib.Core.Bool.{Bool, true, false, cond, _&&_}
 use mathlib.Core.List.{List}
 use mathlib.Core.Path.{_≡_, refl, ap, fun-ext}
 use native.Mathlib.Omega.{arith}
-use borrow.Author.Tests.{lt-ltb, ltb-true, eqb-true, eqb-false}
+use borrow.Author.Tests.{lt-ltb, ltb-true, eq-eqb, ne-eqb, eqb-true, eqb-false}
 use lib.Dec.{ltb, eqb}
 use lib.ListN.{length, getD, set, replicate}
 use lib.Seq.{getD-set-same, getD-set-other}
@@ -55,3 +55,12 @@ column-zeros g b n k = fun-ext (λ i. at i (ltb i n))
     at : (i : ℕ) (t : Bool) → cond t (g (getD (replicate k 0) (b + i) 0)) (g 0) ≡ g 0
     at i true = ap g (zeros-at k (b + i))
     at i false = refl
+
+-- one compare of a packed word for a compare of each of its two parts
+pub two-parts : (x a p q r s : ℕ) → (p ≡ q → r ≡ s → x ≡ a) → (x ≡ a → (p ≡ q) × (r ≡ s)) → eqb x a ≡ eqb p q && eqb r s
+two-parts x a p q r s join split = at (eqb p q) refl (eqb r s) refl
+  where
+    at : (t : Bool) → eqb p q ≡ t → (u : Bool) → eqb r s ≡ u → eqb x a ≡ t && u
+    at true e true f = eq-eqb x a (join (eqb-true p q e) (eqb-true r s f))
+    at true e false f = ne-eqb x a (λ h. eqb-false r s f (split h .1))
+    at false e u f = ne-eqb x a (λ h. eqb-false p q e (split h .0))

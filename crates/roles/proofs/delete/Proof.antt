@@ -1,0 +1,40 @@
+-- Judged, and then the user's row emptied.
+use borrow.Author.Needs.{needs}
+use Rattle.paper_lower.specs.Roles.{deleteNext}
+use Rattle.replies.proofs.DoneLaws.{refused, done}
+use Rattle.roles.proofs.delete.Statement.{statement}
+use Rattle.roles.proofs.delete.Tie as tie
+
+delete-reply-requires : tie.Need-delete-reply-requires
+delete-reply-requires c κs = search needs
+
+accepted-requires : tie.Need-accepted-requires
+accepted-requires c κs = search needs
+
+same-length : tie.Need-same-length
+same-length c = search needs
+
+returns : tie.Need-returns
+returns c = refused (c .before .before .delete-reply .ensures) (c .before .accepted .ensures) (c .if1 .taken)
+
+set-user-requires : tie.Need-set-user-requires
+set-user-requires c κs = search needs
+
+same-length-2 : tie.Need-same-length-2
+same-length-2 c = search needs
+
+returns-2 : tie.Need-returns-2
+unfolding deleteNext
+returns-2 c = done (c .before .before .before .before .before .before .delete-reply .ensures) (c .before .before .before .before .before .accepted .ensures) (c .before .before .before .before .if1 .left) (c .before .before .set-user .ensures)
+
+pub delete-spec : {M : Type 1} → statement M
+delete-spec =
+    tie.close
+    (tie.spec
+    delete-reply-requires
+    accepted-requires
+    same-length
+    returns
+    set-user-requires
+    same-length-2
+    returns-2)

@@ -1,0 +1,102 @@
+// Requests 33, 35 and 37: a user deleted, a role and a permission taken back. Each is judged over what is only read, and then done.
+// (32, 34 and 36 are the policy's kinds 1, 4 and 5 after the load.)
+ghost use mathlib.Core.Path.{_≡_};
+ghost use Prim.Native.Nat.{_<_};
+ghost use lib.ListN.{length};
+ghost use Rattle.paper_lower.specs.Checks.{first};
+ghost use Rattle.paper_lower.specs.Roles.{deleteChecks, deleteNext, takeBackChecks, takeBackNext, withdrawChecks, withdrawNext};
+ghost use Rattle.replies.specs.Replies.{numberOf};
+ghost use Rattle.replies.specs.Done.{Done};
+ghost use Rattle.policy.specs.Layout.{policyWords};
+ghost use Rattle.policy.specs.Reading.{policyOf};
+ghost use Rattle.sessions.specs.Reading.{sessionsWords};
+ghost use Rattle.sessions.specs.Lower.{lowerTables};
+use replies::Reply;
+use replies::accepted;
+
+// ---- 33: delete user a.
+
+pub fn delete_reply(p: &[u64], s: &[u64], a: u64) -> Reply
+    requires { ⌜ (length (now p) ≡ policyWords) × ((length (now s) ≡ sessionsWords) × (a < 1024)) ⌝ }
+    ensures { λ r. ⌜ numberOf r ≡ first (deleteChecks (lowerTables (now (p .entry)) (now (s .entry))) a) ⌝ }
+{
+    if !policy::user_declared(p, a as usize) {
+        return Reply::Unknown;
+    }
+    if sessions::has_subject(s, a) {
+        return Reply::InUse;
+    }
+    Reply::Granted
+}
+
+pub fn delete(p: &mut [u64], s: &[u64], a: u64) -> Reply
+    requires { ⌜ (length (now p) ≡ policyWords) × ((length (now s) ≡ sessionsWords) × (a < 1024)) ⌝ }
+    ensures { λ r. ⌜ Done policyOf (first (deleteChecks (lowerTables (now (p .entry)) (now (s .entry))) a)) (deleteNext (policyOf (now (p .entry))) a) (now (p .entry)) (now (p .exit)) r ⌝ }
+{
+    let r = delete_reply(p, s, a);
+    if !accepted(r) {
+        return r;
+    }
+    policy::set_user(p, a as usize, 0);
+    r
+}
+
+// ---- 35: take role b back from user a.
+
+pub fn take_back_reply(p: &[u64], s: &[u64], a: u64, b: u64) -> Reply
+    requires { ⌜ (length (now p) ≡ policyWords) × ((length (now s) ≡ sessionsWords) × ((a < 1024) × (b < 64))) ⌝ }
+    ensures { λ r. ⌜ numberOf r ≡ first (takeBackChecks (lowerTables (now (p .entry)) (now (s .entry))) a b) ⌝ }
+{
+    if !policy::user_declared(p, a as usize)
+        | !policy::declared_roles(p).has(b)
+        | !policy::assigned(p, a as usize).has(b)
+    {
+        return Reply::Unknown;
+    }
+    let active = sessions::active_of(s, a);
+    if active.has(b) {
+        return Reply::InUse;
+    }
+    Reply::Granted
+}
+
+pub fn take_back(p: &mut [u64], s: &[u64], a: u64, b: u64) -> Reply
+    requires { ⌜ (length (now p) ≡ policyWords) × ((length (now s) ≡ sessionsWords) × ((a < 1024) × (b < 64))) ⌝ }
+    ensures { λ r. ⌜ Done policyOf (first (takeBackChecks (lowerTables (now (p .entry)) (now (s .entry))) a b)) (takeBackNext (policyOf (now (p .entry))) a b) (now (p .entry)) (now (p .exit)) r ⌝ }
+{
+    let r = take_back_reply(p, s, a, b);
+    if !accepted(r) {
+        return r;
+    }
+    let left = policy::assigned(p, a as usize).without(b);
+    policy::set_assigned(p, a as usize, left);
+    r
+}
+
+// ---- 37: take permission b back from role a.
+
+pub fn withdraw_reply(p: &[u64], a: u64, b: u64) -> Reply
+    requires { ⌜ (length (now p) ≡ policyWords) × ((a < 64) × (b < 256)) ⌝ }
+    ensures { λ r. ⌜ numberOf r ≡ first (withdrawChecks (policyOf (now (p .entry))) a b) ⌝ }
+{
+    if !policy::declared_roles(p).has(a)
+        | !policy::permission_declared(p, b as usize)
+        | !policy::holders(p, b as usize).has(a)
+    {
+        return Reply::Unknown;
+    }
+    Reply::Granted
+}
+
+pub fn withdraw(p: &mut [u64], a: u64, b: u64) -> Reply
+    requires { ⌜ (length (now p) ≡ policyWords) × ((a < 64) × (b < 256)) ⌝ }
+    ensures { λ r. ⌜ Done policyOf (first (withdrawChecks (policyOf (now (p .entry))) a b)) (withdrawNext (policyOf (now (p .entry))) a b) (now (p .entry)) (now (p .exit)) r ⌝ }
+{
+    let r = withdraw_reply(p, a, b);
+    if !accepted(r) {
+        return r;
+    }
+    let left = policy::holders(p, b as usize).without(a);
+    policy::set_holders(p, b as usize, left);
+    r
+}

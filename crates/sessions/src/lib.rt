@@ -1,0 +1,114 @@
+// The sessions buffer: each subject's user and active roles, and what a user has active over all subjects.
+ghost use mathlib.Core.Path.{_≡_};
+ghost use mathlib.Core.Bool.{cond};
+ghost use Prim.Native.Nat.{_<_};
+ghost use lib.ListN.{length};
+ghost use Rattle.paper_lower.specs.Sets.{empty};
+ghost use Rattle.paper_lower.specs.Lists.{someBelow, upd};
+ghost use Rattle.paper_lower.specs.Tables.{withActive};
+ghost use Rattle.paper_lower.specs.Roles.{ofUser, activeOf};
+ghost use Rattle.paper_lower.specs.Sessions.{createNext, destroyNext};
+ghost use Rattle.sessions.specs.Reading.{sessionsWords, sessionsOf, Cleared};
+use sets::Set;
+
+pub fn live(s: &[u64], a: usize) -> bool
+    requires { ⌜ (length (now s) ≡ sessionsWords) × (a < 128) ⌝ }
+    ensures { λ r. ⌜ r ≡ sessionsOf (now (s .entry)) .live a ⌝ }
+{
+    s[a] / 1024 % 2 == 1
+}
+
+pub fn user(s: &[u64], a: usize) -> u64
+    requires { ⌜ (length (now s) ≡ sessionsWords) × (a < 128) ⌝ }
+    ensures { λ r. ⌜ (r ≡ sessionsOf (now (s .entry)) .user a) × (r < 1024) ⌝ }
+{
+    s[a] % 1024
+}
+
+pub fn active(s: &[u64], a: usize) -> Set
+    requires { ⌜ (length (now s) ≡ sessionsWords) × (a < 128) ⌝ }
+    ensures { λ r. ⌜ r .bits ≡ sessionsOf (now (s .entry)) .active a ⌝ }
+{
+    Set { bits: s[128 + a] }
+}
+
+// Whether subject a is a live one of user u: one compare of the word.
+pub fn of_user(s: &[u64], u: u64, a: usize) -> bool
+    requires { ⌜ (length (now s) ≡ sessionsWords) × ((u < 1024) × (a < 128)) ⌝ }
+    ensures { λ r. ⌜ r ≡ ofUser (sessionsOf (now (s .entry))) u a ⌝ }
+{
+    s[a] % 2048 == 1024 + u
+}
+
+pub fn create(s: &mut [u64], a: usize, u: u64, roles: Set)
+    requires { ⌜ (length (now s) ≡ sessionsWords) × ((a < 128) × (u < 1024)) ⌝ }
+    ensures { λ _. ⌜ sessionsOf (now (s .exit)) ≡ createNext (sessionsOf (now (s .entry))) a u (roles .bits) ⌝ }
+{
+    s[a] = 1024 + u;
+    s[128 + a] = roles.bits;
+}
+
+pub fn destroy(s: &mut [u64], a: usize)
+    requires { ⌜ (length (now s) ≡ sessionsWords) × (a < 128) ⌝ }
+    ensures { λ _. ⌜ sessionsOf (now (s .exit)) ≡ destroyNext (sessionsOf (now (s .entry))) a ⌝ }
+{
+    s[a] = 0;
+    s[128 + a] = 0;
+}
+
+pub fn set_active(s: &mut [u64], a: usize, roles: Set)
+    requires { ⌜ (length (now s) ≡ sessionsWords) × (a < 128) ⌝ }
+    ensures { λ _. ⌜ sessionsOf (now (s .exit)) ≡ withActive (sessionsOf (now (s .entry))) (upd (sessionsOf (now (s .entry)) .active) a (roles .bits)) ⌝ }
+{
+    s[128 + a] = roles.bits;
+}
+
+// Whether user u has a live subject.
+pub fn has_subject(s: &[u64], u: u64) -> bool
+    requires { ⌜ (length (now s) ≡ sessionsWords) × (u < 1024) ⌝ }
+    ensures { λ r. ⌜ r ≡ someBelow 128 (ofUser (sessionsOf (now (s .entry))) u) ⌝ }
+{
+    let mut a = 0;
+    while a < 128 {
+        if of_user(s, u, a) {
+            return true;
+        }
+        a += 1;
+    }
+    false
+}
+
+// The roles of subject a where it is a live one of user u, else none: both words are read before the choice.
+fn roles_in(s: &[u64], u: u64, a: usize) -> Set
+    requires { ⌜ (length (now s) ≡ sessionsWords) × ((u < 1024) × (a < 128)) ⌝ }
+    ensures { λ r. ⌜ r .bits ≡ cond (ofUser (sessionsOf (now (s .entry))) u a) (sessionsOf (now (s .entry)) .active a) empty ⌝ }
+{
+    let roles = active(s, a);
+    if of_user(s, u, a) { roles } else { Set::EMPTY }
+}
+
+// The roles active over all of a user's subjects, gathered with one set and a counter.
+pub fn active_of(s: &[u64], u: u64) -> Set
+    requires { ⌜ (length (now s) ≡ sessionsWords) × (u < 1024) ⌝ }
+    ensures { λ r. ⌜ r .bits ≡ activeOf (sessionsOf (now (s .entry))) u ⌝ }
+{
+    let mut all = Set::EMPTY;
+    let mut a = 0;
+    while a < 128 {
+        let roles = roles_in(s, u, a);
+        all = all.union(roles);
+        a += 1;
+    }
+    all
+}
+
+pub fn clear(s: &mut [u64])
+    requires { ⌜ length (now s) ≡ sessionsWords ⌝ }
+    ensures { λ _. ⌜ Cleared (now (s .exit)) ⌝ }
+{
+    let mut i = 0;
+    while i < 256 {
+        s[i] = 0;
+        i += 1;
+    }
+}

@@ -1,0 +1,79 @@
+-- Each way out is the first check of the definition that applies.
+use borrow.Author.Needs.{needs}
+use Rattle.paper_lower.specs.Sessions.{activateChecks}
+use Rattle.subjects.proofs.activate_reply.Statement.{statement}
+use Rattle.subjects.proofs.activate_reply.Tie as tie
+
+live-requires : tie.Need-live-requires
+live-requires c κs = search needs
+
+declared-roles-requires : tie.Need-declared-roles-requires
+declared-roles-requires c κs = search needs
+
+has-requires : tie.Need-has-requires
+has-requires c κs = search needs
+
+returns : tie.Need-returns
+unfolding activateChecks
+returns c = simp (← c .before .before .before .live .ensures, ← c .before .before .declared-roles .ensures, ← c .before .has .ensures, c .if1 .taken)
+
+active-requires : tie.Need-active-requires
+active-requires c κs = search needs
+
+has-requires-2 : tie.Need-has-requires-2
+has-requires-2 c κs = search needs
+
+returns-2 : tie.Need-returns-2
+unfolding activateChecks
+returns-2 c = simp (← c .before .before .before .before .before .before .live .ensures, ← c .before .before .before .before .before .declared-roles .ensures, ← c .before .before .before .before .has .ensures, c .before .before .before .if1 .left, ← c .before .before .active .ensures, ← c .before .has2 .ensures, c .if2 .taken)
+
+user-requires : tie.Need-user-requires
+user-requires c κs = search needs
+
+assigned-requires : tie.Need-assigned-requires
+assigned-requires c κs = search needs
+
+has-requires-3 : tie.Need-has-requires-3
+has-requires-3 c κs = search needs
+
+returns-3 : tie.Need-returns-3
+unfolding activateChecks
+returns-3 c = simp (← c .before .before .before .before .before .before .before .before .before .before .live .ensures, ← c .before .before .before .before .before .before .before .before .before .declared-roles .ensures, ← c .before .before .before .before .before .before .before .before .has .ensures, c .before .before .before .before .before .before .before .if1 .left, ← c .before .before .before .before .before .before .active .ensures, ← c .before .before .before .before .before .has2 .ensures, c .before .before .before .before .if2 .left, ← c .before .before .before .user .ensures .0, ← c .before .before .assigned .ensures, ← c .before .has3 .ensures, c .if3 .taken)
+
+active-of-requires : tie.Need-active-of-requires
+active-of-requires c κs = search needs
+
+with-requires : tie.Need-with-requires
+with-requires c κs = search needs
+
+broken-requires : tie.Need-broken-requires
+broken-requires c κs = search needs
+
+returns-4 : tie.Need-returns-4
+unfolding activateChecks
+returns-4 c = simp (← c .before .before .before .before .before .before .before .before .before .before .before .before .before .before .live .ensures, ← c .before .before .before .before .before .before .before .before .before .before .before .before .before .declared-roles .ensures, ← c .before .before .before .before .before .before .before .before .before .before .before .before .has .ensures, c .before .before .before .before .before .before .before .before .before .before .before .if1 .left, ← c .before .before .before .before .before .before .before .before .before .before .active .ensures, ← c .before .before .before .before .before .before .before .before .before .has2 .ensures, c .before .before .before .before .before .before .before .before .if2 .left, ← c .before .before .before .before .before .before .before .user .ensures .0, ← c .before .before .before .before .before .before .assigned .ensures, ← c .before .before .before .before .before .has3 .ensures, c .before .before .before .before .if3 .left, ← c .before .before .before .active-of .ensures, ← c .before .before .with .ensures, ← c .before .broken .ensures, c .if4 .taken)
+
+returns-5 : tie.Need-returns-5
+unfolding activateChecks
+returns-5 c = simp (← c .before .before .before .before .before .before .before .before .before .before .before .before .before .before .live .ensures, ← c .before .before .before .before .before .before .before .before .before .before .before .before .before .declared-roles .ensures, ← c .before .before .before .before .before .before .before .before .before .before .before .before .has .ensures, c .before .before .before .before .before .before .before .before .before .before .before .if1 .left, ← c .before .before .before .before .before .before .before .before .before .before .active .ensures, ← c .before .before .before .before .before .before .before .before .before .has2 .ensures, c .before .before .before .before .before .before .before .before .if2 .left, ← c .before .before .before .before .before .before .before .user .ensures .0, ← c .before .before .before .before .before .before .assigned .ensures, ← c .before .before .before .before .before .has3 .ensures, c .before .before .before .before .if3 .left, ← c .before .before .before .active-of .ensures, ← c .before .before .with .ensures, ← c .before .broken .ensures, c .if4 .left)
+
+pub activate-reply-spec : {M : Type 1} → statement M
+activate-reply-spec =
+    tie.close
+    (tie.spec
+    live-requires
+    declared-roles-requires
+    has-requires
+    returns
+    active-requires
+    has-requires-2
+    returns-2
+    user-requires
+    assigned-requires
+    has-requires-3
+    returns-3
+    active-of-requires
+    with-requires
+    broken-requires
+    returns-4
+    returns-5)

@@ -1,0 +1,156 @@
+// Requests 40 to 43 and 56: subjects, their active roles, and the check. Each is judged over what is only read, and then done.
+ghost use mathlib.Core.Path.{_≡_};
+ghost use Prim.Native.Nat.{_<_};
+ghost use lib.ListN.{length};
+ghost use Rattle.paper_lower.specs.Checks.{first};
+ghost use Rattle.paper_lower.specs.Tables.{Policy};
+ghost use Rattle.paper_lower.specs.Sessions.{createChecks, createNext, destroyChecks, destroyNext, activateChecks, activateNext, deactivateChecks, deactivateNext, checkChecks};
+ghost use Rattle.replies.specs.Replies.{numberOf};
+ghost use Rattle.replies.specs.Done.{Done};
+ghost use Rattle.policy.specs.Layout.{policyWords};
+ghost use Rattle.sessions.specs.Reading.{sessionsWords, sessionsOf};
+ghost use Rattle.sessions.specs.Lower.{lowerTables};
+use replies::Reply;
+use replies::accepted;
+use sets::Set;
+
+// The number of the dynamic sets among the kinds of limits.
+const DYNAMIC: usize = 1;
+
+// ---- 40: create subject a for user b with active roles m.
+
+pub fn create_reply(p: &[u64], s: &[u64], a: u64, b: u64, m: Set) -> Reply
+    requires { ⌜ (length (now p) ≡ policyWords) × ((length (now s) ≡ sessionsWords) × ((a < 128) × (b < 1024))) ⌝ }
+    ensures { λ r. ⌜ numberOf r ≡ first (createChecks (lowerTables (now (p .entry)) (now (s .entry))) a b (m .bits)) ⌝ }
+{
+    if !policy::user_declared(p, b as usize) | !m.within(policy::declared_roles(p)) {
+        return Reply::Unknown;
+    }
+    if sessions::live(s, a as usize) {
+        return Reply::Taken;
+    }
+    if !m.within(policy::assigned(p, b as usize)) {
+        return Reply::NotAssigned;
+    }
+    let all = sessions::active_of(s, b);
+    if questions::broken(p, DYNAMIC, all.union(m)) {
+        return Reply::Dynamic;
+    }
+    Reply::Granted
+}
+
+pub fn create(p: &[u64], s: &mut [u64], a: u64, b: u64, m: Set) -> Reply
+    requires { ⌜ (length (now p) ≡ policyWords) × ((length (now s) ≡ sessionsWords) × ((a < 128) × (b < 1024))) ⌝ }
+    ensures { λ r. ⌜ Done sessionsOf (first (createChecks (lowerTables (now (p .entry)) (now (s .entry))) a b (m .bits))) (createNext (sessionsOf (now (s .entry))) a b (m .bits)) (now (s .entry)) (now (s .exit)) r ⌝ }
+{
+    let r = create_reply(p, s, a, b, m);
+    if !accepted(r) {
+        return r;
+    }
+    sessions::create(s, a as usize, b, m);
+    r
+}
+
+// ---- 41: destroy subject a, whatever the policy is.
+
+pub fn destroy_reply(s: &[u64], a: u64) -> Reply
+    requires { ⌜ (length (now s) ≡ sessionsWords) × (a < 128) ⌝ }
+    ensures { λ r. ⌜ ((t : Policy) → numberOf r ≡ first (destroyChecks (record { policy = t; sessions = sessionsOf (now (s .entry)) }) a)) ⌝ }
+{
+    if !sessions::live(s, a as usize) {
+        return Reply::Unknown;
+    }
+    Reply::Granted
+}
+
+pub fn destroy(s: &mut [u64], a: u64) -> Reply
+    requires { ⌜ (length (now s) ≡ sessionsWords) × (a < 128) ⌝ }
+    ensures { λ r. ⌜ ((t : Policy) → Done sessionsOf (first (destroyChecks (record { policy = t; sessions = sessionsOf (now (s .entry)) }) a)) (destroyNext (sessionsOf (now (s .entry))) a) (now (s .entry)) (now (s .exit)) r) ⌝ }
+{
+    let r = destroy_reply(s, a);
+    if !accepted(r) {
+        return r;
+    }
+    sessions::destroy(s, a as usize);
+    r
+}
+
+// ---- 42: activate role b in subject a.
+
+pub fn activate_reply(p: &[u64], s: &[u64], a: u64, b: u64) -> Reply
+    requires { ⌜ (length (now p) ≡ policyWords) × ((length (now s) ≡ sessionsWords) × ((a < 128) × (b < 64))) ⌝ }
+    ensures { λ r. ⌜ numberOf r ≡ first (activateChecks (lowerTables (now (p .entry)) (now (s .entry))) a b) ⌝ }
+{
+    if !sessions::live(s, a as usize) | !policy::declared_roles(p).has(b) {
+        return Reply::Unknown;
+    }
+    let here = sessions::active(s, a as usize);
+    if here.has(b) {
+        return Reply::Taken;
+    }
+    let user = sessions::user(s, a as usize);
+    if !policy::assigned(p, user as usize).has(b) {
+        return Reply::NotAssigned;
+    }
+    let all = sessions::active_of(s, user);
+    if questions::broken(p, DYNAMIC, all.with(b)) {
+        return Reply::Dynamic;
+    }
+    Reply::Granted
+}
+
+pub fn activate(p: &[u64], s: &mut [u64], a: u64, b: u64) -> Reply
+    requires { ⌜ (length (now p) ≡ policyWords) × ((length (now s) ≡ sessionsWords) × ((a < 128) × (b < 64))) ⌝ }
+    ensures { λ r. ⌜ Done sessionsOf (first (activateChecks (lowerTables (now (p .entry)) (now (s .entry))) a b)) (activateNext (sessionsOf (now (s .entry))) a b) (now (s .entry)) (now (s .exit)) r ⌝ }
+{
+    let r = activate_reply(p, s, a, b);
+    if !accepted(r) {
+        return r;
+    }
+    let roles = sessions::active(s, a as usize).with(b);
+    sessions::set_active(s, a as usize, roles);
+    r
+}
+
+// ---- 43: deactivate it.
+
+pub fn deactivate_reply(p: &[u64], s: &[u64], a: u64, b: u64) -> Reply
+    requires { ⌜ (length (now p) ≡ policyWords) × ((length (now s) ≡ sessionsWords) × ((a < 128) × (b < 64))) ⌝ }
+    ensures { λ r. ⌜ numberOf r ≡ first (deactivateChecks (lowerTables (now (p .entry)) (now (s .entry))) a b) ⌝ }
+{
+    if !sessions::live(s, a as usize)
+        | !policy::declared_roles(p).has(b)
+        | !sessions::active(s, a as usize).has(b)
+    {
+        return Reply::Unknown;
+    }
+    Reply::Granted
+}
+
+pub fn deactivate(p: &[u64], s: &mut [u64], a: u64, b: u64) -> Reply
+    requires { ⌜ (length (now p) ≡ policyWords) × ((length (now s) ≡ sessionsWords) × ((a < 128) × (b < 64))) ⌝ }
+    ensures { λ r. ⌜ Done sessionsOf (first (deactivateChecks (lowerTables (now (p .entry)) (now (s .entry))) a b)) (deactivateNext (sessionsOf (now (s .entry))) a b) (now (s .entry)) (now (s .exit)) r ⌝ }
+{
+    let r = deactivate_reply(p, s, a, b);
+    if !accepted(r) {
+        return r;
+    }
+    let roles = sessions::active(s, a as usize).without(b);
+    sessions::set_active(s, a as usize, roles);
+    r
+}
+
+// ---- 56: may subject a do the operation on the object? It changes nothing.
+
+pub fn check_reply(p: &[u64], s: &[u64], a: u64, operation: u64, object: u64) -> Reply
+    requires { ⌜ (length (now p) ≡ policyWords) × ((length (now s) ≡ sessionsWords) × ((a < 128) × ((operation < 65536) × (object < 65536)))) ⌝ }
+    ensures { λ r. ⌜ numberOf r ≡ first (checkChecks (lowerTables (now (p .entry)) (now (s .entry))) a operation object) ⌝ }
+{
+    if !sessions::live(s, a as usize) {
+        return Reply::Unknown;
+    }
+    if !questions::allowed(p, sessions::active(s, a as usize), operation, object) {
+        return Reply::Denied;
+    }
+    Reply::Granted
+}
