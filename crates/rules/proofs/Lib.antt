@@ -1,0 +1,3 @@
+mod Places
+mod Chain
+pub mod JudgeLaws
