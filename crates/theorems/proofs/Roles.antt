@@ -1,4 +1,4 @@
--- Static sets, dynamic sets and active roles: what a load gives, and what each request of people and subjects leaves.
+-- Static sets, dynamic sets and active roles: what each request of people and of subjects leaves of them.
 use Prim.Native.Nat.{ℕ, _<_, _≤_}
 use mathlib.Core.Path.{_≡_, refl, sym, ap, _∙_}
 use mathlib.Core.Bool.{Bool, true, false, cond, _&&_, true≢false, false≢true}
