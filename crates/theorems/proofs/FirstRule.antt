@@ -49,7 +49,7 @@ module _ (t : Engine) (s : Bytes) (e : decode s .kind ≡ 50) where
   unfolding request answer replyTo requestKinds upperKinds chosen claimChecks formChecks
   claim-reply = ap (λ (n : ℕ). first (formChecks requestForms s ++ chosen requestKinds n .checks t r)) e
 
-  pub rule-reply : Reaches BEFORE (request t s .reply) → request t s .reply ≡ first (rules ++ full)
+  rule-reply : Reaches BEFORE (request t s .reply) → request t s .reply ≡ first (rules ++ full)
   unfolding formChecks
   rule-reply h =
       claim-reply ∙ first-passed early (rules ++ full)

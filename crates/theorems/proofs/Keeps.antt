@@ -11,7 +11,7 @@ use Rattle.paper_lower.specs.Lists.{Maybe, holds, there, many, each}
 use Rattle.paper_lower.specs.Lists.Maybe.{none, just}
 use Rattle.paper_lower.specs.Checks.{FULL}
 use Rattle.paper_lower.specs.Records.{Bytes, Record}
-use Rattle.paper_lower.specs.Forms.{lowerForms, upperForms, requestForms, formOf, above, outOfRange}
+use Rattle.paper_lower.specs.Forms.{lowerForms, requestForms, formOf, above, outOfRange}
 use Rattle.paper_lower.specs.Tables.{Tasks, Rules}
 use Rattle.paper_lower.specs.Policy.{userChecks, userNext, assignChecks, assignNext, giveNext}
 use Rattle.paper_lower.specs.Load.{load, recordsOf}
@@ -68,7 +68,7 @@ named : (x y : Bool) → not x || y ≡ false → x ≡ true
 named x y h = not-false x (or-none (not x) y h .0)
 
 pub kept-rows : (policy : List Record) → Rows requestForms (λ n t r x. Kept policy t → Kept policy x) requestKinds
-unfolding requestKinds upperKinds raised lowerKinds roleKinds sessionKinds each requestForms lowerForms upperForms formOf outOfRange above userChecks userNext assignChecks assignNext giveNext deleteChecks deleteNext takeBackChecks takeBackNext withdrawNext createChecks activateChecks deactivateChecks openChecks openNext endNext releaseNext doneNext
+unfolding requestKinds upperKinds raised lowerKinds roleKinds sessionKinds each requestForms lowerForms formOf outOfRange above userChecks userNext assignChecks assignNext giveNext deleteChecks deleteNext takeBackChecks takeBackNext withdrawNext createChecks activateChecks deactivateChecks openChecks openNext endNext releaseNext doneNext
 kept-rows policy =
     (λ t r g p i. (i .0, i .1, deletes _ _ _ (i .2) (r .a) (p .1 .0)))
     ⨾ (λ t r g p i. (i .0, i .1, destroys _ _ _ (i .2) (r .a)))

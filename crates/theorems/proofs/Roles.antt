@@ -1,4 +1,4 @@
--- Static sets, dynamic sets and active roles: what a load gives, and what each request of people and subjects leaves.
+-- Static sets, dynamic sets and active roles: what each request of people and of subjects leaves of them.
 use Prim.Native.Nat.{ℕ, _<_, _≤_}
 use mathlib.Core.Path.{_≡_, refl, sym, ap, _∙_}
 use mathlib.Core.Bool.{Bool, true, false, cond, _&&_, true≢false, false≢true}
@@ -106,10 +106,10 @@ module _ (p : People) (s : Sessions) (ru : Rules) (h : Limited p s ru) where
       ∙ within-has (s .active k) (p .assigned a) t (rw (← e) (h .active k l)) x))
 
 -- ---- subjects: one subject's row anew
-pub record Elsewhere (a : ℕ) (s z : Sessions) : Type 0 where
-  pub live : (k : ℕ) → (k ≡ a → ⊥) → z .live k ≡ s .live k
-  pub user : (k : ℕ) → (k ≡ a → ⊥) → z .user k ≡ s .user k
-  pub active : (k : ℕ) → (k ≡ a → ⊥) → z .active k ≡ s .active k
+record Elsewhere (a : ℕ) (s z : Sessions) : Type 0 where
+  live : (k : ℕ) → (k ≡ a → ⊥) → z .live k ≡ s .live k
+  user : (k : ℕ) → (k ≡ a → ⊥) → z .user k ≡ s .user k
+  active : (k : ℕ) → (k ≡ a → ⊥) → z .active k ≡ s .active k
 
 seated-part : (a : ℕ) (s z : Sessions) → Elsewhere a s z → (u : ℕ) (m : Set) → Part (activeOf s u) m
     → (z .live a ≡ true → z .user a ≡ u → Part (z .active a) m) → Part (activeOf z u) m

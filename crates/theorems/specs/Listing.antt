@@ -1,6 +1,6 @@
 -- 01's listing read from outside, by computing: after its ninth request task 0 is done by user 300, and subject 6 holds task 1 for user 301.
 use mathlib.Core.Path.{_≡_, refl}
-use mathlib.Core.List.{List, [], _∷_}
+use mathlib.Core.List.{[], _∷_}
 use lib.ListN.{take}
 use Rattle.paper_lower.specs.Words.{joined, wordsOpen}
 use Rattle.paper_lower.specs.Load.{recordsFrom, recordsOf}
