@@ -1,0 +1,147 @@
+/* Mishantral: a policy engine for a desk of 1,024 clerks, in which every answer is proved.
+ *
+ * The library keeps nothing and asks nothing of the system: it works on three buffers of 64-bit words
+ * that the caller lends to each call. Every call answers, whatever the bytes and whatever the words, and
+ * changes nothing but the three buffers. A request that is refused changes no word of them.
+ *
+ *     size_t words = mishantral_words(MISHANTRAL_POLICY);   likewise MISHANTRAL_SESSIONS, MISHANTRAL_ORDERS
+ *     uint64_t *policy = calloc(words, sizeof *policy);     likewise sessions, orders
+ *     uint64_t answer = mishantral_load(bytes, length, policy, words, sessions, .., orders, ..);
+ *     if (mishantral_reply_of(answer) != MISHANTRAL_GRANTED)   refused at record mishantral_place_of(answer)
+ *
+ * Link with libmishantral.a. Nothing else is needed.
+ */
+#ifndef MISHANTRAL_H
+#define MISHANTRAL_H
+
+#include <stddef.h>
+#include <stdint.h>
+
+#ifdef __cplusplus
+extern "C" {
+#endif
+
+/* The three buffers. */
+enum mishantral_group {
+    MISHANTRAL_POLICY = 0,   /* users, roles, permissions, tasks, rules */
+    MISHANTRAL_SESSIONS = 1, /* subjects and their active roles */
+    MISHANTRAL_ORDERS = 2    /* open orders and their entries */
+};
+
+/* How many 64-bit words a buffer has: the only length that the other two calls take. 0 for another group. */
+uint64_t mishantral_words(uint64_t group);
+
+/* Loads a policy: `length` bytes, sixteen a record. The engine is emptied first, and a refused load leaves it
+ * empty, with the place of the refused record, counted from 1. Accepted: place 0.
+ *
+ * The answer is the reply + 256 times the place. It is ROOM, with place 0, and nothing is written, where a
+ * buffer has not its fixed length. The buffers may hold anything before a load.
+ *
+ * `bytes` points to `length` readable bytes, `policy` to `policy_words` words that may be read and written,
+ * and so on. The four do not overlap. A pointer may be null where its length is 0. No other thread uses
+ * the buffers during the call. */
+uint64_t mishantral_load(const uint8_t *bytes, size_t length,
+                         uint64_t *policy, size_t policy_words,
+                         uint64_t *sessions, size_t sessions_words,
+                         uint64_t *orders, size_t orders_words);
+
+/* Answers one request: a record of sixteen bytes; any other length is answered with SHAPE.
+ *
+ * The answer is the reply + 256 times a place, which is 0. ROOM as above. The buffers are those of
+ * an accepted load, or of any content: each content reads as some state. */
+uint64_t mishantral_request(const uint8_t *record, size_t length,
+                            uint64_t *policy, size_t policy_words,
+                            uint64_t *sessions, size_t sessions_words,
+                            uint64_t *orders, size_t orders_words);
+
+/* Replies. Checks run in the order of these numbers, and the first that applies is given. */
+enum mishantral_reply {
+    MISHANTRAL_GRANTED = 0,      /* accepted, or granted */
+    MISHANTRAL_ROOM = 1,         /* a lent buffer has not its fixed length; nothing is written */
+    MISHANTRAL_SHAPE = 2,        /* not 16 bytes, kind not of this call, unused field not zero, m of kind 57 too large */
+    MISHANTRAL_RANGE = 3,        /* a number above its limit */
+    MISHANTRAL_UNKNOWN = 4,      /* something named is not declared, not open or not live; a pair to take back is absent */
+    MISHANTRAL_TAKEN = 5,        /* declared, assigned, active, live, open or held already; a repeated policy record */
+    MISHANTRAL_IN_USE = 6,       /* the user, role, subject or order is still in use */
+    MISHANTRAL_RULE = 7,         /* a rule record is ill made */
+    MISHANTRAL_NOT_ASSIGNED = 8, /* a role to activate is not the user's */
+    MISHANTRAL_STATIC = 9,       /* a static set would be broken */
+    MISHANTRAL_DYNAMIC = 10,     /* a dynamic set would be broken */
+    MISHANTRAL_NO_ROLE = 11,     /* no active role of the subject opens the task */
+    MISHANTRAL_NOT_YOURS = 12,   /* the subject does not hold the task */
+    MISHANTRAL_DENIED = 13,      /* no active role has the permission, or the task does not carry it */
+    MISHANTRAL_BEFORE = 14,      /* a task required before this one is not done in the order */
+    MISHANTRAL_SEPARATION = 15,  /* the user has n or more other tasks of a task set */
+    MISHANTRAL_BLOCK = 16,       /* the user has a task of another block of a partitioning */
+    MISHANTRAL_ALONE = 17,       /* the user has every other task of a template banned for lone workers */
+    MISHANTRAL_BOUND = 18,       /* a task bound with this one has an entry of another user */
+    MISHANTRAL_COUNT = 19,       /* the task has as many entries as its limit allows */
+    MISHANTRAL_FULL = 20         /* no ledger entry is free, or the rule limit of that kind is reached */
+};
+
+/* Kinds of record. A field that is not listed is zero; bit i of m stands for role or task i. */
+enum mishantral_kind {
+    /* For a load. */
+    MISHANTRAL_USER = 1,                /* user a (to 1,023) */
+    MISHANTRAL_ROLE = 2,                /* role a (to 63) */
+    MISHANTRAL_PERMISSION = 3,          /* permission a (to 255) = operation b on object c */
+    MISHANTRAL_USER_HAS_ROLE = 4,       /* user a has role b */
+    MISHANTRAL_ROLE_HAS_PERMISSION = 5, /* role a has permission b */
+    MISHANTRAL_TASK = 6,                /* task a (to 63) of template b (to 15) */
+    MISHANTRAL_TASK_OPEN_TO = 7,        /* task a open to role b */
+    MISHANTRAL_TASK_CARRIES = 8,        /* task a carries permission b */
+    MISHANTRAL_STATIC_SET = 9,          /* static set, n, roles m */
+    MISHANTRAL_DYNAMIC_SET = 10,        /* dynamic set, n, roles m */
+    MISHANTRAL_TASK_SET = 11,           /* task set, n, tasks m */
+    MISHANTRAL_BLOCK_OF = 12,           /* block of partitioning a (to 15), tasks m */
+    MISHANTRAL_LONE_WORKER_BAN = 13,    /* lone-worker ban on template a */
+    MISHANTRAL_AT_MOST = 14,            /* task a at most n times */
+    MISHANTRAL_BOUND_TO = 15,           /* task a bound to task b */
+    MISHANTRAL_BEFORE_TASK = 16,        /* task a before task b */
+    /* Requests. */
+    MISHANTRAL_ADD_USER = 32,
+    MISHANTRAL_DELETE_USER = 33,
+    MISHANTRAL_ASSIGN_ROLE = 34,     /* assign role b to user a */
+    MISHANTRAL_TAKE_ROLE = 35,       /* take role b from user a */
+    MISHANTRAL_GIVE_PERMISSION = 36, /* give role a permission b */
+    MISHANTRAL_TAKE_PERMISSION = 37, /* take permission b from role a */
+    MISHANTRAL_CREATE_SUBJECT = 40,  /* create subject a (to 127) for user b with active roles m */
+    MISHANTRAL_DESTROY_SUBJECT = 41,
+    MISHANTRAL_ACTIVATE_ROLE = 42,   /* activate role b in subject a */
+    MISHANTRAL_DEACTIVATE_ROLE = 43, /* deactivate role b in subject a */
+    MISHANTRAL_OPEN_ORDER = 48,      /* open order a (to 63) of template b */
+    MISHANTRAL_END_ORDER = 49,
+    MISHANTRAL_CLAIM = 50,           /* subject a, order b, task c */
+    MISHANTRAL_RELEASE = 51,         /* subject a, order b, task c */
+    MISHANTRAL_DONE = 52,            /* subject a, order b, task c */
+    MISHANTRAL_CHECK = 56,           /* subject a, operation b, object c */
+    MISHANTRAL_TASK_CHECK = 57       /* subject a, order b, task c, m = operation + 65,536 x object */
+};
+
+/* The reply of an answer. */
+static inline unsigned mishantral_reply_of(uint64_t answer) { return (unsigned)(answer % 256); }
+
+/* The place of an answer. */
+static inline uint64_t mishantral_place_of(uint64_t answer) { return answer / 256; }
+
+/* Writes a record's sixteen bytes: kind, n, a, b, c, m, little-endian on every processor. */
+static inline void mishantral_record(uint8_t record[16], uint8_t kind, uint8_t n,
+                                     uint16_t a, uint16_t b, uint16_t c, uint64_t m)
+{
+    int i;
+    record[0] = kind;
+    record[1] = n;
+    for (i = 0; i < 2; i++) {
+        record[2 + i] = (uint8_t)(a >> 8 * i);
+        record[4 + i] = (uint8_t)(b >> 8 * i);
+        record[6 + i] = (uint8_t)(c >> 8 * i);
+    }
+    for (i = 0; i < 8; i++)
+        record[8 + i] = (uint8_t)(m >> 8 * i);
+}
+
+#ifdef __cplusplus
+}
+#endif
+
+#endif

@@ -1,0 +1,287 @@
+//! Random cases: loads and requests in several styles, all from one seed.
+
+use crate::candidates::{damaged, other_length};
+use crate::pools::Pools;
+use plain::{Engine, OrderLists};
+use random::Random;
+use records::{Record, Set};
+
+#[derive(Clone, PartialEq, Debug)]
+pub enum Step {
+    Load(Vec<u8>),
+    Request(Vec<u8>),
+}
+
+impl Step {
+    /// How many bytes it hands over.
+    pub fn length(&self) -> usize {
+        match self {
+            Step::Load(bytes) | Step::Request(bytes) => bytes.len().max(1),
+        }
+    }
+}
+
+pub struct Case {
+    pub steps: Vec<Step>,
+    pub pools: Pools,
+}
+
+/// A policy that is accepted, and what was refused on the way to it.
+#[derive(Default)]
+struct Policy {
+    accepted: Vec<Record>,
+    refused: Vec<Refused>,
+}
+
+/// A refused record, after how many accepted ones, and why.
+struct Refused {
+    after: usize,
+    record: Record,
+    reply: plain::Reply,
+}
+
+impl Policy {
+    /// Tries the records one after the other.
+    fn of(attempts: Vec<Record>) -> Policy {
+        let mut engine = Engine::<OrderLists>::new();
+        let mut policy = Policy::default();
+        for record in attempts {
+            let reply = engine.policy_record(&record.0);
+            if reply == plain::Reply::Granted {
+                policy.accepted.push(record);
+            } else {
+                policy.refused.push(Refused {
+                    after: policy.accepted.len(),
+                    record,
+                    reply,
+                });
+            }
+        }
+        policy
+    }
+
+    fn bytes(records: &[Record]) -> Vec<u8> {
+        records.iter().flat_map(|record| record.0).collect()
+    }
+
+    /// Loads that are refused, of different kinds or for different reasons.
+    fn bad_loads(&mut self, random: &mut Random, most: usize) -> Vec<Step> {
+        shuffle(random, &mut self.refused);
+        let mut chosen: Vec<&Refused> = Vec::new();
+        for refused in &self.refused {
+            let alike = |other: &&Refused| {
+                (other.record.kind(), other.reply) == (refused.record.kind(), refused.reply)
+            };
+            if chosen.len() < most && !chosen.iter().any(alike) {
+                chosen.push(refused);
+            }
+        }
+        let bad = chosen.into_iter().map(|r| self.bad_load(random, r));
+        bad.collect()
+    }
+
+    /// The refused record, seldom cut or with the good ones behind it.
+    fn bad_load(&self, random: &mut Random, refused: &Refused) -> Step {
+        let (before, behind) = self.accepted.split_at(refused.after);
+        let mut bytes = Policy::bytes(before);
+        bytes.extend(refused.record.0);
+        match random.below(12) {
+            0 | 1 => bytes.extend(Policy::bytes(behind)),
+            2 => bytes.truncate(bytes.len() - 1 - random.below(15)),
+            _ => {}
+        }
+        Step::Load(bytes)
+    }
+
+    fn load(&self) -> Step {
+        Step::Load(Policy::bytes(&self.accepted))
+    }
+
+    /// Some of the roles that the policy gives a user.
+    fn roles_of(&self, random: &mut Random, user: u16) -> Set {
+        let given = self
+            .accepted
+            .iter()
+            .filter(|r| r.kind() == 4 && r.a() == user);
+        given.fold(Set::EMPTY, |roles, record| {
+            if random.chance(2, 3) {
+                roles.with(record.b() as u8)
+            } else {
+                roles
+            }
+        })
+    }
+
+    /// The morning: subjects with roles of their users, and orders.
+    fn opening(&self, random: &mut Random, pools: &Pools) -> Vec<Step> {
+        let mut records = Vec::new();
+        for &subject in &pools.subjects {
+            let user = random.pick(&pools.users);
+            let roles = self.roles_of(random, user);
+            records.push(Record::create_subject(subject, user, roles));
+        }
+        for (place, &order) in pools.orders.iter().enumerate() {
+            records.push(Record::open_order(order, pools.template_at(random, place)));
+        }
+        records
+            .into_iter()
+            .map(|r| Step::Request(r.0.to_vec()))
+            .collect()
+    }
+}
+
+fn shuffle<T>(random: &mut Random, list: &mut [T]) {
+    for last in (1..list.len()).rev() {
+        list.swap(last, random.below(last + 1));
+    }
+}
+
+/// Everything of the pools declared, seldom with something left out.
+fn declarations(random: &mut Random, pools: &Pools) -> Vec<Record> {
+    let mut all: Vec<Record> = Vec::new();
+    all.extend(pools.users.iter().map(|&user| Record::user(user)));
+    all.extend(pools.roles.iter().map(|&role| Record::role(role)));
+    for (place, &task) in pools.tasks.iter().enumerate() {
+        all.push(Record::task(task, pools.template_at(random, place)));
+    }
+    for &permission in &pools.permissions {
+        let (operation, object) = (random.pick(&pools.operations), random.pick(&pools.objects));
+        all.push(Record::permission(permission, operation, object));
+    }
+    all.retain(|_| !random.chance(1, 25));
+    shuffle(random, &mut all);
+    all
+}
+
+fn policy(random: &mut Random, pools: &Pools, relations: usize, rules: usize) -> Policy {
+    let mut attempts = declarations(random, pools);
+    attempts.extend((0..rules / 4).map(|_| pools.rule(random)));
+    attempts.extend((0..relations).map(|_| pools.relation(random)));
+    attempts.extend((0..rules).map(|_| pools.rule(random)));
+    attempts.extend((0..3).map(|_| pools.declaration(random)));
+    if random.chance(1, 5) {
+        shuffle(random, &mut attempts);
+    }
+    let spoilt = attempts.len() / 10;
+    for _ in 0..spoilt {
+        let record = random.pick(&attempts);
+        let again = random.chance(1, 3);
+        let spoilt = if again {
+            record
+        } else {
+            damaged(random, record)
+        };
+        attempts.insert(random.below(attempts.len()), spoilt);
+    }
+    Policy::of(attempts)
+}
+
+fn requests(random: &mut Random, pools: &Pools, count: usize) -> Vec<Step> {
+    let mut one = || {
+        let record = pools.request(random);
+        Step::Request(match random.below(40) {
+            0 => damaged(random, record).0.to_vec(),
+            1 if random.chance(1, 4) => other_length(random, record),
+            2 if random.chance(1, 4) => pools.rule(random).0.to_vec(),
+            _ => record.0.to_vec(),
+        })
+    };
+    (0..count).map(|_| one()).collect()
+}
+
+/// A small desk, with a second load in the middle of its day now and then.
+fn day(random: &mut Random, pools: Pools, rules: usize, count: usize) -> Case {
+    let mut steps = Vec::new();
+    for _ in 0..random.pick(&[1, 1, 1, 2]) {
+        let relations = 10 + random.below(60);
+        let mut policy = policy(random, &pools, relations, rules);
+        steps.extend(policy.bad_loads(random, 6));
+        if random.chance(19, 20) {
+            steps.push(policy.load());
+        }
+        if random.chance(9, 10) {
+            steps.extend(policy.opening(random, &pools));
+        }
+        steps.extend(requests(random, &pools, count));
+    }
+    Case { steps, pools }
+}
+
+/// A ledger filled to its last entry by a task that no rule is about, and requests around it.
+fn filled(random: &mut Random) -> Case {
+    let mut pools = Pools::few(random);
+    let rules = random.below(10);
+    let mut policy = policy(random, &pools, 60, rules);
+    let (user, role, template) = (1000, pools.roles[0], 14);
+    let (task, subject, orders) = (62, 126, [60, 61]);
+    let filler = [
+        Record::user(user),
+        Record::role(role),
+        Record::user_has_role(user, role),
+        Record::task(task, template),
+        Record::task_open_to(task, role),
+    ];
+    let all = [policy.accepted, filler.to_vec()].concat();
+    policy = Policy::of(all);
+    let mut steps = vec![policy.load()];
+    steps.extend(requests(random, &pools, 60));
+    let opening = [
+        Record::create_subject(subject, user, Set::EMPTY.with(role as u8)),
+        Record::open_order(orders[0], template),
+        Record::open_order(orders[1], template),
+    ];
+    steps.extend(opening.map(|record| Step::Request(record.0.to_vec())));
+    for _ in 0..2048 + random.below(4) {
+        let order = random.pick(&orders);
+        let pair = [
+            Record::claim(subject, order, task),
+            Record::done(subject, order, task),
+        ];
+        steps.extend(pair.map(|record| Step::Request(record.0.to_vec())));
+    }
+    pools.users.push(user);
+    pools.tasks.push(task);
+    pools.templates.push(template);
+    pools.subjects.push(subject);
+    pools.orders.extend(orders);
+    steps.extend(requests(random, &pools, 300));
+    Case { steps, pools }
+}
+
+/// Bytes that mean nothing.
+fn noise(random: &mut Random) -> Case {
+    let pools = Pools::few(random);
+    let mut bytes = |most: usize| -> Vec<u8> {
+        let length = random.below(most);
+        (0..length).map(|_| random.word() as u8).collect()
+    };
+    let mut steps: Vec<Step> = (0..20).map(|_| Step::Load(bytes(200))).collect();
+    steps.extend((0..200).map(|_| Step::Request(bytes(33))));
+    Case { steps, pools }
+}
+
+impl Case {
+    /// The case with this number, of this seed.
+    pub fn random(seed: u64, number: u64) -> Case {
+        let mut random = Random::new(seed ^ number.wrapping_mul(0xd134_2543_de82_ef95));
+        let random = &mut random;
+        let count = random.pick(&[5, 50, 150, 300, 600]);
+        match number % 40 {
+            7 => filled(random),
+            17 => {
+                let pools = Pools::crowd(random);
+                day(random, pools, 60, 1000)
+            }
+            27 => noise(random),
+            n if n % 8 == 3 => {
+                let pools = Pools::for_rules(random);
+                day(random, pools, 1500, count)
+            }
+            _ => {
+                let pools = Pools::few(random);
+                let rules = random.below(16);
+                day(random, pools, rules, count)
+            }
+        }
+    }
+}

@@ -1,0 +1,156 @@
+//! One case on all engines: the first difference, and the smallest case that still shows one.
+
+use crate::cases::{Case, Step};
+use crate::coverage::Coverage;
+use crate::desks::{Difference, Panel};
+use crate::walk::{count_free, walk};
+use records::{Reply, LENGTH};
+use std::fmt::Write;
+
+/// Steps after which engines answered the last one differently.
+pub struct Failure {
+    steps: Vec<Step>,
+    difference: Difference,
+}
+
+/// Counts a load's last judged record, or a request.
+fn count(coverage: &mut Coverage, step: &Step, (reply, place): (u8, usize)) {
+    let record = match step {
+        Step::Request(record) => Some(&record[..]),
+        Step::Load(policy) => {
+            let last = place
+                .checked_sub(1)
+                .unwrap_or(policy.len().div_ceil(LENGTH));
+            let accepted = policy.chunks(LENGTH).take(last);
+            accepted.for_each(|record| coverage.add(record[0], 0));
+            policy.chunks(LENGTH).nth(last)
+        }
+    };
+    if let Some(kind) = record.and_then(|record| record.first()) {
+        coverage.add(*kind, reply);
+    }
+}
+
+/// Takes the steps one after the other, up to the first that is answered differently.
+fn take(panel: &mut Panel, steps: &[Step], coverage: &mut Coverage) -> Result<(), Failure> {
+    for (before, step) in steps.iter().enumerate() {
+        let answer = match step {
+            Step::Load(policy) => panel.load(policy),
+            Step::Request(record) => panel.request(record).map(|reply| (reply, 0)),
+        };
+        let answer = answer.map_err(|difference| Failure {
+            steps: steps[..=before].to_vec(),
+            difference,
+        })?;
+        count(coverage, step, answer);
+    }
+    Ok(())
+}
+
+/// The walk after the steps. What it asks on a copy is as good as asked of the engines themselves.
+fn after(panel: &Panel, case: &Case, fill: bool) -> Result<(), Failure> {
+    let mut walked = walk(panel, &case.pools);
+    if walked.is_ok() && fill {
+        walked = count_free(panel, &case.pools);
+    }
+    walked.map_err(|found| {
+        let asked = found.asked.iter().map(|r| Step::Request(r.0.to_vec()));
+        Failure {
+            steps: case.steps.iter().cloned().chain(asked).collect(),
+            difference: found.difference,
+        }
+    })
+}
+
+/// The list without each piece of a length, as long as what is left still fails; then of half that length.
+fn without_pieces<T: Clone>(list: Vec<T>, fails: impl Fn(&[T]) -> bool) -> Vec<T> {
+    let mut list = list;
+    let mut piece = list.len().div_ceil(2);
+    while piece > 0 {
+        let mut at = 0;
+        while at < list.len() {
+            let end = (at + piece).min(list.len());
+            let less = [&list[..at], &list[end..]].concat();
+            if fails(&less) {
+                list = less;
+            } else {
+                at = end;
+            }
+        }
+        piece /= 2;
+    }
+    list
+}
+
+/// The steps with the records of one load left out where they are not needed.
+fn without_records(steps: Vec<Step>, fails: impl Fn(&[Step]) -> bool) -> Vec<Step> {
+    let mut steps = steps;
+    for at in 0..steps.len() {
+        let Step::Load(policy) = &steps[at] else {
+            continue;
+        };
+        let records: Vec<Vec<u8>> = policy.chunks(LENGTH).map(<[u8]>::to_vec).collect();
+        let with = |records: &[Vec<u8>]| {
+            let mut changed = steps.clone();
+            changed[at] = Step::Load(records.concat());
+            changed
+        };
+        let fewer = without_pieces(records, |records| fails(&with(records)));
+        steps = with(&fewer);
+    }
+    steps
+}
+
+/// The failure by as few steps and records as can be found.
+fn smallest(start: &Panel, mut failure: Failure) -> Failure {
+    let fails = |steps: &[Step]| take(&mut start.copy(), steps, &mut Coverage::default()).err();
+    let size = |steps: &[Step]| steps.iter().map(Step::length).sum::<usize>();
+    loop {
+        let before = size(&failure.steps);
+        let steps = without_pieces(failure.steps.clone(), |s| fails(s).is_some());
+        let steps = without_records(steps, |s| fails(s).is_some());
+        failure = fails(&steps).expect("what was made smaller still differs");
+        if size(&failure.steps) == before {
+            return failure;
+        }
+    }
+}
+
+/// Runs the case on copies of the panel's engines. Where they differ, a small case that shows it.
+pub fn compare(start: &Panel, case: &Case, fill: bool) -> Result<Coverage, Box<Failure>> {
+    let mut panel = start.copy();
+    let mut coverage = Coverage::default();
+    take(&mut panel, &case.steps, &mut coverage)
+        .and_then(|()| after(&panel, case, fill))
+        .map_err(|failure| Box::new(smallest(start, failure)))?;
+    Ok(coverage)
+}
+
+fn shown((reply, place): (u8, usize)) -> String {
+    let name = Reply::from_number(reply.into()).map_or("?", Reply::name);
+    format!("{reply} {name}, place {place}")
+}
+
+impl Failure {
+    /// The steps in words, and what each engine answered to the last.
+    pub fn report(&self) -> String {
+        let mut text = String::new();
+        for step in &self.steps {
+            match step {
+                Step::Load(policy) => {
+                    let _ = writeln!(text, "load");
+                    for record in policy.chunks(LENGTH) {
+                        let _ = writeln!(text, "    {}", notation::line(record));
+                    }
+                }
+                Step::Request(record) => {
+                    let _ = writeln!(text, "{}", notation::line(record));
+                }
+            }
+        }
+        for (name, answer) in &self.difference.0 {
+            let _ = writeln!(text, "{name:>8}: {}", shown(*answer));
+        }
+        text
+    }
+}

@@ -1,0 +1,80 @@
+//! How often each kind was answered with each reply, and which pairs document 01 allows.
+
+use records::Reply::{self, *};
+use std::collections::BTreeMap;
+
+#[derive(Clone, Default)]
+pub struct Coverage {
+    seen: BTreeMap<(u8, u8), u64>,
+}
+
+/// The replies that a kind can have in a state that a load and requests made.
+fn possible(kind: u8) -> Option<Vec<Reply>> {
+    let more: &[Reply] = match kind {
+        1..=3 | 6 | 32 => &[Taken],
+        4 | 34 => &[Unknown, Taken, Static],
+        5 | 7 | 8 | 13 | 36 | 48 => &[Unknown, Taken],
+        9 => &[Unknown, Taken, Rule, Static, Full],
+        10..=12 | 15 | 16 => &[Unknown, Taken, Rule, Full],
+        14 => &[Unknown, Taken, Rule],
+        33 | 35 | 41 | 49 => &[Unknown, InUse],
+        37 | 43 => &[Unknown],
+        40 | 42 => &[Unknown, Taken, NotAssigned, Dynamic],
+        50 => &[
+            Unknown, Taken, NoRole, Before, Separation, Block, Alone, Bound, Count, Full,
+        ],
+        51 | 52 => &[Unknown, NotYours],
+        56 => &[Unknown, Denied],
+        57 => &[Unknown, NotYours, Denied],
+        _ => return None,
+    };
+    let range: &[Reply] = if (9..=11).contains(&kind) {
+        &[]
+    } else {
+        &[Range]
+    };
+    Some([&[Granted, Shape], range, more].concat())
+}
+
+impl Coverage {
+    pub fn add(&mut self, kind: u8, reply: u8) {
+        *self.seen.entry((kind, reply)).or_default() += 1;
+    }
+
+    pub fn join(&mut self, other: &Coverage) {
+        for (pair, count) in &other.seen {
+            *self.seen.entry(*pair).or_default() += count;
+        }
+    }
+
+    /// The pairs of kind and reply that are possible and were not seen.
+    pub fn missing(&self) -> Vec<(u8, Reply)> {
+        let all = (0..=255).filter_map(|kind| Some((kind, possible(kind)?)));
+        let pairs = all.flat_map(|(kind, replies)| replies.into_iter().map(move |r| (kind, r)));
+        pairs
+            .filter(|(kind, reply)| !self.seen.contains_key(&(*kind, reply.number())))
+            .collect()
+    }
+
+    /// The pairs that were seen and are not possible.
+    pub fn surprising(&self) -> Vec<(u8, u8)> {
+        let expected = |(kind, reply): &(u8, u8)| match possible(*kind) {
+            Some(replies) => replies.iter().any(|r| r.number() == *reply),
+            None => *reply == Shape.number(),
+        };
+        self.seen.keys().filter(|p| !expected(p)).copied().collect()
+    }
+
+    /// One line a kind: each reply with how often it came.
+    pub fn table(&self) -> String {
+        let mut lines: BTreeMap<u8, String> = BTreeMap::new();
+        for ((kind, reply), count) in &self.seen {
+            if possible(*kind).is_some() {
+                let name = Reply::from_number((*reply).into()).map_or("?", Reply::name);
+                *lines.entry(*kind).or_default() += &format!("  {name} {count}");
+            }
+        }
+        let line = |(kind, replies): (u8, String)| format!("kind {kind:>2}:{replies}\n");
+        lines.into_iter().map(line).collect()
+    }
+}

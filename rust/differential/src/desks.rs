@@ -1,0 +1,141 @@
+//! The engines that are compared, behind one face, and a panel of them asked the same in step.
+
+use crate::slow::Slow;
+use plain::{Engine, FlatLedger, Ledger, OrderLists};
+
+/// A reply's number, and a place.
+pub type Answer = (u8, usize);
+
+pub trait Desk {
+    fn name(&self) -> &'static str;
+    fn load(&mut self, policy: &[u8]) -> Answer;
+    fn request(&mut self, record: &[u8]) -> u8;
+    fn copy(&self) -> Box<dyn Desk>;
+}
+
+struct Plain<L>(&'static str, Engine<L>);
+
+impl<L: Ledger + 'static> Desk for Plain<L> {
+    fn name(&self) -> &'static str {
+        self.0
+    }
+
+    fn load(&mut self, policy: &[u8]) -> Answer {
+        let (reply, place) = self.1.load(policy);
+        (reply.number(), place)
+    }
+
+    fn request(&mut self, record: &[u8]) -> u8 {
+        self.1.request(record).number()
+    }
+
+    fn copy(&self) -> Box<dyn Desk> {
+        Box::new(Plain(self.0, self.1.clone()))
+    }
+}
+
+impl Desk for Slow {
+    fn name(&self) -> &'static str {
+        "slow"
+    }
+
+    fn load(&mut self, policy: &[u8]) -> Answer {
+        let (reply, place) = Slow::load(self, policy);
+        (reply.number(), place)
+    }
+
+    fn request(&mut self, record: &[u8]) -> u8 {
+        Slow::request(self, record).number()
+    }
+
+    fn copy(&self) -> Box<dyn Desk> {
+        Box::new(self.clone())
+    }
+}
+
+#[cfg(mishantral_engine)]
+impl Desk for mishantral::Engine {
+    fn name(&self) -> &'static str {
+        "proved"
+    }
+
+    fn load(&mut self, policy: &[u8]) -> Answer {
+        match mishantral::Engine::load(self, policy) {
+            Ok(()) => (0, 0),
+            Err(refused) => (refused.reply.number(), refused.place),
+        }
+    }
+
+    fn request(&mut self, record: &[u8]) -> u8 {
+        mishantral::Engine::request(self, record).number()
+    }
+
+    fn copy(&self) -> Box<dyn Desk> {
+        Box::new(self.clone())
+    }
+}
+
+#[cfg(mishantral_engine)]
+fn proved() -> Vec<Box<dyn Desk>> {
+    vec![Box::new(mishantral::Engine::new())]
+}
+
+#[cfg(not(mishantral_engine))]
+fn proved() -> Vec<Box<dyn Desk>> {
+    Vec::new()
+}
+
+/// A plain engine under a name.
+pub fn plain<L: Ledger + 'static>(name: &'static str, engine: Engine<L>) -> Box<dyn Desk> {
+    Box::new(Plain(name, engine))
+}
+
+/// What each engine answered, where they did not all answer alike.
+#[derive(Clone, Debug)]
+pub struct Difference(pub Vec<(&'static str, Answer)>);
+
+/// Several engines, asked the same in step.
+pub struct Panel(Vec<Box<dyn Desk>>);
+
+impl Panel {
+    /// All engines there are, the plain one first.
+    pub fn all() -> Panel {
+        let mut desks = vec![
+            plain("lists", Engine::<OrderLists>::new()),
+            plain("flat", Engine::<FlatLedger>::new()),
+        ];
+        desks.extend(proved());
+        desks.push(Box::new(Slow::default()));
+        Panel(desks)
+    }
+
+    pub fn of(desks: Vec<Box<dyn Desk>>) -> Panel {
+        Panel(desks)
+    }
+
+    pub fn names(&self) -> Vec<&'static str> {
+        self.0.iter().map(|desk| desk.name()).collect()
+    }
+
+    pub fn copy(&self) -> Panel {
+        Panel(self.0.iter().map(|desk| desk.copy()).collect())
+    }
+
+    fn agreed(&self, answers: Vec<Answer>) -> Result<Answer, Difference> {
+        if answers.iter().all(|answer| *answer == answers[0]) {
+            return Ok(answers[0]);
+        }
+        Err(Difference(self.names().into_iter().zip(answers).collect()))
+    }
+
+    pub fn load(&mut self, policy: &[u8]) -> Result<Answer, Difference> {
+        let answers = self.0.iter_mut().map(|desk| desk.load(policy)).collect();
+        self.agreed(answers)
+    }
+
+    pub fn request(&mut self, record: &[u8]) -> Result<u8, Difference> {
+        let ask = |desk: &mut Box<dyn Desk>| (desk.request(record), 0);
+        let answers = self.0.iter_mut().map(ask).collect();
+        self.agreed(answers).map(|(reply, _)| reply)
+    }
+}

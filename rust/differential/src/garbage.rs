@@ -1,0 +1,85 @@
+//! The proved library over state that no load made: it always answers, a refusal or a check changes no
+//! word, and a load makes the same of every state.
+
+use crate::cases::{Case, Step};
+use crate::compare::compare;
+use crate::desks::{Desk, Panel};
+use mishantral::{Engine, State};
+use plain::OrderLists;
+use random::Random;
+
+/// A word of the kind that a style of garbage is made of.
+fn word(random: &mut Random, style: usize) -> u64 {
+    match style {
+        0 => random.word(),
+        1 => u64::MAX,
+        2 => random.word() >> random.below(64),
+        3 => random.below(4) as u64,
+        _ => 1 << random.below(64),
+    }
+}
+
+/// State full of garbage, or what a day left with some of its words spoilt.
+fn spoilt(random: &mut Random, after: Engine) -> State {
+    let style = random.below(5);
+    let part = random.pick(&[1, 1, 20, 500]);
+    let mut state = after.into_state();
+    for buffer in [&mut state.policy, &mut state.sessions, &mut state.orders] {
+        for at in 0..buffer.len() {
+            if random.chance(1, part) {
+                buffer[at] = word(random, style);
+            }
+        }
+    }
+    state
+}
+
+/// Takes the step, and takes it again on a copy: both must come to the same.
+fn twice(engine: &mut Engine, step: &Step) -> u8 {
+    let mut copy = engine.clone();
+    let take = |engine: &mut Engine| match step {
+        Step::Load(policy) => Desk::load(engine, policy),
+        Step::Request(record) => (Desk::request(engine, record), 0),
+    };
+    let answer = take(engine);
+    assert_eq!(take(&mut copy), answer, "a call has two answers");
+    assert_eq!(*engine, copy, "a call leaves two states");
+    answer.0
+}
+
+/// Runs one case over garbage. A panic or a crash is the failure; a difference after a load is told.
+pub fn garbage(seed: u64, number: u64) -> Result<(), String> {
+    let mut random = Random::new(seed ^ number.wrapping_mul(0x9e37_79b9_7f4a_7c15));
+    let case = Case::random(seed, number);
+    let mut engine = Engine::new();
+    for step in case.steps.iter().take(400) {
+        twice(&mut engine, step);
+    }
+    let state = spoilt(&mut random, engine);
+    let mut engine = Engine::from_state(state.clone());
+    for step in &case.steps {
+        let Step::Request(record) = step else {
+            continue;
+        };
+        let before = engine.clone();
+        let reply = twice(&mut engine, step);
+        let only_asks = matches!(record.first(), Some(56 | 57));
+        if reply != 0 || only_asks {
+            assert_eq!(engine, before, "a refusal changed the state");
+        }
+    }
+    let plain = plain::Engine::<OrderLists>::new();
+    let panel = Panel::of(vec![
+        Box::new(Engine::from_state(state)),
+        crate::desks::plain("lists", plain),
+    ]);
+    let emptied = vec![Step::Load(Vec::new())];
+    let case = Case {
+        steps: [emptied, case.steps].concat(),
+        pools: case.pools,
+    };
+    match compare(&panel, &case, false) {
+        Ok(_) => Ok(()),
+        Err(failure) => Err(format!("after garbage:\n{}", failure.report())),
+    }
+}

@@ -1,0 +1,31 @@
+//! Engines compared over random cases: every reply, every place of a load, and what a walk through the
+//! public calls tells of the tables afterwards.
+//!
+//! The plain engine with both of its ledgers and a slow one always take part, and the proved library does
+//! where its archive was found when the crate `mishantral` was built.
+
+mod candidates;
+mod cases;
+mod compare;
+mod coverage;
+mod desks;
+#[cfg(mishantral_engine)]
+mod garbage;
+mod pools;
+mod slow;
+mod walk;
+
+pub use cases::{Case, Step};
+pub use compare::{compare, Failure};
+pub use coverage::Coverage;
+pub use desks::{plain, Answer, Desk, Difference, Panel};
+#[cfg(mishantral_engine)]
+pub use garbage::garbage;
+pub use slow::Slow;
+
+/// Whether the proved library takes part.
+pub const PROVED: bool = cfg!(mishantral_engine);
+
+/// The seed and the number of cases where none are given.
+pub const SEED: u64 = 1;
+pub const CASES: u64 = 400;

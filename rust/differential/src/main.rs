@@ -1,0 +1,108 @@
+//! Compares all engines over random cases, and says which pairs of kind and reply came up.
+
+use differential::{compare, Case, Coverage, Panel, CASES, PROVED, SEED};
+use std::process::ExitCode;
+
+const HELP: &str = "\
+Compares engines over random policies and requests: the plain engine with two ledgers, a slow one, and the
+proved library where its archive was found at build time (MISHANTRAL_ARCHIVE, or target/native/libmishantral.a).
+
+  differential [--seed N] [--cases N] [--first N] [--coverage]
+
+  --seed N      another seed than 1
+  --cases N     another number of cases than 400
+  --first N     begin with this case, to see one again
+  --coverage    print how often each kind was answered with each reply
+
+Exit status: 0 all agree; 1 two engines differ, and a small case that shows it is printed; 2 wrong use.
+";
+
+struct Options {
+    seed: u64,
+    first: u64,
+    cases: u64,
+    coverage: bool,
+}
+
+fn options(arguments: &[String]) -> Result<Options, String> {
+    let mut options = Options {
+        seed: SEED,
+        first: 0,
+        cases: CASES,
+        coverage: false,
+    };
+    let mut rest = arguments.iter();
+    while let Some(argument) = rest.next() {
+        let mut number = || {
+            let given = rest.next().and_then(|text| text.parse().ok());
+            given.ok_or(format!("{argument} takes a number"))
+        };
+        match argument.as_str() {
+            "--seed" => options.seed = number()?,
+            "--first" => options.first = number()?,
+            "--cases" => options.cases = number()?,
+            "--coverage" => options.coverage = true,
+            other => return Err(format!("no such option: {other:?}")),
+        }
+    }
+    Ok(options)
+}
+
+fn run(options: &Options) -> Result<Coverage, String> {
+    let panel = Panel::all();
+    let mut coverage = Coverage::default();
+    for number in options.first..options.first.saturating_add(options.cases) {
+        let case = Case::random(options.seed, number);
+        let fill = number % 20 == 0;
+        let seen = compare(&panel, &case, fill).map_err(|failure| {
+            let again = format!("--seed {} --first {number} --cases 1", options.seed);
+            format!("{}differs in case {number}: {again}", failure.report())
+        })?;
+        coverage.join(&seen);
+        garbage(options.seed, number)?;
+    }
+    Ok(coverage)
+}
+
+#[cfg(mishantral_engine)]
+use differential::garbage;
+
+/// Without the library there is no state to spoil.
+#[cfg(not(mishantral_engine))]
+fn garbage(_seed: u64, _number: u64) -> Result<(), String> {
+    Ok(())
+}
+
+fn main() -> ExitCode {
+    let arguments: Vec<String> = std::env::args().skip(1).collect();
+    if arguments.iter().any(|a| a == "--help" || a == "-h") {
+        print!("{HELP}");
+        return ExitCode::SUCCESS;
+    }
+    let options = match options(&arguments) {
+        Ok(options) => options,
+        Err(message) => {
+            eprintln!("differential: {message}; --help tells the use");
+            return ExitCode::from(2);
+        }
+    };
+    let names = Panel::all().names().join(", ");
+    println!("engines: {names}");
+    if !PROVED {
+        println!("the proved library is not linked: its archive was not found at build time");
+    }
+    match run(&options) {
+        Ok(coverage) => {
+            if options.coverage {
+                print!("{}", coverage.table());
+                println!("not seen: {:?}", coverage.missing());
+            }
+            println!("{} cases of seed {} agree", options.cases, options.seed);
+            ExitCode::SUCCESS
+        }
+        Err(report) => {
+            println!("{report}");
+            ExitCode::FAILURE
+        }
+    }
+}

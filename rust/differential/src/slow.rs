@@ -1,0 +1,553 @@
+//! Document 01 once more, as sets and lists and nothing derived: each rule walks all that it speaks of.
+//! It shares no code with the plain engine, so that the two can be held against each other.
+
+use records::{Record, Reply, Reply::*, Set};
+use std::collections::{BTreeMap, BTreeSet};
+
+type Numbers = BTreeSet<u16>;
+type Pairs = BTreeSet<(u16, u16)>;
+
+#[derive(Clone)]
+struct Entry {
+    instance: u16,
+    user: u16,
+    task: u16,
+    /// The claiming subject; none where the task is done.
+    holder: Option<u16>,
+}
+
+#[derive(Clone, Default)]
+pub struct Slow {
+    users: Numbers,
+    roles: Numbers,
+    permissions: BTreeMap<u16, (u16, u16)>,
+    user_roles: Pairs,
+    role_permissions: Pairs,
+    tasks: BTreeMap<u16, u16>,
+    open_to: Pairs,
+    carries: Pairs,
+    static_sets: Vec<(u8, Numbers)>,
+    dynamic_sets: Vec<(u8, Numbers)>,
+    task_sets: Vec<(u8, Numbers)>,
+    blocks: Vec<(u16, Numbers)>,
+    bans: Numbers,
+    limits: BTreeMap<u16, u8>,
+    bindings: Vec<(u16, u16)>,
+    prerequisites: Vec<(u16, u16)>,
+    subjects: BTreeMap<u16, (u16, Numbers)>,
+    instances: BTreeMap<u16, u16>,
+    entries: Vec<Entry>,
+}
+
+fn numbers(m: u64) -> Numbers {
+    Set(m).members().map(u16::from).collect()
+}
+
+fn overlap(one: &Numbers, other: &Numbers) -> usize {
+    one.intersection(other).count()
+}
+
+fn broken(sets: &[(u8, Numbers)], roles: &Numbers) -> bool {
+    sets.iter()
+        .any(|(n, members)| overlap(members, roles) > usize::from(*n))
+}
+
+/// The first of the checks that applies, else 0.
+fn first(checks: &[(Reply, bool)]) -> Reply {
+    let applies = checks.iter().find(|(_, applies)| *applies);
+    applies.map_or(Granted, |(reply, _)| *reply)
+}
+
+/// The largest a, b and c of a kind, where it uses them, and whether it uses n and m.
+type Form = ([Option<u16>; 3], bool, bool);
+
+fn form(kind: u8) -> Option<Form> {
+    let any = u16::MAX;
+    Some(match kind {
+        1 | 32 | 33 => ([Some(1023), None, None], false, false),
+        2 => ([Some(63), None, None], false, false),
+        3 => ([Some(255), Some(any), Some(any)], false, false),
+        4 | 34 | 35 => ([Some(1023), Some(63), None], false, false),
+        5 | 8 | 36 | 37 => ([Some(63), Some(255), None], false, false),
+        6 | 48 => ([Some(63), Some(15), None], false, false),
+        7 | 15 | 16 => ([Some(63), Some(63), None], false, false),
+        9..=11 => ([None, None, None], true, true),
+        12 => ([Some(15), None, None], false, true),
+        13 => ([Some(15), None, None], false, false),
+        14 => ([Some(63), None, None], true, false),
+        40 => ([Some(127), Some(1023), None], false, true),
+        41 => ([Some(127), None, None], false, false),
+        42 | 43 => ([Some(127), Some(63), None], false, false),
+        49 => ([Some(63), None, None], false, false),
+        50..=52 => ([Some(127), Some(63), Some(63)], false, false),
+        56 => ([Some(127), Some(any), Some(any)], false, false),
+        57 => ([Some(127), Some(63), Some(63)], false, true),
+        _ => return None,
+    })
+}
+
+/// The record, where it is neither SHAPE nor RANGE.
+fn well_formed(bytes: &[u8], policy: bool) -> Result<Record, Reply> {
+    let bytes: [u8; 16] = bytes.try_into().map_err(|_| Shape)?;
+    let r = Record(bytes);
+    let (limits, n, m) = form(r.kind()).ok_or(Shape)?;
+    let fields = [(r.a(), limits[0]), (r.b(), limits[1]), (r.c(), limits[2])];
+    let unused = fields.iter().any(|(f, last)| last.is_none() && *f != 0);
+    let large = r.kind() == 57 && r.m() >= 1 << 32;
+    let extra = !n && r.n() != 0 || !m && r.m() != 0 || large;
+    if policy != (r.kind() <= 16) || unused || extra {
+        return Err(Shape);
+    }
+    let beyond = |(f, last): &(u16, Option<u16>)| last.is_some_and(|last| *f > last);
+    if fields.iter().any(beyond) {
+        return Err(Range);
+    }
+    Ok(r)
+}
+
+impl Slow {
+    pub fn load(&mut self, policy: &[u8]) -> (Reply, usize) {
+        *self = Slow::default();
+        for (before, bytes) in policy.chunks(16).enumerate() {
+            let reply = match well_formed(bytes, true) {
+                Ok(record) => self.policy_record(record),
+                Err(reply) => reply,
+            };
+            if reply != Granted {
+                *self = Slow::default();
+                return (reply, before + 1);
+            }
+        }
+        (Granted, 0)
+    }
+
+    pub fn request(&mut self, bytes: &[u8]) -> Reply {
+        match well_formed(bytes, false) {
+            Ok(record) => self.serve(record),
+            Err(reply) => reply,
+        }
+    }
+
+    fn roles_of(&self, user: u16) -> Numbers {
+        let of_user = |(u, role): &(u16, u16)| (*u == user).then_some(*role);
+        self.user_roles.iter().filter_map(of_user).collect()
+    }
+
+    /// The roles active over all the user's subjects together.
+    fn active_of(&self, user: u16) -> Numbers {
+        let of_user = self.subjects.values().filter(|(u, _)| *u == user);
+        of_user.flat_map(|(_, roles)| roles.clone()).collect()
+    }
+
+    fn with(mut roles: Numbers, role: u16) -> Numbers {
+        roles.insert(role);
+        roles
+    }
+
+    fn tasks_of(&self, template: u16) -> Numbers {
+        let of_it = |(task, of): (&u16, &u16)| (*of == template).then_some(*task);
+        self.tasks.iter().filter_map(of_it).collect()
+    }
+
+    fn undeclared(&self, members: &Numbers, tasks: bool) -> bool {
+        members.iter().any(|i| {
+            if tasks {
+                !self.tasks.contains_key(i)
+            } else {
+                !self.roles.contains(i)
+            }
+        })
+    }
+
+    fn several_templates(&self, members: &Numbers) -> bool {
+        let templates: Numbers = members.iter().map(|t| self.tasks[t]).collect();
+        templates.len() > 1
+    }
+
+    fn policy_record(&mut self, r: Record) -> Reply {
+        let reply = match r.kind() {
+            1..=8 => self.judge_declaration(r),
+            9..=12 => self.judge_set(r),
+            _ => self.judge_rule(r),
+        };
+        if reply == Granted {
+            self.enter(r);
+        }
+        reply
+    }
+
+    fn judge_declaration(&self, r: Record) -> Reply {
+        let (a, b) = (r.a(), r.b());
+        let (user, role) = (self.users.contains(&a), self.roles.contains(&b));
+        let task = self.tasks.contains_key(&a);
+        let permission = self.permissions.contains_key(&b);
+        match r.kind() {
+            1 => first(&[(Taken, user)]),
+            2 => first(&[(Taken, self.roles.contains(&a))]),
+            3 => {
+                let pair = self.permissions.values().any(|p| *p == (b, r.c()));
+                first(&[(Taken, self.permissions.contains_key(&a) || pair)])
+            }
+            4 => self.judge_assignment(a, b),
+            5 => self.judge_giving(a, b),
+            6 => first(&[(Taken, task)]),
+            7 => first(&[
+                (Unknown, !task || !role),
+                (Taken, self.open_to.contains(&(a, b))),
+            ]),
+            _ => first(&[
+                (Unknown, !task || !permission),
+                (Taken, self.carries.contains(&(a, b))),
+            ]),
+        }
+    }
+
+    fn judge_assignment(&self, user: u16, role: u16) -> Reply {
+        let then = Slow::with(self.roles_of(user), role);
+        first(&[
+            (
+                Unknown,
+                !self.users.contains(&user) || !self.roles.contains(&role),
+            ),
+            (Taken, self.user_roles.contains(&(user, role))),
+            (Static, broken(&self.static_sets, &then)),
+        ])
+    }
+
+    fn judge_giving(&self, role: u16, permission: u16) -> Reply {
+        let known = self.roles.contains(&role) && self.permissions.contains_key(&permission);
+        first(&[
+            (Unknown, !known),
+            (Taken, self.role_permissions.contains(&(role, permission))),
+        ])
+    }
+
+    fn judge_set(&self, r: Record) -> Reply {
+        let members = numbers(r.m());
+        let tasks = r.kind() > 10;
+        if self.undeclared(&members, tasks) {
+            return Unknown;
+        }
+        let mixed = tasks && self.several_templates(&members);
+        if r.kind() == 12 {
+            return self.judge_block(r.a(), members, mixed);
+        }
+        let n = usize::from(r.n());
+        let rules = match r.kind() {
+            9 => &self.static_sets,
+            10 => &self.dynamic_sets,
+            _ => &self.task_sets,
+        };
+        let ill_made = n < 1 || n >= members.len() || mixed;
+        let too_many = |user: &u16| overlap(&self.roles_of(*user), &members) > n;
+        first(&[
+            (Taken, rules.contains(&(r.n(), members.clone()))),
+            (Rule, ill_made),
+            (Static, r.kind() == 9 && self.users.iter().any(too_many)),
+            (Full, rules.len() == 32),
+        ])
+    }
+
+    fn judge_block(&self, partitioning: u16, members: Numbers, mixed: bool) -> Reply {
+        let earlier = self.blocks.iter().filter(|(p, _)| *p == partitioning);
+        let clash = |(_, other): &(u16, Numbers)| {
+            let both: Numbers = other.union(&members).copied().collect();
+            overlap(other, &members) > 0 || self.several_templates(&both)
+        };
+        let ill_made = members.is_empty() || mixed || earlier.clone().any(clash);
+        first(&[
+            (Taken, earlier.clone().any(|(_, other)| *other == members)),
+            (Rule, ill_made),
+            (Full, self.blocks.len() == 64),
+        ])
+    }
+
+    fn judge_rule(&self, r: Record) -> Reply {
+        let (a, b) = (r.a(), r.b());
+        let task = |t| self.tasks.contains_key(&t);
+        let ill_paired = a == b || self.tasks.get(&a) != self.tasks.get(&b);
+        match r.kind() {
+            13 => first(&[
+                (Unknown, self.tasks_of(a).is_empty()),
+                (Taken, self.bans.contains(&a)),
+            ]),
+            14 => first(&[
+                (Unknown, !task(a)),
+                (Taken, self.limits.contains_key(&a)),
+                (Rule, r.n() == 0),
+            ]),
+            15 => first(&[
+                (Unknown, !task(a) || !task(b)),
+                (
+                    Taken,
+                    self.bindings.contains(&(a, b)) || self.bindings.contains(&(b, a)),
+                ),
+                (Rule, ill_paired),
+                (Full, self.bindings.len() == 64),
+            ]),
+            _ => first(&[
+                (Unknown, !task(a) || !task(b)),
+                (Taken, self.prerequisites.contains(&(a, b))),
+                (Rule, ill_paired),
+                (Full, self.prerequisites.len() == 64),
+            ]),
+        }
+    }
+
+    /// What an accepted policy record says from now on.
+    fn enter(&mut self, r: Record) {
+        let (n, a, b) = (r.n(), r.a(), r.b());
+        let members = numbers(r.m());
+        match r.kind() {
+            1 => self.users.extend([a]),
+            2 => self.roles.extend([a]),
+            3 => self.permissions.extend([(a, (b, r.c()))]),
+            4 => self.user_roles.extend([(a, b)]),
+            5 => self.role_permissions.extend([(a, b)]),
+            6 => self.tasks.extend([(a, b)]),
+            7 => self.open_to.extend([(a, b)]),
+            8 => self.carries.extend([(a, b)]),
+            9 => self.static_sets.push((n, members)),
+            10 => self.dynamic_sets.push((n, members)),
+            11 => self.task_sets.push((n, members)),
+            12 => self.blocks.push((a, members)),
+            13 => self.bans.extend([a]),
+            14 => self.limits.extend([(a, n)]),
+            15 => self.bindings.push((a, b)),
+            _ => self.prerequisites.push((a, b)),
+        }
+    }
+
+    fn serve(&mut self, r: Record) -> Reply {
+        let reply = match r.kind() {
+            32..=37 => self.judge_roles(r),
+            40..=43 | 56 => self.judge_sessions(r),
+            48 | 49 => self.judge_orders(r),
+            50 => self.judge_claim(r),
+            _ => self.judge_holder(r),
+        };
+        if reply == Granted {
+            self.act(r);
+        }
+        reply
+    }
+
+    fn judge_roles(&self, r: Record) -> Reply {
+        let (a, b) = (r.a(), r.b());
+        let user = self.users.contains(&a);
+        match r.kind() {
+            32 => first(&[(Taken, user)]),
+            33 => {
+                let live = self.subjects.values().any(|(u, _)| *u == a);
+                let entered = |e: &Entry| e.user == a && self.instances.contains_key(&e.instance);
+                let used = live || self.entries.iter().any(entered);
+                first(&[(Unknown, !user), (InUse, used)])
+            }
+            34 => self.judge_assignment(a, b),
+            35 => first(&[
+                (Unknown, !self.user_roles.contains(&(a, b))),
+                (InUse, self.active_of(a).contains(&b)),
+            ]),
+            36 => self.judge_giving(a, b),
+            _ => first(&[(Unknown, !self.role_permissions.contains(&(a, b)))]),
+        }
+    }
+
+    /// NOT ASSIGNED and DYNAMIC, for roles that a user's subject would have active as well.
+    fn judge_active(&self, user: u16, roles: &Numbers) -> [(Reply, bool); 2] {
+        let then = self.active_of(user).union(roles).copied().collect();
+        [
+            (NotAssigned, !roles.is_subset(&self.roles_of(user))),
+            (Dynamic, broken(&self.dynamic_sets, &then)),
+        ]
+    }
+
+    fn judge_sessions(&self, r: Record) -> Reply {
+        let (a, b) = (r.a(), r.b());
+        if r.kind() == 40 {
+            let roles = numbers(r.m());
+            let [assigned, dynamic] = self.judge_active(b, &roles);
+            let unknown = !self.users.contains(&b) || self.undeclared(&roles, false);
+            let live = self.subjects.contains_key(&a);
+            return first(&[(Unknown, unknown), (Taken, live), assigned, dynamic]);
+        }
+        let Some((user, active)) = self.subjects.get(&a) else {
+            return Unknown;
+        };
+        match r.kind() {
+            41 => {
+                let held = self.entries.iter().any(|e| e.holder == Some(a));
+                first(&[(InUse, held)])
+            }
+            42 => {
+                let [assigned, dynamic] = self.judge_active(*user, &Numbers::from([b]));
+                first(&[
+                    (Unknown, !self.roles.contains(&b)),
+                    (Taken, active.contains(&b)),
+                    assigned,
+                    dynamic,
+                ])
+            }
+            43 => first(&[(Unknown, !active.contains(&b))]),
+            _ => {
+                let has = |p: &u16| {
+                    active
+                        .iter()
+                        .any(|r| self.role_permissions.contains(&(*r, *p)))
+                };
+                first(&[(Denied, !self.permissions_of(b, r.c()).any(|p| has(&p)))])
+            }
+        }
+    }
+
+    fn permissions_of(&self, operation: u16, object: u16) -> impl Iterator<Item = u16> + '_ {
+        let of_pair =
+            move |(p, pair): (&u16, &(u16, u16))| (*pair == (operation, object)).then_some(*p);
+        self.permissions.iter().filter_map(of_pair)
+    }
+
+    fn judge_orders(&self, r: Record) -> Reply {
+        let open = self.instances.contains_key(&r.a());
+        if r.kind() == 48 {
+            let no_task = self.tasks_of(r.b()).is_empty();
+            return first(&[(Unknown, no_task), (Taken, open)]);
+        }
+        let held = |e: &Entry| e.instance == r.a() && e.holder.is_some();
+        first(&[(Unknown, !open), (InUse, self.entries.iter().any(held))])
+    }
+
+    /// The subject's user, where all that the record names is known.
+    fn named(&self, r: Record) -> Option<u16> {
+        let (user, _) = self.subjects.get(&r.a())?;
+        let template = self.instances.get(&r.b())?;
+        (self.tasks.get(&r.c())? == template).then_some(*user)
+    }
+
+    fn judge_holder(&self, r: Record) -> Reply {
+        if self.named(r).is_none() {
+            return Unknown;
+        }
+        let holds = |e: &Entry| (e.instance, e.task, e.holder) == (r.b(), r.c(), Some(r.a()));
+        let yours = self.entries.iter().any(holds);
+        let (operation, object) = (r.m() % 65_536, r.m() / 65_536);
+        let carried = self
+            .permissions_of(operation as u16, object as u16)
+            .any(|p| self.carries.contains(&(r.c(), p)));
+        first(&[(NotYours, !yours), (Denied, r.kind() == 57 && !carried)])
+    }
+
+    fn judge_claim(&self, r: Record) -> Reply {
+        let (subject, task) = (r.a(), r.c());
+        let Some(user) = self.named(r) else {
+            return Unknown;
+        };
+        let order: Vec<&Entry> = self
+            .entries
+            .iter()
+            .filter(|e| e.instance == r.b())
+            .collect();
+        let held = order.iter().any(|e| e.task == task && e.holder.is_some());
+        let active = &self.subjects[&subject].1;
+        let opened = active
+            .iter()
+            .any(|role| self.open_to.contains(&(task, *role)));
+        let mut checks = vec![(Taken, held), (NoRole, !opened)];
+        checks.extend(self.claim_rules(&order, user, task));
+        checks.push((Full, self.entries.len() == 2048));
+        first(&checks)
+    }
+
+    fn claim_rules(&self, order: &[&Entry], user: u16, task: u16) -> [(Reply, bool); 6] {
+        let of_user = |e: &&&Entry| e.user == user;
+        let d: Numbers = order.iter().filter(of_user).map(|e| e.task).collect();
+        let done: Numbers = order
+            .iter()
+            .filter(|e| e.holder.is_none())
+            .map(|e| e.task)
+            .collect();
+        let mut others = d.clone();
+        others.remove(&task);
+        let template = self.tasks[&task];
+        let mut rest = self.tasks_of(template);
+        rest.remove(&task);
+        let of_another = |t: u16| order.iter().any(|e| e.task == t && e.user != user);
+        let count = order.iter().filter(|e| e.task == task).count();
+        let separated = |(n, members): &(u8, Numbers)| {
+            members.contains(&task) && overlap(members, &others) >= usize::from(*n)
+        };
+        let too_often = |n: &u8| count >= usize::from(*n);
+        let apart =
+            |(x, y): &(u16, u16)| (*x == task && of_another(*y)) || (*y == task && of_another(*x));
+        let early = |(x, y): &(u16, u16)| *y == task && !done.contains(x);
+        [
+            (Before, self.prerequisites.iter().any(early)),
+            (Separation, self.task_sets.iter().any(separated)),
+            (
+                Block,
+                self.blocks
+                    .iter()
+                    .any(|own| self.leaves_block(own, task, &d)),
+            ),
+            (Alone, self.bans.contains(&template) && rest.is_subset(&d)),
+            (Bound, self.bindings.iter().any(apart)),
+            (Count, self.limits.get(&task).is_some_and(too_often)),
+        ]
+    }
+
+    /// Whether the task is in this block and D meets another one of its partitioning.
+    fn leaves_block(&self, own: &(u16, Numbers), task: u16, d: &Numbers) -> bool {
+        let of_same = self.blocks.iter().filter(|other| other.0 == own.0);
+        let mut another = of_same.filter(|other| !other.1.contains(&task));
+        own.1.contains(&task) && another.any(|other| overlap(&other.1, d) > 0)
+    }
+
+    /// What a granted request changes.
+    fn act(&mut self, r: Record) {
+        let (a, b) = (r.a(), r.b());
+        match r.kind() {
+            32 => self.users.extend([a]),
+            33 => {
+                self.users.retain(|user| *user != a);
+                self.user_roles.retain(|(user, _)| *user != a);
+            }
+            34 => self.user_roles.extend([(a, b)]),
+            35 => self.user_roles.retain(|pair| *pair != (a, b)),
+            36 => self.role_permissions.extend([(a, b)]),
+            37 => self.role_permissions.retain(|pair| *pair != (a, b)),
+            40 => self.subjects.extend([(a, (b, numbers(r.m())))]),
+            41 => self.subjects.retain(|subject, _| *subject != a),
+            42 => self.active(a).extend([b]),
+            43 => self.active(a).retain(|role| *role != b),
+            48 => self.instances.extend([(a, b)]),
+            49 => {
+                self.instances.retain(|instance, _| *instance != a);
+                self.entries.retain(|e| e.instance != a);
+            }
+            _ => self.act_on_entry(r),
+        }
+    }
+
+    /// The active roles of a live subject.
+    fn active(&mut self, subject: u16) -> &mut Numbers {
+        &mut self.subjects.get_mut(&subject).expect("it is live").1
+    }
+
+    fn act_on_entry(&mut self, r: Record) {
+        let (subject, instance, task) = (r.a(), r.b(), r.c());
+        let holds = |e: &Entry| (e.instance, e.task, e.holder) == (instance, task, Some(subject));
+        match r.kind() {
+            50 => self.entries.push(Entry {
+                instance,
+                user: self.subjects[&subject].0,
+                task,
+                holder: Some(subject),
+            }),
+            51 => self.entries.retain(|e| !holds(e)),
+            52 => {
+                let held = self.entries.iter_mut().filter(|e| holds(e));
+                held.for_each(|e| e.holder = None);
+            }
+            _ => {}
+        }
+    }
+}

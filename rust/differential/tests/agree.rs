@@ -1,0 +1,28 @@
+//! All engines over the default cases: they agree, and every kind is answered in every way that it can be.
+
+use differential::{compare, Case, Coverage, Panel, CASES, SEED};
+
+#[test]
+fn all_engines_agree_and_every_reply_comes_up() {
+    let panel = Panel::all();
+    let mut coverage = Coverage::default();
+    for number in 0..CASES {
+        let case = Case::random(SEED, number);
+        match compare(&panel, &case, number % 20 == 0) {
+            Ok(seen) => coverage.join(&seen),
+            Err(failure) => panic!("case {number} differs:\n{}", failure.report()),
+        }
+    }
+    assert_eq!(coverage.missing(), [], "\n{}", coverage.table());
+    assert_eq!(coverage.surprising(), [], "\n{}", coverage.table());
+}
+
+#[cfg(mishantral_engine)]
+#[test]
+fn the_proved_library_answers_over_garbage() {
+    for number in 0..100 {
+        if let Err(report) = differential::garbage(SEED, number) {
+            panic!("case {number}: {report}");
+        }
+    }
+}

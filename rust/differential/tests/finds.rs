@@ -1,0 +1,163 @@
+//! Engines with a fault each: the comparison finds every one, and shows it by a small case.
+
+use differential::{compare, plain, Answer, Case, Desk, Panel};
+use plain::{Engine, OrderLists};
+
+/// What a record is taken for.
+type Bend = fn(&[u8]) -> Vec<u8>;
+
+/// The plain engine with a fault in what it is handed or in what it does.
+#[derive(Clone)]
+struct Faulty {
+    engine: Engine<OrderLists>,
+    /// What the engine is handed in the place of a record.
+    bent: Bend,
+    /// Requests that are answered and not done.
+    idle: fn(u8) -> bool,
+    /// What is answered in the place of a reply.
+    told: fn(u8) -> u8,
+}
+
+impl Desk for Faulty {
+    fn name(&self) -> &'static str {
+        "faulty"
+    }
+
+    fn load(&mut self, policy: &[u8]) -> Answer {
+        let bent: Vec<u8> = policy.chunks(16).flat_map(self.bent).collect();
+        let (reply, place) = self.engine.load(&bent);
+        ((self.told)(reply.number()), place)
+    }
+
+    fn request(&mut self, record: &[u8]) -> u8 {
+        let before = self.engine.clone();
+        let reply = self.engine.request(&(self.bent)(record)).number();
+        if record.first().is_some_and(|kind| (self.idle)(*kind)) {
+            self.engine = before;
+        }
+        (self.told)(reply)
+    }
+
+    fn copy(&self) -> Box<dyn Desk> {
+        Box::new(self.clone())
+    }
+}
+
+fn sound() -> Faulty {
+    Faulty {
+        engine: Engine::new(),
+        bent: <[u8]>::to_vec,
+        idle: |_| false,
+        told: |reply| reply,
+    }
+}
+
+/// The report of the first case that shows the fault.
+fn found(faulty: Faulty) -> Option<String> {
+    let good = plain("plain", Engine::<OrderLists>::new());
+    let panel = Panel::of(vec![good, Box::new(faulty)]);
+    let failure = |number| compare(&panel, &Case::random(5, number), false).err();
+    (0..200).find_map(failure).map(|f| f.report())
+}
+
+fn finds(faulty: Faulty, most_lines: usize) {
+    let report = found(faulty).expect("the fault is found");
+    assert!(report.lines().count() <= most_lines, "{report}");
+}
+
+#[test]
+fn a_sound_engine_is_not_blamed() {
+    assert_eq!(found(sound()), None);
+}
+
+/// A user's number kept in one byte.
+fn one_byte(record: &[u8]) -> Vec<u8> {
+    let mut bent = record.to_vec();
+    match record.first() {
+        Some(1 | 4 | 32..=35) if bent.len() == 16 && bent[3] < 4 => bent[3] = 0,
+        Some(40) if bent.len() == 16 && bent[5] < 4 => bent[5] = 0,
+        _ => {}
+    }
+    bent
+}
+
+#[test]
+fn a_user_number_in_one_byte_is_found() {
+    finds(
+        Faulty {
+            bent: one_byte,
+            ..sound()
+        },
+        8,
+    );
+}
+
+#[test]
+fn a_reply_without_a_deed_is_found_for_every_kind_that_does_something() {
+    let kinds: [fn(u8) -> bool; 15] = [
+        |k| k == 32,
+        |k| k == 33,
+        |k| k == 34,
+        |k| k == 35,
+        |k| k == 36,
+        |k| k == 37,
+        |k| k == 40,
+        |k| k == 41,
+        |k| k == 42,
+        |k| k == 43,
+        |k| k == 48,
+        |k| k == 49,
+        |k| k == 50,
+        |k| k == 51,
+        |k| k == 52,
+    ];
+    for idle in kinds {
+        finds(Faulty { idle, ..sound() }, 40);
+    }
+}
+
+/// Each rule record made a little weaker or another one.
+#[test]
+fn a_rule_that_is_read_wrongly_is_found() {
+    let bends: [Bend; 6] = [
+        // A set that allows one member more, where that is still well made.
+        |r| bent(r, 9, |b| b[1] += u8::from(ones(b) > u32::from(b[1]) + 1)),
+        |r| bent(r, 10, |b| b[1] += u8::from(ones(b) > u32::from(b[1]) + 1)),
+        |r| bent(r, 11, |b| b[1] += u8::from(ones(b) > u32::from(b[1]) + 1)),
+        // A limit of one more.
+        |r| bent(r, 14, |b| b[1] = b[1].saturating_add(u8::from(b[1] > 0))),
+        // A prerequisite turned round.
+        |r| bent(r, 16, |b| (b[2], b[4]) = (b[4], b[2])),
+        // Two partitionings taken for one.
+        |r| bent(r, 12, |b| b[2] /= if b[2] < 16 { 2 } else { 1 }),
+    ];
+    for bent in bends {
+        finds(Faulty { bent, ..sound() }, 40);
+    }
+}
+
+fn bent(record: &[u8], kind: u8, change: impl Fn(&mut Vec<u8>)) -> Vec<u8> {
+    let mut bytes = record.to_vec();
+    if bytes.len() == 16 && bytes[0] == kind {
+        change(&mut bytes);
+    }
+    bytes
+}
+
+fn ones(record: &[u8]) -> u32 {
+    record[8..].iter().map(|byte| byte.count_ones()).sum()
+}
+
+#[test]
+fn a_reply_told_as_another_is_found() {
+    let tells: [fn(u8) -> u8; 5] = [
+        |reply| if reply == 3 { 2 } else { reply },
+        |reply| if reply == 9 { 10 } else { reply },
+        |reply| if reply == 15 { 16 } else { reply },
+        |reply| if reply == 18 { 19 } else { reply },
+        |reply| if reply == 20 { 19 } else { reply },
+    ];
+    for told in tells {
+        finds(Faulty { told, ..sound() }, 120);
+    }
+}

@@ -1,0 +1,171 @@
+//! The engine over the linked library: three lent buffers, two calls.
+//! The declarations are those of include/mishantral.h; nothing else here is unsafe.
+
+use crate::{Record, Refused, Reply};
+use std::fmt;
+
+type Call = unsafe extern "C" fn(
+    bytes: *const u8,
+    length: usize,
+    policy: *mut u64,
+    policy_words: usize,
+    sessions: *mut u64,
+    sessions_words: usize,
+    orders: *mut u64,
+    orders_words: usize,
+) -> u64;
+
+extern "C" {
+    fn mishantral_words(group: u64) -> u64;
+    fn mishantral_load(
+        bytes: *const u8,
+        length: usize,
+        policy: *mut u64,
+        policy_words: usize,
+        sessions: *mut u64,
+        sessions_words: usize,
+        orders: *mut u64,
+        orders_words: usize,
+    ) -> u64;
+    fn mishantral_request(
+        bytes: *const u8,
+        length: usize,
+        policy: *mut u64,
+        policy_words: usize,
+        sessions: *mut u64,
+        sessions_words: usize,
+        orders: *mut u64,
+        orders_words: usize,
+    ) -> u64;
+}
+
+/// The three buffers that the library works on. Every content is a state: what is written in docs/STATE.md
+/// says how it reads. Buffers of other lengths are answered with ROOM, and are not written to.
+#[derive(Clone, PartialEq, Eq)]
+pub struct State {
+    pub policy: Box<[u64]>,
+    pub sessions: Box<[u64]>,
+    pub orders: Box<[u64]>,
+}
+
+impl State {
+    /// Buffers of the fixed lengths, all zero.
+    pub fn zeroed() -> State {
+        let buffer = |group| {
+            // SAFETY: the function takes a number and gives a number.
+            let words = unsafe { mishantral_words(group) };
+            let words = usize::try_from(words).expect("a buffer's length fits a usize");
+            vec![0; words].into_boxed_slice()
+        };
+        State {
+            policy: buffer(0),
+            sessions: buffer(1),
+            orders: buffer(2),
+        }
+    }
+
+    /// The library's answer to these bytes: its reply and place.
+    fn call(&mut self, call: Call, bytes: &[u8]) -> (Reply, usize) {
+        let (policy, sessions, orders) = (&mut self.policy, &mut self.sessions, &mut self.orders);
+        // SAFETY: each pointer is a slice's own, with its length in elements behind it; the four slices are
+        // apart, and the library keeps none of them.
+        let answer = unsafe {
+            call(
+                bytes.as_ptr(),
+                bytes.len(),
+                policy.as_mut_ptr(),
+                policy.len(),
+                sessions.as_mut_ptr(),
+                sessions.len(),
+                orders.as_mut_ptr(),
+                orders.len(),
+            )
+        };
+        let reply = Reply::from_number(answer % 256)
+            .unwrap_or_else(|| panic!("a library with other replies is linked: {answer}"));
+        let place = usize::try_from(answer / 256).expect("a place is below the input's length");
+        (reply, place)
+    }
+}
+
+impl fmt::Debug for State {
+    fn fmt(&self, f: &mut fmt::Formatter) -> fmt::Result {
+        let words = |buffer: &[u64]| format!("{} words", buffer.len());
+        f.debug_struct("State")
+            .field("policy", &words(&self.policy))
+            .field("sessions", &words(&self.sessions))
+            .field("orders", &words(&self.orders))
+            .finish()
+    }
+}
+
+/// A policy, its sessions and its orders.
+///
+/// ```
+/// use mishantral::{Engine, Record, Reply, Set};
+///
+/// let mut engine = Engine::new();
+/// engine.load_records(&[
+///     Record::user(300),
+///     Record::role(0),
+///     Record::user_has_role(300, 0),
+/// ])?;
+/// let with_role_0 = Record::create_subject(5, 300, Set::of(&[0]));
+/// assert_eq!(engine.request(&with_role_0), Reply::Granted);
+/// assert_eq!(engine.request(&with_role_0), Reply::Taken);
+///
+/// let refused = engine.load_records(&[Record::user(1024)]).unwrap_err();
+/// assert_eq!(refused.to_string(), "3 RANGE at record 1");
+/// # Ok::<(), mishantral::Refused>(())
+/// ```
+#[derive(Clone, PartialEq, Eq, Debug)]
+pub struct Engine {
+    state: State,
+}
+
+impl Default for Engine {
+    fn default() -> Engine {
+        Engine::new()
+    }
+}
+
+impl Engine {
+    /// The empty engine: no policy is loaded, and nothing but adding users is granted.
+    pub fn new() -> Engine {
+        let mut engine = Engine::from_state(State::zeroed());
+        engine.load(&[]).expect("an empty policy is accepted");
+        engine
+    }
+
+    /// Goes on from a state, as one that `state` gave.
+    pub fn from_state(state: State) -> Engine {
+        Engine { state }
+    }
+
+    pub fn state(&self) -> &State {
+        &self.state
+    }
+
+    pub fn into_state(self) -> State {
+        self.state
+    }
+
+    /// Loads a policy's bytes in the place of all that was there. A refused load leaves the engine empty.
+    pub fn load(&mut self, policy: &[u8]) -> Result<(), Refused> {
+        match self.state.call(mishantral_load, policy) {
+            (Reply::Granted, _) => Ok(()),
+            (reply, place) => Err(Refused { reply, place }),
+        }
+    }
+
+    /// As `load`, of records.
+    pub fn load_records(&mut self, policy: &[Record]) -> Result<(), Refused> {
+        let bytes: Vec<u8> = policy.iter().flat_map(|record| record.0).collect();
+        self.load(&bytes)
+    }
+
+    /// Answers one request: a [`Record`], or bytes of any length. A refused one changes nothing.
+    pub fn request<R: AsRef<[u8]> + ?Sized>(&mut self, record: &R) -> Reply {
+        self.state.call(mishantral_request, record.as_ref()).0
+    }
+}

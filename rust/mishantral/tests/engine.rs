@@ -1,0 +1,109 @@
+//! The linked library through the safe engine: document 01's listing, ROOM, refusals as values.
+#![cfg(mishantral_engine)]
+
+use mishantral::{Engine, Record, Refused, Reply, Set, State};
+
+fn listing_policy() -> Vec<Record> {
+    vec![
+        Record::user(300),
+        Record::user(301),
+        Record::role(0),
+        Record::user_has_role(300, 0),
+        Record::user_has_role(301, 0),
+        Record::task(0, 0),
+        Record::task(1, 0),
+        Record::task_open_to(0, 0),
+        Record::task_open_to(1, 0),
+        Record::task_set(1, Set::of(&[0, 1])),
+        Record::before(0, 1),
+    ]
+}
+
+#[test]
+fn the_listing() {
+    let mut engine = Engine::new();
+    engine.load_records(&listing_policy()).unwrap();
+    let asked = [
+        (Record::create_subject(5, 300, Set::of(&[0])), 0),
+        (Record::create_subject(6, 301, Set::of(&[0])), 0),
+        (Record::open_order(0, 0), 0),
+        (Record::claim(5, 0, 1), 14),
+        (Record::claim(5, 0, 0), 0),
+        (Record::claim(6, 0, 1), 14),
+        (Record::done(5, 0, 0), 0),
+        (Record::claim(5, 0, 1), 15),
+        (Record::claim(6, 0, 1), 0),
+        (Record::end_order(0), 6),
+        (Record::done(6, 0, 1), 0),
+        (Record::end_order(0), 0),
+        (Record::end_order(0), 4),
+    ];
+    for (at, (record, number)) in asked.into_iter().enumerate() {
+        assert_eq!(
+            engine.request(&record).number(),
+            number,
+            "request {}",
+            at + 1
+        );
+    }
+}
+
+#[test]
+fn a_refused_load_is_a_value_and_leaves_the_engine_empty() {
+    let mut engine = Engine::new();
+    let mut policy = listing_policy();
+    policy.push(Record::user(300));
+    let refused = Refused {
+        reply: Reply::Taken,
+        place: 12,
+    };
+    assert_eq!(engine.load_records(&policy), Err(refused));
+    assert_eq!(engine, Engine::new());
+    assert_eq!(engine.request(&Record::add_user(300)), Reply::Granted);
+}
+
+#[test]
+fn a_refused_request_changes_no_word() {
+    let mut engine = Engine::new();
+    engine.load_records(&listing_policy()).unwrap();
+    let before = engine.clone();
+    assert_eq!(engine.request(&Record::add_user(300)), Reply::Taken);
+    assert_eq!(engine.request(&[1, 2, 3]), Reply::Shape);
+    assert_eq!(engine.request(&Vec::new()), Reply::Shape);
+    assert_eq!(engine, before);
+}
+
+#[test]
+fn other_lengths_are_room_and_nothing_is_written() {
+    let right = State::zeroed();
+    for group in 0..3 {
+        for longer in [false, true] {
+            let mut state = right.clone();
+            let buffers = [&mut state.policy, &mut state.sessions, &mut state.orders];
+            let buffer = buffers.into_iter().nth(group).unwrap();
+            let words = if longer {
+                buffer.len() + 1
+            } else {
+                buffer.len() - 1
+            };
+            *buffer = vec![0x5555_5555_5555_5555; words].into();
+            let mut engine = Engine::from_state(state.clone());
+            let room = Refused {
+                reply: Reply::Room,
+                place: 0,
+            };
+            assert_eq!(engine.load(&[1, 2, 3]), Err(room));
+            assert_eq!(engine.request(&Record::add_user(300)), Reply::Room);
+            assert_eq!(engine.request(&[0; 3]), Reply::Room);
+            assert_eq!(engine.into_state(), state);
+        }
+    }
+}
+
+#[test]
+fn a_state_goes_on_where_it_was_kept() {
+    let mut engine = Engine::new();
+    engine.load_records(&listing_policy()).unwrap();
+    let mut again = Engine::from_state(engine.state().clone());
+    assert_eq!(again.request(&Record::add_user(301)), Reply::Taken);
+}

@@ -1,0 +1,103 @@
+//! A desk program's bare listing, with each request in words and each reply by its name.
+
+use crate::read::{tokens, Error, Token, END};
+use crate::write::line;
+use records::{Reply, LENGTH};
+
+/// A line of the listing, of which each word is asked for in turn.
+struct Listed<'a> {
+    number: usize,
+    tokens: Vec<Token<'a>>,
+    at: usize,
+    end: usize,
+}
+
+impl<'a> Listed<'a> {
+    fn new(before: usize, line: &'a str) -> Listed<'a> {
+        Listed {
+            number: before + 1,
+            tokens: tokens(line),
+            at: 0,
+            end: line.trim_end().chars().count() + 1,
+        }
+    }
+
+    fn next<T>(&mut self, expected: &str, read: impl Fn(Token) -> Option<T>) -> Result<T, Error> {
+        let token = self.tokens.get(self.at).copied();
+        self.at += 1;
+        token.and_then(read).ok_or_else(|| Error {
+            line: self.number,
+            column: token.map_or(self.end, |t| t.column),
+            expected: expected.to_string(),
+            found: token.map_or(END.to_string(), |t| format!("\"{}\"", t.text)),
+        })
+    }
+
+    fn word(&mut self, word: &str) -> Result<(), Error> {
+        self.next(&format!("\"{word}\""), |t| (t.text == word).then_some(()))
+    }
+
+    fn reply(&mut self) -> Result<Reply, Error> {
+        self.next("a reply, 0 to 20", |t| Reply::from_number(t.number()?))
+    }
+
+    fn end(self) -> Result<(), Error> {
+        self.tokens.get(self.at).map_or(Ok(()), |token| {
+            Err(Error {
+                line: self.number,
+                column: token.column,
+                expected: END.to_string(),
+                found: format!("\"{}\"", token.text),
+            })
+        })
+    }
+}
+
+fn load_line(mut listed: Listed, policy: Option<&[u8]>) -> Result<(Reply, String), Error> {
+    listed.word("load")?;
+    let reply = listed.reply()?;
+    let place = listed.next("the place of a record", |t| {
+        t.number().and_then(|n| usize::try_from(n).ok())
+    })?;
+    listed.end()?;
+    let at = match place {
+        0 => String::new(),
+        _ => format!(" at record {place}"),
+    };
+    let refused = place
+        .checked_sub(1)
+        .and_then(|before| policy?.chunks(LENGTH).nth(before))
+        .map_or(String::new(), |record| format!(": {}", line(record)));
+    Ok((reply, format!("load {reply}{at}{refused}\n")))
+}
+
+fn request_line(mut listed: Listed, place: usize, record: &[u8]) -> Result<String, Error> {
+    listed.word(&place.to_string())?;
+    let reply = listed.reply()?;
+    listed.end()?;
+    let (number, name) = (reply.number(), reply.name());
+    let words = line(record);
+    Ok(format!("{place:>5}  {number:>2} {name:<12}  {words}\n"))
+}
+
+/// Joins request records and the listing that a desk program wrote for them. With the policy's
+/// records, a refused one is shown in words too.
+pub fn explain(policy: Option<&[u8]>, requests: &[u8], listing: &str) -> Result<String, Error> {
+    let mut lines = listing.lines().enumerate();
+    let (_, first) = lines.next().unwrap_or((0, ""));
+    let (reply, mut text) = load_line(Listed::new(0, first), policy)?;
+    let judged = if reply.is_granted() { requests } else { &[] };
+    for (before, record) in judged.chunks(LENGTH).enumerate() {
+        let (at, listed) = lines.next().unwrap_or((before + 1, ""));
+        text += &request_line(Listed::new(at, listed), before + 1, record)?;
+    }
+    match lines.next() {
+        None => Ok(text),
+        Some((before, further)) => Err(Error {
+            line: before + 1,
+            column: 1,
+            expected: "the end of the listing".to_string(),
+            found: format!("\"{further}\""),
+        }),
+    }
+}

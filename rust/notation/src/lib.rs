@@ -1,0 +1,39 @@
+//! Records as lines of document 01's words, and back: one line a record, `#` begins a comment.
+//!
+//! ```
+//! let text = b"user 300  # the signer\nuser 300 has role 0\n";
+//! let records = notation::read(text).unwrap();
+//! assert_eq!(records.len(), 32);
+//! assert_eq!(notation::write(&records), "user 300\nuser 300 has role 0\n");
+//!
+//! let error = notation::read(b"user 300\nuser 300 has rolle 0\n").unwrap_err();
+//! let message = "line 2, column 14: expected \"role\", found \"rolle\"";
+//! assert_eq!(error.to_string(), message);
+//! ```
+
+mod explain;
+mod forms;
+mod read;
+mod write;
+
+pub use explain::explain;
+pub use read::{read, Error};
+pub use records::Reply;
+pub use write::{line, write};
+
+/// Every line that the notation has, one for each kind of document 01 and two for any bytes.
+pub fn forms() -> String {
+    let line = |(_, pattern)| {
+        let shown: Vec<String> = forms::parts(pattern).map(forms::Part::shown).collect();
+        shown.join(" ").replace(" :", ":") + "\n"
+    };
+    forms::FORMS.into_iter().map(line).collect()
+}
+
+/// Whether bytes are text rather than records.
+///
+/// A record in range has a byte of 0 to 3 in the upper half of a, which no text has.
+pub fn is_text(bytes: &[u8]) -> bool {
+    let control = |b: &u8| b.is_ascii_control() && !matches!(b, b'\t' | b'\n' | b'\r');
+    std::str::from_utf8(bytes).is_ok() && !bytes.iter().any(control)
+}

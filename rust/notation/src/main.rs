@@ -1,0 +1,123 @@
+//! The notation's program: text to records, records to text, and a listing with its requests in words.
+
+use std::fs;
+use std::io::{self, Read, Write};
+use std::process::ExitCode;
+
+const HELP: &str = "\
+Records as lines of document 01's words, and back.
+
+  mishantral-notation records [--either] [FILE]   text to records; --either: records pass as they are
+  mishantral-notation words [FILE]                records to text
+  mishantral-notation explain [--policy FILE] REQUESTS
+                                                  a desk program's listing, from standard input, with
+                                                  the records of REQUESTS in words and replies by name;
+                                                  --policy: the policy's records, to show a refused one
+  mishantral-notation forms                       every line that the notation has
+  mishantral-notation replies                     every reply's number and name
+
+Without FILE, or where it is -, standard input is read. What is made goes to standard output.
+One line a record; # begins a comment. A number is decimal, or hexadecimal after 0x.
+
+Exit status: 0 done; 1 the input is not as it must be, the message says where; 2 wrong use, or a file
+that cannot be read or written.
+";
+
+/// Why the program ends early: what to say, and the status.
+struct Stop(String, u8);
+
+type Made = Result<Vec<u8>, Stop>;
+
+fn usage(what: &str) -> Stop {
+    Stop(format!("{what}; --help tells the use"), 2)
+}
+
+/// A file's bytes, or standard input's.
+fn input(file: &str) -> Made {
+    let read = if file == "-" {
+        let mut bytes = Vec::new();
+        io::stdin().read_to_end(&mut bytes).map(|_| bytes)
+    } else {
+        fs::read(file)
+    };
+    read.map_err(|why| Stop(format!("{file}: {why}"), 2))
+}
+
+/// At most one file name.
+fn one_file<'a>(files: &[&'a str]) -> Result<&'a str, Stop> {
+    match files {
+        [] => Ok("-"),
+        [file] => Ok(file),
+        [_, further, ..] => Err(usage(&format!("unexpected argument {further:?}"))),
+    }
+}
+
+fn within(file: &str, error: notation::Error) -> Stop {
+    let name = if file == "-" { "standard input" } else { file };
+    Stop(format!("{name}: {error}"), 1)
+}
+
+fn records(arguments: &[&str]) -> Made {
+    let (either, files) = match arguments {
+        ["--either", files @ ..] => (true, files),
+        files => (false, files),
+    };
+    let file = one_file(files)?;
+    let bytes = input(file)?;
+    if either && !notation::is_text(&bytes) {
+        return Ok(bytes);
+    }
+    notation::read(&bytes).map_err(|error| within(file, error))
+}
+
+fn explain(arguments: &[&str]) -> Made {
+    let (policy, files) = match arguments {
+        ["--policy", file, files @ ..] => (Some(input(file)?), files),
+        files => (None, files),
+    };
+    let [requests] = files else {
+        return Err(usage("explain takes one file of request records"));
+    };
+    let requests = input(requests)?;
+    let listing = String::from_utf8(input("-")?)
+        .map_err(|_| Stop("standard input: the listing is not text".to_string(), 1))?;
+    notation::explain(policy.as_deref(), &requests, &listing)
+        .map(String::into_bytes)
+        .map_err(|error| within("-", error))
+}
+
+fn replies() -> String {
+    let line = |r: &notation::Reply| format!("{:>2} {}\n", r.number(), r.name());
+    notation::Reply::ALL.iter().map(line).collect()
+}
+
+fn made(arguments: &[&str]) -> Made {
+    match arguments {
+        ["records", rest @ ..] => records(rest),
+        ["words", rest @ ..] => Ok(notation::write(&input(one_file(rest)?)?).into_bytes()),
+        ["explain", rest @ ..] => explain(rest),
+        ["forms"] => Ok(notation::forms().into_bytes()),
+        ["replies"] => Ok(replies().into_bytes()),
+        ["help" | "--help" | "-h", ..] => Ok(HELP.as_bytes().to_vec()),
+        [] => Err(usage("a command is missing")),
+        [other, ..] => Err(usage(&format!("no such command: {other:?}"))),
+    }
+}
+
+fn main() -> ExitCode {
+    let arguments: Vec<String> = std::env::args().skip(1).collect();
+    let arguments: Vec<&str> = arguments.iter().map(String::as_str).collect();
+    let written = made(&arguments).and_then(|bytes| {
+        let mut out = io::stdout().lock();
+        out.write_all(&bytes)
+            .and_then(|()| out.flush())
+            .map_err(|why| Stop(format!("standard output: {why}"), 2))
+    });
+    match written {
+        Ok(()) => ExitCode::SUCCESS,
+        Err(Stop(message, status)) => {
+            eprintln!("mishantral-notation: {message}");
+            ExitCode::from(status)
+        }
+    }
+}

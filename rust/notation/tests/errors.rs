@@ -1,0 +1,142 @@
+//! An error names the line, the column and what was expected.
+
+use notation::read;
+
+/// The text's error: line, column, expected, found.
+fn refused(text: &str, line: usize, column: usize, expected: &str, found: &str) {
+    let error = read(text.as_bytes()).expect_err(text);
+    let got = (
+        error.line,
+        error.column,
+        &error.expected[..],
+        &error.found[..],
+    );
+    assert_eq!(got, (line, column, expected, found), "{text:?}");
+}
+
+const END: &str = "the end of the line";
+const HALF: &str = "a number up to 65535";
+
+#[test]
+fn a_wrong_word() {
+    refused(
+        "user 3\n  task 3 off template 0",
+        2,
+        10,
+        "\"of\", \"open\", \"carries\", \"at\", \"bound\" or \"before\"",
+        "\"off\"",
+    );
+    refused("take 5", 1, 6, "\"role\" or \"permission\"", "\"5\"");
+    refused("block of partitioning 3 0", 1, 25, "\":\"", "\"0\"");
+    refused("User 3", 1, 1, &first_words(), "\"User\"");
+    refused("größer 3", 1, 1, &first_words(), "\"größer\"");
+    refused(
+        "user 3 ä x",
+        1,
+        8,
+        "the end of the line or \"has\"",
+        "\"ä\"",
+    );
+}
+
+/// All words that a line may begin with.
+fn first_words() -> String {
+    let words =
+        "user role permission task static dynamic block lone-worker add delete assign take give \
+        create destroy activate deactivate open end claim release done check record";
+    let quoted: Vec<String> = words
+        .split_whitespace()
+        .map(|w| format!("\"{w}\""))
+        .collect();
+    format!("{} or \"bytes\"", quoted.join(", "))
+}
+
+#[test]
+fn a_line_that_ends_early() {
+    refused("user", 1, 5, HALF, END);
+    refused("user   # 3", 1, 5, HALF, END);
+    refused("claim 5 0", 1, 10, "the task, a number up to 65535", END);
+    refused(
+        "static set 1 of",
+        1,
+        16,
+        "a number up to 63 or \"none\"",
+        END,
+    );
+    refused("user 3 has role\r\nuser 4", 1, 16, HALF, END);
+}
+
+#[test]
+fn a_line_that_goes_on() {
+    refused("add user 3 4", 1, 12, END, "\"4\"");
+    refused("static set 1 of none 3", 1, 22, END, "\"3\"");
+    let seventeen = format!("bytes{}", " 00".repeat(17));
+    refused(&seventeen, 1, 55, END, "\"00\"");
+    refused(
+        "bytes 01\n\n user 3",
+        3,
+        2,
+        "no record after a cut one",
+        "\"user\"",
+    );
+}
+
+#[test]
+fn a_number_that_does_not_fit_its_field() {
+    refused("user 65536", 1, 6, HALF, "\"65536\"");
+    refused("user -1", 1, 6, HALF, "\"-1\"");
+    refused("user 3x", 1, 6, HALF, "\"3x\"");
+    refused("user 0x", 1, 6, HALF, "\"0x\"");
+    refused("user 0x10000", 1, 6, HALF, "\"0x10000\"");
+    refused(
+        "task 3 at most 256 times",
+        1,
+        16,
+        "a number up to 255",
+        "\"256\"",
+    );
+    refused(
+        "record 256 0 0 0 0 0",
+        1,
+        8,
+        "the kind, a number up to 255",
+        "\"256\"",
+    );
+    refused(
+        "record 1 0 0 0 0 0x10000000000000000",
+        1,
+        18,
+        "the m, a number up to 18446744073709551615",
+        "\"0x10000000000000000\"",
+    );
+    refused("bytes 1", 1, 7, "a byte as two hexadecimal digits", "\"1\"");
+    refused(
+        "bytes 0g",
+        1,
+        7,
+        "a byte as two hexadecimal digits",
+        "\"0g\"",
+    );
+}
+
+#[test]
+fn a_member_that_is_too_large_or_named_twice() {
+    let further = "a number up to 63 not named before or the end of the line";
+    refused(
+        "task set 1 of 64 1",
+        1,
+        15,
+        "a number up to 63 or \"none\"",
+        "\"64\"",
+    );
+    refused("task set 1 of 1 64", 1, 17, further, "\"64\"");
+    refused("task set 1 of 1 1", 1, 17, further, "\"1\"");
+    refused("task set 1 of 1 none", 1, 17, further, "\"none\"");
+}
+
+#[test]
+fn bytes_that_are_no_text() {
+    let error = read(b"user 3\nus\xffer 4").unwrap_err();
+    let message = "line 2, column 3: expected text in UTF-8, found the byte 0xff";
+    assert_eq!(error.to_string(), message);
+}

@@ -1,0 +1,137 @@
+//! Document 01 in plain Rust, written from its text alone and apart from the proved engine.
+//! It is the oracle of the differential test and, written for speed, the baseline of the benchmark.
+//!
+//! There are no lent buffers here, so no call answers ROOM; all else is as 01 says.
+//!
+//! ```
+//! use plain::{encode, Engine, OrderLists, Reply};
+//!
+//! let mut engine = Engine::<OrderLists>::new();
+//! let user_300 = encode(1, 0, 300, 0, 0, 0);
+//! assert_eq!(engine.load(&user_300), (Reply::Granted, 0));
+//! let add_user_300 = encode(32, 0, 300, 0, 0, 0);
+//! assert_eq!(engine.request(&add_user_300), Reply::Taken);
+//! ```
+
+mod ledger;
+mod orders;
+mod permissions;
+mod policy;
+mod record;
+mod reply;
+mod sessions;
+
+pub use ledger::{Entry, FlatLedger, Ledger, OrderLists, View, ENTRIES};
+pub use record::encode;
+pub use reply::Reply;
+
+use orders::Orders;
+use policy::Policy;
+use record::{decode, Call, Record};
+use reply::{refuse, Outcome};
+use sessions::Sessions;
+
+/// The length of a record.
+pub const RECORD: usize = 16;
+
+/// A policy, its sessions and its orders, with the entries kept as `L` keeps them.
+#[derive(Clone, PartialEq, Debug)]
+pub struct Engine<L = OrderLists> {
+    policy: Box<Policy>,
+    sessions: Box<Sessions>,
+    orders: Orders<L>,
+}
+
+impl<L: Ledger> Default for Engine<L> {
+    fn default() -> Self {
+        Self::new()
+    }
+}
+
+fn reply(outcome: Outcome) -> Reply {
+    outcome.err().unwrap_or(Reply::Granted)
+}
+
+impl<L: Ledger> Engine<L> {
+    /// The empty engine.
+    pub fn new() -> Self {
+        Engine {
+            policy: Box::new(Policy::EMPTY),
+            sessions: Box::new(Sessions::EMPTY),
+            orders: Orders::empty(),
+        }
+    }
+
+    fn clear(&mut self) {
+        *self.policy = Policy::EMPTY;
+        *self.sessions = Sessions::EMPTY;
+        self.orders.clear();
+    }
+
+    /// Loads a policy: the reply, and the place of the refused record from 1, or 0.
+    pub fn load(&mut self, policy: &[u8]) -> (Reply, usize) {
+        self.clear();
+        for (before, record) in policy.chunks(RECORD).enumerate() {
+            let reply = self.policy_record(record);
+            if reply != Reply::Granted {
+                self.clear();
+                return (reply, before + 1);
+            }
+        }
+        (Reply::Granted, 0)
+    }
+
+    /// One step of a load: takes a further policy record, or refuses it and changes nothing.
+    pub fn policy_record(&mut self, record: &[u8]) -> Reply {
+        reply(decode(record, Call::Load).and_then(|r| self.policy.take(r)))
+    }
+
+    /// Answers one request.
+    pub fn request(&mut self, record: &[u8]) -> Reply {
+        reply(decode(record, Call::Request).and_then(|r| self.serve(r)))
+    }
+
+    /// All entries, in no particular order.
+    pub fn entries(&self) -> Vec<Entry> {
+        self.orders.ledger.entries()
+    }
+
+    fn serve(&mut self, r: Record) -> Outcome {
+        let (policy, sessions, orders) = (&mut self.policy, &mut self.sessions, &mut self.orders);
+        let (a, b) = (usize::from(r.a), usize::from(r.b));
+        match r.kind {
+            32 => policy.user(a),
+            33 => self.delete_user(r.a),
+            34 => policy.assign(a, b),
+            35 => sessions.take_role(policy, r.a, b),
+            36 => policy.give(a, b),
+            37 => policy.take_permission(a, b),
+            40 => sessions.create(policy, a, r.b, r.m),
+            41 => self.destroy_subject(a),
+            42 => sessions.activate(policy, a, b),
+            43 => sessions.deactivate(a, b),
+            48 => orders.open(policy, a, r.b as u8),
+            49 => orders.end(r.a as u8),
+            50 => orders.claim(policy, sessions, r),
+            51 => orders.release(policy, sessions, r),
+            52 => orders.finish(policy, sessions, r),
+            56 => sessions.check(policy, a, r.b, r.c),
+            _ => orders.task_check(policy, sessions, r),
+        }
+    }
+
+    fn delete_user(&mut self, user: u16) -> Outcome {
+        self.sessions.may_delete(&self.policy, user)?;
+        refuse(Reply::InUse, self.orders.ledger.any_of_user(user))?;
+        self.policy.is_user[usize::from(user)] = false;
+        self.policy.assigned[usize::from(user)] = 0;
+        Ok(())
+    }
+
+    fn destroy_subject(&mut self, subject: usize) -> Outcome {
+        self.sessions.user_of(subject)?;
+        refuse(Reply::InUse, self.orders.ledger.any_held_by(subject as u8))?;
+        self.sessions.destroy(subject);
+        Ok(())
+    }
+}

@@ -1,0 +1,109 @@
+//! Subjects and their active roles: the requests of document 01's lower part.
+//! What kinds 33 and 41 ask of entries is asked by the engine, above.
+
+use crate::policy::{bit, Policy};
+use crate::reply::{refuse, Outcome, Reply};
+
+/// The user of a number that is no live subject.
+const NOBODY: u16 = u16::MAX;
+
+#[derive(Clone, PartialEq, Debug)]
+pub(crate) struct Sessions {
+    user: [u16; 128],
+    /// Nothing for a number that is no live subject.
+    active: [u64; 128],
+}
+
+impl Sessions {
+    pub const EMPTY: Sessions = Sessions {
+        user: [NOBODY; 128],
+        active: [0; 128],
+    };
+
+    /// The user of a live subject.
+    pub fn user_of(&self, subject: usize) -> Result<u16, Reply> {
+        let user = self.user[subject];
+        refuse(Reply::Unknown, user == NOBODY)?;
+        Ok(user)
+    }
+
+    pub fn active(&self, subject: usize) -> u64 {
+        self.active[subject]
+    }
+
+    /// The roles active over all subjects of the user together.
+    fn active_of(&self, user: u16) -> u64 {
+        let subjects = self.user.iter().zip(&self.active);
+        subjects.fold(0, |all, (&u, &roles)| {
+            all | if u == user { roles } else { 0 }
+        })
+    }
+
+    /// Kind 33 but for the user's entries: whether it may be done.
+    pub fn may_delete(&self, policy: &Policy, user: u16) -> Outcome {
+        refuse(Reply::Unknown, !policy.is_user[usize::from(user)])?;
+        refuse(Reply::InUse, self.user.contains(&user))
+    }
+
+    /// Kind 35.
+    pub fn take_role(&self, policy: &mut Policy, user: u16, role: usize) -> Outcome {
+        let assigned = &mut policy.assigned[usize::from(user)];
+        refuse(Reply::Unknown, *assigned & bit(role) == 0)?;
+        refuse(Reply::InUse, self.active_of(user) & bit(role) != 0)?;
+        *assigned &= !bit(role);
+        Ok(())
+    }
+
+    /// Kind 40.
+    pub fn create(&mut self, policy: &Policy, subject: usize, user: u16, roles: u64) -> Outcome {
+        let known = policy.is_user[usize::from(user)] && roles & !policy.roles == 0;
+        refuse(Reply::Unknown, !known)?;
+        refuse(Reply::Taken, self.user[subject] != NOBODY)?;
+        self.may_act(policy, user, roles)?;
+        self.user[subject] = user;
+        self.active[subject] = roles;
+        Ok(())
+    }
+
+    /// Kind 41 but for the tasks that the subject holds.
+    pub fn destroy(&mut self, subject: usize) {
+        self.user[subject] = NOBODY;
+        self.active[subject] = 0;
+    }
+
+    /// Kind 42.
+    pub fn activate(&mut self, policy: &Policy, subject: usize, role: usize) -> Outcome {
+        let user = self.user_of(subject)?;
+        refuse(Reply::Unknown, !policy.has_role(role))?;
+        refuse(Reply::Taken, self.active[subject] & bit(role) != 0)?;
+        self.may_act(policy, user, bit(role))?;
+        self.active[subject] |= bit(role);
+        Ok(())
+    }
+
+    /// Kind 43.
+    pub fn deactivate(&mut self, subject: usize, role: usize) -> Outcome {
+        self.user_of(subject)?;
+        refuse(Reply::Unknown, self.active[subject] & bit(role) == 0)?;
+        self.active[subject] &= !bit(role);
+        Ok(())
+    }
+
+    /// Whether the user may have these roles active as well: NOT ASSIGNED, then DYNAMIC.
+    fn may_act(&self, policy: &Policy, user: u16, roles: u64) -> Outcome {
+        let assigned = policy.assigned[usize::from(user)];
+        refuse(Reply::NotAssigned, roles & !assigned != 0)?;
+        let then = self.active_of(user) | roles;
+        refuse(Reply::Dynamic, policy.breaks_dynamic(then))
+    }
+
+    /// Kind 56.
+    pub fn check(&self, policy: &Policy, subject: usize, operation: u16, object: u16) -> Outcome {
+        self.user_of(subject)?;
+        let having = policy
+            .permissions
+            .find(operation, object)
+            .map_or(0, |permission| policy.permissions.given_to[permission]);
+        refuse(Reply::Denied, having & self.active[subject] == 0)
+    }
+}

@@ -1,0 +1,224 @@
+//! A record's sixteen bytes, with a constructor for each kind of document 01.
+//! Any sixteen bytes are a record here: whether they make sense is the engine's to say.
+
+use crate::Set;
+
+/// How many bytes a record has.
+pub const LENGTH: usize = 16;
+
+/// Byte 0 kind; byte 1 n; bytes 2-3 a; 4-5 b; 6-7 c; 8-15 m; little-endian, without a header.
+#[derive(Clone, Copy, PartialEq, Eq, Hash, Debug)]
+pub struct Record(pub [u8; LENGTH]);
+
+impl AsRef<[u8]> for Record {
+    fn as_ref(&self) -> &[u8] {
+        &self.0
+    }
+}
+
+impl From<[u8; LENGTH]> for Record {
+    fn from(bytes: [u8; LENGTH]) -> Record {
+        Record(bytes)
+    }
+}
+
+const fn record(kind: u8, n: u8, [a, b, c]: [u16; 3], m: u64) -> Record {
+    let ([a0, a1], [b0, b1], [c0, c1]) = (a.to_le_bytes(), b.to_le_bytes(), c.to_le_bytes());
+    let [m0, m1, m2, m3, m4, m5, m6, m7] = m.to_le_bytes();
+    Record([
+        kind, n, a0, a1, b0, b1, c0, c1, m0, m1, m2, m3, m4, m5, m6, m7,
+    ])
+}
+
+/// The fields.
+impl Record {
+    /// A record of any fields, whether they make sense or not.
+    pub const fn new(kind: u8, n: u8, a: u16, b: u16, c: u16, m: u64) -> Record {
+        record(kind, n, [a, b, c], m)
+    }
+
+    pub const fn kind(&self) -> u8 {
+        self.0[0]
+    }
+
+    pub const fn n(&self) -> u8 {
+        self.0[1]
+    }
+
+    const fn half(&self, at: usize) -> u16 {
+        u16::from_le_bytes([self.0[at], self.0[at + 1]])
+    }
+
+    pub const fn a(&self) -> u16 {
+        self.half(2)
+    }
+
+    pub const fn b(&self) -> u16 {
+        self.half(4)
+    }
+
+    pub const fn c(&self) -> u16 {
+        self.half(6)
+    }
+
+    pub const fn m(&self) -> u64 {
+        let [.., m0, m1, m2, m3, m4, m5, m6, m7] = self.0;
+        u64::from_le_bytes([m0, m1, m2, m3, m4, m5, m6, m7])
+    }
+}
+
+/// Kinds 1 to 16: the records of a policy.
+impl Record {
+    pub const fn user(user: u16) -> Record {
+        record(1, 0, [user, 0, 0], 0)
+    }
+
+    pub const fn role(role: u16) -> Record {
+        record(2, 0, [role, 0, 0], 0)
+    }
+
+    /// The permission is this operation on this object.
+    pub const fn permission(permission: u16, operation: u16, object: u16) -> Record {
+        record(3, 0, [permission, operation, object], 0)
+    }
+
+    pub const fn user_has_role(user: u16, role: u16) -> Record {
+        record(4, 0, [user, role, 0], 0)
+    }
+
+    pub const fn role_has_permission(role: u16, permission: u16) -> Record {
+        record(5, 0, [role, permission, 0], 0)
+    }
+
+    pub const fn task(task: u16, template: u16) -> Record {
+        record(6, 0, [task, template, 0], 0)
+    }
+
+    pub const fn task_open_to(task: u16, role: u16) -> Record {
+        record(7, 0, [task, role, 0], 0)
+    }
+
+    pub const fn task_carries(task: u16, permission: u16) -> Record {
+        record(8, 0, [task, permission, 0], 0)
+    }
+
+    /// A user may be assigned at most n of these roles.
+    pub const fn static_set(n: u8, roles: Set) -> Record {
+        record(9, n, [0; 3], roles.0)
+    }
+
+    /// A user may have at most n of these roles active at a time, over all subjects together.
+    pub const fn dynamic_set(n: u8, roles: Set) -> Record {
+        record(10, n, [0; 3], roles.0)
+    }
+
+    /// A user may have entries in at most n of these tasks of an order.
+    pub const fn task_set(n: u8, tasks: Set) -> Record {
+        record(11, n, [0; 3], tasks.0)
+    }
+
+    /// In an order, a user may have entries in one block of the partitioning alone.
+    pub const fn block(partitioning: u16, tasks: Set) -> Record {
+        record(12, 0, [partitioning, 0, 0], tasks.0)
+    }
+
+    /// No user may have entries in every task of an order of this template.
+    pub const fn lone_worker_ban(template: u16) -> Record {
+        record(13, 0, [template, 0, 0], 0)
+    }
+
+    /// The task may have at most n entries in an order.
+    pub const fn at_most(task: u16, n: u8) -> Record {
+        record(14, n, [task, 0, 0], 0)
+    }
+
+    /// In an order, the entries of both tasks are of one user.
+    pub const fn bound(task: u16, to: u16) -> Record {
+        record(15, 0, [task, to, 0], 0)
+    }
+
+    /// In an order, the first task is done before the second is claimed.
+    pub const fn before(first: u16, second: u16) -> Record {
+        record(16, 0, [first, second, 0], 0)
+    }
+}
+
+/// Kinds 32 to 57: requests.
+impl Record {
+    pub const fn add_user(user: u16) -> Record {
+        record(32, 0, [user, 0, 0], 0)
+    }
+
+    pub const fn delete_user(user: u16) -> Record {
+        record(33, 0, [user, 0, 0], 0)
+    }
+
+    pub const fn assign_role(user: u16, role: u16) -> Record {
+        record(34, 0, [user, role, 0], 0)
+    }
+
+    pub const fn take_role(user: u16, role: u16) -> Record {
+        record(35, 0, [user, role, 0], 0)
+    }
+
+    pub const fn give_permission(role: u16, permission: u16) -> Record {
+        record(36, 0, [role, permission, 0], 0)
+    }
+
+    pub const fn take_permission(role: u16, permission: u16) -> Record {
+        record(37, 0, [role, permission, 0], 0)
+    }
+
+    pub const fn create_subject(subject: u16, user: u16, roles: Set) -> Record {
+        record(40, 0, [subject, user, 0], roles.0)
+    }
+
+    pub const fn destroy_subject(subject: u16) -> Record {
+        record(41, 0, [subject, 0, 0], 0)
+    }
+
+    pub const fn activate_role(subject: u16, role: u16) -> Record {
+        record(42, 0, [subject, role, 0], 0)
+    }
+
+    pub const fn deactivate_role(subject: u16, role: u16) -> Record {
+        record(43, 0, [subject, role, 0], 0)
+    }
+
+    pub const fn open_order(order: u16, template: u16) -> Record {
+        record(48, 0, [order, template, 0], 0)
+    }
+
+    pub const fn end_order(order: u16) -> Record {
+        record(49, 0, [order, 0, 0], 0)
+    }
+
+    pub const fn claim(subject: u16, order: u16, task: u16) -> Record {
+        record(50, 0, [subject, order, task], 0)
+    }
+
+    pub const fn release(subject: u16, order: u16, task: u16) -> Record {
+        record(51, 0, [subject, order, task], 0)
+    }
+
+    pub const fn done(subject: u16, order: u16, task: u16) -> Record {
+        record(52, 0, [subject, order, task], 0)
+    }
+
+    /// May the subject do this operation on this object, by its active roles?
+    pub const fn check(subject: u16, operation: u16, object: u16) -> Record {
+        record(56, 0, [subject, operation, object], 0)
+    }
+
+    /// May the subject do this operation on this object, by the task that it holds?
+    pub const fn task_check(
+        subject: u16,
+        order: u16,
+        task: u16,
+        operation: u16,
+        object: u16,
+    ) -> Record {
+        let m = operation as u64 + 65_536 * object as u64;
+        record(57, 0, [subject, order, task], m)
+    }
+}
