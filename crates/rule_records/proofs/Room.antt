@@ -2,12 +2,11 @@
 use Prim.Native.Nat.{ℕ, _<_}
 use mathlib.Core.Bool.{Bool, false, not}
 use mathlib.Core.List.{List}
-use mathlib.Core.Path.{_≡_, sym, ap, _∙_}
+use mathlib.Core.Path.{_≡_, sym, _∙_}
 use native.Mathlib.Omega.{arith}
 use lib.Dec.{eqb, leb}
 use borrow.Author.Tests.{leb-false, eqb-false, not-false}
 use Rattle.paper_lower.specs.Sets.{Set}
-use Rattle.paper_lower.specs.Lists.{many}
 use Rattle.paper_lower.specs.Checks.{Check, first}
 use Rattle.paper_lower.specs.Policy.{blockChecks, mostChecks}
 use Rattle.paper_lower.proofs.CheckLaws.{Numbered, Passed, passed}
