@@ -1,4 +1,4 @@
--- The ways out of a request to the lower part, over plain values.
+-- The ways out of the lower part's two calls, over plain values.
 use Prim.Native.Nat.{ℕ}
 use mathlib.Core.Bool.{Bool, true, false, not, _&&_, _||_, true≢false}
 use mathlib.Core.List.{List}
@@ -10,14 +10,18 @@ use Rattle.paper_lower.specs.Checks.{granted}
 use Rattle.paper_lower.specs.Records.{Bytes}
 use Rattle.paper_lower.specs.Kinds.{Answer}
 use Rattle.paper_lower.specs.Tables.{Lower}
-use Rattle.paper_lower.specs.Sessions.{lowerRequest}
+use Rattle.paper_lower.specs.Load.{Loaded}
+use Rattle.paper_lower.specs.Sessions.{lowerRequest, lowerOf}
 use Rattle.replies.specs.declared.Reply.{Reply}
 use Rattle.replies.specs.declared.Reply.the-variants.{Room}
 use Rattle.policy.specs.Layout.{policyWords}
-use Rattle.sessions.specs.Reading.{sessionsWords}
+use Rattle.sessions.specs.Reading.{sessionsWords, Cleared}
 use Rattle.sessions.specs.Lower.{lowerTables}
+use Rattle.loading.specs.LoadDone.{LoadDone}
 use Rattle.lower.specs.Stepped.{Stepped}
-use Rattle.lower.specs.Answers.{fit, requestAnswer, Requested}
+use Rattle.replies.specs.Replies.{numberOf}
+use Rattle.lower.specs.Exports.{inOne, LoadExported, RequestExported}
+use Rattle.lower.specs.Answers.{fit, requestAnswer, Requested, loadAnswer, Loads}
 
 -- the code's test of the lengths
 both : (a b : Bool) → not a || not b ≡ false → (a ≡ true) × (b ≡ true)
@@ -55,3 +59,37 @@ answered {bytes} {p} {s} {p′} {s′} {reply} {next} {r} h e d =
       tables = d .tables ∙ sym (ap (λ (x : Answer Lower). x .tables) a);
       kept = d .kept;
     }
+
+-- ---- The load.
+pub no-load : (bytes : Bytes) (p s : List ℕ) → unfit p s ≡ true → Loads bytes p s p s Room 0
+no-load bytes p s h =
+    let f = not-both (eqb (length p) policyWords) (eqb (length s) sessionsWords) h in
+    record { replies = rw f; places = rw f; tables = rw f; room = λ _. (refl, refl); zeros = λ e. absurd (true≢false (sym e ∙ f)) }
+
+pub loaded : {bytes : Bytes} {p s p′ s′ : List ℕ} {r : Reply} {place : ℕ} → unfit p s ≡ false → Cleared s′ → LoadDone bytes p p′ r place → Loads bytes p s p′ s′ r place
+unfolding lowerOf
+loaded {bytes} {p} {s} {p′} {s′} {r} {place} h c d =
+    let e = both (eqb (length p) policyWords) (eqb (length s) sessionsWords) h in
+    let f : fit p s ≡ true = rw (e .0, e .1) in
+    let l = eqb-true (length p) policyWords (e .0) in
+    let a = d .answers l in
+    record {
+      replies = rw f (ap (λ (x : Loaded). x .reply) a);
+      places = rw f (ap (λ (x : Loaded). x .place) a);
+      tables = rw f (λ i. record { policy = a i .tables; sessions = c .tables i });
+      room = λ n. absurd (true≢false (sym f ∙ n));
+      zeros = λ _ n i. (d .emptied l n .zeros i, c .zeros i);
+    }
+
+-- ---- The same, as one number.
+pub load-exported : {bytes : Bytes} {p s p′ s′ : List ℕ} {r : Reply} {place number : ℕ} → Loads bytes p s p′ s′ r place → number ≡ numberOf r → LoadExported bytes p s p′ s′ (inOne number place)
+load-exported d e =
+    record {
+      answers = rw (e, d .replies, d .places);
+      tables = d .tables;
+      room = d .room;
+      zeros = λ f n. d .zeros f (λ z. n (sym (d .replies) ∙ z));
+    }
+
+pub request-exported : {bytes : Bytes} {p s p′ s′ : List ℕ} {r : Reply} {number : ℕ} → Requested bytes p s p′ s′ r → number ≡ numberOf r → RequestExported bytes p s p′ s′ number
+request-exported d e = record { answers = e ∙ d .replies; tables = d .tables; kept = λ n. d .kept (λ z. n (sym (d .replies) ∙ z)) }

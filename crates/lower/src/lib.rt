@@ -11,7 +11,9 @@ ghost use Rattle.policy.specs.Layout.{policyWords};
 ghost use Rattle.sessions.specs.Reading.{sessionsWords};
 ghost use Rattle.sessions.specs.Lower.{lowerTables};
 ghost use Rattle.lower.specs.Stepped.{Stepped};
-ghost use Rattle.lower.specs.Answers.{Requested};
+ghost use Rattle.lower.specs.Answers.{Requested, Loads};
+ghost use Rattle.lower.specs.Exports.{LoadExported, RequestExported, wordsOf};
+use loading::Loaded;
 use records::Call;
 use records::Judged;
 use records::Record;
@@ -53,4 +55,59 @@ pub fn request(bytes: &[u8], p: &mut [u64], s: &mut [u64]) -> Reply
         Judged::Range => Reply::Range,
         Judged::Fine(r) => step(r, p, s),
     }
+}
+
+// Any bytes as a policy: no subject is live afterwards.
+pub fn load(bytes: &[u8], p: &mut [u64], s: &mut [u64]) -> Loaded
+    ensures { λ x. ⌜ Loads (now (bytes .entry)) (now (p .entry)) (now (s .entry)) (now (p .exit)) (now (s .exit)) (x .reply) (x .place) ⌝ }
+{
+    if (p.len() != 3480) | (s.len() != 256) {
+        return Loaded {
+            reply: Reply::Room,
+            place: 0,
+        };
+    }
+    sessions::clear(s);
+    loading::load(bytes, p)
+}
+
+// ---- For C and Rust: the reply + 256 times the place, as one number.
+
+#[no_mangle]
+pub extern "C" fn mishantral_lower_load(
+    bytes: &[u8],
+    policy: &mut [u64],
+    sessions: &mut [u64],
+) -> u64
+    ensures { λ n. ⌜ LoadExported (now (bytes .entry)) (now (policy .entry)) (now (sessions .entry)) (now (policy .exit)) (now (sessions .exit)) n ⌝ }
+{
+    let x = load(bytes, policy, sessions);
+    let reply = x.reply;
+    replies::number(reply) + 256 * (x.place % 36028797018963968)
+}
+
+#[no_mangle]
+pub extern "C" fn mishantral_lower_request(
+    bytes: &[u8],
+    policy: &mut [u64],
+    sessions: &mut [u64],
+) -> u64
+    ensures { λ n. ⌜ RequestExported (now (bytes .entry)) (now (policy .entry)) (now (sessions .entry)) (now (policy .exit)) (now (sessions .exit)) n ⌝ }
+{
+    let r = request(bytes, policy, sessions);
+    replies::number(r)
+}
+
+// The length of a buffer in words: 0 the policy's, 1 the sessions'.
+#[no_mangle]
+pub extern "C" fn mishantral_lower_words(group: u64) -> u64
+    ensures { λ n. ⌜ n ≡ wordsOf group ⌝ }
+{
+    if group == 0 {
+        return 3480;
+    }
+    if group == 1 {
+        return 256;
+    }
+    0
 }
