@@ -1,7 +1,7 @@
 -- Where a search over kept rows starts, and BLOCK in one partitioning.
 use Prim.Native.Nat.{ℕ, _+_, _-_}
 use mathlib.Core.Bool.{Bool, true, false}
-use mathlib.Core.List.{List, []}
+use mathlib.Core.List.{List}
 use mathlib.Core.Path.{_≡_, ap, sym, _∙_}
 use native.Mathlib.Omega.{arith}
 use Rattle.paper_lower.specs.Lists.{some, placeFrom, place}

@@ -81,8 +81,11 @@ returns-2 c = sym (c .before .search .inv .1 ∙ first-end _ _ _ (search needs))
 
 returns-3 : tie.Need-returns-3 Inv-loop μ-loop Inv-search μ-search
 returns-3 c =
-    let here : blockIn (policyOf (c .before .before .before .before .before .before .before .before .before .before .before .args .p .now) .rules) (c .before .before .before .before .before .before .before .before .before .before .before .args .d .bits) (c .before .before .before .before .before .before .before .before .before .before .before .args .t) (c .before .before .before .before .before .before .before .search .q) ≡ c .before .before .before .loop .k + 1 =
-    in-own _ _ _ _ (sym (c .before .before .before .before .before .has-own .ensures) ∙ c .before .before .before .before .if3 .taken) ∙ c .before .before .before .loop .inv .1 ∙ place-here _ _ _ _ (search needs) (sym (c .before .is-strange .ensures) ∙ c .if4 .taken) in
+    let z = c .before .before .before .before .before .before .before .before .before .before .before .args in
+    let here : blockIn (policyOf (z .p .now) .rules) (z .d .bits) (z .t) (c .before .before .before .before .before .before .before .search .q) ≡ c .before .before .before .loop .k + 1 =
+    in-own _ _ _ _ (sym (c .before .before .before .before .before .has-own .ensures) ∙ c .before .before .before .before .if3 .taken)
+    ∙ c .before .before .before .loop .inv .1
+    ∙ place-here _ _ _ _ (search needs) (sym (c .before .is-strange .ensures) ∙ c .if4 .taken) in
     sym (c .before .before .before .before .before .before .before .search .inv .1 ∙ first-here _ _ _ (search needs) (omega arith) ∙ here)
 
 pub block-spec : {M : Type 1} → statement M

@@ -1,0 +1,85 @@
+-- What the ways out of the judges rest on, over plain values; and that a granted claim finds room.
+use Prim.Native.Nat.{ℕ, _<_}
+use mathlib.Core.Bool.{Bool, true, false, not, cond, _&&_}
+use mathlib.Core.List.{List, [], _∷_, _++_}
+use mathlib.Core.Path.{_≡_, sym, ap, _∙_}
+use borrow.Author.Tests.{not-false, leb-false}
+use lib.Dec.{eqb, leb}
+use Rattle.paper_lower.specs.Sets.{meets}
+use Rattle.paper_lower.specs.Lists.{Maybe, holds, there, is, some, many}
+use Rattle.paper_lower.specs.Lists.Maybe.{just}
+use Rattle.paper_lower.specs.Checks.{Check, first, FULL}
+use Rattle.paper_lower.proofs.ListLaws.{or-none, both}
+use Rattle.paper_lower.proofs.CheckLaws.{Numbered, passed}
+use Rattle.paper_upper.specs.Orders.{Engine, isHeld, ofTask}
+use Rattle.paper_upper.specs.Rules.{ruleChecks}
+use Rattle.paper_upper.specs.Requests.{unknown, claimChecks}
+use Rattle.replies.specs.Replies.{numberOf}
+use Rattle.replies.specs.declared.Reply.{Reply}
+use Rattle.replies.proofs.DoneLaws.{stops}
+use Rattle.ledger.specs.Reading.{openedOf}
+use Rattle.ledger.specs.Gathering.{gatheredOf}
+use Rattle.ledger.specs.declared.Instance.{Instance}
+use Rattle.ledger.specs.declared.Gathered.{Gathered}
+use Rattle.ledger.proofs.TableLaws.{holds-opened, there-opened, gathered-mine, gathered-done, gathered-others, gathered-times, gathered-held}
+use Rattle.rules.specs.Judging.{gatheredChecks}
+use Rattle.rules.proofs.JudgeLaws.{gathered}
+use Rattle.claims.proofs.Layers.{one-more}
+
+pub open-there : (x : Instance) {y : Maybe ℕ} → openedOf x ≡ y → there y ≡ x .open
+open-there x e = rw (← e) (there-opened x)
+
+module _ (t : Engine) (a b c : ℕ) where
+  -- the claim rules and FULL, the last checks of a claim
+  abbrev pub rulesOf : List Check
+  rulesOf = ruleChecks (t .lower .policy .tasks) (t .lower .policy .rules) (t .orders .opened b) (t .orders .entries) b (t .lower .sessions .user a) c
+
+  abbrev pub fullOf : List Check
+  fullOf = (leb 2048 (many (t .orders .entries)), FULL) ∷ []
+
+  -- what is not unknown is of an open instance
+  pub template-known : (x : Instance) → openedOf x ≡ t .orders .opened b → unknown t a b c ≡ false → t .orders .opened b ≡ just (x .template)
+  unfolding unknown
+  template-known x e k =
+      let of : ℕ → Bool = λ j. is j (t .lower .policy .tasks .template c) in
+      let h = not-false (holds of (t .orders .opened b)) (or-none (not (t .lower .sessions .live a)) (not (holds of (t .orders .opened b))) k .1) in
+      let w : (x .open && of (x .template)) ≡ true = sym (holds-opened of x) ∙ ap (holds of) e ∙ h in
+      let y = both (x .open) (of (x .template)) w .0 in
+      sym e ∙ rw y
+
+  pub rules-next : unknown t a b c ≡ false
+      → some (λ e. ofTask b c e && isHeld (e .standing)) (t .orders .entries) ≡ false
+      → not (meets (t .lower .policy .tasks .openTo c) (t .lower .sessions .active a)) ≡ false
+      → first (claimChecks t a b c) ≡ first (rulesOf ++ fullOf)
+  unfolding claimChecks
+  rules-next h i j = rw (h, i, j)
+
+  pub room : first (claimChecks t a b c) ≡ 0 → many (t .orders .entries) < 2048
+  unfolding claimChecks ruleChecks
+  room h = leb-false _ _ (passed (claimChecks t a b c) (tt, (tt, (tt, (tt, (tt, (tt, (tt, (tt, (tt, (tt, tt)))))))))) h .1 .1 .1 .1 .1 .1 .1 .1 .1 .0)
+
+  rules-numbered : Numbered rulesOf
+  unfolding ruleChecks
+  rules-numbered = (tt, (tt, (tt, (tt, (tt, (tt, tt))))))
+
+  -- over what was gathered of the entries
+  module _ {u : ℕ} {g : Gathered} (of : u ≡ t .lower .sessions .user a) (gathers : g ≡ gatheredOf b u c (t .orders .entries)) where
+    pub held-is : {x : Bool} → eqb (g .held) 1 ≡ x → some (λ e. ofTask b c e && isHeld (e .standing)) (t .orders .entries) ≡ x
+    held-is h = sym (gathered-held b u c (t .orders .entries) gathers) ∙ h
+
+    pub by-entries : {j : ℕ} (r : Reply) → t .orders .opened b ≡ just j
+        → numberOf r ≡ first (gatheredChecks (t .lower .policy .tasks) (t .lower .policy .rules) (just j) (g .mine) (g .done) (g .others) (g .times) c)
+        → numberOf r ≡ first rulesOf
+    by-entries r e q =
+        let es = t .orders .entries in
+        (rw (← e, gathered-mine b u c es gathers, gathered-done b u c es gathers, gathered-others b u c es gathers, gathered-times b u c es gathers) at q)
+        ∙ ap first (gathered (t .lower .policy .tasks) (t .lower .policy .rules) (t .orders .opened b) es b u c)
+        ∙ rw of
+
+  -- a rule refuses, or FULL decides
+  module _ (r : Reply) {x : Bool} (next : first (claimChecks t a b c) ≡ first (rulesOf ++ fullOf)) (judged : numberOf r ≡ first rulesOf) (accepts : x ≡ eqb (numberOf r) 0) where
+    pub by-rule : not x ≡ true → numberOf r ≡ first (claimChecks t a b c)
+    by-rule h = stops rulesOf fullOf r judged accepts h ∙ sym next
+
+    pub by-room : not x ≡ false → {n : ℕ} {y : Bool} → n ≡ many (t .orders .entries) → leb 2048 n ≡ y → first (claimChecks t a b c) ≡ cond y FULL 0
+    by-room h e f = next ∙ one-more rulesOf FULL rules-numbered r judged accepts h (ap (leb 2048) e) f

@@ -1,0 +1,32 @@
+-- Checks in layers: one more behind those of a judge, and the lower part's act where the checks above passed too.
+use Prim.Native.Nat.{ℕ}
+use mathlib.Core.Bool.{Bool, true, false, not, cond}
+use mathlib.Core.List.{List, [], _∷_, _++_}
+use mathlib.Core.Path.{_≡_, refl, sym, ap, _∙_}
+use lib.Dec.{eqb}
+use Rattle.paper_lower.specs.Checks.{Check, first}
+use Rattle.paper_lower.proofs.CheckLaws.{Numbered}
+use Rattle.replies.specs.Replies.{numberOf}
+use Rattle.replies.specs.Done.{Done}
+use Rattle.replies.specs.declared.Reply.{Reply}
+use Rattle.replies.proofs.DoneLaws.{goes-on}
+
+pub one-more : (xs : List Check) (n : ℕ) → Numbered xs → (r : Reply) {b : Bool} → numberOf r ≡ first xs → b ≡ eqb (numberOf r) 0 → not b ≡ false
+    → {w x y : Bool} → w ≡ x → w ≡ y → first (xs ++ ((x, n) ∷ [])) ≡ cond y n 0
+one-more xs n numbered r judged accepts h e f = goes-on xs _ numbered r judged accepts h ∙ rw (sym e ∙ f)
+
+-- none of both lists applies, so none of the first
+front : (xs ys : List Check) → first (xs ++ ys) ≡ 0 → first xs ≡ 0
+front [] ys h = refl
+front (x ∷ xs) ys h = go (x .0) h (front xs ys)
+  where
+    go : (b : Bool) → cond b (x .1) (first (xs ++ ys)) ≡ 0 → (first (xs ++ ys) ≡ 0 → first xs ≡ 0) → cond b (x .1) (first xs) ≡ 0
+    go true h rest = h
+    go false h rest = rest h
+
+pub lifted : {T U : Type 0} (low : List ℕ → T) (up : T → U) (xs ys : List Check) {next : T} {l l′ : List ℕ} {r : Reply}
+    → first (xs ++ ys) ≡ 0 → Done low (first xs) next l l′ r → Done (λ x. up (low x)) (first (xs ++ ys)) (up next) l l′ r
+lifted low up xs ys {next} {l} {l′} {r} w d =
+    let z = front xs ys w in
+    let g : numberOf r ≡ 0 = d .replies ∙ z in
+    record { replies = g ∙ sym w; tables = rw w (ap up (rw z at (d .tables))); kept = λ h. absurd (h g) }
