@@ -12,15 +12,6 @@ pub enum Step {
     Request(Vec<u8>),
 }
 
-impl Step {
-    /// How many bytes it hands over.
-    pub fn length(&self) -> usize {
-        match self {
-            Step::Load(bytes) | Step::Request(bytes) => bytes.len().max(1),
-        }
-    }
-}
-
 pub struct Case {
     pub steps: Vec<Step>,
     pub pools: Pools,

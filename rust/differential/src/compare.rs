@@ -5,6 +5,7 @@ use crate::coverage::Coverage;
 use crate::desks::{Difference, Panel};
 use crate::walk::{count_free, walk};
 use records::{Reply, LENGTH};
+use std::cell::Cell;
 use std::fmt::Write;
 
 /// Steps after which engines answered the last one differently.
@@ -101,19 +102,35 @@ fn without_records(steps: Vec<Step>, fails: impl Fn(&[Step]) -> bool) -> Vec<Ste
     steps
 }
 
-/// The failure by as few steps and records as can be found.
+/// How many steps may be taken again to make a failure smaller.
+const PATIENCE: usize = 2_000_000;
+
+/// The failure by as few steps and records as can be found with some patience.
 fn smallest(start: &Panel, mut failure: Failure) -> Failure {
-    let fails = |steps: &[Step]| take(&mut start.copy(), steps, &mut Coverage::default()).err();
-    let size = |steps: &[Step]| steps.iter().map(Step::length).sum::<usize>();
+    let left = Cell::new(PATIENCE);
+    let again = |steps: &[Step]| take(&mut start.copy(), steps, &mut Coverage::default()).err();
+    let fails = |steps: &[Step]| {
+        left.set(left.get().saturating_sub(size(steps)));
+        left.get() > 0 && again(steps).is_some()
+    };
     loop {
         let before = size(&failure.steps);
-        let steps = without_pieces(failure.steps.clone(), |s| fails(s).is_some());
-        let steps = without_records(steps, |s| fails(s).is_some());
-        failure = fails(&steps).expect("what was made smaller still differs");
+        let steps = without_pieces(failure.steps.clone(), fails);
+        let steps = without_records(steps, fails);
+        failure = again(&steps).expect("what was made smaller still differs");
         if size(&failure.steps) == before {
             return failure;
         }
     }
+}
+
+/// How many records the steps hand over.
+fn size(steps: &[Step]) -> usize {
+    let records = |step: &Step| match step {
+        Step::Load(policy) => 1 + policy.len().div_ceil(LENGTH),
+        Step::Request(_) => 1,
+    };
+    steps.iter().map(records).sum()
 }
 
 /// Runs the case on copies of the panel's engines. Where they differ, a small case that shows it.

@@ -100,7 +100,7 @@ fn orders(panel: &Panel, pools: &Pools) -> Walked {
         (0..64).map(|order| Record::open_order(order, template)),
     )?;
     ask(panel, (0..64).map(Record::end_order))?;
-    // A claim that is granted is released at once, so that it does not speak in the next.
+    // What the subject now holds is released at once, so that it does not speak in its next claim.
     let claim = |r: Record| [r, Record::release(r.a(), r.b(), r.c())];
     ask(panel, all(Record::claim).into_iter().flat_map(claim))?;
     ask(panel, all(Record::release))?;

@@ -32,6 +32,9 @@ pub fn encode(kind: u8, n: u8, a: u16, b: u16, c: u16, m: u64) -> [u8; 16] {
 }
 
 /// The record that `bytes` hold, where its form fits `call`: SHAPE, then RANGE.
+///
+/// Inlined, since a record handed back through memory costs as much as an access check.
+#[inline(always)]
 pub(crate) fn decode(bytes: &[u8], call: Call) -> Result<Record, Reply> {
     let bytes: &[u8; 16] = bytes.try_into().map_err(|_| Reply::Shape)?;
     let (low, high) = bytes.split_at(8);

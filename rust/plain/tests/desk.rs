@@ -4,7 +4,7 @@ mod common;
 use common::*;
 use std::fs;
 use std::io::Write;
-use std::path::PathBuf;
+use std::path::{Path, PathBuf};
 use std::process::{Command, Stdio};
 
 /// What the desk program writes in a folder with this policy file, or none.
@@ -15,8 +15,12 @@ fn desk(name: &str, policy: Option<&[u8]>, requests: &[u8]) -> String {
     if let Some(bytes) = policy {
         fs::write(folder.join("policy.rec"), bytes).unwrap();
     }
+    run(&folder, requests)
+}
+
+fn run(folder: &Path, requests: &[u8]) -> String {
     let mut child = Command::new(env!("CARGO_BIN_EXE_plain-desk"))
-        .current_dir(&folder)
+        .current_dir(folder)
         .stdin(Stdio::piped())
         .stdout(Stdio::piped())
         .spawn()
@@ -52,4 +56,7 @@ fn a_policy_file_that_is_missing_or_too_long_is_room() {
     let long = vec![0; 65_537];
     assert_eq!(desk("long", Some(&long), &[]), "load 1 0\n");
     assert_eq!(desk("longest", Some(&long[1..]), &[]), "load 2 1\n");
+    let folder = PathBuf::from(env!("CARGO_TARGET_TMPDIR")).join("missing");
+    fs::create_dir(folder.join("policy.rec")).unwrap();
+    assert_eq!(run(&folder, &add_user(300)), "load 1 0\n");
 }

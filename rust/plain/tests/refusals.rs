@@ -143,48 +143,40 @@ fn bindings_and_prerequisites() {
     loads(&[before(0, 1), before(1, 0)], Granted);
 }
 
+/// Those records and one more, which is refused because there is no room for it.
+fn fills(records: Vec<Bytes>, more: Bytes) {
+    loads(&records, Granted);
+    loads(&[records, vec![more]].concat(), Full);
+}
+
 #[test]
-fn each_rule_kind_has_its_own_limit() {
-    let pairs = |make: fn(u16, u16) -> Bytes| -> Vec<Bytes> {
+fn bindings_and_prerequisites_have_room_for_64_each() {
+    for make in [bound, before] {
         let tasks = 20..32;
         let all = tasks.clone().flat_map(|i| (i + 1..32).map(move |j| (i, j)));
         let rules = all.take(64).map(|(i, j)| make(i, j));
-        tasks.map(|t| task(t, 5)).chain(rules).collect()
-    };
-    for make in [bound, before] {
-        loads(&pairs(make), Granted);
-        loads(&[pairs(make), vec![make(0, 1)]].concat(), Full);
+        let records = tasks.map(|t| task(t, 5)).chain(rules).collect();
+        fills(records, make(0, 1));
     }
-    let blocks: Vec<Bytes> = (20..36)
-        .map(|t| task(t, 5))
-        .chain((0..4).flat_map(|p| (20..36).map(move |t| block(p, &[t]))))
-        .collect();
-    loads(&blocks, Granted);
-    loads(&[blocks, vec![block(9, &[0])]].concat(), Full);
-    let several = |make: fn(u8, &[u32]) -> Bytes| -> Vec<Bytes> {
-        let chosen = (0..=32).filter(|n| *n != 10);
-        chosen
-            .map(|n| make(n as u8 + 1, &(20..60).collect::<Vec<u32>>()))
-            .collect()
+}
+
+#[test]
+fn blocks_have_room_for_64_over_all_partitionings() {
+    let tasks = (20..36).map(|t| task(t, 5));
+    let blocks = (0..4).flat_map(|p| (20..36).map(move |t| block(p, &[t])));
+    fills(tasks.chain(blocks).collect(), block(9, &[0]));
+}
+
+#[test]
+fn each_sort_of_set_has_room_for_32() {
+    let members: Vec<u32> = (20..60).collect();
+    let with_sets = |declare: fn(u16) -> Bytes, make: fn(u8, &[u32]) -> Bytes| {
+        let sets = (1..=32).map(|n| make(n, &members));
+        (20..60).map(declare).chain(sets).collect()
     };
-    let roles: Vec<Bytes> = (20..60).map(role).collect();
-    for make in [static_set, dynamic_set] {
-        loads(&[roles.clone(), several(make)].concat(), Granted);
-        loads(
-            &[roles.clone(), several(make), vec![make(11, &[0, 1])]].concat(),
-            Rule,
-        );
-        loads(
-            &[roles.clone(), several(make), vec![make(1, &[2, 3])]].concat(),
-            Full,
-        );
-    }
-    let tasks: Vec<Bytes> = (20..60).map(|t| task(t, 5)).collect();
-    loads(&[tasks.clone(), several(task_set)].concat(), Granted);
-    loads(
-        &[tasks, several(task_set), vec![task_set(1, &[0, 1])]].concat(),
-        Full,
-    );
+    fills(with_sets(role, static_set), static_set(1, &[2, 3]));
+    fills(with_sets(role, dynamic_set), dynamic_set(1, &[2, 3]));
+    fills(with_sets(|t| task(t, 5), task_set), task_set(1, &[0, 1]));
 }
 
 /// After the base policy with some rules, and granted requests: the reply to one more.
@@ -249,7 +241,7 @@ fn permissions_are_given_and_taken_back() {
 }
 
 #[test]
-fn subjects_live_and_die() {
+fn subjects_are_created() {
     asks(&[], &[], create(5, 999, &[]), Unknown);
     asks(&[], &[], create(5, 300, &[0, 9]), Unknown);
     asks(&[], &[], create(5, 300, &[]), Granted);
@@ -277,6 +269,10 @@ fn subjects_live_and_die() {
         create(6, 300, &[1]),
         Granted,
     );
+}
+
+#[test]
+fn subjects_are_destroyed() {
     asks(&[], &[], destroy(5), Unknown);
     asks(&[], &[create(5, 300, &[0])], destroy(5), Granted);
     let holding = [
