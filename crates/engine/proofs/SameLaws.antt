@@ -95,3 +95,9 @@ each-same g (then h k) = then (each-same g h) (each-same g k)
 -- ---- tables that are the same
 pub tables-refl : (t : Engine) → SameTables t t
 tables-refl t = record { lower = refl; opened = refl; entries = same-refl (t .orders .entries) }
+
+pub tables-sym : {t t′ : Engine} → SameTables t t′ → SameTables t′ t
+tables-sym h = record { lower = sym (h .lower); opened = sym (h .opened); entries = same-sym (h .entries) }
+
+pub tables-then : {t u v : Engine} → SameTables t u → SameTables u v → SameTables t v
+tables-then h k = record { lower = h .lower ∙ k .lower; opened = h .opened ∙ k .opened; entries = then (h .entries) (k .entries) }

@@ -1,1 +1,5 @@
+pub mod Buffers
+pub mod Step
+pub mod Answers
 pub mod Respects
+pub mod OneAnswer

@@ -1,0 +1,54 @@
+// The engine: one request to the three lent buffers. Any bytes and any buffers have their answer.
+ghost use mathlib.Core.Path.{_≡_};
+ghost use lib.ListN.{length};
+ghost use Rattle.paper_lower.specs.Checks.{first};
+ghost use Rattle.paper_lower.specs.Forms.{requestForms};
+ghost use Rattle.paper_lower.specs.Kinds.{chosen};
+ghost use Rattle.paper_upper.specs.Engine.{requestKinds};
+ghost use Rattle.records.specs.Reading.{paperOf};
+ghost use Rattle.records.specs.Limits.{Limits};
+ghost use Rattle.policy.specs.Layout.{policyWords};
+ghost use Rattle.sessions.specs.Reading.{sessionsWords};
+ghost use Rattle.ledger.specs.Reading.{ordersWords};
+ghost use Rattle.claims.specs.Tables.{engineTables};
+ghost use Rattle.engine.specs.Buffers.{buffers};
+ghost use Rattle.engine.specs.Step.{Step};
+ghost use Rattle.engine.specs.Answers.{Requested};
+use records::Call;
+use records::Judged;
+use records::Record;
+use replies::Reply;
+
+// A request that SHAPE and RANGE let pass: the upper part's kinds here, all others by the lower part.
+fn step(r: Record, p: &mut [u64], s: &mut [u64], o: &mut [u64]) -> Reply
+    requires { ⌜ ((length (now p) ≡ policyWords) × ((length (now s) ≡ sessionsWords) × (length (now o) ≡ ordersWords))) × Limits requestForms r ⌝ }
+    ensures { λ x. ⌜ Step (first (chosen requestKinds (r .kind) .checks (engineTables (now (p .entry)) (now (s .entry)) (now (o .entry))) (paperOf r))) (chosen requestKinds (r .kind) .next (engineTables (now (p .entry)) (now (s .entry)) (now (o .entry))) (paperOf r)) (buffers (now (p .entry)) (now (s .entry)) (now (o .entry))) (buffers (now (p .exit)) (now (s .exit)) (now (o .exit))) x ⌝ }
+{
+    let kind = r.kind;
+    match kind {
+        33 => claims::delete(p, s, o, r.a),
+        41 => claims::destroy(s, o, r.a),
+        48 => claims::open_order(p, o, r.a, r.b),
+        49 => claims::end_order(o, r.a),
+        50 => claims::claim(p, s, o, r.a, r.b, r.c),
+        51 => claims::release(p, s, o, r.a, r.b, r.c),
+        52 => claims::finish(p, s, o, r.a, r.b, r.c),
+        57 => claims::task_check_reply(p, s, o, r.a, r.b, r.c, r.m),
+        _ => lower::step(r, p, s),
+    }
+}
+
+// Any bytes as a request.
+pub fn request(bytes: &[u8], policy: &mut [u64], sessions: &mut [u64], orders: &mut [u64]) -> Reply
+    ensures { λ r. ⌜ Requested (now (bytes .entry)) (buffers (now (policy .entry)) (now (sessions .entry)) (now (orders .entry))) (buffers (now (policy .exit)) (now (sessions .exit)) (now (orders .exit))) r ⌝ }
+{
+    if (policy.len() != 3480) | (sessions.len() != 256) | (orders.len() != 2113) {
+        return Reply::Room;
+    }
+    let j = records::judge(Call::Request, bytes);
+    match j {
+        Judged::Shape => Reply::Shape,
+        Judged::Range => Reply::Range,
+        Judged::Fine(r) => step(r, policy, sessions, orders),
+    }
+}

@@ -1,0 +1,77 @@
+-- A request that is none of the upper part's is one of the lower part's: its row, and its limits.
+use Prim.Native.Nat.{ℕ}
+use mathlib.Core.Bool.{Bool, true, false, cond}
+use mathlib.Core.List.{List, [], _∷_, _++_}
+use mathlib.Core.Path.{_≡_, refl, sym, ap, _∙_}
+use borrow.Author.Tests.{ne-eqb}
+use lib.Dec.{eqb}
+use Rattle.paper_lower.specs.Lists.{Maybe, Every, each}
+use Rattle.paper_lower.specs.Lists.Maybe.{none, just}
+use Rattle.paper_lower.specs.Forms.{Form, lowerForms, upperForms, requestForms, formOf}
+use Rattle.paper_lower.specs.Kinds.{Kind, chosen}
+use Rattle.paper_lower.specs.Tables.{Lower}
+use Rattle.paper_lower.specs.Sessions.{lowerKinds}
+use Rattle.paper_upper.specs.Orders.{Engine}
+use Rattle.paper_upper.specs.Requests.{upperKinds}
+use Rattle.paper_upper.specs.Engine.{raised, requestKinds}
+use Rattle.records.specs.Limits.{Limits, limitN, limitA, limitB, limitC, limitM}
+use Rattle.records.specs.declared.Record.{Record}
+use Rattle.records.proofs.Span.{Rest, oneEach}
+
+-- the kinds that the upper part answers
+abbrev pub upperNumbers : List ℕ
+upperNumbers = 33 ∷ 41 ∷ 48 ∷ 49 ∷ 50 ∷ 51 ∷ 52 ∷ 57 ∷ []
+
+infixr 5 _⨾_
+
+-- a row's law, and those of the rows behind it
+abbrev _⨾_ : {A B : Type 0} → A → B → A × B
+a ⨾ b = (a, b)
+
+-- a number that is not an arm's key
+other : (k : ℕ) {n : ℕ} → (n ≡ k → ⊥) → eqb k n ≡ false
+other k {n} h = ne-eqb k n (λ e. h (sym e))
+
+-- ---- rows
+skip : {T : Type 0} (ks js : List (Kind T)) (n : ℕ) → Every (λ k. eqb (k .kind) n ≡ false) ks → chosen (ks ++ js) n ≡ chosen js n
+unfolding chosen
+skip [] js n h = refl
+skip (k ∷ ks) js n h = rw (h .0) (skip ks js n (h .1))
+
+raised-chosen : (ks : List (Kind Lower)) (n : ℕ) → chosen (each raised ks) n ≡ raised (chosen ks n)
+unfolding chosen raised each
+raised-chosen [] n = refl
+raised-chosen (k ∷ ks) n = go (eqb (k .kind) n) (raised-chosen ks n)
+  where
+    go : (b : Bool) → chosen (each raised ks) n ≡ raised (chosen ks n) → cond b (raised k) (chosen (each raised ks) n) ≡ raised (cond b k (chosen ks n))
+    go true e = refl
+    go false e = e
+
+-- ---- forms
+behind : (fs gs : List Form) (n : ℕ) → formOf gs n ≡ none → formOf (fs ++ gs) n ≡ formOf fs n
+unfolding formOf
+behind [] gs n h = h
+behind (f ∷ fs) gs n h = ap (λ (x : Maybe Form). cond (eqb (f .kind) n) (just f) x) (behind fs gs n h)
+
+module _ {n : ℕ} (h : Rest (oneEach upperNumbers) n) where
+  pub lower-row : chosen requestKinds n ≡ raised (chosen lowerKinds n)
+  unfolding requestKinds upperKinds
+  lower-row =
+      skip upperKinds (each raised lowerKinds) n
+      (other 33 (h .0 .0 .0 .0 .0 .0 .0 .1) ⨾ other 41 (h .0 .0 .0 .0 .0 .0 .1) ⨾ other 48 (h .0 .0 .0 .0 .0 .1) ⨾ other 49 (h .0 .0 .0 .0 .1) ⨾ other 50 (h .0 .0 .0 .1) ⨾ other 51 (h .0 .0 .1) ⨾ other 52 (h .0 .1) ⨾ other 57 (h .1) ⨾ tt)
+      ∙ raised-chosen lowerKinds n
+
+  -- ---- limits
+  no-form : formOf upperForms n ≡ none
+  unfolding upperForms formOf
+  no-form = simp (other 48 (h .0 .0 .0 .0 .0 .1), other 49 (h .0 .0 .0 .0 .1), other 50 (h .0 .0 .0 .1), other 51 (h .0 .0 .1), other 52 (h .0 .1), other 57 (h .1))
+
+  form-is : formOf requestForms n ≡ formOf lowerForms n
+  unfolding requestForms
+  form-is = behind lowerForms upperForms n no-form
+
+pub lower-limits : {r : Record} → Rest (oneEach upperNumbers) (r .kind) → Limits requestForms r → Limits lowerForms r
+unfolding limitN limitA limitB limitC limitM
+lower-limits {r} h l =
+    let e = form-is h in
+    record { small = l .small; known = rw e at (l .known); n = rw e at (l .n); a = rw e at (l .a); b = rw e at (l .b); c = rw e at (l .c); m = rw e at (l .m) }

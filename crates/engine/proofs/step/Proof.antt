@@ -1,0 +1,195 @@
+-- Written from Proof.tmpl by 'prove expand': edit that file.
+-- Each kind of the upper part, as a step of the three buffers; any other kind is the lower part's.
+use borrow.Author.Needs.{needs}
+use Rattle.paper_lower.specs.Forms.{requestForms}
+use Rattle.paper_lower.specs.Kinds.{chosen}
+use Rattle.paper_upper.specs.Requests.{upperKinds}
+use Rattle.paper_upper.specs.Engine.{raised, requestKinds}
+use Rattle.records.specs.Limits.{limitA, limitB, limitC, limitM, limitsOpen}
+use Rattle.records.proofs.Passing.{below}
+use Rattle.engine.proofs.Lifts.{of-policy, of-sessions, of-orders, of-none, of-lower}
+use Rattle.engine.proofs.LowerKinds.{lower-row, lower-limits}
+use Rattle.engine.proofs.step.Statement.{statement}
+use Rattle.engine.proofs.step.Tie as tie
+
+delete-requires : tie.Need-delete-requires
+unfolding limitsOpen
+delete-requires c κs = (c .before .before .before .before .before .before .before .pre .0 .0, (c .before .before .before .before .before .before .before .pre .0 .1 .0, (c .before .before .before .before .before .before .before .pre .0 .1 .1, below (limitA requestForms) (c .before .before .before .before .before .before .before .pre .1 .a) (c .before .before .before .match .keys1) 1024 tt)))
+
+destroy-requires : tie.Need-destroy-requires
+unfolding limitsOpen
+destroy-requires c κs = (c .before .before .before .before .before .before .pre .0 .1 .0, (c .before .before .before .before .before .before .pre .0 .1 .1, below (limitA requestForms) (c .before .before .before .before .before .before .pre .1 .a) (c .before .before .match .keys2) 128 tt))
+
+open-order-requires : tie.Need-open-order-requires
+unfolding limitsOpen
+open-order-requires c κs = (c .before .before .before .before .before .before .pre .0 .0, (c .before .before .before .before .before .before .pre .0 .1 .1, (below (limitA requestForms) (c .before .before .before .before .before .before .pre .1 .a) (c .before .before .match .keys3) 64 tt, below (limitB requestForms) (c .before .before .before .before .before .before .pre .1 .b) (c .before .before .match .keys3) 16 tt)))
+
+end-order-requires : tie.Need-end-order-requires
+unfolding limitsOpen
+end-order-requires c κs = (c .before .before .before .before .before .pre .0 .1 .1, below (limitA requestForms) (c .before .before .before .before .before .pre .1 .a) (c .before .match .keys4) 64 tt)
+
+claim-requires : tie.Need-claim-requires
+unfolding limitsOpen
+claim-requires c κs = (c .before .before .before .before .before .before .before .pre .0 .0, (c .before .before .before .before .before .before .before .pre .0 .1 .0, (c .before .before .before .before .before .before .before .pre .0 .1 .1, (below (limitA requestForms) (c .before .before .before .before .before .before .before .pre .1 .a) (c .before .before .before .match .keys5) 128 tt, (below (limitB requestForms) (c .before .before .before .before .before .before .before .pre .1 .b) (c .before .before .before .match .keys5) 64 tt, below (limitC requestForms) (c .before .before .before .before .before .before .before .pre .1 .c) (c .before .before .before .match .keys5) 64 tt)))))
+
+release-requires : tie.Need-release-requires
+unfolding limitsOpen
+release-requires c κs = (c .before .before .before .before .before .before .before .pre .0 .0, (c .before .before .before .before .before .before .before .pre .0 .1 .0, (c .before .before .before .before .before .before .before .pre .0 .1 .1, (below (limitA requestForms) (c .before .before .before .before .before .before .before .pre .1 .a) (c .before .before .before .match .keys6) 128 tt, (below (limitB requestForms) (c .before .before .before .before .before .before .before .pre .1 .b) (c .before .before .before .match .keys6) 64 tt, below (limitC requestForms) (c .before .before .before .before .before .before .before .pre .1 .c) (c .before .before .before .match .keys6) 64 tt)))))
+
+finish-requires : tie.Need-finish-requires
+unfolding limitsOpen
+finish-requires c κs = (c .before .before .before .before .before .before .before .pre .0 .0, (c .before .before .before .before .before .before .before .pre .0 .1 .0, (c .before .before .before .before .before .before .before .pre .0 .1 .1, (below (limitA requestForms) (c .before .before .before .before .before .before .before .pre .1 .a) (c .before .before .before .match .keys7) 128 tt, (below (limitB requestForms) (c .before .before .before .before .before .before .before .pre .1 .b) (c .before .before .before .match .keys7) 64 tt, below (limitC requestForms) (c .before .before .before .before .before .before .before .pre .1 .c) (c .before .before .before .match .keys7) 64 tt)))))
+
+task-check-reply-requires : tie.Need-task-check-reply-requires
+unfolding limitsOpen
+task-check-reply-requires c κs = (c .before .before .before .before .before .before .before .pre .0 .0, (c .before .before .before .before .before .before .before .pre .0 .1 .0, (c .before .before .before .before .before .before .before .pre .0 .1 .1, (below (limitA requestForms) (c .before .before .before .before .before .before .before .pre .1 .a) (c .before .before .before .match .keys8) 128 tt, (below (limitB requestForms) (c .before .before .before .before .before .before .before .pre .1 .b) (c .before .before .before .match .keys8) 64 tt, (below (limitC requestForms) (c .before .before .before .before .before .before .before .pre .1 .c) (c .before .before .before .match .keys8) 64 tt, below (limitM requestForms) (c .before .before .before .before .before .before .before .pre .1 .m) (c .before .before .before .match .keys8) 4294967296 tt))))))
+
+step-requires : tie.Need-step-requires
+step-requires c κs = (c .before .before .before .before .before .before .pre .0 .0, (c .before .before .before .before .before .before .pre .0 .1 .0, lower-limits (c .before .before .match .rest) (c .before .before .before .before .before .before .pre .1)))
+
+same-length : tie.Need-same-length
+same-length c = search needs
+
+same-length-2 : tie.Need-same-length-2
+same-length-2 c = search needs
+
+same-length-3 : tie.Need-same-length-3
+same-length-3 c = search needs
+
+returns : tie.Need-returns
+unfolding chosen requestKinds upperKinds
+returns c = rw (c .before .before .before .before .before .before .match .keys1) (of-policy (c .before .before .delete .ensures))
+
+same-length-4 : tie.Need-same-length-4
+same-length-4 c = search needs
+
+same-length-5 : tie.Need-same-length-5
+same-length-5 c = search needs
+
+returns-2 : tie.Need-returns-2
+unfolding chosen requestKinds upperKinds
+returns-2 c = rw (c .before .before .before .before .before .match .keys2) (of-sessions (c .before .before .destroy .ensures (c .before .before .before .before .before .before .before .before .before .args .p .now)))
+
+same-length-6 : tie.Need-same-length-6
+same-length-6 c = search needs
+
+same-length-7 : tie.Need-same-length-7
+same-length-7 c = search needs
+
+returns-3 : tie.Need-returns-3
+unfolding chosen requestKinds upperKinds
+returns-3 c = rw (c .before .before .before .before .before .match .keys3) (of-orders (c .before .before .open-order .ensures (c .before .before .before .before .before .before .before .before .before .args .s .now)))
+
+same-length-8 : tie.Need-same-length-8
+same-length-8 c = search needs
+
+returns-4 : tie.Need-returns-4
+unfolding chosen requestKinds upperKinds
+returns-4 c = rw (c .before .before .before .before .match .keys4) (of-orders (c .before .before .end-order .ensures (c .before .before .before .before .before .before .before .before .args .p .now) (c .before .before .before .before .before .before .before .before .args .s .now)))
+
+same-length-9 : tie.Need-same-length-9
+same-length-9 c = search needs
+
+same-length-10 : tie.Need-same-length-10
+same-length-10 c = search needs
+
+same-length-11 : tie.Need-same-length-11
+same-length-11 c = search needs
+
+returns-5 : tie.Need-returns-5
+unfolding chosen requestKinds upperKinds
+returns-5 c = rw (c .before .before .before .before .before .before .match .keys5) (of-orders (c .before .before .claim .ensures))
+
+same-length-12 : tie.Need-same-length-12
+same-length-12 c = search needs
+
+same-length-13 : tie.Need-same-length-13
+same-length-13 c = search needs
+
+same-length-14 : tie.Need-same-length-14
+same-length-14 c = search needs
+
+returns-6 : tie.Need-returns-6
+unfolding chosen requestKinds upperKinds
+returns-6 c = rw (c .before .before .before .before .before .before .match .keys6) (of-orders (c .before .before .release .ensures))
+
+same-length-15 : tie.Need-same-length-15
+same-length-15 c = search needs
+
+same-length-16 : tie.Need-same-length-16
+same-length-16 c = search needs
+
+same-length-17 : tie.Need-same-length-17
+same-length-17 c = search needs
+
+returns-7 : tie.Need-returns-7
+unfolding chosen requestKinds upperKinds
+returns-7 c = rw (c .before .before .before .before .before .before .match .keys7) (of-orders (c .before .before .finish .ensures))
+
+same-length-18 : tie.Need-same-length-18
+same-length-18 c = search needs
+
+same-length-19 : tie.Need-same-length-19
+same-length-19 c = search needs
+
+same-length-20 : tie.Need-same-length-20
+same-length-20 c = search needs
+
+returns-8 : tie.Need-returns-8
+unfolding chosen requestKinds upperKinds
+returns-8 c = rw (c .before .before .before .before .match .keys8) (of-none (c .task-check-reply .ensures))
+
+same-length-21 : tie.Need-same-length-21
+same-length-21 c = search needs
+
+same-length-22 : tie.Need-same-length-22
+same-length-22 c = search needs
+
+returns-9 : tie.Need-returns-9
+unfolding raised
+returns-9 c = rw (lower-row (c .before .before .before .before .before .before .before .match .rest)) (of-lower (c .before .before .before .before .step .ensures))
+
+pub step-spec : {M : Type 1} → statement M
+step-spec =
+    tie.close
+    (tie.spec
+    delete-requires
+    destroy-requires
+    open-order-requires
+    end-order-requires
+    claim-requires
+    release-requires
+    finish-requires
+    task-check-reply-requires
+    step-requires
+    same-length
+    same-length-2
+    same-length-3
+    returns
+    same-length-4
+    same-length-5
+    returns-2
+    same-length-6
+    same-length-7
+    returns-3
+    same-length-8
+    returns-4
+    same-length-9
+    same-length-10
+    same-length-11
+    returns-5
+    same-length-12
+    same-length-13
+    same-length-14
+    returns-6
+    same-length-15
+    same-length-16
+    same-length-17
+    returns-7
+    same-length-18
+    same-length-19
+    same-length-20
+    returns-8
+    same-length-21
+    same-length-22
+    returns-9)

@@ -1,0 +1,47 @@
+-- What the engine's two calls promise, for every content of the buffers and every byte string: demands 1 and 2.
+use Prim.Native.Nat.{ℕ}
+use mathlib.Core.Bool.{false, true, cond}
+use mathlib.Core.Path.{_≡_}
+use lib.ListN.{getD}
+use Rattle.paper_lower.specs.Checks.{ROOM}
+use Rattle.paper_lower.specs.Records.{Bytes}
+use Rattle.paper_lower.specs.Kinds.{Answer}
+use Rattle.paper_lower.specs.Load.{load}
+use Rattle.paper_upper.specs.Orders.{Engine, SameTables}
+use Rattle.paper_upper.specs.Engine.{request, engineOf}
+use Rattle.replies.specs.Replies.{numberOf}
+use Rattle.replies.specs.declared.Reply.{Reply}
+use Rattle.engine.specs.Buffers.{Buffers, tablesOf, fit}
+
+-- ---- A request.
+
+-- "ROOM: a lent state buffer has not its fixed length; nothing is written"; else the definition's answer on the tables that were read
+unfoldable pub requestAnswer : Bytes → Buffers → Answer Engine
+requestAnswer bytes x = cond (fit x) (request (tablesOf x) bytes) (record { reply = ROOM; tables = tablesOf x })
+
+pub record Requested (bytes : Bytes) (x x′ : Buffers) (r : Reply) : Type 0 where
+  pub replies : numberOf r ≡ requestAnswer bytes x .reply
+  pub tables : SameTables (tablesOf x′) (requestAnswer bytes x .tables)
+  -- "Refused requests change no byte of the state."
+  pub kept : (numberOf r ≡ 0 → ⊥) → x′ ≡ x
+
+-- ---- The load.
+pub record LoadAnswer : Type 0 where
+  pub reply : ℕ
+  pub place : ℕ
+  pub tables : Engine
+
+-- "A load empties the engine first; a refused one leaves it empty (ROOM apart)": the definition's tables are those of an empty policy then
+unfoldable pub loadAnswer : Bytes → Buffers → LoadAnswer
+loadAnswer bytes x =
+    cond (fit x)
+    (record { reply = load bytes .reply; place = load bytes .place; tables = engineOf (load bytes .tables) })
+    (record { reply = ROOM; place = 0; tables = tablesOf x })
+
+pub record LoadDone (bytes : Bytes) (x x′ : Buffers) (r : Reply) (place : ℕ) : Type 0 where
+  pub replies : numberOf r ≡ loadAnswer bytes x .reply
+  pub places : place ≡ loadAnswer bytes x .place
+  pub tables : tablesOf x′ ≡ loadAnswer bytes x .tables
+  pub room : fit x ≡ false → x′ ≡ x
+  -- an empty engine is all zero words
+  pub zeros : fit x ≡ true → (numberOf r ≡ 0 → ⊥) → (i : ℕ) → (getD (x′ .policy) i 0 ≡ 0) × (getD (x′ .sessions) i 0 ≡ 0) × (getD (x′ .orders) i 0 ≡ 0)
