@@ -40,7 +40,7 @@ pub of-lower : {p s o p′ s′ : List ℕ} {reply : ℕ} {next : Lower} {r : Re
     → Step reply (withLower (engineTables p s o) next) (buffers p s o) (buffers p′ s′ o) r
 of-lower {p} {s} {o} {p′} {s′} {reply} {next} d =
     record {
-    replies = d .replies;
-    tables = raise o reply next (lowerTables p s) (d .tables);
-    kept = λ h. λ i. buffers (d .kept h .0 i) (d .kept h .1 i) o
+      replies = d .replies;
+      tables = raise o reply next (lowerTables p s) (d .tables);
+      kept = λ h. λ i. buffers (d .kept h .0 i) (d .kept h .1 i) o;
     }

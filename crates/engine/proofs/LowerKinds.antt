@@ -23,7 +23,6 @@ abbrev pub upperNumbers : List ℕ
 upperNumbers = 33 ∷ 41 ∷ 48 ∷ 49 ∷ 50 ∷ 51 ∷ 52 ∷ 57 ∷ []
 
 infixr 5 _⨾_
-
 -- a row's law, and those of the rows behind it
 abbrev _⨾_ : {A B : Type 0} → A → B → A × B
 a ⨾ b = (a, b)

@@ -1,4 +1,4 @@
--- The ways out of a request to the engine, over plain values.
+-- The ways out of the engine's two calls, over plain values.
 use Prim.Native.Nat.{ℕ}
 use mathlib.Core.Bool.{Bool, true, false, not, _&&_, _||_, true≢false}
 use mathlib.Core.List.{List}
@@ -10,15 +10,22 @@ use Rattle.paper_lower.specs.Checks.{granted}
 use Rattle.paper_lower.specs.Records.{Bytes}
 use Rattle.paper_lower.specs.Kinds.{Answer}
 use Rattle.paper_upper.specs.Orders.{Engine, SameTables}
-use Rattle.paper_upper.specs.Engine.{request}
+use Rattle.paper_lower.specs.Load.{load}
+use Rattle.paper_lower.specs.Sessions.{lowerOf}
+use Rattle.paper_upper.specs.Engine.{request, engineOf}
+use Rattle.replies.specs.Replies.{numberOf}
 use Rattle.replies.specs.declared.Reply.{Reply}
 use Rattle.replies.specs.declared.Reply.the-variants.{Room}
 use Rattle.policy.specs.Layout.{policyWords}
 use Rattle.sessions.specs.Reading.{sessionsWords}
-use Rattle.ledger.specs.Reading.{ordersWords}
-use Rattle.engine.specs.Buffers.{Buffers, tablesOf, fit}
+use Rattle.sessions.specs.Lower.{lowerTables}
+use Rattle.ledger.specs.Reading.{ordersWords, Cleared}
+use Rattle.lower.specs.Answers.{Loads, fit as lowerFit}
+use Rattle.lower.specs.Exports.{inOne}
+use Rattle.engine.specs.Buffers.{Buffers, buffers, tablesOf, fit}
 use Rattle.engine.specs.Step.{Step}
-use Rattle.engine.specs.Answers.{requestAnswer, Requested}
+use Rattle.engine.specs.Answers.{requestAnswer, Requested, loadAnswer, LoadDone, Zeros}
+use Rattle.engine.specs.Exports.{LoadExported, RequestExported}
 use Rattle.engine.proofs.SameLaws.{tables-refl}
 
 -- the code's test of the lengths
@@ -65,7 +72,44 @@ unfolding requestAnswer
 answered {bytes} {x} {x′} {reply} {next} {r} h e d =
     let a : requestAnswer bytes x ≡ record { reply = reply; tables = granted reply next (tablesOf x) } = rw (fits x h) e in
     record {
-    replies = d .replies ∙ sym (ap (λ (y : Answer Engine). y .reply) a);
-    tables = subst (λ (t : Engine). SameTables (tablesOf x′) t) (d .tables ∙ sym (ap (λ (y : Answer Engine). y .tables) a)) (tables-refl (tablesOf x′));
-    kept = d .kept
+      replies = d .replies ∙ sym (ap (λ (y : Answer Engine). y .reply) a);
+      tables = subst (λ (t : Engine). SameTables (tablesOf x′) t) (d .tables ∙ sym (ap (λ (y : Answer Engine). y .tables) a)) (tables-refl (tablesOf x′));
+      kept = d .kept;
     }
+
+-- ---- The load.
+pub no-load : (bytes : Bytes) (x : Buffers) → unfit x ≡ true → LoadDone bytes x x Room 0
+unfolding loadAnswer
+no-load bytes x h =
+    let f = fits-not x h in
+    record { replies = rw f; places = rw f; tables = rw f; room = λ _. refl; zeros = λ e. absurd (true≢false (sym e ∙ f)) }
+
+-- the orders are emptied, and the lower part is loaded
+pub loaded : {bytes : Bytes} {p s o p′ s′ o′ : List ℕ} {r : Reply} {place : ℕ} → unfit (buffers p s o) ≡ false → Cleared o′ → Loads bytes p s p′ s′ r place
+    → LoadDone bytes (buffers p s o) (buffers p′ s′ o′) r place
+unfolding loadAnswer engineOf
+loaded {bytes} {p} {s} {o} {p′} {s′} {o′} {r} {place} h c d =
+    let e = all (eqb (length p) policyWords) (eqb (length s) sessionsWords) (eqb (length o) ordersWords) h in
+    let f = fits (buffers p s o) h in
+    let g : lowerFit p s ≡ true = rw (e .0, e .1) in
+    let t : lowerTables p′ s′ ≡ lowerOf (load bytes .tables) = d .tables ∙ rw (e .0, e .1) in
+    record {
+      replies = d .replies ∙ rw (e .0, e .1, e .2);
+      places = d .places ∙ rw (e .0, e .1, e .2);
+      tables = rw (e .0, e .1, e .2) (λ i. record { lower = t i; orders = c .tables i });
+      room = λ n. absurd (true≢false (sym f ∙ n));
+      zeros = λ _ n. record { policy = λ i. d .zeros g n i .0; sessions = λ i. d .zeros g n i .1; orders = c .zeros };
+    }
+
+-- ---- The same, as one number.
+pub load-exported : {bytes : Bytes} {x x′ : Buffers} {r : Reply} {place number : ℕ} → LoadDone bytes x x′ r place → number ≡ numberOf r → LoadExported bytes x x′ (inOne number place)
+load-exported d e =
+    record {
+      answers = rw (e, d .replies, d .places);
+      tables = d .tables;
+      room = d .room;
+      zeros = λ f n. d .zeros f (λ z. n (sym (d .replies) ∙ z));
+    }
+
+pub request-exported : {bytes : Bytes} {x x′ : Buffers} {r : Reply} {number : ℕ} → Requested bytes x x′ r → number ≡ numberOf r → RequestExported bytes x x′ number
+request-exported d e = record { answers = e ∙ d .replies; tables = d .tables; kept = λ n. d .kept (λ z. n (sym (d .replies) ∙ z)) }

@@ -38,10 +38,15 @@ loadAnswer bytes x =
     (record { reply = load bytes .reply; place = load bytes .place; tables = engineOf (load bytes .tables) })
     (record { reply = ROOM; place = 0; tables = tablesOf x })
 
+-- an empty engine is all zero words
+pub record Zeros (x : Buffers) : Type 0 where
+  pub policy : (i : ℕ) → getD (x .policy) i 0 ≡ 0
+  pub sessions : (i : ℕ) → getD (x .sessions) i 0 ≡ 0
+  pub orders : (i : ℕ) → getD (x .orders) i 0 ≡ 0
+
 pub record LoadDone (bytes : Bytes) (x x′ : Buffers) (r : Reply) (place : ℕ) : Type 0 where
   pub replies : numberOf r ≡ loadAnswer bytes x .reply
   pub places : place ≡ loadAnswer bytes x .place
   pub tables : tablesOf x′ ≡ loadAnswer bytes x .tables
   pub room : fit x ≡ false → x′ ≡ x
-  -- an empty engine is all zero words
-  pub zeros : fit x ≡ true → (numberOf r ≡ 0 → ⊥) → (i : ℕ) → (getD (x′ .policy) i 0 ≡ 0) × (getD (x′ .sessions) i 0 ≡ 0) × (getD (x′ .orders) i 0 ≡ 0)
+  pub zeros : fit x ≡ true → (numberOf r ≡ 0 → ⊥) → Zeros x′

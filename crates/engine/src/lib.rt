@@ -1,4 +1,4 @@
-// The engine: one request to the three lent buffers. Any bytes and any buffers have their answer.
+// The engine: the load and the request, over the three lent buffers. Any bytes and any buffers have their answer.
 ghost use mathlib.Core.Path.{_≡_};
 ghost use lib.ListN.{length};
 ghost use Rattle.paper_lower.specs.Checks.{first};
@@ -13,7 +13,9 @@ ghost use Rattle.ledger.specs.Reading.{ordersWords};
 ghost use Rattle.claims.specs.Tables.{engineTables};
 ghost use Rattle.engine.specs.Buffers.{buffers};
 ghost use Rattle.engine.specs.Step.{Step};
-ghost use Rattle.engine.specs.Answers.{Requested};
+ghost use Rattle.engine.specs.Answers.{Requested, LoadDone};
+ghost use Rattle.engine.specs.Exports.{LoadExported, RequestExported, wordsOf};
+use loading::Loaded;
 use records::Call;
 use records::Judged;
 use records::Record;
@@ -51,4 +53,64 @@ pub fn request(bytes: &[u8], policy: &mut [u64], sessions: &mut [u64], orders: &
         Judged::Range => Reply::Range,
         Judged::Fine(r) => step(r, policy, sessions, orders),
     }
+}
+
+// Any bytes as a policy: no subject is live afterwards, no order open, no entry in use.
+pub fn load(bytes: &[u8], policy: &mut [u64], sessions: &mut [u64], orders: &mut [u64]) -> Loaded
+    ensures { λ x. ⌜ LoadDone (now (bytes .entry)) (buffers (now (policy .entry)) (now (sessions .entry)) (now (orders .entry))) (buffers (now (policy .exit)) (now (sessions .exit)) (now (orders .exit))) (x .reply) (x .place) ⌝ }
+{
+    if (policy.len() != 3480) | (sessions.len() != 256) | (orders.len() != 2113) {
+        return Loaded {
+            reply: Reply::Room,
+            place: 0,
+        };
+    }
+    ledger::clear(orders);
+    lower::load(bytes, policy, sessions)
+}
+
+// ---- For C and Rust: the reply + 256 times the place, as one number.
+
+#[no_mangle]
+pub extern "C" fn mishantral_load(
+    bytes: &[u8],
+    policy: &mut [u64],
+    sessions: &mut [u64],
+    orders: &mut [u64],
+) -> u64
+    ensures { λ n. ⌜ LoadExported (now (bytes .entry)) (buffers (now (policy .entry)) (now (sessions .entry)) (now (orders .entry))) (buffers (now (policy .exit)) (now (sessions .exit)) (now (orders .exit))) n ⌝ }
+{
+    let x = load(bytes, policy, sessions, orders);
+    let reply = x.reply;
+    replies::number(reply) + 256 * (x.place % 36028797018963968)
+}
+
+#[no_mangle]
+pub extern "C" fn mishantral_request(
+    bytes: &[u8],
+    policy: &mut [u64],
+    sessions: &mut [u64],
+    orders: &mut [u64],
+) -> u64
+    ensures { λ n. ⌜ RequestExported (now (bytes .entry)) (buffers (now (policy .entry)) (now (sessions .entry)) (now (orders .entry))) (buffers (now (policy .exit)) (now (sessions .exit)) (now (orders .exit))) n ⌝ }
+{
+    let r = request(bytes, policy, sessions, orders);
+    replies::number(r)
+}
+
+// The length of a buffer in words: 0 the policy's, 1 the sessions', 2 the orders'.
+#[no_mangle]
+pub extern "C" fn mishantral_words(group: u64) -> u64
+    ensures { λ n. ⌜ n ≡ wordsOf group ⌝ }
+{
+    if group == 0 {
+        return 3480;
+    }
+    if group == 1 {
+        return 256;
+    }
+    if group == 2 {
+        return 2113;
+    }
+    0
 }

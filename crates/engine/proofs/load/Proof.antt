@@ -1,0 +1,31 @@
+-- Written from Proof.tmpl by 'prove expand': edit that file.
+-- Buffers of another length are ROOM; else the orders are emptied and the lower part is loaded.
+use borrow.Author.Needs.{needs}
+use Rattle.engine.specs.Buffers.{buffers}
+use Rattle.engine.proofs.Ways.{lengths, no-load, loaded}
+use Rattle.engine.proofs.load.Statement.{statement}
+use Rattle.engine.proofs.load.Tie as tie
+
+returns : tie.Need-returns
+returns c = no-load (c .before .before .before .before .before .args .bytes .now) (buffers (c .before .before .before .before .before .args .policy .now) (c .before .before .before .before .before .args .sessions .now) (c .before .before .before .before .before .args .orders .now)) (c .if1 .taken)
+
+clear-requires : tie.Need-clear-requires
+clear-requires c κs = lengths (buffers (c .before .before .before .before .before .before .args .policy .now) (c .before .before .before .before .before .before .args .sessions .now) (c .before .before .before .before .before .before .args .orders .now)) (c .before .if1 .left) .1 .1
+
+load-requires : tie.Need-load-requires
+load-requires c κs = search needs
+
+same-length : tie.Need-same-length
+same-length c = search needs
+
+same-length-2 : tie.Need-same-length-2
+same-length-2 c = search needs
+
+same-length-3 : tie.Need-same-length-3
+same-length-3 c = search needs
+
+returns-2 : tie.Need-returns-2
+returns-2 c = loaded (c .before .before .before .before .before .before .before .before .before .before .before .if1 .left) (c .before .before .before .before .before .before .before .before .before .clear .ensures) (c .before .before .before .before .load .ensures)
+
+pub load-spec : {M : Type 1} → statement M
+load-spec = tie.close (tie.spec returns clear-requires load-requires same-length same-length-2 same-length-3 returns-2)

@@ -1,0 +1,35 @@
+-- Written from Proof.tmpl by 'prove expand': edit that file.
+-- The load's answer as one number.
+use native.Mathlib.Omega.{arith}
+use borrow.Author.Needs.{needs}
+use Rattle.lower.proofs.Numbers.{number-small}
+use Rattle.engine.proofs.Ways.{load-exported}
+use Rattle.engine.proofs.mishantral_load.Statement.{statement}
+use Rattle.engine.proofs.mishantral_load.Tie as tie
+
+load-requires : tie.Need-load-requires
+load-requires c κs = search needs
+
+number-requires : tie.Need-number-requires
+number-requires c κs = search needs
+
+mul-result : tie.Need-mul-result
+mul-result c = search needs
+
+add-result : tie.Need-add-result
+add-result c = omega (arith, number-small (c .before .before .before .before .before .before .before .before .load .result .reply), c .before .number .ensures)
+
+same-length : tie.Need-same-length
+same-length c = search needs
+
+same-length-2 : tie.Need-same-length-2
+same-length-2 c = search needs
+
+same-length-3 : tie.Need-same-length-3
+same-length-3 c = search needs
+
+returns : tie.Need-returns
+returns c = load-exported (c .before .before .before .before .before .before .before .before .load .ensures) (c .before .number .ensures)
+
+pub mishantral-load-spec : {M : Type 1} → statement M
+mishantral-load-spec = tie.close (tie.spec load-requires number-requires mul-result add-result same-length same-length-2 same-length-3 returns)

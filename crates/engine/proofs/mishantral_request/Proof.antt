@@ -1,0 +1,27 @@
+-- Written from Proof.tmpl by 'prove expand': edit that file.
+-- The request's reply as its number.
+use borrow.Author.Needs.{needs}
+use Rattle.engine.proofs.Ways.{request-exported}
+use Rattle.engine.proofs.mishantral_request.Statement.{statement}
+use Rattle.engine.proofs.mishantral_request.Tie as tie
+
+request-requires : tie.Need-request-requires
+request-requires c κs = search needs
+
+number-requires : tie.Need-number-requires
+number-requires c κs = search needs
+
+same-length : tie.Need-same-length
+same-length c = search needs
+
+same-length-2 : tie.Need-same-length-2
+same-length-2 c = search needs
+
+same-length-3 : tie.Need-same-length-3
+same-length-3 c = search needs
+
+returns : tie.Need-returns
+returns c = request-exported (c .before .before .before .before .before .before .before .request .ensures) (c .number .ensures)
+
+pub mishantral-request-spec : {M : Type 1} → statement M
+mishantral-request-spec = tie.close (tie.spec request-requires number-requires same-length same-length-2 same-length-3 returns)

@@ -1,0 +1,20 @@
+-- Written from Proof.tmpl by 'prove expand': edit that file.
+-- By cases of the group.
+use borrow.Author.Tests.{eq-eqb, ne-eqb}
+use Rattle.engine.proofs.mishantral_words.Statement.{statement}
+use Rattle.engine.proofs.mishantral_words.Tie as tie
+
+returns : tie.Need-returns
+returns c = simp (eq-eqb _ 0 (c .if1 .taken))
+
+returns-2 : tie.Need-returns-2
+returns-2 c = simp (ne-eqb _ 0 (c .before .if1 .left), eq-eqb _ 1 (c .if2 .taken))
+
+returns-3 : tie.Need-returns-3
+returns-3 c = simp (ne-eqb _ 0 (c .before .before .if1 .left), ne-eqb _ 1 (c .before .if2 .left), eq-eqb _ 2 (c .if3 .taken))
+
+returns-4 : tie.Need-returns-4
+returns-4 c = simp (ne-eqb _ 0 (c .before .before .if1 .left), ne-eqb _ 1 (c .before .if2 .left), ne-eqb _ 2 (c .if3 .left))
+
+pub mishantral-words-spec : {M : Type 1} → statement M
+mishantral-words-spec = tie.close (tie.spec returns returns-2 returns-3 returns-4)

@@ -1,0 +1,29 @@
+-- What the functions promise that C and Rust link: the same answers, as one number, the reply + 256 times the place.
+use Prim.Native.Nat.{ℕ}
+use mathlib.Core.Bool.{true, false, cond}
+use mathlib.Core.Path.{_≡_}
+use lib.Dec.{eqb}
+use Rattle.paper_lower.specs.Records.{Bytes}
+use Rattle.paper_upper.specs.Orders.{SameTables}
+use Rattle.policy.specs.Layout.{policyWords}
+use Rattle.sessions.specs.Reading.{sessionsWords}
+use Rattle.ledger.specs.Reading.{ordersWords}
+use Rattle.lower.specs.Exports.{inOne}
+use Rattle.engine.specs.Buffers.{Buffers, tablesOf, fit}
+use Rattle.engine.specs.Answers.{requestAnswer, loadAnswer, Zeros}
+
+pub record LoadExported (bytes : Bytes) (x x′ : Buffers) (number : ℕ) : Type 0 where
+  pub answers : number ≡ inOne (loadAnswer bytes x .reply) (loadAnswer bytes x .place)
+  pub tables : tablesOf x′ ≡ loadAnswer bytes x .tables
+  pub room : fit x ≡ false → x′ ≡ x
+  pub zeros : fit x ≡ true → (loadAnswer bytes x .reply ≡ 0 → ⊥) → Zeros x′
+
+-- a request's place is 0
+pub record RequestExported (bytes : Bytes) (x x′ : Buffers) (number : ℕ) : Type 0 where
+  pub answers : number ≡ requestAnswer bytes x .reply
+  pub tables : SameTables (tablesOf x′) (requestAnswer bytes x .tables)
+  pub kept : (requestAnswer bytes x .reply ≡ 0 → ⊥) → x′ ≡ x
+
+-- the length of a buffer: policy 0, sessions 1, orders 2
+abbrev pub wordsOf : ℕ → ℕ
+wordsOf group = cond (eqb group 0) policyWords (cond (eqb group 1) sessionsWords (cond (eqb group 2) ordersWords 0))
