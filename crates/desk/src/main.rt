@@ -1,0 +1,205 @@
+// Document 01's desk program: loads the file policy.rec, then answers the request records of standard input, one line a request.
+// It rests on the crate engine for every decision, and on io, libc and os for files and numbers as text.
+use loading::Loaded;
+use replies::Reply;
+ghost use Prim.Native.Nat.{_+_, _*_, _<_, _≤_};
+ghost use lib.ListN.{length};
+
+// What was read: this many bytes, or nothing, where a read failed.
+enum Got {
+    Bytes(usize),
+    Failed,
+}
+
+// One read from `at` on: how many bytes came, 0 at the end of the input, or a failure.
+fn read_some(fd: i32, buffer: &mut [u8], at: usize) -> Got
+    requires { ⌜ at ≤ length (now buffer) ⌝ }
+{
+    let part = &mut buffer[at..];
+    let got = libc::read(fd, part);
+    if got < 0 {
+        return Got::Failed;
+    }
+    Got::Bytes(io::count(got, part))
+}
+
+// Reads until the buffer is full or the input ends: a pipe gives what it has, and a record must not be cut there.
+fn read_all(fd: i32, buffer: &mut [u8]) -> Got {
+    let mut at = 0;
+    while at < buffer.len() {
+        let Got::Bytes(n) = read_some(fd, buffer, at) else {
+            return Got::Failed;
+        };
+        if n == 0 {
+            return Got::Bytes(at);
+        }
+        if buffer.len() - at < n {
+            return Got::Failed;
+        }
+        at += n;
+    }
+    Got::Bytes(at)
+}
+
+// A folder opens, and fails when it is read.
+fn read_policy(buffer: &mut [u8]) -> Got {
+    let fd = os::open_read(b"policy.rec");
+    if fd < 0 {
+        return Got::Failed;
+    }
+    let got = read_all(fd, buffer);
+    libc::close(fd);
+    got
+}
+
+fn no_policy() -> Loaded {
+    Loaded {
+        reply: Reply::Room,
+        place: 0,
+    }
+}
+
+fn load_front(
+    buffer: &[u8],
+    n: usize,
+    policy: &mut [u64],
+    sessions: &mut [u64],
+    orders: &mut [u64],
+) -> Loaded {
+    if n <= buffer.len() && n <= 65536 {
+        return engine::load(&buffer[0..n], policy, sessions, orders);
+    }
+    no_policy()
+}
+
+// The buffer has one byte more than a policy file may have, which tells a larger file.
+fn load_file(policy: &mut [u64], sessions: &mut [u64], orders: &mut [u64]) -> Loaded {
+    let mut buffer = [0u8; 65537];
+    let Got::Bytes(n) = read_policy(&mut buffer) else {
+        return no_policy();
+    };
+    load_front(&buffer, n, policy, sessions, orders)
+}
+
+// The digits of a number, at most 20, and then one more byte; answers the place behind them.
+fn put_number(out: &mut [u8; 16384], at: usize, number: u64, then: u8) -> usize
+    requires { ⌜ at + 21 ≤ 16384 ⌝ }
+    ensures { λ r. ⌜ r ≤ at + 21 ⌝ }
+{
+    let mut text = [0u8; 20];
+    let digits = io::decimal(number, &mut text);
+    let mut i = 0;
+    while i < 20 && i < digits {
+        out[at + i] = text[i];
+        i += 1;
+    }
+    out[at + i] = then;
+    at + i + 1
+}
+
+// One line of two numbers, at most 42 bytes.
+fn put_line(out: &mut [u8; 16384], at: usize, first: u64, second: u64) -> usize
+    requires { ⌜ at + 42 ≤ 16384 ⌝ }
+    ensures { λ r. ⌜ r ≤ at + 42 ⌝ }
+{
+    let middle = put_number(out, at, first, 32);
+    put_number(out, middle, second, 10)
+}
+
+// Where the record that starts at `at` ends: behind 16 bytes, or with the input, which cuts it.
+fn record_end(at: usize, n: usize) -> usize
+    requires { ⌜ at < n ⌝ }
+    ensures { λ r. ⌜ (at ≤ r) × (r ≤ n) ⌝ }
+{
+    if n - at < 16 { n } else { at + 16 }
+}
+
+// Answers the records of a block, the first of which has this place, and gives the number of bytes of the lines.
+fn answer(
+    block: &[u8],
+    first: u64,
+    policy: &mut [u64],
+    sessions: &mut [u64],
+    orders: &mut [u64],
+    out: &mut [u8; 16384],
+) -> usize
+    requires { ⌜ length (now block) ≤ 4096 ⌝ }
+    requires { ⌜ first < 1152921504606846976 ⌝ }
+    ensures { λ r. ⌜ r ≤ 16384 ⌝ }
+{
+    let mut i = 0;
+    let mut to = 0;
+    while i * 16 < block.len() {
+        let at = i * 16;
+        let end = record_end(at, block.len());
+        let reply = engine::request(&block[at..end], policy, sessions, orders);
+        to = put_line(out, to, first + i as u64, replies::number(reply));
+        i += 1;
+    }
+    to
+}
+
+fn write_front(text: &[u8], n: usize) -> bool {
+    n <= text.len() && io::write_all(1, &text[0..n])
+}
+
+fn write_lines(out: &[u8; 16384], n: usize) -> bool {
+    write_front(out, n)
+}
+
+// Answers the first n bytes of the buffer; whether the lines were written.
+fn serve_front(
+    buffer: &[u8],
+    n: usize,
+    first: u64,
+    policy: &mut [u64],
+    sessions: &mut [u64],
+    orders: &mut [u64],
+) -> bool
+    requires { ⌜ length (now buffer) ≤ 4096 ⌝ }
+    requires { ⌜ first < 1152921504606846976 ⌝ }
+{
+    if buffer.len() < n {
+        return false;
+    }
+    let mut out = [0u8; 16384];
+    let length = answer(&buffer[0..n], first, policy, sessions, orders, &mut out);
+    write_lines(&out, length)
+}
+
+// Reads and answers a block of up to 256 requests; whether more may follow.
+fn serve_block(first: u64, policy: &mut [u64], sessions: &mut [u64], orders: &mut [u64]) -> bool
+    requires { ⌜ first < 1152921504606846976 ⌝ }
+{
+    let mut buffer = [0u8; 4096];
+    let Got::Bytes(n) = read_all(0, &mut buffer) else {
+        return false;
+    };
+    serve_front(&buffer, n, first, policy, sessions, orders) && n == 4096
+}
+
+// The bound, 2^60, makes the end of the loop plain; no input is that long.
+fn serve(policy: &mut [u64], sessions: &mut [u64], orders: &mut [u64]) {
+    let mut first = 1;
+    while first < 1152921504606846976 && serve_block(first, policy, sessions, orders) {
+        first += 256;
+    }
+}
+
+fn write_load(number: u64, place: u64) -> bool {
+    let mut out = [0u8; 16384];
+    let length = put_line(&mut out, 0, number, place);
+    io::write_all(1, b"load ") && write_lines(&out, length)
+}
+
+fn main() {
+    let mut policy = [0u64; 3480];
+    let mut sessions = [0u64; 256];
+    let mut orders = [0u64; 2113];
+    let loaded = load_file(&mut policy, &mut sessions, &mut orders);
+    let reply = loaded.reply;
+    let number = replies::number(reply);
+    if write_load(number, loaded.place) && number == 0 {
+        serve(&mut policy, &mut sessions, &mut orders);
+    }
+}
