@@ -1,0 +1,273 @@
+// Runs the script of standard input over the lower part alone, and prints its lines with what came. It rests on `lower` and `scripts`.
+// A line of the script is one of these, with words for the reader behind the numbers, or is only printed:
+//   + KIND N A B C M           a further record of the policy in hand (not printed)
+//   new                        the policy in hand begins anew (not printed)
+//   with KIND N A B C M        load the policy in hand and this record behind it: reply, place, and whether all words are zero then
+//   load CUT                   load the policy in hand less its last CUT bytes
+//   room P S                   load it into buffers of P and S words
+//   ask KIND N A B C M         a request: its reply, and whether a refused one changed a word
+//   in P S KIND N A B C M      the same with buffers of P and S words
+//   cut LEN KIND N A B C M     the same of the record's first LEN bytes, more bytes being zero
+//   garble P S                 numbers that mean nothing into both buffers, drawn from P and S; 0 leaves a buffer as it is
+//   try KIND N A B C M         a request to such buffers: whether it kept to the rule above; the reply is no matter of 01
+ghost use Prim.Native.Nat.{_<_, _≤_};
+ghost use lib.ListN.{length};
+use loading::Loaded;
+use replies::Reply;
+use scripts::Fields;
+
+const POLICY: usize = 3480;
+
+const SESSIONS: usize = 256;
+
+// What a call came to: the number of its reply, a load's place, and whether every word is as before.
+struct Answer {
+    reply: u64,
+    place: u64,
+    kept: bool,
+}
+
+fn say(text: &[u8]) {
+    io::write_all(1, text);
+}
+
+fn say_if(yes: bool, text: &[u8]) {
+    if yes {
+        say(text);
+    }
+}
+
+fn say_reply(line: &[u8], reply: u64) {
+    say(line);
+    say(b": ");
+    io::print_decimal(1, reply);
+}
+
+// A request with the first words of the buffers, as many as are named.
+fn request_in(bytes: &[u8], p: &mut [u64], pn: usize, s: &mut [u64], sn: usize) -> Reply {
+    if pn > p.len() {
+        return Reply::Granted;
+    }
+    if sn > s.len() {
+        return Reply::Granted;
+    }
+    lower::request(bytes, &mut p[0..pn], &mut s[0..sn])
+}
+
+// A load with the first words of the buffers, as many as are named.
+fn load_in(bytes: &[u8], p: &mut [u64], pn: usize, s: &mut [u64], sn: usize) -> Loaded {
+    if pn > p.len() {
+        return Loaded {
+            reply: Reply::Granted,
+            place: 0,
+        };
+    }
+    if sn > s.len() {
+        return Loaded {
+            reply: Reply::Granted,
+            place: 0,
+        };
+    }
+    lower::load(bytes, &mut p[0..pn], &mut s[0..sn])
+}
+
+fn answered(bytes: &[u8], p: &mut [u64], pn: usize, s: &mut [u64], sn: usize) -> Answer {
+    let mut p0 = [0u64; 3481];
+    let mut s0 = [0u64; 257];
+    scripts::copy(p, &mut p0);
+    scripts::copy(s, &mut s0);
+    let reply = replies::number(request_in(bytes, p, pn, s, sn));
+    let kept = scripts::same(p, &p0) & scripts::same(s, &s0);
+    Answer {
+        reply: reply,
+        place: 0,
+        kept: kept,
+    }
+}
+
+fn ask(line: &[u8], bytes: &[u8], p: &mut [u64], pn: usize, s: &mut [u64], sn: usize) {
+    let a = answered(bytes, p, pn, s, sn);
+    say_reply(line, a.reply);
+    say_if((a.reply != 0) & !a.kept, b", and words changed");
+    say(b"\n");
+}
+
+fn ask_record(line: &[u8], r: Fields, p: &mut [u64], pn: usize, s: &mut [u64], sn: usize) {
+    let bytes = scripts::bytes(r);
+    ask(line, &bytes, p, pn, s, sn);
+}
+
+// A request of n bytes: those of the record, and zeros behind them.
+fn ask_cut(line: &[u8], room: &mut [u8], n: usize, p: &mut [u64], s: &mut [u64]) {
+    scripts::put(room, 0, scripts::record_of(line, 2));
+    if n <= room.len() {
+        ask(line, &room[0..n], p, POLICY, s, SESSIONS);
+    }
+}
+
+fn cut(line: &[u8], n: usize, p: &mut [u64], s: &mut [u64]) {
+    let mut room = [0u8; 64];
+    ask_cut(line, &mut room, n, p, s);
+}
+
+// A request to words that mean nothing.
+fn attempt(line: &[u8], r: Fields, p: &mut [u64], s: &mut [u64]) {
+    let bytes = scripts::bytes(r);
+    let a = answered(&bytes, p, POLICY, s, SESSIONS);
+    say(line);
+    say_if(a.reply <= 20, b": answered");
+    say_if((a.reply != 0) & !a.kept, b", and words changed");
+    say(b"\n");
+}
+
+fn garble(x: &mut [u64], seed: u64) {
+    if seed != 0 {
+        scripts::garble(x, seed);
+    }
+}
+
+fn zeros_in(x: &[u64], n: usize) -> bool {
+    if n > x.len() {
+        return false;
+    }
+    scripts::zeros(&x[0..n])
+}
+
+fn loaded(bytes: &[u8], p: &mut [u64], pn: usize, s: &mut [u64], sn: usize) -> Answer {
+    let mut p0 = [0u64; 3481];
+    let mut s0 = [0u64; 257];
+    scripts::copy(p, &mut p0);
+    scripts::copy(s, &mut s0);
+    let l = load_in(bytes, p, pn, s, sn);
+    let reply = l.reply;
+    let kept = scripts::same(p, &p0) & scripts::same(s, &s0);
+    Answer {
+        reply: replies::number(reply),
+        place: l.place,
+        kept: kept,
+    }
+}
+
+fn say_loaded(line: &[u8], a: Answer, zeros: bool) {
+    say_reply(line, a.reply);
+    say(b" at ");
+    io::print_decimal(1, a.place);
+    say_if(zeros, b", zeros");
+    say_if(a.kept, b", as before");
+    say(b"\n");
+}
+
+fn load(line: &[u8], bytes: &[u8], p: &mut [u64], pn: usize, s: &mut [u64], sn: usize) {
+    scripts::garble(p, 1);
+    scripts::garble(s, 2);
+    let a = loaded(bytes, p, pn, s, sn);
+    say_loaded(line, a, zeros_in(p, pn) & zeros_in(s, sn));
+}
+
+// Loads the first n bytes.
+fn load_front(line: &[u8], bytes: &[u8], n: usize, p: &mut [u64], s: &mut [u64]) {
+    if n <= bytes.len() {
+        load(line, &bytes[0..n], p, POLICY, s, SESSIONS);
+    }
+}
+
+fn less(x: usize, y: usize) -> usize {
+    if x < y { 0 } else { x - y }
+}
+
+// A line that loads or fills; `len` bytes of the policy are in hand.
+fn run_load(letter: u8, line: &[u8], policy: &[u8], len: usize, p: &mut [u64], s: &mut [u64]) {
+    let x = scripts::number(line, 1);
+    let y = scripts::number(line, 2);
+    if letter == b'l' {
+        load_front(line, policy, less(len, x as usize), p, s);
+        return;
+    }
+    if letter == b'r' {
+        load(line, policy, p, x as usize, s, y as usize);
+        return;
+    }
+    say(line);
+    say(b"\n");
+    if letter == b'g' {
+        garble(p, x);
+        garble(s, y);
+    }
+}
+
+// A line that asks; whether it was one.
+fn run_ask(letter: u8, line: &[u8], p: &mut [u64], s: &mut [u64]) -> bool {
+    if letter == b'a' {
+        ask_record(line, scripts::record_of(line, 1), p, POLICY, s, SESSIONS);
+        return true;
+    }
+    if letter == b't' {
+        attempt(line, scripts::record_of(line, 1), p, s);
+        return true;
+    }
+    let x = scripts::number(line, 1) as usize;
+    if letter == b'c' {
+        cut(line, x, p, s);
+        return true;
+    }
+    let y = scripts::number(line, 2) as usize;
+    if letter == b'i' {
+        ask_record(line, scripts::record_of(line, 3), p, x, s, y);
+        return true;
+    }
+    false
+}
+
+// A line of the script; answers how many bytes of the policy are in hand then.
+fn run(line: &[u8], policy: &mut [u8], len: usize, p: &mut [u64], s: &mut [u64]) -> usize {
+    if line.len() == 0 {
+        return len;
+    }
+    let letter = line[0];
+    if letter == b'+' {
+        return scripts::put(policy, len, scripts::record_of(line, 1));
+    }
+    if letter == b'n' {
+        return 0;
+    }
+    if letter == b'w' {
+        let end = scripts::put(policy, len, scripts::record_of(line, 1));
+        load_front(line, policy, end, p, s);
+        return len;
+    }
+    if run_ask(letter, line, p, s) {
+        return len;
+    }
+    run_load(letter, line, policy, len, p, s);
+    len
+}
+
+fn run_lines(text: &[u8], policy: &mut [u8], p: &mut [u64], s: &mut [u64])
+    requires { ⌜ length (now text) ≤ 65536 ⌝ }
+{
+    let mut len = 0;
+    let mut at = 0;
+    while at < text.len() {
+        let end = scripts::line_end(text, at);
+        len = run(&text[at..end], policy, len, p, s);
+        at = end + 1;
+    }
+}
+
+fn run_front(text: &[u8], n: usize, policy: &mut [u8], p: &mut [u64], s: &mut [u64]) {
+    if n > text.len() {
+        return;
+    }
+    if n <= 65536 {
+        run_lines(&text[0..n], policy, p, s);
+    }
+}
+
+fn main() {
+    let mut text = [0u8; 65536];
+    let n = io::read_full(0, &mut text);
+    let mut policy = [0u8; 4096];
+    let mut p = [0u64; 3481];
+    let mut s = [0u64; 257];
+    run_front(&text, n, &mut policy, &mut p, &mut s);
+}
