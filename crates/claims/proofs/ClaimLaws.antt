@@ -16,6 +16,7 @@ use Rattle.paper_upper.specs.Rules.{ruleChecks}
 use Rattle.paper_upper.specs.Requests.{unknown, claimChecks}
 use Rattle.replies.specs.Replies.{numberOf}
 use Rattle.replies.specs.declared.Reply.{Reply}
+use Rattle.replies.proofs.ReplyLaws.{is-zero}
 use Rattle.replies.proofs.DoneLaws.{stops}
 use Rattle.ledger.specs.Reading.{openedOf}
 use Rattle.ledger.specs.Gathering.{gatheredOf}
@@ -38,25 +39,27 @@ module _ (t : Engine) (a b c : ℕ) where
   fullOf = (leb 2048 (many (t .orders .entries)), FULL) ∷ []
 
   -- what is not unknown is of an open instance
-  pub template-known : (x : Instance) → openedOf x ≡ t .orders .opened b → unknown t a b c ≡ false → t .orders .opened b ≡ just (x .template)
+  pub template-known : {w : Bool} (x : Instance) → openedOf x ≡ t .orders .opened b → w ≡ unknown t a b c → w ≡ false → t .orders .opened b ≡ just (x .template)
   unfolding unknown
-  template-known x e k =
+  template-known x e k f =
       let of : ℕ → Bool = λ j. is j (t .lower .policy .tasks .template c) in
-      let h = not-false (holds of (t .orders .opened b)) (or-none (not (t .lower .sessions .live a)) (not (holds of (t .orders .opened b))) k .1) in
+      let h = not-false (holds of (t .orders .opened b)) (or-none (not (t .lower .sessions .live a)) (not (holds of (t .orders .opened b))) (sym k ∙ f) .1) in
       let w : (x .open && of (x .template)) ≡ true = sym (holds-opened of x) ∙ ap (holds of) e ∙ h in
       let y = both (x .open) (of (x .template)) w .0 in
       sym e ∙ rw y
 
-  pub rules-next : unknown t a b c ≡ false
+  pub rules-next : {w m : Bool} → w ≡ unknown t a b c → w ≡ false
       → some (λ e. ofTask b c e && isHeld (e .standing)) (t .orders .entries) ≡ false
-      → not (meets (t .lower .policy .tasks .openTo c) (t .lower .sessions .active a)) ≡ false
+      → m ≡ meets (t .lower .policy .tasks .openTo c) (t .lower .sessions .active a) → not m ≡ false
       → first (claimChecks t a b c) ≡ first (rulesOf ++ fullOf)
   unfolding claimChecks
-  rules-next h i j = rw (h, i, j)
+  rules-next k h i e j = rw (sym k ∙ h, i, ← e, j)
 
-  pub room : first (claimChecks t a b c) ≡ 0 → many (t .orders .entries) < 2048
+  pub room : (r : Reply) {x : Bool} → numberOf r ≡ first (claimChecks t a b c) → x ≡ eqb (numberOf r) 0 → not x ≡ false → many (t .orders .entries) < 2048
   unfolding claimChecks ruleChecks
-  room h = leb-false _ _ (passed (claimChecks t a b c) (tt, (tt, (tt, (tt, (tt, (tt, (tt, (tt, (tt, (tt, tt)))))))))) h .1 .1 .1 .1 .1 .1 .1 .1 .1 .0)
+  room r {x} judged accepts h =
+      let z = sym judged ∙ is-zero r accepts (not-false x h) in
+      leb-false _ _ (passed (claimChecks t a b c) (tt, (tt, (tt, (tt, (tt, (tt, (tt, (tt, (tt, (tt, tt)))))))))) z .1 .1 .1 .1 .1 .1 .1 .1 .1 .0)
 
   rules-numbered : Numbered rulesOf
   unfolding ruleChecks
@@ -82,4 +85,4 @@ module _ (t : Engine) (a b c : ℕ) where
     by-rule h = stops rulesOf fullOf r judged accepts h ∙ sym next
 
     pub by-room : not x ≡ false → {n : ℕ} {y : Bool} → n ≡ many (t .orders .entries) → leb 2048 n ≡ y → first (claimChecks t a b c) ≡ cond y FULL 0
-    by-room h e f = next ∙ one-more rulesOf FULL rules-numbered r judged accepts h (ap (leb 2048) e) f
+    by-room h e f = next ∙ one-more rulesOf FULL (λ x. x) rules-numbered r judged accepts h (ap (leb 2048) e) f

@@ -2,7 +2,7 @@
 use Prim.Native.Nat.{ℕ, _+_, _-_}
 use mathlib.Core.Bool.{Bool, true, false}
 use mathlib.Core.List.{List}
-use mathlib.Core.Path.{_≡_, ap, sym, _∙_}
+use mathlib.Core.Path.{_≡_, refl, ap, sym, _∙_}
 use native.Mathlib.Omega.{arith}
 use Rattle.paper_lower.specs.Lists.{some, placeFrom, place}
 use Rattle.paper_lower.specs.Tables.{Block, Rules}
@@ -22,14 +22,14 @@ module _ {A : Type 0} (p : A → Bool) (f : ℕ → A) {all : List A} {n count :
   some-start = ap (some p) all-left
 
 module _ (k : Rules) (d t : ℕ) where
-  pub in-own : (q : ℕ) → some (own q t) (k .blocks) ≡ true → blockIn k d t q ≡ place (strange q d t) (k .blocks)
+  pub in-own : (q : ℕ) {w : Bool} → w ≡ some (own q t) (k .blocks) → w ≡ true → blockIn k d t q ≡ place (strange q d t) (k .blocks)
   unfolding blockIn
-  in-own q h = rw h
+  in-own q e h = rw (sym e ∙ h)
 
-  pub in-none : (q : ℕ) → some (own q t) (k .blocks) ≡ false → blockIn k d t q ≡ 0
+  pub in-none : (q : ℕ) {w : Bool} → w ≡ some (own q t) (k .blocks) → w ≡ false → blockIn k d t q ≡ 0
   unfolding blockIn
-  in-none q h = rw h
+  in-none q e h = rw (sym e ∙ h)
 
   pub no-blocks : (f : ℕ → Block) {n count : ℕ} → k .blocks ≡ rows f count → n ≡ count → n ≡ 0 → 0 ≡ block k d t
   unfolding block some rowsFrom
-  no-blocks f are e z = sym (none-first 0 16 (blockIn k d t) (λ q. in-none q (rw (are, sym e ∙ z))))
+  no-blocks f are e z = sym (none-first 0 16 (blockIn k d t) (λ q. in-none q refl (rw (are, sym e ∙ z))))

@@ -1,9 +1,6 @@
 -- Judged, and then one entry more: a granted claim finds room.
-use mathlib.Core.Path.{sym, _∙_}
 use borrow.Author.Needs.{needs}
-use borrow.Author.Tests.{not-false}
 use Rattle.paper_upper.specs.Requests.{claimNext}
-use Rattle.replies.proofs.ReplyLaws.{is-zero}
 use Rattle.replies.proofs.DoneLaws.{refused, done}
 use Rattle.claims.specs.Tables.{engineTables}
 use Rattle.claims.proofs.ClaimLaws.{room}
@@ -31,8 +28,7 @@ enter-requires c κs =
       c .before .before .before .before .before .before .before .before .before .pre .1 .1 .0,
       (
         room (engineTables (z .p .now) (z .s .now) (z .o .now)) (z .a) (z .b) (z .c)
-            (sym (c .before .before .before .before .claim-reply .ensures)
-            ∙ is-zero (c .before .before .before .before .claim-reply .result) (c .before .before .before .accepted .ensures) (not-false _ (c .before .before .if1 .left))),
+            (c .before .before .before .before .claim-reply .result) (c .before .before .before .before .claim-reply .ensures) (c .before .before .before .accepted .ensures) (c .before .before .if1 .left),
         (
           c .before .user .ensures .1,
           (

@@ -1,5 +1,5 @@
 -- Each way out is the first check of the definition that applies; the rules are judged over what one walk gathered.
-use mathlib.Core.Path.{_≡_, sym, _∙_}
+use mathlib.Core.Path.{_≡_, sym}
 use mathlib.Core.List.{_++_}
 use borrow.Author.Needs.{needs}
 use borrow.Author.Tests.{eq-eqb, ne-eqb, le-leb, lt-leb}
@@ -80,10 +80,10 @@ passes c =
     let z = c .before .before .before .before .before .before .before .before .before .before .before .before .before .args in
     let t = engineTables (z .p .now) (z .s .now) (z .o .now) in
     rules-next t (z .a) (z .b) (z .c)
-    (sym (c .before .before .before .before .before .before .before .before .before .is-unknown .ensures) ∙ c .before .before .before .before .before .before .before .before .if1 .left)
+    (c .before .before .before .before .before .before .before .before .before .is-unknown .ensures) (c .before .before .before .before .before .before .before .before .if1 .left)
     (held-is t (z .a) (z .b) (z .c) (c .before .before .before .before .before .before .before .user .ensures .0) (c .before .before .before .before .before .before .gather .ensures)
     (ne-eqb _ _ (c .before .before .before .before .if2 .left)))
-    (rw (← c .before .before .before .has-role .ensures) (c .before .before .if3 .left))
+    (c .before .before .before .has-role .ensures) (c .before .before .if3 .left)
 
 judged : (c : tie.After-rules-reply) →
     let z = c .before .before .before .before .before .before .before .before .before .before .before .before .before .args in
@@ -95,7 +95,7 @@ judged c =
     by-entries t (z .a) (z .b) (z .c) (c .before .before .before .before .before .before .before .user .ensures .0) (c .before .before .before .before .before .before .gather .ensures)
     (c .rules-reply .result)
     (template-known t (z .a) (z .b) (z .c) (c .before .opened .result) (c .before .opened .ensures .0)
-    (sym (c .before .before .before .before .before .before .before .before .before .is-unknown .ensures) ∙ c .before .before .before .before .before .before .before .before .if1 .left))
+    (c .before .before .before .before .before .before .before .before .before .is-unknown .ensures) (c .before .before .before .before .before .before .before .before .if1 .left))
     (c .rules-reply .ensures)
 
 returns-4 : tie.Need-returns-4

@@ -1,10 +1,7 @@
 -- Judged, and then the lower part's act.
-use mathlib.Core.Path.{sym, _∙_}
 use borrow.Author.Needs.{needs}
-use borrow.Author.Tests.{not-false}
 use Rattle.paper_lower.specs.Roles.{deleteChecks}
 use Rattle.paper_upper.specs.Requests.{deleteAbove}
-use Rattle.replies.proofs.ReplyLaws.{is-zero}
 use Rattle.replies.proofs.DoneLaws.{refused}
 use Rattle.policy.specs.Reading.{policyOf}
 use Rattle.sessions.specs.Reading.{sessionsOf}
@@ -38,8 +35,7 @@ returns-2 c =
     let z = c .before .before .before .before .before .before .before .before .before .before .before .args in
     lifted policyOf (λ x. record { lower = record { policy = x; sessions = sessionsOf (z .s .now) }; orders = ordersOf (z .o .now) })
     (deleteChecks (lowerTables (z .p .now) (z .s .now)) (z .a)) (deleteAbove (engineTables (z .p .now) (z .s .now) (z .o .now)) (z .a))
-    (sym (c .before .before .before .before .before .before .delete-reply .ensures)
-    ∙ is-zero (c .before .before .before .before .before .before .delete-reply .result) (c .before .before .before .before .before .accepted .ensures) (not-false _ (c .before .before .before .before .if1 .left)))
+    (c .before .before .before .before .before .before .delete-reply .result) (c .before .before .before .before .before .before .delete-reply .ensures) (c .before .before .before .before .before .accepted .ensures) (c .before .before .before .before .if1 .left)
     (c .before .before .delete .ensures)
 
 pub delete-spec : {M : Type 1} → statement M

@@ -32,7 +32,7 @@ returns-2 : tie.Need-returns-2
 unfolding deleteAbove
 returns-2 c =
     let z = c .before .before .before .before .before .before .before .before .args in
-    sym (one-more (deleteChecks (lowerTables (z .p .now) (z .s .now)) (z .a)) IN-USE (unfold deleteChecks in (tt, (tt, tt)))
+    sym (one-more (deleteChecks (lowerTables (z .p .now) (z .s .now)) (z .a)) IN-USE (λ x. x) (unfold deleteChecks in (tt, (tt, tt)))
     (c .before .before .before .before .delete-reply .result) (c .before .before .before .before .delete-reply .ensures)
     (c .before .before .before .accepted .ensures) (c .before .before .if1 .left) (c .before .in-open-order .ensures) (c .if2 .taken))
 
@@ -40,7 +40,7 @@ returns-3 : tie.Need-returns-3
 unfolding deleteAbove
 returns-3 c =
     let z = c .before .before .before .before .before .before .before .before .args in
-    sym (one-more (deleteChecks (lowerTables (z .p .now) (z .s .now)) (z .a)) IN-USE (unfold deleteChecks in (tt, (tt, tt)))
+    sym (one-more (deleteChecks (lowerTables (z .p .now) (z .s .now)) (z .a)) IN-USE (λ x. x) (unfold deleteChecks in (tt, (tt, tt)))
     (c .before .before .before .before .delete-reply .result) (c .before .before .before .before .delete-reply .ensures)
     (c .before .before .before .accepted .ensures) (c .before .before .if1 .left) (c .before .in-open-order .ensures) (c .if2 .left))
 

@@ -1,10 +1,7 @@
 -- Judged, and then the lower part's act.
-use mathlib.Core.Path.{sym, _∙_}
 use borrow.Author.Needs.{needs}
-use borrow.Author.Tests.{not-false}
 use Rattle.paper_lower.specs.Sessions.{destroyChecks}
 use Rattle.paper_upper.specs.Requests.{destroyAbove}
-use Rattle.replies.proofs.ReplyLaws.{is-zero}
 use Rattle.replies.proofs.DoneLaws.{refused}
 use Rattle.policy.specs.Reading.{policyOf}
 use Rattle.sessions.specs.Reading.{sessionsOf}
@@ -38,8 +35,7 @@ returns-2 c =
     let z = c .before .before .before .before .before .before .before .before .before .before .args in
     λ p. lifted sessionsOf (λ x. record { lower = record { policy = policyOf p; sessions = x }; orders = ordersOf (z .o .now) })
     (destroyChecks (lowerTables p (z .s .now)) (z .a)) (destroyAbove (engineTables p (z .s .now) (z .o .now)) (z .a))
-    (sym (c .before .before .before .before .before .before .destroy-reply .ensures p)
-    ∙ is-zero (c .before .before .before .before .before .before .destroy-reply .result) (c .before .before .before .before .before .accepted .ensures) (not-false _ (c .before .before .before .before .if1 .left)))
+    (c .before .before .before .before .before .before .destroy-reply .result) (c .before .before .before .before .before .before .destroy-reply .ensures p) (c .before .before .before .before .before .accepted .ensures) (c .before .before .before .before .if1 .left)
     (c .before .before .destroy .ensures (policyOf p))
 
 pub destroy-spec : {M : Type 1} → statement M

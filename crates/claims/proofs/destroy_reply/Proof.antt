@@ -33,7 +33,7 @@ returns-2 : tie.Need-returns-2
 unfolding destroyAbove
 returns-2 c =
     let z = c .before .before .before .before .before .before .before .args in
-    λ p. sym (one-more (destroyChecks (lowerTables p (z .s .now)) (z .a)) IN-USE (unfold destroyChecks in (tt, tt))
+    λ p. sym (one-more (destroyChecks (lowerTables p (z .s .now)) (z .a)) IN-USE (λ x. x) (unfold destroyChecks in (tt, tt))
     (c .before .before .before .before .destroy-reply .result) (c .before .before .before .before .destroy-reply .ensures (policyOf p))
     (c .before .before .before .accepted .ensures) (c .before .before .if1 .left) (c .before .holds-any .ensures) (c .if2 .taken))
 
@@ -41,7 +41,7 @@ returns-3 : tie.Need-returns-3
 unfolding destroyAbove
 returns-3 c =
     let z = c .before .before .before .before .before .before .before .args in
-    λ p. sym (one-more (destroyChecks (lowerTables p (z .s .now)) (z .a)) IN-USE (unfold destroyChecks in (tt, tt))
+    λ p. sym (one-more (destroyChecks (lowerTables p (z .s .now)) (z .a)) IN-USE (λ x. x) (unfold destroyChecks in (tt, tt))
     (c .before .before .before .before .destroy-reply .result) (c .before .before .before .before .destroy-reply .ensures (policyOf p))
     (c .before .before .before .accepted .ensures) (c .before .before .if1 .left) (c .before .holds-any .ensures) (c .if2 .left))
 

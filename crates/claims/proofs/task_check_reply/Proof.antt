@@ -1,6 +1,6 @@
 -- The checks of a holder, and then DENIED.
 use mathlib.Core.Bool.{not}
-use mathlib.Core.Path.{sym, ap}
+use mathlib.Core.Path.{sym}
 use borrow.Author.Needs.{needs}
 use Rattle.paper_lower.specs.Checks.{DENIED}
 use Rattle.paper_upper.specs.Requests.{holdChecks, carried, taskCheckChecks}
@@ -33,18 +33,18 @@ unfolding taskCheckChecks carried
 returns-2 c =
     let z = c .before .before .before .before .before .before .before .before .args in
     let t = engineTables (z .p .now) (z .s .now) (z .o .now) in
-    sym (one-more (holdChecks t (z .a) (z .b) (z .c)) DENIED (unfold holdChecks in (tt, (tt, tt)))
+    sym (one-more (holdChecks t (z .a) (z .b) (z .c)) DENIED not (unfold holdChecks in (tt, (tt, tt)))
     (c .before .before .before .before .hold-reply .result) (c .before .before .before .before .hold-reply .ensures)
-    (c .before .before .before .accepted .ensures) (c .before .before .if1 .left) (ap not (c .before .carried .ensures)) (c .if2 .taken))
+    (c .before .before .before .accepted .ensures) (c .before .before .if1 .left) (c .before .carried .ensures) (c .if2 .taken))
 
 returns-3 : tie.Need-returns-3
 unfolding taskCheckChecks carried
 returns-3 c =
     let z = c .before .before .before .before .before .before .before .before .args in
     let t = engineTables (z .p .now) (z .s .now) (z .o .now) in
-    sym (one-more (holdChecks t (z .a) (z .b) (z .c)) DENIED (unfold holdChecks in (tt, (tt, tt)))
+    sym (one-more (holdChecks t (z .a) (z .b) (z .c)) DENIED not (unfold holdChecks in (tt, (tt, tt)))
     (c .before .before .before .before .hold-reply .result) (c .before .before .before .before .hold-reply .ensures)
-    (c .before .before .before .accepted .ensures) (c .before .before .if1 .left) (ap not (c .before .carried .ensures)) (c .if2 .left))
+    (c .before .before .before .accepted .ensures) (c .before .before .if1 .left) (c .before .carried .ensures) (c .if2 .left))
 
 pub task-check-reply-spec : {M : Type 1} → statement M
 task-check-reply-spec =

@@ -71,8 +71,8 @@ search-again c = (
   c .before .before .before .search .inv .1
       ∙ first-later _ _ _ (search needs)
       (⊎-elim
-      (λ w. in-own _ _ _ _ (sym (c .before .has-own .ensures) ∙ w .0 .taken) ∙ w .1 .inv .1 ∙ place-end _ _ _ _ (w .2 .left))
-      (λ w. in-none _ _ _ _ (sym (c .before .has-own .ensures) ∙ w .left))
+      (λ w. in-own _ _ _ _ (c .before .has-own .ensures) (w .0 .taken) ∙ w .1 .inv .1 ∙ place-end _ _ _ _ (w .2 .left))
+      (λ w. in-none _ _ _ _ (c .before .has-own .ensures) (w .left))
       (c .if3 .came)),
 )
 
@@ -83,7 +83,7 @@ returns-3 : tie.Need-returns-3 Inv-loop μ-loop Inv-search μ-search
 returns-3 c =
     let z = c .before .before .before .before .before .before .before .before .before .before .before .args in
     let here : blockIn (policyOf (z .p .now) .rules) (z .d .bits) (z .t) (c .before .before .before .before .before .before .before .search .q) ≡ c .before .before .before .loop .k + 1 =
-    in-own _ _ _ _ (sym (c .before .before .before .before .before .has-own .ensures) ∙ c .before .before .before .before .if3 .taken)
+    in-own _ _ _ _ (c .before .before .before .before .before .has-own .ensures) (c .before .before .before .before .if3 .taken)
     ∙ c .before .before .before .loop .inv .1
     ∙ place-here _ _ _ _ (search needs) (sym (c .before .is-strange .ensures) ∙ c .if4 .taken) in
     sym (c .before .before .before .before .before .before .before .search .inv .1 ∙ first-here _ _ _ (search needs) (omega arith) ∙ here)
