@@ -11,7 +11,7 @@ use Rattle.paper_lower.specs.Forms.{Form, lowerForms, upperForms, requestForms,
 use Rattle.paper_lower.specs.Kinds.{Kind, chosen}
 use Rattle.paper_lower.specs.Tables.{Lower}
 use Rattle.paper_lower.specs.Sessions.{lowerKinds}
-use Rattle.paper_upper.specs.Orders.{Engine}
+use Rattle.paper_lower.proofs.ListLaws.{_⨾_}
 use Rattle.paper_upper.specs.Requests.{upperKinds}
 use Rattle.paper_upper.specs.Engine.{raised, requestKinds}
 use Rattle.records.specs.Limits.{Limits, limitN, limitA, limitB, limitC, limitM}
@@ -21,11 +21,6 @@ use Rattle.records.proofs.Span.{Rest, oneEach}
 -- the kinds that the upper part answers
 abbrev pub upperNumbers : List ℕ
 upperNumbers = 33 ∷ 41 ∷ 48 ∷ 49 ∷ 50 ∷ 51 ∷ 52 ∷ 57 ∷ []
-
-infixr 5 _⨾_
--- a row's law, and those of the rows behind it
-abbrev _⨾_ : {A B : Type 0} → A → B → A × B
-a ⨾ b = (a, b)
 
 -- a number that is not an arm's key
 other : (k : ℕ) {n : ℕ} → (n ≡ k → ⊥) → eqb k n ≡ false

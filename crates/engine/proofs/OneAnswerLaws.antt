@@ -1,11 +1,11 @@
 -- No second answer fits, and a chain of calls is a run of the definition.
 use mathlib.Core.Bool.{true}
-use mathlib.Core.List.{List, [], _∷_}
+use mathlib.Core.List.{List, _∷_}
 use mathlib.Core.Path.{_≡_, refl, sym, ap, subst, _∙_}
 use Prim.Native.Nat.{ℕ}
 use Rattle.paper_lower.specs.Lists.{each}
 use Rattle.paper_lower.specs.Records.{Bytes}
-use Rattle.paper_lower.specs.Kinds.{Answer, Said, run, after}
+use Rattle.paper_lower.specs.Kinds.{Said, run, after}
 use Rattle.paper_lower.specs.Load.{load}
 use Rattle.paper_upper.specs.Orders.{Engine, SameTables}
 use Rattle.paper_upper.specs.Engine.{request, engineOf}
@@ -13,11 +13,11 @@ use Rattle.replies.specs.Replies.{numberOf}
 use Rattle.replies.specs.declared.Reply.{Reply}
 use Rattle.replies.proofs.ReplyLaws.{one-reply}
 use Rattle.engine.specs.Buffers.{Buffers, tablesOf, fit}
-use Rattle.engine.specs.Answers.{requestAnswer, Requested, loadAnswer, LoadDone}
+use Rattle.engine.specs.Answers.{requestAnswer, Requested, loadAnswer}
 use Rattle.engine.specs.OneAnswer.{OneRequest, OneLoad, Calls, RunsAsDefined}
 use Rattle.engine.specs.OneAnswer.Calls.{no-more, call}
 use Rattle.engine.proofs.SameLaws.{tables-refl, tables-sym, tables-then}
-use Rattle.engine.proofs.RespectLaws.{runs-respect, respects}
+use Rattle.engine.proofs.RespectLaws.{respects}
 
 pub one-request : OneRequest
 one-request bytes x y z q r a b =

@@ -1,28 +1,23 @@
 -- Replies and next tables depend on the entries only up to their order: row by row of the table of kinds, then along a run.
 use Prim.Native.Nat.{ℕ, zero, suc}
-use mathlib.Core.Path.{_≡_, refl, sym, ap, subst, _∙_}
+use mathlib.Core.Path.{_≡_, refl, ap, subst, _∙_}
 use mathlib.Core.List.{List, [], _∷_, _++_}
 use Rattle.paper_lower.specs.Lists.{Every, Maybe, each}
 use Rattle.paper_lower.specs.Checks.{Check, first, granted}
-use Rattle.paper_lower.specs.Records.{Bytes, Record, decode}
+use Rattle.paper_lower.specs.Records.{Record, decode}
 use Rattle.paper_lower.specs.Forms.{requestForms, formChecks}
 use Rattle.paper_lower.specs.Kinds.{Kind, on, chosen, replyTo, answer, Said, run, after}
 use Rattle.paper_lower.specs.Tables.{Lower}
-use Rattle.paper_lower.proofs.ListLaws.{every-map, every-append, every-each, every-all}
+use Rattle.paper_lower.proofs.ListLaws.{every-map, every-append, every-each, every-all, _⨾_}
 use Rattle.paper_lower.proofs.KindLaws.{of-chosen}
 use Rattle.paper_lower.specs.Sessions.{lowerKinds}
-use Rattle.paper_upper.specs.Orders.{Standing, Entry, Same, Orders, Engine, SameTables, tasksBy, tasksDone, tasksOthers}
+use Rattle.paper_upper.specs.Orders.{Entry, Same, Engine, SameTables, tasksBy, tasksDone, tasksOthers}
 use Rattle.paper_upper.specs.Orders.Same.{one}
 use Rattle.paper_upper.specs.Rules.{ruleChecks}
 use Rattle.paper_upper.specs.Requests.{deleteAbove, destroyAbove, openChecks, openNext, endChecks, endNext, unknown, claimChecks, claimNext, holdChecks, releaseNext, doneNext, taskCheckChecks, upperKinds}
 use Rattle.paper_upper.specs.Engine.{raised, requestKinds, request}
 use Rattle.engine.specs.Respects.{Respects, RunsRespect}
-use Rattle.engine.proofs.SameLaws.{same-refl, some-same, many-same, many-kept, tasks-same, keep-same, each-same}
-
-infixr 5 _⨾_
--- a row's law, and those of the rows behind it
-abbrev _⨾_ : {A B : Type 0} → A → B → A × B
-a ⨾ b = (a, b)
+use Rattle.engine.proofs.SameLaws.{some-same, many-same, many-kept, tasks-same, keep-same, each-same}
 
 -- ---- Tables that differ in the order of their entries alone.
 abbrev engine : Lower → (ℕ → Maybe ℕ) → List Entry → Engine

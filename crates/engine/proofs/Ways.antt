@@ -24,7 +24,7 @@ use Rattle.lower.specs.Answers.{Loads, fit as lowerFit}
 use Rattle.lower.specs.Exports.{inOne}
 use Rattle.engine.specs.Buffers.{Buffers, buffers, tablesOf, fit}
 use Rattle.engine.specs.Step.{Step}
-use Rattle.engine.specs.Answers.{requestAnswer, Requested, loadAnswer, LoadDone, Zeros}
+use Rattle.engine.specs.Answers.{requestAnswer, Requested, loadAnswer, LoadDone}
 use Rattle.engine.specs.Exports.{LoadExported, RequestExported}
 use Rattle.engine.proofs.SameLaws.{tables-refl}
 

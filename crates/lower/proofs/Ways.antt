@@ -21,7 +21,7 @@ use Rattle.loading.specs.LoadDone.{LoadDone}
 use Rattle.lower.specs.Stepped.{Stepped}
 use Rattle.replies.specs.Replies.{numberOf}
 use Rattle.lower.specs.Exports.{inOne, LoadExported, RequestExported}
-use Rattle.lower.specs.Answers.{fit, requestAnswer, Requested, loadAnswer, Loads}
+use Rattle.lower.specs.Answers.{fit, requestAnswer, Requested, Loads}
 
 -- the code's test of the lengths
 both : (a b : Bool) → not a || not b ≡ false → (a ≡ true) × (b ≡ true)

@@ -1,8 +1,8 @@
 -- Laws of checks in their order: what a reply says of the checks, and the way back.
-use mathlib.Core.Path.{_≡_, refl, sym, _∙_, subst}
+use mathlib.Core.Path.{_≡_, refl, subst}
 use mathlib.Core.Bool.{Bool, true, false, not, cond}
 use mathlib.Core.List.{List, [], _∷_, _++_}
-use Prim.Native.Nat.{ℕ, zero, suc}
+use Prim.Native.Nat.{ℕ}
 use lib.Dec.{eqb, T}
 use Rattle.paper_lower.specs.Lists.{Every}
 use Rattle.paper_lower.specs.Checks.{Check, first}

@@ -2,12 +2,12 @@
 use mathlib.Core.Path.{_≡_, refl, sym, ap, _∙_}
 use mathlib.Core.Bool.{Bool, true, false, not, cond, _&&_, _||_, true≢false, false≢true}
 use mathlib.Core.List.{List, [], _∷_, _++_}
-use Prim.Native.Nat.{ℕ, zero, suc, _+_, _<_, _≤_}
+use Prim.Native.Nat.{ℕ, zero, suc, _+_, _<_}
 use native.Mathlib.Nat.{not-suc-le-zero, le-of-suc-le-suc, add-zero}
 use native.Mathlib.Omega.{arith}
 use borrow.Author.Tests.{eqb-true, eqb-false, eq-eqb, ne-eqb, not-false}
 use lib.Dec.{eqb}
-use Rattle.paper_lower.specs.Lists.{upd, someBelow, some, every, many, add, keep, each, placeFrom, place, firstOf, Every}
+use Rattle.paper_lower.specs.Lists.{upd, someBelow, some, every, add, keep, each, placeFrom, place, firstOf, Every}
 
 -- ---- Booleans
 pub or-none : (a b : Bool) → a || b ≡ false → (a ≡ false) × (b ≡ false)
@@ -68,6 +68,11 @@ pub below-none : (n : ℕ) (f : ℕ → Bool) → ((k : ℕ) → k < n → f k �
 unfolding someBelow
 below-none zero f h = refl
 below-none (suc n) f h = rw (h n (omega arith)) (below-none n f (λ k l. h k (omega arith)))
+
+infixr 40 _⨾_
+-- the law of one row, and those of the rows behind it
+abbrev pub _⨾_ : {A B : Type 0} → A → B → A × B
+a ⨾ b = (a, b)
 
 -- ---- for every one of a list
 pub every-map {ℓ} : {A : Type ℓ} {P Q : A → Type 0} (xs : List A) → ((x : A) → P x → Q x) → Every P xs → Every Q xs

@@ -4,11 +4,11 @@ use mathlib.Core.Bool.{Bool, true, not, cond, _&&_, _||_}
 use mathlib.Core.List.{List, [], _∷_}
 use lib.Dec.{eqb, ltb, leb}
 use Rattle.paper_lower.specs.Sets.{Set, empty, has, plus, union, size, overlap, meets, within, collect}
-use Rattle.paper_lower.specs.Lists.{upd, someBelow, Maybe, holds, there, is, some, many, add}
-use Rattle.paper_lower.specs.Lists.Maybe.{none, just}
+use Rattle.paper_lower.specs.Lists.{upd, someBelow, holds, there, is, some, many, add}
+use Rattle.paper_lower.specs.Lists.Maybe.{just}
 use Rattle.paper_lower.specs.Checks.{Check, UNKNOWN, TAKEN, RULE, STATIC, FULL}
 use Rattle.paper_lower.specs.Kinds.{Kind, on}
-use Rattle.paper_lower.specs.Tables.{People, Permission, Permissions, Tasks, Limit, Block, Pair, Rules, Policy, withPeople, withPermissions, withTasks, withRules, withAssigned, withHolders, withStatics, withDynamics, withTaskSets, withBlocks, withBindings, withBefores}
+use Rattle.paper_lower.specs.Tables.{Permission, Tasks, Limit, Block, Pair, Policy, withPeople, withPermissions, withTasks, withRules, withAssigned, withHolders, withStatics, withDynamics, withTaskSets, withBlocks, withBindings, withBefores}
 
 -- ---- Questions to the tables.
 

@@ -1,7 +1,7 @@
 -- 01's cases marked P, one table and one statement; its first row is 01's listing. A row is a policy with what its load gives, and
 -- requests with the reply that each is given.
 use Prim.Native.Nat.{ℕ, _+_, _^_}
-use mathlib.Core.Bool.{Bool, true}
+use mathlib.Core.Bool.{true}
 use mathlib.Core.Path.{_≡_, refl}
 use mathlib.Core.List.{List, [], _∷_, _++_}
 use Rattle.paper_lower.specs.Lists.{every}

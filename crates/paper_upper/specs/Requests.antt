@@ -4,15 +4,15 @@ use mathlib.Core.Bool.{Bool, not, cond, _&&_, _||_}
 use mathlib.Core.List.{List, [], _∷_, _++_}
 use lib.Dec.{eqb, leb}
 use Rattle.paper_lower.specs.Sets.{has, meets}
-use Rattle.paper_lower.specs.Lists.{upd, someBelow, Maybe, holds, there, is, some, many, keep, each}
+use Rattle.paper_lower.specs.Lists.{upd, someBelow, holds, there, is, some, many, keep, each}
 use Rattle.paper_lower.specs.Lists.Maybe.{none, just}
 use Rattle.paper_lower.specs.Checks.{Check, UNKNOWN, TAKEN, IN-USE, NO-ROLE, NOT-YOURS, DENIED, FULL}
 use Rattle.paper_lower.specs.Kinds.{Kind, on}
-use Rattle.paper_lower.specs.Tables.{Permissions, Lower, withPolicy, withSessions}
+use Rattle.paper_lower.specs.Tables.{Permissions, withPolicy, withSessions}
 use Rattle.paper_lower.specs.Policy.{hasTask, isFor}
 use Rattle.paper_lower.specs.Roles.{deleteChecks, deleteNext}
 use Rattle.paper_lower.specs.Sessions.{destroyChecks, destroyNext}
-use Rattle.paper_upper.specs.Orders.{Standing, isHeld, isHeldBy, Entry, entry, Engine, withLower, withOrders, withEntries, inOrder, ofTask, heldBy}
+use Rattle.paper_upper.specs.Orders.{isHeld, isHeldBy, Entry, entry, Engine, withLower, withOrders, withEntries, inOrder, ofTask, heldBy}
 use Rattle.paper_upper.specs.Orders.Standing.{held, done}
 use Rattle.paper_upper.specs.Rules.{ruleChecks}
 

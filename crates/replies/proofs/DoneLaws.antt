@@ -6,7 +6,7 @@ use mathlib.Core.Path.{_≡_, refl, sym, _∙_}
 use lib.Dec.{eqb}
 use borrow.Author.Tests.{not-true, not-false}
 use Rattle.paper_lower.specs.Checks.{Check, first, granted}
-use Rattle.paper_lower.proofs.CheckLaws.{Passed, Numbered, passed, first-passed, first-stops}
+use Rattle.paper_lower.proofs.CheckLaws.{Numbered, passed, first-passed, first-stops}
 use Rattle.replies.specs.Replies.{numberOf}
 use Rattle.replies.specs.Done.{Done}
 use Rattle.replies.specs.declared.Reply.{Reply}

@@ -1,12 +1,10 @@
 -- One turn of a loop that searches or gathers: what is left to do, before the turn and after it.
-use Prim.Native.Nat.{ℕ, zero, suc, _+_, _-_, _≤_, _<_}
-use mathlib.Core.Bool.{Bool, true, false, cond, _||_}
-use mathlib.Core.List.{List, [], _∷_}
-use mathlib.Core.Path.{_≡_, refl, sym, ap, _∙_}
+use Prim.Native.Nat.{ℕ, suc, _+_, _-_, _≤_, _<_}
+use mathlib.Core.Bool.{Bool, true, false, cond}
+use mathlib.Core.Path.{_≡_}
 use native.Mathlib.Numerals.{add-one}
 use native.Mathlib.Omega.{arith}
 use borrow.Author.Tests.{eq-eqb, ne-eqb}
-use lib.Dec.{eqb}
 use Rattle.paper_lower.specs.Sets.{Set, plus, union, collect, unionBelow}
 use Rattle.paper_lower.specs.Lists.{someBelow, some, placeFrom, firstOf}
 use Rattle.paper_lower.proofs.ListLaws.{some-below}

@@ -15,7 +15,7 @@ use Rattle.paper_lower.specs.Kinds.{chosen}
 use Rattle.paper_lower.specs.Load.{load, recordsOf}
 use Rattle.paper_lower.specs.Roles.{roleKinds}
 use Rattle.paper_lower.specs.Sessions.{sessionKinds, lowerKinds}
-use Rattle.paper_lower.proofs.ListLaws.{both, upd-same, upd-other, every-map}
+use Rattle.paper_lower.proofs.ListLaws.{both, upd-same, upd-other, every-map, _⨾_}
 use Rattle.sets.proofs.Bits.{same-or-other}
 use Rattle.paper_upper.specs.Orders.{Standing, isHeld, isHeldBy, Entry, Orders, noOrders, inOrder, ofTask, heldBy}
 use Rattle.paper_upper.specs.Orders.Standing.{held, done}
@@ -23,7 +23,7 @@ use Rattle.paper_upper.specs.Requests.{openChecks, openNext, endChecks, endNext
 use Rattle.paper_upper.specs.Engine.{raised, requestKinds, engineOf}
 use Rattle.theorems.specs.InUse.{Tally, tally, noTally, counting, count, inUse}
 use Rattle.theorems.specs.Theorems.{tablesAfter, saidAfter}
-use Rattle.theorems.proofs.Rows.{_⨾_, Rows, run-follows}
+use Rattle.theorems.proofs.Rows.{Rows, run-follows}
 use Rattle.theorems.proofs.EntryLaws.{opening, ending, claiming, releasing, finishing, turned-same}
 use Rattle.theorems.proofs.CountLaws.{count-imp, count-same, count-keep, count-each, many-each, count-split, count-none, count-some}
 use Rattle.theorems.proofs.Ledger.{heldTask}

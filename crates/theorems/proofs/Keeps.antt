@@ -17,7 +17,7 @@ use Rattle.paper_lower.specs.Policy.{userChecks, userNext, assignChecks, assign
 use Rattle.paper_lower.specs.Load.{load, recordsOf}
 use Rattle.paper_lower.specs.Roles.{deleteChecks, deleteNext, takeBackChecks, takeBackNext, withdrawNext, roleKinds}
 use Rattle.paper_lower.specs.Sessions.{createChecks, activateChecks, deactivateChecks, sessionKinds, lowerKinds, lowerOf}
-use Rattle.paper_lower.proofs.ListLaws.{or-none, every-left, every-right}
+use Rattle.paper_lower.proofs.ListLaws.{or-none, every-left, every-right, _⨾_}
 use Rattle.paper_lower.proofs.CheckLaws.{Passed}
 use Rattle.paper_upper.specs.Orders.{Engine}
 use Rattle.paper_upper.specs.Rules.{ruleChecks}
@@ -25,7 +25,7 @@ use Rattle.paper_upper.specs.Requests.{openChecks, openNext, endNext, unknown, 
 use Rattle.paper_upper.specs.Engine.{raised, requestKinds, engineOf}
 use Rattle.theorems.specs.WellMade.{WellMade}
 use Rattle.theorems.specs.Theorems.{tablesAfter, AfterEvery}
-use Rattle.theorems.proofs.Rows.{_⨾_, Rows, run-keeps}
+use Rattle.theorems.proofs.Rows.{Rows, run-keeps}
 use Rattle.theorems.proofs.Made.{Made, made}
 use Rattle.theorems.proofs.WellMade.{a-within, load-well-made}
 use Rattle.theorems.proofs.Sound.{Sound, sound-start, sound-open, sound-end, sound-claim, sound-release, sound-finish}

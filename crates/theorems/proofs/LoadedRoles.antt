@@ -13,10 +13,10 @@ use Rattle.paper_lower.specs.Forms.{policyForms, formOf, above, outOfRange}
 use Rattle.paper_lower.specs.Tables.{Limit, Policy, noPolicy, noSessions}
 use Rattle.paper_lower.specs.Policy.{breaks, userNext, roleNext, permissionNext, assignChecks, assignNext, giveNext, taskNext, openToNext, carriesNext, staticChecks, staticNext, dynamicNext, taskSetNext, blockNext, banNext, mostNext, bindNext, beforeNext, policyKinds}
 use Rattle.paper_lower.specs.Load.{load, recordsOf}
-use Rattle.paper_lower.proofs.ListLaws.{or-none, not-both, upd-same, upd-other, none-below, every-added}
+use Rattle.paper_lower.proofs.ListLaws.{or-none, not-both, upd-same, upd-other, none-below, every-added, _⨾_}
 use Rattle.sets.proofs.Bits.{same-or-other}
 use Rattle.sets.proofs.SetLaws.{overlap-empty}
-use Rattle.theorems.proofs.Rows.{_⨾_, Rows}
+use Rattle.theorems.proofs.Rows.{Rows}
 use Rattle.theorems.proofs.Loads.{load-keeps, load-accepted}
 use Rattle.theorems.proofs.WellMade.{a-within}
 use Rattle.theorems.proofs.Roles.{Within, within-none, not-broken, Limited, none-active}

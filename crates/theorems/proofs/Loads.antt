@@ -15,7 +15,8 @@ use Rattle.paper_lower.specs.Policy.{userChecks, roleChecks, permissionChecks, 
 use Rattle.paper_lower.specs.Load.{Loaded, accepted, refused, policyAnswer, loadFrom, load, recordsFrom, recordsOf}
 use Rattle.paper_lower.proofs.CheckLaws.{Passed}
 use Rattle.paper_lower.proofs.KindLaws.{AllNumbered, reply-passed}
-use Rattle.theorems.proofs.Rows.{_⨾_, Rows, of-rows}
+use Rattle.paper_lower.proofs.ListLaws.{_⨾_}
+use Rattle.theorems.proofs.Rows.{Rows, of-rows}
 
 numbered : AllNumbered policyKinds
 unfolding policyKinds userChecks roleChecks permissionChecks assignChecks giveChecks taskChecks openToChecks carriesChecks staticChecks dynamicChecks taskSetChecks blockChecks banChecks mostChecks bindChecks beforeChecks

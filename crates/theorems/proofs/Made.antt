@@ -15,10 +15,10 @@ use Rattle.paper_lower.specs.Kinds.{chosen}
 use Rattle.paper_lower.specs.Tables.{Tasks, Limit, Block, Pair, Rules, Policy, noPolicy}
 use Rattle.paper_lower.specs.Policy.{userNext, roleNext, permissionNext, assignNext, giveNext, taskChecks, taskNext, openToNext, carriesNext, staticNext, dynamicNext, taskSetNext, blockNext, banNext, mostChecks, mostNext, bindNext, beforeNext, policyKinds}
 use Rattle.paper_lower.specs.Load.{load, recordsOf}
-use Rattle.paper_lower.proofs.ListLaws.{every-each, place-none, none-place}
+use Rattle.paper_lower.proofs.ListLaws.{every-each, place-none, none-place, _⨾_}
 use Rattle.paper_lower.proofs.CheckLaws.{Passed}
 use Rattle.theorems.specs.OverEntries.{ofKind}
-use Rattle.theorems.proofs.Rows.{_⨾_, Rows}
+use Rattle.theorems.proofs.Rows.{Rows}
 use Rattle.theorems.proofs.Loads.{step, filled, Fits, Accepted, fits-rows, load-accepted}
 
 abbrev pub aLimit : Record → Limit

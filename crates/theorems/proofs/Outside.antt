@@ -9,13 +9,13 @@ use Rattle.paper_lower.specs.Policy.{userNext, roleNext, permissionNext, assign
 use Rattle.paper_lower.specs.Load.{load, recordsOf}
 use Rattle.paper_lower.specs.Roles.{deleteNext, takeBackNext, withdrawNext, roleKinds}
 use Rattle.paper_lower.specs.Sessions.{createNext, destroyNext, activateNext, deactivateNext, sessionKinds, lowerKinds, lowerOf}
-use Rattle.paper_lower.proofs.ListLaws.{every-map, every-all}
+use Rattle.paper_lower.proofs.ListLaws.{every-map, every-all, _⨾_}
 use Rattle.paper_upper.specs.Orders.{Engine}
 use Rattle.paper_upper.specs.Requests.{openNext, endNext, claimNext, releaseNext, doneNext, turned, upperKinds}
 use Rattle.paper_upper.specs.Engine.{raised, requestKinds, engineOf}
 use Rattle.theorems.specs.Outside.{Told, nothing, telling, hear, hearAll, outside}
 use Rattle.theorems.specs.Theorems.{shown, ToldIsTrue}
-use Rattle.theorems.proofs.Rows.{_⨾_, run-follows}
+use Rattle.theorems.proofs.Rows.{run-follows}
 use Rattle.theorems.proofs.Loads.{step, filled, Accepted, fits-rows, load-accepted}
 
 -- ---- requests

@@ -14,16 +14,12 @@ use Rattle.paper_lower.specs.Roles.{deleteChecks, takeBackChecks, withdrawCheck
 use Rattle.paper_lower.specs.Sessions.{createChecks, destroyChecks, activateChecks, deactivateChecks, checkChecks, sessionKinds, lowerKinds}
 use Rattle.paper_lower.proofs.CheckLaws.{Passed}
 use Rattle.paper_lower.proofs.KindLaws.{AllNumbered, of-chosen, reply-passed}
+use Rattle.paper_lower.proofs.ListLaws.{_⨾_}
 use Rattle.paper_upper.specs.Orders.{Engine}
 use Rattle.paper_upper.specs.Rules.{ruleChecks}
 use Rattle.paper_upper.specs.Requests.{deleteAbove, destroyAbove, openChecks, endChecks, claimChecks, holdChecks, taskCheckChecks, upperKinds}
 use Rattle.paper_upper.specs.Engine.{raised, requestKinds, request}
 use Rattle.theorems.specs.Outside.{followed}
-
--- a row, and the rest
-infixr 40 _⨾_
-abbrev pub _⨾_ : {A B : Type 0} → A → B → A × B
-x ⨾ y = (x, y)
 
 -- ---- one record
 module _ {T : Type 0} (fs : List Form) where

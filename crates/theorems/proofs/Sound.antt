@@ -12,13 +12,12 @@ use Rattle.paper_lower.specs.Lists.Maybe.{none, just}
 use Rattle.paper_lower.specs.Records.{Record}
 use Rattle.paper_lower.specs.Tables.{Tasks, Rules}
 use Rattle.paper_lower.specs.Policy.{hasTask}
-use Rattle.paper_lower.proofs.ListLaws.{every-all}
+use Rattle.paper_lower.proofs.ListLaws.{every-all, _⨾_}
 use Rattle.paper_lower.proofs.CheckLaws.{Passed}
 use Rattle.paper_upper.specs.Orders.{Orders, noOrders, inOrder, heldBy, tasksWhere, tasksBy}
 use Rattle.paper_upper.specs.Rules.{ruleChecks}
 use Rattle.theorems.specs.OverEntries.{ofKind, TaskSets, Blocks, LoneWorkers, Bindings, CountLimits, Prerequisites, Rule, claimRules}
 use Rattle.theorems.specs.WellMade.{WellMade, Ledger}
-use Rattle.theorems.proofs.Rows.{_⨾_}
 use Rattle.theorems.proofs.EntryLaws.{opening, ending, claiming, releasing, finishing}
 use Rattle.theorems.proofs.Made.{Made}
 use Rattle.theorems.proofs.Meets.{Meet, meet-passed}

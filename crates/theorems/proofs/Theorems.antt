@@ -15,11 +15,12 @@ use Rattle.paper_lower.specs.Roles.{activeOf, deleteNext, takeBackNext, withdra
 use Rattle.paper_lower.specs.Sessions.{sessionKinds, lowerKinds}
 use Rattle.paper_upper.specs.Requests.{openNext, endNext, claimNext, releaseNext, doneNext, upperKinds}
 use Rattle.paper_upper.specs.Engine.{raised, requestKinds, request}
+use Rattle.paper_lower.proofs.ListLaws.{_⨾_}
 use Rattle.theorems.specs.Outside.{Told}
 use Rattle.theorems.specs.OverEntries.{ofKind}
 use Rattle.theorems.specs.InUse.{inUse}
 use Rattle.theorems.specs.Theorems.{tablesAfter, saidAfter, OrdersKeepTheRules, ClerksKeepTheLimits, FirstRuleBroken, EntriesInUse, RulesAreWellMade, LedgerIsSound, SameRules, RequestsChangeNoRule}
-use Rattle.theorems.proofs.Rows.{_⨾_, Rows, numbered, answer-rows}
+use Rattle.theorems.proofs.Rows.{Rows, numbered, answer-rows}
 use Rattle.theorems.proofs.Made.{aLimit, of-each}
 use Rattle.theorems.proofs.Sound.{kept}
 use Rattle.theorems.proofs.Keeps.{kept-after}

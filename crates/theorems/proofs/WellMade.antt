@@ -15,12 +15,12 @@ use Rattle.paper_lower.specs.Forms.{policyForms, formOf, above, outOfRange}
 use Rattle.paper_lower.specs.Tables.{Tasks, Limit, Block, Pair, Rules, noPolicy, withStatics, withDynamics, withTaskSets, withBlocks, withBindings, withBefores}
 use Rattle.paper_lower.specs.Policy.{tasksOf, oneTemplate, together, illMade, userNext, roleNext, permissionNext, assignNext, giveNext, taskChecks, taskNext, openToNext, carriesNext, staticChecks, staticNext, dynamicChecks, dynamicNext, taskSetChecks, taskSetNext, partitioned, blockChecks, blockNext, banNext, mostNext, bindChecks, bindNext, beforeChecks, beforeNext, policyKinds}
 use Rattle.paper_lower.specs.Load.{load, recordsOf}
-use Rattle.paper_lower.proofs.ListLaws.{or-none, both, upd-other, every-map, every-added}
+use Rattle.paper_lower.proofs.ListLaws.{or-none, both, upd-other, every-map, every-added, _⨾_}
 use Rattle.sets.proofs.Bits.{same-or-other}
 use Rattle.sets.proofs.SetLaws.{Part, part-trans, part-left, part-right, within-part, has-part, collect-above, collect-below, none-common, meets-none}
 use Rattle.theorems.specs.OverEntries.{EveryTwo}
 use Rattle.theorems.specs.WellMade.{Limits, AllOf, Linked, WellCut, WellMade}
-use Rattle.theorems.proofs.Rows.{_⨾_, Rows}
+use Rattle.theorems.proofs.Rows.{Rows}
 use Rattle.theorems.proofs.Loads.{load-keeps, load-accepted}
 
 -- ---- what is there

@@ -1,4 +1,3 @@
--- Written from Proof.tmpl by 'prove expand': edit that file.
 -- Buffers of another length are ROOM; else the orders are emptied and the lower part is loaded.
 use borrow.Author.Needs.{needs}
 use Rattle.engine.specs.Buffers.{buffers}

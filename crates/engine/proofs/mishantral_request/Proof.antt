@@ -1,4 +1,3 @@
--- Written from Proof.tmpl by 'prove expand': edit that file.
 -- The request's reply as its number.
 use borrow.Author.Needs.{needs}
 use Rattle.engine.proofs.Ways.{request-exported}

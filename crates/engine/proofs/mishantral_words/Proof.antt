@@ -1,4 +1,3 @@
--- Written from Proof.tmpl by 'prove expand': edit that file.
 -- By cases of the group.
 use borrow.Author.Tests.{eq-eqb, ne-eqb}
 use Rattle.engine.proofs.mishantral_words.Statement.{statement}

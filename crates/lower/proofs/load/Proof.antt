@@ -1,4 +1,3 @@
--- Written from Proof.tmpl by 'prove expand': edit that file.
 -- Buffers of another length are ROOM; else the sessions are emptied and the policy is loaded.
 use borrow.Author.Needs.{needs}
 use Rattle.lower.proofs.Ways.{lengths, no-load, loaded}

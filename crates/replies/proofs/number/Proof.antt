@@ -1,5 +1,4 @@
 -- Each arm's reply has the number that the arm gives.
--- Written from Proof.tmpl by 'prove expand': edit that file.
 use mathlib.Core.Path.{sym, ap}
 use borrow.Author.Needs.{needs}
 use Rattle.replies.specs.Replies.{numberOf}
