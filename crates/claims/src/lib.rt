@@ -232,7 +232,8 @@ pub fn delete(p: &mut [u64], s: &[u64], o: &[u64], a: u64) -> Reply
     if !accepted(r) {
         return r;
     }
-    roles::delete(p, s, a)
+    roles::remove(p, a);
+    r
 }
 
 // ---- 41: destroy subject a, which holds no task.
@@ -259,5 +260,6 @@ pub fn destroy(s: &mut [u64], o: &[u64], a: u64) -> Reply
     if !accepted(r) {
         return r;
     }
-    subjects::destroy(s, a)
+    sessions::destroy(s, a as usize);
+    r
 }

@@ -272,12 +272,16 @@ pub fn holds_any(o: &[u64], a: u64) -> bool
     any_entry(o, HOLDER, 8192 * a)
 }
 
+// Most entries are other users': the instance is looked at only where the user is this one.
 fn is_in_open(o: &[u64], w: u64, u: u64) -> bool
     requires { ⌜ length (now o) ≡ ordersWords ⌝ }
     ensures { λ r. ⌜ r ≡ inOpenOrder (ordersOf (now (o .entry))) u (entryOf w) ⌝ }
 {
+    if w / 1048576 % 1024 != u {
+        return false;
+    }
     let x = opened(o, w % 64);
-    (w / 1048576 % 1024 == u) & x.open
+    x.open
 }
 
 // Whether the user has an entry in an open instance.

@@ -29,6 +29,14 @@ pub fn delete_reply(p: &[u64], s: &[u64], a: u64) -> Reply
     Reply::Granted
 }
 
+// The user is no longer one, and has no roles: for those who have judged.
+pub fn remove(p: &mut [u64], a: u64)
+    requires { ⌜ (length (now p) ≡ policyWords) × (a < 1024) ⌝ }
+    ensures { λ _. ⌜ policyOf (now (p .exit)) ≡ deleteNext (policyOf (now (p .entry))) a ⌝ }
+{
+    policy::set_user(p, a as usize, 0);
+}
+
 pub fn delete(p: &mut [u64], s: &[u64], a: u64) -> Reply
     requires { ⌜ (length (now p) ≡ policyWords) × ((length (now s) ≡ sessionsWords) × (a < 1024)) ⌝ }
     ensures { λ r. ⌜ Done policyOf (first (deleteChecks (lowerTables (now (p .entry)) (now (s .entry))) a)) (deleteNext (policyOf (now (p .entry))) a) (now (p .entry)) (now (p .exit)) r ⌝ }
@@ -37,7 +45,7 @@ pub fn delete(p: &mut [u64], s: &[u64], a: u64) -> Reply
     if !accepted(r) {
         return r;
     }
-    policy::set_user(p, a as usize, 0);
+    remove(p, a);
     r
 }
 

@@ -8,6 +8,7 @@ ghost use Rattle.paper_lower.specs.Lists.Maybe.{just};
 ghost use Rattle.paper_upper.specs.Rules.{missing, before, crowded, separation, own, strange, block, alone, tied, bound};
 ghost use Rattle.policy.specs.Layout.{policyWords, limitAt, blockAt, pairAt};
 ghost use Rattle.policy.specs.Reading.{policyOf};
+ghost use Rattle.rules.specs.Blocks.{apart};
 ghost use Rattle.rules.specs.Judging.{Judging};
 use replies::Reply;
 use sets::Set;
@@ -103,15 +104,40 @@ fn is_strange(p: &[u64], k: usize, q: u64, d: Set, t: u64) -> bool
     (policy::block_partitioning(p, k) == q) & !tasks.has(t) & tasks.meets(d)
 }
 
+// Whether block k, of whatever partitioning, has not t in it, and d meets it.
+fn is_apart(p: &[u64], k: usize, d: Set, t: u64) -> bool
+    requires { ⌜ (length (now p) ≡ policyWords) × ((k < 64) × (t < 64)) ⌝ }
+    ensures { λ r. ⌜ r ≡ apart (d .bits) t (blockAt (now (p .entry)) k) ⌝ }
+{
+    let tasks = policy::block_tasks(p, k);
+    !tasks.has(t) & tasks.meets(d)
+}
+
+// One walk that ends most searches before they begin: without such a block no partitioning has a strange one.
+fn has_apart(p: &[u64], d: Set, t: u64) -> bool
+    requires { ⌜ (length (now p) ≡ policyWords) × (t < 64) ⌝ }
+    ensures { λ r. ⌜ r ≡ some (apart (d .bits) t) (policyOf (now (p .entry)) .rules .blocks) ⌝ }
+{
+    let count = policy::block_count(p);
+    let mut k = 0;
+    while k < count {
+        if is_apart(p, k, d, t) {
+            return true;
+        }
+        k += 1;
+    }
+    false
+}
+
 // The search ends at the first strange block of the first partitioning that has one beside a block of t.
 pub fn block(p: &[u64], d: Set, t: u64) -> u64
     requires { ⌜ (length (now p) ≡ policyWords) × (t < 64) ⌝ }
     ensures { λ r. ⌜ r ≡ block (policyOf (now (p .entry)) .rules) (d .bits) t ⌝ }
 {
-    let count = policy::block_count(p);
-    if count == 0 {
+    if !has_apart(p, d, t) {
         return 0;
     }
+    let count = policy::block_count(p);
     let mut q: u64 = 0;
     let place = 'search: loop {
         if q == 16 {

@@ -1,14 +1,9 @@
--- Judged, and then the lower part's act.
+-- Judged, and then the subject destroyed.
+use mathlib.Core.Path.{ap}
 use borrow.Author.Needs.{needs}
-use Rattle.paper_lower.specs.Sessions.{destroyChecks}
-use Rattle.paper_upper.specs.Requests.{destroyAbove}
-use Rattle.replies.proofs.DoneLaws.{refused}
+use Rattle.replies.proofs.DoneLaws.{refused, done}
 use Rattle.policy.specs.Reading.{policyOf}
-use Rattle.sessions.specs.Reading.{sessionsOf}
-use Rattle.sessions.specs.Lower.{lowerTables}
 use Rattle.ledger.specs.Reading.{ordersOf}
-use Rattle.claims.specs.Tables.{engineTables}
-use Rattle.claims.proofs.Layers.{lifted}
 use Rattle.claims.proofs.destroy.Statement.{statement}
 use Rattle.claims.proofs.destroy.Tie as tie
 
@@ -33,10 +28,8 @@ same-length-2 c = search needs
 returns-2 : tie.Need-returns-2
 returns-2 c =
     let z = c .before .before .before .before .before .before .before .before .before .before .args in
-    λ p. lifted sessionsOf (λ x. record { lower = record { policy = policyOf p; sessions = x }; orders = ordersOf (z .o .now) })
-    (destroyChecks (lowerTables p (z .s .now)) (z .a)) (destroyAbove (engineTables p (z .s .now) (z .o .now)) (z .a))
-    (c .before .before .before .before .before .before .destroy-reply .result) (c .before .before .before .before .before .before .destroy-reply .ensures p) (c .before .before .before .before .before .accepted .ensures) (c .before .before .before .before .if1 .left)
-    (c .before .before .destroy .ensures (policyOf p))
+    λ p. done (c .before .before .before .before .before .before .destroy-reply .ensures p) (c .before .before .before .before .before .accepted .ensures) (c .before .before .before .before .if1 .left)
+    (ap (λ x. record { lower = record { policy = policyOf p; sessions = x }; orders = ordersOf (z .o .now) }) (c .before .before .destroy .ensures))
 
 pub destroy-spec : {M : Type 1} → statement M
 destroy-spec =

@@ -1,6 +1,5 @@
 -- Judged, and then the user's row emptied.
 use borrow.Author.Needs.{needs}
-use Rattle.paper_lower.specs.Roles.{deleteNext}
 use Rattle.replies.proofs.DoneLaws.{refused, done}
 use Rattle.roles.proofs.delete.Statement.{statement}
 use Rattle.roles.proofs.delete.Tie as tie
@@ -17,15 +16,14 @@ same-length c = search needs
 returns : tie.Need-returns
 returns c = refused (c .before .before .delete-reply .ensures) (c .before .accepted .ensures) (c .if1 .taken)
 
-set-user-requires : tie.Need-set-user-requires
-set-user-requires c κs = search needs
+remove-requires : tie.Need-remove-requires
+remove-requires c κs = search needs
 
 same-length-2 : tie.Need-same-length-2
 same-length-2 c = search needs
 
 returns-2 : tie.Need-returns-2
-unfolding deleteNext
-returns-2 c = done (c .before .before .before .before .before .before .delete-reply .ensures) (c .before .before .before .before .before .accepted .ensures) (c .before .before .before .before .if1 .left) (c .before .before .set-user .ensures)
+returns-2 c = done (c .before .before .before .before .before .before .delete-reply .ensures) (c .before .before .before .before .before .accepted .ensures) (c .before .before .before .before .if1 .left) (c .before .before .remove .ensures)
 
 pub delete-spec : {M : Type 1} → statement M
 delete-spec =
@@ -35,6 +33,6 @@ delete-spec =
     accepted-requires
     same-length
     returns
-    set-user-requires
+    remove-requires
     same-length-2
     returns-2)

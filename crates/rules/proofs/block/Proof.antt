@@ -11,7 +11,7 @@ use Rattle.policy.specs.Reading.{policyOf}
 use Rattle.policy.proofs.RuleLaws.{blocks-are}
 use Rattle.replies.specs.Cells.{rowsFrom}
 use Rattle.replies.proofs.SearchLaws.{place-here, place-later, place-end, first-here, first-later, first-end}
-use Rattle.rules.proofs.Places.{place-start, in-own, in-none, no-blocks}
+use Rattle.rules.proofs.Places.{place-start, in-own, in-none, none-apart}
 use Rattle.rules.proofs.block.Statement.{statement}
 use Rattle.rules.proofs.block.Tie as tie
 
@@ -27,11 +27,14 @@ Inv-search p d t count q₀ q = (q ≤ 16) × (block (policyOf p .rules) (d .bit
 abbrev μ-search : tie.MeasureT-search
 μ-search p d t count q₀ q = 16 - q
 
-block-count-requires : tie.Need-block-count-requires Inv-loop μ-loop Inv-search μ-search
-block-count-requires c κs = search needs
+has-apart-requires : tie.Need-has-apart-requires Inv-loop μ-loop Inv-search μ-search
+has-apart-requires c κs = search needs
 
 returns : tie.Need-returns Inv-loop μ-loop Inv-search μ-search
-returns c = no-blocks _ _ _ _ (blocks-are _) (c .before .block-count .ensures .0) (c .if1 .taken)
+returns c = none-apart _ _ _ (c .before .has-apart .ensures) (c .if1 .taken)
+
+block-count-requires : tie.Need-block-count-requires Inv-loop μ-loop Inv-search μ-search
+block-count-requires c κs = search needs
 
 search-holds : tie.Need-search-holds Inv-loop μ-loop Inv-search μ-search
 unfolding block
@@ -41,7 +44,7 @@ has-own-requires : tie.Need-has-own-requires Inv-loop μ-loop Inv-search μ-sear
 has-own-requires c κs = search needs
 
 loop-holds : tie.Need-loop-holds Inv-loop μ-loop Inv-search μ-search
-loop-holds c = (search needs, place-start _ _ (blocks-are _) (c .before .before .before .before .before .block-count .ensures .0))
+loop-holds c = (search needs, place-start _ _ (blocks-are _) (c .before .before .before .before .block-count .ensures .0))
 
 is-strange-requires : tie.Need-is-strange-requires Inv-loop μ-loop Inv-search μ-search
 is-strange-requires c κs = search needs
@@ -81,7 +84,7 @@ returns-2 c = sym (c .before .search .inv .1 ∙ first-end _ _ _ (search needs))
 
 returns-3 : tie.Need-returns-3 Inv-loop μ-loop Inv-search μ-search
 returns-3 c =
-    let z = c .before .before .before .before .before .before .before .before .before .before .before .args in
+    let z = c .before .before .before .before .before .before .before .before .before .before .before .before .args in
     let here : blockIn (policyOf (z .p .now) .rules) (z .d .bits) (z .t) (c .before .before .before .before .before .before .before .search .q) ≡ c .before .before .before .loop .k + 1 =
     in-own _ _ _ _ (c .before .before .before .before .before .has-own .ensures) (c .before .before .before .before .if3 .taken)
     ∙ c .before .before .before .loop .inv .1
@@ -96,8 +99,9 @@ block-spec =
     μ-loop
     Inv-search
     μ-search
-    block-count-requires
+    has-apart-requires
     returns
+    block-count-requires
     search-holds
     has-own-requires
     loop-holds

@@ -1,0 +1,59 @@
+-- A search over the kept rows.
+use mathlib.Core.Path.{_≡_, sym, _∙_}
+use Prim.Native.Nat.{_-_, _≤_}
+use borrow.Author.Needs.{needs}
+use Rattle.paper_lower.specs.Lists.{some}
+use Rattle.policy.specs.Layout.{blockAt}
+use Rattle.policy.specs.Reading.{policyOf}
+use Rattle.policy.proofs.RuleLaws.{blocks-are}
+use Rattle.replies.specs.Cells.{rowsFrom}
+use Rattle.replies.proofs.SearchLaws.{some-here, some-later, some-end}
+use Rattle.rules.specs.Blocks.{apart}
+use Rattle.rules.proofs.Places.{some-start}
+use Rattle.rules.proofs.has_apart.Statement.{statement}
+use Rattle.rules.proofs.has_apart.Tie as tie
+
+abbrev Inv-loop : tie.InvT-loop
+Inv-loop p d t count k₀ k = (k ≤ count) × (some (apart (d .bits) t) (policyOf p .rules .blocks) ≡ some (apart (d .bits) t) (rowsFrom (blockAt p) k (count - k)))
+
+abbrev μ-loop : tie.MeasureT-loop
+μ-loop p d t count k₀ k = count - k
+
+block-count-requires : tie.Need-block-count-requires Inv-loop μ-loop
+block-count-requires c κs = search needs
+
+loop-holds : tie.Need-loop-holds Inv-loop μ-loop
+loop-holds c = (search needs, some-start _ _ (blocks-are _) (c .block-count .ensures .0))
+
+is-apart-requires : tie.Need-is-apart-requires Inv-loop μ-loop
+is-apart-requires c κs = search needs
+
+returns : tie.Need-returns Inv-loop μ-loop
+returns c = sym (c .before .before .before .loop .inv .1 ∙ some-here _ _ _ _ (search needs) (sym (c .before .is-apart .ensures) ∙ c .if1 .taken))
+
+add-k : tie.Need-add-k Inv-loop μ-loop
+add-k c = search needs
+
+loop-less : tie.Need-loop-less Inv-loop μ-loop
+loop-less c = search needs
+
+loop-again : tie.Need-loop-again Inv-loop μ-loop
+loop-again c = (search needs, c .before .before .before .loop .inv .1 ∙ some-later _ _ _ _ (search needs) (sym (c .before .is-apart .ensures) ∙ c .if1 .left))
+
+returns-2 : tie.Need-returns-2 Inv-loop μ-loop
+returns-2 c = sym (c .before .loop .inv .1 ∙ some-end _ _ _ _ (search needs))
+
+pub has-apart-spec : {M : Type 1} → statement M
+has-apart-spec =
+    tie.close
+    (tie.spec
+    Inv-loop
+    μ-loop
+    block-count-requires
+    loop-holds
+    is-apart-requires
+    returns
+    add-k
+    loop-less
+    loop-again
+    returns-2)
