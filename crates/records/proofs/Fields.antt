@@ -1,18 +1,18 @@
 -- A field against its form: the paper's two tests as tests on bits and limits.
 use mathlib.Core.Path.{_≡_, refl, sym, _∙_, ap}
 use mathlib.Core.Bool.{Bool, true, false, not, _||_, true≢false}
-use mathlib.Core.Logic.{⊎-elim}
-use Prim.Native.Nat.{ℕ, zero, suc, _+_, _-_, _*_, _/_, _^_, _<_, _≤_}
-use native.Mathlib.Nat.{mod-eq-of-lt, eq-zero-or-pos}
+use Prim.Native.Nat.{ℕ, zero, suc, _+_, _-_, _*_, _^_, _<_, _≤_}
+use native.Mathlib.Nat.{mod-eq-of-lt}
 use native.Mathlib.Omega.{arith}
-use lib.Bits.{bitAnd, and-mask, and-high, and-block, and-zero-r}
-use lib.Dec.{eqb, ltb, leb}
-use borrow.Author.Tests.{eq-eqb, ne-eqb, lt-leb, le-leb, le-ltb, eqb-true, not-false}
+use lib.Bits.{bitAnd, and-mask, and-block, and-zero-r}
+use lib.Dec.{T, eqb, ltb, leb}
+use borrow.Author.Tests.{ne-eqb, lt-leb, lt-ltb, le-ltb, eqb-true, leb-true, leb-false, not-false}
 use Rattle.paper_lower.specs.Records.{Record}
 use Rattle.paper_lower.specs.Forms.{Field, Form, misplaced, above}
 use Rattle.paper_lower.specs.Forms.Field.{·, to, any, pair}
 use Rattle.records.specs.Reading.{ofPaper, Small}
 use Rattle.records.specs.Table.{barred, barredFirst, limit}
+use Rattle.records.proofs.Lines.{free}
 
 -- of the five fields none has it
 pub none-of : (n a b c m : Bool) → n || a || b || c || m ≡ false → (n ≡ false) × (a ≡ false) × (b ≡ false) × (c ≡ false) × (m ≡ false)
@@ -27,32 +27,29 @@ none-of true a b c m e = absurd (true≢false e)
 none-set : (x : ℕ) → false ≡ not (eqb (bitAnd x 0) 0)
 none-set x = sym (ap (λ y. not (eqb y 0)) (and-zero-r x))
 
--- a field of w bits; what pair asks depends on the width
-field-bits : (w : ℕ) {x : ℕ} → x < 2 ^ w → (f : Field) → leb (2 ^ 32) x ≡ not (eqb (bitAnd x (barred (2 ^ w - 1) pair)) 0)
-    → misplaced f x ≡ not (eqb (bitAnd x (barred (2 ^ w - 1) f)) 0)
+-- a field of w bits, too few for a pair
+field-bits : (w : ℕ) {x : ℕ} → x < 2 ^ w → x < 2 ^ 32 → (f : Field) → misplaced f x ≡ not (eqb (bitAnd x (barred (2 ^ w - 1) f)) 0)
 unfolding misplaced
-field-bits w {x} h · p = sym (ap (λ y. not (eqb y 0)) (and-mask x w ∙ mod-eq-of-lt h))
-field-bits w {x} h (to k) p = none-set x
-field-bits w {x} h any p = none-set x
-field-bits w h pair p = p
+field-bits w {x} h k · = sym (ap (λ y. not (eqb y 0)) (and-mask x w ∙ mod-eq-of-lt h))
+field-bits w {x} h k (to n) = none-set x
+field-bits w {x} h k any = none-set x
+field-bits w {x} h k pair = lt-leb (2 ^ 32) x k ∙ none-set x
 
-pub byte-bits : {x : ℕ} → x < 256 → (f : Field) → misplaced f x ≡ not (eqb (bitAnd x (barred 255 f)) 0)
-byte-bits {x} h f = field-bits 8 h f (lt-leb (2 ^ 32) x (omega arith) ∙ none-set x)
-
-pub two-byte-bits : {x : ℕ} → x < 65536 → (f : Field) → misplaced f x ≡ not (eqb (bitAnd x (barred 65535 f)) 0)
-two-byte-bits {x} h f = field-bits 16 h f (lt-leb (2 ^ 32) x (omega arith) ∙ none-set x)
-
-high-bits : {x : ℕ} → x < 2 ^ 64 → leb (2 ^ 32) x ≡ not (eqb (bitAnd x (2 ^ 64 - 2 ^ 32)) 0)
-high-bits {x} h =
-    let below : x / 2 ^ 32 < 2 ^ 32 = omega arith in
-    rw (and-high x 32 32, mod-eq-of-lt below)
-    (⊎-elim
-    (λ (l : x / 2 ^ 32 ≡ 0). lt-leb (2 ^ 32) x (omega arith) ∙ sym (ap not (eq-eqb (x / 2 ^ 32 * 2 ^ 32) 0 (omega arith))))
-    (λ (l : 0 < x / 2 ^ 32). le-leb (2 ^ 32) x (omega arith) ∙ sym (ap not (ne-eqb (x / 2 ^ 32 * 2 ^ 32) 0 (omega arith))))
-    (eq-zero-or-pos (x / 2 ^ 32)))
-
-pub eight-byte-bits : {x : ℕ} → x < 2 ^ 64 → (f : Field) → misplaced f x ≡ not (eqb (bitAnd x (barred (2 ^ 64 - 1) f)) 0)
-eight-byte-bits h f = field-bits 64 h f (high-bits h)
+-- m, which has no limit for RANGE
+pub m-limit : {x : ℕ} → x < 2 ^ 64 → (f : Field) → T (free f) → misplaced f x ≡ ltb (limit (2 ^ 64 - 1) f) x
+unfolding misplaced
+m-limit {x} h · t = positive x
+  where
+    positive : (x : ℕ) → not (eqb x 0) ≡ ltb 0 x
+    positive zero = refl
+    positive (suc x) = simp (ne-eqb (suc x) 0 (omega arith), lt-ltb 0 (suc x) (omega arith))
+m-limit h (to k) t = absurd t
+m-limit {x} h any t = sym (le-ltb (2 ^ 64 - 1) x (omega arith))
+m-limit {x} h pair t = by (leb (2 ^ 32) x) refl
+  where
+    by : (b : Bool) → leb (2 ^ 32) x ≡ b → b ≡ ltb (2 ^ 32 - 1) x
+    by true e = sym (lt-ltb (2 ^ 32 - 1) x (omega (arith, leb-true (2 ^ 32) x e)))
+    by false e = sym (le-ltb (2 ^ 32 - 1) x (omega (arith, leb-false (2 ^ 32) x e)))
 
 -- the first word and the bits that must be zero in it, each by its fields
 barred-le : (ones : ℕ) (f : Field) → barred ones f ≤ ones
@@ -94,10 +91,10 @@ pub first-bits : (p : Record) → Small (ofPaper p) → (f : Form) {x : ℕ}
     ≡ not (eqb (bitAnd x (barredFirst f)) 0)
 first-bits p h f e =
     rw (
-      byte-bits (h .n) (f .n),
-      two-byte-bits (h .a) (f .a),
-      two-byte-bits (h .b) (f .b),
-      two-byte-bits (h .c) (f .c),
+      field-bits 8 (h .n) (omega (arith, h .n)) (f .n),
+      field-bits 16 (h .a) (omega (arith, h .a)) (f .a),
+      field-bits 16 (h .b) (omega (arith, h .b)) (f .b),
+      field-bits 16 (h .c) (omega (arith, h .c)) (f .c),
       some-set _ _ _ _,
       e,
       by-fields (p .kind) (p .n) (p .a) (p .b) (p .c) (barred 255 (f .n)) (barred 65535 (f .a)) (barred 65535 (f .b)) (barred 65535 (f .c))

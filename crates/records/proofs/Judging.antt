@@ -22,7 +22,7 @@ use Rattle.records.specs.declared.Call.{Call}
 use Rattle.records.specs.declared.Judged.the-variants.{Shape, Range, Fine}
 use Rattle.records.proofs.Span.{holds-true}
 use Rattle.records.proofs.Lines.{free, stands, taken, line-is, n-free, m-free, table-stands}
-use Rattle.records.proofs.Fields.{none-of, first-bits, eight-byte-bits, above-limit}
+use Rattle.records.proofs.Fields.{none-of, first-bits, m-limit, above-limit}
 
 -- ---- A record against its line.
 
@@ -41,7 +41,7 @@ module _ (call : Call) (p : PaperRecord) (h : Small (ofPaper p)) (l : Form) wher
   shape-is e (just f) t =
       rw (
         first-bits p h f e,
-        eight-byte-bits (h .m) (f .m),
+        m-limit (h .m) (f .m) (m-free call f l t),
         taken call f l t,
         ap (λ k. k .1) (line-is call f l t),
         ap (λ k. k .2) (line-is call f l t),

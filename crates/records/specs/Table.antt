@@ -19,14 +19,14 @@ bitOf Load = 1
 bitOf Lower = 2
 bitOf Request = 4
 
--- the bits of a field, `ones` if all of them, that must be zero
+-- the bits of a field of the first word, `ones` if all of them, that must be zero
 abbrev pub barred : ℕ → Field → ℕ
 barred ones · = ones
 barred ones (to k) = 0
 barred ones any = 0
-barred ones pair = ones - (2 ^ 32 - 1)
+barred ones pair = 0
 
--- those of the first word
+-- those of all its fields
 abbrev pub barredFirst : PaperForm → ℕ
 barredFirst f =
     2 ^ 8 * barred 255 (f .n) + 2 ^ 16 * barred 65535 (f .a) + 2 ^ 32 * barred 65535 (f .b) + 2 ^ 48 * barred 65535 (f .c)
@@ -45,7 +45,7 @@ lineOf calls (just f) =
     record {
       0 = calls;
       1 = barredFirst f;
-      2 = barred (2 ^ 64 - 1) (f .m);
+      2 = limit (2 ^ 64 - 1) (f .m);
       3 = limit 65535 (f .a);
       4 = limit 65535 (f .b);
       5 = limit 65535 (f .c);
@@ -60,9 +60,9 @@ callsOf k =
 unfoldable pub tableAt : ℕ → Form
 tableAt k = lineOf (callsOf k) (formOf (policyForms ++ requestForms) k)
 
--- a record against a line: the call does not take the kind, or a bit that must be zero is not
+-- a record against a line: the call does not take the kind, a bit that must be zero is not, or m is above its limit
 abbrev pub misshapes : ℕ → Form → ℕ → ℕ → Bool
-misshapes call f word m = (eqb (bitAnd (f .0) call) 0 || not (eqb (bitAnd word (f .1)) 0)) || not (eqb (bitAnd m (f .2)) 0)
+misshapes call f word m = (eqb (bitAnd (f .0) call) 0 || not (eqb (bitAnd word (f .1)) 0)) || ltb (f .2) m
 
 -- and a number above its limit
 abbrev pub outranges : Form → Record → Bool

@@ -83,7 +83,7 @@ const LOWER: u64 = 6;
 
 const UPPER: u64 = 4;
 
-// The fields that must be zero, by their bits in the record's first word and in m.
+// The fields that must be zero, by their bits in the record's first word.
 const NO_N: u64 = 0xff00;
 
 const NO_A: u64 = 0xffff0000;
@@ -91,10 +91,6 @@ const NO_A: u64 = 0xffff0000;
 const NO_B: u64 = 0xffff00000000;
 
 const NO_C: u64 = 0xffff000000000000;
-
-const NO_M: u64 = 0xffffffffffffffff;
-
-const ABOVE_PAIR: u64 = 0xffffffff00000000;
 
 // The limits.
 const USER: u64 = 1023;
@@ -115,7 +111,14 @@ const ORDER: u64 = 63;
 
 const ANY: u64 = 65535;
 
-// The form of a kind: the calls that take it; the bits of the first word, and of m, that must be zero; the limits of a, b and c.
+// And those of m, where it must be zero, may be a pair, or any set.
+const NO_M: u64 = 0;
+
+const PAIR: u64 = 0xffffffff;
+
+const ANY_M: u64 = 0xffffffffffffffff;
+
+// The form of a kind: the calls that take it; the bits of the first word that must be zero; the limits of m, a, b and c.
 struct Form(u64, u64, u64, u64, u64, u64);
 
 // The one decision over kinds. Each kind has a line of its own, as neighbours in one line would be tested as a range before the others.
@@ -132,10 +135,10 @@ fn form_of(kind: u64) -> Form
         6 => Form(LOAD, NO_N | NO_C, NO_M, TASK, TEMPLATE, 0),
         7 => Form(LOAD, NO_N | NO_C, NO_M, TASK, ROLE, 0),
         8 => Form(LOAD, NO_N | NO_C, NO_M, TASK, PERMISSION, 0),
-        9 => Form(LOAD, NO_A | NO_B | NO_C, 0, 0, 0, 0),
-        10 => Form(LOAD, NO_A | NO_B | NO_C, 0, 0, 0, 0),
-        11 => Form(LOAD, NO_A | NO_B | NO_C, 0, 0, 0, 0),
-        12 => Form(LOAD, NO_N | NO_B | NO_C, 0, PARTITIONING, 0, 0),
+        9 => Form(LOAD, NO_A | NO_B | NO_C, ANY_M, 0, 0, 0),
+        10 => Form(LOAD, NO_A | NO_B | NO_C, ANY_M, 0, 0, 0),
+        11 => Form(LOAD, NO_A | NO_B | NO_C, ANY_M, 0, 0, 0),
+        12 => Form(LOAD, NO_N | NO_B | NO_C, ANY_M, PARTITIONING, 0, 0),
         13 => Form(LOAD, NO_N | NO_B | NO_C, NO_M, TEMPLATE, 0, 0),
         14 => Form(LOAD, NO_B | NO_C, NO_M, TASK, 0, 0),
         15 => Form(LOAD, NO_N | NO_C, NO_M, TASK, TASK, 0),
@@ -146,7 +149,7 @@ fn form_of(kind: u64) -> Form
         35 => Form(LOWER, NO_N | NO_C, NO_M, USER, ROLE, 0),
         36 => Form(LOWER, NO_N | NO_C, NO_M, ROLE, PERMISSION, 0),
         37 => Form(LOWER, NO_N | NO_C, NO_M, ROLE, PERMISSION, 0),
-        40 => Form(LOWER, NO_N | NO_C, 0, SUBJECT, USER, 0),
+        40 => Form(LOWER, NO_N | NO_C, ANY_M, SUBJECT, USER, 0),
         41 => Form(LOWER, NO_N | NO_B | NO_C, NO_M, SUBJECT, 0, 0),
         42 => Form(LOWER, NO_N | NO_C, NO_M, SUBJECT, ROLE, 0),
         43 => Form(LOWER, NO_N | NO_C, NO_M, SUBJECT, ROLE, 0),
@@ -156,7 +159,7 @@ fn form_of(kind: u64) -> Form
         51 => Form(UPPER, NO_N, NO_M, SUBJECT, ORDER, TASK),
         52 => Form(UPPER, NO_N, NO_M, SUBJECT, ORDER, TASK),
         56 => Form(LOWER, NO_N, NO_M, SUBJECT, ANY, ANY),
-        57 => Form(UPPER, NO_N, ABOVE_PAIR, SUBJECT, ORDER, TASK),
+        57 => Form(UPPER, NO_N, PAIR, SUBJECT, ORDER, TASK),
         _ => Form(0, 0, 0, 0, 0, 0),
     }
 }
@@ -171,11 +174,12 @@ fn bit(call: Call) -> u64
     }
 }
 
-// SHAPE, of sixteen bytes. The fields that must be zero are tested together, by the word that holds them.
+// SHAPE, of sixteen bytes. The fields that must be zero are tested together, by the word that holds them; m by its limit, so that every line of the
+// table is numbers alone and the compiler reads it as one.
 fn misshapen(call: Call, f: Form, first: u64, m: u64) -> bool
     ensures { λ r. ⌜ r ≡ misshapes (bitOf call) f first m ⌝ }
 {
-    (f.0 & bit(call) == 0) | (first & f.1 != 0) | (m & f.2 != 0)
+    (f.0 & bit(call) == 0) | (first & f.1 != 0) | (f.2 < m)
 }
 
 // RANGE, of a record that is not misshapen.
