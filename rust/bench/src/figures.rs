@@ -30,6 +30,7 @@ impl Effort {
 }
 
 /// One workload's best times, in nanoseconds a record.
+#[derive(Clone)]
 pub struct Line {
     pub name: String,
     pub records: usize,
@@ -62,6 +63,7 @@ pub struct Figures {
     pub state: Option<[usize; 3]>,
 }
 
+/// What differs in the workloads that grow.
 const ENTRIES: [usize; 3] = [10, 100, 1000];
 const PERMISSIONS: [u16; 3] = [16, 64, 256];
 
@@ -130,25 +132,44 @@ fn state() -> Option<[usize; 3]> {
     None
 }
 
+/// Every workload, in the order of the page.
+fn workloads() -> Vec<Workload> {
+    let mut all = vec![day(), load()];
+    all.extend(ENTRIES.map(day_among));
+    all.extend(PERMISSIONS.map(checks));
+    all.extend(kinds());
+    all
+}
+
+/// The lines of the workloads whose names have these words in them.
+pub fn only(words: &str, effort: Effort) -> Result<Vec<Line>, String> {
+    let mut chosen = workloads();
+    chosen.retain(|workload| workload.name.contains(words));
+    if chosen.is_empty() {
+        return Err(format!("no stream has {words:?} in its name"));
+    }
+    race_all(&chosen, effort)
+}
+
 impl Figures {
     pub fn measure(effort: Effort) -> Result<Figures, String> {
-        let mut workloads = vec![checks(256), day(), load()];
-        let main = workloads.len();
-        workloads.extend(ENTRIES.map(day_among));
-        workloads.extend(PERMISSIONS.map(checks));
-        workloads.extend(kinds());
+        let workloads = workloads();
         let mut lines = race_all(&workloads, effort)?.into_iter();
         let mut take = |count| lines.by_ref().take(count).collect::<Vec<Line>>();
+        let mut main = take(2);
+        let entries = Growth {
+            counts: ENTRIES.to_vec(),
+            lines: take(ENTRIES.len()),
+        };
+        let permissions = Growth {
+            counts: PERMISSIONS.map(usize::from).to_vec(),
+            lines: take(PERMISSIONS.len()),
+        };
+        main.splice(..0, permissions.lines.last().cloned());
         Ok(Figures {
-            main: take(main),
-            entries: Growth {
-                counts: ENTRIES.to_vec(),
-                lines: take(ENTRIES.len()),
-            },
-            permissions: Growth {
-                counts: PERMISSIONS.map(usize::from).to_vec(),
-                lines: take(PERMISSIONS.len()),
-            },
+            main,
+            entries,
+            permissions,
             kinds: take(workloads.len()),
             stack: stack(&workloads),
             state: state(),

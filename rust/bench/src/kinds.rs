@@ -18,10 +18,7 @@ fn at_desk(name: &str, policy: Policy, more: Vec<Record>, stream: Vec<Record>) -
         name: String::from(name),
         policy: policy.records,
         setup: [clerks(SUBJECTS_LIVE), entries(ENTRIES), more].concat(),
-        timed: Timed::Requests {
-            stream,
-            ledger: true,
-        },
+        timed: Timed::Requests(stream),
     }
 }
 
@@ -119,10 +116,7 @@ fn oldest_first() -> Workload {
             open.chain(held().map(claim)).collect(),
         ]
         .concat(),
-        timed: Timed::Requests {
-            stream: held().flat_map(again).collect(),
-            ledger: true,
-        },
+        timed: Timed::Requests(held().flat_map(again).collect()),
     }
 }
 

@@ -3,6 +3,7 @@
 
 mod figures;
 mod kinds;
+mod numbers;
 mod orders;
 mod plot;
 mod policies;
@@ -11,7 +12,7 @@ mod report;
 mod stack;
 mod workloads;
 
-pub use figures::{Effort, Figures};
+pub use figures::{only, Effort, Figures};
 pub use kinds::kinds;
 pub use race::Race;
 pub use report::{page, plot, table};

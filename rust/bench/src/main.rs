@@ -1,6 +1,6 @@
 //! Times the proved library against the plain engine, and writes docs/BENCH.md and docs/bench.svg.
 
-use bench::{page, plot, table, Effort, Figures};
+use bench::{only, page, plot, table, Effort, Figures};
 use std::path::Path;
 use std::process::ExitCode;
 use std::{fs, io};
@@ -9,26 +9,49 @@ const HELP: &str = "\
 Times the proved library against the plain Rust engine, on the same records in one run, and compares every reply.
 Writes docs/BENCH.md and docs/bench.svg.
 
-  bench [--quick]
+  bench [--quick] [--only WORDS]
 
-  --quick    a few passes, with rough times; prints them and writes nothing
-  --help     this text
+  --quick        a few passes, with rough times; prints them and writes nothing
+  --only WORDS   the streams alone whose names have these words in them; prints them and writes nothing
+  --help         this text
 
 Build it with --release, and with the proved library's archive in its place: tools/bench does both. Without the
 archive --quick runs the plain engines alone.
 
-Exit status: 0 measured; 1 two engines disagree, or a file could not be written; 2 wrong use.
+Exit status: 0 measured; 1 two engines disagree, no stream has the words, or a file could not be written; 2 wrong use.
 ";
 
-fn options(arguments: &[String]) -> Result<Effort, String> {
-    let mut effort = Effort::FULL;
-    for argument in arguments {
+struct Options {
+    effort: Effort,
+    only: Option<String>,
+}
+
+impl Options {
+    fn writes(&self) -> bool {
+        self.effort != Effort::QUICK && self.only.is_none()
+    }
+}
+
+fn options(arguments: &[String]) -> Result<Options, String> {
+    let mut options = Options {
+        effort: Effort::FULL,
+        only: None,
+    };
+    let mut rest = arguments.iter();
+    while let Some(argument) = rest.next() {
         match argument.as_str() {
-            "--quick" => effort = Effort::QUICK,
+            "--quick" => options.effort = Effort::QUICK,
+            "--only" => {
+                let words = rest.next().ok_or("--only takes words of a stream's name")?;
+                options.only = Some(words.clone());
+            }
             other => return Err(format!("no such option: {other:?}")),
         }
     }
-    Ok(effort)
+    if options.writes() {
+        fit_to_write()?;
+    }
+    Ok(options)
 }
 
 fn fit_to_write() -> Result<(), String> {
@@ -66,10 +89,15 @@ fn print(figures: &Figures) {
     }
 }
 
-fn run(effort: Effort) -> Result<(), String> {
+fn run(options: &Options) -> Result<(), String> {
+    let effort = options.effort;
+    if let Some(words) = &options.only {
+        print!("{}", table(&only(words, effort)?));
+        return Ok(());
+    }
     let figures = Figures::measure(effort)?;
     print(&figures);
-    if effort != Effort::QUICK {
+    if options.writes() {
         write(&figures, effort).map_err(|why| format!("docs/ cannot be written: {why}"))?;
         println!("\nwritten: docs/BENCH.md, docs/bench.svg");
     }
@@ -82,18 +110,14 @@ fn main() -> ExitCode {
         print!("{HELP}");
         return ExitCode::SUCCESS;
     }
-    let wanted = options(&arguments).and_then(|effort| match effort {
-        Effort::QUICK => Ok(effort),
-        full => fit_to_write().map(|()| full),
-    });
-    let effort = match wanted {
-        Ok(effort) => effort,
+    let options = match options(&arguments) {
+        Ok(options) => options,
         Err(message) => {
             eprintln!("bench: {message}; --help tells the use");
             return ExitCode::from(2);
         }
     };
-    match run(effort) {
+    match run(&options) {
         Ok(()) => ExitCode::SUCCESS,
         Err(message) => {
             eprintln!("bench: {message}");

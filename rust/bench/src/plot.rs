@@ -1,5 +1,6 @@
 //! Curves of growth as an SVG picture: two panels, both axes logarithmic, every curve named at its end.
 
+use crate::numbers::grouped;
 use std::fmt::Write;
 
 pub struct Curve {
@@ -69,12 +70,8 @@ fn text(out: &mut String, class: &str, x: f64, y: f64, words: &str) {
     .unwrap();
 }
 
-fn with_commas(number: f64) -> String {
-    let digits = format!("{number:.0}");
-    match digits.len() {
-        0..=3 => digits,
-        length => format!("{},{}", &digits[..length - 3], &digits[length - 3..]),
-    }
+fn rounded(number: f64) -> String {
+    grouped(number.round() as usize)
 }
 
 fn grid(out: &mut String, panel: &Panel, x: &Scale, y: &Scale, marks: &[f64]) {
@@ -85,18 +82,12 @@ fn grid(out: &mut String, panel: &Panel, x: &Scale, y: &Scale, marks: &[f64]) {
             r#"<path class="grid" d="M{left:.1} {height:.1}H{right:.1}"/>"#
         )
         .unwrap();
-        text(
-            out,
-            "mark end",
-            left - 8.0,
-            height + 4.0,
-            &with_commas(mark),
-        );
+        text(out, "mark end", left - 8.0, height + 4.0, &rounded(mark));
     }
     for &(count, _) in &panel.curves[0].points {
         let (place, foot) = (x.at(count), y.from);
         writeln!(out, r#"<path class="tick" d="M{place:.1} {foot:.1}v5"/>"#).unwrap();
-        text(out, "mark middle", place, foot + 19.0, &with_commas(count));
+        text(out, "mark middle", place, foot + 19.0, &rounded(count));
     }
     text(
         out,
@@ -136,7 +127,7 @@ fn names(out: &mut String, panel: &Panel, x: &Scale, y: &Scale) {
     for curve in curves {
         let height = f64::max(y.at(last(curve)) + 4.0, lowest_free);
         lowest_free = height + LINE;
-        let words = format!("{} {}", curve.name, with_commas(last(curve)));
+        let words = format!("{} {}", curve.name, rounded(last(curve)));
         let class = format!(r#"name" fill="{}"#, curve.colour);
         text(out, &class, x.to + 9.0, height, &words);
     }

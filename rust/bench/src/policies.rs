@@ -38,6 +38,24 @@ impl Policy {
     fn add_all(&mut self, records: impl IntoIterator<Item = Record>) {
         records.into_iter().for_each(|record| self.add(record));
     }
+
+    /// Adds records of so many numbers below `end`, at random, where they are accepted: the numbers.
+    fn some(
+        &mut self,
+        random: &mut Random,
+        count: u16,
+        end: u16,
+        record: impl Fn(u16) -> Record,
+    ) -> Vec<u16> {
+        let mut taken = Vec::new();
+        while taken.len() < usize::from(count) {
+            let number = random.below(usize::from(end)) as u16;
+            if self.offer(record(number)) {
+                taken.push(number);
+            }
+        }
+        taken
+    }
 }
 
 /// The user that a subject acts for: scattered, and mostly above 255.
@@ -73,62 +91,43 @@ fn scattered_pairs(random: &mut Random, count: u16) -> Vec<(u16, u16)> {
     in_order
 }
 
-/// As many different numbers below `end`.
-fn some_of(random: &mut Random, count: u16, end: u16) -> Vec<u16> {
-    let mut chosen = BTreeSet::new();
-    while chosen.len() < usize::from(count) {
-        chosen.insert(random.below(usize::from(end)) as u16);
-    }
-    chosen.into_iter().collect()
-}
-
 impl People {
-    /// All users and roles; so many permissions, of which each role has a sixteenth; users with a subject have
-    /// three roles, the others one.
+    /// All users and roles, and eight static sets; so many permissions, of which each role has a sixteenth;
+    /// users with a subject have three roles, the others one.
     pub fn new(random: &mut Random, permissions: u16) -> People {
         let mut policy = Policy::default();
         policy.add_all((0..USERS).map(Record::user));
         policy.add_all((0..ROLES).map(Record::role));
+        policy.add_all((0..8).map(|i| Record::static_set(1, pair_of(i, i + 32))));
         let pairs = scattered_pairs(random, permissions);
         let numbered = (0..).zip(&pairs);
         policy.add_all(numbered.map(|(p, &(o, b))| Record::permission(p, o, b)));
-        let mut people = People {
+        let give = |role| {
+            let record = |permission| Record::role_has_permission(role, permission);
+            policy.some(random, permissions / 16, permissions, record)
+        };
+        let permissions_of = (0..ROLES).map(give).collect();
+        let subjects_user = |user| user % 8 == user_of(0);
+        let mut roles_of = Vec::new();
+        for user in 0..USERS {
+            let count = if subjects_user(user) { 3 } else { 1 };
+            let record = |role| Record::user_has_role(user, role);
+            let assigned = policy.some(random, count, ROLES, record);
+            if subjects_user(user) {
+                roles_of.push(assigned);
+            }
+        }
+        People {
             policy,
             pairs,
-            permissions_of: Vec::new(),
-            roles_of: Vec::new(),
-        };
-        people.give_permissions(random, permissions / 16, permissions);
-        people.assign_roles(random);
-        people
-    }
-
-    fn give_permissions(&mut self, random: &mut Random, each: u16, of: u16) {
-        for role in 0..ROLES {
-            let given = some_of(random, each, of);
-            let records = given.iter().map(|&p| Record::role_has_permission(role, p));
-            self.policy.add_all(records);
-            self.permissions_of.push(given);
-        }
-    }
-
-    fn assign_roles(&mut self, random: &mut Random) {
-        for user in 0..USERS {
-            let acts = user % 8 == user_of(0);
-            let assigned = some_of(random, if acts { 3 } else { 1 }, ROLES);
-            let records = assigned.iter().map(|&r| Record::user_has_role(user, r));
-            self.policy.add_all(records);
-            if acts {
-                self.roles_of.push(assigned);
-            }
+            permissions_of,
+            roles_of,
         }
     }
 }
 
-/// A policy of 4,096 records of every kind: what `People` has, tasks of all templates, rules of all sorts,
-/// and assignments, which the static sets judge, for the rest.
-pub fn largest(random: &mut Random) -> Vec<Record> {
-    let mut policy = People::new(random, PERMISSIONS).policy;
+/// Tasks of all templates, and rules of all sorts over them.
+fn add_tasks(policy: &mut Policy) {
     policy.add_all((0..64).map(|task| Record::task(task, task / 4)));
     policy.add_all((0..64).map(|task| Record::task_open_to(task, task)));
     policy.add_all((0..64).map(|task| Record::task_carries(task, 3 * task)));
@@ -141,15 +140,13 @@ pub fn largest(random: &mut Random) -> Vec<Record> {
     policy.add_all((0..64).map(|task| Record::at_most(task, 2)));
     policy.add_all((0..16).map(|t| Record::bound(4 * t, 4 * t + 2)));
     policy.add_all((0..16).map(|t| Record::before(4 * t, 4 * t + 3)));
-    let dynamic = |i| Record::dynamic_set(1, pair_of(i, i + 32));
-    policy.add_all((0..8).map(dynamic));
-    for role in (0..ROLES - 1).cycle() {
-        let set = pair_of(role, random.below(usize::from(ROLES)) as u16);
-        if policy.records.iter().filter(|r| r.kind() == 9).count() == 8 {
-            break;
-        }
-        policy.offer(Record::static_set(1, set));
-    }
+    policy.add_all((0..8).map(|i| Record::dynamic_set(1, pair_of(i, i + 32))));
+}
+
+/// A policy of 4,096 records of every kind: what `People` has, tasks and rules, and assignments for the rest.
+pub fn largest(random: &mut Random) -> Vec<Record> {
+    let mut policy = People::new(random, PERMISSIONS).policy;
+    add_tasks(&mut policy);
     while policy.records.len() < LARGEST {
         let user = random.below(usize::from(USERS)) as u16;
         let role = random.below(usize::from(ROLES)) as u16;

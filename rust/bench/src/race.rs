@@ -29,9 +29,10 @@ pub struct Race<'a> {
     runners: Vec<Runner>,
 }
 
-fn engines(ledger: bool) -> Vec<Box<dyn Desk>> {
+/// The plain engine has two ledgers, which make a difference where entries are looked at.
+fn engines(both_ledgers: bool) -> Vec<Box<dyn Desk>> {
     let mut desks = vec![plain(LISTS, Engine::<OrderLists>::new())];
-    if ledger {
+    if both_ledgers {
         desks.push(plain(FLAT, Engine::<FlatLedger>::new()));
     }
     desks.extend(proved());
@@ -41,14 +42,13 @@ fn engines(ledger: bool) -> Vec<Box<dyn Desk>> {
 impl<'a> Race<'a> {
     /// Engines with the workload's policy and what is asked before. The plain engine says which replies are expected.
     pub fn new(workload: &'a Workload) -> Result<Race<'a>, String> {
-        let ledger = matches!(workload.timed, Timed::Requests { ledger: true, .. });
         let mut race = Race {
             workload,
             policy: workload.policy_bytes(),
             expected: Vec::new(),
             runners: Vec::new(),
         };
-        for mut desk in engines(ledger) {
+        for mut desk in engines(workload.asks_entries()) {
             race.prepare(&mut *desk)?;
             let best = Duration::MAX;
             race.runners.push(Runner { desk, best });
@@ -78,7 +78,7 @@ impl<'a> Race<'a> {
     }
 
     fn expect(&mut self) {
-        if let Timed::Requests { stream, .. } = &self.workload.timed {
+        if let Timed::Requests(stream) = &self.workload.timed {
             self.expected = vec![0; stream.len()];
             let first = &mut self.runners[0];
             first.desk.answer_all(stream, &mut self.expected);
@@ -97,7 +97,7 @@ impl<'a> Race<'a> {
             for runner in &mut self.runners {
                 let taken = match &self.workload.timed {
                     Timed::Load => time_load(&mut *runner.desk, &self.policy)?,
-                    Timed::Requests { stream, .. } => {
+                    Timed::Requests(stream) => {
                         let begin = Instant::now();
                         runner.desk.answer_all(stream, &mut replies);
                         begin.elapsed()
@@ -144,5 +144,20 @@ impl Workload {
                 expected[at]
             )),
         }
+    }
+}
+
+#[cfg(test)]
+mod tests {
+    use crate::workloads::checks;
+
+    #[test]
+    fn a_reply_that_differs_is_an_error() {
+        let workload = checks(16);
+        assert_eq!(workload.compare("proved", &[0, 13], &[0, 13]), Ok(()));
+        let difference = workload.compare("proved", &[0, 0], &[0, 13]).unwrap_err();
+        let said =
+            "checks, 16 permissions: proved answers record 2 with 0, the plain engine with 13";
+        assert_eq!(difference, said);
     }
 }

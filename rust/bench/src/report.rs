@@ -1,6 +1,7 @@
 //! What a run found, as the text of docs/BENCH.md and the picture docs/bench.svg.
 
 use crate::figures::{Effort, Figures, Growth, Line};
+use crate::numbers::grouped;
 use crate::plot::{picture, Curve, Panel};
 use std::fmt::Write;
 use std::process::Command;
@@ -32,7 +33,7 @@ fn time(nanoseconds: Option<f64>) -> String {
     match nanoseconds {
         None => String::from("-"),
         Some(ns) if ns < 100.0 => format!("{ns:.1}"),
-        Some(ns) => format!("{ns:.0}"),
+        Some(ns) => grouped(ns.round() as usize),
     }
 }
 
@@ -44,20 +45,30 @@ fn ratio(line: &Line, other: Option<f64>) -> String {
     }
 }
 
+/// A table of the lines; the flat ledger's columns are there where it took part.
 pub fn table(lines: &[Line]) -> String {
-    let mut out = String::from(
-        "| ns a record | granted | proved | plain | proved / plain | plain, flat ledger | proved / flat |\n|---|---:|---:|---:|---:|---:|---:|\n",
-    );
+    let mut out = String::from("| ns a record | granted | proved | plain | proved / plain |");
+    let mut rule = String::from("|---|---:|---:|---:|---:|");
+    let any_flat = lines.iter().any(|line| line.flat.is_some());
+    if any_flat {
+        out.push_str(" plain, flat ledger | proved / flat |");
+        rule.push_str("---:|---:|");
+    }
+    writeln!(out, "\n{rule}").unwrap();
     for line in lines {
-        let granted = 100 * line.granted / line.records;
-        let (proved, lists, flat) = (time(line.proved), time(Some(line.lists)), time(line.flat));
-        let (to_lists, to_flat) = (ratio(line, Some(line.lists)), ratio(line, line.flat));
-        let name = &line.name;
-        writeln!(
+        let (name, granted) = (&line.name, 100 * line.granted / line.records);
+        let (proved, lists) = (time(line.proved), time(Some(line.lists)));
+        let to_lists = ratio(line, Some(line.lists));
+        write!(
             out,
-            "| {name} | {granted} % | {proved} | {lists} | {to_lists} | {flat} | {to_flat} |"
+            "| {name} | {granted} % | {proved} | {lists} | {to_lists} |"
         )
         .unwrap();
+        if any_flat {
+            let (flat, to_flat) = (time(line.flat), ratio(line, line.flat));
+            write!(out, " {flat} | {to_flat} |").unwrap();
+        }
+        out.push('\n');
     }
     out
 }
@@ -111,13 +122,14 @@ fn space(figures: &Figures) -> String {
     let (Some(stack), Some([policy, sessions, orders])) = (&figures.stack, figures.state) else {
         return String::from("Not measured: the proved library was not there.\n");
     };
-    let all = policy + sessions + orders;
-    let (load, requests) = (stack.load, stack.requests);
+    let all = grouped(policy + sessions + orders);
+    let [policy, sessions, orders] = [policy, sessions, orders].map(grouped);
+    let [load, requests] = [stack.load, stack.requests].map(grouped);
     format!(
         "| bytes | measured | aim |
 |---|---:|---:|
-| stack, the deepest of all loads | {load} | 2048 |
-| stack, the deepest of all requests | {requests} | 2048 |
+| stack, the deepest of all loads | {load} | 2,048 |
+| stack, the deepest of all requests | {requests} | 2,048 |
 | state lent by the caller: policy {policy}, sessions {sessions}, orders {orders} | {all} | |
 
 The stack below the calls is painted, and the deepest byte sought that they painted over; so the frames of the wrapper
@@ -126,15 +138,9 @@ The stack below the calls is painted, and the deepest byte sought that they pain
     )
 }
 
-/// docs/BENCH.md
-pub fn page(figures: &Figures, effort: Effort) -> String {
+/// What is measured on what, and how.
+fn head(effort: Effort) -> String {
     let (processor, repeats) = (processor(), effort.repeats());
-    let (main, kinds, space) = (table(&figures.main), table(&figures.kinds), space(figures));
-    let (entries, permissions) = (
-        table(&figures.entries.lines),
-        table(&figures.permissions.lines),
-    );
-    let history = HISTORY.trim();
     format!(
         "<!-- Written whole by tools/bench. Its words stand in rust/bench/src/report.rs, \"What changed\" in rust/bench/history.md. -->
 
@@ -143,18 +149,38 @@ pub fn page(figures: &Figures, effort: Effort) -> String {
 The proved library, called through `mishantral::Engine`, against the plain Rust engine of `rust/plain`, which was written for speed and
 apart from it. Both ran in one process, natively, on one core of a {processor}.
 
-Times are nanoseconds a record: the best of {repeats} passes over a stream of some thousand records, the engines in turn in every pass.
-Every reply of every pass is compared, and a difference ends the run. Compare times within a run: machines differ, and the ratio says more.
-\"plain\" keeps a list of entries for each order; \"plain, flat ledger\" keeps one list of all entries, as the proved engine does.
+Times are nanoseconds a record: the best of {repeats} passes over a stream of some thousand records, the engines in turn in every pass, all
+in cache. Every reply of every pass is compared, and a difference ends the run. Compare times within a run: machines differ, and the ratio
+says more. \"plain\" keeps a list of entries for each order; \"plain, flat ledger\" keeps one list of all entries, as the proved engine does.
+"
+    )
+}
 
-## Checks, orders, loads
-
-{main}
-- Checks: 1,024 users, 64 roles, 128 subjects with one to three active roles; {unknown}.
+const MAIN_NOTES: &str = "\
+- Checks: 1,024 users, 64 roles, 128 subjects with one to three active roles; a tenth of the pairs of operation and object are not declared.
 - Orders: opened, claimed, released, done and ended by teams of eight, on a template of five tasks with a task set, a binding, two
   prerequisites and a limit. Some clerks are careless, so that every one of these rules refuses someone.
 - Load: users, roles, permissions, assignments, tasks and rules of every kind, as many records as the desk program takes.
+";
 
+const AGAIN: &str = "    \
+tools/bench            # builds what is missing, measures for half a minute, writes this page and bench.svg
+    tools/bench --quick    # a few passes, printed only
+";
+
+/// docs/BENCH.md
+pub fn page(figures: &Figures, effort: Effort) -> String {
+    let head = head(effort);
+    let (main, kinds, space) = (table(&figures.main), table(&figures.kinds), space(figures));
+    let entries = table(&figures.entries.lines);
+    let permissions = table(&figures.permissions.lines);
+    let history = HISTORY.trim();
+    format!(
+        "{head}
+## Checks, orders, loads
+
+{main}
+{MAIN_NOTES}
 ## How it grows
 
 ![Nanoseconds a record by entries in use, and by permissions](bench.svg)
@@ -175,9 +201,6 @@ Every reply of every pass is compared, and a difference ends the run. Compare ti
 
 ## Again
 
-    tools/bench            # builds what is missing, measures for about a minute, writes this page and bench.svg
-    tools/bench --quick    # a few passes, printed only
-",
-        unknown = "a tenth of the pairs of operation and object are not declared",
+{AGAIN}"
     )
 }

@@ -1,6 +1,7 @@
 //! All that is timed: a policy, what is asked before, and the stream of records whose answers are timed.
 //! Every stream leaves the tables as it found them, so that it can be repeated.
 
+use crate::numbers::grouped;
 use crate::orders;
 use crate::policies::*;
 use random::Random;
@@ -16,8 +17,8 @@ pub(crate) const WORKED_ON: u16 = 8;
 pub enum Timed {
     /// The load of the policy.
     Load,
-    /// The requests, of which the plain engine's ledger matters or not.
-    Requests { stream: Vec<Record>, ledger: bool },
+    /// Requests.
+    Requests(Vec<Record>),
 }
 
 pub struct Workload {
@@ -33,7 +34,16 @@ impl Workload {
     pub fn length(&self) -> usize {
         match &self.timed {
             Timed::Load => self.policy.len(),
-            Timed::Requests { stream, .. } => stream.len(),
+            Timed::Requests(stream) => stream.len(),
+        }
+    }
+
+    /// Whether a timed request looks at entries.
+    pub fn asks_entries(&self) -> bool {
+        let kinds = [33, 41, 49, 50, 51, 52, 57];
+        match &self.timed {
+            Timed::Load => false,
+            Timed::Requests(stream) => stream.iter().any(|r| kinds.contains(&r.kind())),
         }
     }
 
@@ -45,7 +55,7 @@ impl Workload {
     pub fn requests(&self) -> Vec<Record> {
         match &self.timed {
             Timed::Load => self.setup.clone(),
-            Timed::Requests { stream, .. } => [&self.setup[..], stream].concat(),
+            Timed::Requests(stream) => [&self.setup[..], stream].concat(),
         }
     }
 }
@@ -88,10 +98,7 @@ pub fn checks(permissions: u16) -> Workload {
         name: format!("checks, {permissions} permissions"),
         policy: people.policy.records,
         setup,
-        timed: Timed::Requests {
-            stream,
-            ledger: false,
-        },
+        timed: Timed::Requests(stream),
     }
 }
 
@@ -140,10 +147,7 @@ pub fn day() -> Workload {
         name: String::from("orders, 64 side by side"),
         policy,
         setup,
-        timed: Timed::Requests {
-            stream,
-            ledger: true,
-        },
+        timed: Timed::Requests(stream),
     }
 }
 
@@ -152,12 +156,9 @@ pub fn day_among(count: usize) -> Workload {
     let (policy, setup) = (desk().records, [clerks(SUBJECTS), entries(count)].concat());
     let stream = orders::run(SEED, usize::from(WORKED_ON), LENGTH, &policy, &setup);
     Workload {
-        name: format!("orders, 8 among {count} entries of others"),
+        name: format!("orders, 8 among {} entries of others", grouped(count)),
         policy,
         setup,
-        timed: Timed::Requests {
-            stream,
-            ledger: true,
-        },
+        timed: Timed::Requests(stream),
     }
 }

@@ -19,7 +19,7 @@ fn a_quick_run_prints_every_table() {
     for line in [
         "| checks, 256",
         "| load of 4,096",
-        "| orders, 8 among 1000",
+        "| orders, 8 among 1,000",
         "| 57 task check",
     ] {
         assert!(printed.contains(line), "{line} is not in\n{printed}");
@@ -27,7 +27,18 @@ fn a_quick_run_prints_every_table() {
 }
 
 #[test]
-fn unknown_options_and_unfit_builds_are_refused() {
+fn a_stream_can_be_run_alone() {
+    let run = bench(&["--quick", "--only", "57"]);
+    assert!(run.status.success(), "{}", text(&run.stderr));
+    assert_eq!(text(&run.stdout).lines().count(), 3);
+    let none = bench(&["--quick", "--only", "58"]);
+    assert_eq!(none.status.code(), Some(1));
+    let message = "bench: no stream has \"58\" in its name\n";
+    assert_eq!(text(&none.stderr), message);
+}
+
+#[test]
+fn unknown_options_are_refused() {
     let refused = bench(&["--slow"]);
     assert_eq!(refused.status.code(), Some(2));
     let message = "bench: no such option: \"--slow\"; --help tells the use\n";
