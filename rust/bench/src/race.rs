@@ -95,6 +95,7 @@ impl<'a> Race<'a> {
         let mut replies = vec![0; self.expected.len()];
         for _ in 0..passes {
             for runner in &mut self.runners {
+                replies.fill(u8::MAX);
                 let taken = match &self.workload.timed {
                     Timed::Load => time_load(&mut *runner.desk, &self.policy)?,
                     Timed::Requests(stream) => {
@@ -104,8 +105,8 @@ impl<'a> Race<'a> {
                     }
                 };
                 runner.best = runner.best.min(taken);
-                self.workload
-                    .compare(runner.desk.name(), &replies, &self.expected)?;
+                let name = runner.desk.name();
+                self.workload.compare(name, &replies, &self.expected)?;
             }
         }
         Ok(())

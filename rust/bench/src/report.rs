@@ -147,7 +147,8 @@ fn head(effort: Effort) -> String {
 # How fast it is
 
 The proved library, called through `mishantral::Engine`, against the plain Rust engine of `rust/plain`, which was written for speed and
-apart from it. Both ran in one process, natively, on one core of a {processor}.
+apart from it. Both ran in one process, natively, on one core of a {processor}; the library is compiled at -O3, the
+Rust side in release mode with all crates optimized as one.
 
 Times are nanoseconds a record: the best of {repeats} passes over a stream of some thousand records, the engines in turn in every pass, all
 in cache. Every reply of every pass is compared, and a difference ends the run. Compare times within a run: machines differ, and the ratio

@@ -70,23 +70,25 @@ pub fn load() -> Workload {
     }
 }
 
+fn set_of(roles: &[u16]) -> Set {
+    let with = |set: Set, &role: &u16| set.with(role as u8);
+    roles.iter().fold(Set::EMPTY, with)
+}
+
 /// Access checks, of which some are granted, some denied, and a tenth ask for a pair that is not declared.
 pub fn checks(permissions: u16) -> Workload {
     let mut random = Random::new(SEED);
     let people = People::new(&mut random, permissions);
-    let subjects = || (0..SUBJECTS).zip(&people.roles_of);
-    let active = |roles: &Vec<u16>, s: u16| roles[..1 + usize::from(s % 3)].to_vec();
-    let set = |roles: Vec<u16>| roles.iter().fold(Set::EMPTY, |set, &r| set.with(r as u8));
-    let create = |(s, roles)| Record::create_subject(s, user_of(s), set(active(roles, s)));
-    let setup = subjects().map(create).collect();
+    let active = |s: u16| &people.roles_of[usize::from(s)][..1 + usize::from(s % 3)];
+    let create = |s| Record::create_subject(s, user_of(s), set_of(active(s)));
+    let setup = (0..SUBJECTS).map(create).collect();
     let stream = (0..LENGTH).map(|_| {
         let subject = random.below(usize::from(SUBJECTS)) as u16;
         let (operation, object) = match random.below(10) {
             0 => (random.word() as u16, random.word() as u16),
             1..=4 => random.pick(&people.pairs),
             _ => {
-                let roles = active(&people.roles_of[usize::from(subject)], subject);
-                let role = random.pick(&roles);
+                let role = random.pick(active(subject));
                 let permission = random.pick(&people.permissions_of[usize::from(role)]);
                 people.pairs[usize::from(permission)]
             }
@@ -104,19 +106,13 @@ pub fn checks(permissions: u16) -> Workload {
 
 /// The clerks' subjects below `live`.
 pub(crate) fn clerks(live: u16) -> Vec<Record> {
-    let roles = |s| {
-        if is_guest(s) {
-            [GUEST; 2]
-        } else {
-            [CLERK, CASHIER]
-        }
+    let create = |subject| {
+        let roles: &[u16] = match is_guest(subject) {
+            true => &[GUEST],
+            false => &[CLERK, CASHIER],
+        };
+        Record::create_subject(subject, user_of(subject), set_of(roles))
     };
-    let set = |s| {
-        roles(s)
-            .iter()
-            .fold(Set::EMPTY, |set, &r| set.with(r as u8))
-    };
-    let create = |s| Record::create_subject(s, user_of(s), set(s));
     (0..live).map(create).collect()
 }
 
