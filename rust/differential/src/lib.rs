@@ -18,7 +18,7 @@ mod walk;
 pub use cases::{Case, Step};
 pub use compare::{compare, Failure};
 pub use coverage::Coverage;
-pub use desks::{plain, Answer, Desk, Difference, Panel};
+pub use desks::{plain, proved, Answer, Desk, Difference, Panel};
 #[cfg(mishantral_engine)]
 pub use garbage::garbage;
 pub use slow::Slow;

@@ -1,4 +1,4 @@
-//! SplitMix64: random numbers that repeat from a seed, for tests alone.
+//! SplitMix64: random numbers that repeat from a seed, for tests and the benchmark alone.
 
 #[derive(Clone, Debug)]
 pub struct Random(u64);

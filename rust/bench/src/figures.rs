@@ -1,0 +1,178 @@
+//! All measurements of a run: every workload raced, the stack that calls use, the size of the state.
+
+use crate::race::{Race, FLAT, LISTS, PROVED};
+use crate::workloads::{checks, day, day_among, load, Workload};
+use crate::{kinds, stack};
+use differential::proved;
+
+/// How often all is measured. Noise on a machine comes in stretches, so that each workload has its turn in
+/// every sweep.
+#[derive(Clone, Copy, PartialEq, Eq)]
+pub struct Effort {
+    pub sweeps: usize,
+    /// Passes of each engine in a sweep.
+    pub passes: usize,
+}
+
+impl Effort {
+    pub const FULL: Effort = Effort {
+        sweeps: 40,
+        passes: 10,
+    };
+    pub const QUICK: Effort = Effort {
+        sweeps: 1,
+        passes: 2,
+    };
+
+    pub fn repeats(self) -> usize {
+        self.sweeps * self.passes
+    }
+}
+
+/// One workload's best times, in nanoseconds a record.
+#[derive(Clone)]
+pub struct Line {
+    pub name: String,
+    pub records: usize,
+    /// How many of them are granted.
+    pub granted: usize,
+    pub proved: Option<f64>,
+    pub lists: f64,
+    pub flat: Option<f64>,
+}
+
+/// Workloads that differ in one number.
+pub struct Growth {
+    pub counts: Vec<usize>,
+    pub lines: Vec<Line>,
+}
+
+/// The most stack that calls of the proved library use, in bytes.
+pub struct Stack {
+    pub load: usize,
+    pub requests: usize,
+}
+
+pub struct Figures {
+    pub main: Vec<Line>,
+    pub entries: Growth,
+    pub permissions: Growth,
+    pub kinds: Vec<Line>,
+    pub stack: Option<Stack>,
+    /// The bytes of the three lent buffers.
+    pub state: Option<[usize; 3]>,
+}
+
+/// What differs in the workloads that grow.
+const ENTRIES: [usize; 3] = [10, 100, 1000];
+const PERMISSIONS: [u16; 3] = [16, 64, 256];
+
+fn line(race: &Race) -> Line {
+    let best = race.best();
+    let of = |engine| {
+        best.iter()
+            .find(|b| b.engine == engine)
+            .map(|b| b.nanoseconds)
+    };
+    let refused = race.replies().iter().filter(|&&reply| reply != 0).count();
+    let records = race.workload.length();
+    Line {
+        name: race.workload.name.clone(),
+        records,
+        granted: records - refused,
+        proved: of(PROVED),
+        lists: of(LISTS).expect("the plain engine always takes part"),
+        flat: of(FLAT),
+    }
+}
+
+/// All workloads' lines, in their order. An error where two engines disagree.
+fn race_all(workloads: &[Workload], effort: Effort) -> Result<Vec<Line>, String> {
+    let mut races = workloads
+        .iter()
+        .map(Race::new)
+        .collect::<Result<Vec<Race>, String>>()?;
+    for _ in 0..effort.sweeps {
+        for race in &mut races {
+            race.run(effort.passes)?;
+        }
+    }
+    Ok(races.iter().map(line).collect())
+}
+
+fn stack(workloads: &[Workload]) -> Option<Stack> {
+    let mut desk = proved()?;
+    let mut most = Stack {
+        load: 0,
+        requests: 0,
+    };
+    for workload in workloads {
+        let policy = workload.policy_bytes();
+        let loading = stack::used_by(|| {
+            desk.load(&policy);
+        });
+        let requests = workload.requests();
+        let mut replies = vec![0; requests.len()];
+        let asking = stack::used_by(|| desk.answer_all(&requests, &mut replies));
+        most.load = most.load.max(loading);
+        most.requests = most.requests.max(asking);
+    }
+    Some(most)
+}
+
+#[cfg(mishantral_engine)]
+fn state() -> Option<[usize; 3]> {
+    let state = mishantral::State::zeroed();
+    let buffers = [&state.policy, &state.sessions, &state.orders];
+    Some(buffers.map(|words| std::mem::size_of_val(&words[..])))
+}
+
+#[cfg(not(mishantral_engine))]
+fn state() -> Option<[usize; 3]> {
+    None
+}
+
+/// Every workload, in the order of the page.
+fn workloads() -> Vec<Workload> {
+    let mut all = vec![day(), load()];
+    all.extend(ENTRIES.map(day_among));
+    all.extend(PERMISSIONS.map(checks));
+    all.extend(kinds());
+    all
+}
+
+/// The lines of the workloads whose names have these words in them.
+pub fn only(words: &str, effort: Effort) -> Result<Vec<Line>, String> {
+    let mut chosen = workloads();
+    chosen.retain(|workload| workload.name.contains(words));
+    if chosen.is_empty() {
+        return Err(format!("no stream has {words:?} in its name"));
+    }
+    race_all(&chosen, effort)
+}
+
+impl Figures {
+    pub fn measure(effort: Effort) -> Result<Figures, String> {
+        let workloads = workloads();
+        let mut lines = race_all(&workloads, effort)?.into_iter();
+        let mut take = |count| lines.by_ref().take(count).collect::<Vec<Line>>();
+        let mut main = take(2);
+        let entries = Growth {
+            counts: ENTRIES.to_vec(),
+            lines: take(ENTRIES.len()),
+        };
+        let permissions = Growth {
+            counts: PERMISSIONS.map(usize::from).to_vec(),
+            lines: take(PERMISSIONS.len()),
+        };
+        main.splice(..0, permissions.lines.last().cloned());
+        Ok(Figures {
+            main,
+            entries,
+            permissions,
+            kinds: take(workloads.len()),
+            stack: stack(&workloads),
+            state: state(),
+        })
+    }
+}

@@ -1,0 +1,19 @@
+//! The proved library timed against the plain engine, on the same streams of records, in one run.
+//! Every reply is compared in every pass. Rests on the engines as `differential` lines them up.
+
+mod figures;
+mod kinds;
+mod numbers;
+mod orders;
+mod plot;
+mod policies;
+mod race;
+mod report;
+mod stack;
+mod workloads;
+
+pub use figures::{only, Effort, Figures};
+pub use kinds::kinds;
+pub use race::Race;
+pub use report::{page, plot, table};
+pub use workloads::{checks, day, day_among, load, Workload};

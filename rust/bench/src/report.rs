@@ -1,0 +1,207 @@
+//! What a run found, as the text of docs/BENCH.md and the picture docs/bench.svg.
+
+use crate::figures::{Effort, Figures, Growth, Line};
+use crate::numbers::grouped;
+use crate::plot::{picture, Curve, Panel};
+use std::fmt::Write;
+use std::process::Command;
+
+/// What became faster or slower in earlier work: kept by hand.
+const HISTORY: &str = include_str!("../history.md");
+
+const PROVED_COLOUR: &str = "#c2410c";
+const PLAIN_COLOUR: &str = "#1d4ed8";
+const FLAT_COLOUR: &str = "#6b7280";
+
+/// The processor's model, as far as the system tells it.
+fn processor() -> String {
+    let kind = std::env::consts::ARCH;
+    let told = Command::new("lscpu").env("LC_ALL", "C").output();
+    let told = told.map_or(String::new(), |output| {
+        String::from_utf8_lossy(&output.stdout).into_owned()
+    });
+    let model = told
+        .lines()
+        .find_map(|line| line.strip_prefix("Model name:"));
+    match model.map(str::trim) {
+        Some(model) if !model.is_empty() && model != "-" => format!("{model} ({kind})"),
+        _ => format!("{kind} processor"),
+    }
+}
+
+fn time(nanoseconds: Option<f64>) -> String {
+    match nanoseconds {
+        None => String::from("-"),
+        Some(ns) if ns < 100.0 => format!("{ns:.1}"),
+        Some(ns) => grouped(ns.round() as usize),
+    }
+}
+
+/// How many times as long the proved engine takes.
+fn ratio(line: &Line, other: Option<f64>) -> String {
+    match (line.proved, other) {
+        (Some(proved), Some(other)) => format!("{:.2}", proved / other),
+        _ => String::from("-"),
+    }
+}
+
+/// A table of the lines; the flat ledger's columns are there where it took part.
+pub fn table(lines: &[Line]) -> String {
+    let mut out = String::from("| ns a record | granted | proved | plain | proved / plain |");
+    let mut rule = String::from("|---|---:|---:|---:|---:|");
+    let any_flat = lines.iter().any(|line| line.flat.is_some());
+    if any_flat {
+        out.push_str(" plain, flat ledger | proved / flat |");
+        rule.push_str("---:|---:|");
+    }
+    writeln!(out, "\n{rule}").unwrap();
+    for line in lines {
+        let (name, granted) = (&line.name, 100 * line.granted / line.records);
+        let (proved, lists) = (time(line.proved), time(Some(line.lists)));
+        let to_lists = ratio(line, Some(line.lists));
+        write!(
+            out,
+            "| {name} | {granted} % | {proved} | {lists} | {to_lists} |"
+        )
+        .unwrap();
+        if any_flat {
+            let (flat, to_flat) = (time(line.flat), ratio(line, line.flat));
+            write!(out, " {flat} | {to_flat} |").unwrap();
+        }
+        out.push('\n');
+    }
+    out
+}
+
+fn curve(
+    growth: &Growth,
+    name: &'static str,
+    colour: &'static str,
+    of: fn(&Line) -> Option<f64>,
+) -> Option<Curve> {
+    let points = growth.counts.iter().zip(&growth.lines);
+    let points = points.map(|(&count, line)| Some((count as f64, of(line)?)));
+    Some(Curve {
+        name,
+        colour,
+        points: points.collect::<Option<_>>()?,
+    })
+}
+
+fn curves(growth: &Growth) -> Vec<Curve> {
+    let of = [
+        curve(growth, "proved", PROVED_COLOUR, |line| line.proved),
+        curve(growth, "plain", PLAIN_COLOUR, |line| Some(line.lists)),
+        curve(growth, "plain, flat", FLAT_COLOUR, |line| line.flat),
+    ];
+    of.into_iter().flatten().collect()
+}
+
+/// docs/bench.svg
+pub fn plot(figures: &Figures) -> String {
+    let panel = |title, along, growth| Panel {
+        title,
+        along,
+        curves: curves(growth),
+    };
+    picture(&[
+        panel(
+            "Work on orders",
+            "entries of other orders in the ledger",
+            &figures.entries,
+        ),
+        panel(
+            "Access checks",
+            "permissions in the policy",
+            &figures.permissions,
+        ),
+    ])
+}
+
+fn space(figures: &Figures) -> String {
+    let (Some(stack), Some([policy, sessions, orders])) = (&figures.stack, figures.state) else {
+        return String::from("Not measured: the proved library was not there.\n");
+    };
+    let all = grouped(policy + sessions + orders);
+    let [policy, sessions, orders] = [policy, sessions, orders].map(grouped);
+    let [load, requests] = [stack.load, stack.requests].map(grouped);
+    format!(
+        "| bytes | measured | aim |
+|---|---:|---:|
+| stack, the deepest of all loads | {load} | 2,048 |
+| stack, the deepest of all requests | {requests} | 2,048 |
+| state lent by the caller: policy {policy}, sessions {sessions}, orders {orders} | {all} | |
+
+The stack below the calls is painted, and the deepest byte sought that they painted over; so the frames of the wrapper
+`mishantral::Engine` and of the loop that asks are counted too.
+"
+    )
+}
+
+/// What is measured on what, and how.
+fn head(effort: Effort) -> String {
+    let (processor, repeats) = (processor(), effort.repeats());
+    format!(
+        "<!-- Written whole by tools/bench. Its words stand in rust/bench/src/report.rs, \"What changed\" in rust/bench/history.md. -->
+
+# How fast it is
+
+The proved library, called through `mishantral::Engine`, against the plain Rust engine of `rust/plain`, which was written for speed and
+apart from it. Both ran in one process, natively, on one core of a {processor}; the library is compiled at -O3, the
+Rust side in release mode with all crates optimized as one.
+
+Times are nanoseconds a record: the best of {repeats} passes over a stream of some thousand records, the engines in turn in every pass, all
+in cache. Every reply of every pass is compared, and a difference ends the run. Compare times within a run: machines differ, and the ratio
+says more. \"plain\" keeps a list of entries for each order; \"plain, flat ledger\" keeps one list of all entries, as the proved engine does.
+"
+    )
+}
+
+const MAIN_NOTES: &str = "\
+- Checks: 1,024 users, 64 roles, 128 subjects with one to three active roles; a tenth of the pairs of operation and object are not declared.
+- Orders: opened, claimed, released, done and ended by teams of eight, on a template of five tasks with a task set, a binding, two
+  prerequisites and a limit. Some clerks are careless, so that every one of these rules refuses someone.
+- Load: users, roles, permissions, assignments, tasks and rules of every kind, as many records as the desk program takes.
+";
+
+const AGAIN: &str = "    \
+tools/bench            # builds what is missing, measures for half a minute, writes this page and bench.svg
+    tools/bench --quick    # a few passes, printed only
+";
+
+/// docs/BENCH.md
+pub fn page(figures: &Figures, effort: Effort) -> String {
+    let head = head(effort);
+    let (main, kinds, space) = (table(&figures.main), table(&figures.kinds), space(figures));
+    let entries = table(&figures.entries.lines);
+    let permissions = table(&figures.permissions.lines);
+    let history = HISTORY.trim();
+    format!(
+        "{head}
+## Checks, orders, loads
+
+{main}
+{MAIN_NOTES}
+## How it grows
+
+![Nanoseconds a record by entries in use, and by permissions](bench.svg)
+
+{entries}
+{permissions}
+## Kind by kind
+
+96 subjects, 100 entries in use; pairs undo each other, and a time is for one record of the pair.
+
+{kinds}
+## Stack and state
+
+{space}
+## What changed
+
+{history}
+
+## Again
+
+{AGAIN}"
+    )
+}
