@@ -1,10 +1,10 @@
 -- What one row answers to a question of all rows.
 use Prim.Native.Nat.{ℕ}
-use mathlib.Core.Bool.{Bool, cond, _&&_}
+use mathlib.Core.Bool.{Bool, not, cond, _&&_}
 use lib.Dec.{eqb}
 use Rattle.paper_lower.specs.Sets.{Set, has, union, meets}
-use Rattle.paper_lower.specs.Lists.{holds}
-use Rattle.paper_lower.specs.Tables.{People, Permissions, Block}
+use Rattle.paper_lower.specs.Lists.{holds, is}
+use Rattle.paper_lower.specs.Tables.{People, Permissions, Tasks, Block}
 use Rattle.paper_lower.specs.Policy.{breaks, isFor}
 
 abbrev pub opens : Permissions → Set → ℕ → ℕ → ℕ → Bool
@@ -12,6 +12,12 @@ opens k m operation object i = holds (isFor operation object) (k .declared i) &&
 
 abbrev pub bears : Permissions → ℕ → ℕ → ℕ → ℕ → Bool
 bears k t operation object i = holds (isFor operation object) (k .declared i) && has (k .carriers i) t
+
+abbrev pub strays : Tasks → Set → ℕ → ℕ → Bool
+strays k m j t = has m t && not (is j (k .template t))
+
+abbrev pub lacks : Tasks → ℕ → ℕ → Set → ℕ → Bool
+lacks k j t d i = is j (k .template i) && not (eqb i t) && not (has d i)
 
 abbrev pub exceeds : People → ℕ → Set → ℕ → Bool
 exceeds k n m u = k .users u && breaks (k .assigned u) (record { n = n; members = m })

@@ -4,13 +4,13 @@ ghost use mathlib.Core.Path.{_≡_};
 ghost use mathlib.Core.Bool.{cond, _&&_};
 ghost use Prim.Native.Nat.{_<_};
 ghost use lib.ListN.{length};
-ghost use Rattle.paper_lower.specs.Sets.{has, plus};
+ghost use Rattle.paper_lower.specs.Sets.{has, plus, minus, within};
 ghost use Rattle.paper_lower.specs.Lists.{someBelow, holds, some};
 ghost use Rattle.paper_lower.specs.Policy.{breaks, isFor, declaredTasks, tasksOf, hasTask, oneTemplate, sameLimit, sameBlock, samePair, partitioned};
 ghost use Rattle.paper_lower.specs.Sessions.{allowed};
 ghost use Rattle.policy.specs.Layout.{policyWords, limitAt, blockAt, pairAt};
 ghost use Rattle.policy.specs.Reading.{policyOf, limitsOf, pairsOf};
-ghost use Rattle.questions.specs.Rows.{opens, bears, exceeds, joined};
+ghost use Rattle.questions.specs.Rows.{opens, bears, strays, lacks, exceeds, joined};
 use sets::Set;
 
 // ---- Permissions.
@@ -104,24 +104,41 @@ pub fn declared_tasks(p: &[u64]) -> Set
     all
 }
 
-pub fn tasks_of(p: &[u64], j: u64) -> Set
-    requires { ⌜ (length (now p) ≡ policyWords) × (j < 16) ⌝ }
-    ensures { λ r. ⌜ r .bits ≡ tasksOf (policyOf (now (p .entry)) .tasks) j ⌝ }
-{
-    let mut all = Set::EMPTY;
-    let mut t = 0;
-    while t < 64 {
-        all = with_if(all, t as u64, policy::task_is_of(p, t, j));
-        t += 1;
-    }
-    all
-}
-
 pub fn has_task(p: &[u64], j: u64) -> bool
     requires { ⌜ (length (now p) ≡ policyWords) × (j < 16) ⌝ }
     ensures { λ r. ⌜ r ≡ hasTask (policyOf (now (p .entry)) .tasks) j ⌝ }
 {
-    !tasks_of(p, j).is_empty()
+    let mut t = 0;
+    while t < 64 {
+        if policy::task_is_of(p, t, j) {
+            return true;
+        }
+        t += 1;
+    }
+    false
+}
+
+// Whether t is in m, and no task of template j.
+fn is_stray(p: &[u64], t: usize, m: Set, j: u64) -> bool
+    requires { ⌜ (length (now p) ≡ policyWords) × ((t < 64) × (j < 16)) ⌝ }
+    ensures { λ r. ⌜ r ≡ strays (policyOf (now (p .entry)) .tasks) (m .bits) j t ⌝ }
+{
+    m.has(t as u64) & !policy::task_is_of(p, t, j)
+}
+
+// Whether the tasks m are all of template j.
+fn all_of(p: &[u64], m: Set, j: u64) -> bool
+    requires { ⌜ (length (now p) ≡ policyWords) × (j < 16) ⌝ }
+    ensures { λ r. ⌜ r ≡ within (m .bits) (tasksOf (policyOf (now (p .entry)) .tasks) j) ⌝ }
+{
+    let mut t = 0;
+    while t < 64 {
+        if is_stray(p, t, m, j) {
+            return false;
+        }
+        t += 1;
+    }
+    true
 }
 
 // Whether the tasks m are all of one template.
@@ -131,12 +148,35 @@ pub fn one_template(p: &[u64], m: Set) -> bool
 {
     let mut j = 0;
     while j < 16 {
-        if m.within(tasks_of(p, j)) {
+        if all_of(p, m, j) {
             return true;
         }
         j += 1;
     }
     false
+}
+
+// Whether i is a task of template j other than t, and not in d.
+fn is_lacking(p: &[u64], i: usize, j: u64, t: u64, d: Set) -> bool
+    requires { ⌜ (length (now p) ≡ policyWords) × ((i < 64) × (j < 16)) ⌝ }
+    ensures { λ r. ⌜ r ≡ lacks (policyOf (now (p .entry)) .tasks) j t (d .bits) i ⌝ }
+{
+    policy::task_is_of(p, i, j) & (i as u64 != t) & !d.has(i as u64)
+}
+
+// Whether every task of template j other than t is in d.
+pub fn others_within(p: &[u64], j: u64, t: u64, d: Set) -> bool
+    requires { ⌜ (length (now p) ≡ policyWords) × (j < 16) ⌝ }
+    ensures { λ r. ⌜ r ≡ within (minus (tasksOf (policyOf (now (p .entry)) .tasks) j) t) (d .bits) ⌝ }
+{
+    let mut i = 0;
+    while i < 64 {
+        if is_lacking(p, i, j, t, d) {
+            return false;
+        }
+        i += 1;
+    }
+    true
 }
 
 // ---- Limits: static sets 0, dynamic sets 1, task sets 2.

@@ -166,7 +166,7 @@ pub fn alone(p: &[u64], template: u64, d: Set, t: u64) -> bool
     if !policy::banned(p, template as usize) {
         return false;
     }
-    questions::tasks_of(p, template).without(t).within(d)
+    questions::others_within(p, template, t, d)
 }
 
 // ---- BOUND.

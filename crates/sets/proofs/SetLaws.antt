@@ -1,6 +1,6 @@
 -- Laws of sets, over their bits: members, one member more or less, sizes, overlaps, parts, sets that meet, unions, bounds.
 use mathlib.Core.Path.{_≡_, refl, sym, ap, ap₂, _∙_}
-use mathlib.Core.Bool.{Bool, true, false, not, cond, _&&_, _||_, or-true, or-false}
+use mathlib.Core.Bool.{Bool, true, false, not, cond, _&&_, _||_, or-true, or-false, true≢false}
 use mathlib.Core.Logic.{_⊎_, inl, inr, ⊎-elim}
 use Prim.Native.Nat.{ℕ, zero, suc, _+_, _-_, _/_, _%_, _^_, _<_, _≤_, min, max}
 use native.Mathlib.Omega.{arith}
@@ -11,7 +11,9 @@ use lib.Dec.{eqb, ltb}
 use lib.Pow.{pow-lt, pow-pos}
 use lib.Bits.{bitAnd, bitOr, bitXor, differ, and-zero-r, and-comm, or-comm, and-lt, or-lt}
 use lib.Count.{ones, ones-step, ones-le}
+use Rattle.paper_lower.specs.Lists.{someBelow}
 use Rattle.paper_lower.specs.Sets.{Set, empty, has, plus, minus, union, cut, onesIn, size, overlap, meets, within, collect, unionBelow}
+use Rattle.paper_lower.proofs.ListLaws.{none-below, below-none}
 use Rattle.sets.proofs.Bits.{bit, bit-le, bit-shr, bit-zero, same-or-other, le-bits, ext-bits, ones-bits, some-bit, bit-above, below-bits, bit-or, bit-and, bit-xor, bit-not, bit-one, bit-other, ones-or, and-or-in, and-or-out}
 
 -- ---- membership is a bit
@@ -225,6 +227,26 @@ collect-below (suc n) f x l =
     ∙ ap₂ _||_ (collect-below n f x (omega arith)) (ap (λ b. f n && b) (ne-eqb x n n') ∙ and-false (f n)) ∙ or-false (f x))
     (same-or-other x n)
 
+-- as a search finds it: some number below n is in it
+pub some-collected : (n : ℕ) (f : ℕ → Bool) → someBelow n f ≡ not (eqb (collect n f) empty)
+some-collected n f = by (someBelow n f) refl (eqb (collect n f) empty) refl
+  where
+    none : collect n f ≡ empty → (k : ℕ) → k < n → f k ≡ false
+    none e k l = sym (collect-below n f k l) ∙ ap (λ m. has m k) e ∙ has-empty k
+
+    all : someBelow n f ≡ false → (x : ℕ) → has (collect n f) x ≡ has empty x
+    all h x = at (ltb x n) refl
+      where
+        at : (b : Bool) → ltb x n ≡ b → has (collect n f) x ≡ has empty x
+        at true o = let l = ltb-true x n o in collect-below n f x l ∙ none-below n f h x l ∙ sym (has-empty x)
+        at false o = collect-above n f x (ltb-false x n o) ∙ sym (has-empty x)
+
+    by : (s : Bool) → someBelow n f ≡ s → (e : Bool) → eqb (collect n f) empty ≡ e → s ≡ not e
+    by true h true e = absurd (true≢false (sym h ∙ below-none n f (none (eqb-true _ _ e))))
+    by true h false e = refl
+    by false h true e = refl
+    by false h false e = absurd (eqb-false _ _ e (same-members (collect n f) empty (all h)))
+
 pub collect-same : (n : ℕ) (f g : ℕ → Bool) → ((x : ℕ) → x < n → f x ≡ g x) → collect n f ≡ collect n g
 unfolding collect
 collect-same zero f g h = refl
@@ -252,6 +274,13 @@ has-above n m i h l = bit-hasnt m i (bit-above n i m h l)
 
 pub below-members : (n : ℕ) (m : Set) → ((i : ℕ) → n ≤ i → has m i ≡ false) → m < 2 ^ n
 below-members n m h = below-bits n m (λ i l. hasnt-bit m i (h i l))
+
+pub member-below : (n : ℕ) (m : Set) (i : ℕ) → m < 2 ^ n → has m i ≡ true → i < n
+member-below n m i h e = at (ltb i n) refl
+  where
+    at : (b : Bool) → ltb i n ≡ b → i < n
+    at true o = ltb-true i n o
+    at false o = let z = bit-above n i m h (ltb-false i n o) in let k = has-bit m i e in omega arith
 
 pub plus-lt : (n : ℕ) (m : Set) (i : ℕ) → m < 2 ^ n → i < n → plus m i < 2 ^ n
 unfolding plus
@@ -358,6 +387,24 @@ within-trans a b c p q = part-within a c (part-trans a b c (within-part a b p) (
 
 pub within-empty : (a : Set) → within empty a ≡ true
 within-empty a = part-within empty a (part-empty a)
+
+-- as a search finds it: no number below n is in a and not in b
+pub none-astray : (n : ℕ) (a b : Set) (f : ℕ → Bool) → a < 2 ^ n → ((i : ℕ) → i < n → f i ≡ has a i && not (has b i)) → not (someBelow n f) ≡ within a b
+none-astray n a b f l are = by (someBelow n f) refl (within a b) refl
+  where
+    inside : within a b ≡ true → (i : ℕ) → i < n → f i ≡ false
+    inside h i k = are i k ∙ ⊎-elim (λ e. ap (λ x. has a i && not x) (within-has a b i h e) ∙ and-false (has a i)) (λ e. rw e) (in-or-out (has a i))
+
+    outside : someBelow n f ≡ false → (i : ℕ) → has a i ≡ true → has b i ≡ true
+    outside h i e =
+        let k = member-below n a i l e in
+        not-false _ (sym (rw e at (are i k)) ∙ none-below n f h i k)
+
+    by : (s : Bool) → someBelow n f ≡ s → (w : Bool) → within a b ≡ w → not s ≡ w
+    by true e true h = absurd (true≢false (sym e ∙ below-none n f (inside h)))
+    by true e false h = refl
+    by false e true h = refl
+    by false e false h = absurd (true≢false (sym (has-within a b (outside e)) ∙ h))
 
 pub within-minus : (a : Set) (t : ℕ) → within (minus a t) a ≡ true
 within-minus a t = part-within (minus a t) a (part-minus a t)

@@ -1,5 +1,5 @@
 -- A search over the numbers below 16.
-use mathlib.Core.Path.{_≡_, refl, sym, ap, _∙_}
+use mathlib.Core.Path.{_≡_, refl, sym, _∙_}
 use mathlib.Core.Bool.{false}
 use Prim.Native.Nat.{_-_, _≤_}
 use native.Mathlib.Omega.{arith}
@@ -22,15 +22,12 @@ loop-holds : tie.Need-loop-holds Inv-loop μ-loop
 unfolding someBelow
 loop-holds c = (search needs, refl)
 
-tasks-of-requires : tie.Need-tasks-of-requires Inv-loop μ-loop
-tasks-of-requires c κs = search needs
-
-within-requires : tie.Need-within-requires Inv-loop μ-loop
-within-requires c κs = search needs
+all-of-requires : tie.Need-all-of-requires Inv-loop μ-loop
+all-of-requires c κs = search needs
 
 returns : tie.Need-returns Inv-loop μ-loop
 unfolding oneTemplate
-returns c = sym (below-found _ _ _ (search needs) (sym (c .before .within .ensures ∙ ap (within _) (c .before .before .tasks-of .ensures)) ∙ c .if1 .taken))
+returns c = sym (below-found _ _ _ (search needs) (sym (c .before .all-of .ensures) ∙ c .if1 .taken))
 
 add-j : tie.Need-add-j Inv-loop μ-loop
 add-j c = search needs
@@ -39,7 +36,7 @@ loop-less : tie.Need-loop-less Inv-loop μ-loop
 loop-less c = search needs
 
 loop-again : tie.Need-loop-again Inv-loop μ-loop
-loop-again c = (search needs, below-more _ _ (c .before .before .before .before .loop .inv .1) (sym (c .before .within .ensures ∙ ap (within _) (c .before .before .tasks-of .ensures)) ∙ c .if1 .left))
+loop-again c = (search needs, below-more _ _ (c .before .before .before .loop .inv .1) (sym (c .before .all-of .ensures) ∙ c .if1 .left))
 
 returns-2 : tie.Need-returns-2 Inv-loop μ-loop
 unfolding oneTemplate
@@ -52,8 +49,7 @@ one-template-spec =
     Inv-loop
     μ-loop
     loop-holds
-    tasks-of-requires
-    within-requires
+    all-of-requires
     returns
     add-j
     loop-less
