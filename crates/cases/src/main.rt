@@ -17,7 +17,7 @@ use loading::Loaded;
 use replies::Reply;
 use scripts::Fields;
 
-const POLICY: usize = 3480;
+const POLICY: usize = 4504;
 
 const SESSIONS: usize = 256;
 
@@ -108,7 +108,7 @@ fn answered(
     o: &mut [u64],
     on: usize,
 ) -> Answer {
-    let mut p0 = [0u64; 3481];
+    let mut p0 = [0u64; 4505];
     let mut s0 = [0u64; 257];
     let mut o0 = [0u64; 2114];
     scripts::copy(p, &mut p0);
@@ -249,7 +249,7 @@ fn loaded(
     o: &mut [u64],
     on: usize,
 ) -> Answer {
-    let mut p0 = [0u64; 3481];
+    let mut p0 = [0u64; 4505];
     let mut s0 = [0u64; 257];
     let mut o0 = [0u64; 2114];
     scripts::copy(p, &mut p0);
@@ -432,7 +432,7 @@ fn main() {
     let mut text = [0u8; 65536];
     let n = io::read_full(0, &mut text);
     let mut policy = [0u8; 4096];
-    let mut p = [0u64; 3481];
+    let mut p = [0u64; 4505];
     let mut s = [0u64; 257];
     let mut o = [0u64; 2114];
     run_front(&text, n, &mut policy, &mut p, &mut s, &mut o);

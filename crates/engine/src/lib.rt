@@ -44,7 +44,7 @@ fn step(r: Record, p: &mut [u64], s: &mut [u64], o: &mut [u64]) -> Reply
 pub fn request(bytes: &[u8], policy: &mut [u64], sessions: &mut [u64], orders: &mut [u64]) -> Reply
     ensures { λ r. ⌜ Requested (now (bytes .entry)) (buffers (now (policy .entry)) (now (sessions .entry)) (now (orders .entry))) (buffers (now (policy .exit)) (now (sessions .exit)) (now (orders .exit))) r ⌝ }
 {
-    if (policy.len() != 3480) | (sessions.len() != 256) | (orders.len() != 2113) {
+    if (policy.len() != 4504) | (sessions.len() != 256) | (orders.len() != 2113) {
         return Reply::Room;
     }
     let j = records::judge(Call::Request, bytes);
@@ -59,7 +59,7 @@ pub fn request(bytes: &[u8], policy: &mut [u64], sessions: &mut [u64], orders: &
 pub fn load(bytes: &[u8], policy: &mut [u64], sessions: &mut [u64], orders: &mut [u64]) -> Loaded
     ensures { λ x. ⌜ LoadDone (now (bytes .entry)) (buffers (now (policy .entry)) (now (sessions .entry)) (now (orders .entry))) (buffers (now (policy .exit)) (now (sessions .exit)) (now (orders .exit))) (x .reply) (x .place) ⌝ }
 {
-    if (policy.len() != 3480) | (sessions.len() != 256) | (orders.len() != 2113) {
+    if (policy.len() != 4504) | (sessions.len() != 256) | (orders.len() != 2113) {
         return Loaded {
             reply: Reply::Room,
             place: 0,
@@ -104,7 +104,7 @@ pub extern "C" fn mishantral_words(group: u64) -> u64
     ensures { λ n. ⌜ n ≡ wordsOf group ⌝ }
 {
     if group == 0 {
-        return 3480;
+        return 4504;
     }
     if group == 1 {
         return 256;

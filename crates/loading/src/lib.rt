@@ -104,7 +104,7 @@ fn run(bytes: &[u8], p: &mut [u64]) -> Loaded
 pub fn load(bytes: &[u8], p: &mut [u64]) -> Loaded
     ensures { λ x. ⌜ LoadDone (now (bytes .entry)) (now (p .entry)) (now (p .exit)) (x .reply) (x .place) ⌝ }
 {
-    if p.len() != 3480 {
+    if p.len() != 4504 {
         return Loaded {
             reply: Reply::Room,
             place: 0,

@@ -46,7 +46,7 @@ pub fn step(r: Record, p: &mut [u64], s: &mut [u64]) -> Reply
 pub fn request(bytes: &[u8], p: &mut [u64], s: &mut [u64]) -> Reply
     ensures { λ r. ⌜ Requested (now (bytes .entry)) (now (p .entry)) (now (s .entry)) (now (p .exit)) (now (s .exit)) r ⌝ }
 {
-    if (p.len() != 3480) | (s.len() != 256) {
+    if (p.len() != 4504) | (s.len() != 256) {
         return Reply::Room;
     }
     let j = records::judge(Call::Lower, bytes);
@@ -61,7 +61,7 @@ pub fn request(bytes: &[u8], p: &mut [u64], s: &mut [u64]) -> Reply
 pub fn load(bytes: &[u8], p: &mut [u64], s: &mut [u64]) -> Loaded
     ensures { λ x. ⌜ Loads (now (bytes .entry)) (now (p .entry)) (now (s .entry)) (now (p .exit)) (now (s .exit)) (x .reply) (x .place) ⌝ }
 {
-    if (p.len() != 3480) | (s.len() != 256) {
+    if (p.len() != 4504) | (s.len() != 256) {
         return Loaded {
             reply: Reply::Room,
             place: 0,
@@ -104,7 +104,7 @@ pub extern "C" fn mishantral_lower_words(group: u64) -> u64
     ensures { λ n. ⌜ n ≡ wordsOf group ⌝ }
 {
     if group == 0 {
-        return 3480;
+        return 4504;
     }
     if group == 1 {
         return 256;

@@ -16,7 +16,7 @@ use loading::Loaded;
 use replies::Reply;
 use scripts::Fields;
 
-const POLICY: usize = 3480;
+const POLICY: usize = 4504;
 
 const SESSIONS: usize = 256;
 
@@ -72,7 +72,7 @@ fn load_in(bytes: &[u8], p: &mut [u64], pn: usize, s: &mut [u64], sn: usize) -> 
 }
 
 fn answered(bytes: &[u8], p: &mut [u64], pn: usize, s: &mut [u64], sn: usize) -> Answer {
-    let mut p0 = [0u64; 3481];
+    let mut p0 = [0u64; 4505];
     let mut s0 = [0u64; 257];
     scripts::copy(p, &mut p0);
     scripts::copy(s, &mut s0);
@@ -134,7 +134,7 @@ fn zeros_in(x: &[u64], n: usize) -> bool {
 }
 
 fn loaded(bytes: &[u8], p: &mut [u64], pn: usize, s: &mut [u64], sn: usize) -> Answer {
-    let mut p0 = [0u64; 3481];
+    let mut p0 = [0u64; 4505];
     let mut s0 = [0u64; 257];
     scripts::copy(p, &mut p0);
     scripts::copy(s, &mut s0);
@@ -267,7 +267,7 @@ fn main() {
     let mut text = [0u8; 65536];
     let n = io::read_full(0, &mut text);
     let mut policy = [0u8; 4096];
-    let mut p = [0u64; 3481];
+    let mut p = [0u64; 4505];
     let mut s = [0u64; 257];
     run_front(&text, n, &mut policy, &mut p, &mut s);
 }

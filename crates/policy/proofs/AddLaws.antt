@@ -28,7 +28,7 @@ keeps : {A : Type 0} {read : List ℕ → A} {Off : ℕ → Type 0} → ((l : Li
 keeps law [] h l = refl
 keeps law (w ∷ ws) h l = keeps law ws (h .1) (set l (w .0) (w .1)) ∙ law l (w .0) (w .1) (h .0)
 
-only-rules : (ws : List (ℕ × ℕ)) → Every (λ w. (0 < w .0) × Outside 7 3032 (w .0)) ws → (l : List ℕ) → policyOf (stores ws l) ≡ withRules (policyOf l) (rulesIn (stores ws l))
+only-rules : (ws : List (ℕ × ℕ)) → Every (λ w. (0 < w .0) × (Outside 7 3032 (w .0) × (w .0 < 3480))) ws → (l : List ℕ) → policyOf (stores ws l) ≡ withRules (policyOf l) (rulesIn (stores ws l))
 unfolding policyOf
 only-rules [] h l = refl
 only-rules (w ∷ ws) h l =
@@ -36,7 +36,7 @@ only-rules (w ∷ ws) h l =
     ∙ ap (λ t. withRules t (rulesIn (stores ws (set l (w .0) (w .1))))) (in-rules l (w .0) (w .1) (h .0))
 
 -- the rules after them, kind by kind
-rules-are : (ws : List (ℕ × ℕ)) → Every (λ w. (0 < w .0) × Outside 7 3032 (w .0)) ws → (l : List ℕ) (limits : ℕ → List Limit) (blocks : List Block) (pairs : ℕ → List Pair)
+rules-are : (ws : List (ℕ × ℕ)) → Every (λ w. (0 < w .0) × (Outside 7 3032 (w .0) × (w .0 < 3480))) ws → (l : List ℕ) (limits : ℕ → List Limit) (blocks : List Block) (pairs : ℕ → List Pair)
     → ((w : ℕ) → w < 3 → limitsIn w (stores ws l) ≡ limits w) → blocksIn (stores ws l) ≡ blocks → ((w : ℕ) → w < 2 → pairsIn w (stores ws l) ≡ pairs w)
     → policyOf (stores ws l) ≡ withRules (policyOf l) (record { statics = limits 0; dynamics = limits 1; taskSets = limits 2; blocks = blocks; bindings = pairs 0; befores = pairs 1 })
 unfolding rulesIn

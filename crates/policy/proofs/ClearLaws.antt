@@ -4,11 +4,13 @@ use mathlib.Core.List.{List, [], _++_, append-nil}
 use mathlib.Core.Path.{_≡_, refl, ap, _∙_}
 use native.Mathlib.Omega.{arith}
 use lib.ListN.{length, getD, replicate, drop, drop-of-length-le}
+use Rattle.paper_lower.specs.Lists.{holds}
+use Rattle.paper_lower.specs.Lists.Maybe.{none}
 use Rattle.paper_lower.specs.Tables.{noPolicy}
 use Rattle.replies.specs.Cells.{rows}
 use Rattle.replies.proofs.CellLaws.{column-zeros, zeros-at}
 use Rattle.replies.proofs.RowLaws.{rows-end}
-use Rattle.policy.specs.Layout.{policyWords, permissionOf, templateOf, mostOf, Table, tableIn, userTable, assignedTable, permissionTable, holderTable, carrierTable, templateTable, openToTable, mostTable, bannedTable, limitCount, limitsIn, blockCount, blocksIn, pairCount, pairsIn}
+use Rattle.policy.specs.Layout.{policyWords, permissionOf, templateOf, mostOf, Table, tableIn, userTable, assignedTable, permissionTable, holderTable, carrierTable, templateTable, openToTable, mostTable, bannedTable, bucketTable, listed, limitCount, limitsIn, blockCount, blocksIn, pairCount, pairsIn}
 use Rattle.policy.specs.Reading.{peopleIn, permissionsIn, tasksIn, rulesIn, policyOf, Cleared}
 
 table-zeros : {A : Type 0} (t : Table A) (n : ℕ) → t .read 0 ≡ t .past → tableIn t (replicate n 0) ≡ (λ i. t .past)
@@ -30,6 +32,10 @@ module _ (n : ℕ) where
   unfolding pairCount
   pairs-zeros which = rows-none _ _ (omega (arith, zeros-at n (5 + which)))
 
+  listed-zeros : permissionsIn (replicate n 0) .declared ≡ (λ b. none)
+  unfolding permissionsIn permissionOf
+  listed-zeros = ap (λ rows. listed rows (tableIn bucketTable (replicate n 0))) (table-zeros permissionTable n refl) ∙ unfold listed holds in refl
+
   policy-zeros : policyOf (replicate n 0) ≡ noPolicy
   unfolding policyOf peopleIn permissionsIn tasksIn rulesIn permissionOf templateOf mostOf noPolicy
   policy-zeros = λ x.
@@ -37,7 +43,7 @@ module _ (n : ℕ) where
         people = record { users = table-zeros userTable n refl x; roles = zeros-at n 0 x; assigned = table-zeros assignedTable n refl x };
         permissions =
             record {
-              declared = table-zeros permissionTable n refl x;
+              declared = listed-zeros x;
               holders = table-zeros holderTable n refl x;
               carriers = table-zeros carrierTable n refl x;
             };

@@ -1,4 +1,5 @@
 mod WordLaws
+mod BucketLaws
 mod TableLaws
 mod StoreLaws
 mod AddLaws

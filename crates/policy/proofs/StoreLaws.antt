@@ -1,5 +1,5 @@
 -- What a setter's store does to the tables: the one row anew, all else kept. One law for every table of rows, by its first word.
-use Prim.Native.Nat.{ℕ, _+_, _*_, _≤_, _<_}
+use Prim.Native.Nat.{ℕ, _+_, _*_, _/_, _%_, _≤_, _<_}
 use mathlib.Core.Bool.{Bool, true, false, cond}
 use mathlib.Core.List.{List}
 use mathlib.Core.Path.{_≡_, refl, ap, _∙_}
@@ -8,24 +8,28 @@ use borrow.Author.Tests.{eqb-true, eqb-false}
 use lib.Dec.{eqb}
 use lib.ListN.{length, set, length-set}
 use lib.Seq.{getD-set-same, getD-set-other}
+use Rattle.paper_lower.specs.Sets.{plus}
 use Rattle.paper_lower.specs.Lists.{upd}
+use Rattle.paper_lower.specs.Lists.Maybe.{none, just}
 use Rattle.paper_lower.specs.Tables.{Policy}
-use Rattle.policy.specs.Layout.{policyWords, flagOf, Table, tableIn, userTable, assignedTable, permissionTable, holderTable, carrierTable, templateTable, openToTable, mostTable, bannedTable}
+use Rattle.replies.proofs.CellLaws.{column-past}
+use Rattle.policy.specs.Layout.{policyWords, flagOf, Table, tableIn, userTable, assignedTable, permissionTable, holderTable, carrierTable, templateTable, openToTable, mostTable, bannedTable, bucketTable, permissionOf, bucketOf, listed}
 use Rattle.policy.specs.Reading.{peopleIn, permissionsIn, tasksIn, policyOf, rolesAnew, userAnew, assignedAnew, permissionAnew, holdersAnew, carriersAnew, templateAnew, openToAnew, bannedAnew, mostAnew}
 use Rattle.policy.proofs.WordLaws.{permission-word, template-word, most-word}
-use Rattle.policy.proofs.TableLaws.{Outside, table-same, table-off, permissions-off, tasks-off, rules-off}
+use Rattle.policy.proofs.BucketLaws.{listing, listed-set, bucket-small}
+use Rattle.policy.proofs.TableLaws.{Outside, table-same, table-off, people-off, declared-off, permissions-off, tasks-off, rules-off}
 
 -- the word b + i is the table's row i if the table starts at b, and else none of its words
 abbrev Beside : {A : Type 0} → Table A → ℕ → ℕ → Type 0
 Beside t b i = (t .first ≡ b → i < t .height) × ((t .first ≡ b → ⊥) → Outside (t .first) (t .first + t .height) (b + i))
 
--- the word b + i is row i of one of the tables
+-- the word b + i is row i of one of the tables, and not of the permissions
 record RowOf (b i : ℕ) : Type 0 where
   first : 8 ≤ b
   last : b + i < 3032
   users : Beside userTable b i
   assigned : Beside assignedTable b i
-  declared : Beside permissionTable b i
+  declared : Outside 2056 2312 (b + i)
   holders : Beside holderTable b i
   carriers : Beside carrierTable b i
   template : Beside templateTable b i
@@ -48,7 +52,7 @@ rowAnew b i v t =
           };
       permissions =
           record {
-            declared = rowIf permissionTable b (t .permissions .declared) i v;
+            declared = t .permissions .declared;
             holders = rowIf holderTable b (t .permissions .holders) i v;
             carriers = rowIf carrierTable b (t .permissions .carriers) i v;
           };
@@ -84,7 +88,7 @@ module _ (l : List ℕ) (room : length l ≡ policyWords) where
             };
         permissions =
             record {
-              declared = table-after permissionTable b i v (h .declared) (omega arith) x;
+              declared = declared-off l (b + i) v (h .declared, omega (arith, h .last)) x;
               holders = table-after holderTable b i v (h .holders) (omega arith) x;
               carriers = table-after carrierTable b i v (h .carriers) (omega arith) x;
             };
@@ -129,9 +133,6 @@ module _ (l : List ℕ) (room : length l ≡ policyWords) where
     pub banned-set : i < 16 → policyOf (set l (3016 + i) 1) ≡ bannedAnew (policyOf l) i
     banned-set h = row-set 3016 i 1 (omega arith)
 
-    pub permission-set : (operation object : ℕ) → i < 256 → operation < 65536 → object < 65536 → policyOf (set l (2056 + i) (4294967296 + operation + 65536 * object)) ≡ permissionAnew (policyOf l) i operation object
-    permission-set operation object h p q = row-set 2056 i (4294967296 + operation + 65536 * object) (omega arith) ∙ rw (permission-word operation object p q)
-
     pub template-set : (j : ℕ) → i < 64 → j < 16 → policyOf (set l (2824 + i) (16 + j)) ≡ templateAnew (policyOf l) i j
     template-set j h p = row-set 2824 i (16 + j) (omega arith) ∙ rw (template-word j p)
 
@@ -142,3 +143,40 @@ pub user-set : (l : List ℕ) → length l ≡ policyWords → (i v : ℕ) → i
 user-set l room i v h =
     let next : length (set l (8 + i) v) ≡ policyWords = rw length-set room in
     assigned-set (set l (8 + i) v) next i 0 h ∙ ap (λ t. assignedAnew t i 0) (row-set l room 8 i v (omega arith))
+
+-- ---- A permission: its row, and its bit in the bucket of its pair.
+module _ (l : List ℕ) (room : length l ≡ policyWords) (i operation object v : ℕ) (h : i < 256) (small : operation < 65536) (too : object < 65536) (more : v ≡ plus (tableIn bucketTable l (4 * bucketOf operation object + i / 64)) (i % 64)) where
+  declared-set : permissionsIn (set (set l (2056 + i) (4294967296 + operation + 65536 * object)) (3480 + (4 * bucketOf operation object + i / 64)) v) .declared ≡ upd (permissionsIn l .declared) i (just (record { operation = operation; object = object }))
+  unfolding permissionsIn
+  declared-set =
+      let word = 4 * bucketOf operation object + i / 64 in
+      let w = 4294967296 + operation + 65536 * object in
+      let low = bucket-small operation object in
+      let room₁ : length (set l (2056 + i) w) ≡ policyWords = rw length-set room in
+      let rows : tableIn permissionTable (set (set l (2056 + i) w) (3480 + word) v) ≡ upd (tableIn permissionTable l) i (just (record { operation = operation; object = object })) =
+      table-off permissionTable (set l (2056 + i) w) (3480 + word) v (omega arith)
+      ∙ table-same permissionTable l i w h (omega arith)
+      ∙ ap (upd (tableIn permissionTable l) i) (permission-word operation object small too) in
+      let buckets : tableIn bucketTable (set (set l (2056 + i) w) (3480 + word) v) ≡ listing (tableIn bucketTable l) (record { operation = operation; object = object }) i =
+      table-same bucketTable (set l (2056 + i) w) word v (omega arith) (omega arith)
+      ∙ (λ x. upd (table-off bucketTable l (2056 + i) w (omega arith) x) word (more x)) in
+      (λ x. listed (rows x) (buckets x)) ∙ listed-set (tableIn bucketTable l) (record { operation = operation; object = object }) i (tableIn permissionTable l) h (column-past permissionOf none 2056 256 l)
+
+  pub permission-set : policyOf (set (set l (2056 + i) (4294967296 + operation + 65536 * object)) (3480 + (4 * bucketOf operation object + i / 64)) v) ≡ permissionAnew (policyOf l) i operation object
+  unfolding policyOf permissionsIn
+  permission-set =
+      let word = 4 * bucketOf operation object + i / 64 in
+      let w = 4294967296 + operation + 65536 * object in
+      let l₁ = set l (2056 + i) w in
+      λ x.
+      record {
+        people = (people-off l₁ (3480 + word) v (omega arith) ∙ people-off l (2056 + i) w (omega arith)) x;
+        permissions =
+            record {
+              declared = declared-set x;
+              holders = (table-off holderTable l₁ (3480 + word) v (omega arith) ∙ table-off holderTable l (2056 + i) w (omega arith)) x;
+              carriers = (table-off carrierTable l₁ (3480 + word) v (omega arith) ∙ table-off carrierTable l (2056 + i) w (omega arith)) x;
+            };
+        tasks = (tasks-off l₁ (3480 + word) v (omega arith) ∙ tasks-off l (2056 + i) w (omega arith)) x;
+        rules = (rules-off l₁ (3480 + word) v (omega arith) ∙ rules-off l (2056 + i) w (omega arith)) x;
+      }

@@ -12,7 +12,7 @@ use Rattle.paper_lower.specs.Lists.{upd}
 use Rattle.paper_lower.specs.Tables.{withRules}
 use Rattle.replies.specs.Cells.{rows}
 use Rattle.replies.proofs.CellLaws.{column-same, column-below, column-above}
-use Rattle.policy.specs.Layout.{Table, tableIn, userTable, assignedTable, permissionTable, holderTable, carrierTable, templateTable, openToTable, mostTable, bannedTable, limitTable, memberTable, limitCount, limitAt, limitsIn, partitioningTable, blockTable, blockCount, blockAt, blocksIn, pairTable, pairCount, pairAt, pairsIn}
+use Rattle.policy.specs.Layout.{Table, tableIn, userTable, assignedTable, permissionTable, holderTable, carrierTable, templateTable, openToTable, mostTable, bannedTable, bucketTable, listed, limitTable, memberTable, limitCount, limitAt, limitsIn, partitioningTable, blockTable, blockCount, blockAt, blocksIn, pairTable, pairCount, pairAt, pairsIn}
 use Rattle.policy.specs.Reading.{peopleIn, permissionsIn, tasksIn, rulesIn, policyOf}
 
 -- not one of the words from first to before last
@@ -77,13 +77,17 @@ module _ (l : List ℕ) (j v : ℕ) where
         assigned = table-off assignedTable l j v (narrow (h .1) (omega arith)) x;
       }
 
-  pub permissions-off : Outside 2056 2824 j → permissionsIn (set l j v) ≡ permissionsIn l
+  pub declared-off : Outside 2056 2312 j × (j < 3480) → permissionsIn (set l j v) .declared ≡ permissionsIn l .declared
+  unfolding permissionsIn
+  declared-off h = λ x. listed (table-off permissionTable l j v (h .0) x) (table-off bucketTable l j v (omega arith) x)
+
+  pub permissions-off : Outside 2056 2824 j × (j < 3480) → permissionsIn (set l j v) ≡ permissionsIn l
   unfolding permissionsIn
   permissions-off h = λ x.
       record {
-        declared = table-off permissionTable l j v (narrow h (omega arith)) x;
-        holders = table-off holderTable l j v (narrow h (omega arith)) x;
-        carriers = table-off carrierTable l j v (narrow h (omega arith)) x;
+        declared = declared-off (narrow (h .0) (omega arith), h .1) x;
+        holders = table-off holderTable l j v (narrow (h .0) (omega arith)) x;
+        carriers = table-off carrierTable l j v (narrow (h .0) (omega arith)) x;
       }
 
   pub tasks-off : Outside 2824 3032 j → tasksIn (set l j v) ≡ tasksIn l
@@ -109,12 +113,12 @@ module _ (l : List ℕ) (j v : ℕ) where
       }
 
   -- ---- A store in the rules.
-  pub in-rules : (0 < j) × Outside 7 3032 j → policyOf (set l j v) ≡ withRules (policyOf l) (rulesIn (set l j v))
+  pub in-rules : (0 < j) × (Outside 7 3032 j × (j < 3480)) → policyOf (set l j v) ≡ withRules (policyOf l) (rulesIn (set l j v))
   unfolding policyOf
   in-rules h = λ x.
       record {
-        people = people-off (h .0, narrow (h .1) (omega arith)) x;
-        permissions = permissions-off (narrow (h .1) (omega arith)) x;
-        tasks = tasks-off (narrow (h .1) (omega arith)) x;
+        people = people-off (h .0, narrow (h .1 .0) (omega arith)) x;
+        permissions = permissions-off (narrow (h .1 .0) (omega arith), h .1 .1) x;
+        tasks = tasks-off (narrow (h .1 .0) (omega arith)) x;
         rules = rulesIn (set l j v);
       }

@@ -7,6 +7,7 @@ use borrow.Author.Tests.{eqb-true, eqb-false, eq-eqb, ne-eqb}
 use lib.Dec.{eqb, leb}
 use Rattle.paper_lower.specs.Lists.{holds, there, is}
 use Rattle.paper_lower.specs.Lists.Maybe.{none, just}
+use Rattle.paper_lower.specs.Tables.{Permission}
 use Rattle.paper_lower.specs.Policy.{isFor}
 use Rattle.policy.specs.Layout.{permissionOf, templateOf, mostOf}
 
@@ -30,16 +31,16 @@ holds-if p true x = refl
 holds-if p false x = refl
 
 module _ (w : ℕ) where
-  pub permission-there : eqb (w / 4294967296 % 2) 1 ≡ there (permissionOf w)
+  pub permission-holds : (p : Permission → Bool) → eqb (w / 4294967296 % 2) 1 && p (record { operation = w % 65536; object = w / 65536 % 65536 }) ≡ holds p (permissionOf w)
   unfolding permissionOf
-  permission-there = there-if _ _
+  permission-holds p = holds-if p (eqb (w / 4294967296 % 2) 1) (record { operation = w % 65536; object = w / 65536 % 65536 })
 
   pub permission-is : (operation object : ℕ) → operation < 65536 → object < 65536 → eqb (w % 8589934592) (4294967296 + operation + 65536 * object) ≡ holds (isFor operation object) (permissionOf w)
   unfolding permissionOf isFor
   permission-is operation object h k =
       parts (w % 8589934592) (4294967296 + operation + 65536 * object) (w / 4294967296 % 2) 1 (w % 4294967296) (operation + 65536 * object) (omega arith) (omega arith)
       ∙ ap (_&&_ (eqb (w / 4294967296 % 2) 1)) (parts (w % 4294967296) (operation + 65536 * object) (w % 65536) operation (w / 65536 % 65536) object (omega arith) (omega arith))
-      ∙ holds-if (isFor operation object) (eqb (w / 4294967296 % 2) 1) (record { operation = w % 65536; object = w / 65536 % 65536 })
+      ∙ permission-holds (isFor operation object)
 
   pub template-there : eqb (w / 16 % 2) 1 ≡ there (templateOf w)
   unfolding templateOf

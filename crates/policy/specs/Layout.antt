@@ -4,14 +4,14 @@ use mathlib.Core.Bool.{Bool, false, not, cond}
 use mathlib.Core.List.{List}
 use lib.Dec.{eqb}
 use lib.ListN.{getD}
-use Rattle.paper_lower.specs.Lists.{Maybe}
+use Rattle.paper_lower.specs.Lists.{Maybe, holds}
 use Rattle.paper_lower.specs.Lists.Maybe.{none, just}
-use Rattle.paper_lower.specs.Sets.{Set, empty}
+use Rattle.paper_lower.specs.Sets.{Set, empty, has}
 use Rattle.paper_lower.specs.Tables.{Permission, Limit, Block, Pair}
 use Rattle.replies.specs.Cells.{column, rows}
 
 abbrev pub policyWords : ℕ
-policyWords = 3480
+policyWords = 4504
 
 -- ---- How a word reads.
 abbrev pub same : ℕ → ℕ
@@ -69,6 +69,22 @@ mostTable = record { first = 2952; height = 64; read = mostOf; past = none }
 
 abbrev pub bannedTable : Table Bool
 bannedTable = record { first = 3016; height = 16; read = flagOf; past = false }
+
+-- ---- Permissions by their pair. Each pair has one of 256 buckets; a bucket is four sets, of 64 permissions each.
+abbrev pub bucketTable : Table Set
+bucketTable = record { first = 3480; height = 1024; read = same; past = empty }
+
+-- the factor spreads near pairs over all buckets
+unfoldable pub bucketOf : ℕ → ℕ → ℕ
+bucketOf operation object = (operation + 65536 * object) * 2654435761 / 16777216 % 256
+
+-- bucket h lists permission b
+unfoldable pub lists : (ℕ → Set) → ℕ → ℕ → Bool
+lists buckets h b = has (buckets (4 * h + b / 64)) (b % 64)
+
+-- A row counts if the bucket of its pair lists it. So a pair is looked for in its bucket alone, whatever the buffer has in it.
+unfoldable pub listed : (ℕ → Maybe Permission) → (ℕ → Set) → ℕ → Maybe Permission
+listed rows buckets b = cond (holds (λ x. lists buckets (bucketOf (x .operation) (x .object)) b) (rows b)) (rows b) none
 
 -- ---- The rules: of each kind a kept number, cut at the limit, and the rows.
 

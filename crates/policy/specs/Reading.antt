@@ -9,13 +9,13 @@ use Rattle.paper_lower.specs.Sets.{Set, empty}
 use Rattle.paper_lower.specs.Lists.{upd, add}
 use Rattle.paper_lower.specs.Lists.Maybe.{just}
 use Rattle.paper_lower.specs.Tables.{People, Permissions, Tasks, Limit, Pair, Rules, Policy, noPolicy, withPeople, withPermissions, withTasks, withRules, withAssigned, withHolders, withBlocks}
-use Rattle.policy.specs.Layout.{policyWords, tableIn, userTable, assignedTable, permissionTable, holderTable, carrierTable, templateTable, openToTable, mostTable, bannedTable, limitsIn, blocksIn, pairsIn}
+use Rattle.policy.specs.Layout.{policyWords, tableIn, userTable, assignedTable, permissionTable, holderTable, carrierTable, templateTable, openToTable, mostTable, bannedTable, bucketTable, listed, limitsIn, blocksIn, pairsIn}
 
 unfoldable pub peopleIn : List ℕ → People
 peopleIn l = record { users = tableIn userTable l; roles = getD l 0 0; assigned = tableIn assignedTable l }
 
 unfoldable pub permissionsIn : List ℕ → Permissions
-permissionsIn l = record { declared = tableIn permissionTable l; holders = tableIn holderTable l; carriers = tableIn carrierTable l }
+permissionsIn l = record { declared = listed (tableIn permissionTable l) (tableIn bucketTable l); holders = tableIn holderTable l; carriers = tableIn carrierTable l }
 
 unfoldable pub tasksIn : List ℕ → Tasks
 tasksIn l = record { template = tableIn templateTable l; openTo = tableIn openToTable l; banned = tableIn bannedTable l; most = tableIn mostTable l }

@@ -1,11 +1,12 @@
 // The policy buffer, word by word: getters and setters of its tables, one row a word. specs/Layout.antt has the layout.
 ghost use mathlib.Core.Path.{_≡_};
-ghost use Prim.Native.Nat.{_<_, _≤_, min};
+ghost use Prim.Native.Nat.{_<_, _≤_, _+_, _-_, _*_, _/_, min};
 ghost use lib.Dec.{leb};
 ghost use lib.ListN.{length};
 ghost use Rattle.paper_lower.specs.Lists.{holds, there, is};
 ghost use Rattle.paper_lower.specs.Policy.{isFor, together};
-ghost use Rattle.policy.specs.Layout.{policyWords, flagOf, limitCount, limitAt, blockCount, blockAt, pairCount, pairAt};
+ghost use Rattle.sets.specs.Next.{next};
+ghost use Rattle.policy.specs.Layout.{policyWords, flagOf, tableIn, bucketTable, bucketOf, lists, limitCount, limitAt, blockCount, blockAt, pairCount, pairAt};
 ghost use Rattle.policy.specs.Reading.{policyOf, Cleared, rolesAnew, userAnew, assignedAnew, permissionAnew, holdersAnew, carriersAnew, templateAnew, openToAnew, bannedAnew, mostAnew, limitAdded, blockAdded, pairAdded};
 use sets::Set;
 
@@ -57,26 +58,75 @@ pub fn set_assigned(p: &mut [u64], a: usize, roles: Set)
 
 // ---- Permissions.
 
+// The bucket of an operation on an object, in which its permissions are listed.
+fn bucket_of(operation: u64, object: u64) -> usize
+    requires { ⌜ (operation < 65536) × (object < 65536) ⌝ }
+    ensures { λ r. ⌜ (r ≡ bucketOf operation object) × (r < 256) ⌝ }
+{
+    ((operation + 65536 * object) * 2654435761 / 16777216 % 256) as usize
+}
+
+// Those of the 64 permissions around b that the bucket lists.
+fn listed_around(p: &[u64], bucket: usize, b: usize) -> Set
+    requires { ⌜ (length (now p) ≡ policyWords) × ((bucket < 256) × (b < 256)) ⌝ }
+    ensures { λ r. ⌜ r .bits ≡ tableIn bucketTable (now (p .entry)) (4 * bucket + b / 64) ⌝ }
+{
+    Set {
+        bits: p[3480 + (4 * bucket + b / 64)],
+    }
+}
+
 pub fn permission_declared(p: &[u64], b: usize) -> bool
     requires { ⌜ (length (now p) ≡ policyWords) × (b < 256) ⌝ }
     ensures { λ r. ⌜ r ≡ there (policyOf (now (p .entry)) .permissions .declared b) ⌝ }
 {
-    p[2056 + b] / 4294967296 % 2 == 1
+    let word = p[2056 + b];
+    let bucket = bucket_of(word % 65536, word / 65536 % 65536);
+    let listed = listed_around(p, bucket, b).has((b % 64) as u64);
+    (word / 4294967296 % 2 == 1) & listed
 }
 
-// Whether permission b is declared, and for this operation on this object: one compare of the word.
-pub fn permission_is(p: &[u64], b: usize, operation: u64, object: u64) -> bool
-    requires { ⌜ (length (now p) ≡ policyWords) × ((b < 256) × ((operation < 65536) × (object < 65536))) ⌝ }
-    ensures { λ r. ⌜ r ≡ holds (isFor operation object) (policyOf (now (p .entry)) .permissions .declared b) ⌝ }
+// The first permission from `from` on that the bucket lists, or 256.
+fn next_listed(p: &[u64], bucket: usize, from: usize) -> usize
+    requires { ⌜ (length (now p) ≡ policyWords) × ((bucket < 256) × (from ≤ 256)) ⌝ }
+    ensures { λ r. ⌜ r ≡ next from (256 - from) (lists (tableIn bucketTable (now (p .entry))) bucket) ⌝ }
 {
-    p[2056 + b] % 8589934592 == 4294967296 + operation + 65536 * object
+    let mut i = from;
+    while i < 256 {
+        let first = listed_around(p, bucket, i).first_from((i % 64) as u64);
+        if first < 64 {
+            return 64 * (i / 64) + first as usize;
+        }
+        i = 64 * (i / 64 + 1);
+    }
+    256
 }
 
+// The first permission from `from` on that is for this operation on this object, or 256: one compare of a word for each listed one.
+pub fn permission_for(p: &[u64], from: usize, operation: u64, object: u64) -> usize
+    requires { ⌜ (length (now p) ≡ policyWords) × ((from ≤ 256) × ((operation < 65536) × (object < 65536))) ⌝ }
+    ensures { λ r. ⌜ r ≡ next from (256 - from) (λ i. holds (isFor operation object) (policyOf (now (p .entry)) .permissions .declared i)) ⌝ }
+{
+    let bucket = bucket_of(operation, object);
+    let mut i = next_listed(p, bucket, from);
+    while i < 256 {
+        if p[2056 + i] % 8589934592 == 4294967296 + operation + 65536 * object {
+            return i;
+        }
+        i = next_listed(p, bucket, i + 1);
+    }
+    256
+}
+
+// The permission's row, and its place in the bucket of its pair.
 pub fn set_permission(p: &mut [u64], a: usize, operation: u64, object: u64)
     requires { ⌜ (length (now p) ≡ policyWords) × ((a < 256) × ((operation < 65536) × (object < 65536))) ⌝ }
     ensures { λ _. ⌜ policyOf (now (p .exit)) ≡ permissionAnew (policyOf (now (p .entry))) a operation object ⌝ }
 {
+    let bucket = bucket_of(operation, object);
+    let more = listed_around(p, bucket, a).with((a % 64) as u64);
     p[2056 + a] = 4294967296 + operation + 65536 * object;
+    p[3480 + (4 * bucket + a / 64)] = more.bits;
 }
 
 pub fn holders(p: &[u64], b: usize) -> Set
@@ -305,7 +355,7 @@ pub fn clear(p: &mut [u64])
     ensures { λ _. ⌜ Cleared (now (p .exit)) ⌝ }
 {
     let mut i = 0;
-    while i < 3480 {
+    while i < 4504 {
         p[i] = 0;
         i += 1;
     }

@@ -7,11 +7,14 @@ use Rattle.paper_lower.specs.Lists.{holds, is}
 use Rattle.paper_lower.specs.Tables.{People, Permissions, Tasks, Block}
 use Rattle.paper_lower.specs.Policy.{breaks, isFor}
 
+abbrev pub suits : Permissions → ℕ → ℕ → ℕ → Bool
+suits k operation object i = holds (isFor operation object) (k .declared i)
+
 abbrev pub opens : Permissions → Set → ℕ → ℕ → ℕ → Bool
-opens k m operation object i = holds (isFor operation object) (k .declared i) && meets (k .holders i) m
+opens k m operation object i = suits k operation object i && meets (k .holders i) m
 
 abbrev pub bears : Permissions → ℕ → ℕ → ℕ → ℕ → Bool
-bears k t operation object i = holds (isFor operation object) (k .declared i) && has (k .carriers i) t
+bears k t operation object i = suits k operation object i && has (k .carriers i) t
 
 abbrev pub strays : Tasks → Set → ℕ → ℕ → Bool
 strays k m j t = has m t && not (is j (k .template t))

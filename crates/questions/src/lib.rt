@@ -10,7 +10,7 @@ ghost use Rattle.paper_lower.specs.Policy.{breaks, isFor, declaredTasks, tasksO
 ghost use Rattle.paper_lower.specs.Sessions.{allowed};
 ghost use Rattle.policy.specs.Layout.{policyWords, limitAt, blockAt, pairAt};
 ghost use Rattle.policy.specs.Reading.{policyOf, limitsOf, pairsOf};
-ghost use Rattle.questions.specs.Rows.{opens, bears, strays, lacks, exceeds, joined};
+ghost use Rattle.questions.specs.Rows.{strays, lacks, exceeds, joined};
 use sets::Set;
 
 // ---- Permissions.
@@ -20,25 +20,7 @@ pub fn pair_declared(p: &[u64], operation: u64, object: u64) -> bool
     requires { ⌜ (length (now p) ≡ policyWords) × ((operation < 65536) × (object < 65536)) ⌝ }
     ensures { λ r. ⌜ r ≡ someBelow 256 (λ i. holds (isFor operation object) (policyOf (now (p .entry)) .permissions .declared i)) ⌝ }
 {
-    let mut i = 0;
-    while i < 256 {
-        if policy::permission_is(p, i, operation, object) {
-            return true;
-        }
-        i += 1;
-    }
-    false
-}
-
-// Whether permission i is for this operation on this object, and one of the roles m has it.
-fn permission_opens(p: &[u64], i: usize, m: Set, operation: u64, object: u64) -> bool
-    requires { ⌜ (length (now p) ≡ policyWords) × ((i < 256) × ((operation < 65536) × (object < 65536))) ⌝ }
-    ensures { λ r. ⌜ r ≡ opens (policyOf (now (p .entry)) .permissions) (m .bits) operation object i ⌝ }
-{
-    if !policy::permission_is(p, i, operation, object) {
-        return false;
-    }
-    policy::holders(p, i).meets(m)
+    policy::permission_for(p, 0, operation, object) < 256
 }
 
 // Whether one of the roles m may do this operation on this object.
@@ -46,25 +28,14 @@ pub fn allowed(p: &[u64], m: Set, operation: u64, object: u64) -> bool
     requires { ⌜ (length (now p) ≡ policyWords) × ((operation < 65536) × (object < 65536)) ⌝ }
     ensures { λ r. ⌜ r ≡ allowed (policyOf (now (p .entry)) .permissions) (m .bits) operation object ⌝ }
 {
-    let mut i = 0;
+    let mut i = policy::permission_for(p, 0, operation, object);
     while i < 256 {
-        if permission_opens(p, i, m, operation, object) {
+        if policy::holders(p, i).meets(m) {
             return true;
         }
-        i += 1;
+        i = policy::permission_for(p, i + 1, operation, object);
     }
     false
-}
-
-// Whether permission i is for this operation on this object, and task t carries it.
-fn permission_borne(p: &[u64], i: usize, t: u64, operation: u64, object: u64) -> bool
-    requires { ⌜ (length (now p) ≡ policyWords) × ((i < 256) × ((t < 64) × ((operation < 65536) × (object < 65536)))) ⌝ }
-    ensures { λ r. ⌜ r ≡ bears (policyOf (now (p .entry)) .permissions) t operation object i ⌝ }
-{
-    if !policy::permission_is(p, i, operation, object) {
-        return false;
-    }
-    policy::carriers(p, i).has(t)
 }
 
 // Whether task t carries a permission for this operation on this object.
@@ -72,12 +43,12 @@ pub fn carried(p: &[u64], t: u64, operation: u64, object: u64) -> bool
     requires { ⌜ (length (now p) ≡ policyWords) × ((t < 64) × ((operation < 65536) × (object < 65536))) ⌝ }
     ensures { λ r. ⌜ r ≡ someBelow 256 (λ i. holds (isFor operation object) (policyOf (now (p .entry)) .permissions .declared i) && has (policyOf (now (p .entry)) .permissions .carriers i) t) ⌝ }
 {
-    let mut i = 0;
-    while i < 256 {
-        if permission_borne(p, i, t, operation, object) {
+    let mut b = policy::permission_for(p, 0, operation, object);
+    while b < 256 {
+        if policy::carriers(p, b).has(t) {
             return true;
         }
-        i += 1;
+        b = policy::permission_for(p, b + 1, operation, object);
     }
     false
 }

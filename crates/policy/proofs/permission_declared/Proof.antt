@@ -1,26 +1,40 @@
--- One compare of the packed word reads the row.
-use mathlib.Core.Path.{sym, ap, _∙_}
+-- The row's word, and its bit in the bucket of the pair that it names.
 use borrow.Author.Needs.{needs}
-use Rattle.paper_lower.specs.Lists.{there}
-use Rattle.replies.proofs.CellLaws.{column-at}
-use Rattle.policy.specs.Reading.{policyOf, permissionsIn}
-use Rattle.policy.proofs.WordLaws.{permission-there}
+use Rattle.policy.specs.Reading.{policyOf}
+use Rattle.policy.proofs.BucketLaws.{lists-bit, declared-there}
 use Rattle.policy.proofs.permission_declared.Statement.{statement}
 use Rattle.policy.proofs.permission_declared.Tie as tie
 
-add-result : tie.Need-add-result
-add-result c = search needs
+add-word : tie.Need-add-word
+add-word c = search needs
 
-mul-result : tie.Need-mul-result
-mul-result c = search needs
+mul-word : tie.Need-mul-word
+mul-word c = search needs
 
-shared-slice-read-result : tie.Need-shared-slice-read-result
-shared-slice-read-result c = search needs
+shared-slice-read-word : tie.Need-shared-slice-read-word
+shared-slice-read-word c = search needs
+
+bucket-of-requires : tie.Need-bucket-of-requires
+bucket-of-requires c κs = search needs
+
+listed-around-requires : tie.Need-listed-around-requires
+listed-around-requires c κs = search needs
+
+has-requires : tie.Need-has-requires
+has-requires c κs = search needs
 
 returns : tie.Need-returns
-unfolding policyOf permissionsIn
-returns c = permission-there _ ∙ sym (ap there (column-at _ _ _ _ _ _ (c .before .pre .1)))
+unfolding policyOf
+returns c = declared-there _ _ (c .before .before .before .before .before .pre .1) (lists-bit _ _ _ (c .before .before .bucket-of .ensures .0) (c .before .listed-around .ensures) (c .has .ensures))
 
 pub permission-declared-spec : {M : Type 1} → statement M
 permission-declared-spec =
-    tie.close (tie.spec add-result mul-result shared-slice-read-result returns)
+    tie.close
+    (tie.spec
+    add-word
+    mul-word
+    shared-slice-read-word
+    bucket-of-requires
+    listed-around-requires
+    has-requires
+    returns)

@@ -1,54 +1,16 @@
--- A search over the numbers below 256.
-use mathlib.Core.Path.{_≡_, refl, sym, _∙_}
-use mathlib.Core.Bool.{false}
-use Prim.Native.Nat.{_-_, _≤_}
-use native.Mathlib.Omega.{arith}
+-- The first of them is before the end.
+use mathlib.Core.Path.{ap, _∙_}
+use lib.Dec.{ltb}
+use Rattle.sets.proofs.NextLaws.{some-next}
 use borrow.Author.Needs.{needs}
-use Rattle.paper_lower.specs.Lists.{someBelow, holds}
-use Rattle.paper_lower.specs.Policy.{isFor}
-use Rattle.policy.specs.Reading.{policyOf}
-use Rattle.replies.proofs.SearchLaws.{below-more, below-found}
 use Rattle.questions.proofs.pair_declared.Statement.{statement}
 use Rattle.questions.proofs.pair_declared.Tie as tie
 
-abbrev Inv-loop : tie.InvT-loop
-Inv-loop p operation object i₀ i = (i ≤ 256) × (someBelow i (λ b. holds (isFor operation object) (policyOf p .permissions .declared b)) ≡ false)
+permission-for-requires : tie.Need-permission-for-requires
+permission-for-requires c κs = search needs
 
-abbrev μ-loop : tie.MeasureT-loop
-μ-loop p operation object i₀ i = 256 - i
-
-loop-holds : tie.Need-loop-holds Inv-loop μ-loop
-unfolding someBelow
-loop-holds c = (search needs, refl)
-
-permission-is-requires : tie.Need-permission-is-requires Inv-loop μ-loop
-permission-is-requires c κs = search needs
-
-returns : tie.Need-returns Inv-loop μ-loop
-returns c = sym (below-found _ _ _ (search needs) (sym (c .before .permission-is .ensures) ∙ c .if1 .taken))
-
-add-i : tie.Need-add-i Inv-loop μ-loop
-add-i c = search needs
-
-loop-less : tie.Need-loop-less Inv-loop μ-loop
-loop-less c = search needs
-
-loop-again : tie.Need-loop-again Inv-loop μ-loop
-loop-again c = (search needs, below-more _ _ (c .before .before .before .loop .inv .1) (sym (c .before .permission-is .ensures) ∙ c .if1 .left))
-
-returns-2 : tie.Need-returns-2 Inv-loop μ-loop
-returns-2 c = let e : 256 ≡ c .before .loop .i = omega arith in sym (rw e (c .before .loop .inv .1))
+returns : tie.Need-returns
+returns c = ap (λ r. ltb r 256) (c .permission-for .ensures) ∙ some-next _ 256
 
 pub pair-declared-spec : {M : Type 1} → statement M
-pair-declared-spec =
-    tie.close
-    (tie.spec
-    Inv-loop
-    μ-loop
-    loop-holds
-    permission-is-requires
-    returns
-    add-i
-    loop-less
-    loop-again
-    returns-2)
+pair-declared-spec = tie.close (tie.spec permission-for-requires returns)
