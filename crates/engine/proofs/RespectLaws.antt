@@ -6,7 +6,7 @@ use Rattle.paper_lower.specs.Lists.{Every, Maybe, each}
 use Rattle.paper_lower.specs.Checks.{Check, first, granted}
 use Rattle.paper_lower.specs.Records.{Record, decode}
 use Rattle.paper_lower.specs.Forms.{requestForms, formChecks}
-use Rattle.paper_lower.specs.Kinds.{Kind, on, chosen, replyTo, answer, Said, run, after}
+use Rattle.paper_lower.specs.Kinds.{Kind, chosen, replyTo, answer, Said, run, after}
 use Rattle.paper_lower.specs.Tables.{Lower}
 use Rattle.paper_lower.proofs.ListLaws.{every-map, every-append, every-each, every-all, _⨾_}
 use Rattle.paper_lower.proofs.KindLaws.{of-chosen}

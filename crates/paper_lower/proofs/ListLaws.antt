@@ -7,7 +7,7 @@ use native.Mathlib.Nat.{not-suc-le-zero, le-of-suc-le-suc, add-zero}
 use native.Mathlib.Omega.{arith}
 use borrow.Author.Tests.{eqb-true, eqb-false, eq-eqb, ne-eqb, not-false}
 use lib.Dec.{eqb}
-use Rattle.paper_lower.specs.Lists.{upd, someBelow, some, every, add, keep, each, placeFrom, place, firstOf, Every}
+use Rattle.paper_lower.specs.Lists.{upd, someBelow, some, add, keep, each, placeFrom, place, firstOf, Every}
 
 -- ---- Booleans
 pub or-none : (a b : Bool) → a || b ≡ false → (a ≡ false) × (b ≡ false)

@@ -3,22 +3,14 @@ use Prim.Native.Nat.{ℕ, _+_, _*_, _<_, _/_, _%_}
 use mathlib.Core.Bool.{Bool, true, false, not, cond, _&&_}
 use mathlib.Core.Path.{_≡_, refl, ap, _∙_}
 use native.Mathlib.Omega.{arith}
-use borrow.Author.Tests.{eqb-true, eqb-false, eq-eqb, ne-eqb}
+use borrow.Author.Tests.{eqb-true, ne-eqb}
 use lib.Dec.{eqb, leb}
 use Rattle.paper_lower.specs.Lists.{holds, there, is}
 use Rattle.paper_lower.specs.Lists.Maybe.{none, just}
 use Rattle.paper_lower.specs.Tables.{Permission}
 use Rattle.paper_lower.specs.Policy.{isFor}
+use Rattle.replies.proofs.CellLaws.{two-parts}
 use Rattle.policy.specs.Layout.{permissionOf, templateOf, mostOf}
-
--- one compare of the whole for a compare of each of two parts
-parts : (x a p q r s : ℕ) → (p ≡ q → r ≡ s → x ≡ a) → (x ≡ a → (p ≡ q) × (r ≡ s)) → eqb x a ≡ eqb p q && eqb r s
-parts x a p q r s join split = at (eqb p q) refl (eqb r s) refl
-  where
-    at : (t : Bool) → eqb p q ≡ t → (u : Bool) → eqb r s ≡ u → eqb x a ≡ t && u
-    at true e true f = eq-eqb x a (join (eqb-true p q e) (eqb-true r s f))
-    at true e false f = ne-eqb x a (λ h. eqb-false r s f (split h .1))
-    at false e u f = ne-eqb x a (λ h. eqb-false p q e (split h .0))
 
 there-if : {A : Type 0} (t : Bool) (x : A) → t ≡ there (cond t (just x) none)
 unfolding holds
@@ -38,8 +30,8 @@ module _ (w : ℕ) where
   pub permission-is : (operation object : ℕ) → operation < 65536 → object < 65536 → eqb (w % 8589934592) (4294967296 + operation + 65536 * object) ≡ holds (isFor operation object) (permissionOf w)
   unfolding permissionOf isFor
   permission-is operation object h k =
-      parts (w % 8589934592) (4294967296 + operation + 65536 * object) (w / 4294967296 % 2) 1 (w % 4294967296) (operation + 65536 * object) (omega arith) (omega arith)
-      ∙ ap (_&&_ (eqb (w / 4294967296 % 2) 1)) (parts (w % 4294967296) (operation + 65536 * object) (w % 65536) operation (w / 65536 % 65536) object (omega arith) (omega arith))
+      two-parts (w % 8589934592) (4294967296 + operation + 65536 * object) (w / 4294967296 % 2) 1 (w % 4294967296) (operation + 65536 * object) (omega arith) (omega arith)
+      ∙ ap (_&&_ (eqb (w / 4294967296 % 2) 1)) (two-parts (w % 4294967296) (operation + 65536 * object) (w % 65536) operation (w / 65536 % 65536) object (omega arith) (omega arith))
       ∙ permission-holds (isFor operation object)
 
   pub template-there : eqb (w / 16 % 2) 1 ≡ there (templateOf w)
@@ -48,7 +40,7 @@ module _ (w : ℕ) where
 
   pub template-is : (j : ℕ) → j < 16 → eqb (w % 32) (16 + j) ≡ is j (templateOf w)
   unfolding templateOf
-  template-is j h = parts (w % 32) (16 + j) (w / 16 % 2) 1 (w % 16) j (omega arith) (omega arith) ∙ holds-if (λ n. eqb n j) (eqb (w / 16 % 2) 1) (w % 16)
+  template-is j h = two-parts (w % 32) (16 + j) (w / 16 % 2) 1 (w % 16) j (omega arith) (omega arith) ∙ holds-if (λ n. eqb n j) (eqb (w / 16 % 2) 1) (w % 16)
 
   pub most-there : not (eqb (w % 256) 0) ≡ there (mostOf w)
   unfolding mostOf

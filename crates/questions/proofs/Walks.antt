@@ -1,11 +1,11 @@
--- Where a walk over kept rows starts, one turn of the walk that gathers a partitioning's tasks, and the walk from permission to permission.
+-- One turn of the walk that gathers a partitioning's tasks, and the walk from permission to permission.
 use Prim.Native.Nat.{ℕ, _+_, _-_, _≤_, _<_}
 use mathlib.Core.Bool.{Bool, true, false, _&&_}
 use mathlib.Core.List.{List}
 use mathlib.Core.Path.{_≡_, refl, sym, ap, _∙_}
 use native.Mathlib.Omega.{arith}
 use Rattle.paper_lower.specs.Sets.{Set}
-use Rattle.paper_lower.specs.Lists.{someBelow, some}
+use Rattle.paper_lower.specs.Lists.{someBelow}
 use Rattle.paper_lower.specs.Tables.{Block}
 use Rattle.paper_lower.specs.Policy.{partitioned}
 use Rattle.paper_lower.proofs.ListLaws.{and-false}
@@ -13,14 +13,8 @@ use Rattle.sets.specs.Next.{next}
 use Rattle.sets.proofs.NextLaws.{next-is, below-next}
 use Rattle.replies.specs.Cells.{rowsFrom, rows}
 use Rattle.replies.proofs.RowLaws.{rows-down, rows-end}
-use Rattle.replies.proofs.SearchLaws.{below-more, below-found}
+use Rattle.replies.proofs.SearchLaws.{all-left, below-more, below-found}
 use Rattle.questions.specs.Rows.{joined}
-
-all-left : {A : Type 0} (f : ℕ → A) {all : List A} {n count : ℕ} → all ≡ rows f count → n ≡ count → all ≡ rowsFrom f 0 (n - 0)
-all-left f {n = n} are e = let z : n - 0 ≡ n = omega arith in rw (z, e) are
-
-pub some-start : {A : Type 0} (p : A → Bool) (f : ℕ → A) {all : List A} {n count : ℕ} → all ≡ rows f count → n ≡ count → some p all ≡ some p (rowsFrom f 0 (n - 0))
-some-start p f are e = ap (some p) (all-left f are e)
 
 module _ (a : ℕ) (f : ℕ → Block) where
   pub none-gathered : (n : ℕ) → 0 ≡ partitioned a (rowsFrom f n (n - n))

@@ -1,15 +1,28 @@
 -- One turn of a loop that searches or gathers: what is left to do, before the turn and after it.
 use Prim.Native.Nat.{ℕ, suc, _+_, _-_, _≤_, _<_}
 use mathlib.Core.Bool.{Bool, true, false, cond}
-use mathlib.Core.Path.{_≡_}
+use mathlib.Core.List.{List}
+use mathlib.Core.Path.{_≡_, ap}
 use native.Mathlib.Numerals.{add-one}
 use native.Mathlib.Omega.{arith}
 use borrow.Author.Tests.{eq-eqb, ne-eqb}
 use Rattle.paper_lower.specs.Sets.{Set, plus, union, collect, unionBelow}
-use Rattle.paper_lower.specs.Lists.{someBelow, some, placeFrom, firstOf}
+use Rattle.paper_lower.specs.Lists.{someBelow, some, placeFrom, place, firstOf}
 use Rattle.paper_lower.proofs.ListLaws.{some-below}
-use Rattle.replies.specs.Cells.{rowsFrom}
+use Rattle.replies.specs.Cells.{rowsFrom, rows}
 use Rattle.replies.proofs.RowLaws.{rows-up, rows-end}
+
+-- ---- Where a walk over kept rows starts: they are the first n rows.
+module _ {A : Type 0} (f : ℕ → A) {all : List A} {n count : ℕ} (are : all ≡ rows f count) (e : n ≡ count) where
+  pub all-left : all ≡ rowsFrom f 0 (n - 0)
+  all-left = let z : n - 0 ≡ n = omega arith in rw (z, e) are
+
+  pub some-start : (p : A → Bool) → some p all ≡ some p (rowsFrom f 0 (n - 0))
+  some-start p = ap (some p) all-left
+
+  pub place-start : (p : A → Bool) → place p all ≡ placeFrom (0 + 1) p (rowsFrom f 0 (n - 0))
+  unfolding place
+  place-start p = ap (placeFrom 1 p) all-left
 
 -- ---- Some row of the first n. The loop's invariant: some p (rows f n) ≡ some p (rowsFrom f k (n - k)).
 module _ {A : Type 0} (p : A → Bool) (f : ℕ → A) (n k : ℕ) where

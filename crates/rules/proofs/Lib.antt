@@ -1,3 +1,3 @@
-mod Places
+mod BlockLaws
 mod Chain
 pub mod JudgeLaws

@@ -8,8 +8,7 @@ use Rattle.policy.specs.Layout.{limitAt}
 use Rattle.policy.specs.Reading.{policyOf, limitsOf}
 use Rattle.policy.proofs.RuleLaws.{limits-are}
 use Rattle.replies.specs.Cells.{rowsFrom}
-use Rattle.replies.proofs.SearchLaws.{some-here, some-later, some-end}
-use Rattle.questions.proofs.Walks.{some-start}
+use Rattle.replies.proofs.SearchLaws.{some-start, some-here, some-later, some-end}
 use Rattle.questions.proofs.broken.Statement.{statement}
 use Rattle.questions.proofs.broken.Tie as tie
 
@@ -23,7 +22,7 @@ limit-count-requires : tie.Need-limit-count-requires Inv-loop μ-loop
 limit-count-requires c κs = search needs
 
 loop-holds : tie.Need-loop-holds Inv-loop μ-loop
-loop-holds c = (search needs, some-start _ _ (limits-are _ _ (c .before .before .pre .1)) (c .limit-count .ensures .0))
+loop-holds c = (search needs, some-start _ (limits-are _ _ (c .before .before .pre .1)) (c .limit-count .ensures .0) _)
 
 limit-breaks-requires : tie.Need-limit-breaks-requires Inv-loop μ-loop
 limit-breaks-requires c κs = search needs

@@ -8,8 +8,7 @@ use Rattle.policy.specs.Layout.{pairAt}
 use Rattle.policy.specs.Reading.{policyOf, pairsOf}
 use Rattle.policy.proofs.RuleLaws.{pairs-are}
 use Rattle.replies.specs.Cells.{rowsFrom}
-use Rattle.replies.proofs.SearchLaws.{some-here, some-later, some-end}
-use Rattle.questions.proofs.Walks.{some-start}
+use Rattle.replies.proofs.SearchLaws.{some-start, some-here, some-later, some-end}
 use Rattle.questions.proofs.pair_repeated.Statement.{statement}
 use Rattle.questions.proofs.pair_repeated.Tie as tie
 
@@ -23,7 +22,7 @@ pair-count-requires : tie.Need-pair-count-requires Inv-loop μ-loop
 pair-count-requires c κs = search needs
 
 loop-holds : tie.Need-loop-holds Inv-loop μ-loop
-loop-holds c = (search needs, some-start _ _ (pairs-are _ _ (c .before .before .pre .1)) (c .pair-count .ensures .0))
+loop-holds c = (search needs, some-start _ (pairs-are _ _ (c .before .before .pre .1)) (c .pair-count .ensures .0) _)
 
 pair-is-requires : tie.Need-pair-is-requires Inv-loop μ-loop
 pair-is-requires c κs = search needs

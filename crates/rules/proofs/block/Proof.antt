@@ -10,8 +10,8 @@ use Rattle.policy.specs.Layout.{blockAt}
 use Rattle.policy.specs.Reading.{policyOf}
 use Rattle.policy.proofs.RuleLaws.{blocks-are}
 use Rattle.replies.specs.Cells.{rowsFrom}
-use Rattle.replies.proofs.SearchLaws.{place-here, place-later, place-end, first-here, first-later, first-end}
-use Rattle.rules.proofs.Places.{place-start, in-own, in-none, none-apart}
+use Rattle.replies.proofs.SearchLaws.{place-start, place-here, place-later, place-end, first-here, first-later, first-end}
+use Rattle.rules.proofs.BlockLaws.{in-own, in-none, none-apart}
 use Rattle.rules.proofs.block.Statement.{statement}
 use Rattle.rules.proofs.block.Tie as tie
 
@@ -44,7 +44,7 @@ has-own-requires : tie.Need-has-own-requires Inv-loop μ-loop Inv-search μ-sear
 has-own-requires c κs = search needs
 
 loop-holds : tie.Need-loop-holds Inv-loop μ-loop Inv-search μ-search
-loop-holds c = (search needs, place-start _ _ (blocks-are _) (c .before .before .before .before .block-count .ensures .0))
+loop-holds c = (search needs, place-start _ (blocks-are _) (c .before .before .before .before .block-count .ensures .0) _)
 
 is-strange-requires : tie.Need-is-strange-requires Inv-loop μ-loop Inv-search μ-search
 is-strange-requires c κs = search needs

@@ -9,8 +9,7 @@ use Rattle.policy.specs.Layout.{pairAt}
 use Rattle.policy.specs.Reading.{policyOf}
 use Rattle.policy.proofs.RuleLaws.{pairs-are}
 use Rattle.replies.specs.Cells.{rowsFrom}
-use Rattle.replies.proofs.SearchLaws.{place-here, place-later, place-end}
-use Rattle.rules.proofs.Places.{place-start}
+use Rattle.replies.proofs.SearchLaws.{place-start, place-here, place-later, place-end}
 use Rattle.rules.proofs.bound.Statement.{statement}
 use Rattle.rules.proofs.bound.Tie as tie
 
@@ -24,7 +23,7 @@ pair-count-requires : tie.Need-pair-count-requires Inv-loop μ-loop
 pair-count-requires c κs = search needs
 
 loop-holds : tie.Need-loop-holds Inv-loop μ-loop
-loop-holds c = (search needs, place-start _ _ (pairs-are _ 0 (omega arith)) (c .pair-count .ensures .0))
+loop-holds c = (search needs, place-start _ (pairs-are _ 0 (omega arith)) (c .pair-count .ensures .0) _)
 
 is-tied-requires : tie.Need-is-tied-requires Inv-loop μ-loop
 is-tied-requires c κs = search needs

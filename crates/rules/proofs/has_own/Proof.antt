@@ -8,8 +8,7 @@ use Rattle.policy.specs.Layout.{blockAt}
 use Rattle.policy.specs.Reading.{policyOf}
 use Rattle.policy.proofs.RuleLaws.{blocks-are}
 use Rattle.replies.specs.Cells.{rowsFrom}
-use Rattle.replies.proofs.SearchLaws.{some-here, some-later, some-end}
-use Rattle.rules.proofs.Places.{some-start}
+use Rattle.replies.proofs.SearchLaws.{some-start, some-here, some-later, some-end}
 use Rattle.rules.proofs.has_own.Statement.{statement}
 use Rattle.rules.proofs.has_own.Tie as tie
 
@@ -23,7 +22,7 @@ block-count-requires : tie.Need-block-count-requires Inv-loop μ-loop
 block-count-requires c κs = search needs
 
 loop-holds : tie.Need-loop-holds Inv-loop μ-loop
-loop-holds c = (search needs, some-start _ _ (blocks-are _) (c .block-count .ensures .0))
+loop-holds c = (search needs, some-start _ (blocks-are _) (c .block-count .ensures .0) _)
 
 is-own-requires : tie.Need-is-own-requires Inv-loop μ-loop
 is-own-requires c κs = search needs

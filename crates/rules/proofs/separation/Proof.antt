@@ -9,8 +9,7 @@ use Rattle.policy.specs.Layout.{limitAt}
 use Rattle.policy.specs.Reading.{policyOf}
 use Rattle.policy.proofs.RuleLaws.{limits-are}
 use Rattle.replies.specs.Cells.{rowsFrom}
-use Rattle.replies.proofs.SearchLaws.{place-here, place-later, place-end}
-use Rattle.rules.proofs.Places.{place-start}
+use Rattle.replies.proofs.SearchLaws.{place-start, place-here, place-later, place-end}
 use Rattle.rules.proofs.separation.Statement.{statement}
 use Rattle.rules.proofs.separation.Tie as tie
 
@@ -24,7 +23,7 @@ limit-count-requires : tie.Need-limit-count-requires Inv-loop μ-loop
 limit-count-requires c κs = search needs
 
 loop-holds : tie.Need-loop-holds Inv-loop μ-loop
-loop-holds c = (search needs, place-start _ _ (limits-are _ 2 (omega arith)) (c .limit-count .ensures .0))
+loop-holds c = (search needs, place-start _ (limits-are _ 2 (omega arith)) (c .limit-count .ensures .0) _)
 
 is-crowded-requires : tie.Need-is-crowded-requires Inv-loop μ-loop
 is-crowded-requires c κs = search needs

@@ -1,29 +1,15 @@
--- Where a search over kept rows starts, and BLOCK in one partitioning.
-use Prim.Native.Nat.{ℕ, _+_, _-_}
+-- BLOCK in one partitioning, and where no block is apart.
+use Prim.Native.Nat.{ℕ}
 use mathlib.Core.Bool.{Bool, true, false, not, cond, _&&_}
-use mathlib.Core.List.{List}
 use mathlib.Core.Path.{_≡_, refl, ap, sym, _∙_}
-use native.Mathlib.Omega.{arith}
 use borrow.Author.Tests.{not-true}
 use lib.Dec.{eqb}
 use Rattle.paper_lower.specs.Sets.{has, meets}
-use Rattle.paper_lower.specs.Lists.{some, placeFrom, place, Every}
+use Rattle.paper_lower.specs.Lists.{some, place, Every}
 use Rattle.paper_lower.specs.Tables.{Rules}
 use Rattle.paper_lower.proofs.ListLaws.{every-map, some-none, none-place, none-first}
 use Rattle.paper_upper.specs.Rules.{own, strange, blockIn, block}
-use Rattle.replies.specs.Cells.{rowsFrom, rows}
 use Rattle.rules.specs.Blocks.{apart}
-
-module _ {A : Type 0} (p : A → Bool) (f : ℕ → A) {all : List A} {n count : ℕ} (are : all ≡ rows f count) (e : n ≡ count) where
-  all-left : all ≡ rowsFrom f 0 (n - 0)
-  all-left = let z : n - 0 ≡ n = omega arith in rw (z, e) are
-
-  pub place-start : place p all ≡ placeFrom (0 + 1) p (rowsFrom f 0 (n - 0))
-  unfolding place
-  place-start = ap (placeFrom 1 p) all-left
-
-  pub some-start : some p all ≡ some p (rowsFrom f 0 (n - 0))
-  some-start = ap (some p) all-left
 
 still-none : (a b c : Bool) → b && c ≡ false → a && b && c ≡ false
 still-none true b c h = h
