@@ -17,7 +17,6 @@ ghost use Rattle.engine.specs.Answers.{Requested, LoadDone};
 ghost use Rattle.engine.specs.Exports.{LoadExported, RequestExported, wordsOf};
 use loading::Loaded;
 use records::Call;
-use records::Judged;
 use records::Record;
 use replies::Reply;
 
@@ -47,12 +46,11 @@ pub fn request(bytes: &[u8], policy: &mut [u64], sessions: &mut [u64], orders: &
     if (policy.len() != 4504) | (sessions.len() != 256) | (orders.len() != 2113) {
         return Reply::Room;
     }
-    let j = records::judge(Call::Request, bytes);
-    match j {
-        Judged::Shape => Reply::Shape,
-        Judged::Range => Reply::Range,
-        Judged::Fine(r) => step(r, policy, sessions, orders),
+    let r = records::judge(Call::Request, bytes);
+    if !replies::accepted(r) {
+        return r;
     }
+    step(records::decode(bytes), policy, sessions, orders)
 }
 
 // Any bytes as a policy: no subject is live afterwards, no order open, no entry in use.

@@ -18,6 +18,7 @@ use Rattle.replies.specs.Replies.{numberOf}
 use Rattle.replies.specs.declared.Reply.{Reply}
 use Rattle.replies.specs.Done.{Done}
 use Rattle.replies.proofs.ReplyLaws.{is-zero, not-zero}
+use Rattle.replies.proofs.DoneLaws.{granted-old}
 use Rattle.policy.specs.Layout.{policyWords}
 use Rattle.policy.specs.Reading.{policyOf, Cleared}
 use Rattle.loading.specs.LoadDone.{LoadDone, leaves}
@@ -35,13 +36,9 @@ pub settles : {T : Type 0} {read : List ℕ → T} {k : ℕ} {next : T} {l l′ 
 settles {read = read} {k = k} {next = next} {l = l} d =
     record { replies = d .replies; tables = d .tables ∙ granted-twice k next (read l); kept = d .kept }
 
-ungranted : {T : Type 0} (k : ℕ) (new old : T) → (k ≡ 0 → ⊥) → granted k new old ≡ old
-ungranted zero new old h = absurd (h refl)
-ungranted (suc k) new old h = refl
-
 -- ---- A refusal leaves the empty policy.
 left-empty : (r : Reply) {b : Bool} (place : ℕ) (t : Policy) → b ≡ eqb (numberOf r) 0 → not b ≡ true → leaves r place t ≡ refused (numberOf r) place
-left-empty r {b} place t a n = rw (ungranted (numberOf r) t noPolicy (not-zero r a (not-true b n)))
+left-empty r {b} place t a n = rw (← granted-old t noPolicy (numberOf r) (not-zero r a (not-true b n)))
 
 -- ---- One turn. x is the record's reply, b what `accepted` says of it, and k the length of the part that was lent.
 module _ (place at : ℕ) (bs : Bytes) (p : List ℕ) (k : ℕ) (x : Reply) (p′ : List ℕ) {b : Bool} (k16 : k ≡ 16)
@@ -62,7 +59,7 @@ module _ (place at : ℕ) (bs : Bytes) (p : List ℕ) (k : ℕ) (x : Reply) (p�
   unfolding loadFrom
   stop zero l f = absurd (not-suc-le-zero l)
   stop (suc n) l f =
-      left-empty x place (policyOf p′) a f ∙ rw (← whole-record .replies) (sym (ungranted (numberOf x) _ _ (not-zero x a (not-true b f))))
+      left-empty x place (policyOf p′) a f ∙ rw (← whole-record .replies) (granted-old _ _ (numberOf x) (not-zero x a (not-true b f)))
 
 -- ---- No whole record is left.
 module _ (place at : ℕ) (bs : Bytes) (t : Policy) where

@@ -15,7 +15,6 @@ ghost use Rattle.policy.specs.Layout.{policyWords};
 ghost use Rattle.policy.specs.Reading.{policyOf};
 ghost use Rattle.loading.specs.LoadDone.{LoadDone, leaves};
 use records::Call;
-use records::Judged;
 use records::Record;
 use replies::Reply;
 
@@ -62,12 +61,11 @@ pub fn record(bytes: &[u8], p: &mut [u64]) -> Reply
     requires { ⌜ length (now p) ≡ policyWords ⌝ }
     ensures { λ x. ⌜ Done policyOf (policyAnswer (policyOf (now (p .entry))) (now (bytes .entry)) .reply) (policyAnswer (policyOf (now (p .entry))) (now (bytes .entry)) .tables) (now (p .entry)) (now (p .exit)) x ⌝ }
 {
-    let j = records::judge(Call::Load, bytes);
-    match j {
-        Judged::Shape => Reply::Shape,
-        Judged::Range => Reply::Range,
-        Judged::Fine(r) => step(r, p),
+    let r = records::judge(Call::Load, bytes);
+    if !replies::accepted(r) {
+        return r;
     }
+    step(records::decode(bytes), p)
 }
 
 // The records of a policy, each on the tables that those before it left. It stops at the first that is refused.

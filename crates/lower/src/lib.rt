@@ -15,7 +15,6 @@ ghost use Rattle.lower.specs.Answers.{Requested, Loads};
 ghost use Rattle.lower.specs.Exports.{LoadExported, RequestExported, wordsOf};
 use loading::Loaded;
 use records::Call;
-use records::Judged;
 use records::Record;
 use replies::Reply;
 use sets::Set;
@@ -49,12 +48,11 @@ pub fn request(bytes: &[u8], p: &mut [u64], s: &mut [u64]) -> Reply
     if (p.len() != 4504) | (s.len() != 256) {
         return Reply::Room;
     }
-    let j = records::judge(Call::Lower, bytes);
-    match j {
-        Judged::Shape => Reply::Shape,
-        Judged::Range => Reply::Range,
-        Judged::Fine(r) => step(r, p, s),
+    let r = records::judge(Call::Lower, bytes);
+    if !replies::accepted(r) {
+        return r;
     }
+    step(records::decode(bytes), p, s)
 }
 
 // Any bytes as a policy: no subject is live afterwards.

@@ -1,4 +1,4 @@
--- What the code of `judge` finds, read as the paper's two checks and as the verdict on them.
+-- What the code of `judge` finds, read as the paper's two checks.
 use mathlib.Core.Path.{_≡_, refl, _∙_, ap}
 use mathlib.Core.Bool.{true, false, or-false, true≢false}
 use mathlib.Core.List.{List}
@@ -10,16 +10,16 @@ use lib.ListN.{length}
 use borrow.Author.Tests.{eq-eqb, ne-eqb}
 use Rattle.paper_lower.specs.Lists.{Maybe}
 use Rattle.paper_lower.specs.Lists.Maybe.{none, just}
+use Rattle.paper_lower.specs.Checks.{first, GRANTED, SHAPE, RANGE}
 use Rattle.paper_lower.specs.Records.{Bytes, Record as PaperRecord, number, decode}
 use Rattle.paper_lower.specs.Forms.{Field, Form as PaperForm, formOf, misplaced, above, misshapen, outOfRange, formChecks}
 use Rattle.paper_lower.specs.Forms.Field.{·, to, any, pair}
 use Rattle.records.specs.Reading.{paperOf, ofPaper, Small, Decoded}
 use Rattle.records.specs.Table.{bitOf, tableAt, misshapes, outranges}
-use Rattle.records.specs.Verdict.{formsOf, judged, Verdict}
+use Rattle.records.specs.Calls.{formsOf}
 use Rattle.records.specs.declared.Record.{Record}
 use Rattle.records.specs.declared.Form.{Form}
 use Rattle.records.specs.declared.Call.{Call}
-use Rattle.records.specs.declared.Judged.the-variants.{Shape, Range, Fine}
 use Rattle.records.proofs.Span.{holds-true}
 use Rattle.records.proofs.Lines.{free, stands, taken, line-is, n-free, m-free, table-stands}
 use Rattle.records.proofs.Fields.{none-of, first-bits, m-limit, above-limit}
@@ -64,11 +64,11 @@ module _ (call : Call) (p : PaperRecord) (h : Small (ofPaper p)) (l : Form) wher
         ap (λ k. k .5) (line-is call f l t),
       )
 
--- ---- The verdict.
+-- ---- The first check that applies.
 
-pub cut : (fs : List PaperForm) (s : Bytes) → (length s ≡ 16 → ⊥) → Verdict fs s Shape
-unfolding judged formChecks
-cut fs s h = record { answers = simp (ne-eqb (length s) 16 h); bounded = tt }
+pub cut : (fs : List PaperForm) (s : Bytes) → (length s ≡ 16 → ⊥) → SHAPE ≡ first (formChecks fs s)
+unfolding formChecks
+cut fs s h = simp (ne-eqb (length s) 16 h)
 
 module _ (call : Call) {s : Bytes} {r : Record} {l : Form} {x : ℕ} (len : length s ≡ 16) (d : Decoded s r)
     (el : l ≡ tableAt (r .kind)) (ex : x ≡ number 0 8 s) where
@@ -93,14 +93,14 @@ module _ (call : Call) {s : Bytes} {r : Record} {l : Form} {x : ℕ} (len : leng
   range : misshapes (bitOf call) l x (r .m) ≡ false → outOfRange (formOf (formsOf call) (decode s .kind)) (decode s) ≡ outranges l r
   range e = rw (← d .reads) (range-is call (paperOf r) (d .small) l (formOf (formsOf call) (r .kind)) stood (rw (← d .reads) at (shape ∙ e)))
 
-  pub misshaped : misshapes (bitOf call) l x (r .m) ≡ true → Verdict (formsOf call) s Shape
-  unfolding judged formChecks
-  misshaped e = record { answers = simp (eq-eqb (length s) 16 len, shape ∙ e); bounded = tt }
+  pub misshaped : misshapes (bitOf call) l x (r .m) ≡ true → SHAPE ≡ first (formChecks (formsOf call) s)
+  unfolding formChecks
+  misshaped e = simp (eq-eqb (length s) 16 len, shape ∙ e)
 
-  pub outranged : misshapes (bitOf call) l x (r .m) ≡ false → outranges l r ≡ true → Verdict (formsOf call) s Range
-  unfolding judged formChecks
-  outranged e f = record { answers = simp (eq-eqb (length s) 16 len, shape ∙ e, range e ∙ f); bounded = tt }
+  pub outranged : misshapes (bitOf call) l x (r .m) ≡ false → outranges l r ≡ true → RANGE ≡ first (formChecks (formsOf call) s)
+  unfolding formChecks
+  outranged e f = simp (eq-eqb (length s) 16 len, shape ∙ e, range e ∙ f)
 
-  pub fine : misshapes (bitOf call) l x (r .m) ≡ false → outranges l r ≡ false → Verdict (formsOf call) s (Fine r)
-  unfolding judged formChecks
-  fine e f = record { answers = simp (eq-eqb (length s) 16 len, shape ∙ e, range e ∙ f) (ap (λ p. Fine (ofPaper p)) (d .reads)); bounded = d .small }
+  pub fine : misshapes (bitOf call) l x (r .m) ≡ false → outranges l r ≡ false → GRANTED ≡ first (formChecks (formsOf call) s)
+  unfolding formChecks
+  fine e f = simp (eq-eqb (length s) 16 len, shape ∙ e, range e ∙ f)

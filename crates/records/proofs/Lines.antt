@@ -10,7 +10,7 @@ use Rattle.paper_lower.specs.Lists.Maybe.{none, just}
 use Rattle.paper_lower.specs.Forms.{Field, Form as PaperForm, formOf}
 use Rattle.paper_lower.specs.Forms.Field.{·, to, any, pair}
 use Rattle.records.specs.Table.{bitOf, lineOf, tableAt, tableOpen}
-use Rattle.records.specs.Verdict.{formsOf}
+use Rattle.records.specs.Calls.{formsOf}
 use Rattle.records.specs.declared.Form.{Form}
 use Rattle.records.specs.declared.Call.{Call}
 use Rattle.records.specs.declared.Call.the-variants.{Load, Lower, Request}

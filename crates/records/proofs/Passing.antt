@@ -1,26 +1,28 @@
--- For callers of `judge`: what its verdict says of the paper's replies and answers, and of the record that passed.
-use mathlib.Core.Path.{_≡_, refl, sym, _∙_, ap, subst}
+-- For callers of `judge`: what its reply says of the paper's answers, and of the record that passed.
+use mathlib.Core.Path.{_≡_, refl, sym, _∙_, ap}
 use mathlib.Core.Bool.{Bool, true, false, not, cond, _||_, true≢false}
 use mathlib.Core.List.{List, [], _∷_}
-use Prim.Native.Nat.{ℕ, suc, _-_, _^_, _<_, _≤_}
+use Prim.Native.Nat.{ℕ, _-_, _^_, _<_, _≤_}
 use native.Mathlib.Omega.{arith}
 use lib.Dec.{T, eqb, ltb, ltb→lt}
 use lib.ListN.{length}
-use borrow.Author.Tests.{eqb-true, leb-false, ltb-false, not-false}
+use borrow.Author.Tests.{eqb-true, leb-false, ltb-false, not-true, not-false}
 use Rattle.paper_lower.specs.Lists.{Maybe, holds, there}
 use Rattle.paper_lower.specs.Lists.Maybe.{none, just}
-use Rattle.paper_lower.specs.Checks.{first, GRANTED, SHAPE, RANGE}
+use Rattle.paper_lower.specs.Checks.{first, granted, GRANTED, SHAPE, RANGE}
 use Rattle.paper_lower.specs.Records.{Bytes, decode}
 use Rattle.paper_lower.specs.Forms.{Field, Form, formOf, misplaced, above, misshapen, outOfRange, formChecks}
 use Rattle.paper_lower.specs.Forms.Field.{·, to, any, pair}
 use Rattle.paper_lower.specs.Kinds.{Kind, chosen, replyTo, answer}
-use Rattle.records.specs.Reading.{paperOf, ofPaper, Small}
+use Rattle.replies.specs.Replies.{numberOf}
+use Rattle.replies.specs.declared.Reply.{Reply}
+use Rattle.replies.proofs.ReplyLaws.{is-zero, not-zero}
+use Rattle.replies.proofs.DoneLaws.{granted-old}
+use Rattle.records.specs.Reading.{paperOf, Small, Decoded}
 use Rattle.records.specs.Table.{limit}
-use Rattle.records.specs.Verdict.{numberOf, verdict, judged, Bounded, Verdict, settled}
-use Rattle.records.specs.Limits.{most, limitN, limitA, limitB, limitC, limitM, Passed}
+use Rattle.records.specs.Calls.{settled}
+use Rattle.records.specs.Limits.{most, limitN, limitA, limitB, limitC, limitM, Limits}
 use Rattle.records.specs.declared.Record.{Record}
-use Rattle.records.specs.declared.Judged.{Judged}
-use Rattle.records.specs.declared.Judged.the-variants.{Shape, Range, Fine}
 use Rattle.records.proofs.Fields.{none-of}
 
 -- when the two checks apply
@@ -30,55 +32,29 @@ shapeFails fs s = not (eqb (length s) 16) || misshapen (formOf fs (decode s .kin
 abbrev rangeFails : List Form → Bytes → Bool
 rangeFails fs s = outOfRange (formOf fs (decode s .kind)) (decode s)
 
--- ---- The number of the verdict is the first check's.
-
-number-is : (a b : Bool) (r : Record) → numberOf (verdict (first ((a, SHAPE) ∷ (b, RANGE) ∷ [])) r) ≡ first ((a, SHAPE) ∷ (b, RANGE) ∷ [])
-number-is true b r = refl
-number-is false true r = refl
-number-is false false r = refl
-
-pub number : {fs : List Form} {s : Bytes} {j : Judged} → Verdict fs s j → numberOf j ≡ first (formChecks fs s)
-unfolding judged formChecks
-number {fs} {s} {j} v =
-    ap numberOf (v .answers) ∙ number-is (shapeFails fs s) (rangeFails fs s) (ofPaper (decode s))
-
 -- ---- A refusal is the reply, whatever checks follow; where there is none, the reply is theirs.
 
-stops : (a b : Bool) (more : ℕ) {n : ℕ} → first ((a, SHAPE) ∷ (b, RANGE) ∷ []) ≡ suc n → cond a SHAPE (cond b RANGE more) ≡ suc n
-stops true b more e = e
-stops false true more e = e
-stops false false more e = absurd (omega arith)
+stops : (a b : Bool) (more : ℕ) {n : ℕ} → first ((a, SHAPE) ∷ (b, RANGE) ∷ []) ≡ n → (n ≡ 0 → ⊥) → cond a SHAPE (cond b RANGE more) ≡ n
+stops true b more e h = e
+stops false true more e h = e
+stops false false more e h = absurd (h (sym e))
 
 goes-on : (a b : Bool) (more : ℕ) → first ((a, SHAPE) ∷ (b, RANGE) ∷ []) ≡ 0 → cond a SHAPE (cond b RANGE more) ≡ more
 goes-on true b more e = absurd (omega arith)
 goes-on false true more e = absurd (omega arith)
 goes-on false false more e = refl
 
-module _ {fs : List Form} {s : Bytes} {j : Judged} (v : Verdict fs s j) where
-  pub shape-first : j ≡ Shape → first (formChecks fs s) ≡ SHAPE
-  shape-first e = sym (number v) ∙ ap numberOf e
+-- r is what `judge` replies, and b what `accepted` says of it
+module _ (fs : List Form) (s : Bytes) {T : Type 0} (ks : List (Kind T)) (t : T) (r : Reply) {b : Bool} (judged : numberOf r ≡ first (formChecks fs s)) (accepts : b ≡ eqb (numberOf r) 0) (n : not b ≡ true) where
+  refused-reply : replyTo fs ks t s ≡ numberOf r
+  unfolding replyTo formChecks
+  refused-reply = stops (shapeFails fs s) (rangeFails fs s) (first (chosen ks (decode s .kind) .checks t (decode s))) (sym judged) (not-zero r accepts (not-true b n))
 
-  pub range-first : j ≡ Range → first (formChecks fs s) ≡ RANGE
-  range-first e = sym (number v) ∙ ap numberOf e
-
-  module _ {T : Type 0} (ks : List (Kind T)) (t : T) where
-    refusal : {n : ℕ} → first (formChecks fs s) ≡ suc n → replyTo fs ks t s ≡ suc n
-    unfolding replyTo formChecks
-    refusal e = stops (shapeFails fs s) (rangeFails fs s) (first (chosen ks (decode s .kind) .checks t (decode s))) e
-
-    pub shape-reply : j ≡ Shape → replyTo fs ks t s ≡ SHAPE
-    shape-reply e = refusal (shape-first e)
-
-    pub range-reply : j ≡ Range → replyTo fs ks t s ≡ RANGE
-    range-reply e = refusal (range-first e)
-
-    pub shape-answer : j ≡ Shape → answer fs ks t s ≡ record { reply = SHAPE; tables = t }
-    unfolding answer
-    shape-answer e = rw (shape-reply e)
-
-    pub range-answer : j ≡ Range → answer fs ks t s ≡ record { reply = RANGE; tables = t }
-    unfolding answer
-    range-answer e = rw (range-reply e)
+  pub refused-answer : answer fs ks t s ≡ record { reply = numberOf r; tables = granted (numberOf r) t t }
+  unfolding answer
+  refused-answer =
+      let refused = not-zero r accepts (not-true b n) in
+      rw refused-reply (ap (λ (x : T). record { reply = numberOf r; tables = x }) (sym (granted-old _ t (numberOf r) refused) ∙ granted-old t t (numberOf r) refused))
 
 -- ---- The record that passed.
 
@@ -118,40 +94,35 @@ limits-of (just f) r h e o =
       within (2 ^ 64 - 1) (f .m) (omega (arith, h .m)) (es .4) (os .4),
     )
 
-fine-one : {r p : Record} → Fine r ≡ Fine p → r ≡ p
-fine-one e = cc
-
-module _ {fs : List Form} {s : Bytes} {j : Judged} (v : Verdict fs s j) {r : Record} (e : j ≡ Fine r) where
+-- r is what `judge` replies, b what `accepted` says of it, and d the record that was decoded
+module _ (fs : List Form) (s : Bytes) (r : Reply) {b : Bool} (judged : numberOf r ≡ first (formChecks fs s)) (accepts : b ≡ eqb (numberOf r) 0) (n : not b ≡ false) where
   no-refusal : first (formChecks fs s) ≡ GRANTED
-  no-refusal = sym (number v) ∙ ap numberOf e
+  no-refusal = sym judged ∙ is-zero r accepts (not-false b n)
 
-  reads : paperOf r ≡ decode s
-  unfolding judged
-  reads = ap paperOf (fine-one (sym e ∙ v .answers ∙ rw no-refusal))
-
-  pub passed : Passed fs s r
-  unfolding formChecks limitN limitA limitB limitC limitM
-  passed =
+  pub sized : length s ≡ 16
+  unfolding formChecks
+  sized =
       let cs = clear (shapeFails fs s) (rangeFails fs s) no-refusal in
-      let ns = neither (eqb (length s) 16) (misshapen (formOf fs (decode s .kind)) (decode s)) (cs .0) in
-      let h : Small r = subst Bounded e (v .bounded) in
-      let ls = limits-of (formOf fs (r .kind)) r h (rw (← reads) at (ns .1)) (rw (← reads) at (cs .1)) in
-      record {
-        sized = eqb-true (length s) 16 (ns .0);
-        reads = reads;
-        granted = no-refusal;
-        limits = record { small = h; known = ls .0; n = ls .1; a = ls .2; b = ls .3; c = ls .4; m = ls .5 };
-      }
+      eqb-true (length s) 16 (neither (eqb (length s) 16) (misshapen (formOf fs (decode s .kind)) (decode s)) (cs .0) .0)
 
-  module _ {T : Type 0} (ks : List (Kind T)) (t : T) where
-    pub fine-reply : replyTo fs ks t s ≡ first (chosen ks (r .kind) .checks t (paperOf r))
-    unfolding replyTo formChecks
-    fine-reply =
-        goes-on (shapeFails fs s) (rangeFails fs s) (first (chosen ks (decode s .kind) .checks t (decode s))) no-refusal ∙ rw (← reads)
+  module _ {d : Record} (is : Decoded s d) where
+    pub passed : Limits fs d
+    unfolding formChecks limitN limitA limitB limitC limitM
+    passed =
+        let cs = clear (shapeFails fs s) (rangeFails fs s) no-refusal in
+        let ns = neither (eqb (length s) 16) (misshapen (formOf fs (decode s .kind)) (decode s)) (cs .0) in
+        let ls = limits-of (formOf fs (d .kind)) d (is .small) (rw (← is .reads) at (ns .1)) (rw (← is .reads) at (cs .1)) in
+        record { small = is .small; known = ls .0; n = ls .1; a = ls .2; b = ls .3; c = ls .4; m = ls .5 }
 
-    pub fine-answer : answer fs ks t s ≡ settled ks t (paperOf r)
-    unfolding answer settled
-    fine-answer = rw (fine-reply, ← reads)
+    module _ {T : Type 0} (ks : List (Kind T)) (t : T) where
+      passed-reply : replyTo fs ks t s ≡ first (chosen ks (d .kind) .checks t (paperOf d))
+      unfolding replyTo formChecks
+      passed-reply =
+          goes-on (shapeFails fs s) (rangeFails fs s) (first (chosen ks (decode s .kind) .checks t (decode s))) no-refusal ∙ rw (← is .reads)
+
+      pub passed-answer : answer fs ks t s ≡ settled ks t (paperOf d)
+      unfolding answer settled
+      passed-answer = rw (passed-reply, ← is .reads)
 
 -- ---- A limit where the kind is known: `below (limitA requestForms) (l .a) key 128 tt`, with `unfolding limitsOpen`.
 pub below : (limit : ℕ → ℕ) {x kind k : ℕ} → x ≤ limit kind → kind ≡ k → (bound : ℕ) → T (ltb (limit k) bound) → x < bound

@@ -1,4 +1,4 @@
 pub mod Reading
 pub mod Table
-pub mod Verdict
+pub mod Calls
 pub mod Limits

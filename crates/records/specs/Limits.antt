@@ -1,15 +1,11 @@
 -- What a record that SHAPE and RANGE let pass keeps to: a dispatch over kinds requires it of its record.
-use mathlib.Core.Path.{_≡_}
 use Prim.Native.Nat.{ℕ, _-_, _^_, _≤_}
 use mathlib.Core.List.{List}
 use lib.Dec.{T}
-use lib.ListN.{length}
 use Rattle.paper_lower.specs.Lists.{Maybe, holds, there}
 use Rattle.paper_lower.specs.Lists.Maybe.{none, just}
-use Rattle.paper_lower.specs.Checks.{first, GRANTED}
-use Rattle.paper_lower.specs.Records.{Bytes, decode}
-use Rattle.paper_lower.specs.Forms.{Field, Form, formOf, formChecks, formsOpen}
-use Rattle.records.specs.Reading.{paperOf, Small}
+use Rattle.paper_lower.specs.Forms.{Field, Form, formOf, formsOpen}
+use Rattle.records.specs.Reading.{Small}
 use Rattle.records.specs.Table.{limit}
 use Rattle.records.specs.declared.Record.{Record}
 
@@ -42,13 +38,6 @@ pub record Limits (fs : List Form) (r : Record) : Type 0 where
   pub b : r .b ≤ limitB fs (r .kind)
   pub c : r .c ≤ limitC fs (r .kind)
   pub m : r .m ≤ limitM fs (r .kind)
-
--- bytes that pass, and their record
-pub record Passed (fs : List Form) (s : Bytes) (r : Record) : Type 0 where
-  pub sized : length s ≡ 16
-  pub reads : paperOf r ≡ decode s
-  pub granted : first (formChecks fs s) ≡ GRANTED
-  pub limits : Limits fs r
 
 -- What a limit is computed from, opened together where a kind is known.
 unfoldable pub limitsOpen : Unit {0}

@@ -1,13 +1,16 @@
 // Records by value, and the two checks that every record meets first: SHAPE and RANGE, from the bytes alone.
-// It rests on nothing but the paper's definitions.
-
+// It rests on the paper's definitions and on the replies.
 ghost use mathlib.Core.Path.{_≡_};
 ghost use Prim.Native.Nat.{_+_, _<_};
 ghost use lib.ListN.{length};
+ghost use Rattle.paper_lower.specs.Checks.{first};
 ghost use Rattle.paper_lower.specs.Records.{number};
+ghost use Rattle.paper_lower.specs.Forms.{formChecks};
+ghost use Rattle.replies.specs.Replies.{numberOf};
 ghost use Rattle.records.specs.Reading.{Decoded};
 ghost use Rattle.records.specs.Table.{bitOf, tableAt, misshapes, outranges};
-ghost use Rattle.records.specs.Verdict.{formsOf, Verdict};
+ghost use Rattle.records.specs.Calls.{formsOf};
+use replies::Reply;
 
 pub struct Record {
     pub kind: u64,
@@ -23,13 +26,6 @@ pub enum Call {
     Load,
     Lower,
     Request,
-}
-
-// What the bytes of a record are found to be.
-pub enum Judged {
-    Shape,
-    Range,
-    Fine(Record),
 }
 
 // A byte that was read, with its bound.
@@ -189,23 +185,23 @@ fn out_of_range(f: Form, r: Record) -> bool
     (f.3 < r.a) | (f.4 < r.b) | (f.5 < r.c)
 }
 
-// The first two checks on any bytes, for any call.
-pub fn judge(call: Call, s: &[u8]) -> Judged
-    ensures { λ j. ⌜ Verdict (formsOf call) (now (s .entry)) j ⌝ }
+// The first two checks on any bytes, for any call. What passes is decoded by the caller, as a reply goes by value and a record would go through memory.
+pub fn judge(call: Call, s: &[u8]) -> Reply
+    ensures { λ r. ⌜ numberOf r ≡ first (formChecks (formsOf call) (now (s .entry))) ⌝ }
 {
     if s.len() != 16 {
-        return Judged::Shape;
+        return Reply::Shape;
     }
     let r = decode(s);
     let kind = r.kind;
     let m = r.m;
-    let first = word(s, 0);
+    let head = word(s, 0);
     let f = form_of(kind);
-    if misshapen(call, f, first, m) {
-        return Judged::Shape;
+    if misshapen(call, f, head, m) {
+        return Reply::Shape;
     }
     if out_of_range(f, r) {
-        return Judged::Range;
+        return Reply::Range;
     }
-    Judged::Fine(r)
+    Reply::Granted
 }

@@ -12,7 +12,8 @@ use Rattle.replies.specs.Done.{Done}
 use Rattle.replies.specs.declared.Reply.{Reply}
 use Rattle.replies.proofs.ReplyLaws.{is-zero, not-zero}
 
-granted-old : {T : Type 0} (new old : T) (k : ℕ) → (k ≡ 0 → ⊥) → old ≡ granted k new old
+-- a refusal leaves the old
+pub granted-old : {T : Type 0} (new old : T) (k : ℕ) → (k ≡ 0 → ⊥) → old ≡ granted k new old
 granted-old new old zero h = absurd (h refl)
 granted-old new old (suc k) h = refl
 
