@@ -1,8 +1,9 @@
 // What the programs that run cases have in common: a line of a script, its numbers, its record, and words compared. It knows no
 // rule of the engine. A line is a letter, numbers behind it, and words for the reader.
-ghost use Prim.Native.Nat.{_<_, _≤_};
+ghost use Prim.Native.Nat.{ℕ, _<_, _≤_};
+ghost use mathlib.Core.Bool.{true};
 ghost use mathlib.Core.Path.{_≡_};
-ghost use lib.ListN.{length};
+ghost use lib.ListN.{length, getD};
 
 pub struct Fields {
     pub kind: u8,
@@ -141,7 +142,9 @@ pub fn record_of(line: &[u8], k: u64) -> Fields
 }
 
 // Copies the words, where both are equally many.
-pub fn copy(from: &[u64], to: &mut [u64]) {
+pub fn copy(from: &[u64], to: &mut [u64])
+    ensures { λ _. ⌜ (length (now (from .entry)) ≡ length (now (to .entry)) → now (to .exit) ≡ now (from .entry)) ⌝ }
+{
     if from.len() != to.len() {
         return;
     }
@@ -153,12 +156,14 @@ pub fn copy(from: &[u64], to: &mut [u64]) {
 }
 
 // Whether both have the same words.
-pub fn same(x: &[u64], y: &[u64]) -> bool {
+pub fn same(x: &[u64], y: &[u64]) -> bool
+    ensures { λ r. ⌜ (r ≡ true → now (x .entry) ≡ now (y .entry)) × (now (x .entry) ≡ now (y .entry) → r ≡ true) ⌝ }
+{
     if x.len() != y.len() {
         return false;
     }
     let mut i = 0;
-    while i < x.len() && i < y.len() {
+    while i < x.len() {
         if x[i] != y[i] {
             return false;
         }
@@ -168,7 +173,9 @@ pub fn same(x: &[u64], y: &[u64]) -> bool {
 }
 
 // Whether every word is zero.
-pub fn zeros(x: &[u64]) -> bool {
+pub fn zeros(x: &[u64]) -> bool
+    ensures { λ r. ⌜ (r ≡ true → ((i : ℕ) → getD (now (x .entry)) i 0 ≡ 0)) × (((i : ℕ) → getD (now (x .entry)) i 0 ≡ 0) → r ≡ true) ⌝ }
+{
     let mut i = 0;
     while i < x.len() {
         if x[i] != 0 {
