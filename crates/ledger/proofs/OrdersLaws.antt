@@ -1,16 +1,20 @@
 -- What the buffer's words are to the tables: the number in use, and what a store does.
-use Prim.Native.Nat.{ℕ, _+_, _≤_, _<_, min}
+use Prim.Native.Nat.{ℕ, zero, suc, _+_, _-_, _≤_, _<_, min}
 use mathlib.Core.Bool.{Bool, true, false}
 use mathlib.Core.List.{List, _∷_, _++_, append-nil}
 use mathlib.Core.Path.{_≡_, refl, sym, ap, _∙_}
+use native.Mathlib.Numerals.{add-one}
 use native.Mathlib.Omega.{arith}
+use borrow.Author.Tests.{ltb-true, ltb-false}
+use lib.Dec.{ltb}
 use lib.ListN.{length, getD, set, drop, replicate, length-set, length-replicate, drop-of-length-le}
 use lib.Seq.{getD-set-same, getD-set-other}
-use Rattle.paper_lower.specs.Lists.{some, many, keep, each}
+use Rattle.paper_lower.specs.Lists.{someBelow, some, many, keep, each}
 use Rattle.paper_lower.specs.Lists.Maybe.{none}
 use Rattle.paper_upper.specs.Orders.{Entry, Orders, noOrders}
+use Rattle.paper_lower.proofs.ListLaws.{none-below}
 use Rattle.replies.proofs.CellLaws.{column-at, column-same, column-above, column-below, column-zeros, zeros-at}
-use Rattle.ledger.specs.Reading.{ordersWords, Cleared, templateOf, entryOf, newestFirst, wordsTo, inUse, wordsOf, ordersOf, withInstance, withLedger}
+use Rattle.ledger.specs.Reading.{ordersWords, Cleared, templateOf, entryOf, newestFirst, wordsTo, inUse, wordsOf, ordersOf, withInstance, withLedger, fits, NoneFits, NextEntry}
 use Rattle.ledger.proofs.ListLaws.{newest-more, newest-same, many-newest, some-newest, many-each, some-read, keep-read, each-read}
 
 pub entries-are : (l : List ℕ) → ordersOf l .entries ≡ each entryOf (wordsTo l (inUse l))
@@ -84,6 +88,48 @@ module _ (l : List ℕ) (q : ℕ → Bool) where
   pub found-here : (k n : ℕ) → k < n → q (getD l (65 + k) 0) ≡ true → some q (wordsTo l n) ≡ true
   unfolding wordsTo
   found-here k n h e = some-newest q (λ k. getD l (65 + k) 0) k n h e
+
+-- none of the first, as a search tells it
+pub none-older : (mask key : ℕ) (l : List ℕ) (r : ℕ) → NoneFits mask key l 0 r → some (fits mask key) (wordsTo l r) ≡ false
+none-older mask key l zero h = none-yet l (fits mask key)
+none-older mask key l (suc r) h =
+    rw (← add-one r) (none-here l (fits mask key) r (none-older mask key l r (omega arith, λ k a b. h .1 k a (omega arith))) (h .1 r (omega arith) (omega arith)))
+
+-- r is the place of the oldest that fits, n the number in use
+pub some-first : (mask key : ℕ) (l : List ℕ) (r n : ℕ) → NextEntry mask key l 0 r → n ≡ inUse l → ltb r n ≡ some (fits mask key) (wordsOf l)
+some-first mask key l r n first e = at (ltb r n) refl
+  where
+    at : (b : Bool) → ltb r n ≡ b → b ≡ some (fits mask key) (wordsOf l)
+    at true h = let k = ltb-true r n h in sym (found-here l (fits mask key) r (inUse l) (omega arith) (first .here (omega arith)))
+    at false h =
+        let k = ltb-false r n h in
+        let z : r ≡ inUse l = omega (arith, first .within) in
+        sym (rw (← z) (none-older mask key l r (first .older)))
+
+pub none-fits-yet : (mask key : ℕ) (l : List ℕ) (from : ℕ) → NoneFits mask key l from from
+none-fits-yet mask key l from = (omega arith, λ k a b. let z : ⊥ = omega arith in absurd z)
+
+-- eight more of which none fits
+pub eight-more : (mask key : ℕ) (l : List ℕ) (from k : ℕ) → NoneFits mask key l from k → someBelow 8 (λ j. fits mask key (getD l (65 + (k + j)) 0)) ≡ false → NoneFits mask key l from (k + 8)
+eight-more mask key l from k h e = (omega (arith, h .0), λ x a b. at x a b (ltb x k) refl)
+  where
+    at : (x : ℕ) → from ≤ x → x < k + 8 → (c : Bool) → ltb x k ≡ c → fits mask key (getD l (65 + x) 0) ≡ false
+    at x a b true q = h .1 x a (ltb-true x k q)
+    at x a b false q =
+        let over = ltb-false x k q in
+        let z : k + (x - k) ≡ x = omega arith in
+        rw z at (none-below 8 (λ j. fits mask key (getD l (65 + (k + j)) 0)) e (x - k) (omega arith))
+
+-- one more
+pub one-less : (mask key : ℕ) (l : List ℕ) (from k : ℕ) → NoneFits mask key l from k → fits mask key (getD l (65 + k) 0) ≡ false → NoneFits mask key l from (k + 1)
+one-less mask key l from k h e = (omega (arith, h .0), λ x a b. at x a b (ltb x k) refl)
+  where
+    at : (x : ℕ) → from ≤ x → x < k + 1 → (c : Bool) → ltb x k ≡ c → fits mask key (getD l (65 + x) 0) ≡ false
+    at x a b true q = h .1 x a (ltb-true x k q)
+    at x a b false q =
+        let over = ltb-false x k q in
+        let z : k ≡ x = omega arith in
+        rw z at e
 
 -- ---- A test or a change of the words, as one of the entries.
 module _ (l : List ℕ) where

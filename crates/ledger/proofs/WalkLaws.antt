@@ -1,13 +1,14 @@
 -- A walk through the ledger that writes no farther than it has read: what is still ahead, and what the words behind have become.
 use Prim.Native.Nat.{ℕ, _+_, _≤_, _<_}
 use mathlib.Core.Bool.{Bool, true, false, cond}
-use mathlib.Core.List.{List, _∷_}
+use mathlib.Core.List.{List, [], _∷_}
 use mathlib.Core.Path.{_≡_, refl, sym, ap, _∙_}
 use native.Mathlib.Omega.{arith}
 use lib.ListN.{length, getD, set, drop, length-set}
 use lib.Seq.{getD-set-same, getD-drop, drop-set-lt, drop-drop}
-use Rattle.paper_lower.specs.Lists.{keep, each}
-use Rattle.ledger.specs.Reading.{ordersWords, entryOf, newestFirst, wordsTo, inUse, ordersOf, withLedger}
+use Rattle.paper_lower.specs.Lists.{some, keep, each}
+use Rattle.paper_lower.proofs.ListLaws.{or-none}
+use Rattle.ledger.specs.Reading.{ordersWords, entryOf, newestFirst, wordsTo, inUse, ordersOf, withLedger, fits, stays}
 use Rattle.ledger.proofs.OrdersLaws.{words-more, words-above, in-use-off, opened-off, in-use-le, number-set, orders-are}
 
 -- all but the first k words of the ledger l are those of l₀
@@ -17,8 +18,8 @@ pub record Untouched (k : ℕ) (l₀ l : List ℕ) : Type 0 where
   pub instances : ordersOf l .opened ≡ ordersOf l₀ .opened
   pub ahead : drop (65 + k) l ≡ drop (65 + k) l₀
 
-pub untouched : (l : List ℕ) → length l ≡ ordersWords → Untouched 0 l l
-untouched l room = record { room = room; number = refl; instances = refl; ahead = refl }
+pub untouched : (k : ℕ) (l : List ℕ) → length l ≡ ordersWords → Untouched k l l
+untouched k l room = record { room = room; number = refl; instances = refl; ahead = refl }
 
 module _ {k : ℕ} {l₀ l : List ℕ} (u : Untouched k l₀ l) where
   -- the word that is read next
@@ -66,10 +67,13 @@ module _ {k : ℕ} {l₀ l : List ℕ} (u : Untouched k l₀ l) where
   pub changed-all : (f : ℕ → ℕ) → k ≡ inUse l₀ → wordsTo l k ≡ each f (wordsTo l₀ k) → ordersOf l ≡ withLedger (ordersOf l₀) (each entryOf (each f (wordsTo l₀ (inUse l₀))))
   changed-all f e h = orders-are l (ordersOf l₀) (each f (wordsTo l₀ (inUse l₀))) (u .instances) (rw (u .number, ← e) h)
 
--- ---- Before the first turn.
-pub keep-none : (q : ℕ → Bool) (l : List ℕ) → wordsTo l 0 ≡ keep q (wordsTo l 0)
-unfolding keep wordsTo newestFirst
-keep-none q l = refl
+-- ---- Before the first turn: no word fits, so all stay; no word is read.
+pub keep-older : (mask key : ℕ) (ws : List ℕ) → some (fits mask key) ws ≡ false → ws ≡ keep (stays mask key) ws
+unfolding some keep stays
+keep-older mask key [] h = refl
+keep-older mask key (w ∷ ws) h =
+    let are = or-none (fits mask key w) (some (fits mask key) ws) h in
+    rw (are .0) (ap (_∷_ w) (keep-older mask key ws (are .1)))
 
 pub each-none : (f : ℕ → ℕ) (l : List ℕ) → wordsTo l 0 ≡ each f (wordsTo l 0)
 unfolding each wordsTo newestFirst

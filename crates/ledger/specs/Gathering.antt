@@ -5,7 +5,7 @@ use mathlib.Core.List.{List}
 use lib.Dec.{eqb}
 use Rattle.paper_lower.specs.Sets.{plus}
 use Rattle.paper_lower.specs.Lists.{some, many, keep}
-use Rattle.paper_upper.specs.Orders.{Entry, isHeld, isDone, inOrder, ofTask, tasksBy, tasksDone, tasksOthers}
+use Rattle.paper_upper.specs.Orders.{Entry, isHeld, ofTask, tasksBy, tasksDone, tasksOthers}
 use Rattle.ledger.specs.declared.Gathered.{Gathered}
 
 -- a Boolean as a number
@@ -32,7 +32,3 @@ takenIn u t user task finished g =
       times = cond (eqb task t) (g .times + 1) (g .times);
       held = cond (eqb task t && not finished) 1 (g .held);
     }
-
--- one entry more
-unfoldable pub withEntry : ℕ → ℕ → ℕ → Entry → Gathered → Gathered
-withEntry i u t e g = cond (inOrder i e) (takenIn u t (e .user) (e .task) (isDone (e .standing)) g) g

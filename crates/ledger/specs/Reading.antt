@@ -1,7 +1,7 @@
 -- The words of the orders buffer, read as 01's tables: the number of entries in use, then a word for each instance and each entry.
 -- Every content reads as some tables.
-use Prim.Native.Nat.{ℕ, zero, suc, _+_, _*_, _/_, _%_, _<_, min}
-use mathlib.Core.Bool.{Bool, not, cond, _&&_}
+use Prim.Native.Nat.{ℕ, zero, suc, _+_, _*_, _/_, _%_, _≤_, _<_, min}
+use mathlib.Core.Bool.{Bool, true, false, not, cond, _&&_}
 use mathlib.Core.List.{List, [], _∷_}
 use mathlib.Core.Path.{_≡_}
 use lib.Dec.{eqb}
@@ -90,6 +90,16 @@ fits mask key w = eqb (bitAnd w mask) key
 
 unfoldable pub stays : ℕ → ℕ → ℕ → Bool
 stays mask key w = not (fits mask key w)
+
+-- none of the entries from one place to before another fits
+abbrev pub NoneFits : ℕ → ℕ → List ℕ → ℕ → ℕ → Type 0
+NoneFits mask key l from r = (from ≤ r) × ((k : ℕ) → from ≤ k → k < r → fits mask key (getD l (65 + k) 0) ≡ false)
+
+-- r is the place of the oldest entry that fits, from a place on, or the number in use
+pub record NextEntry (mask key : ℕ) (l : List ℕ) (from r : ℕ) : Type 0 where
+  pub within : r ≤ inUse l
+  pub older : NoneFits mask key l from r
+  pub here : r < inUse l → fits mask key (getD l (65 + r) 0) ≡ true
 
 -- a held entry's word, with its done bit set where it is the key's
 unfoldable pub turnedWord : ℕ → ℕ → ℕ

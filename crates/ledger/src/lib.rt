@@ -2,18 +2,18 @@
 // Each function equals what paper_upper defines over the tables that the buffer reads as (specs/Reading).
 ghost use mathlib.Core.Path.{_≡_};
 ghost use Prim.Native.Nat.{_+_, _/_, _%_, _<_, _≤_};
-ghost use lib.ListN.{length};
+ghost use lib.ListN.{length, getD};
 ghost use mathlib.Core.Bool.{cond, not, _&&_};
 ghost use mathlib.Core.List.{_∷_};
 ghost use lib.Dec.{eqb};
 ghost use Rattle.paper_lower.specs.Sets.{plus};
-ghost use Rattle.paper_lower.specs.Lists.{some, many, keep, each};
+ghost use Rattle.paper_lower.specs.Lists.{someBelow, some, many, keep, each};
 ghost use Rattle.paper_lower.specs.Lists.Maybe.{just, none};
 ghost use Rattle.paper_upper.specs.Orders.{entry, isHeld, isHeldBy, inOrder, heldBy};
 ghost use Rattle.paper_upper.specs.Orders.Standing.{held};
 ghost use Rattle.paper_upper.specs.Requests.{turned};
-ghost use Rattle.ledger.specs.Reading.{ordersWords, Cleared, ordersOf, wordsOf, withInstance, withLedger, openedOf, inOpenOrder, templateOf, entryOf, keyOf, fits, stays, turnedWord};
-ghost use Rattle.ledger.specs.Gathering.{gatheredOf, takenIn, withEntry};
+ghost use Rattle.ledger.specs.Reading.{ordersWords, Cleared, ordersOf, wordsOf, withInstance, withLedger, openedOf, inOpenOrder, templateOf, entryOf, keyOf, inUse, fits, stays, NoneFits, NextEntry, turnedWord};
+ghost use Rattle.ledger.specs.Gathering.{gatheredOf, takenIn};
 use sets::set_of;
 
 // The length of the buffer, the word of the first entry, and how many entries there are at most.
@@ -70,6 +70,70 @@ pub fn in_use(o: &[u64]) -> usize
     if n < MOST { n as usize } else { MOST as usize }
 }
 
+// ---- A search through the entries.
+
+fn word_fits(o: &[u64], k: usize, mask: u64, key: u64) -> bool
+    requires { ⌜ (length (now o) ≡ ordersWords) × (k < 2048) ⌝ }
+    ensures { λ r. ⌜ r ≡ fits mask key (getD (now (o .entry)) (65 + k) 0) ⌝ }
+{
+    o[FIRST + k] & mask == key
+}
+
+// Whether one of eight entries fits: eight compares without a branch.
+fn eight_fit(o: &[u64], k: usize, mask: u64, key: u64) -> bool
+    requires { ⌜ (length (now o) ≡ ordersWords) × (k + 8 ≤ 2048) ⌝ }
+    ensures { λ r. ⌜ r ≡ someBelow 8 (λ j. fits mask key (getD (now (o .entry)) (65 + (k + j)) 0)) ⌝ }
+{
+    word_fits(o, k + 7, mask, key)
+        | (word_fits(o, k + 6, mask, key)
+            | (word_fits(o, k + 5, mask, key)
+                | (word_fits(o, k + 4, mask, key)
+                    | (word_fits(o, k + 3, mask, key)
+                        | (word_fits(o, k + 2, mask, key)
+                            | (word_fits(o, k + 1, mask, key) | word_fits(o, k, mask, key)))))))
+}
+
+// From `from` on, eight entries at a time, as far as none of them fits.
+fn skip(o: &[u64], from: usize, n: usize, mask: u64, key: u64) -> usize
+    requires { ⌜ (length (now o) ≡ ordersWords) × ((from ≤ n) × (n ≤ 2048)) ⌝ }
+    ensures { λ r. ⌜ (r ≤ n) × NoneFits mask key (now (o .entry)) from r ⌝ }
+{
+    let mut k = from;
+    while k + 8 <= n {
+        if eight_fit(o, k, mask, key) {
+            return k;
+        }
+        k += 8;
+    }
+    k
+}
+
+// The place of the next entry, from `from` on and the oldest first, whose word, cut by the mask, is the key; the number in use, where there is none.
+fn next_entry(o: &[u64], from: usize, mask: u64, key: u64) -> usize
+    requires { ⌜ (length (now o) ≡ ordersWords) × (from ≤ inUse (now o)) ⌝ }
+    ensures { λ r. ⌜ NextEntry mask key (now (o .entry)) from r ⌝ }
+{
+    let n = in_use(o);
+    let mut k = skip(o, from, n, mask, key);
+    while k < n {
+        if word_fits(o, k, mask, key) {
+            return k;
+        }
+        k += 1;
+    }
+    n
+}
+
+// Whether the word of some entry, cut by the mask, is the key.
+fn any_entry(o: &[u64], mask: u64, key: u64) -> bool
+    requires { ⌜ length (now o) ≡ ordersWords ⌝ }
+    ensures { λ r. ⌜ r ≡ some (fits mask key) (wordsOf (now (o .entry))) ⌝ }
+{
+    next_entry(o, 0, mask, key) < in_use(o)
+}
+
+// ---- What a claim asks.
+
 // The tasks of one instance with an entry of the user, with a done entry, with an entry of another user; the entries of one task, and 1 where one of
 // them is held. All are u64: the padding of a bool would go through memory at each turn.
 pub struct Gathered {
@@ -124,17 +188,6 @@ fn take_in(g: Gathered, w: u64, u: u64, t: u64) -> Gathered
     }
 }
 
-// One compare before anything else is read of the word: most words are of other instances.
-fn step(g: Gathered, w: u64, i: u64, u: u64, t: u64) -> Gathered
-    requires { ⌜ g .times < 2048 ⌝ }
-    ensures { λ r. ⌜ r ≡ withEntry i u t (entryOf w) g ⌝ }
-{
-    if w % 64 != i {
-        return g;
-    }
-    take_in(g, w, u, t)
-}
-
 // What a claim of task t by user u in instance i asks of the entries.
 pub fn gather(o: &[u64], i: u64, u: u64, t: u64) -> Gathered
     requires { ⌜ length (now o) ≡ ordersWords ⌝ }
@@ -148,11 +201,11 @@ pub fn gather(o: &[u64], i: u64, u: u64, t: u64) -> Gathered
         times: 0,
         held: 0,
     };
-    let mut k = 0;
+    let mut k = next_entry(o, 0, ORDER, i);
     while k < n {
         let w = o[FIRST + k];
-        g = step(g, w, i, u, t);
-        k += 1;
+        g = take_in(g, w, u, t);
+        k = next_entry(o, k + 1, ORDER, i);
     }
     g
 }
@@ -176,15 +229,15 @@ pub fn enter(o: &mut [u64], i: u64, u: u64, t: u64, a: u64)
     o[0] = n as u64 + 1;
 }
 
-// Removes each entry whose word, cut by the mask, is the key; the others keep their order. Each word is stored, and where it is not to stay it is
-// stored over: a branch would be hard to foretell.
+// Removes each entry whose word, cut by the mask, is the key; the others keep their order, and those before the first such stay where they are. Each
+// word behind it is stored, and where it is not to stay it is stored over: a branch would be hard to foretell.
 fn remove(o: &mut [u64], mask: u64, key: u64)
     requires { ⌜ length (now o) ≡ ordersWords ⌝ }
     ensures { λ _. ⌜ ordersOf (now (o .exit)) ≡ withLedger (ordersOf (now (o .entry))) (each entryOf (keep (stays mask key) (wordsOf (now (o .entry))))) ⌝ }
 {
     let n = in_use(o);
-    let mut to: u64 = 0;
-    let mut k = 0;
+    let mut k = next_entry(o, 0, mask, key);
+    let mut to = k as u64;
     while k < n {
         let w = o[FIRST + k];
         o[FIRST + to as usize] = w;
@@ -230,23 +283,6 @@ pub fn finish(o: &mut [u64], i: u64, t: u64, a: u64)
         o[FIRST + k] = turn(w, key);
         k += 1;
     }
-}
-
-// Whether the word of some entry, cut by the mask, is the key.
-fn any_entry(o: &[u64], mask: u64, key: u64) -> bool
-    requires { ⌜ length (now o) ≡ ordersWords ⌝ }
-    ensures { λ r. ⌜ r ≡ some (fits mask key) (wordsOf (now (o .entry))) ⌝ }
-{
-    let n = in_use(o);
-    let mut k = 0;
-    while k < n {
-        let w = o[FIRST + k];
-        if w & mask == key {
-            return true;
-        }
-        k += 1;
-    }
-    false
 }
 
 pub fn holds_task(o: &[u64], i: u64, t: u64, a: u64) -> bool

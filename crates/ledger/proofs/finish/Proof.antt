@@ -25,7 +25,7 @@ key-of-requires : tie.Need-key-of-requires Inv-loop μ-loop
 key-of-requires c κs = search needs
 
 loop-holds : tie.Need-loop-holds Inv-loop μ-loop
-loop-holds c = (search needs, (untouched (c .before .before .before .before .args .o .now) (c .before .before .before .before .pre .0), each-none _ _))
+loop-holds c = (search needs, (untouched _ (c .before .before .before .before .args .o .now) (c .before .before .before .before .pre .0), each-none _ _))
 
 add-w : tie.Need-add-w Inv-loop μ-loop
 add-w c = search needs

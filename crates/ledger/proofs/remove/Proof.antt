@@ -6,22 +6,27 @@ use borrow.Author.Needs.{needs}
 use lib.ListN.{getD, length-set}
 use Rattle.paper_lower.specs.Lists.{keep}
 use Rattle.ledger.specs.Reading.{fits, stays, inUse, wordsTo}
-use Rattle.ledger.proofs.OrdersLaws.{many-entries}
-use Rattle.ledger.proofs.WalkLaws.{Untouched, untouched, stored, keep-none, keep-turn, next-le, kept-all}
+use Rattle.ledger.proofs.OrdersLaws.{many-entries, none-older}
+use Rattle.ledger.proofs.WalkLaws.{Untouched, untouched, stored, keep-older, keep-turn, next-le, kept-all}
 use Rattle.ledger.proofs.remove.Statement.{statement}
 use Rattle.ledger.proofs.remove.Tie as tie
 
 abbrev Inv-loop : tie.InvT-loop
-Inv-loop o₀ mask key n to₀ k₀ o to k = (k ≤ n) × ((to ≤ k) × (Untouched k o₀ o × (wordsTo o to ≡ keep (stays mask key) (wordsTo o₀ k))))
+Inv-loop o₀ mask key n k₀ to₀ o k to = (k ≤ n) × ((to ≤ k) × (Untouched k o₀ o × (wordsTo o to ≡ keep (stays mask key) (wordsTo o₀ k))))
 
 abbrev μ-loop : tie.MeasureT-loop
-μ-loop o₀ mask key n to₀ k₀ o to k = n - k
+μ-loop o₀ mask key n k₀ to₀ o k to = n - k
 
 in-use-requires : tie.Need-in-use-requires Inv-loop μ-loop
 in-use-requires c κs = search needs
 
+next-entry-requires : tie.Need-next-entry-requires Inv-loop μ-loop
+next-entry-requires c κs = search needs
+
 loop-holds : tie.Need-loop-holds Inv-loop μ-loop
-loop-holds c = (search needs, (search needs, (untouched (c .before .before .before .args .o .now) (c .before .before .before .pre), keep-none _ _)))
+loop-holds c =
+    let k = c .next-entry .ensures in
+    (omega (arith, k .within, many-entries (c .before .before .before .before .before .args .o .now)), (search needs, (untouched _ (c .before .before .before .before .before .args .o .now) (c .before .before .before .before .before .pre), keep-older _ _ _ (none-older _ _ (c .before .before .before .before .before .args .o .now) _ (k .older)))))
 
 add-w : tie.Need-add-w Inv-loop μ-loop
 add-w c = search needs
@@ -55,7 +60,7 @@ unfolding stays fits
 loop-again c =
     let b = c .before .before .before .loop in
     let u = b .inv .1 .1 .0 in
-    let q = stays (c .before .before .before .before .before .before .before .args .mask) (c .before .before .before .before .before .before .before .args .key) in
+    let q = stays (c .before .before .before .before .before .before .before .before .before .args .mask) (c .before .before .before .before .before .before .before .before .before .args .key) in
     let next = c .more-if .ensures in (
       search needs,
       (
@@ -73,12 +78,12 @@ slice-write-o-2 c = search needs
 same-length : tie.Need-same-length Inv-loop μ-loop
 same-length c =
     let b = c .before .loop in
-    length-set (b .o) 0 (b .to) ∙ b .inv .1 .1 .0 .room ∙ sym (c .before .before .before .before .before .pre)
+    length-set (b .o) 0 (b .to) ∙ b .inv .1 .1 .0 .room ∙ sym (c .before .before .before .before .before .before .before .pre)
 
 returns : tie.Need-returns Inv-loop μ-loop
 returns c =
     let b = c .before .loop in
-    let l = c .before .before .before .before .before .args .o .now in
+    let l = c .before .before .before .before .before .before .before .args .o .now in
     let e : b .k ≡ inUse l = omega (arith, many-entries l) in
     kept-all (b .inv .1 .1 .0) _ (b .to) e (b .inv .1 .0) (b .inv .1 .1 .1)
 
@@ -89,6 +94,7 @@ remove-spec =
     Inv-loop
     μ-loop
     in-use-requires
+    next-entry-requires
     loop-holds
     add-w
     mul-w
