@@ -1,6 +1,7 @@
 // Sets of roles or of tasks, one word each: bit i stands for role or task i.
 // Each operation equals document 01's definition of it (paper_lower, Sets).
 ghost use mathlib.Core.Path.{_≡_};
+ghost use mathlib.Core.Bool.{true};
 ghost use Prim.Native.Nat.{_<_, _-_};
 ghost use lib.Dec.{eqb};
 ghost use Rattle.paper_lower.specs.Sets.{empty, has, plus, minus, union, cut, size, overlap, meets, within};
@@ -76,6 +77,14 @@ impl Set {
         ensures { λ r. ⌜ r ≡ size (self .bits) ⌝ }
     {
         u64::count_ones(self.bits) as u64
+    }
+
+    // A member of a set that has one.
+    pub fn member(self) -> u64
+        requires { ⌜ 0 < self .bits ⌝ }
+        ensures { λ r. ⌜ (has (self .bits) r ≡ true) × (r < 64) ⌝ }
+    {
+        u64::trailing_zeros(self.bits) as u64
     }
 
     // The lowest member from i on, or 64.
