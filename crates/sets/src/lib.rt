@@ -2,10 +2,9 @@
 // Each operation equals document 01's definition of it (paper_lower, Sets).
 ghost use mathlib.Core.Path.{_≡_};
 ghost use mathlib.Core.Bool.{true};
-ghost use Prim.Native.Nat.{_<_, _-_};
+ghost use Prim.Native.Nat.{_<_};
 ghost use lib.Dec.{eqb};
 ghost use Rattle.paper_lower.specs.Sets.{empty, has, plus, minus, union, cut, size, overlap, meets, within};
-ghost use Rattle.sets.specs.Next.{next};
 
 pub struct Set {
     pub bits: u64,
@@ -85,15 +84,6 @@ impl Set {
         ensures { λ r. ⌜ (has (self .bits) r ≡ true) × (r < 64) ⌝ }
     {
         u64::trailing_zeros(self.bits) as u64
-    }
-
-    // The lowest member from i on, or 64.
-    pub fn first_from(self, i: u64) -> u64
-        requires { ⌜ i < 64 ⌝ }
-        ensures { λ r. ⌜ r ≡ next i (64 - i) (has (self .bits)) ⌝ }
-    {
-        let first = i + u64::trailing_zeros(self.bits >> i) as u64;
-        if first < 64 { first } else { 64 }
     }
 
     pub fn is_empty(self) -> bool
