@@ -1,11 +1,11 @@
--- Rows that their bucket lists: what such a row answers, the next of them in a bucket, and one row listed anew.
-use Prim.Native.Nat.{ℕ, _+_, _-_, _*_, _/_, _%_, _≤_, _<_}
-use mathlib.Core.Bool.{Bool, true, false, cond, _&&_}
+-- Rows that their bucket lists: what such a row answers, rows emptied that a bucket does not list, and one row listed anew.
+use Prim.Native.Nat.{ℕ, _+_, _*_, _/_, _%_, _<_}
+use mathlib.Core.Bool.{Bool, true, false, cond, _&&_, true≢false}
 use mathlib.Core.List.{List}
 use mathlib.Core.Path.{_≡_, refl, sym, ap, _∙_, fun-ext}
 use native.Mathlib.Omega.{arith}
-use borrow.Author.Tests.{eq-eqb, ne-eqb, eqb-true, eqb-false, ltb-true, ltb-false}
-use lib.Dec.{eqb, ltb}
+use borrow.Author.Tests.{eq-eqb, ne-eqb, eqb-true, eqb-false}
+use lib.Dec.{eqb}
 use lib.ListN.{getD}
 use Rattle.paper_lower.specs.Sets.{Set, has, plus}
 use Rattle.paper_lower.specs.Lists.{Maybe, upd, holds, there}
@@ -13,21 +13,23 @@ use Rattle.paper_lower.specs.Lists.Maybe.{none, just}
 use Rattle.paper_lower.specs.Tables.{Permission}
 use Rattle.paper_lower.specs.Policy.{isFor}
 use Rattle.paper_lower.proofs.ListLaws.{both, and-false, upd-same, upd-other}
-use Rattle.sets.specs.Next.{next}
 use Rattle.sets.proofs.SetLaws.{has-new, has-other}
-use Rattle.sets.proofs.NextLaws.{next-min, next-before, next-skip, next-is, next-by, next-same, next-shift}
 use Rattle.replies.proofs.CellLaws.{column-at}
-use Rattle.policy.specs.Layout.{permissionOf, tableIn, permissionTable, bucketTable, bucketOf, lists, listed}
-use Rattle.policy.specs.Reading.{permissionsIn}
+use Rattle.policy.specs.Layout.{permissionOf, tableIn, permissionTable, bucketTable, bucketOf, lists, listed, foursFor, rowIs, inBucket, unlessIn}
+use Rattle.policy.specs.Reading.{permissionsIn, policyOf}
 use Rattle.policy.proofs.WordLaws.{permission-holds, permission-is}
 
--- the bucket of its pair lists it
-abbrev isListed : (ℕ → Set) → ℕ → Permission → Bool
-isListed buckets b x = lists buckets (bucketOf (x .operation) (x .object)) b
+-- the bucket of its pair
+abbrev its : Permission → ℕ
+its x = bucketOf (x .operation) (x .object)
+
+-- what a row k reads as, the buckets being these
+abbrev counted : (ℕ → Set) → ℕ → Maybe Permission → Maybe Permission
+counted buckets k r = cond (holds (λ x. lists buckets (its x) k) r) r none
 
 -- ---- What a row answers.
 module _ (rows : ℕ → Maybe Permission) (buckets : ℕ → Set) (b : ℕ) where
-  listed-there : there (listed rows buckets b) ≡ holds (isListed buckets b) (rows b)
+  listed-there : there (listed rows buckets b) ≡ holds (λ x. lists buckets (its x) b) (rows b)
   unfolding listed holds
   listed-there = go (rows b)
     where
@@ -35,61 +37,39 @@ module _ (rows : ℕ → Maybe Permission) (buckets : ℕ → Set) (b : ℕ) whe
       at x true = refl
       at x false = refl
 
-      go : (r : Maybe Permission) → there (cond (holds (isListed buckets b) r) r none) ≡ holds (isListed buckets b) r
+      go : (r : Maybe Permission) → there (counted buckets b r) ≡ holds (λ x. lists buckets (its x) b) r
       go none = refl
-      go (just x) = at x (isListed buckets b x)
+      go (just x) = at x (lists buckets (its x) b)
 
   module _ (operation object : ℕ) where
-    listed-for : holds (isFor operation object) (listed rows buckets b) ≡ holds (isFor operation object) (rows b) && lists buckets (bucketOf operation object) b
+    listed-for : holds (isFor operation object) (listed rows buckets b) ≡ lists buckets (bucketOf operation object) b && holds (isFor operation object) (rows b)
     unfolding listed holds isFor
     listed-for = go (rows b)
       where
-        same : (x : Permission) → isFor operation object x ≡ true → isListed buckets b x ≡ lists buckets (bucketOf operation object) b
+        same : (x : Permission) → isFor operation object x ≡ true → lists buckets (its x) b ≡ lists buckets (bucketOf operation object) b
         same x e =
             let are = both (eqb (x .operation) operation) (eqb (x .object) object) e in
             λ z. lists buckets (bucketOf (eqb-true (x .operation) operation (are .0) z) (eqb-true (x .object) object (are .1) z)) b
 
-        at : (x : Permission) (q : Bool) → isFor operation object x ≡ q → (t : Bool) → isListed buckets b x ≡ t → holds (isFor operation object) (cond t (just x) none) ≡ q && lists buckets (bucketOf operation object) b
-        at x true e true f = e ∙ sym f ∙ same x e
-        at x true e false f = sym f ∙ same x e
-        at x false e true f = e
-        at x false e false f = refl
+        at : (x : Permission) (q : Bool) → isFor operation object x ≡ q → (t : Bool) → lists buckets (its x) b ≡ t → holds (isFor operation object) (cond t (just x) none) ≡ lists buckets (bucketOf operation object) b && q
+        at x true e true f = e ∙ sym (ap (λ u. u && true) (sym (same x e) ∙ f))
+        at x true e false f = sym (ap (λ u. u && true) (sym (same x e) ∙ f))
+        at x false e true f = e ∙ sym (and-false (lists buckets (bucketOf operation object) b))
+        at x false e false f = sym (and-false (lists buckets (bucketOf operation object) b))
 
-        go : (r : Maybe Permission) → holds (isFor operation object) (cond (holds (isListed buckets b) r) r none) ≡ holds (isFor operation object) r && lists buckets (bucketOf operation object) b
-        go none = refl
-        go (just x) = at x (isFor operation object x) refl (isListed buckets b x) refl
+        go : (r : Maybe Permission) → holds (isFor operation object) (counted buckets b r) ≡ lists buckets (bucketOf operation object) b && holds (isFor operation object) r
+        go none = sym (and-false (lists buckets (bucketOf operation object) b))
+        go (just x) = at x (isFor operation object x) refl (lists buckets (its x) b) refl
 
--- ---- The next that a bucket lists, word by word.
-module _ (buckets : ℕ → Set) (h i first : ℕ) (m : Set) (word : m ≡ buckets (4 * h + i / 64)) (found : first ≡ next (i % 64) (64 - i % 64) (has m)) (room : i < 256) where
-  in-word : next i (64 - i % 64) (lists buckets h) ≡ 64 * (i / 64) + first
-  unfolding lists
-  in-word =
-      let whole : 64 * (i / 64) + i % 64 ≡ i = omega arith in
-      ap (λ k. next k (64 - i % 64) (lists buckets h)) (sym whole)
-      ∙ next-shift (64 * (i / 64)) (i % 64) (64 - i % 64) (lists buckets h)
-      ∙ ap (λ k. 64 * (i / 64) + k) (next-same (i % 64) (64 - i % 64) (λ x. lists buckets h (64 * (i / 64) + x)) (has m) row ∙ sym found)
-    where
-      row : (x : ℕ) → i % 64 ≤ x → x < i % 64 + (64 - i % 64) → lists buckets h (64 * (i / 64) + x) ≡ has m x
-      row x l u =
-          let same : (64 * (i / 64) + x) / 64 ≡ i / 64 = omega arith in
-          let bit : (64 * (i / 64) + x) % 64 ≡ x = omega arith in
-          (λ z. has (buckets (4 * h + same z)) (bit z)) ∙ ap (λ w. has w x) (sym word)
-
-  pub next-in-word : first < 64 → 64 * (i / 64) + first ≡ next i (256 - i) (lists buckets h)
-  next-in-word l =
-      let part = next-min i (256 - i) (64 - i % 64) (lists buckets h) (omega arith) in
-      let here = in-word in
-      omega arith
-
-  pub next-past-word : 64 ≤ first → next i (256 - i) (lists buckets h) ≡ next (64 * (i / 64 + 1)) (256 - 64 * (i / 64 + 1)) (lists buckets h)
-  next-past-word l =
-      let here = in-word in
-      next-skip (lists buckets h) i 256 (64 * (i / 64 + 1)) (omega arith) (omega arith) (λ x a b. next-before i (64 - i % 64) (lists buckets h) x a (omega arith))
+-- A permission for the pair: its four is one of the pair's, and its row is for the pair.
+pub declared-for : (l : List ℕ) (operation object b : ℕ) → holds (isFor operation object) (policyOf l .permissions .declared b) ≡ has (foursFor l operation object) (b / 4) && rowIs l operation object b
+unfolding policyOf permissionsIn foursFor rowIs lists
+declared-for l operation object b = listed-for (tableIn permissionTable l) (tableIn bucketTable l) b operation object
 
 -- ---- A getter's words.
-pub lists-bit : (buckets : ℕ → Set) (h b : ℕ) {bucket : ℕ} {m : Set} {t : Bool} → bucket ≡ h → m ≡ buckets (4 * bucket + b / 64) → t ≡ has m (b % 64) → t ≡ lists buckets h b
+pub lists-bit : (buckets : ℕ → Set) (h b : ℕ) {bucket : ℕ} {m : Set} {t : Bool} → bucket ≡ h → m ≡ buckets bucket → t ≡ has m (b / 4) → t ≡ lists buckets h b
 unfolding lists
-lists-bit buckets h b p q r = r ∙ (λ z. has (q z) (b % 64)) ∙ (λ z. has (buckets (4 * p z + b / 64)) (b % 64))
+lists-bit buckets h b p q r = r ∙ (λ z. has (q z) (b / 4)) ∙ (λ z. has (buckets (p z)) (b / 4))
 
 module _ (l : List ℕ) (b : ℕ) (room : b < 256) where
   pub declared-there : {t : Bool} → t ≡ lists (tableIn bucketTable l) (bucketOf (getD l (2056 + b) 0 % 65536) (getD l (2056 + b) 0 / 65536 % 65536)) b
@@ -97,89 +77,107 @@ module _ (l : List ℕ) (b : ℕ) (room : b < 256) where
   unfolding permissionsIn
   declared-there e =
       ap (_&&_ (eqb (getD l (2056 + b) 0 / 4294967296 % 2) 1)) e
-      ∙ permission-holds (getD l (2056 + b) 0) (isListed (tableIn bucketTable l) b)
-      ∙ sym (listed-there (tableIn permissionTable l) (tableIn bucketTable l) b ∙ ap (holds (isListed (tableIn bucketTable l) b)) (column-at permissionOf none 2056 256 l b room))
+      ∙ permission-holds (getD l (2056 + b) 0) (λ x. lists (tableIn bucketTable l) (its x) b)
+      ∙ sym (listed-there (tableIn permissionTable l) (tableIn bucketTable l) b ∙ ap (holds (λ x. lists (tableIn bucketTable l) (its x) b)) (column-at permissionOf none 2056 256 l b room))
 
-  module _ (operation object : ℕ) (small : operation < 65536) (too : object < 65536) where
-    declared-for : holds (isFor operation object) (permissionsIn l .declared b) ≡ eqb (getD l (2056 + b) 0 % 8589934592) (4294967296 + operation + 65536 * object) && lists (tableIn bucketTable l) (bucketOf operation object) b
-    unfolding permissionsIn
-    declared-for =
-        listed-for (tableIn permissionTable l) (tableIn bucketTable l) b operation object
-        ∙ ap (λ t. t && lists (tableIn bucketTable l) (bucketOf operation object) b)
-        (ap (holds (isFor operation object)) (column-at permissionOf none 2056 256 l b room) ∙ sym (permission-is (getD l (2056 + b) 0) operation object small too))
+  pub row-word : (operation object : ℕ) → operation < 65536 → object < 65536 → eqb (getD l (2056 + b) 0 % 8589934592) (4294967296 + operation + 65536 * object) ≡ rowIs l operation object b
+  unfolding rowIs
+  row-word operation object h k = permission-is (getD l (2056 + b) 0) operation object h k ∙ sym (ap (holds (isFor operation object)) (column-at permissionOf none 2056 256 l b room))
 
-    pub for-this : {bucket : ℕ} → bucket ≡ bucketOf operation object → getD l (2056 + b) 0 % 8589934592 ≡ 4294967296 + operation + 65536 * object → lists (tableIn bucketTable l) bucket b ≡ true → holds (isFor operation object) (permissionsIn l .declared b) ≡ true
-    for-this is h k = declared-for ∙ rw (eq-eqb _ _ h, ← is, k)
+-- ---- A row emptied.
+module _ (h : ℕ) where
+  pub emptied-out : (r : Maybe Permission) → inBucket h (unlessIn h r) ≡ false
+  unfolding inBucket unlessIn holds
+  emptied-out none = refl
+  emptied-out (just x) = at (eqb (its x) h) refl
+    where
+      at : (t : Bool) → eqb (its x) h ≡ t → holds (λ y. eqb (its y) h) (cond t none (just x)) ≡ false
+      at true e = refl
+      at false e = e
 
-    pub for-another : (getD l (2056 + b) 0 % 8589934592 ≡ 4294967296 + operation + 65536 * object → ⊥) → holds (isFor operation object) (permissionsIn l .declared b) ≡ false
-    for-another h = declared-for ∙ rw (ne-eqb _ _ h)
+  module _ (w : ℕ) where
+    pub word-in : bucketOf (w % 65536) (w / 65536 % 65536) ≡ h → unlessIn h (permissionOf w) ≡ none
+    unfolding permissionOf inBucket unlessIn holds
+    word-in e = at (eqb (w / 4294967296 % 2) 1)
+      where
+        at : (t : Bool) → unlessIn h (cond t (just (record { operation = w % 65536; object = w / 65536 % 65536 })) none) ≡ none
+        at true = rw (eq-eqb _ _ e)
+        at false = refl
 
--- ---- A pair is looked for in its bucket alone.
-module _ (l : List ℕ) (operation object bucket : ℕ) (is : bucket ≡ bucketOf operation object) where
-  unlisted : (b : ℕ) → lists (tableIn bucketTable l) bucket b ≡ false → holds (isFor operation object) (permissionsIn l .declared b) ≡ false
-  unfolding permissionsIn
-  unlisted b h =
-      listed-for (tableIn permissionTable l) (tableIn bucketTable l) b operation object
-      ∙ rw (← is, h) (and-false (holds (isFor operation object) (tableIn permissionTable l b)))
+    pub word-out : (bucketOf (w % 65536) (w / 65536 % 65536) ≡ h → ⊥) → unlessIn h (permissionOf w) ≡ permissionOf w
+    unfolding permissionOf inBucket unlessIn holds
+    word-out n = at (eqb (w / 4294967296 % 2) 1)
+      where
+        at : (t : Bool) → unlessIn h (cond t (just (record { operation = w % 65536; object = w / 65536 % 65536 })) none) ≡ cond t (just (record { operation = w % 65536; object = w / 65536 % 65536 })) none
+        at true = rw (ne-eqb _ _ n)
+        at false = refl
 
-  pub in-bucket : (k j : ℕ) → k ≤ 256 → j ≡ next k (256 - k) (lists (tableIn bucketTable l) bucket)
-      → (j ≤ 256) × ((j < 256 → lists (tableIn bucketTable l) bucket j ≡ true) × (next k (256 - k) (λ b. holds (isFor operation object) (permissionsIn l .declared b)) ≡ next j (256 - j) (λ b. holds (isFor operation object) (permissionsIn l .declared b))))
-  in-bucket k j h e =
-      let s = next-is (lists (tableIn bucketTable l) bucket) k 256 j h e in
-      (s .0, (s .1, next-by (λ b. holds (isFor operation object) (permissionsIn l .declared b)) k 256 (lists (tableIn bucketTable l) bucket) j h unlisted e))
+  -- it did not count
+  pub listed-emptied : (rows : ℕ → Maybe Permission) (buckets : ℕ → Set) (b : ℕ) → has (buckets h) (b / 4) ≡ false → listed (upd rows b (unlessIn h (rows b))) buckets ≡ listed rows buckets
+  unfolding listed lists holds inBucket unlessIn
+  listed-emptied rows buckets b out = fun-ext (λ k. at k (eqb k b) refl)
+    where
+      row : (x : Permission) (t : Bool) → eqb (its x) h ≡ t → counted buckets b (cond t none (just x)) ≡ counted buckets b (just x)
+      row x true e = sym (ap (λ t. cond t (just x) none) ((λ z. has (buckets (eqb-true (its x) h e z)) (b / 4)) ∙ out))
+      row x false e = refl
+
+      here : (r : Maybe Permission) → counted buckets b (unlessIn h r) ≡ counted buckets b r
+      here none = refl
+      here (just x) = row x (eqb (its x) h) refl
+
+      at : (k : ℕ) (t : Bool) → eqb k b ≡ t → counted buckets k (upd rows b (unlessIn h (rows b)) k) ≡ counted buckets k (rows k)
+      at k true e = let one = eqb-true k b e in ap (counted buckets k) (upd-same rows b k (unlessIn h (rows b)) one) ∙ rw one (here (rows b))
+      at k false e = ap (counted buckets k) (upd-other rows b k (unlessIn h (rows b)) (eqb-false k b e))
 
 -- ---- A row listed anew.
 
--- where permission b of this pair is listed
-abbrev wordOf : Permission → ℕ → ℕ
-wordOf x b = 4 * bucketOf (x .operation) (x .object) + b / 64
-
 -- the buckets that list a under its pair
 abbrev pub listing : (ℕ → Set) → Permission → ℕ → ℕ → Set
-listing buckets x a = upd buckets (wordOf x a) (plus (buckets (wordOf x a)) (a % 64))
+listing buckets x a = upd buckets (its x) (plus (buckets (its x)) (a / 4))
 
-module _ (buckets : ℕ → Set) (x : Permission) (a : ℕ) where
-  new-listed : isListed (listing buckets x a) a x ≡ true
+module _ (rows : ℕ → Maybe Permission) (buckets : ℕ → Set) (x : Permission) (a : ℕ) (strays : has (buckets (its x)) (a / 4) ≡ false → (b : ℕ) → b / 4 ≡ a / 4 → inBucket (its x) (rows b) ≡ false) where
+  new-listed : lists (listing buckets x a) (its x) a ≡ true
   unfolding lists
-  new-listed = ap (λ m. has m (a % 64)) (upd-same buckets (wordOf x a) (wordOf x a) (plus (buckets (wordOf x a)) (a % 64)) refl) ∙ has-new (buckets (wordOf x a)) (a % 64)
+  new-listed = ap (λ m. has m (a / 4)) (upd-same buckets (its x) (its x) (plus (buckets (its x)) (a / 4)) refl) ∙ has-new (buckets (its x)) (a / 4)
 
-  old-listed : (y : Permission) (k : ℕ) → a < 256 → k < 256 → (k ≡ a → ⊥) → isListed (listing buckets x a) k y ≡ isListed buckets k y
-  unfolding lists
-  old-listed y k h l n = at (eqb (wordOf y k) (wordOf x a)) refl
+  -- no other row counts that did not: one of the same four and bucket did already, or is none
+  old-listed : (y : Permission) (k : ℕ) → rows k ≡ just y → lists (listing buckets x a) (its y) k ≡ lists buckets (its y) k
+  unfolding lists inBucket holds
+  old-listed y k is = at (eqb (its y) (its x)) refl (eqb (k / 4) (a / 4)) refl (has (buckets (its x)) (a / 4)) refl
     where
-      at : (t : Bool) → eqb (wordOf y k) (wordOf x a) ≡ t → has (listing buckets x a (wordOf y k)) (k % 64) ≡ has (buckets (wordOf y k)) (k % 64)
-      at true e =
-          let one = eqb-true (wordOf y k) (wordOf x a) e in
-          ap (λ m. has m (k % 64)) (upd-same buckets (wordOf x a) (wordOf y k) (plus (buckets (wordOf x a)) (a % 64)) one)
-          ∙ has-other (buckets (wordOf x a)) (a % 64) (k % 64) (λ q. n (omega arith))
-          ∙ ap (λ s. has (buckets s) (k % 64)) (sym one)
-      at false e = ap (λ m. has m (k % 64)) (upd-other buckets (wordOf x a) (wordOf y k) (plus (buckets (wordOf x a)) (a % 64)) (eqb-false (wordOf y k) (wordOf x a) e))
+      at : (t : Bool) → eqb (its y) (its x) ≡ t → (u : Bool) → eqb (k / 4) (a / 4) ≡ u → (v : Bool) → has (buckets (its x)) (a / 4) ≡ v → has (listing buckets x a (its y)) (k / 4) ≡ has (buckets (its y)) (k / 4)
+      at true e true f true g =
+          ap (λ m. has m (k / 4)) (upd-same buckets (its x) (its y) (plus (buckets (its x)) (a / 4)) (eqb-true (its y) (its x) e))
+          ∙ ap (has (plus (buckets (its x)) (a / 4))) (eqb-true (k / 4) (a / 4) f)
+          ∙ has-new (buckets (its x)) (a / 4)
+          ∙ sym ((λ z. has (buckets (eqb-true (its y) (its x) e z)) (eqb-true (k / 4) (a / 4) f z)) ∙ g)
+      at true e true f false g = absurd (true≢false (sym e ∙ sym (ap (inBucket (its x)) is) ∙ strays g k (eqb-true (k / 4) (a / 4) f)))
+      at true e false f v g =
+          ap (λ m. has m (k / 4)) (upd-same buckets (its x) (its y) (plus (buckets (its x)) (a / 4)) (eqb-true (its y) (its x) e))
+          ∙ has-other (buckets (its x)) (a / 4) (k / 4) (eqb-false (k / 4) (a / 4) f)
+          ∙ (λ z. has (buckets (sym (eqb-true (its y) (its x) e) z)) (k / 4))
+      at false e u f v g = ap (λ m. has m (k / 4)) (upd-other buckets (its x) (its y) (plus (buckets (its x)) (a / 4)) (eqb-false (its y) (its x) e))
 
-  pub listed-set : (rows : ℕ → Maybe Permission) → a < 256 → ((k : ℕ) → 256 ≤ k → rows k ≡ none) → listed (upd rows a (just x)) (listing buckets x a) ≡ upd (listed rows buckets) a (just x)
+  pub listed-set : listed (upd rows a (just x)) (listing buckets x a) ≡ upd (listed rows buckets) a (just x)
   unfolding listed holds
-  listed-set rows h past = fun-ext (λ k. at k (eqb k a) refl (ltb k 256) refl)
+  listed-set = fun-ext (λ k. at k (eqb k a) refl)
     where
-      kept : (k : ℕ) → k < 256 → (k ≡ a → ⊥) → (r : Maybe Permission) → cond (holds (isListed (listing buckets x a) k) r) r none ≡ cond (holds (isListed buckets k) r) r none
-      kept k l n none = refl
-      kept k l n (just y) = ap (λ t. cond t (just y) none) (old-listed y k h l n)
+      kept : (k : ℕ) (r : Maybe Permission) → rows k ≡ r → counted (listing buckets x a) k r ≡ counted buckets k r
+      kept k none is = refl
+      kept k (just y) is = ap (λ t. cond t (just y) none) (old-listed y k is)
 
-      at : (k : ℕ) (t : Bool) → eqb k a ≡ t → (u : Bool) → ltb k 256 ≡ u → listed (upd rows a (just x)) (listing buckets x a) k ≡ upd (listed rows buckets) a (just x) k
-      at k true e u f =
+      at : (k : ℕ) (t : Bool) → eqb k a ≡ t → listed (upd rows a (just x)) (listing buckets x a) k ≡ upd (listed rows buckets) a (just x) k
+      at k true e =
           let one = eqb-true k a e in
-          ap (λ r. cond (holds (isListed (listing buckets x a) k) r) r none) (upd-same rows a k (just x) one)
-          ∙ ap (λ t. cond t (just x) none) (ap (λ b. isListed (listing buckets x a) b x) one ∙ new-listed)
+          ap (counted (listing buckets x a) k) (upd-same rows a k (just x) one)
+          ∙ ap (λ t. cond t (just x) none) (ap (lists (listing buckets x a) (its x)) one ∙ new-listed)
           ∙ sym (upd-same (listed rows buckets) a k (just x) one)
-      at k false e true f =
+      at k false e =
           let other = eqb-false k a e in
-          ap (λ r. cond (holds (isListed (listing buckets x a) k) r) r none) (upd-other rows a k (just x) other)
-          ∙ kept k (ltb-true k 256 f) other (rows k)
+          ap (counted (listing buckets x a) k) (upd-other rows a k (just x) other)
+          ∙ kept k (rows k) refl
           ∙ sym (upd-other (listed rows buckets) a k (just x) other)
-      at k false e false f =
-          let other = eqb-false k a e in
-          let gone = past k (ltb-false k 256 f) in
-          ap (λ r. cond (holds (isListed (listing buckets x a) k) r) r none) (upd-other rows a k (just x) other ∙ gone)
-          ∙ sym (upd-other (listed rows buckets) a k (just x) other ∙ ap (λ r. cond (holds (isListed buckets k) r) r none) gone)
 
-pub bucket-small : (operation object : ℕ) → bucketOf operation object < 256
+pub bucket-small : (operation object : ℕ) → bucketOf operation object < 1024
 unfolding bucketOf
 bucket-small operation object = omega arith

@@ -1,5 +1,5 @@
 mod WordLaws
-mod BucketLaws
+pub mod BucketLaws
 mod TableLaws
 mod StoreLaws
 mod AddLaws

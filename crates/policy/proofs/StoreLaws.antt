@@ -1,23 +1,24 @@
 -- What a setter's store does to the tables: the one row anew, all else kept. One law for every table of rows, by its first word.
-use Prim.Native.Nat.{ℕ, _+_, _*_, _/_, _%_, _≤_, _<_}
-use mathlib.Core.Bool.{Bool, true, false, cond}
+use Prim.Native.Nat.{ℕ, _+_, _*_, _/_, _≤_, _<_}
+use mathlib.Core.Bool.{Bool, true, false, cond, true≢false}
 use mathlib.Core.List.{List}
-use mathlib.Core.Path.{_≡_, refl, ap, _∙_}
+use mathlib.Core.Path.{_≡_, refl, sym, ap, _∙_}
 use native.Mathlib.Omega.{arith}
 use borrow.Author.Tests.{eqb-true, eqb-false}
 use lib.Dec.{eqb}
-use lib.ListN.{length, set, length-set}
+use lib.ListN.{length, getD, set, length-set}
 use lib.Seq.{getD-set-same, getD-set-other}
-use Rattle.paper_lower.specs.Sets.{plus}
-use Rattle.paper_lower.specs.Lists.{upd}
+use Rattle.paper_lower.specs.Sets.{has, plus}
+use Rattle.paper_lower.specs.Lists.{Maybe, upd}
 use Rattle.paper_lower.specs.Lists.Maybe.{none, just}
-use Rattle.paper_lower.specs.Tables.{Policy}
-use Rattle.replies.proofs.CellLaws.{column-past}
-use Rattle.policy.specs.Layout.{policyWords, flagOf, Table, tableIn, userTable, assignedTable, permissionTable, holderTable, carrierTable, templateTable, openToTable, mostTable, bannedTable, bucketTable, permissionOf, bucketOf, listed}
-use Rattle.policy.specs.Reading.{peopleIn, permissionsIn, tasksIn, policyOf, rolesAnew, userAnew, assignedAnew, permissionAnew, holdersAnew, carriersAnew, templateAnew, openToAnew, bannedAnew, mostAnew}
+use Rattle.paper_lower.specs.Tables.{Permission, Policy, withPermissions}
+use Rattle.paper_lower.proofs.ListLaws.{upd-same, upd-other}
+use Rattle.replies.proofs.CellLaws.{column-at}
+use Rattle.policy.specs.Layout.{policyWords, flagOf, Table, tableIn, userTable, assignedTable, permissionTable, holderTable, carrierTable, templateTable, openToTable, mostTable, bannedTable, bucketTable, permissionOf, bucketOf, listed, inBucket, unlessIn}
+use Rattle.policy.specs.Reading.{peopleIn, permissionsIn, tasksIn, policyOf, Ready, rolesAnew, userAnew, assignedAnew, permissionAnew, holdersAnew, carriersAnew, templateAnew, openToAnew, bannedAnew, mostAnew}
 use Rattle.policy.proofs.WordLaws.{permission-word, template-word, most-word}
-use Rattle.policy.proofs.BucketLaws.{listing, listed-set, bucket-small}
-use Rattle.policy.proofs.TableLaws.{Outside, table-same, table-off, people-off, declared-off, permissions-off, tasks-off, rules-off}
+use Rattle.policy.proofs.BucketLaws.{emptied-out, listed-emptied, listing, listed-set, bucket-small}
+use Rattle.policy.proofs.TableLaws.{Outside, narrow, table-same, table-off, people-off, declared-off, permissions-off, tasks-off, rules-off}
 
 -- the word b + i is the table's row i if the table starts at b, and else none of its words
 abbrev Beside : {A : Type 0} → Table A → ℕ → ℕ → Type 0
@@ -144,39 +145,101 @@ user-set l room i v h =
     let next : length (set l (8 + i) v) ≡ policyWords = rw length-set room in
     assigned-set (set l (8 + i) v) next i 0 h ∙ ap (λ t. assignedAnew t i 0) (row-set l room 8 i v (omega arith))
 
--- ---- A permission: its row, and its bit in the bucket of its pair.
-module _ (l : List ℕ) (room : length l ≡ policyWords) (i operation object v : ℕ) (h : i < 256) (small : operation < 65536) (too : object < 65536) (more : v ≡ plus (tableIn bucketTable l (4 * bucketOf operation object + i / 64)) (i % 64)) where
-  declared-set : permissionsIn (set (set l (2056 + i) (4294967296 + operation + 65536 * object)) (3480 + (4 * bucketOf operation object + i / 64)) v) .declared ≡ upd (permissionsIn l .declared) i (just (record { operation = operation; object = object }))
+-- ---- The permissions: a store in their rows or buckets.
+abbrev declaredAnew : Policy → (ℕ → Maybe Permission) → Policy
+declaredAnew t f = withPermissions t (record { declared = f; holders = t .permissions .holders; carriers = t .permissions .carriers })
+
+in-declared : (l : List ℕ) (j v : ℕ) → (2056 ≤ j) × Outside 2312 3480 j → policyOf (set l j v) ≡ declaredAnew (policyOf l) (permissionsIn (set l j v) .declared)
+unfolding policyOf permissionsIn
+in-declared l j v h = λ x.
+    record {
+      people = people-off l j v (omega arith) x;
+      permissions =
+          record {
+            declared = permissionsIn (set l j v) .declared;
+            holders = table-off holderTable l j v (narrow (h .1) (omega arith)) x;
+            carriers = table-off carrierTable l j v (narrow (h .1) (omega arith)) x;
+          };
+      tasks = tasks-off l j v (narrow (h .1) (omega arith)) x;
+      rules = rules-off l j v (omega arith, narrow (h .1) (omega arith)) x;
+    }
+
+-- rows of four t up to b emptied that have a pair of bucket h
+pub record ReadyTo (l : List ℕ) (t h b : ℕ) (after : List ℕ) : Type 0 where
+  pub words : length after ≡ policyWords
+  pub tables : policyOf after ≡ policyOf l
+  pub buckets : tableIn bucketTable after ≡ tableIn bucketTable l
+  pub strays : (k : ℕ) → 4 * t ≤ k → k < b → inBucket h (tableIn permissionTable after k) ≡ false
+
+module _ (l : List ℕ) (t h : ℕ) where
+  pub ready-listed : has (tableIn bucketTable l h) t ≡ true → Ready l t h l
+  ready-listed e = record { tables = refl; buckets = refl; strays = λ out. absurd (true≢false (sym e ∙ out)) }
+
+  pub ready-none : length l ≡ policyWords → ReadyTo l t h (4 * t) l
+  ready-none room = record { words = room; tables = refl; buckets = refl; strays = λ k a z. let no : ⊥ = omega arith in absurd no }
+
+  module _ (p : List ℕ) (b : ℕ) where
+    pub ready-all : ReadyTo l t h b p → 4 * t + 4 ≤ b → Ready l t h p
+    ready-all r end = record { tables = r .tables; buckets = r .buckets; strays = λ out k is. r .strays k (omega arith) (omega arith) }
+
+    module _ (v : ℕ) (high : b < 256) (is : permissionOf v ≡ unlessIn h (permissionOf (getD p (2056 + b) 0))) (room : length p ≡ policyWords) where
+      emptied : tableIn permissionTable (set p (2056 + b) v) ≡ upd (tableIn permissionTable p) b (unlessIn h (tableIn permissionTable p b))
+      emptied =
+          table-same permissionTable p b v high (omega arith)
+          ∙ ap (upd (tableIn permissionTable p) b) (is ∙ ap (unlessIn h) (sym (column-at permissionOf none 2056 256 p b high)))
+
+      kept : has (tableIn bucketTable p h) (b / 4) ≡ false → policyOf (set p (2056 + b) v) ≡ policyOf p
+      unfolding policyOf permissionsIn
+      kept out =
+          in-declared p (2056 + b) v (omega arith)
+          ∙ ap (declaredAnew (policyOf p))
+          ((λ x. listed (emptied x) (table-off bucketTable p (2056 + b) v (omega arith) x)) ∙ listed-emptied h (tableIn permissionTable p) (tableIn bucketTable p) b out)
+
+      stray : (k : ℕ) → 4 * t ≤ k → k < b + 1 → ((k : ℕ) → 4 * t ≤ k → k < b → inBucket h (tableIn permissionTable p k) ≡ false) → inBucket h (tableIn permissionTable (set p (2056 + b) v) k) ≡ false
+      stray k a z below = ap (λ f. inBucket h (f k)) emptied ∙ at (eqb k b) refl
+        where
+          at : (here : Bool) → eqb k b ≡ here → inBucket h (upd (tableIn permissionTable p) b (unlessIn h (tableIn permissionTable p b)) k) ≡ false
+          at true e = ap (inBucket h) (upd-same (tableIn permissionTable p) b k (unlessIn h (tableIn permissionTable p b)) (eqb-true k b e)) ∙ emptied-out h (tableIn permissionTable p b)
+          at false e =
+              let other = eqb-false k b e in
+              ap (inBucket h) (upd-other (tableIn permissionTable p) b k (unlessIn h (tableIn permissionTable p b)) other) ∙ below k a (omega arith)
+
+    pub ready-more : (v : ℕ) → ReadyTo l t h b p → has (tableIn bucketTable l h) t ≡ false → t < 64 → 4 * t ≤ b → b < 4 * t + 4 → permissionOf v ≡ unlessIn h (permissionOf (getD p (2056 + b) 0)) → ReadyTo l t h (b + 1) (set p (2056 + b) v)
+    ready-more v r out room low high is =
+        let four : b / 4 ≡ t = omega arith in
+        record {
+          words = rw length-set (r .words);
+          tables = kept v (omega arith) is (r .words) (rw (four, r .buckets) out) ∙ r .tables;
+          buckets = table-off bucketTable p (2056 + b) v (omega arith) ∙ r .buckets;
+          strays = λ k a z. stray v (omega arith) is (r .words) k a z (r .strays);
+        }
+
+-- A permission: its row, and its four in the bucket of its pair.
+module _ (l after : List ℕ) (room : length after ≡ policyWords) (i operation object v : ℕ) (h : i < 256) (small : operation < 65536) (too : object < 65536) (ready : Ready l (i / 4) (bucketOf operation object) after) (more : v ≡ plus (tableIn bucketTable after (bucketOf operation object)) (i / 4)) where
+  declared-set : permissionsIn (set (set after (2056 + i) (4294967296 + operation + 65536 * object)) (3480 + bucketOf operation object) v) .declared ≡ upd (permissionsIn after .declared) i (just (record { operation = operation; object = object }))
   unfolding permissionsIn
   declared-set =
-      let word = 4 * bucketOf operation object + i / 64 in
+      let bucket = bucketOf operation object in
       let w = 4294967296 + operation + 65536 * object in
       let low = bucket-small operation object in
-      let room₁ : length (set l (2056 + i) w) ≡ policyWords = rw length-set room in
-      let rows : tableIn permissionTable (set (set l (2056 + i) w) (3480 + word) v) ≡ upd (tableIn permissionTable l) i (just (record { operation = operation; object = object })) =
-      table-off permissionTable (set l (2056 + i) w) (3480 + word) v (omega arith)
-      ∙ table-same permissionTable l i w h (omega arith)
-      ∙ ap (upd (tableIn permissionTable l) i) (permission-word operation object small too) in
-      let buckets : tableIn bucketTable (set (set l (2056 + i) w) (3480 + word) v) ≡ listing (tableIn bucketTable l) (record { operation = operation; object = object }) i =
-      table-same bucketTable (set l (2056 + i) w) word v (omega arith) (omega arith)
-      ∙ (λ x. upd (table-off bucketTable l (2056 + i) w (omega arith) x) word (more x)) in
-      (λ x. listed (rows x) (buckets x)) ∙ listed-set (tableIn bucketTable l) (record { operation = operation; object = object }) i (tableIn permissionTable l) h (column-past permissionOf none 2056 256 l)
+      let room₁ : length (set after (2056 + i) w) ≡ policyWords = rw length-set room in
+      let rows : tableIn permissionTable (set (set after (2056 + i) w) (3480 + bucket) v) ≡ upd (tableIn permissionTable after) i (just (record { operation = operation; object = object })) =
+      table-off permissionTable (set after (2056 + i) w) (3480 + bucket) v (omega arith)
+      ∙ table-same permissionTable after i w h (omega arith)
+      ∙ ap (upd (tableIn permissionTable after) i) (permission-word operation object small too) in
+      let buckets : tableIn bucketTable (set (set after (2056 + i) w) (3480 + bucket) v) ≡ listing (tableIn bucketTable after) (record { operation = operation; object = object }) i =
+      table-same bucketTable (set after (2056 + i) w) bucket v (omega arith) (omega arith)
+      ∙ (λ x. upd (table-off bucketTable after (2056 + i) w (omega arith) x) bucket (more x)) in
+      (λ x. listed (rows x) (buckets x))
+      ∙ listed-set (tableIn permissionTable after) (tableIn bucketTable after) (record { operation = operation; object = object }) i (λ out. ready .strays (ap (λ f. has (f bucket) (i / 4)) (sym (ready .buckets)) ∙ out))
 
-  pub permission-set : policyOf (set (set l (2056 + i) (4294967296 + operation + 65536 * object)) (3480 + (4 * bucketOf operation object + i / 64)) v) ≡ permissionAnew (policyOf l) i operation object
-  unfolding policyOf permissionsIn
+  pub permission-set : policyOf (set (set after (2056 + i) (4294967296 + operation + 65536 * object)) (3480 + bucketOf operation object) v) ≡ permissionAnew (policyOf l) i operation object
+  unfolding policyOf
   permission-set =
-      let word = 4 * bucketOf operation object + i / 64 in
       let w = 4294967296 + operation + 65536 * object in
-      let l₁ = set l (2056 + i) w in
-      λ x.
-      record {
-        people = (people-off l₁ (3480 + word) v (omega arith) ∙ people-off l (2056 + i) w (omega arith)) x;
-        permissions =
-            record {
-              declared = declared-set x;
-              holders = (table-off holderTable l₁ (3480 + word) v (omega arith) ∙ table-off holderTable l (2056 + i) w (omega arith)) x;
-              carriers = (table-off carrierTable l₁ (3480 + word) v (omega arith) ∙ table-off carrierTable l (2056 + i) w (omega arith)) x;
-            };
-        tasks = (tasks-off l₁ (3480 + word) v (omega arith) ∙ tasks-off l (2056 + i) w (omega arith)) x;
-        rules = (rules-off l₁ (3480 + word) v (omega arith) ∙ rules-off l (2056 + i) w (omega arith)) x;
-      }
+      let l₁ = set after (2056 + i) w in
+      let l₂ = set l₁ (3480 + bucketOf operation object) v in
+      in-declared l₁ (3480 + bucketOf operation object) v (omega arith)
+      ∙ ap (λ t. declaredAnew t (permissionsIn l₂ .declared)) (in-declared after (2056 + i) w (omega arith))
+      ∙ ap (declaredAnew (policyOf after)) declared-set
+      ∙ ap (λ t. permissionAnew t i operation object) (ready .tables)

@@ -19,7 +19,7 @@ use Rattle.policy.specs.Reading.{peopleIn, permissionsIn, tasksIn, rules
 abbrev pub Outside : ℕ → ℕ → ℕ → Type 0
 Outside first last j = first ≤ j → last ≤ j
 
-narrow : {first last b e j : ℕ} → Outside first last j → (first ≤ b) × (e ≤ last) → Outside b e j
+pub narrow : {first last b e j : ℕ} → Outside first last j → (first ≤ b) × (e ≤ last) → Outside b e j
 narrow far h k = omega (arith, far (omega arith))
 
 pub table-same : {A : Type 0} (t : Table A) (l : List ℕ) (k v : ℕ) → k < t .height → t .first + t .height ≤ length l → tableIn t (set l (t .first + k) v) ≡ upd (tableIn t l) k (t .read v)

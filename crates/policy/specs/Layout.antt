@@ -8,6 +8,7 @@ use Rattle.paper_lower.specs.Lists.{Maybe, holds}
 use Rattle.paper_lower.specs.Lists.Maybe.{none, just}
 use Rattle.paper_lower.specs.Sets.{Set, empty, has}
 use Rattle.paper_lower.specs.Tables.{Permission, Limit, Block, Pair}
+use Rattle.paper_lower.specs.Policy.{isFor}
 use Rattle.replies.specs.Cells.{column, rows}
 
 abbrev pub policyWords : ℕ
@@ -70,21 +71,35 @@ mostTable = record { first = 2952; height = 64; read = mostOf; past = none }
 abbrev pub bannedTable : Table Bool
 bannedTable = record { first = 3016; height = 16; read = flagOf; past = false }
 
--- ---- Permissions by their pair. Each pair has one of 256 buckets; a bucket is four sets, of 64 permissions each.
+-- ---- Permissions by their pair. Four t is the permissions 4 t to 4 t + 3. Each pair has one of 1024 buckets; a bucket is a set of fours.
 abbrev pub bucketTable : Table Set
 bucketTable = record { first = 3480; height = 1024; read = same; past = empty }
 
 -- the factor spreads near pairs over all buckets
 unfoldable pub bucketOf : ℕ → ℕ → ℕ
-bucketOf operation object = (operation + 65536 * object) * 2654435761 / 16777216 % 256
+bucketOf operation object = (operation + 65536 * object) * 2654435761 / 4194304 % 1024
 
 -- bucket h lists permission b
 unfoldable pub lists : (ℕ → Set) → ℕ → ℕ → Bool
-lists buckets h b = has (buckets (4 * h + b / 64)) (b % 64)
+lists buckets h b = has (buckets h) (b / 4)
 
 -- A row counts if the bucket of its pair lists it. So a pair is looked for in its bucket alone, whatever the buffer has in it.
 unfoldable pub listed : (ℕ → Maybe Permission) → (ℕ → Set) → ℕ → Maybe Permission
 listed rows buckets b = cond (holds (λ x. lists buckets (bucketOf (x .operation) (x .object)) b) (rows b)) (rows b) none
+
+-- a pair is looked for in these fours, by this test of a row
+unfoldable pub foursFor : List ℕ → ℕ → ℕ → Set
+foursFor l operation object = tableIn bucketTable l (bucketOf operation object)
+
+unfoldable pub rowIs : List ℕ → ℕ → ℕ → ℕ → Bool
+rowIs l operation object b = holds (isFor operation object) (tableIn permissionTable l b)
+
+-- a row whose pair has bucket h, and a row emptied if it is one
+unfoldable pub inBucket : ℕ → Maybe Permission → Bool
+inBucket h r = holds (λ x. eqb (bucketOf (x .operation) (x .object)) h) r
+
+unfoldable pub unlessIn : ℕ → Maybe Permission → Maybe Permission
+unlessIn h r = cond (inBucket h r) none r
 
 -- ---- The rules: of each kind a kept number, cut at the limit, and the rows.
 

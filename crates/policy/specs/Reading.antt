@@ -1,15 +1,15 @@
 -- The policy buffer as the policy's tables, and those tables with one row anew: what each setter leaves.
-use Prim.Native.Nat.{ℕ}
-use mathlib.Core.Bool.{Bool, true, cond}
+use Prim.Native.Nat.{ℕ, _/_}
+use mathlib.Core.Bool.{Bool, true, false, cond}
 use mathlib.Core.List.{List}
 use mathlib.Core.Path.{_≡_}
 use lib.Dec.{eqb}
 use lib.ListN.{getD, length}
-use Rattle.paper_lower.specs.Sets.{Set, empty}
+use Rattle.paper_lower.specs.Sets.{Set, empty, has}
 use Rattle.paper_lower.specs.Lists.{upd, add}
 use Rattle.paper_lower.specs.Lists.Maybe.{just}
 use Rattle.paper_lower.specs.Tables.{People, Permissions, Tasks, Limit, Pair, Rules, Policy, noPolicy, withPeople, withPermissions, withTasks, withRules, withAssigned, withHolders, withBlocks}
-use Rattle.policy.specs.Layout.{policyWords, tableIn, userTable, assignedTable, permissionTable, holderTable, carrierTable, templateTable, openToTable, mostTable, bannedTable, bucketTable, listed, limitsIn, blocksIn, pairsIn}
+use Rattle.policy.specs.Layout.{policyWords, tableIn, userTable, assignedTable, permissionTable, holderTable, carrierTable, templateTable, openToTable, mostTable, bannedTable, bucketTable, listed, inBucket, limitsIn, blocksIn, pairsIn}
 
 unfoldable pub peopleIn : List ℕ → People
 peopleIn l = record { users = tableIn userTable l; roles = getD l 0 0; assigned = tableIn assignedTable l }
@@ -31,6 +31,13 @@ pub record Cleared (l : List ℕ) : Type 0 where
   pub tables : policyOf l ≡ noPolicy
   pub words : length l ≡ policyWords
   pub zeros : (i : ℕ) → getD l i 0 ≡ 0
+
+-- The buffer l after it was made ready for bucket h to list four t: it reads as before, and if the bucket does not list the four yet, no row
+-- of the four has a pair of that bucket. Such a row did not count, and would from then on.
+pub record Ready (l : List ℕ) (t h : ℕ) (after : List ℕ) : Type 0 where
+  pub tables : policyOf after ≡ policyOf l
+  pub buckets : tableIn bucketTable after ≡ tableIn bucketTable l
+  pub strays : has (tableIn bucketTable l h) t ≡ false → (b : ℕ) → b / 4 ≡ t → inBucket h (tableIn permissionTable after b) ≡ false
 
 -- ---- The rules of a kind by its number: static sets 0, dynamic sets 1, task sets 2; bindings 0, prerequisites 1.
 abbrev pub limitsOf : Rules → ℕ → List Limit

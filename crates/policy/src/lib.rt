@@ -1,13 +1,12 @@
 // The policy buffer, word by word: getters and setters of its tables, one row a word. specs/Layout.antt has the layout.
 ghost use mathlib.Core.Path.{_≡_};
-ghost use Prim.Native.Nat.{_<_, _≤_, _+_, _-_, _*_, _/_, min};
+ghost use Prim.Native.Nat.{_<_, _≤_, min};
 ghost use lib.Dec.{leb};
 ghost use lib.ListN.{length};
 ghost use Rattle.paper_lower.specs.Lists.{holds, there, is};
-ghost use Rattle.paper_lower.specs.Policy.{isFor, together};
-ghost use Rattle.sets.specs.Next.{next};
-ghost use Rattle.policy.specs.Layout.{policyWords, flagOf, tableIn, bucketTable, bucketOf, lists, limitCount, limitAt, blockCount, blockAt, pairCount, pairAt};
-ghost use Rattle.policy.specs.Reading.{policyOf, Cleared, rolesAnew, userAnew, assignedAnew, permissionAnew, holdersAnew, carriersAnew, templateAnew, openToAnew, bannedAnew, mostAnew, limitAdded, blockAdded, pairAdded};
+ghost use Rattle.paper_lower.specs.Policy.{together};
+ghost use Rattle.policy.specs.Layout.{policyWords, flagOf, permissionOf, tableIn, bucketTable, bucketOf, foursFor, rowIs, unlessIn, limitCount, limitAt, blockCount, blockAt, pairCount, pairAt};
+ghost use Rattle.policy.specs.Reading.{policyOf, Cleared, Ready, rolesAnew, userAnew, assignedAnew, permissionAnew, holdersAnew, carriersAnew, templateAnew, openToAnew, bannedAnew, mostAnew, limitAdded, blockAdded, pairAdded};
 use sets::Set;
 
 // ---- People.
@@ -58,21 +57,20 @@ pub fn set_assigned(p: &mut [u64], a: usize, roles: Set)
 
 // ---- Permissions.
 
-// The bucket of an operation on an object, in which its permissions are listed.
 fn bucket_of(operation: u64, object: u64) -> usize
     requires { ⌜ (operation < 65536) × (object < 65536) ⌝ }
-    ensures { λ r. ⌜ (r ≡ bucketOf operation object) × (r < 256) ⌝ }
+    ensures { λ r. ⌜ (r ≡ bucketOf operation object) × (r < 1024) ⌝ }
 {
-    ((operation + 65536 * object) * 2654435761 / 16777216 % 256) as usize
+    ((operation + 65536 * object) * 2654435761 / 4194304 % 1024) as usize
 }
 
-// Those of the 64 permissions around b that the bucket lists.
-fn listed_around(p: &[u64], bucket: usize, b: usize) -> Set
-    requires { ⌜ (length (now p) ≡ policyWords) × ((bucket < 256) × (b < 256)) ⌝ }
-    ensures { λ r. ⌜ r .bits ≡ tableIn bucketTable (now (p .entry)) (4 * bucket + b / 64) ⌝ }
+// The fours that the bucket lists: four t is the permissions 4 t to 4 t + 3.
+fn fours_in(p: &[u64], bucket: usize) -> Set
+    requires { ⌜ (length (now p) ≡ policyWords) × (bucket < 1024) ⌝ }
+    ensures { λ r. ⌜ r .bits ≡ tableIn bucketTable (now (p .entry)) bucket ⌝ }
 {
     Set {
-        bits: p[3480 + (4 * bucket + b / 64)],
+        bits: p[3480 + bucket],
     }
 }
 
@@ -82,51 +80,63 @@ pub fn permission_declared(p: &[u64], b: usize) -> bool
 {
     let word = p[2056 + b];
     let bucket = bucket_of(word % 65536, word / 65536 % 65536);
-    let listed = listed_around(p, bucket, b).has((b % 64) as u64);
+    let listed = fours_in(p, bucket).has((b / 4) as u64);
     (word / 4294967296 % 2 == 1) & listed
 }
 
-// The first permission from `from` on that the bucket lists, or 256.
-fn next_listed(p: &[u64], bucket: usize, from: usize) -> usize
-    requires { ⌜ (length (now p) ≡ policyWords) × ((bucket < 256) × (from ≤ 256)) ⌝ }
-    ensures { λ r. ⌜ r ≡ next from (256 - from) (lists (tableIn bucketTable (now (p .entry))) bucket) ⌝ }
+// The fours in which every permission for this operation on this object is.
+pub fn fours_for(p: &[u64], operation: u64, object: u64) -> Set
+    requires { ⌜ (length (now p) ≡ policyWords) × ((operation < 65536) × (object < 65536)) ⌝ }
+    ensures { λ r. ⌜ r .bits ≡ foursFor (now (p .entry)) operation object ⌝ }
 {
-    let mut i = from;
-    while i < 256 {
-        let first = listed_around(p, bucket, i).first_from((i % 64) as u64);
-        if first < 64 {
-            return 64 * (i / 64) + first as usize;
-        }
-        i = 64 * (i / 64 + 1);
-    }
-    256
+    fours_in(p, bucket_of(operation, object))
 }
 
-// The first permission from `from` on that is for this operation on this object, or 256: one compare of a word for each listed one.
-pub fn permission_for(p: &[u64], from: usize, operation: u64, object: u64) -> usize
-    requires { ⌜ (length (now p) ≡ policyWords) × ((from ≤ 256) × ((operation < 65536) × (object < 65536))) ⌝ }
-    ensures { λ r. ⌜ r ≡ next from (256 - from) (λ i. holds (isFor operation object) (policyOf (now (p .entry)) .permissions .declared i)) ⌝ }
+// Whether row b is for this operation on this object: one compare of its word. It counts if its four is one of fours_for.
+pub fn row_is(p: &[u64], b: usize, operation: u64, object: u64) -> bool
+    requires { ⌜ (length (now p) ≡ policyWords) × ((b < 256) × ((operation < 65536) × (object < 65536))) ⌝ }
+    ensures { λ r. ⌜ r ≡ rowIs (now (p .entry)) operation object b ⌝ }
 {
-    let bucket = bucket_of(operation, object);
-    let mut i = next_listed(p, bucket, from);
-    while i < 256 {
-        if p[2056 + i] % 8589934592 == 4294967296 + operation + 65536 * object {
-            return i;
-        }
-        i = next_listed(p, bucket, i + 1);
-    }
-    256
+    p[2056 + b] % 8589934592 == 4294967296 + operation + 65536 * object
 }
 
-// The permission's row, and its place in the bucket of its pair.
+// A row's word, or 0 if its pair has this bucket.
+fn unless_in(word: u64, bucket: usize) -> u64
+    ensures { λ r. ⌜ permissionOf r ≡ unlessIn bucket (permissionOf word) ⌝ }
+{
+    if bucket_of(word % 65536, word / 65536 % 65536) == bucket {
+        0
+    } else {
+        word
+    }
+}
+
+// Empties the rows of a four that would count too once the bucket lists the four. No load leaves such rows, but every content must read as
+// before.
+fn empty_strays(p: &mut [u64], four: usize, bucket: usize)
+    requires { ⌜ (length (now p) ≡ policyWords) × ((four < 64) × (bucket < 1024)) ⌝ }
+    ensures { λ _. ⌜ Ready (now (p .entry)) four bucket (now (p .exit)) ⌝ }
+{
+    if fours_in(p, bucket).has(four as u64) {
+        return;
+    }
+    let mut b = 4 * four;
+    while b < 4 * four + 4 {
+        p[2056 + b] = unless_in(p[2056 + b], bucket);
+        b += 1;
+    }
+}
+
+// The permission's row, and its four in the bucket of its pair.
 pub fn set_permission(p: &mut [u64], a: usize, operation: u64, object: u64)
     requires { ⌜ (length (now p) ≡ policyWords) × ((a < 256) × ((operation < 65536) × (object < 65536))) ⌝ }
     ensures { λ _. ⌜ policyOf (now (p .exit)) ≡ permissionAnew (policyOf (now (p .entry))) a operation object ⌝ }
 {
     let bucket = bucket_of(operation, object);
-    let more = listed_around(p, bucket, a).with((a % 64) as u64);
+    empty_strays(p, a / 4, bucket);
+    let fours = fours_in(p, bucket).with((a / 4) as u64);
     p[2056 + a] = 4294967296 + operation + 65536 * object;
-    p[3480 + (4 * bucket + a / 64)] = more.bits;
+    p[3480 + bucket] = fours.bits;
 }
 
 pub fn holders(p: &[u64], b: usize) -> Set

@@ -4,7 +4,7 @@ use mathlib.Core.Bool.{Bool, true, false, cond, _&&_}
 use mathlib.Core.List.{List}
 use mathlib.Core.Path.{_≡_, refl, ap, fun-ext}
 use native.Mathlib.Omega.{arith}
-use borrow.Author.Tests.{lt-ltb, le-ltb, ltb-true, eq-eqb, ne-eqb, eqb-true, eqb-false}
+use borrow.Author.Tests.{lt-ltb, ltb-true, eq-eqb, ne-eqb, eqb-true, eqb-false}
 use lib.Dec.{ltb, eqb}
 use lib.ListN.{length, getD, set, replicate}
 use lib.Seq.{getD-set-same, getD-set-other}
@@ -15,10 +15,6 @@ module _ {A : Type 0} (g : ℕ → A) (d : A) (b n : ℕ) (l : List ℕ) where
   pub column-at : (i : ℕ) → i < n → column g d b n l i ≡ g (getD l (b + i) 0)
   unfolding column
   column-at i h = simp (lt-ltb i n h)
-
-  pub column-past : (i : ℕ) → n ≤ i → column g d b n l i ≡ d
-  unfolding column
-  column-past i h = simp (le-ltb i n h)
 
   -- a store in the column
   pub column-same : (i v : ℕ) → i < n → b + n ≤ length l → column g d b n (set l (b + i) v) ≡ upd (column g d b n l) i (g v)

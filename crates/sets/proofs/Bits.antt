@@ -10,7 +10,7 @@ use lib.Arith.{bin-ind}
 use lib.Pow.{shr-shr, shl-exact}
 use lib.Dec.{lit<}
 use lib.Bits.{bitAnd, bitOr, bitXor, differ, or-step, and-step, xor-step, or-zero-r}
-use lib.Count.{ones, ones-step}
+use lib.Count.{ones, ones-step, trailingZeros, under}
 
 -- `1 << i` in the code
 pub one-shl : (i : ℕ) → i < 64 → (1 * 2 ^ i) % 2 ^ 64 ≡ 2 ^ i
@@ -76,6 +76,16 @@ some-bit =
     ⊎-elim (λ (e : a % 2 ≡ 1). (0, e))
     (λ e. let below = ih (λ z. n (let l : a % 2 ≤ 1 = omega arith in omega arith)) in (suc (below .0), below .1))
     (same-or-other (a % 2) 1))
+
+-- the zeros below its lowest bit are as many as that bit's number
+pub lowest-bit : (k m : ℕ) → m < 2 ^ k → 0 < m → (bit (trailingZeros k m) m ≡ 1) × (trailingZeros k m < k)
+unfolding bit trailingZeros
+lowest-bit zero m h n = let z : ⊥ = omega arith in absurd z
+lowest-bit (suc k) m h n = go (m % 2) refl (lowest-bit k (m / 2) (let p = pow-suc 2 k in omega arith))
+  where
+    go : (d : ℕ) → m % 2 ≡ d → (0 < m / 2 → (bit (trailingZeros k (m / 2)) (m / 2) ≡ 1) × (trailingZeros k (m / 2) < k)) → (bit (under d (trailingZeros k (m / 2))) m ≡ 1) × (under d (trailingZeros k (m / 2)) < suc k)
+    go zero q rest = let r = rest (omega arith) in (r .0, omega arith)
+    go (suc d) q rest = (omega arith, omega arith)
 
 -- a number below 2 ^ n has no bit from n on, and a number that has none is below
 pub bit-above : (n i m : ℕ) → m < 2 ^ n → n ≤ i → bit i m ≡ 0

@@ -345,6 +345,12 @@ part-le a b h = le-bits a b h
 pub minus-lt : (n : ℕ) (m : Set) (i : ℕ) → m < 2 ^ n → minus m i < 2 ^ n
 minus-lt n m i h = let l = part-le (minus m i) m (part-minus m i) in omega arith
 
+pub minus-less : (m : Set) (t : ℕ) → has m t ≡ true → minus m t < m
+minus-less m t h =
+    ⊎-elim (λ (e : minus m t ≡ m). absurd (true≢false (sym h ∙ ap (λ (d : Set). has d t) (sym e) ∙ has-gone m t))) (λ n.
+    let l = part-le (minus m t) m (part-minus m t) in
+    omega arith) (same-or-other (minus m t) m)
+
 pub has-part : (a b : Set) (i : ℕ) → Part a b → has a i ≡ true → has b i ≡ true
 unfolding Part
 has-part a b i h e =

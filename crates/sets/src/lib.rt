@@ -1,10 +1,10 @@
 // Sets of roles or of tasks, one word each: bit i stands for role or task i.
 // Each operation equals document 01's definition of it (paper_lower, Sets).
 ghost use mathlib.Core.Path.{_≡_};
-ghost use Prim.Native.Nat.{_<_, _-_};
+ghost use mathlib.Core.Bool.{true};
+ghost use Prim.Native.Nat.{_<_};
 ghost use lib.Dec.{eqb};
 ghost use Rattle.paper_lower.specs.Sets.{empty, has, plus, minus, union, cut, size, overlap, meets, within};
-ghost use Rattle.sets.specs.Next.{next};
 
 pub struct Set {
     pub bits: u64,
@@ -78,13 +78,12 @@ impl Set {
         u64::count_ones(self.bits) as u64
     }
 
-    // The lowest member from i on, or 64.
-    pub fn first_from(self, i: u64) -> u64
-        requires { ⌜ i < 64 ⌝ }
-        ensures { λ r. ⌜ r ≡ next i (64 - i) (has (self .bits)) ⌝ }
+    // A member of a set that has one.
+    pub fn member(self) -> u64
+        requires { ⌜ 0 < self .bits ⌝ }
+        ensures { λ r. ⌜ (has (self .bits) r ≡ true) × (r < 64) ⌝ }
     {
-        let first = i + u64::trailing_zeros(self.bits >> i) as u64;
-        if first < 64 { first } else { 64 }
+        u64::trailing_zeros(self.bits) as u64
     }
 
     pub fn is_empty(self) -> bool

@@ -17,15 +17,15 @@ shared-slice-read-word c = search needs
 bucket-of-requires : tie.Need-bucket-of-requires
 bucket-of-requires c κs = search needs
 
-listed-around-requires : tie.Need-listed-around-requires
-listed-around-requires c κs = search needs
+fours-in-requires : tie.Need-fours-in-requires
+fours-in-requires c κs = search needs
 
 has-requires : tie.Need-has-requires
 has-requires c κs = search needs
 
 returns : tie.Need-returns
 unfolding policyOf
-returns c = declared-there _ _ (c .before .before .before .before .before .pre .1) (lists-bit _ _ _ (c .before .before .bucket-of .ensures .0) (c .before .listed-around .ensures) (c .has .ensures))
+returns c = declared-there _ _ (c .before .before .before .before .before .pre .1) (lists-bit _ _ _ (c .before .before .bucket-of .ensures .0) (c .before .fours-in .ensures) (c .has .ensures))
 
 pub permission-declared-spec : {M : Type 1} → statement M
 permission-declared-spec =
@@ -35,6 +35,6 @@ permission-declared-spec =
     mul-word
     shared-slice-read-word
     bucket-of-requires
-    listed-around-requires
+    fours-in-requires
     has-requires
     returns)

@@ -1,19 +1,22 @@
--- One row anew, and listed in the bucket of its pair.
+-- The four made ready; then one row anew, and its four listed in the bucket of its pair.
 use mathlib.Core.Path.{ap, _∙_}
-use Prim.Native.Nat.{_%_}
+use Prim.Native.Nat.{_/_}
 use native.Mathlib.Omega.{arith}
-use borrow.Author.Needs.{needs}
 use lib.ListN.{length-set}
 use Rattle.paper_lower.specs.Sets.{plus}
 use Rattle.policy.proofs.StoreLaws.{permission-set}
+use borrow.Author.Needs.{needs}
 use Rattle.policy.proofs.set_permission.Statement.{statement}
 use Rattle.policy.proofs.set_permission.Tie as tie
 
 bucket-of-requires : tie.Need-bucket-of-requires
 bucket-of-requires c κs = search needs
 
-listed-around-requires : tie.Need-listed-around-requires
-listed-around-requires c κs = search needs
+empty-strays-requires : tie.Need-empty-strays-requires
+empty-strays-requires c κs = search needs
+
+fours-in-requires : tie.Need-fours-in-requires
+fours-in-requires c κs = search needs
 
 with-requires : tie.Need-with-requires
 with-requires c κs = search needs
@@ -36,17 +39,11 @@ mul-p-2 c = search needs
 slice-write-p : tie.Need-slice-write-p
 slice-write-p c = search needs
 
-mul-p-3 : tie.Need-mul-p-3
-mul-p-3 c = search needs
-
 add-p-4 : tie.Need-add-p-4
 add-p-4 c = search needs
 
-add-p-5 : tie.Need-add-p-5
-add-p-5 c = search needs
-
-mul-p-4 : tie.Need-mul-p-4
-mul-p-4 c = search needs
+mul-p-3 : tie.Need-mul-p-3
+mul-p-3 c = search needs
 
 slice-write-p-2 : tie.Need-slice-write-p-2
 slice-write-p-2 c = rw length-set (omega arith)
@@ -55,14 +52,15 @@ same-length : tie.Need-same-length
 same-length c = search needs
 
 returns : tie.Need-returns
-returns c = rw (c .before .before .before .bucket-of .ensures .0) (permission-set _ (c .before .before .before .before .before .pre .0) _ _ _ _ (c .before .before .before .before .before .pre .1 .0) (c .before .before .before .before .before .pre .1 .1 .0) (c .before .before .before .before .before .pre .1 .1 .1) (c .with .ensures ∙ ap (λ m. plus m (c .before .before .before .before .before .args .a % 64)) (rw (c .before .before .before .bucket-of .ensures .0) at (c .before .listed-around .ensures))))
+returns c = rw (c .before .before .before .before .before .before .before .bucket-of .ensures .0) (permission-set _ (c .before .before .before .before .before .empty-strays .last .0) (omega arith) _ _ _ _ (c .before .before .before .before .before .before .before .before .before .pre .1 .0) (c .before .before .before .before .before .before .before .before .before .pre .1 .1 .0) (c .before .before .before .before .before .before .before .before .before .pre .1 .1 .1) (rw (c .before .before .before .before .before .before .before .bucket-of .ensures .0) at (c .before .before .before .before .before .empty-strays .ensures)) (c .with .ensures ∙ ap (λ m. plus m (c .before .before .before .before .before .before .before .before .before .args .a / 4)) (rw (c .before .before .before .before .before .before .before .bucket-of .ensures .0) at (c .before .fours-in .ensures))))
 
 pub set-permission-spec : {M : Type 1} → statement M
 set-permission-spec =
     tie.close
     (tie.spec
     bucket-of-requires
-    listed-around-requires
+    empty-strays-requires
+    fours-in-requires
     with-requires
     add-p
     mul-p
@@ -70,10 +68,8 @@ set-permission-spec =
     add-p-3
     mul-p-2
     slice-write-p
-    mul-p-3
     add-p-4
-    add-p-5
-    mul-p-4
+    mul-p-3
     slice-write-p-2
     same-length
     returns)

@@ -1,16 +1,61 @@
--- The first of them is before the end.
-use mathlib.Core.Path.{ap, _∙_}
-use lib.Dec.{ltb}
-use Rattle.sets.proofs.NextLaws.{some-next}
+-- Over the fours of the pair; one that was passed has no such row.
 use borrow.Author.Needs.{needs}
+use mathlib.Core.Path.{_≡_, sym, _∙_}
+use native.Mathlib.Omega.{arith}
+use Rattle.paper_lower.specs.Lists.{someBelow, holds}
+use Rattle.paper_lower.specs.Policy.{isFor}
+use Rattle.policy.specs.Layout.{rowIs}
+use Rattle.policy.specs.Reading.{policyOf}
+use Rattle.questions.proofs.Walks.{inFours, four-found, four-past, no-fours, suits-by-fours}
+use Rattle.sets.proofs.SetLaws.{minus-less}
 use Rattle.questions.proofs.pair_declared.Statement.{statement}
 use Rattle.questions.proofs.pair_declared.Tie as tie
 
-permission-for-requires : tie.Need-permission-for-requires
-permission-for-requires c κs = search needs
+abbrev Inv-loop : tie.InvT-loop
+Inv-loop p operation object left₀ left = someBelow 256 (λ i. holds (isFor operation object) (policyOf p .permissions .declared i)) ≡ inFours (left .bits) (rowIs p operation object)
 
-returns : tie.Need-returns
-returns c = ap (λ r. ltb r 256) (c .permission-for .ensures) ∙ some-next _ 256
+abbrev μ-loop : tie.MeasureT-loop
+μ-loop p operation object left₀ left = left .bits
+
+fours-for-requires : tie.Need-fours-for-requires Inv-loop μ-loop
+fours-for-requires c κs = search needs
+
+loop-holds : tie.Need-loop-holds Inv-loop μ-loop
+loop-holds c = suits-by-fours _ _ _ (c .fours-for .ensures)
+
+member-requires : tie.Need-member-requires Inv-loop μ-loop
+member-requires c κs = search needs
+
+four-suits-requires : tie.Need-four-suits-requires Inv-loop μ-loop
+four-suits-requires c κs = search needs
+
+returns : tie.Need-returns Inv-loop μ-loop
+returns c = sym (c .before .before .before .before .before .loop .inv ∙ four-found _ _ (c .before .before .member .result) (c .before .before .member .ensures .1) (c .before .before .member .ensures .0) (sym (c .before .four-suits .ensures) ∙ c .if2 .taken))
+
+without-requires : tie.Need-without-requires Inv-loop μ-loop
+without-requires c κs = search needs
+
+loop-less : tie.Need-loop-less Inv-loop μ-loop
+loop-less c = rw (c .without .ensures) (minus-less _ _ (c .before .before .before .member .ensures .0))
+
+loop-again : tie.Need-loop-again Inv-loop μ-loop
+loop-again c = rw (c .without .ensures) (c .before .before .before .before .before .before .loop .inv ∙ four-past _ _ (c .before .before .before .member .result) (sym (c .before .before .four-suits .ensures) ∙ c .before .if2 .left))
+
+returns-2 : tie.Need-returns-2 Inv-loop μ-loop
+returns-2 c = sym (c .before .before .loop .inv ∙ no-fours _ _ (omega arith))
 
 pub pair-declared-spec : {M : Type 1} → statement M
-pair-declared-spec = tie.close (tie.spec permission-for-requires returns)
+pair-declared-spec =
+    tie.close
+    (tie.spec
+    Inv-loop
+    μ-loop
+    fours-for-requires
+    loop-holds
+    member-requires
+    four-suits-requires
+    returns
+    without-requires
+    loop-less
+    loop-again
+    returns-2)
