@@ -3,7 +3,6 @@ use Prim.Native.Nat.{ℕ, zero, suc, _+_, _-_, _≤_, _<_, min}
 use mathlib.Core.Bool.{Bool, true, false}
 use mathlib.Core.List.{List, _∷_, _++_, append-nil}
 use mathlib.Core.Path.{_≡_, refl, sym, ap, _∙_}
-use native.Mathlib.Numerals.{add-one}
 use native.Mathlib.Omega.{arith}
 use borrow.Author.Tests.{ltb-true, ltb-false}
 use lib.Dec.{ltb}
@@ -89,11 +88,21 @@ module _ (l : List ℕ) (q : ℕ → Bool) where
   unfolding wordsTo
   found-here k n h e = some-newest q (λ k. getD l (65 + k) 0) k n h e
 
+  -- and none of those behind, to before r
+  none-past : (k d : ℕ) → some q (wordsTo l k) ≡ false → ((j : ℕ) → k ≤ j → j < k + d → q (getD l (65 + j) 0) ≡ false) → some q (wordsTo l (k + d)) ≡ false
+  none-past k zero h far = let e : k + 0 ≡ k = omega arith in rw e h
+  none-past k (suc d) h far =
+      let e : k + suc d ≡ k + d + 1 = omega arith in
+      rw e (none-here (k + d) (none-past k d h (λ j a b. far j a (omega arith))) (far (k + d) (omega arith) (omega arith)))
+
+  pub none-on : (k r : ℕ) → k ≤ r → some q (wordsTo l k) ≡ false → ((j : ℕ) → k ≤ j → j < r → q (getD l (65 + j) 0) ≡ false) → some q (wordsTo l r) ≡ false
+  none-on k r h before far =
+      let e : k + (r - k) ≡ r = omega arith in
+      rw e at (none-past k (r - k) before (λ j a b. far j a (omega arith)))
+
 -- none of the first, as a search tells it
 pub none-older : (mask key : ℕ) (l : List ℕ) (r : ℕ) → NoneFits mask key l 0 r → some (fits mask key) (wordsTo l r) ≡ false
-none-older mask key l zero h = none-yet l (fits mask key)
-none-older mask key l (suc r) h =
-    rw (← add-one r) (none-here l (fits mask key) r (none-older mask key l r (omega arith, λ k a b. h .1 k a (omega arith))) (h .1 r (omega arith) (omega arith)))
+none-older mask key l r h = none-on l (fits mask key) 0 r (h .0) (none-yet l (fits mask key)) (h .1)
 
 -- r is the place of the oldest that fits, n the number in use
 pub some-first : (mask key : ℕ) (l : List ℕ) (r n : ℕ) → NextEntry mask key l 0 r → n ≡ inUse l → ltb r n ≡ some (fits mask key) (wordsOf l)

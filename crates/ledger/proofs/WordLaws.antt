@@ -144,6 +144,14 @@ module _ (w : ℕ) where
       ∙ holder-part (w / 64 % 2) (w / 8192 % 128) a (omega arith)
       ∙ sym (is-held-by a)
 
+  pub fits-user : (u : ℕ) → fits 1072693248 (1048576 * u) w ≡ eqb (w / 1048576 % 1024) u
+  unfolding fits
+  fits-user u = ap (λ (n : ℕ). eqb n (1048576 * u)) (and-high w 10 20) ∙ scaled (eqb (w / 1048576 % 1024) u) refl
+    where
+      scaled : (b : Bool) → eqb (w / 1048576 % 1024) u ≡ b → eqb (w / 1048576 % 1024 * 1048576) (1048576 * u) ≡ b
+      scaled true e = let same = eqb-true (w / 1048576 % 1024) u e in eq-eqb (w / 1048576 % 1024 * 1048576) (1048576 * u) (omega arith)
+      scaled false e = let other = eqb-false (w / 1048576 % 1024) u e in ne-eqb (w / 1048576 % 1024 * 1048576) (1048576 * u) (λ (z : w / 1048576 % 1024 * 1048576 ≡ 1048576 * u). other (omega arith))
+
   -- what does not fit stays
   pub stays-not : (mask key : ℕ) {b : Bool} → fits mask key w ≡ b → stays mask key w ≡ not b
   unfolding stays

@@ -23,7 +23,8 @@ const FIRST: usize = 65;
 
 const MOST: u64 = 2048;
 
-// What of an entry's word a test looks at: its instance; and whether it is held; and its task and subject; or only whether it is held, and its subject.
+// What of an entry's word a test looks at: its instance; and whether it is held; and its task and subject; or only whether it is held, and its subject;
+// or its user.
 const ORDER: u64 = 63;
 
 const ORDER_HELD: u64 = 127;
@@ -31,6 +32,8 @@ const ORDER_HELD: u64 = 127;
 const HELD_BY: u64 = 1048575;
 
 const HOLDER: u64 = 1040448;
+
+const USER: u64 = 1072693248;
 
 pub struct Instance {
     pub open: bool,
@@ -308,31 +311,20 @@ pub fn holds_any(o: &[u64], a: u64) -> bool
     any_entry(o, HOLDER, 8192 * a)
 }
 
-// Most entries are other users': the instance is looked at only where the user is this one.
-fn is_in_open(o: &[u64], w: u64, u: u64) -> bool
-    requires { ⌜ length (now o) ≡ ordersWords ⌝ }
-    ensures { λ r. ⌜ r ≡ inOpenOrder (ordersOf (now (o .entry))) u (entryOf w) ⌝ }
-{
-    if w / 1048576 % 1024 != u {
-        return false;
-    }
-    let x = opened(o, w % 64);
-    x.open
-}
-
 // Whether the user has an entry in an open instance.
 pub fn in_open_order(o: &[u64], u: u64) -> bool
-    requires { ⌜ length (now o) ≡ ordersWords ⌝ }
+    requires { ⌜ (length (now o) ≡ ordersWords) × (u < 1024) ⌝ }
     ensures { λ r. ⌜ r ≡ some (inOpenOrder (ordersOf (now (o .entry))) u) (ordersOf (now (o .entry)) .entries) ⌝ }
 {
     let n = in_use(o);
-    let mut k = 0;
+    let mut k = next_entry(o, 0, USER, 1048576 * u);
     while k < n {
         let w = o[FIRST + k];
-        if is_in_open(o, w, u) {
+        let x = opened(o, w % 64);
+        if x.open {
             return true;
         }
-        k += 1;
+        k = next_entry(o, k + 1, USER, 1048576 * u);
     }
     false
 }
