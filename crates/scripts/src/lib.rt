@@ -1,9 +1,10 @@
 // What the programs that run cases have in common: a line of a script, its numbers, its record, and words compared. It knows no
 // rule of the engine. A line is a letter, numbers behind it, and words for the reader.
-ghost use Prim.Native.Nat.{ℕ, _<_, _≤_};
-ghost use mathlib.Core.Bool.{true};
+ghost use Prim.Native.Nat.{ℕ, _+_, _%_, _<_, _≤_};
+ghost use mathlib.Core.Bool.{true, cond};
 ghost use mathlib.Core.Path.{_≡_};
 ghost use lib.ListN.{length, getD};
+ghost use Rattle.scripts.specs.Lines.{digitMore, spaceMore, numberOf, recordOf, behind, drawn, garbled};
 
 pub struct Fields {
     pub kind: u8,
@@ -14,7 +15,9 @@ pub struct Fields {
     pub m: u64,
 }
 
-fn low(x: u64) -> u8 {
+fn low(x: u64) -> u8
+    ensures { λ r. ⌜ r ≡ x % 256 ⌝ }
+{
     (x % 256) as u8
 }
 
@@ -47,7 +50,9 @@ pub fn bytes(r: Fields) -> [u8; 16]
 }
 
 // Writes a record behind the first `at` bytes, where there is room, and answers where the next one goes.
-pub fn put(to: &mut [u8], at: usize, r: Fields) -> usize {
+pub fn put(to: &mut [u8], at: usize, r: Fields) -> usize
+    ensures { λ end. ⌜ end ≡ behind at (length (now (to .entry))) ⌝ }
+{
     if at > 65520 {
         return at;
     }
@@ -80,7 +85,9 @@ pub fn line_end(text: &[u8], at: usize) -> usize
 }
 
 // A number with one digit more, where it is a digit and the number stays below 2^64.
-fn digit(x: u64, b: u8) -> u64 {
+fn digit(x: u64, b: u8) -> u64
+    ensures { λ r. ⌜ r ≡ digitMore x b ⌝ }
+{
     if b < b'0' {
         return x;
     }
@@ -94,7 +101,9 @@ fn digit(x: u64, b: u8) -> u64 {
 }
 
 // The number behind the k-th space of a line, 0 where there is none.
-pub fn number(line: &[u8], k: u64) -> u64 {
+pub fn number(line: &[u8], k: u64) -> u64
+    ensures { λ r. ⌜ r ≡ numberOf (now (line .entry)) k ⌝ }
+{
     let mut spaces = 0;
     let mut x = 0;
     let mut i = 0;
@@ -107,7 +116,9 @@ pub fn number(line: &[u8], k: u64) -> u64 {
     x
 }
 
-fn spaces_with(spaces: u64, b: u8) -> u64 {
+fn spaces_with(spaces: u64, b: u8) -> u64
+    ensures { λ r. ⌜ r ≡ spaceMore spaces b ⌝ }
+{
     if b != b' ' {
         return spaces;
     }
@@ -117,13 +128,16 @@ fn spaces_with(spaces: u64, b: u8) -> u64 {
     spaces + 1
 }
 
-fn if_word(here: bool, x: u64, b: u8) -> u64 {
+fn if_word(here: bool, x: u64, b: u8) -> u64
+    ensures { λ r. ⌜ r ≡ cond here (digitMore x b) x ⌝ }
+{
     if here { digit(x, b) } else { x }
 }
 
 // The record whose six numbers stand behind the k-th space and the next five.
 pub fn record_of(line: &[u8], k: u64) -> Fields
     requires { ⌜ k < 100 ⌝ }
+    ensures { λ r. ⌜ r ≡ recordOf (now (line .entry)) k ⌝ }
 {
     let kind = low(number(line, k));
     let n = low(number(line, k + 1));
@@ -187,7 +201,9 @@ pub fn zeros(x: &[u64]) -> bool
 }
 
 // Fills the words with numbers that mean nothing.
-pub fn garble(words: &mut [u64], seed: u64) {
+pub fn garble(words: &mut [u64], seed: u64)
+    ensures { λ _. ⌜ ((i : ℕ) → i < length (now (words .entry)) → getD (now (words .exit)) i 0 ≡ garbled (drawn seed (i + 1))) ⌝ }
+{
     let mut x = seed;
     let mut i = 0;
     while i < words.len() {

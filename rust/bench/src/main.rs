@@ -1,6 +1,7 @@
 //! Times the proved library against the plain engine, and writes docs/BENCH.md and docs/bench.svg.
 
 use bench::{only, page, plot, table, Effort, Figures};
+use differential::command;
 use std::path::Path;
 use std::process::ExitCode;
 use std::{fs, io};
@@ -105,23 +106,5 @@ fn run(options: &Options) -> Result<(), String> {
 }
 
 fn main() -> ExitCode {
-    let arguments: Vec<String> = std::env::args().skip(1).collect();
-    if arguments.iter().any(|a| a == "--help" || a == "-h") {
-        print!("{HELP}");
-        return ExitCode::SUCCESS;
-    }
-    let options = match options(&arguments) {
-        Ok(options) => options,
-        Err(message) => {
-            eprintln!("bench: {message}; --help tells the use");
-            return ExitCode::from(2);
-        }
-    };
-    match run(&options) {
-        Ok(()) => ExitCode::SUCCESS,
-        Err(message) => {
-            eprintln!("bench: {message}");
-            ExitCode::FAILURE
-        }
-    }
+    command("bench", HELP, options, run)
 }

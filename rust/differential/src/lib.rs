@@ -6,6 +6,7 @@
 
 mod candidates;
 mod cases;
+mod command;
 mod compare;
 mod coverage;
 mod desks;
@@ -16,6 +17,7 @@ mod slow;
 mod walk;
 
 pub use cases::{Case, Step};
+pub use command::command;
 pub use compare::{compare, Failure};
 pub use coverage::Coverage;
 pub use desks::{plain, proved, Answer, Desk, Difference, Panel};

@@ -1,6 +1,6 @@
 //! Compares all engines over random cases, and says which pairs of kind and reply came up.
 
-use differential::{compare, Case, Coverage, Panel, CASES, PROVED, SEED};
+use differential::{command, compare, Case, Coverage, Panel, CASES, PROVED, SEED};
 use std::process::ExitCode;
 
 const HELP: &str = "\
@@ -73,36 +73,20 @@ fn garbage(_seed: u64, _number: u64) -> Result<(), String> {
     Ok(())
 }
 
-fn main() -> ExitCode {
-    let arguments: Vec<String> = std::env::args().skip(1).collect();
-    if arguments.iter().any(|a| a == "--help" || a == "-h") {
-        print!("{HELP}");
-        return ExitCode::SUCCESS;
-    }
-    let options = match options(&arguments) {
-        Ok(options) => options,
-        Err(message) => {
-            eprintln!("differential: {message}; --help tells the use");
-            return ExitCode::from(2);
-        }
-    };
-    let names = Panel::all().names().join(", ");
-    println!("engines: {names}");
+fn tell(options: &Options) -> Result<(), String> {
+    println!("engines: {}", Panel::all().names().join(", "));
     if !PROVED {
         println!("the proved library is not linked: its archive was not found at build time");
     }
-    match run(&options) {
-        Ok(coverage) => {
-            if options.coverage {
-                print!("{}", coverage.table());
-                println!("not seen: {:?}", coverage.missing());
-            }
-            println!("{} cases of seed {} agree", options.cases, options.seed);
-            ExitCode::SUCCESS
-        }
-        Err(report) => {
-            println!("{report}");
-            ExitCode::FAILURE
-        }
+    let coverage = run(options)?;
+    if options.coverage {
+        print!("{}", coverage.table());
+        println!("not seen: {:?}", coverage.missing());
     }
+    println!("{} cases of seed {} agree", options.cases, options.seed);
+    Ok(())
+}
+
+fn main() -> ExitCode {
+    command("differential", HELP, options, tell)
 }
