@@ -1,11 +1,11 @@
 -- A request that is none of the upper part's is one of the lower part's: its row, and its limits.
 use Prim.Native.Nat.{ℕ}
-use mathlib.Core.Bool.{Bool, true, false, cond}
+use mathlib.Core.Bool.{Bool, true, false, not, cond, _||_, false≢true}
 use mathlib.Core.List.{List, [], _∷_, _++_}
 use mathlib.Core.Path.{_≡_, refl, sym, ap, _∙_}
-use borrow.Author.Tests.{ne-eqb}
+use borrow.Author.Tests.{eqb-true, ne-eqb}
 use lib.Dec.{eqb}
-use Rattle.paper_lower.specs.Lists.{Maybe, Every, each}
+use Rattle.paper_lower.specs.Lists.{Maybe, Every, keep, each}
 use Rattle.paper_lower.specs.Lists.Maybe.{none, just}
 use Rattle.paper_lower.specs.Forms.{Form, lowerForms, upperForms, requestForms, formOf}
 use Rattle.paper_lower.specs.Kinds.{Kind, chosen}
@@ -13,7 +13,7 @@ use Rattle.paper_lower.specs.Tables.{Lower}
 use Rattle.paper_lower.specs.Sessions.{lowerKinds}
 use Rattle.paper_lower.proofs.ListLaws.{_⨾_}
 use Rattle.paper_upper.specs.Requests.{upperKinds}
-use Rattle.paper_upper.specs.Engine.{raised, requestKinds}
+use Rattle.paper_upper.specs.Engine.{raised, sharedKinds, requestKinds}
 use Rattle.records.specs.Limits.{Limits, limitN, limitA, limitB, limitC, limitM}
 use Rattle.records.specs.declared.Record.{Record}
 use Rattle.records.proofs.Span.{Rest, oneEach}
@@ -47,13 +47,30 @@ unfolding formOf
 behind [] gs n h = h
 behind (f ∷ fs) gs n h = ap (λ (x : Maybe Form). cond (eqb (f .kind) n) (just f) x) (behind fs gs n h)
 
+-- the row of a number does not change where rows of other numbers are left out
+kept-chosen : {T : Type 0} (p : Kind T → Bool) (n : ℕ) → ((k : Kind T) → eqb (k .kind) n ≡ true → p k ≡ true) → (ks : List (Kind T))
+    → chosen (keep p ks) n ≡ chosen ks n
+unfolding chosen keep
+kept-chosen p n f [] = refl
+kept-chosen {T} p n f (k ∷ ks) = go (p k) (f k) (kept-chosen p n f ks)
+  where
+    left-out : (c : Bool) → (c ≡ true → false ≡ true) → chosen (keep p ks) n ≡ chosen ks n → chosen (keep p ks) n ≡ cond c k (chosen ks n)
+    left-out true h e = absurd (false≢true (h refl))
+    left-out false h e = e
+
+    go : (b : Bool) → (eqb (k .kind) n ≡ true → b ≡ true) → chosen (keep p ks) n ≡ chosen ks n
+        → chosen (cond b (k ∷ keep p ks) (keep p ks)) n ≡ cond (eqb (k .kind) n) k (chosen ks n)
+    go true h e = ap (λ (x : Kind T). cond (eqb (k .kind) n) k x) e
+    go false h e = left-out (eqb (k .kind) n) h e
+
 module _ {n : ℕ} (h : Rest (oneEach upperNumbers) n) where
   pub lower-row : chosen requestKinds n ≡ raised (chosen lowerKinds n)
-  unfolding requestKinds upperKinds
+  unfolding requestKinds sharedKinds upperKinds
   lower-row =
-      skip upperKinds (each raised lowerKinds) n
+      skip upperKinds (each raised sharedKinds) n
       (other 33 (h .0 .0 .0 .0 .0 .0 .0 .1) ⨾ other 41 (h .0 .0 .0 .0 .0 .0 .1) ⨾ other 48 (h .0 .0 .0 .0 .0 .1) ⨾ other 49 (h .0 .0 .0 .0 .1) ⨾ other 50 (h .0 .0 .0 .1) ⨾ other 51 (h .0 .0 .1) ⨾ other 52 (h .0 .1) ⨾ other 57 (h .1) ⨾ tt)
-      ∙ raised-chosen lowerKinds n
+      ∙ raised-chosen sharedKinds n
+      ∙ ap raised (kept-chosen _ n (λ k e. rw (eqb-true (k .kind) n e) (simp (ne-eqb n 33 (h .0 .0 .0 .0 .0 .0 .0 .1), ne-eqb n 41 (h .0 .0 .0 .0 .0 .0 .1)))) lowerKinds)
 
   -- ---- limits
   no-form : formOf upperForms n ≡ none

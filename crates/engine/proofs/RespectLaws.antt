@@ -10,12 +10,11 @@ use Rattle.paper_lower.specs.Kinds.{Kind, chosen, replyTo, answer, Said, run, a
 use Rattle.paper_lower.specs.Tables.{Lower}
 use Rattle.paper_lower.proofs.ListLaws.{every-map, every-append, every-each, every-all, _⨾_}
 use Rattle.paper_lower.proofs.KindLaws.{of-chosen}
-use Rattle.paper_lower.specs.Sessions.{lowerKinds}
 use Rattle.paper_upper.specs.Orders.{Entry, Same, Engine, SameTables, tasksBy, tasksDone, tasksOthers}
 use Rattle.paper_upper.specs.Orders.Same.{one}
 use Rattle.paper_upper.specs.Rules.{ruleChecks}
 use Rattle.paper_upper.specs.Requests.{deleteAbove, destroyAbove, openChecks, openNext, endChecks, endNext, unknown, claimChecks, claimNext, holdChecks, releaseNext, doneNext, taskCheckChecks, upperKinds}
-use Rattle.paper_upper.specs.Engine.{raised, requestKinds, request}
+use Rattle.paper_upper.specs.Engine.{raised, sharedKinds, requestKinds, request}
 use Rattle.engine.specs.Respects.{Respects, RunsRespect}
 use Rattle.engine.proofs.SameLaws.{some-same, many-same, many-kept, tasks-same, keep-same, each-same}
 
@@ -60,7 +59,7 @@ upper-rows =
 
 rows : Every InAnyOrder requestKinds
 unfolding requestKinds
-rows = every-append InAnyOrder upperKinds (each raised lowerKinds) upper-rows (every-each InAnyOrder raised lowerKinds (every-all lowerKinds lower-row))
+rows = every-append InAnyOrder upperKinds (each raised sharedKinds) upper-rows (every-each InAnyOrder raised sharedKinds (every-all sharedKinds lower-row))
 
 -- ---- One request, and a run.
 same-reply : (k : Kind Engine) (r : Record) (cs : List Check) (t t′ : Engine) → Alike k r t t′ → first (cs ++ k .checks t r) ≡ first (cs ++ k .checks t′ r)

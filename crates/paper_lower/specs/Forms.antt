@@ -18,29 +18,29 @@ pub data Field : Type 0 where
 
 -- "Users 0 to 1,023. Roles 0 to 63. Permissions 0 to 255. Tasks 0 to 63. Templates 0 to 15. Partitionings 0 to 15.
 -- Subjects (sessions) 0 to 127. Instances (orders) 0 to 63."
-abbrev pub user : Field
-user = to 1023
+abbrev pub aUser : Field
+aUser = to 1023
 
-abbrev pub role : Field
-role = to 63
+abbrev pub aRole : Field
+aRole = to 63
 
-abbrev pub permission : Field
-permission = to 255
+abbrev pub aPermission : Field
+aPermission = to 255
 
-abbrev pub task : Field
-task = to 63
+abbrev pub aTask : Field
+aTask = to 63
 
-abbrev pub template : Field
-template = to 15
+abbrev pub aTemplate : Field
+aTemplate = to 15
 
-abbrev pub partitioning : Field
-partitioning = to 15
+abbrev pub aPartitioning : Field
+aPartitioning = to 15
 
-abbrev pub subject : Field
-subject = to 127
+abbrev pub aSubject : Field
+aSubject = to 127
 
-abbrev pub order : Field
-order = to 63
+abbrev pub anOrder : Field
+anOrder = to 63
 
 pub record Form : Type 0 where
   pub kind : ℕ
@@ -56,49 +56,49 @@ form kind n a b c m = record { kind = kind; n = n; a = a; b = b; c = c; m = m }
 -- The table: kind, then n, a, b, c, m. "Policy kinds:"
 unfoldable pub policyForms : List Form
 policyForms =
-    form 1 · user · · ·
-    ∷ form 2 · role · · ·
-    ∷ form 3 · permission any any ·
-    ∷ form 4 · user role · ·
-    ∷ form 5 · role permission · ·
-    ∷ form 6 · task template · ·
-    ∷ form 7 · task role · ·
-    ∷ form 8 · task permission · ·
+    form 1 · aUser · · ·
+    ∷ form 2 · aRole · · ·
+    ∷ form 3 · aPermission any any ·
+    ∷ form 4 · aUser aRole · ·
+    ∷ form 5 · aRole aPermission · ·
+    ∷ form 6 · aTask aTemplate · ·
+    ∷ form 7 · aTask aRole · ·
+    ∷ form 8 · aTask aPermission · ·
     ∷ form 9 any · · · any
     ∷ form 10 any · · · any
     ∷ form 11 any · · · any
-    ∷ form 12 · partitioning · · any
-    ∷ form 13 · template · · ·
-    ∷ form 14 any task · · ·
-    ∷ form 15 · task task · ·
-    ∷ form 16 · task task · ·
+    ∷ form 12 · aPartitioning · · any
+    ∷ form 13 · aTemplate · · ·
+    ∷ form 14 any aTask · · ·
+    ∷ form 15 · aTask aTask · ·
+    ∷ form 16 · aTask aTask · ·
     ∷ []
 
 -- "Request kinds:", those of the lower part
 unfoldable pub lowerForms : List Form
 lowerForms =
-    form 32 · user · · ·
-    ∷ form 33 · user · · ·
-    ∷ form 34 · user role · ·
-    ∷ form 35 · user role · ·
-    ∷ form 36 · role permission · ·
-    ∷ form 37 · role permission · ·
-    ∷ form 40 · subject user · any
-    ∷ form 41 · subject · · ·
-    ∷ form 42 · subject role · ·
-    ∷ form 43 · subject role · ·
-    ∷ form 56 · subject any any ·
+    form 32 · aUser · · ·
+    ∷ form 33 · aUser · · ·
+    ∷ form 34 · aUser aRole · ·
+    ∷ form 35 · aUser aRole · ·
+    ∷ form 36 · aRole aPermission · ·
+    ∷ form 37 · aRole aPermission · ·
+    ∷ form 40 · aSubject aUser · any
+    ∷ form 41 · aSubject · · ·
+    ∷ form 42 · aSubject aRole · ·
+    ∷ form 43 · aSubject aRole · ·
+    ∷ form 56 · aSubject any any ·
     ∷ []
 
 -- and those of the upper part
 unfoldable pub upperForms : List Form
 upperForms =
-    form 48 · order template · ·
-    ∷ form 49 · order · · ·
-    ∷ form 50 · subject order task ·
-    ∷ form 51 · subject order task ·
-    ∷ form 52 · subject order task ·
-    ∷ form 57 · subject order task pair
+    form 48 · anOrder aTemplate · ·
+    ∷ form 49 · anOrder · · ·
+    ∷ form 50 · aSubject anOrder aTask ·
+    ∷ form 51 · aSubject anOrder aTask ·
+    ∷ form 52 · aSubject anOrder aTask ·
+    ∷ form 57 · aSubject anOrder aTask pair
     ∷ []
 
 unfoldable pub requestForms : List Form

@@ -11,16 +11,16 @@ use Rattle.paper_lower.specs.Tables.{Policy, Sessions, Lower, withPeople
 use Rattle.paper_lower.specs.Policy.{userChecks, userNext, assignChecks, assignNext, giveChecks, giveNext}
 
 -- subject k is a live one of user u
-unfoldable pub ofUser : Sessions → ℕ → ℕ → Bool
-ofUser s u k = s .live k && eqb (s .user k) u
+unfoldable pub subjectOf : Sessions → ℕ → ℕ → Bool
+subjectOf s u k = s .live k && eqb (s .user k) u
 
 -- "active at a time, over all the user's subjects together"
 unfoldable pub activeOf : Sessions → ℕ → Set
-activeOf s u = unionBelow 128 (λ k. cond (ofUser s u k) (s .active k) empty)
+activeOf s u = unionBelow 128 (λ k. cond (subjectOf s u k) (s .active k) empty)
 
 -- ---- "33 delete user a." IN USE: "while the user has a live subject" (or, judged above, an entry in an open instance).
 unfoldable pub deleteChecks : Lower → ℕ → List Check
-deleteChecks t a = (not (t .policy .people .users a), UNKNOWN) ∷ (someBelow 128 (ofUser (t .sessions) a), IN-USE) ∷ []
+deleteChecks t a = (not (t .policy .people .users a), UNKNOWN) ∷ (someBelow 128 (subjectOf (t .sessions) a), IN-USE) ∷ []
 
 -- "Deleting a user also removes the user's assignments."
 unfoldable pub deleteNext : Policy → ℕ → Policy
@@ -60,5 +60,5 @@ roleKinds =
 
 -- What this page defines, opened together where a case is computed.
 unfoldable pub rolesOpen : Unit {0}
-unfolding ofUser activeOf deleteChecks deleteNext takeBackChecks takeBackNext withdrawChecks withdrawNext roleKinds
+unfolding subjectOf activeOf deleteChecks deleteNext takeBackChecks takeBackNext withdrawChecks withdrawNext roleKinds
 rolesOpen = tt

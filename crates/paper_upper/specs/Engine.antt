@@ -1,6 +1,8 @@
 -- The whole engine: its request. (Its load is the lower part's, and leaves no subject, no order and no entry.)
+use mathlib.Core.Bool.{not, _||_}
 use mathlib.Core.List.{List, _++_}
-use Rattle.paper_lower.specs.Lists.{each}
+use lib.Dec.{eqb}
+use Rattle.paper_lower.specs.Lists.{keep, each}
 use Rattle.paper_lower.specs.Records.{Bytes}
 use Rattle.paper_lower.specs.Forms.{requestForms}
 use Rattle.paper_lower.specs.Kinds.{Kind, on, Answer, answer}
@@ -14,9 +16,12 @@ use Rattle.paper_upper.specs.Requests.{upperKinds, requestsOpen}
 unfoldable pub raised : Kind Lower → Kind Engine
 raised k = on (k .kind) (λ t r. k .checks (t .lower) r) (λ t r. withLower t (k .next (t .lower) r))
 
--- the first kind with a number counts: 33 and 41 are those of the upper part
+-- the lower part's kinds that do not look at entries: all but 33 and 41, which are the upper part's here
+unfoldable pub sharedKinds : List (Kind Lower)
+sharedKinds = keep (λ k. not (eqb (k .kind) 33 || eqb (k .kind) 41)) lowerKinds
+
 unfoldable pub requestKinds : List (Kind Engine)
-requestKinds = upperKinds ++ each raised lowerKinds
+requestKinds = upperKinds ++ each raised sharedKinds
 
 unfoldable pub request : Engine → Bytes → Answer Engine
 request t s = answer requestForms requestKinds t s
@@ -27,5 +32,5 @@ engineOf p = record { lower = lowerOf p; orders = noOrders }
 
 -- All pages of both parts, opened together where a case is computed.
 unfoldable pub engineOpen : Unit {0}
-unfolding lowerOpen ordersOpen rulesOpen requestsOpen raised requestKinds request engineOf
+unfolding lowerOpen ordersOpen rulesOpen requestsOpen raised sharedKinds requestKinds request engineOf
 engineOpen = tt

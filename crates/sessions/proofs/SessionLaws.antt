@@ -7,7 +7,7 @@ use native.Mathlib.Nat.{zero-add}
 use native.Mathlib.Omega.{arith}
 use lib.Dec.{eqb, ltb}
 use lib.ListN.{getD}
-use Rattle.paper_lower.specs.Roles.{ofUser}
+use Rattle.paper_lower.specs.Roles.{subjectOf}
 use Rattle.replies.specs.Cells.{column}
 use Rattle.replies.proofs.CellLaws.{column-at, two-parts}
 use Rattle.sessions.specs.Reading.{sessionsOf, liveIn, userIn, same}
@@ -25,8 +25,8 @@ module _ (l : List ℕ) (a : ℕ) (h : a < 128) where
   unfolding sessionsOf
   active-at = column-at same 0 128 128 l a h
 
-  pub of-user-at : (u : ℕ) → u < 1024 → eqb (getD l a 0 % 2048) (1024 + u) ≡ ofUser (sessionsOf l) u a
-  unfolding ofUser
+  pub of-user-at : (u : ℕ) → u < 1024 → eqb (getD l a 0 % 2048) (1024 + u) ≡ subjectOf (sessionsOf l) u a
+  unfolding subjectOf
   of-user-at u k =
       let w = getD l a 0 in
       two-parts (w % 2048) (1024 + u) (w / 1024 % 2) 1 (w % 1024) u (omega arith) (omega arith) ∙ rw (live-at, user-at)

@@ -6,7 +6,7 @@ ghost use lib.ListN.{length};
 ghost use Rattle.paper_lower.specs.Sets.{empty};
 ghost use Rattle.paper_lower.specs.Lists.{someBelow, upd};
 ghost use Rattle.paper_lower.specs.Tables.{withActive};
-ghost use Rattle.paper_lower.specs.Roles.{ofUser, activeOf};
+ghost use Rattle.paper_lower.specs.Roles.{subjectOf, activeOf};
 ghost use Rattle.paper_lower.specs.Sessions.{createNext, destroyNext};
 ghost use Rattle.sessions.specs.Reading.{sessionsWords, sessionsOf, Cleared};
 use sets::Set;
@@ -35,7 +35,7 @@ pub fn active(s: &[u64], a: usize) -> Set
 // Whether subject a is a live one of user u: one compare of the word.
 pub fn of_user(s: &[u64], u: u64, a: usize) -> bool
     requires { ⌜ (length (now s) ≡ sessionsWords) × ((u < 1024) × (a < 128)) ⌝ }
-    ensures { λ r. ⌜ r ≡ ofUser (sessionsOf (now (s .entry))) u a ⌝ }
+    ensures { λ r. ⌜ r ≡ subjectOf (sessionsOf (now (s .entry))) u a ⌝ }
 {
     s[a] % 2048 == 1024 + u
 }
@@ -66,7 +66,7 @@ pub fn set_active(s: &mut [u64], a: usize, roles: Set)
 // Whether user u has a live subject.
 pub fn has_subject(s: &[u64], u: u64) -> bool
     requires { ⌜ (length (now s) ≡ sessionsWords) × (u < 1024) ⌝ }
-    ensures { λ r. ⌜ r ≡ someBelow 128 (ofUser (sessionsOf (now (s .entry))) u) ⌝ }
+    ensures { λ r. ⌜ r ≡ someBelow 128 (subjectOf (sessionsOf (now (s .entry))) u) ⌝ }
 {
     let mut a = 0;
     while a < 128 {
@@ -81,7 +81,7 @@ pub fn has_subject(s: &[u64], u: u64) -> bool
 // The roles of subject a where it is a live one of user u, else none: both words are read before the choice.
 fn roles_in(s: &[u64], u: u64, a: usize) -> Set
     requires { ⌜ (length (now s) ≡ sessionsWords) × ((u < 1024) × (a < 128)) ⌝ }
-    ensures { λ r. ⌜ r .bits ≡ cond (ofUser (sessionsOf (now (s .entry))) u a) (sessionsOf (now (s .entry)) .active a) empty ⌝ }
+    ensures { λ r. ⌜ r .bits ≡ cond (subjectOf (sessionsOf (now (s .entry))) u a) (sessionsOf (now (s .entry)) .active a) empty ⌝ }
 {
     let roles = active(s, a);
     if of_user(s, u, a) { roles } else { Set::EMPTY }

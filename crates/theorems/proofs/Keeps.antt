@@ -7,7 +7,7 @@ use native.Mathlib.Omega.{arith}
 use borrow.Author.Tests.{not-false}
 use lib.Dec.{ltb, leb}
 use Rattle.paper_lower.specs.Sets.{has}
-use Rattle.paper_lower.specs.Lists.{Maybe, holds, there, many, each}
+use Rattle.paper_lower.specs.Lists.{Maybe, holds, there, many, each, keep}
 use Rattle.paper_lower.specs.Lists.Maybe.{none, just}
 use Rattle.paper_lower.specs.Checks.{FULL}
 use Rattle.paper_lower.specs.Records.{Bytes, Record}
@@ -22,7 +22,7 @@ use Rattle.paper_lower.proofs.CheckLaws.{Passed}
 use Rattle.paper_upper.specs.Orders.{Engine}
 use Rattle.paper_upper.specs.Rules.{ruleChecks}
 use Rattle.paper_upper.specs.Requests.{openChecks, openNext, endNext, unknown, claimChecks, claimNext, releaseNext, doneNext, upperKinds}
-use Rattle.paper_upper.specs.Engine.{raised, requestKinds, engineOf}
+use Rattle.paper_upper.specs.Engine.{raised, sharedKinds, requestKinds, engineOf}
 use Rattle.theorems.specs.WellMade.{WellMade}
 use Rattle.theorems.specs.Theorems.{tablesAfter, AfterEvery}
 use Rattle.theorems.proofs.Rows.{Rows, run-keeps}
@@ -68,7 +68,7 @@ named : (x y : Bool) → not x || y ≡ false → x ≡ true
 named x y h = not-false x (or-none (not x) y h .0)
 
 pub kept-rows : (policy : List Record) → Rows requestForms (λ n t r x. Kept policy t → Kept policy x) requestKinds
-unfolding requestKinds upperKinds raised lowerKinds roleKinds sessionKinds each requestForms lowerForms formOf outOfRange above userChecks userNext assignChecks assignNext giveNext deleteChecks deleteNext takeBackChecks takeBackNext withdrawNext createChecks activateChecks deactivateChecks openChecks openNext endNext releaseNext doneNext
+unfolding requestKinds upperKinds raised sharedKinds lowerKinds roleKinds sessionKinds keep each requestForms lowerForms formOf outOfRange above userChecks userNext assignChecks assignNext giveNext deleteChecks deleteNext takeBackChecks takeBackNext withdrawNext createChecks activateChecks deactivateChecks openChecks openNext endNext releaseNext doneNext
 kept-rows policy =
     (λ t r g p i. (i .0, i .1, deletes _ _ _ (i .2) (r .a) (p .1 .0)))
     ⨾ (λ t r g p i. (i .0, i .1, destroys _ _ _ (i .2) (r .a)))
@@ -79,7 +79,6 @@ kept-rows policy =
     ⨾ (λ t r g p i. (i .0, sound-finish policy (t .orders) (i .1) (r .a) (r .b) (r .c), i .2))
     ⨾ (λ t r g p i. i)
     ⨾ (λ t r g p i. (i .0, i .1, adds _ _ _ (i .2) (r .a) (p .0)))
-    ⨾ (λ t r g p i. (i .0, i .1, deletes _ _ _ (i .2) (r .a) (p .1 .0)))
     ⨾ (λ t r g p i. (i .0, i .1, assigns _ _ _ (i .2) (r .a) (r .b) (p .1 .1 .0)))
     ⨾ (λ t r g p i. (i .0, i .1, takes _ _ _ (i .2) (r .a) (r .b) (p .1 .0)))
     ⨾ (λ t r g p i. i)
@@ -88,7 +87,6 @@ kept-rows policy =
     let l = a-within 127 (r .a) (ltb 1023 (r .b)) g in
     let u = named (t .lower .policy .people .users (r .b)) _ (p .0) in
     (i .0, i .1, creates _ _ _ (i .2) (r .a) (r .b) (r .m) (omega arith) u (not-false _ (p .1 .1 .0)) (p .1 .1 .1 .0)))
-    ⨾ (λ t r g p i. (i .0, i .1, destroys _ _ _ (i .2) (r .a)))
     ⨾ (λ t r g p i.
     let l = named (t .lower .sessions .live (r .a)) _ (p .0) in
     (i .0, i .1, activates _ _ _ (i .2) (r .a) (r .b) l (not-false _ (p .1 .1 .0)) (p .1 .1 .1 .0)))

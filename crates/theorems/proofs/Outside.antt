@@ -1,7 +1,7 @@
 -- What is told from outside is what the tables hold.
 use mathlib.Core.Path.{_≡_, refl, sym, ap, _∙_}
 use mathlib.Core.List.{List, [], _∷_}
-use Rattle.paper_lower.specs.Lists.{each, Every}
+use Rattle.paper_lower.specs.Lists.{each, Every, keep}
 use Rattle.paper_lower.specs.Records.{Record}
 use Rattle.paper_lower.specs.Kinds.{chosen}
 use Rattle.paper_lower.specs.Tables.{Policy, noPolicy}
@@ -12,7 +12,7 @@ use Rattle.paper_lower.specs.Sessions.{createNext, destroyNext, activateNext, d
 use Rattle.paper_lower.proofs.ListLaws.{every-map, every-all, _⨾_}
 use Rattle.paper_upper.specs.Orders.{Engine}
 use Rattle.paper_upper.specs.Requests.{openNext, endNext, claimNext, releaseNext, doneNext, turned, upperKinds}
-use Rattle.paper_upper.specs.Engine.{raised, requestKinds, engineOf}
+use Rattle.paper_upper.specs.Engine.{raised, sharedKinds, requestKinds, engineOf}
 use Rattle.theorems.specs.Outside.{Told, nothing, telling, hear, hearAll, outside}
 use Rattle.theorems.specs.Theorems.{shown, ToldIsTrue}
 use Rattle.theorems.proofs.Rows.{run-follows}
@@ -20,11 +20,11 @@ use Rattle.theorems.proofs.Loads.{step, filled, Accepted, fits-rows, lo
 
 -- ---- requests
 request-rows : Every (λ k. (t : Engine) (r : Record) → chosen telling (k .kind) .next (shown t) r ≡ shown (k .next t r)) requestKinds
-unfolding requestKinds upperKinds raised lowerKinds roleKinds sessionKinds each telling chosen userNext assignNext giveNext deleteNext takeBackNext withdrawNext createNext destroyNext activateNext deactivateNext openNext endNext claimNext releaseNext doneNext turned
+unfolding requestKinds upperKinds raised sharedKinds lowerKinds roleKinds sessionKinds keep each telling chosen userNext assignNext giveNext deleteNext takeBackNext withdrawNext createNext destroyNext activateNext deactivateNext openNext endNext claimNext releaseNext doneNext turned
 request-rows =
     (λ t r. refl) ⨾ (λ t r. refl) ⨾ (λ t r. refl) ⨾ (λ t r. refl) ⨾ (λ t r. refl) ⨾ (λ t r. refl) ⨾ (λ t r. refl) ⨾ (λ t r. refl)
     ⨾ (λ t r. refl) ⨾ (λ t r. refl) ⨾ (λ t r. refl) ⨾ (λ t r. refl) ⨾ (λ t r. refl) ⨾ (λ t r. refl)
-    ⨾ (λ t r. refl) ⨾ (λ t r. refl) ⨾ (λ t r. refl) ⨾ (λ t r. refl) ⨾ (λ t r. refl) ⨾ tt
+    ⨾ (λ t r. refl) ⨾ (λ t r. refl) ⨾ (λ t r. refl) ⨾ tt
 
 -- ---- the load
 load-rows : Every (λ k. (p : Policy) (r : Record) → chosen telling (k .kind) .next (shown (engineOf p)) r ≡ shown (engineOf (k .next p r))) policyKinds

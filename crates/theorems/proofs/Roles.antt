@@ -11,7 +11,7 @@ use Rattle.paper_lower.specs.Sets.{Set, empty, has, plus, minus, union, overlap
 use Rattle.paper_lower.specs.Lists.{upd, someBelow, some, Every}
 use Rattle.paper_lower.specs.Tables.{Limit, Rules, People, Sessions, noSessions, withAssigned, withActive}
 use Rattle.paper_lower.specs.Policy.{breaks}
-use Rattle.paper_lower.specs.Roles.{ofUser, activeOf}
+use Rattle.paper_lower.specs.Roles.{subjectOf, activeOf}
 use Rattle.paper_lower.specs.Sessions.{createNext, destroyNext, activateNext, deactivateNext}
 use Rattle.paper_lower.proofs.ListLaws.{both, upd-same, upd-other, none-below, every-map, every-all, some-none}
 use Rattle.sets.proofs.Bits.{same-or-other}
@@ -40,17 +40,17 @@ pub record Limited (p : People) (s : Sessions) (ru : Rules) : Type 0 where
   pub active : (k : ℕ) → s .live k ≡ true → within (s .active k) (p .assigned (s .user k)) ≡ true
 
 -- ---- the active roles of a user
-of-user : (s : Sessions) (u k : ℕ) → s .live k ≡ true → s .user k ≡ u → ofUser s u k ≡ true
-unfolding ofUser
+of-user : (s : Sessions) (u k : ℕ) → s .live k ≡ true → s .user k ≡ u → subjectOf s u k ≡ true
+unfolding subjectOf
 of-user s u k l e = rw (l, eq-eqb (s .user k) u e)
 
 own-active : (s : Sessions) (u k : ℕ) → k < 128 → s .live k ≡ true → s .user k ≡ u → Part (s .active k) (activeOf s u)
 unfolding activeOf
-own-active s u k b l e = rw (of-user s u k l e) at (union-ge 128 (λ k. cond (ofUser s u k) (s .active k) empty) k b)
+own-active s u k b l e = rw (of-user s u k l e) at (union-ge 128 (λ k. cond (subjectOf s u k) (s .active k) empty) k b)
 
 active-le : (s : Sessions) (u : ℕ) (z : Set) → ((k : ℕ) → k < 128 → s .live k ≡ true → s .user k ≡ u → Part (s .active k) z) → Part (activeOf s u) z
-unfolding activeOf ofUser
-active-le s u z h = union-le 128 (λ k. cond (ofUser s u k) (s .active k) empty) z (λ k l. go k l (ofUser s u k) refl)
+unfolding activeOf subjectOf
+active-le s u z h = union-le 128 (λ k. cond (subjectOf s u k) (s .active k) empty) z (λ k l. go k l (subjectOf s u k) refl)
   where
     go : (k : ℕ) → k < 128 → (b : Bool) → s .live k && eqb (s .user k) u ≡ b → Part (cond b (s .active k) empty) z
     go k l true e = let x = both (s .live k) (eqb (s .user k) u) e in h k l (x .0) (eqb-true _ _ (x .1))
@@ -83,14 +83,14 @@ module _ (p : People) (s : Sessions) (ru : Rules) (h : Limited p s ru) where
       other : (k : ℕ) → s .live k ≡ true → s .user k ≡ a → ⊥
       other k l e = true≢false (sym (h .known k l) ∙ ap (p .users) e ∙ new)
 
-  pub deletes : (a : ℕ) → someBelow 128 (ofUser s a) ≡ false
+  pub deletes : (a : ℕ) → someBelow 128 (subjectOf s a) ≡ false
       → Limited (record { users = upd (p .users) a false; roles = p .roles; assigned = upd (p .assigned) a empty }) s ru
   deletes a gone =
       reassigned (upd (p .users) a false) a empty (λ k l. upd-other (p .users) a (s .user k) false (other k l) ∙ h .known k l)
       (within-none (ru .statics)) (λ k l e. absurd (other k l e))
     where
       other : (k : ℕ) → s .live k ≡ true → s .user k ≡ a → ⊥
-      other k l e = true≢false (sym (of-user s a k l e) ∙ none-below 128 (ofUser s a) gone k (h .small k l))
+      other k l e = true≢false (sym (of-user s a k l e) ∙ none-below 128 (subjectOf s a) gone k (h .small k l))
 
   pub assigns : (a b : ℕ) → some (breaks (plus (p .assigned a) b)) (ru .statics) ≡ false
       → Limited (withAssigned p (upd (p .assigned) a (plus (p .assigned a) b))) s ru

@@ -4,7 +4,7 @@ use mathlib.Core.Path.{_≡_, refl}
 use mathlib.Core.Bool.{false, true≢false}
 use mathlib.Core.List.{List, [], _∷_}
 use native.Mathlib.Omega.{arith}
-use Rattle.paper_lower.specs.Lists.{each, Every}
+use Rattle.paper_lower.specs.Lists.{each, Every, keep}
 use Rattle.paper_lower.specs.Checks.{granted}
 use Rattle.paper_lower.specs.Records.{Bytes, Record, decode}
 use Rattle.paper_lower.specs.Forms.{Form, requestForms, formOf, outOfRange, formChecks}
@@ -18,7 +18,7 @@ use Rattle.paper_lower.proofs.ListLaws.{_⨾_}
 use Rattle.paper_upper.specs.Orders.{Engine}
 use Rattle.paper_upper.specs.Rules.{ruleChecks}
 use Rattle.paper_upper.specs.Requests.{deleteAbove, destroyAbove, openChecks, endChecks, claimChecks, holdChecks, taskCheckChecks, upperKinds}
-use Rattle.paper_upper.specs.Engine.{raised, requestKinds, request}
+use Rattle.paper_upper.specs.Engine.{raised, sharedKinds, requestKinds, request}
 use Rattle.theorems.specs.Outside.{followed}
 
 -- ---- one record
@@ -48,11 +48,11 @@ module _ {T : Type 0} (fs : List Form) where
 
 -- ---- requests
 pub numbered : AllNumbered requestKinds
-unfolding requestKinds upperKinds raised lowerKinds roleKinds sessionKinds each userChecks assignChecks giveChecks deleteChecks takeBackChecks withdrawChecks createChecks destroyChecks activateChecks deactivateChecks checkChecks deleteAbove destroyAbove openChecks endChecks claimChecks ruleChecks holdChecks taskCheckChecks
+unfolding requestKinds upperKinds raised sharedKinds lowerKinds roleKinds sessionKinds keep each userChecks assignChecks giveChecks deleteChecks takeBackChecks withdrawChecks createChecks destroyChecks activateChecks deactivateChecks checkChecks deleteAbove destroyAbove openChecks endChecks claimChecks ruleChecks holdChecks taskCheckChecks
 numbered =
     (omega arith) ⨾ (omega arith) ⨾ (omega arith) ⨾ (omega arith) ⨾ (omega arith) ⨾ (omega arith) ⨾ (omega arith) ⨾ (omega arith)
     ⨾ (omega arith) ⨾ (omega arith) ⨾ (omega arith) ⨾ (omega arith) ⨾ (omega arith) ⨾ (omega arith)
-    ⨾ (omega arith) ⨾ (omega arith) ⨾ (omega arith) ⨾ (omega arith) ⨾ (omega arith) ⨾ tt
+    ⨾ (omega arith) ⨾ (omega arith) ⨾ (omega arith) ⨾ tt
 
 -- an invariant of every row is one of every run
 pub run-keeps : (I : Engine → Type 0) → Rows requestForms (λ n t r x. I t → I x) requestKinds → (t : Engine) (ss : List Bytes) → I t

@@ -8,11 +8,12 @@ use Rattle.paper_lower.specs.Sessions.{lowerOpen}
 use Rattle.paper_upper.specs.Orders.{entry, ordersOpen}
 use Rattle.paper_upper.specs.Orders.Standing.{held, done}
 use Rattle.paper_upper.specs.PTable.{listing}
+use Rattle.paper_upper.specs.Requests.{turned}
 use Rattle.theorems.specs.Outside.{nothing, telling, hear, hearAll, followed, outside}
 use Rattle.theorems.specs.InUse.{noTally, counting, count, inUse}
 
 pub after-nine : outside (joined (listing .policy)) (take 9 (listing .requests)) .orders .entries ≡ entry 0 301 1 (held 6) ∷ entry 0 300 0 done ∷ []
-unfolding lowerOpen ordersOpen wordsOpen listing recordsFrom recordsOf nothing telling hear hearAll followed outside
+unfolding lowerOpen ordersOpen wordsOpen listing recordsFrom recordsOf nothing telling hear hearAll followed outside turned
 after-nine = refl
 
 -- two entries are in use, and none after the last request

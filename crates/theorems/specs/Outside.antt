@@ -1,6 +1,6 @@
 -- The reading from outside: people, subjects, open orders and their entries, told by records and their replies alone. No table is looked at.
 use Prim.Native.Nat.{ℕ}
-use mathlib.Core.Bool.{Bool, true, false, not, cond}
+use mathlib.Core.Bool.{Bool, true, false, not}
 use mathlib.Core.List.{List, [], _∷_}
 use Rattle.paper_lower.specs.Sets.{Set, empty, plus, minus}
 use Rattle.paper_lower.specs.Lists.{upd, Maybe, keep, each}
@@ -11,7 +11,8 @@ use Rattle.paper_lower.specs.Kinds.{Kind, on, chosen, Said}
 use Rattle.paper_lower.specs.Tables.{Sessions, noSessions}
 use Rattle.paper_lower.specs.Load.{recordsOf}
 use Rattle.paper_upper.specs.Orders.{Entry, entry, Orders, noOrders, inOrder, heldBy}
-use Rattle.paper_upper.specs.Orders.Standing.{held, done}
+use Rattle.paper_upper.specs.Orders.Standing.{held}
+use Rattle.paper_upper.specs.Requests.{turned}
 
 -- the users' assigned roles; each live subject's user and active roles; the open orders, each with its template, and their entries
 pub record Told : Type 0 where
@@ -23,30 +24,26 @@ unfoldable pub nothing : Told
 nothing = record { assigned = λ _. empty; sessions = noSessions; orders = noOrders }
 
 -- ---- One of them anew.
-abbrev pub withRoles : Told → ℕ → Set → Told
-withRoles x u m = record { assigned = upd (x .assigned) u m; sessions = x .sessions; orders = x .orders }
+abbrev pub toldRoles : Told → ℕ → Set → Told
+toldRoles x u m = record { assigned = upd (x .assigned) u m; sessions = x .sessions; orders = x .orders }
 
-abbrev pub withSessions : Told → Sessions → Told
-withSessions x s = record { assigned = x .assigned; sessions = s; orders = x .orders }
+abbrev pub toldSessions : Told → Sessions → Told
+toldSessions x s = record { assigned = x .assigned; sessions = s; orders = x .orders }
 
-abbrev pub withSubject : Told → ℕ → Bool → ℕ → Set → Told
-withSubject x s live user active =
-    withSessions x
+abbrev pub toldSubject : Told → ℕ → Bool → ℕ → Set → Told
+toldSubject x s live user active =
+    toldSessions x
     (record { live = upd (x .sessions .live) s live; user = upd (x .sessions .user) s user; active = upd (x .sessions .active) s active })
 
-abbrev pub withActive : Told → ℕ → Set → Told
-withActive x s m =
-    withSessions x (record { live = x .sessions .live; user = x .sessions .user; active = upd (x .sessions .active) s m })
+abbrev pub toldActive : Told → ℕ → Set → Told
+toldActive x s m =
+    toldSessions x (record { live = x .sessions .live; user = x .sessions .user; active = upd (x .sessions .active) s m })
 
-abbrev pub withOrders : Told → (ℕ → Maybe ℕ) → List Entry → Told
-withOrders x f es = record { assigned = x .assigned; sessions = x .sessions; orders = record { opened = f; entries = es } }
+abbrev pub toldOrders : Told → (ℕ → Maybe ℕ) → List Entry → Told
+toldOrders x f es = record { assigned = x .assigned; sessions = x .sessions; orders = record { opened = f; entries = es } }
 
-abbrev pub withEntries : Told → List Entry → Told
-withEntries x es = withOrders x (x .orders .opened) es
-
--- the entry, done if subject a holds it, of task t in instance i
-abbrev pub finished : ℕ → ℕ → ℕ → Entry → Entry
-finished i t a e = cond (heldBy i t a e) (entry (e .instance) (e .user) (e .task) done) e
+abbrev pub toldEntries : Told → List Entry → Told
+toldEntries x es = toldOrders x (x .orders .opened) es
 
 -- ---- What a granted record of each kind tells; of any other kind, nothing.
 abbrev pub tells : ℕ → (Told → Record → Told) → Kind Told
@@ -55,26 +52,26 @@ tells k f = on k (λ x r. []) f
 unfoldable pub telling : List (Kind Told)
 telling =
     -- "1 user a." "32 add user a." "33 delete user a.": no roles
-    tells 1 (λ x r. withRoles x (r .a) empty)
-    ∷ tells 32 (λ x r. withRoles x (r .a) empty)
-    ∷ tells 33 (λ x r. withRoles x (r .a) empty)
+    tells 1 (λ x r. toldRoles x (r .a) empty)
+    ∷ tells 32 (λ x r. toldRoles x (r .a) empty)
+    ∷ tells 33 (λ x r. toldRoles x (r .a) empty)
     -- "4 user a has role b." "34 assign role b to user a. 35 take it back."
-    ∷ tells 4 (λ x r. withRoles x (r .a) (plus (x .assigned (r .a)) (r .b)))
-    ∷ tells 34 (λ x r. withRoles x (r .a) (plus (x .assigned (r .a)) (r .b)))
-    ∷ tells 35 (λ x r. withRoles x (r .a) (minus (x .assigned (r .a)) (r .b)))
+    ∷ tells 4 (λ x r. toldRoles x (r .a) (plus (x .assigned (r .a)) (r .b)))
+    ∷ tells 34 (λ x r. toldRoles x (r .a) (plus (x .assigned (r .a)) (r .b)))
+    ∷ tells 35 (λ x r. toldRoles x (r .a) (minus (x .assigned (r .a)) (r .b)))
     -- "40 create subject a for user b with active roles m. 41 destroy subject a. 42 activate role b in subject a. 43 deactivate it."
-    ∷ tells 40 (λ x r. withSubject x (r .a) true (r .b) (r .m))
-    ∷ tells 41 (λ x r. withSubject x (r .a) false 0 empty)
-    ∷ tells 42 (λ x r. withActive x (r .a) (plus (x .sessions .active (r .a)) (r .b)))
-    ∷ tells 43 (λ x r. withActive x (r .a) (minus (x .sessions .active (r .a)) (r .b)))
+    ∷ tells 40 (λ x r. toldSubject x (r .a) true (r .b) (r .m))
+    ∷ tells 41 (λ x r. toldSubject x (r .a) false 0 empty)
+    ∷ tells 42 (λ x r. toldActive x (r .a) (plus (x .sessions .active (r .a)) (r .b)))
+    ∷ tells 43 (λ x r. toldActive x (r .a) (minus (x .sessions .active (r .a)) (r .b)))
     -- "48 open instance a of template b. 49 end instance a.": "ending the instance removes all its entries"
-    ∷ tells 48 (λ x r. withOrders x (upd (x .orders .opened) (r .a) (just (r .b))) (x .orders .entries))
-    ∷ tells 49 (λ x r. withOrders x (upd (x .orders .opened) (r .a) none) (keep (λ e. not (inOrder (r .a) e)) (x .orders .entries)))
+    ∷ tells 48 (λ x r. toldOrders x (upd (x .orders .opened) (r .a) (just (r .b))) (x .orders .entries))
+    ∷ tells 49 (λ x r. toldOrders x (upd (x .orders .opened) (r .a) none) (keep (λ e. not (inOrder (r .a) e)) (x .orders .entries)))
     -- "A granted claim enters (instance, user, task, held), the user being the subject's; the claiming subject is kept with it while it is
     -- held. Release removes it; done turns it from held to done"
-    ∷ tells 50 (λ x r. withEntries x (entry (r .b) (x .sessions .user (r .a)) (r .c) (held (r .a)) ∷ x .orders .entries))
-    ∷ tells 51 (λ x r. withEntries x (keep (λ e. not (heldBy (r .b) (r .c) (r .a) e)) (x .orders .entries)))
-    ∷ tells 52 (λ x r. withEntries x (each (finished (r .b) (r .c) (r .a)) (x .orders .entries)))
+    ∷ tells 50 (λ x r. toldEntries x (entry (r .b) (x .sessions .user (r .a)) (r .c) (held (r .a)) ∷ x .orders .entries))
+    ∷ tells 51 (λ x r. toldEntries x (keep (λ e. not (heldBy (r .b) (r .c) (r .a) e)) (x .orders .entries)))
+    ∷ tells 52 (λ x r. toldEntries x (each (turned (r .b) (r .c) (r .a)) (x .orders .entries)))
     ∷ []
 
 unfoldable pub hear : Told → Record → Told

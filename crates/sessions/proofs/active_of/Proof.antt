@@ -4,7 +4,7 @@ use mathlib.Core.Bool.{cond}
 use mathlib.Core.Path.{_≡_, refl, sym, ap₂, _∙_}
 use native.Mathlib.Omega.{arith}
 use borrow.Author.Needs.{needs}
-use Rattle.paper_lower.specs.Roles.{ofUser, activeOf}
+use Rattle.paper_lower.specs.Roles.{subjectOf, activeOf}
 use Rattle.paper_lower.specs.Sets.{empty, union, unionBelow}
 use Rattle.replies.proofs.SearchLaws.{union-more}
 use Rattle.sessions.specs.Reading.{sessionsOf}
@@ -12,7 +12,7 @@ use Rattle.sessions.proofs.active_of.Statement.{statement}
 use Rattle.sessions.proofs.active_of.Tie as tie
 
 abbrev Inv-loop : tie.InvT-loop
-Inv-loop s u all₀ a₀ all a = (a ≤ 128) × (all .bits ≡ unionBelow a (λ k. cond (ofUser (sessionsOf s) u k) (sessionsOf s .active k) empty))
+Inv-loop s u all₀ a₀ all a = (a ≤ 128) × (all .bits ≡ unionBelow a (λ k. cond (subjectOf (sessionsOf s) u k) (sessionsOf s .active k) empty))
 
 abbrev μ-loop : tie.MeasureT-loop
 μ-loop s u all₀ a₀ all a = 128 - a

@@ -5,14 +5,14 @@ use mathlib.Core.Path.{_≡_, refl, sym, _∙_}
 use native.Mathlib.Omega.{arith}
 use borrow.Author.Needs.{needs}
 use Rattle.paper_lower.specs.Lists.{someBelow}
-use Rattle.paper_lower.specs.Roles.{ofUser}
+use Rattle.paper_lower.specs.Roles.{subjectOf}
 use Rattle.replies.proofs.SearchLaws.{below-more, below-found}
 use Rattle.sessions.specs.Reading.{sessionsOf}
 use Rattle.sessions.proofs.has_subject.Statement.{statement}
 use Rattle.sessions.proofs.has_subject.Tie as tie
 
 abbrev Inv-loop : tie.InvT-loop
-Inv-loop s u a₀ a = (a ≤ 128) × (someBelow a (ofUser (sessionsOf s) u) ≡ false)
+Inv-loop s u a₀ a = (a ≤ 128) × (someBelow a (subjectOf (sessionsOf s) u) ≡ false)
 
 abbrev μ-loop : tie.MeasureT-loop
 μ-loop s u a₀ a = 128 - a
