@@ -1,4 +1,4 @@
-// Kinds 1 to 8, the declarations of a policy: each judged, then done. Requests 32, 34 and 36 are kinds 1, 4 and 5 again.
+// Kinds 1 to 8, the declarations of a policy: each judged, then done. Requests 34 and 36 are kinds 4 and 5 again.
 // It rests on the policy's getters and setters and on what is asked of it.
 ghost use mathlib.Core.Path.{_≡_};
 ghost use Prim.Native.Nat.{_<_};
@@ -10,6 +10,7 @@ ghost use Rattle.replies.specs.Done.{Done};
 ghost use Rattle.policy.specs.Layout.{policyWords};
 ghost use Rattle.policy.specs.Reading.{policyOf};
 use replies::Reply;
+use sets::Set;
 
 // ---- "1 user a."
 
@@ -31,7 +32,7 @@ pub fn user(p: &mut [u64], a: u64) -> Reply
     if !replies::accepted(r) {
         return r;
     }
-    policy::set_user(p, a as usize, 1);
+    policy::set_user(p, a as usize, 1, Set::EMPTY);
     r
 }
 

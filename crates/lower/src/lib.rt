@@ -26,7 +26,7 @@ pub fn step(r: Record, p: &mut [u64], s: &mut [u64]) -> Reply
 {
     let kind = r.kind;
     match kind {
-        32 => declarations::user(p, r.a),
+        32 => roles::join(p, r.a, Set { bits: r.m }),
         33 => roles::delete(p, s, r.a),
         34 => declarations::assign(p, r.a, r.b),
         35 => roles::take_back(p, s, r.a, r.b),

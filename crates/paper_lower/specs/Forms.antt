@@ -77,7 +77,7 @@ policyForms =
 -- "Request kinds:", those of the lower part
 unfoldable pub lowerForms : List Form
 lowerForms =
-    form 32 · aUser · · ·
+    form 32 · aUser · · any
     ∷ form 33 · aUser · · ·
     ∷ form 34 · aUser aRole · ·
     ∷ form 35 · aUser aRole · ·

@@ -1,14 +1,14 @@
--- Requests 32 to 37: users, their roles, and what roles may do. (32, 34 and 36 are kinds 1, 4 and 5 after the load.)
+-- Requests 32 to 37: users, their roles, and what roles may do. (34 and 36 are kinds 4 and 5 after the load.)
 use Prim.Native.Nat.{ℕ}
-use mathlib.Core.Bool.{Bool, false, not, cond, _&&_, _||_}
+use mathlib.Core.Bool.{Bool, true, false, not, cond, _&&_, _||_}
 use mathlib.Core.List.{List, [], _∷_}
 use lib.Dec.{eqb}
-use Rattle.paper_lower.specs.Sets.{Set, empty, has, minus, unionBelow}
-use Rattle.paper_lower.specs.Lists.{upd, someBelow, there}
-use Rattle.paper_lower.specs.Checks.{Check, UNKNOWN, IN-USE}
+use Rattle.paper_lower.specs.Sets.{Set, empty, has, minus, within, unionBelow}
+use Rattle.paper_lower.specs.Lists.{upd, someBelow, there, some}
+use Rattle.paper_lower.specs.Checks.{Check, UNKNOWN, TAKEN, IN-USE, STATIC}
 use Rattle.paper_lower.specs.Kinds.{Kind, on}
 use Rattle.paper_lower.specs.Tables.{Policy, Sessions, Lower, withPeople, withPermissions, withPolicy, withAssigned, withHolders}
-use Rattle.paper_lower.specs.Policy.{userChecks, userNext, assignChecks, assignNext, giveChecks, giveNext}
+use Rattle.paper_lower.specs.Policy.{breaks, assignChecks, assignNext, giveChecks, giveNext}
 
 -- subject k is a live one of user u
 unfoldable pub subjectOf : Sessions → ℕ → ℕ → Bool
@@ -17,6 +17,19 @@ subjectOf s u k = s .live k && eqb (s .user k) u
 -- "active at a time, over all the user's subjects together"
 unfoldable pub activeOf : Sessions → ℕ → Set
 activeOf s u = unionBelow 128 (λ k. cond (subjectOf s u k) (s .active k) empty)
+
+-- ---- "32 add user a." Amended by 02, Ask 1: "kind 32 now takes roles in m, and all of it happens or nothing. m = 0 does what it did."
+-- "UNKNOWN for an undeclared role in m, STATIC for the whole set, in the old order."
+unfoldable pub joinChecks : Policy → ℕ → Set → List Check
+joinChecks p a m =
+    (not (within m (p .people .roles)), UNKNOWN)
+    ∷ (p .people .users a, TAKEN)
+    ∷ (some (breaks m) (p .rules .statics), STATIC)
+    ∷ []
+
+unfoldable pub joinNext : Policy → ℕ → Set → Policy
+joinNext p a m =
+    withPeople p (record { users = upd (p .people .users) a true; roles = p .people .roles; assigned = upd (p .people .assigned) a m })
 
 -- ---- "33 delete user a." IN USE: "while the user has a live subject" (or, judged above, an entry in an open instance).
 unfoldable pub deleteChecks : Lower → ℕ → List Check
@@ -47,10 +60,10 @@ unfoldable pub withdrawNext : Policy → ℕ → ℕ → Policy
 withdrawNext p a b =
     withPermissions p (withHolders (p .permissions) (upd (p .permissions .holders) b (minus (p .permissions .holders b) a)))
 
--- ---- All of them. "32 add user a." "34 assign role b to user a." "36 give role a permission b."
+-- ---- All of them. "34 assign role b to user a." "36 give role a permission b."
 unfoldable pub roleKinds : List (Kind Lower)
 roleKinds =
-    on 32 (λ t r. userChecks (t .policy) (r .a)) (λ t r. withPolicy t (userNext (t .policy) (r .a)))
+    on 32 (λ t r. joinChecks (t .policy) (r .a) (r .m)) (λ t r. withPolicy t (joinNext (t .policy) (r .a) (r .m)))
     ∷ on 33 (λ t r. deleteChecks t (r .a)) (λ t r. withPolicy t (deleteNext (t .policy) (r .a)))
     ∷ on 34 (λ t r. assignChecks (t .policy) (r .a) (r .b)) (λ t r. withPolicy t (assignNext (t .policy) (r .a) (r .b)))
     ∷ on 35 (λ t r. takeBackChecks t (r .a) (r .b)) (λ t r. withPolicy t (takeBackNext (t .policy) (r .a) (r .b)))
@@ -60,5 +73,5 @@ roleKinds =
 
 -- What this page defines, opened together where a case is computed.
 unfoldable pub rolesOpen : Unit {0}
-unfolding subjectOf activeOf deleteChecks deleteNext takeBackChecks takeBackNext withdrawChecks withdrawNext roleKinds
+unfolding subjectOf activeOf joinChecks joinNext deleteChecks deleteNext takeBackChecks takeBackNext withdrawChecks withdrawNext roleKinds
 rolesOpen = tt

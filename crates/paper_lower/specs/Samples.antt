@@ -5,13 +5,16 @@ use mathlib.Core.Path.{_≡_, refl}
 use mathlib.Core.List.{List, [], _∷_}
 use Rattle.paper_lower.specs.Lists.{every}
 use Rattle.paper_lower.specs.Checks.{GRANTED, SHAPE, RANGE, UNKNOWN, TAKEN, IN-USE, RULE, NOT-ASSIGNED, STATIC, DYNAMIC, DENIED}
-use Rattle.paper_lower.specs.Words.{Case, refuses, accepts, _⇒_, comesOut, wordsOpen, user, role, permission, userHas, roleHas, task, staticSet, dynamicSet, taskSet, block, ban, atMost, bound, isBefore, addUser, deleteUser, assign, takeBack, give, withdraw, create, destroy, activate, deactivate, openOrder, check}
+use Rattle.paper_lower.specs.Words.{Case, refuses, accepts, _⇒_, comesOut, wordsOpen, user, role, permission, userHas, roleHas, task, staticSet, dynamicSet, taskSet, block, ban, atMost, bound, isBefore, addUser, join, deleteUser, assign, takeBack, give, withdraw, create, destroy, activate, deactivate, openOrder, check}
 use Rattle.paper_lower.specs.Sessions.{lowerRequest, lowerOf, lowerOpen}
 
 unfoldable pub samples : List Case
 samples =
     -- numbers above 255 are numbers of their own; the upper part's kinds are no kinds here, even out of range
     accepts (user 300 ∷ []) (addUser 44 ⇒ GRANTED ∷ addUser 300 ⇒ TAKEN ∷ addUser 1023 ⇒ GRANTED ∷ addUser 1024 ⇒ RANGE ∷ openOrder 0 0 ⇒ SHAPE ∷ openOrder 64 0 ⇒ SHAPE ∷ [])
+    -- a user joins with roles, all of them or none: an undeclared role, a number taken, a set that the whole breaks, in this order
+    ∷ accepts (user 300 ∷ role 0 ∷ role 1 ∷ role 63 ∷ staticSet 1 3 ∷ [])
+    (join 44 4 ⇒ UNKNOWN ∷ join 300 4 ⇒ UNKNOWN ∷ join 300 3 ⇒ TAKEN ∷ join 44 3 ⇒ STATIC ∷ join 44 (1 + 2 ^ 63) ⇒ GRANTED ∷ join 44 0 ⇒ TAKEN ∷ assign 44 0 ⇒ TAKEN ∷ assign 44 1 ⇒ STATIC ∷ create 5 44 (1 + 2 ^ 63) ⇒ GRANTED ∷ join 1024 4 ⇒ RANGE ∷ join 45 0 ⇒ GRANTED ∷ [])
     -- a static set judges the roles that would be, and n of them are allowed
     ∷ accepts (user 300 ∷ role 0 ∷ role 1 ∷ role 2 ∷ staticSet 2 7 ∷ userHas 300 0 ∷ userHas 300 1 ∷ []) (assign 300 2 ⇒ STATIC ∷ assign 300 1 ⇒ TAKEN ∷ assign 300 3 ⇒ UNKNOWN ∷ takeBack 300 0 ⇒ GRANTED ∷ assign 300 2 ⇒ GRANTED ∷ [])
     ∷ refuses (user 300 ∷ role 0 ∷ role 1 ∷ staticSet 1 3 ∷ userHas 300 0 ∷ userHas 300 1 ∷ []) STATIC 6

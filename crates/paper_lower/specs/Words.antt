@@ -66,6 +66,9 @@ isBefore a b = record-of 16 0 a b 0 0
 abbrev pub addUser : ℕ → Bytes
 addUser a = record-of 32 0 a 0 0 0
 
+abbrev pub join : ℕ → ℕ → Bytes
+join a m = record-of 32 0 a 0 0 m
+
 abbrev pub deleteUser : ℕ → Bytes
 deleteUser a = record-of 33 0 a 0 0 0
 

@@ -140,10 +140,10 @@ module _ (l : List ℕ) (room : length l ≡ policyWords) where
     pub most-set : (n : ℕ) → i < 64 → 0 < n → n < 256 → policyOf (set l (2952 + i) n) ≡ mostAnew (policyOf l) i n
     most-set n h p q = row-set 2952 i n (omega arith) ∙ rw (most-word n p q)
 
-pub user-set : (l : List ℕ) → length l ≡ policyWords → (i v : ℕ) → i < 1024 → policyOf (set (set l (8 + i) v) (1032 + i) 0) ≡ userAnew (policyOf l) i (flagOf v)
-user-set l room i v h =
+pub user-set : (l : List ℕ) → length l ≡ policyWords → (i v m : ℕ) → i < 1024 → policyOf (set (set l (8 + i) v) (1032 + i) m) ≡ userAnew (policyOf l) i (flagOf v) m
+user-set l room i v m h =
     let next : length (set l (8 + i) v) ≡ policyWords = rw length-set room in
-    assigned-set (set l (8 + i) v) next i 0 h ∙ ap (λ t. assignedAnew t i 0) (row-set l room 8 i v (omega arith))
+    assigned-set (set l (8 + i) v) next i m h ∙ ap (λ t. assignedAnew t i m) (row-set l room 8 i v (omega arith))
 
 -- ---- The permissions: a store in their rows or buckets.
 abbrev declaredAnew : Policy → (ℕ → Maybe Permission) → Policy

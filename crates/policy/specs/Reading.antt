@@ -73,8 +73,8 @@ abbrev pub rolesAnew : Policy → Set → Policy
 rolesAnew t m = withPeople t (record { users = t .people .users; roles = m; assigned = t .people .assigned })
 
 -- declared or not, and with no roles
-abbrev pub userAnew : Policy → ℕ → Bool → Policy
-userAnew t a declared = withPeople t (record { users = upd (t .people .users) a declared; roles = t .people .roles; assigned = upd (t .people .assigned) a empty })
+abbrev pub userAnew : Policy → ℕ → Bool → Set → Policy
+userAnew t a declared m = withPeople t (record { users = upd (t .people .users) a declared; roles = t .people .roles; assigned = upd (t .people .assigned) a m })
 
 abbrev pub assignedAnew : Policy → ℕ → Set → Policy
 assignedAnew t a m = withPeople t (withAssigned (t .people) (upd (t .people .assigned) a m))

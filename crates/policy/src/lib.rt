@@ -33,12 +33,12 @@ pub fn user_declared(p: &[u64], a: usize) -> bool
 }
 
 // A user declared (1) or no longer (0), with no roles.
-pub fn set_user(p: &mut [u64], a: usize, declared: u64)
+pub fn set_user(p: &mut [u64], a: usize, declared: u64, roles: Set)
     requires { ⌜ (length (now p) ≡ policyWords) × (a < 1024) ⌝ }
-    ensures { λ _. ⌜ policyOf (now (p .exit)) ≡ userAnew (policyOf (now (p .entry))) a (flagOf declared) ⌝ }
+    ensures { λ _. ⌜ policyOf (now (p .exit)) ≡ userAnew (policyOf (now (p .entry))) a (flagOf declared) (roles .bits) ⌝ }
 {
     p[8 + a] = declared;
-    p[1032 + a] = 0;
+    p[1032 + a] = roles.bits;
 }
 
 pub fn assigned(p: &[u64], a: usize) -> Set

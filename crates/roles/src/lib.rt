@@ -1,10 +1,10 @@
-// Requests 33, 35 and 37: a user deleted, a role and a permission taken back. Each is judged over what is only read, and then done.
-// (32, 34 and 36 are the policy's kinds 1, 4 and 5 after the load.)
+// Requests 32, 33, 35 and 37: a user added with roles, a user deleted, a role and a permission taken back. Each is judged over what is only
+// read, and then done. (34 and 36 are the policy's kinds 4 and 5 after the load.)
 ghost use mathlib.Core.Path.{_≡_};
 ghost use Prim.Native.Nat.{_<_};
 ghost use lib.ListN.{length};
 ghost use Rattle.paper_lower.specs.Checks.{first};
-ghost use Rattle.paper_lower.specs.Roles.{deleteChecks, deleteNext, takeBackChecks, takeBackNext, withdrawChecks, withdrawNext};
+ghost use Rattle.paper_lower.specs.Roles.{joinChecks, joinNext, deleteChecks, deleteNext, takeBackChecks, takeBackNext, withdrawChecks, withdrawNext};
 ghost use Rattle.replies.specs.Replies.{numberOf};
 ghost use Rattle.replies.specs.Done.{Done};
 ghost use Rattle.policy.specs.Layout.{policyWords};
@@ -13,6 +13,40 @@ ghost use Rattle.sessions.specs.Reading.{sessionsWords};
 ghost use Rattle.sessions.specs.Lower.{lowerTables};
 use replies::Reply;
 use replies::accepted;
+use sets::Set;
+
+// The number of the static sets among the kinds of limits.
+const STATIC: usize = 0;
+
+// ---- 32: add user a with roles m.
+
+pub fn join_reply(p: &[u64], a: u64, m: Set) -> Reply
+    requires { ⌜ (length (now p) ≡ policyWords) × (a < 1024) ⌝ }
+    ensures { λ r. ⌜ numberOf r ≡ first (joinChecks (policyOf (now (p .entry))) a (m .bits)) ⌝ }
+{
+    if !m.within(policy::declared_roles(p)) {
+        return Reply::Unknown;
+    }
+    if policy::user_declared(p, a as usize) {
+        return Reply::Taken;
+    }
+    if questions::broken(p, STATIC, m) {
+        return Reply::Static;
+    }
+    Reply::Granted
+}
+
+pub fn join(p: &mut [u64], a: u64, m: Set) -> Reply
+    requires { ⌜ (length (now p) ≡ policyWords) × (a < 1024) ⌝ }
+    ensures { λ r. ⌜ Done policyOf (first (joinChecks (policyOf (now (p .entry))) a (m .bits))) (joinNext (policyOf (now (p .entry))) a (m .bits)) (now (p .entry)) (now (p .exit)) r ⌝ }
+{
+    let r = join_reply(p, a, m);
+    if !accepted(r) {
+        return r;
+    }
+    policy::set_user(p, a as usize, 1, m);
+    r
+}
 
 // ---- 33: delete user a.
 
@@ -34,7 +68,7 @@ pub fn remove(p: &mut [u64], a: u64)
     requires { ⌜ (length (now p) ≡ policyWords) × (a < 1024) ⌝ }
     ensures { λ _. ⌜ policyOf (now (p .exit)) ≡ deleteNext (policyOf (now (p .entry))) a ⌝ }
 {
-    policy::set_user(p, a as usize, 0);
+    policy::set_user(p, a as usize, 0, Set::EMPTY);
 }
 
 pub fn delete(p: &mut [u64], s: &[u64], a: u64) -> Reply

@@ -13,9 +13,9 @@ use Rattle.paper_lower.specs.Checks.{FULL}
 use Rattle.paper_lower.specs.Records.{Bytes, Record}
 use Rattle.paper_lower.specs.Forms.{lowerForms, requestForms, formOf, above, outOfRange}
 use Rattle.paper_lower.specs.Tables.{Tasks, Rules}
-use Rattle.paper_lower.specs.Policy.{userChecks, userNext, assignChecks, assignNext, giveNext}
+use Rattle.paper_lower.specs.Policy.{assignChecks, assignNext, giveNext}
 use Rattle.paper_lower.specs.Load.{load, recordsOf}
-use Rattle.paper_lower.specs.Roles.{deleteChecks, deleteNext, takeBackChecks, takeBackNext, withdrawNext, roleKinds}
+use Rattle.paper_lower.specs.Roles.{joinChecks, joinNext, deleteChecks, deleteNext, takeBackChecks, takeBackNext, withdrawNext, roleKinds}
 use Rattle.paper_lower.specs.Sessions.{createChecks, activateChecks, deactivateChecks, sessionKinds, lowerKinds, lowerOf}
 use Rattle.paper_lower.proofs.ListLaws.{or-none, every-left, every-right, _⨾_}
 use Rattle.paper_lower.proofs.CheckLaws.{Passed}
@@ -29,7 +29,7 @@ use Rattle.theorems.proofs.Rows.{Rows, run-keeps}
 use Rattle.theorems.proofs.Made.{Made, made}
 use Rattle.theorems.proofs.WellMade.{a-within, load-well-made}
 use Rattle.theorems.proofs.Sound.{Sound, sound-start, sound-open, sound-end, sound-claim, sound-release, sound-finish}
-use Rattle.theorems.proofs.Roles.{Limited, adds, deletes, assigns, takes, creates, destroys, activates, deactivates}
+use Rattle.theorems.proofs.Roles.{Limited, joins, deletes, assigns, takes, creates, destroys, activates, deactivates}
 use Rattle.theorems.proofs.LoadedRoles.{loaded-limited}
 
 pub record Given (policy : List Record) (k : Tasks) (ru : Rules) : Type 0 where
@@ -68,7 +68,7 @@ named : (x y : Bool) → not x || y ≡ false → x ≡ true
 named x y h = not-false x (or-none (not x) y h .0)
 
 pub kept-rows : (policy : List Record) → Rows requestForms (λ n t r x. Kept policy t → Kept policy x) requestKinds
-unfolding requestKinds upperKinds raised sharedKinds lowerKinds roleKinds sessionKinds keep each requestForms lowerForms formOf outOfRange above userChecks userNext assignChecks assignNext giveNext deleteChecks deleteNext takeBackChecks takeBackNext withdrawNext createChecks activateChecks deactivateChecks openChecks openNext endNext releaseNext doneNext
+unfolding requestKinds upperKinds raised sharedKinds lowerKinds roleKinds sessionKinds keep each requestForms lowerForms formOf outOfRange above joinChecks joinNext assignChecks assignNext giveNext deleteChecks deleteNext takeBackChecks takeBackNext withdrawNext createChecks activateChecks deactivateChecks openChecks openNext endNext releaseNext doneNext
 kept-rows policy =
     (λ t r g p i. (i .0, i .1, deletes _ _ _ (i .2) (r .a) (p .1 .0)))
     ⨾ (λ t r g p i. (i .0, i .1, destroys _ _ _ (i .2) (r .a)))
@@ -78,7 +78,7 @@ kept-rows policy =
     ⨾ (λ t r g p i. (i .0, sound-release policy (t .orders) (i .1) (r .a) (r .b) (r .c), i .2))
     ⨾ (λ t r g p i. (i .0, sound-finish policy (t .orders) (i .1) (r .a) (r .b) (r .c), i .2))
     ⨾ (λ t r g p i. i)
-    ⨾ (λ t r g p i. (i .0, i .1, adds _ _ _ (i .2) (r .a) (p .0)))
+    ⨾ (λ t r g p i. (i .0, i .1, joins _ _ _ (i .2) (r .a) (r .m) (p .1 .0) (p .1 .1 .0)))
     ⨾ (λ t r g p i. (i .0, i .1, assigns _ _ _ (i .2) (r .a) (r .b) (p .1 .1 .0)))
     ⨾ (λ t r g p i. (i .0, i .1, takes _ _ _ (i .2) (r .a) (r .b) (p .1 .0)))
     ⨾ (λ t r g p i. i)

@@ -21,3 +21,4 @@ pub mod Outside
 pub mod FirstRule
 pub mod InUse
 pub mod Theorems
+pub mod Joining

@@ -7,7 +7,7 @@ use Rattle.paper_lower.specs.Kinds.{chosen}
 use Rattle.paper_lower.specs.Tables.{Policy, noPolicy}
 use Rattle.paper_lower.specs.Policy.{userNext, roleNext, permissionNext, assignNext, giveNext, taskNext, openToNext, carriesNext, staticNext, dynamicNext, taskSetNext, blockNext, banNext, mostNext, bindNext, beforeNext, policyKinds}
 use Rattle.paper_lower.specs.Load.{load, recordsOf}
-use Rattle.paper_lower.specs.Roles.{deleteNext, takeBackNext, withdrawNext, roleKinds}
+use Rattle.paper_lower.specs.Roles.{joinNext, deleteNext, takeBackNext, withdrawNext, roleKinds}
 use Rattle.paper_lower.specs.Sessions.{createNext, destroyNext, activateNext, deactivateNext, sessionKinds, lowerKinds, lowerOf}
 use Rattle.paper_lower.proofs.ListLaws.{every-map, every-all, _⨾_}
 use Rattle.paper_upper.specs.Orders.{Engine}
@@ -20,7 +20,7 @@ use Rattle.theorems.proofs.Loads.{step, filled, Accepted, fits-rows, lo
 
 -- ---- requests
 request-rows : Every (λ k. (t : Engine) (r : Record) → chosen telling (k .kind) .next (shown t) r ≡ shown (k .next t r)) requestKinds
-unfolding requestKinds upperKinds raised sharedKinds lowerKinds roleKinds sessionKinds keep each telling chosen userNext assignNext giveNext deleteNext takeBackNext withdrawNext createNext destroyNext activateNext deactivateNext openNext endNext claimNext releaseNext doneNext turned
+unfolding requestKinds upperKinds raised sharedKinds lowerKinds roleKinds sessionKinds keep each telling chosen joinNext assignNext giveNext deleteNext takeBackNext withdrawNext createNext destroyNext activateNext deactivateNext openNext endNext claimNext releaseNext doneNext turned
 request-rows =
     (λ t r. refl) ⨾ (λ t r. refl) ⨾ (λ t r. refl) ⨾ (λ t r. refl) ⨾ (λ t r. refl) ⨾ (λ t r. refl) ⨾ (λ t r. refl) ⨾ (λ t r. refl)
     ⨾ (λ t r. refl) ⨾ (λ t r. refl) ⨾ (λ t r. refl) ⨾ (λ t r. refl) ⨾ (λ t r. refl) ⨾ (λ t r. refl)

@@ -24,7 +24,7 @@ Within ls m = Every (λ l. overlap (l .members) m ≤ l .n) ls
 pub within-none : (ls : List Limit) → Within ls empty
 within-none ls = every-all ls (λ l. let o = overlap-empty (l .members) in omega arith)
 
-within-less : (ls : List Limit) (m k : Set) → Part m k → Within ls k → Within ls m
+pub within-less : (ls : List Limit) (m k : Set) → Part m k → Within ls k → Within ls m
 within-less ls m k p h = every-map ls (λ l x. let o = overlap-part (l .members) m k p in omega arith) h
 
 -- where STATIC and DYNAMIC do not apply
@@ -74,11 +74,11 @@ module _ (p : People) (s : Sessions) (ru : Rules) (h : Limited p s ru) where
         (λ n. rw (upd-other (p .assigned) a (s .user k) m n) (h .active k l)) (same-or-other (s .user k) a);
   }
 
-  pub adds : (a : ℕ) → p .users a ≡ false
-      → Limited (record { users = upd (p .users) a true; roles = p .roles; assigned = upd (p .assigned) a empty }) s ru
-  adds a new =
-      reassigned (upd (p .users) a true) a empty (λ k l. upd-other (p .users) a (s .user k) true (other k l) ∙ h .known k l)
-      (within-none (ru .statics)) (λ k l e. absurd (other k l e))
+  pub joins : (a : ℕ) (m : Set) → p .users a ≡ false → some (breaks m) (ru .statics) ≡ false
+      → Limited (record { users = upd (p .users) a true; roles = p .roles; assigned = upd (p .assigned) a m }) s ru
+  joins a m new fits =
+      reassigned (upd (p .users) a true) a m (λ k l. upd-other (p .users) a (s .user k) true (other k l) ∙ h .known k l)
+      (not-broken (ru .statics) m fits) (λ k l e. absurd (other k l e))
     where
       other : (k : ℕ) → s .live k ≡ true → s .user k ≡ a → ⊥
       other k l e = true≢false (sym (h .known k l) ∙ ap (p .users) e ∙ new)

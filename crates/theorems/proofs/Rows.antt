@@ -9,8 +9,8 @@ use Rattle.paper_lower.specs.Checks.{granted}
 use Rattle.paper_lower.specs.Records.{Bytes, Record, decode}
 use Rattle.paper_lower.specs.Forms.{Form, requestForms, formOf, outOfRange, formChecks}
 use Rattle.paper_lower.specs.Kinds.{Kind, chosen, replyTo, answer, run, after}
-use Rattle.paper_lower.specs.Policy.{userChecks, assignChecks, giveChecks}
-use Rattle.paper_lower.specs.Roles.{deleteChecks, takeBackChecks, withdrawChecks, roleKinds}
+use Rattle.paper_lower.specs.Policy.{assignChecks, giveChecks}
+use Rattle.paper_lower.specs.Roles.{joinChecks, deleteChecks, takeBackChecks, withdrawChecks, roleKinds}
 use Rattle.paper_lower.specs.Sessions.{createChecks, destroyChecks, activateChecks, deactivateChecks, checkChecks, sessionKinds, lowerKinds}
 use Rattle.paper_lower.proofs.CheckLaws.{Passed}
 use Rattle.paper_lower.proofs.KindLaws.{AllNumbered, of-chosen, reply-passed}
@@ -48,7 +48,7 @@ module _ {T : Type 0} (fs : List Form) where
 
 -- ---- requests
 pub numbered : AllNumbered requestKinds
-unfolding requestKinds upperKinds raised sharedKinds lowerKinds roleKinds sessionKinds keep each userChecks assignChecks giveChecks deleteChecks takeBackChecks withdrawChecks createChecks destroyChecks activateChecks deactivateChecks checkChecks deleteAbove destroyAbove openChecks endChecks claimChecks ruleChecks holdChecks taskCheckChecks
+unfolding requestKinds upperKinds raised sharedKinds lowerKinds roleKinds sessionKinds keep each joinChecks assignChecks giveChecks deleteChecks takeBackChecks withdrawChecks createChecks destroyChecks activateChecks deactivateChecks checkChecks deleteAbove destroyAbove openChecks endChecks claimChecks ruleChecks holdChecks taskCheckChecks
 numbered =
     (omega arith) ⨾ (omega arith) ⨾ (omega arith) ⨾ (omega arith) ⨾ (omega arith) ⨾ (omega arith) ⨾ (omega arith) ⨾ (omega arith)
     ⨾ (omega arith) ⨾ (omega arith) ⨾ (omega arith) ⨾ (omega arith) ⨾ (omega arith) ⨾ (omega arith)

@@ -9,9 +9,9 @@ use Rattle.paper_lower.specs.Sets.{overlap}
 use Rattle.paper_lower.specs.Lists.{each, many, keep}
 use Rattle.paper_lower.specs.Checks.{FULL}
 use Rattle.paper_lower.specs.Forms.{requestForms}
-use Rattle.paper_lower.specs.Policy.{userNext, assignNext, giveNext}
+use Rattle.paper_lower.specs.Policy.{assignNext, giveNext}
 use Rattle.paper_lower.specs.Load.{recordsOf}
-use Rattle.paper_lower.specs.Roles.{activeOf, deleteNext, takeBackNext, withdrawNext, roleKinds}
+use Rattle.paper_lower.specs.Roles.{activeOf, joinNext, deleteNext, takeBackNext, withdrawNext, roleKinds}
 use Rattle.paper_lower.specs.Sessions.{sessionKinds, lowerKinds}
 use Rattle.paper_upper.specs.Requests.{openNext, endNext, claimNext, releaseNext, doneNext, upperKinds}
 use Rattle.paper_upper.specs.Engine.{raised, sharedKinds, requestKinds, request}
@@ -52,7 +52,7 @@ ledger-is-sound policy accepted ss = kept-after policy accepted ss .1 .ledger
 
 -- ---- no request writes tasks or rules
 rows : Rows requestForms (λ n t r x. SameRules t x) requestKinds
-unfolding requestKinds upperKinds raised sharedKinds lowerKinds roleKinds sessionKinds keep each userNext assignNext giveNext deleteNext takeBackNext withdrawNext openNext endNext claimNext releaseNext doneNext
+unfolding requestKinds upperKinds raised sharedKinds lowerKinds roleKinds sessionKinds keep each joinNext assignNext giveNext deleteNext takeBackNext withdrawNext openNext endNext claimNext releaseNext doneNext
 rows =
     (λ t r g p. (refl, refl)) ⨾ (λ t r g p. (refl, refl)) ⨾ (λ t r g p. (refl, refl)) ⨾ (λ t r g p. (refl, refl)) ⨾ (λ t r g p. (refl, refl))
     ⨾ (λ t r g p. (refl, refl)) ⨾ (λ t r g p. (refl, refl)) ⨾ (λ t r g p. (refl, refl)) ⨾ (λ t r g p. (refl, refl)) ⨾ (λ t r g p. (refl, refl))

@@ -3,4 +3,5 @@ pub mod OverEntries
 pub mod WellMade
 pub mod InUse
 pub mod Theorems
+pub mod Joining
 pub mod Listing

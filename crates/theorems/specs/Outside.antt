@@ -51,9 +51,9 @@ tells k f = on k (λ x r. []) f
 
 unfoldable pub telling : List (Kind Told)
 telling =
-    -- "1 user a." "32 add user a." "33 delete user a.": no roles
+    -- "1 user a." "33 delete user a.": no roles. "kind 32 now takes roles in m"
     tells 1 (λ x r. toldRoles x (r .a) empty)
-    ∷ tells 32 (λ x r. toldRoles x (r .a) empty)
+    ∷ tells 32 (λ x r. toldRoles x (r .a) (r .m))
     ∷ tells 33 (λ x r. toldRoles x (r .a) empty)
     -- "4 user a has role b." "34 assign role b to user a. 35 take it back."
     ∷ tells 4 (λ x r. toldRoles x (r .a) (plus (x .assigned (r .a)) (r .b)))

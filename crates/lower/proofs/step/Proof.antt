@@ -18,9 +18,9 @@ use Rattle.lower.proofs.step.Tie as tie
 abbrev kinds : List ℕ
 kinds = 32 ∷ 33 ∷ 34 ∷ 35 ∷ 36 ∷ 37 ∷ 40 ∷ 41 ∷ 42 ∷ 43 ∷ 56 ∷ []
 
-user-requires : tie.Need-user-requires
+join-requires : tie.Need-join-requires
 unfolding limitsOpen
-user-requires c κs = (c .before .before .before .before .pre .0, below (limitA lowerForms) (c .before .before .before .before .pre .1 .1 .a) (c .before .match .keys1) 1024 tt)
+join-requires c κs = (search needs, below (limitA lowerForms) (c .before .before .before .before .pre .1 .1 .a) (c .before .match .keys1) 1024 tt)
 
 delete-requires : tie.Need-delete-requires
 unfolding limitsOpen
@@ -67,7 +67,7 @@ same-length c = search needs
 
 returns : tie.Need-returns
 unfolding chosen lowerKinds roleKinds sessionKinds
-returns c = rw (c .before .before .before .before .match .keys1) (of-policy (c .before .before .user .ensures))
+returns c = rw (c .before .before .before .before .match .keys1) (of-policy (c .before .before .join .ensures))
 
 same-length-2 : tie.Need-same-length-2
 same-length-2 c = search needs
@@ -165,7 +165,7 @@ pub step-spec : {M : Type 1} → statement M
 step-spec =
     tie.close
     (tie.spec
-    user-requires
+    join-requires
     delete-requires
     assign-requires
     take-back-requires

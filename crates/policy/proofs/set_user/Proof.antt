@@ -1,4 +1,4 @@
--- Two rows anew: the user's flag, and no roles.
+-- Two rows anew: the user's flag and roles.
 use borrow.Author.Needs.{needs}
 use lib.ListN.{length-set}
 use Rattle.policy.proofs.StoreLaws.{user-set}
@@ -27,7 +27,7 @@ same-length : tie.Need-same-length
 same-length c = search needs
 
 returns : tie.Need-returns
-returns c = user-set _ (c .pre .0) _ _ (c .pre .1)
+returns c = user-set _ (c .pre .0) _ _ _ (c .pre .1)
 
 pub set-user-spec : {M : Type 1} → statement M
 set-user-spec =

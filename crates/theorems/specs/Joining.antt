@@ -1,0 +1,51 @@
+-- 02, Ask 1: a clerk who joins with roles. "the result equals adding, then assigning one role after another, whenever none of those would be
+-- refused", in both directions and in whatever order; and "m = 0 does what it did".
+use Prim.Native.Nat.{ℕ, _<_, _^_}
+use mathlib.Core.Path.{_≡_}
+use mathlib.Core.Logic.{_↔_}
+use mathlib.Core.Bool.{false}
+use mathlib.Core.List.{List, [], _∷_}
+use Rattle.paper_lower.specs.Sets.{Set, empty, has, plus}
+use Rattle.paper_lower.specs.Lists.{each, Every}
+use Rattle.paper_lower.specs.Checks.{GRANTED, first}
+use Rattle.paper_lower.specs.Records.{Bytes}
+use Rattle.paper_lower.specs.Kinds.{Said, run, after}
+use Rattle.paper_lower.specs.Tables.{Policy}
+use Rattle.paper_lower.specs.Policy.{userChecks, userNext}
+use Rattle.paper_lower.specs.Roles.{joinChecks, joinNext}
+use Rattle.paper_lower.specs.Words.{addUser, join, assign}
+use Rattle.paper_upper.specs.Orders.{Engine}
+use Rattle.paper_upper.specs.Engine.{request}
+
+-- the roles of m, and those of the list
+unfoldable pub gathered : Set → List ℕ → Set
+gathered m [] = m
+gathered m (r ∷ rs) = gathered (plus m r) rs
+
+-- roles that are not in m, each once
+abbrev pub EachOnce : Set → List ℕ → Type 0
+EachOnce m [] = Unit {0}
+EachOnce m (r ∷ rs) = (r < 64) × (has m r ≡ false) × EachOnce (plus m r) rs
+
+-- every set of roles is listed so: what is said of lists is said of every m
+abbrev pub EverySetIsListed : Type 0
+EverySetIsListed = (m : Set) → m < 2 ^ 64 → (rs : List ℕ) × EachOnce empty rs × (gathered empty rs ≡ m)
+
+-- "the tools that sent 32 followed by several 34s"
+abbrev pub oneByOne : ℕ → List ℕ → List Bytes
+oneByOne a rs = addUser a ∷ each (assign a) rs
+
+abbrev pub AllGranted : List Said → Type 0
+AllGranted said = Every (λ y. y .reply ≡ GRANTED) said
+
+pub record AsOneByOne (t : Engine) (a : ℕ) (rs : List ℕ) : Type 0 where
+  pub granted : (request t (join a (gathered empty rs)) .reply ≡ GRANTED) ↔ AllGranted (run request t (oneByOne a rs))
+  pub tables : request t (join a (gathered empty rs)) .reply ≡ GRANTED
+      → request t (join a (gathered empty rs)) .tables ≡ after request t (oneByOne a rs)
+
+abbrev pub JoinedAsOneByOne : Type 0
+JoinedAsOneByOne = (t : Engine) (a : ℕ) → a < 1024 → (rs : List ℕ) → EachOnce empty rs → AsOneByOne t a rs
+
+-- "m = 0 does what it did": what kind 1 does
+abbrev pub JoinedWithoutRoles : Type 0
+JoinedWithoutRoles = (p : Policy) (a : ℕ) → (first (joinChecks p a empty) ≡ first (userChecks p a)) × (joinNext p a empty ≡ userNext p a)
