@@ -146,7 +146,7 @@ beside =
     -- a task in no block is free of the partitioning
     ∷ accepts (clerks 300 301 ++ (block 2 1 ∷ [])) (desks 300 301 ++ (claim 5 0 1 ⇒ GRANTED ∷ claim 5 0 0 ⇒ GRANTED ∷ []))
     -- a banned template with one task; a task of a banned template claimed again by its only worker
-    ∷ accepts (user 300 ∷ role 0 ∷ userHas 300 0 ∷ task 0 0 ∷ openTo 0 0 ∷ ban 0 ∷ []) (create 5 300 1 ⇒ GRANTED ∷ openOrder 0 0 ⇒ GRANTED ∷ claim 5 0 0 ⇒ ALONE ∷ [])
+    ∷ accepts (user 300 ∷ role 0 ∷ userHas 300 0 ∷ task 0 0 ∷ openTo 0 0 ∷ ban 0 ∷ []) (create 5 300 1 ⇒ GRANTED ∷ openOrder 0 0 ⇒ GRANTED ∷ claim 5 0 0 ⇒ GRANTED ∷ done 5 0 0 ⇒ GRANTED ∷ claim 5 0 0 ⇒ GRANTED ∷ [])
     ∷ accepts (clerks 300 301 ++ (ban 0 ∷ [])) (desks 300 301 ++ (claim 5 0 0 ⇒ GRANTED ∷ done 5 0 0 ⇒ GRANTED ∷ claim 5 0 0 ⇒ GRANTED ∷ []))
     -- a deleted number does not return while its entries live; a subject with a task stays
     ∷ accepts (clerks 300 301)

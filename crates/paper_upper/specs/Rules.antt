@@ -4,7 +4,7 @@ use Prim.Native.Nat.{ℕ}
 use mathlib.Core.Bool.{Bool, not, cond, _&&_, _||_}
 use mathlib.Core.List.{List, [], _∷_}
 use lib.Dec.{eqb, leb}
-use Rattle.paper_lower.specs.Sets.{Set, has, minus, overlap, meets, within}
+use Rattle.paper_lower.specs.Sets.{Set, has, minus, size, overlap, meets, within}
 use Rattle.paper_lower.specs.Lists.{Maybe, holds, some, many, keep, place, firstOf}
 use Rattle.paper_lower.specs.Checks.{Check, BEFORE, SEPARATION, BLOCK, ALONE, BOUND, COUNT}
 use Rattle.paper_lower.specs.Tables.{Tasks, Limit, Block, Pair, Rules}
@@ -39,9 +39,10 @@ blockIn k d t q = cond (some (own q t) (k .blocks)) (place (strange q d t) (k .b
 unfoldable pub block : Rules → Set → ℕ → ℕ
 block k d t = firstOf 0 16 (blockIn k d t)
 
--- "ALONE: the template is banned for lone workers and every task of it other than t is in D."
+-- "ALONE: the template is banned for lone workers and every task of it other than t is in D." Amended by 02, Ask 10: "the ban governs
+-- templates with two or more tasks; on one task it says nothing."
 unfoldable pub alone : Tasks → Maybe ℕ → Set → ℕ → Bool
-alone k template d t = holds (λ j. k .banned j && within (minus (tasksOf k j) t) d) template
+alone k template d t = holds (λ j. k .banned j && within (minus (tasksOf k j) t) d && leb 2 (size (tasksOf k j))) template
 
 -- "BOUND: a task bound with t, on either side of the binding, has an entry of another user."
 unfoldable pub tied : Set → ℕ → Pair → Bool

@@ -4,7 +4,7 @@ ghost use mathlib.Core.Path.{_≡_};
 ghost use mathlib.Core.Bool.{cond, _&&_};
 ghost use Prim.Native.Nat.{_<_};
 ghost use lib.ListN.{length};
-ghost use Rattle.paper_lower.specs.Sets.{has, plus, minus, within};
+ghost use Rattle.paper_lower.specs.Sets.{has, plus, minus, size, within};
 ghost use Rattle.paper_lower.specs.Lists.{someBelow, holds, some};
 ghost use Rattle.paper_lower.specs.Policy.{breaks, isFor, declaredTasks, tasksOf, hasTask, oneTemplate, sameLimit, sameBlock, samePair, partitioned};
 ghost use Rattle.paper_lower.specs.Sessions.{allowed};
@@ -207,6 +207,22 @@ pub fn others_within(p: &[u64], j: u64, t: u64, d: Set) -> bool
         i += 1;
     }
     true
+}
+
+// How many tasks template j has.
+pub fn task_count(p: &[u64], j: u64) -> u64
+    requires { ⌜ (length (now p) ≡ policyWords) × (j < 16) ⌝ }
+    ensures { λ r. ⌜ r ≡ size (tasksOf (policyOf (now (p .entry)) .tasks) j) ⌝ }
+{
+    let mut n = 0;
+    let mut i = 0;
+    while i < 64 {
+        if policy::task_is_of(p, i, j) {
+            n += 1;
+        }
+        i += 1;
+    }
+    n
 }
 
 // ---- Limits: static sets 0, dynamic sets 1, task sets 2.

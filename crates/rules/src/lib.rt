@@ -166,7 +166,10 @@ pub fn alone(p: &[u64], template: u64, d: Set, t: u64) -> bool
     if !policy::banned(p, template as usize) {
         return false;
     }
-    questions::others_within(p, template, t, d)
+    if !questions::others_within(p, template, t, d) {
+        return false;
+    }
+    2 <= questions::task_count(p, template)
 }
 
 // ---- BOUND.

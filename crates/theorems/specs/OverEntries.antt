@@ -1,10 +1,10 @@
 -- The rules over an order's entries, "without any claim", and the limits over roles: read from the policy's records and from what is told.
 use Prim.Native.Nat.{ℕ, _≤_}
 use mathlib.Core.Path.{_≡_}
-use mathlib.Core.Bool.{true}
+use mathlib.Core.Bool.{true, cond}
 use mathlib.Core.List.{List, [], _∷_}
 use lib.Dec.{eqb}
-use Rattle.paper_lower.specs.Sets.{Set, has, overlap, meets, within}
+use Rattle.paper_lower.specs.Sets.{Set, empty, has, plus, size, overlap, meets, within}
 use Rattle.paper_lower.specs.Lists.{Maybe, many, keep, Every}
 use Rattle.paper_lower.specs.Lists.Maybe.{just}
 use Rattle.paper_lower.specs.Checks.{BEFORE, SEPARATION, BLOCK, ALONE, BOUND, COUNT}
@@ -43,12 +43,19 @@ OneBlock tasks r q = r .a ≡ q .a → meets (r .m) tasks ≡ true → meets (q 
 abbrev pub Blocks : List Record → Orders → Type 0
 Blocks policy = OfUsers (λ template tasks. EveryTwo (OneBlock tasks) (ofKind 12 policy))
 
--- "in a banned template no user has entries in every task"
+-- the tasks that records put into a template
+unfoldable pub tasksIn : List Record → ℕ → Set
+tasksIn [] template = empty
+tasksIn (r ∷ rs) template = cond (eqb (r .b) template) (plus (tasksIn rs template) (r .a)) (tasksIn rs template)
+
+-- "in a banned template no user has entries in every task". Amended by 02, Ask 10: "the ban governs templates with two or more tasks"
 abbrev pub EveryTask : List Record → ℕ → Set → Type 0
 EveryTask policy template tasks = Every (λ r. r .b ≡ template → has tasks (r .a) ≡ true) (ofKind 6 policy)
 
 abbrev pub LoneWorkers : List Record → Orders → Type 0
-LoneWorkers policy = OfUsers (λ template tasks. Every (λ r. template ≡ just (r .a) → EveryTask policy (r .a) tasks → ⊥) (ofKind 13 policy))
+LoneWorkers policy =
+    OfUsers (λ template tasks.
+    Every (λ r. template ≡ just (r .a) → 2 ≤ size (tasksIn (ofKind 6 policy) (r .a)) → EveryTask policy (r .a) tasks → ⊥) (ofKind 13 policy))
 
 -- "any entry of a task and any entry of a task bound to it are of one user"
 abbrev pub OneUser : Record → Entry → Entry → Type 0

@@ -1,4 +1,5 @@
--- A template without a ban is told apart before its tasks are looked at.
+-- Written from Proof.tmpl by 'prove expand': edit that file.
+-- A template without a ban is told apart before its tasks are looked at, and they are counted last.
 use mathlib.Core.Path.{sym, _∙_}
 use borrow.Author.Needs.{needs}
 use borrow.Author.Tests.{not-true, not-false}
@@ -19,7 +20,22 @@ others-within-requires c κs = search needs
 
 returns-2 : tie.Need-returns-2
 unfolding alone holds
-returns-2 c = rw (sym (c .before .before .banned .ensures) ∙ not-false _ (c .before .if1 .left), c .others-within .ensures)
+returns-2 c = rw (sym (c .before .before .before .banned .ensures) ∙ not-false _ (c .before .before .if1 .left), sym (c .before .others-within .ensures) ∙ not-true _ (c .if2 .taken))
+
+task-count-requires : tie.Need-task-count-requires
+task-count-requires c κs = search needs
+
+returns-3 : tie.Need-returns-3
+unfolding alone holds
+returns-3 c = rw (sym (c .before .before .before .before .banned .ensures) ∙ not-false _ (c .before .before .before .if1 .left), sym (c .before .before .others-within .ensures) ∙ not-false _ (c .before .if2 .left), c .task-count .ensures)
 
 pub alone-spec : {M : Type 1} → statement M
-alone-spec = tie.close (tie.spec banned-requires returns others-within-requires returns-2)
+alone-spec =
+    tie.close
+    (tie.spec
+    banned-requires
+    returns
+    others-within-requires
+    returns-2
+    task-count-requires
+    returns-3)
