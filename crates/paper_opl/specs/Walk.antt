@@ -16,13 +16,16 @@ use Rattle.paper_opl.specs.Naming.{Line, Found, valueOf, Names, spaceOf,
 
 -- ---- Tags.
 
+-- an attribute, whatever it is
+unfoldable pub plain : Text → Read Given
+plain s = after (name s) (λ w r. after (equals r) (λ _ u. after (value u) (λ v z. got (record { name = w; value = v }) z)))
+
 -- the attributes of a start tag, whatever they are, up to its "/" or ">"
 unfoldable pub givens : ℕ → Text → Read (List Given)
 givens zero s = bad s
 givens (suc n) s =
     cond (starts (text ">") (skip s) || starts (text "/") (skip s)) (got [] (skip s))
-    (after (space s) (λ _ r. after (name r) (λ w u. after (equals u) (λ _ z. after (value z) (λ v y.
-    after (givens n y) (λ gs x. got (record { name = w; value = v } ∷ gs) x))))))
+    (after (space s) (λ _ r. after (plain r) (λ g u. after (givens n u) (λ gs z. got (g ∷ gs) z))))
 
 -- behind the ">" or "/>" of a start tag
 abbrev pub closed : Text → Read (Unit {0})
@@ -171,5 +174,5 @@ recordsIn ts ls =
 
 -- What this page defines, and those before it, opened together where a case is computed.
 unfoldable pub walkOpen : Unit {0}
-unfolding translateOpen givens startTag endTag tag tagsFrom tags namesIn turn kinds kindIn innerNames leading sayings rowOf recordSaid rising recordsIn
+unfolding translateOpen plain givens startTag endTag tag tagsFrom tags namesIn turn kinds kindIn innerNames leading sayings rowOf recordSaid rising recordsIn
 walkOpen = tt
