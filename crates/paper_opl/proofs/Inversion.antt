@@ -42,3 +42,17 @@ got-value {x} {y} e = ap (value x) e
     value : {A : Type 0} → A → Read A → A
     value z (got v r) = v
     value z (bad r) = z
+
+pub none≢just : {A : Type 0} {x : A} → none ≡ just x → ⊥
+none≢just e = false≢true (ap there e)
+  where
+    there : {A : Type 0} → Maybe A → Bool
+    there none = false
+    there (just x) = true
+
+pub just-value : {A : Type 0} {x y : A} → just x ≡ just y → x ≡ y
+just-value {x} e = ap (value x) e
+  where
+    value : {A : Type 0} → A → Maybe A → A
+    value z none = z
+    value z (just v) = v

@@ -134,21 +134,21 @@ pub record Saying : Type 0 where
   pub kind : ℕ
   pub found : Found
 
--- what a tag says, with the tags behind it
+-- what a tag says, with the tags of the elements in it
 abbrev pub saying : Context → Tag → List Tag → Saying
-saying c t ts = record {
+saying c t inside = record {
   kind = kindAt c t;
   found = record {
     number = cond (called "hdsodtp_partition" t) (c .partitionings - 1) 0;
     given = t .given;
-    inside = leading ts;
+    inside = inside;
   };
 }
 
 -- what tags say, in text order
 unfoldable pub sayings : Context → List Tag → List Saying
 sayings c [] = []
-sayings c (t ∷ ts) = cond (eqb (kindAt c t) 0) [] (saying c t ts ∷ []) ++ sayings (turn c t) ts
+sayings c (t ∷ ts) = cond (eqb (kindAt c t) 0) [] (saying c t (leading ts) ∷ []) ++ sayings (turn c t) ts
 
 -- ---- Records.
 
