@@ -50,7 +50,7 @@ unfolding listsOpen readingOpen kinds kindIn innerNames head
 inner-quiet = refl
 
 -- what changes the context
-abbrev turning : Text → Bool
+abbrev pub turning : Text → Bool
 turning w = same w (text "static_separation_of_duty") || (same w (text "dynamic_separation_of_duty") || same w (text "hdsodtp_partitioning"))
 
 inner-still : every (λ w. not (turning w)) innerNames ≡ true
@@ -72,7 +72,7 @@ quiet c t e =
 
 -- ---- What elements say, in text order.
 
-pub turns : Context → List Tag → Context
+unfoldable pub turns : Context → List Tag → Context
 turns c [] = c
 turns c (t ∷ ts) = turns (turn c t) ts
 
@@ -83,7 +83,7 @@ told c (node w gs inside behind) =
     ++ told (turn c (record { name = w; given = gs })) inside
     ++ told (turns (turn c (record { name = w; given = gs })) (tagsOf inside)) behind
 
-turns-append : (c : Context) (ts us : List Tag) → turns c (ts ++ us) ≡ turns (turns c ts) us
+pub turns-append : (c : Context) (ts us : List Tag) → turns c (ts ++ us) ≡ turns (turns c ts) us
 unfolding turns
 turns-append c [] us = refl
 turns-append c (t ∷ ts) us = turns-append (turn c t) ts us
