@@ -72,7 +72,7 @@ parts k c w gs i b x y z p q r =
 abbrev pub Sets : Context → Type 0
 Sets c = eqb (c .sets) 9 || eqb (c .sets) 10 ≡ true
 
-turn-sets : (c : Context) (t : Tag) → Sets c → Sets (turn c t)
+pub turn-sets : (c : Context) (t : Tag) → Sets c → Sets (turn c t)
 unfolding turn
 turn-sets c t h =
     on-test (same (t .name) (text "static_separation_of_duty")) (λ q. rw q)
