@@ -111,7 +111,7 @@ said-range c h [] = refl
 said-range c h (t ∷ ts) =
     let r = said-range (turn c t) (turn-sets c t h) ts in
     let k : eqb (kindAt c t) 0 ≡ false → ofTags (kindAt c t) ≡ true
-        = λ q. on-test (same (t .name) (text "critical_role_set")) (λ p. rw p (sets-range c h)) (λ p. rw p (kind-range kinds (t .name) kinds-range (rw p at q))) in
+    = λ q. on-test (same (t .name) (text "critical_role_set")) (λ p. rw p (sets-range c h)) (λ p. rw p (kind-range kinds (t .name) kinds-range (rw p at q))) in
     on-test (eqb (kindAt c t) 0) (λ q. rw q r)
     (λ q. rw q (rw (k q) r))
 
@@ -155,7 +155,7 @@ judged ts ls =
         ∙ every-same _ _ xs (λ x. either (oneOf 1 5 (x .kind)) (oneOf 7 10 (x .kind)) (there (recordSaid ns x)))
         ∙ every-given (λ x. ofTags (x .kind)) (λ x. there (recordSaid ns x)) xs (said-range start refl ts)))
 
-all-are : (xs : List (Maybe Record)) (rs : List Record) → allOf xs ≡ just rs → xs ≡ each just rs
+pub all-are : (xs : List (Maybe Record)) (rs : List Record) → allOf xs ≡ just rs → xs ≡ each just rs
 unfolding allOf each
 all-are [] rs e = ap (each just) (just-value e)
 all-are (none ∷ xs) rs e = absurd (none≢just e)

@@ -266,7 +266,7 @@ nothing-left : (s : Text) → misc (length s) s ≡ got tt [] → walk s ≡ []
 unfolding tag starts text startTag expect
 nothing-left s e = stop s [] (rw e)
 
-same-end : (y : Text) → same y [] ≡ true → y ≡ []
+pub same-end : (y : Text) → same y [] ≡ true → y ≡ []
 unfolding same
 same-end [] e = refl
 same-end (b ∷ y) e = absurd (false≢true e)

@@ -78,10 +78,12 @@ set-below (just i ∷ ks) h m e =
 
 set-holds : (ns : Names) (space : Names → Space) (e w : String) → space ns .limit ≡ 64 → Holds any (2 ^ 64) ns (set e (the space w))
 unfolding misplaced above
-set-holds ns space e w s x p v q =
-    (refl, refl,
-    set-below (each (the space w ns) (members e x))
-    (every-each (λ k. (i : ℕ) → k ≡ just i → i < 64) (the space w ns) (members e x) (every-all (members e x) (λ m i o. let k = number-below (space ns) (valueOf (text w) (m .given)) i o in omega arith))) v q)
+set-holds ns space e w s x p v q = (
+  refl,
+  refl,
+  set-below (each (the space w ns) (members e x))
+      (every-each (λ k. (i : ℕ) → k ≡ just i → i < 64) (the space w ns) (members e x) (every-all (members e x) (λ m i o. let k = number-below (space ns) (valueOf (text w) (m .given)) i o in omega arith))) v q,
+)
 
 partitioning-holds : (ns : Names) → Holds (to 15) 65536 ns partitioning
 unfolding misplaced above
@@ -102,10 +104,15 @@ shaped : (r : Record) (f : Form) → formOf policyForms (r .kind) ≡ just f →
 unfolding encode bytes formChecks misshapen outOfRange
 shaped r f k s n a b c m = record {
   sixteen = refl;
-  bytes-are =
-      (s, (n .2, every-append (λ b. b < 256) (bytes 2 (r .a) ++ bytes 2 (r .b) ++ bytes 2 (r .c)) (bytes 8 (r .m))
-      (every-append (λ b. b < 256) (bytes 2 (r .a) ++ bytes 2 (r .b)) (bytes 2 (r .c)) (every-append (λ b. b < 256) (bytes 2 (r .a)) (bytes 2 (r .b)) (bytes-small 2 (r .a)) (bytes-small 2 (r .b))) (bytes-small 2 (r .c)))
-      (bytes-small 8 (r .m))));
+  bytes-are = (
+    s,
+    (
+      n .2,
+      every-append (λ b. b < 256) (bytes 2 (r .a) ++ bytes 2 (r .b) ++ bytes 2 (r .c)) (bytes 8 (r .m))
+          (every-append (λ b. b < 256) (bytes 2 (r .a) ++ bytes 2 (r .b)) (bytes 2 (r .c)) (every-append (λ b. b < 256) (bytes 2 (r .a)) (bytes 2 (r .b)) (bytes-small 2 (r .a)) (bytes-small 2 (r .b))) (bytes-small 2 (r .c)))
+          (bytes-small 8 (r .m)),
+    ),
+  );
   passes = rw (read-back r (a .2) (b .2) (c .2) (m .2), k, n .0, a .0, b .0, c .0, m .0, n .1, a .1, b .1, c .1, m .1);
 }
 
@@ -204,9 +211,11 @@ module _ (ns : Names) (l : Limits ns) where
       on-found (numberIn (ns .tasks) (i .task))
       (λ a qa. on-found (numberIn (ns .templates) (i .template))
       (λ b qb.
-      rw (sym (just-value (rw (qa, qb) at e)))
-      (refl, shaped (record { kind = 6; n = 0; a = a; b = b; c = 0; m = 0 }) _ refl (omega arith) (none-within 256 (omega arith)) (number-within 63 65536 (ns .tasks) (i .task) a (l .tasks) (omega arith) qa)
-      (number-within 15 65536 (ns .templates) (i .template) b (l .templates) (omega arith) qb) (none-within 65536 (omega arith)) (none-within (2 ^ 64) (omega arith))))
+      rw (sym (just-value (rw (qa, qb) at e))) (
+        refl,
+        shaped (record { kind = 6; n = 0; a = a; b = b; c = 0; m = 0 }) _ refl (omega arith) (none-within 256 (omega arith)) (number-within 63 65536 (ns .tasks) (i .task) a (l .tasks) (omega arith) qa)
+            (number-within 15 65536 (ns .templates) (i .template) b (l .templates) (omega arith) qb) (none-within 65536 (omega arith)) (none-within (2 ^ 64) (omega arith)),
+      ))
       (λ q. absurd (none≢just (rw (qa, q) at e))))
       (λ q. absurd (none≢just (rw q at e)))
 
@@ -217,7 +226,7 @@ unfolding firstRows many
 count = refl
 
 -- every record is well shaped, and of a kind not lower than the one before it
-Rise : ℕ → List (Maybe Record) → Type 0
+unfoldable pub Rise : ℕ → List (Maybe Record) → Type 0
 Rise k [] = Unit {0}
 Rise k (none ∷ xs) = Unit {0}
 Rise k (just t ∷ xs) = (k ≤ t .kind) × WellShaped t × Rise (t .kind) xs
@@ -272,28 +281,65 @@ module _ (es : Elements) (small : AllSmall es) where
 
   first-proper : (ns : Names) → RowsKept ns es 1 firstRows
   unfolding RowsKept firstRows
-  first-proper ns =
-      (refl, all-found "user",
-      (refl, all-found "role",
-      (refl, all-found "permission",
-      (refl, all-found "user_assignment",
-      (refl, all-found "permission_assignment", tt)))))
+  first-proper ns = (
+    refl,
+    all-found "user",
+    (
+      refl,
+      all-found "role",
+      (
+        refl,
+        all-found "permission",
+        (
+          refl,
+          all-found "user_assignment",
+          (refl, all-found "permission_assignment", tt),
+        ),
+      ),
+    ),
+  )
 
   last-proper : (ns : Names) → RowsKept ns es 7 lastRows
   unfolding RowsKept lastRows
-  last-proper ns =
-      (refl, all-found "task_role_assignment",
-      (refl, all-found "task_permission_assignment",
-      (refl, within-proper (text "static_separation_of_duty") (text "critical_role_set") es small,
-      (refl, within-proper (text "dynamic_separation_of_duty") (text "critical_role_set") es small,
-      (refl, all-found "critical_tasks_set",
-      (refl, numbered-proper (text "hdsodtp_partitioning") (text "hdsodtp_partition") es small,
-      (refl, all-found "critical_workflow_template",
-      (refl, all-found "task_cardinality",
-      (refl, all-found "bind_of_duty_constraint",
-      (refl, all-found "prereq_step", tt))))))))))
+  last-proper ns = (
+    refl,
+    all-found "task_role_assignment",
+    (
+      refl,
+      all-found "task_permission_assignment",
+      (
+        refl,
+        within-proper (text "static_separation_of_duty") (text "critical_role_set") es small,
+        (
+          refl,
+          within-proper (text "dynamic_separation_of_duty") (text "critical_role_set") es small,
+          (
+            refl,
+            all-found "critical_tasks_set",
+            (
+              refl,
+              numbered-proper (text "hdsodtp_partitioning") (text "hdsodtp_partition") es small,
+              (
+                refl,
+                all-found "critical_workflow_template",
+                (
+                  refl,
+                  all-found "task_cardinality",
+                  (
+                    refl,
+                    all-found "bind_of_duty_constraint",
+                    (refl, all-found "prereq_step", tt),
+                  ),
+                ),
+              ),
+            ),
+          ),
+        ),
+      ),
+    ),
+  )
 
-  all-rise : (ls : List Line) → Rise 1 (recordsBy (namesOf es ls) firstRows es ++ each (taskRecord (namesOf es ls)) ls ++ recordsBy (namesOf es ls) lastRows es)
+  pub all-rise : (ls : List Line) → Rise 1 (recordsBy (namesOf es ls) firstRows es ++ each (taskRecord (namesOf es ls)) ls ++ recordsBy (namesOf es ls) lastRows es)
   unfolding Rise
   all-rise ls =
       let ns = namesOf es ls in
