@@ -92,3 +92,10 @@ accepted s t out e =
 
     text≢zero : _≡_ {A = ℕ} 21 0 → ⊥
     text≢zero q = omega arith
+
+-- "Refusals, nothing written"
+pub refusal-writes-nothing : (s t : Text) (out : Bytes) → (translate s t out .reply ≡ GRANTED → ⊥) → translate s t out .output ≡ out
+unfolding translate
+refusal-writes-nothing s t out n =
+    on (document s) (λ es r d. on (lines (length t) t) (λ ls u l. on-found (recordsOf es ls)
+    (λ rs q. on-test (leb (length (written rs)) (length out)) (λ f. absurd (n (rw (d, l, q, f)))) (λ f. rw (d, l, q, f))) (λ q. rw (d, l, q))) (λ u l. rw (d, l))) (λ r d. rw d)

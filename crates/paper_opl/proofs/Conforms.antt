@@ -87,7 +87,7 @@ unfolding Fits
 fits-more ds cs nothing f h = tt
 fits-more ds cs (node w gs inside behind) f h = (f w (h .0), h .1, fits-more ds cs behind f (h .2))
 
-opened-fits : (left : List Child) (s : Text) (c : Opened) (u : Text) → opening left s ≡ got c u → next left (c .name) ≡ just (c .left)
+pub opened-fits : (left : List Child) (s : Text) (c : Opened) (u : Text) → opening left s ≡ got c u → next left (c .name) ≡ just (c .left)
 unfolding opening
 opened-fits left s c u e =
     on-test (starts (text "<!") s || starts (text "<?") s) (λ q. absurd (bad≢got (rw q at e)))

@@ -1,6 +1,7 @@
 -- What is promised of the records that an accepted text yields, and of the texts that are accepted.
 use Prim.Native.Nat.{ℕ, _<_, _≤_, _*_}
 use mathlib.Core.Path.{_≡_}
+use mathlib.Core.Bool.{cond}
 use mathlib.Core.List.{List, [], _∷_, _++_}
 use lib.ListN.{length, drop}
 use Rattle.paper_lower.specs.Lists.{many, Every}
@@ -8,9 +9,11 @@ use Rattle.paper_lower.specs.Lists.Maybe.{just}
 use Rattle.paper_lower.specs.Checks.{GRANTED, first}
 use Rattle.paper_lower.specs.Records.{Bytes, Record, encode}
 use Rattle.paper_lower.specs.Forms.{policyForms, formChecks}
-use Rattle.paper_opl.specs.Reading.{Text}
-use Rattle.paper_opl.specs.Reading.Read.{got}
-use Rattle.paper_opl.specs.Tree.{Elements, document}
+use Rattle.paper_opl.specs.Reading.{Text, Read, after, same, misc}
+use Rattle.paper_opl.specs.Reading.Read.{got, bad}
+use Rattle.paper_opl.specs.Elements.{elements, one}
+use Rattle.paper_opl.specs.Tree.{Elements, opening, element, prolog, document}
+use Rattle.paper_opl.specs.Tree.Elements.{nothing, node}
 use Rattle.paper_opl.specs.Naming.{Line, lines, recordsOf, written, translate}
 
 -- ---- "Accepted text always yields a policy of well-shaped records that says what the elements say".
@@ -39,3 +42,11 @@ pub record Yield (s t : Text) (out : Bytes) : Type 0 where
   pub sixteen-each : length (written records) ≡ 16 * many records
   pub answer-is :
       translate s t out ≡ record { reply = GRANTED; place = 0; which = 0; count = many records; output = written records ++ drop (length (written records)) out }
+
+-- ---- "down to depth 8"
+
+-- the document with another limit of depth
+unfoldable pub documentTo : ℕ → Text → Read Elements
+documentTo depth s =
+    after (prolog s) (λ _ r. after (opening (one "policy_object" ∷ []) r) (λ c u. after (element elements depth (c .name) u) (λ e z.
+    after (misc (length z) z) (λ _ y. cond (same y []) (got (node (c .name) (e .given) (e .elements) nothing) y) (bad y)))))
