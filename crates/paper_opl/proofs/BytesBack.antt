@@ -62,7 +62,7 @@ value-back q v rest h =
     let k = both (eqb q 34 || eqb q 39) (every (inValue q) v) h in
     rw (k .0, behind-all (inValue q) v (q ∷ rest) (k .1) (quote-stops q rest), run-all (inValue q) v (q ∷ rest) (k .1) (quote-stops q rest), eq-eqb q q refl)
 
-quote-clear : (q : ℕ) (s : Text) → eqb q 34 || eqb q 39 ≡ true → stops white (q ∷ s) ≡ true
+pub quote-clear : (q : ℕ) (s : Text) → eqb q 34 || eqb q 39 ≡ true → stops white (q ∷ s) ≡ true
 quote-clear q s h = on-test (eqb q 34) (λ e. rw (eqb-true q 34 e)) (λ e. rw (eqb-true q 39 (rw e at h)))
 
 pub equals-back : (l r rest : Text) → blank l ≡ true → blank r ≡ true → stops white rest ≡ true → equals (l ++ (text "=" ++ (r ++ rest))) ≡ got tt rest
@@ -96,7 +96,7 @@ gap-back n (with-comment s body g) rest h k c l =
     let q = both (blank s) (calm body) (p .0) in
     let x = body ++ (text "-->" ++ gap g rest) in
     let b : behind white (s ++ (text "<!--" ++ (body ++ (text "-->" ++ gap g rest)))) ≡ text "<!--" ++ (body ++ (text "-->" ++ gap g rest))
-        = behind-all white s (text "<!--" ++ (body ++ (text "-->" ++ gap g rest))) (q .0) refl in
+    = behind-all white s (text "<!--" ++ (body ++ (text "-->" ++ gap g rest))) (q .0) refl in
     let d = comment-back body (gap g rest) (q .1) in
     let i = below-of d (comment-below (body ++ (text "-->" ++ gap g rest))) in
     let j = behind-le white (s ++ (text "<!--" ++ (body ++ (text "-->" ++ gap g rest)))) in

@@ -43,7 +43,7 @@ fits-small number v n e = leb-true _ _ (both (not (same v []) && every digit v) 
 fits-small any v n e = absurd (false≢true n)
 fits-small spare v n e = absurd (false≢true n)
 
-found-passes : (q : Attribute → Bool) (left : List Attribute) (w : Text) (a : Attribute) → every q left ≡ true → find left w ≡ just a → (q a ≡ true) × (a .name ≡ w)
+pub found-passes : (q : Attribute → Bool) (left : List Attribute) (w : Text) (a : Attribute) → every q left ≡ true → find left w ≡ just a → (q a ≡ true) × (a .name ≡ w)
 unfolding find every
 found-passes q [] w a h e = absurd (none≢just e)
 found-passes q (b ∷ left) w a h e =
@@ -52,7 +52,7 @@ found-passes q (b ∷ left) w a h e =
     (λ c. let v = just-value (rw c at e) in (rw (sym v) (s .0), rw (sym v) (same-true (b .name) w c)))
     (λ c. found-passes q left w a (s .1) (rw c at e))
 
-kept-passes : {A : Type 0} (q p : A → Bool) (xs : List A) → every q xs ≡ true → every q (keep p xs) ≡ true
+pub kept-passes : {A : Type 0} (q p : A → Bool) (xs : List A) → every q xs ≡ true → every q (keep p xs) ≡ true
 unfolding keep every
 kept-passes q p [] h = refl
 kept-passes q p (x ∷ xs) h =

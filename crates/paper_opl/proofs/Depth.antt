@@ -25,22 +25,26 @@ highestOf f [] = 0
 highestOf f (c ∷ cs) = max (highest f (c .names)) (highestOf f cs)
 
 -- how deep the table lets elements stand in an element, itself counted; at most so deep
-height : ℕ → Text → ℕ
+pub height : ℕ → Text → ℕ
 height zero w = 0
 height (suc n) w = suc (highestOf (height n) (rowIn elements w .children))
 
-abbrev rank : Text → ℕ
+abbrev pub rank : Text → ℕ
 rank w = height DEPTH w
+
+pub some-height : (w : Text) → 0 < rank w
+unfolding height
+some-height w = omega arith
 
 lower : every (λ e. forNames (λ v. ltb (rank v) (rank (e .name))) (e .children)) elements ≡ true
 unfolding listsOpen readingOpen elementsOpen highest highestOf height
 lower = refl
 
-root-rank : forNames (λ v. ltb (rank v) 9) root ≡ true
+pub root-rank : forNames (λ v. ltb (rank v) 9) root ≡ true
 unfolding listsOpen readingOpen elementsOpen highest highestOf height
 root-rank = refl
 
-child-lower : (w v : Text) → among (rowIn elements w .children) v ≡ true → rank v < rank w
+pub child-lower : (w v : Text) → among (rowIn elements w .children) v ≡ true → rank v < rank w
 unfolding every
 child-lower w v h =
     let t = row-has (λ e. forNames (λ v. ltb (rank v) (rank (e .name))) (e .children)) elements w (λ v. refl) lower in

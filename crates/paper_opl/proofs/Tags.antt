@@ -239,7 +239,7 @@ element-walk table (suc d) w s e r h =
 
 -- ---- The document.
 
-starts-more : (c : ℕ) (w s : Text) → starts (c ∷ []) s ≡ false → starts (c ∷ w) s ≡ false
+pub starts-more : (c : ℕ) (w s : Text) → starts (c ∷ []) s ≡ false → starts (c ∷ w) s ≡ false
 unfolding starts
 starts-more c w [] e = refl
 starts-more c w (b ∷ s) e = on-test (eqb c b) (λ q. absurd (true≢false (rw q at e))) (λ q. rw q)
