@@ -144,10 +144,10 @@ attributes-named : (w : Text) → every (λ a. aName (a .name)) (rowIn elements 
 unfolding every
 attributes-named w = row-has (λ e. every (λ a. aName (a .name)) (e .attributes)) elements w (λ v. refl) attribute-names
 
-abbrev Named : List Child → Type 0
+abbrev pub Named : List Child → Type 0
 Named cs = (v : Text) → among cs v ≡ true → aName v ≡ true
 
-children-named : (w : Text) → Named (rowIn elements w .children)
+pub children-named : (w : Text) → Named (rowIn elements w .children)
 unfolding every
 children-named w v h = child-has aName (rowIn elements w .children) v (row-has (λ e. forNames aName (e .children)) elements w (λ v. refl) child-names) h
 
@@ -158,22 +158,22 @@ unfolding every same
 some-blank-stops [] rest h = absurd (false≢true h)
 some-blank-stops (b ∷ s) rest h = rw (white-no-name b (both (white b) (every white s) (both (every white (b ∷ s)) _ h .0) .0))
 
-attributes-stop : (xs : List Attributed) (s rest : Text) → attributesLaid xs ≡ true → blank s ≡ true → stops inName rest ≡ true → stops inName (attributesText xs (s ++ rest)) ≡ true
+pub attributes-stop : (xs : List Attributed) (s rest : Text) → attributesLaid xs ≡ true → blank s ≡ true → stops inName rest ≡ true → stops inName (attributesText xs (s ++ rest)) ≡ true
 unfolding every attributesText
 attributes-stop [] s rest h b k = blank-stops s rest b k
 attributes-stop (x ∷ xs) s rest h b k = some-blank-stops (x .before) _ (both (someBlank (x .before)) (valueFits (x .value)) (both (someBlank (x .before) && valueFits (x .value)) (attributesLaid xs) h .0) .0)
 
-opening-back : (left cs : List Child) (w rest : Text) → aName w ≡ true → stops inName rest ≡ true → next left w ≡ just cs → opening left (text "<" ++ (w ++ rest)) ≡ got (record { name = w; left = cs }) rest
+pub opening-back : (left cs : List Child) (w rest : Text) → aName w ≡ true → stops inName rest ≡ true → next left w ≡ just cs → opening left (text "<" ++ (w ++ rest)) ≡ got (record { name = w; left = cs }) rest
 unfolding opening starts expect text
 opening-back left cs w rest n k h = rw (not-first 33 w rest refl n, not-first 63 w rest refl n, name-back w rest n k, h)
 
 module _ (d : ℕ) (v : Text) (xs : List Attributed) (s : Text) (fit : attributesFit (rowIn elements v .attributes) (givenBy xs) ≡ true) (laid : attributesLaid xs ≡ true) (b : blank s ≡ true) where
-  element-short : (rest : Text) → mayEnd (rowIn elements v .children) ≡ true → element elements (suc d) v (attributesText xs (s ++ (text "/>" ++ rest))) ≡ got (record { given = givenBy xs; elements = nothing }) rest
+  pub element-short : (rest : Text) → mayEnd (rowIn elements v .children) ≡ true → element elements (suc d) v (attributesText xs (s ++ (text "/>" ++ rest))) ≡ got (record { given = givenBy xs; elements = nothing }) rest
   unfolding element starts expect text
   element-short rest m =
       rw (attributes-back (length (attributesText xs (s ++ (text "/>" ++ rest)))) xs (rowIn elements v .attributes) s (text "/>" ++ rest) (attributes-named v) fit laid b refl (omega arith), m)
 
-  element-long : (inner rest : Text) (es : Elements) → content (element elements d) (suc (length inner)) v (rowIn elements v .children) inner ≡ got es rest
+  pub element-long : (inner rest : Text) (es : Elements) → content (element elements d) (suc (length inner)) v (rowIn elements v .children) inner ≡ got es rest
       → element elements (suc d) v (attributesText xs (s ++ (text ">" ++ inner))) ≡ got (record { given = givenBy xs; elements = es }) rest
   unfolding element starts text
   element-long inner rest es h =
@@ -207,19 +207,19 @@ end-back d (suc n) g left w e rest f a b m l =
       behind-all white e (text ">" ++ rest) b refl,
     )
 
-slash-stops : (rest : Text) → stops inName (text "/>" ++ rest) ≡ true
+pub slash-stops : (rest : Text) → stops inName (text "/>" ++ rest) ≡ true
 unfolding text
 slash-stops rest = refl
 
-angle-stops : (rest : Text) → stops inName (text ">" ++ rest) ≡ true
+pub angle-stops : (rest : Text) → stops inName (text ">" ++ rest) ≡ true
 unfolding text
 angle-stops rest = refl
 
 -- a limit of depth that lets the children stand
-abbrev Deep : ℕ → List Child → Type 0
+abbrev pub Deep : ℕ → List Child → Type 0
 Deep d cs = (v : Text) → among cs v ≡ true → rank v ≤ d
 
-content-back : (d : ℕ) (x : Layout) (left : List Child) (w e rest : Text) → Named left → Deep d left → elementsFit left (treeOf x) ≡ true → layoutFits x ≡ true → aName w ≡ true → blank e ≡ true
+pub content-back : (d : ℕ) (x : Layout) (left : List Child) (w e rest : Text) → Named left → Deep d left → elementsFit left (treeOf x) ≡ true → layoutFits x ≡ true → aName w ≡ true → blank e ≡ true
     → (n : ℕ) → length (layoutText x (text "</" ++ (w ++ (e ++ (text ">" ++ rest))))) < n
     → content (element elements d) n w left (layoutText x (text "</" ++ (w ++ (e ++ (text ">" ++ rest))))) ≡ got (treeOf x) rest
 unfolding elementsFit layoutFits layoutText treeOf

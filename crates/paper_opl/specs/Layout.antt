@@ -112,3 +112,59 @@ unfoldable pub treeOf : Layout → Elements
 treeOf (last g) = nothing
 treeOf (short g w xs s behind) = node w (givenBy xs) nothing (treeOf behind)
 treeOf (long g w xs s inside e behind) = node w (givenBy xs) (treeOf inside) (treeOf behind)
+
+-- ---- The document.
+
+-- an encoding behind white space, or none
+unfoldable pub encodingText : Maybe (Text × Value) → Text → Text
+encodingText none rest = rest
+encodingText (just e) rest = e .0 ++ (text "encoding" ++ valueText (e .1) rest)
+
+abbrev pub encodingFits : Maybe (Text × Value) → Bool
+encodingFits none = true
+encodingFits (just e) = someBlank (e .0) && (valueFits (e .1) && same (e .1 .value) (text "UTF-8"))
+
+pub record Declaration : Type 0 where
+  pub before : Text
+  pub version : Value
+  pub encoding : Maybe (Text × Value)
+  pub last : Text
+
+unfoldable pub declarationText : Maybe Declaration → Text → Text
+declarationText none rest = rest
+declarationText (just d) rest =
+    text "<?xml" ++ (d .before ++ (text "version" ++ valueText (d .version) (encodingText (d .encoding) (d .last ++ (text "?>" ++ rest)))))
+
+abbrev pub declarationFits : Maybe Declaration → Bool
+declarationFits none = true
+declarationFits (just d) = someBlank (d .before) && (valueFits (d .version) && (same (d .version .value) (text "1.0") && (encodingFits (d .encoding) && blank (d .last))))
+
+-- a DOCTYPE, behind white space and comments
+pub record Doctype : Type 0 where
+  pub gap : Gap
+  pub first : Text
+  pub second : Text
+  pub third : Text
+  pub quote : ℕ
+  pub value : Text
+  pub last : Text
+
+unfoldable pub doctypeText : Maybe Doctype → Text → Text
+doctypeText none rest = rest
+doctypeText (just d) rest =
+    gap (d .gap) (text "<!DOCTYPE" ++ (d .first ++ (text "policy_object" ++ (d .second ++ (text "SYSTEM" ++ (d .third ++ quoted (d .quote) (d .value) (d .last ++ (text ">" ++ rest))))))))
+
+abbrev pub doctypeFits : Maybe Doctype → Bool
+doctypeFits none = true
+doctypeFits (just d) = gapFits (d .gap) && (someBlank (d .first) && (someBlank (d .second) && (someBlank (d .third) && (quoteFits (d .quote) (d .value) && blank (d .last)))))
+
+pub record Document : Type 0 where
+  pub declaration : Maybe Declaration
+  pub doctype : Maybe Doctype
+  pub root : Layout
+
+unfoldable pub documentText : Document → Text
+documentText x = declarationText (x .declaration) (doctypeText (x .doctype) (layoutText (x .root) []))
+
+abbrev pub documentFits : Document → Bool
+documentFits x = declarationFits (x .declaration) && (doctypeFits (x .doctype) && layoutFits (x .root))
