@@ -168,3 +168,8 @@ documentText x = declarationText (x .declaration) (doctypeText (x .doctype) (lay
 
 abbrev pub documentFits : Document → Bool
 documentFits x = declarationFits (x .declaration) && (doctypeFits (x .doctype) && layoutFits (x .root))
+
+-- What this page defines, opened together where a case is computed.
+unfoldable pub layoutOpen : Unit {0}
+unfolding attributesFit elementsFit calm gap gapFits attributesText layoutText layoutFits treeOf encodingText declarationText doctypeText documentText
+layoutOpen = tt
