@@ -1,0 +1,52 @@
+-- Two texts compared byte by byte.
+use mathlib.Core.Path.{_≡_, refl, sym, ap, _∙_}
+use mathlib.Core.List.{[], _∷_}
+use mathlib.Core.Bool.{Bool, true, false, _&&_}
+use Prim.Native.Nat.{ℕ, zero, suc, _+_, _-_, _<_, _≤_}
+use native.Mathlib.Numerals.{add-one}
+use native.Mathlib.Omega.{arith}
+use lib.Dec.{eqb}
+use lib.ListN.{length, getD, drop, drop-of-length-le}
+use lib.Seq.{drop-cons}
+use borrow.Author.Tests.{eq-eqb, ne-eqb}
+use Rattle.paper_opl.specs.Reading.{Text, same}
+
+and-false : (b : Bool) → b && false ≡ false
+and-false true = refl
+and-false false = refl
+
+pub other-length : (v w : Text) → (length v ≡ length w → ⊥) → false ≡ same v w
+unfolding same
+other-length [] [] n = absurd (n refl)
+other-length [] (b ∷ w) n = refl
+other-length (c ∷ v) [] n = refl
+other-length (c ∷ v) (b ∷ w) n = sym (ap (λ x. eqb c b && x) (sym (other-length v w (λ z. n (ap suc z)))) ∙ and-false (eqb c b))
+
+drop-here : (s : Text) (i : ℕ) → i < length s → drop i s ≡ getD s i 0 ∷ drop (i + 1) s
+drop-here s i h = drop-cons s i 0 h ∙ rw add-one
+
+module _ (v w : Text) (i : ℕ) (h : i < length v) (l : i < length w) where
+  pub same-more : getD v i 0 ≡ getD w i 0 → same (drop i v) (drop i w) ≡ same (drop (i + 1) v) (drop (i + 1) w)
+  unfolding same
+  same-more e = rw (drop-here v i h, drop-here w i l, eq-eqb (getD v i 0) (getD w i 0) e)
+
+  pub same-not : (getD v i 0 ≡ getD w i 0 → ⊥) → false ≡ same (drop i v) (drop i w)
+  unfolding same
+  same-not n = rw (drop-here v i h, drop-here w i l, ne-eqb (getD v i 0) (getD w i 0) n)
+
+pub same-end : (v w : Text) (i : ℕ) → length v ≤ i → length w ≤ i → true ≡ same (drop i v) (drop i w)
+unfolding same
+same-end v w i h l = let e : drop i v ≡ [] = drop-of-length-le v h in let f : drop i w ≡ [] = drop-of-length-le w l in rw (e, f)
+
+-- none of the first n numbers
+abbrev pub Beside : ℕ → ℕ → Type 0
+Beside zero k = Unit {0}
+Beside (suc n) k = Beside n k × (k ≡ n → ⊥)
+
+apart : (n k : ℕ) → Beside n k → n ≤ k
+apart zero k b = omega arith
+apart (suc n) k b = let h = apart n k (b .0) in let m = b .1 in omega arith
+
+-- the last of n + 1 is left
+pub last : (n k : ℕ) → k < suc n → Beside n k → k ≡ n
+last n k h b = let l = apart n k b in omega arith
