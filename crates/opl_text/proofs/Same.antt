@@ -1,14 +1,14 @@
 -- Two texts compared byte by byte.
 use mathlib.Core.Path.{_≡_, refl, sym, ap, _∙_}
 use mathlib.Core.List.{[], _∷_}
-use mathlib.Core.Bool.{Bool, true, false, _&&_}
+use mathlib.Core.Bool.{Bool, true, false, false≢true, _&&_}
 use Prim.Native.Nat.{ℕ, zero, suc, _+_, _-_, _<_, _≤_}
 use native.Mathlib.Numerals.{add-one}
 use native.Mathlib.Omega.{arith}
 use lib.Dec.{eqb}
 use lib.ListN.{length, getD, drop, drop-of-length-le}
 use lib.Seq.{drop-cons}
-use borrow.Author.Tests.{eq-eqb, ne-eqb}
+use borrow.Author.Tests.{eq-eqb, ne-eqb, eqb-true, eqb-false}
 use Rattle.paper_opl.specs.Reading.{Text, same}
 
 and-false : (b : Bool) → b && false ≡ false
@@ -38,15 +38,31 @@ pub same-end : (v w : Text) (i : ℕ) → length v ≤ i → length w ≤ i → 
 unfolding same
 same-end v w i h l = let e : drop i v ≡ [] = drop-of-length-le v h in let f : drop i w ≡ [] = drop-of-length-le w l in rw (e, f)
 
--- none of the first n numbers
-abbrev pub Beside : ℕ → ℕ → Type 0
-Beside zero k = Unit {0}
-Beside (suc n) k = Beside n k × (k ≡ n → ⊥)
+-- ---- Texts that are the same are equal.
 
-apart : (n k : ℕ) → Beside n k → n ≤ k
-apart zero k b = omega arith
-apart (suc n) k b = let h = apart n k (b .0) in let m = b .1 in omega arith
+pub same-eq : (v w : Text) → same v w ≡ true → v ≡ w
+unfolding same
+same-eq [] [] e = refl
+same-eq [] (b ∷ w) e = absurd (false≢true e)
+same-eq (c ∷ v) [] e = absurd (false≢true e)
+same-eq (c ∷ v) (b ∷ w) e = go (eqb c b) refl e (same-eq v w)
+  where
+    go : (d : Bool) → eqb c b ≡ d → d && same v w ≡ true → (same v w ≡ true → v ≡ w) → c ∷ v ≡ b ∷ w
+    go true q e h = rw (eqb-true c b q, h e)
+    go false q e h = absurd (false≢true e)
 
--- the last of n + 1 is left
-pub last : (n k : ℕ) → k < suc n → Beside n k → k ≡ n
-last n k h b = let l = apart n k b in omega arith
+pub same-self : (v : Text) → same v v ≡ true
+unfolding same
+same-self [] = refl
+same-self (b ∷ v) = rw (eq-eqb b b refl) (same-self v)
+
+pub same-swap : (v w : Text) → same v w ≡ same w v
+unfolding same
+same-swap [] [] = refl
+same-swap [] (b ∷ w) = refl
+same-swap (c ∷ v) [] = refl
+same-swap (c ∷ v) (b ∷ w) = go (eqb c b) refl (same-swap v w)
+  where
+    go : (d : Bool) → eqb c b ≡ d → same v w ≡ same w v → d && same v w ≡ eqb b c && same w v
+    go true q h = rw (eq-eqb b c (sym (eqb-true c b q))) h
+    go false q h = rw (ne-eqb b c (λ (z : b ≡ c). eqb-false c b q (sym z)))
