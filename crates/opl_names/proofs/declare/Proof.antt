@@ -60,7 +60,7 @@ same-length-2 c = search needs
 returns-2 : tie.Need-returns-2
 returns-2 c =
     let z : c .before .before .before .before .before .before .before .before .before .before .before .args .at + c .before .before .before .before .before .before .before .before .before .before .before .args .size - c .before .before .before .before .before .before .before .before .before .before .before .args .at ≡ c .before .before .before .before .before .before .before .before .before .before .before .args .size = omega arith in
-    declared-full (now (c .before .before .before .before .before .before .before .before .before .before .before .args .s)) (c .before .before .before .before .before .before .before .before .before .before .before .args .n) (now (c .before .before .before .before .before .before .before .before .before .before .before .args .t)) (take (c .before .before .before .before .before .before .before .before .before .before .before .args .size) (drop (c .before .before .before .before .before .before .before .before .before .before .before .args .at) (now (c .before .before .before .before .before .before .before .before .before .before .before .args .s)))) (c .before .before .before .before .before .before .before .before .before .before .before .pre .0) (c .before .before .before .before .find-marked .result) (c .before .before .enum-told .given .1) (rw z at (c .before .before .before .before .find-marked .ensures)) (c .if1 .taken)
+    declared-full (now (c .before .before .before .before .before .before .before .before .before .before .before .args .s)) (c .before .before .before .before .before .before .before .before .before .before .before .args .n) (now (c .before .before .before .before .before .before .before .before .before .before .before .args .t)) (take (c .before .before .before .before .before .before .before .before .before .before .before .args .size) (drop (c .before .before .before .before .before .before .before .before .before .before .before .args .at) (now (c .before .before .before .before .before .before .before .before .before .before .before .args .s)))) (c .before .before .before .before .before .before .before .before .before .before .before .pre .0) (c .before .before .before .before .find-marked .result) (c .before .before .enum-told .given .1) (rw z at (c .before .before .before .before .find-marked .ensures)) (omega (arith, c .if1 .taken))
 
 append-requires : tie.Need-append-requires
 append-requires c κs = search needs

@@ -31,19 +31,19 @@ is-name-requires : tie.Need-is-name-requires Inv-loop μ-loop
 is-name-requires c κs = (omega (arith, c .before .loop .inv .within, c .before .before .before .before .before .before .before .pre .0 .room, c .before .before .before .before .before .before .before .pre .0 .within), c .before .before .before .before .before .before .before .pre .0 .inside (c .before .loop .next - 1) (omega (arith, c .before .loop .inv .within)))
 
 returns : tie.Need-returns Inv-loop μ-loop
-returns c = walk-found (now (c .before .before .before .before .before .before .before .before .before .args .s)) (c .before .before .before .before .before .before .before .before .before .args .n) (now (c .before .before .before .before .before .before .before .before .before .args .t)) (now (c .before .before .before .before .before .before .before .before .before .args .name)) (c .before .before .before .before .before .before .before .before .before .args .m) (bucketOf (c .before .before .before .before .before .before .before .before .before .args .n) (c .before .before .before .before .before .before .before .before .before .args .m)) (c .before .before .before .before .before .before .before .before .before .pre .0) (c .before .before .before .before .before .before .before .before .before .pre .1) refl (c .before .before .before .loop .next) (c .before .before .loop-test .taken) (c .before .before .before .loop .inv) (sym (c .if1 .taken) ∙ c .before .is-name .ensures)
+returns c = walk-found (now (c .before .before .before .before .before .before .before .before .before .args .s)) (c .before .before .before .before .before .before .before .before .before .args .n) (now (c .before .before .before .before .before .before .before .before .before .args .t)) (now (c .before .before .before .before .before .before .before .before .before .args .name)) (c .before .before .before .before .before .before .before .before .before .args .m) (bucketOf (c .before .before .before .before .before .before .before .before .before .args .n) (c .before .before .before .before .before .before .before .before .before .args .m)) (c .before .before .before .before .before .before .before .before .before .pre .0) (c .before .before .before .before .before .before .before .before .before .pre .1) refl (c .before .before .before .loop .next) (omega (arith, c .before .before .loop-test .taken)) (c .before .before .before .loop .inv) (sym (c .if1 .taken) ∙ c .before .is-name .ensures)
 
 link-requires : tie.Need-link-requires Inv-loop μ-loop
 link-requires c κs = omega (arith, c .before .before .before .loop .inv .within, c .before .before .before .before .before .before .before .before .before .pre .0 .room, c .before .before .before .before .before .before .before .before .before .pre .0 .within)
 
 loop-less : tie.Need-loop-less Inv-loop μ-loop
-loop-less c = walk-less (now (c .before .before .before .before .before .before .before .before .before .before .args .s)) (c .before .before .before .before .before .before .before .before .before .before .args .n) (now (c .before .before .before .before .before .before .before .before .before .before .args .t)) (now (c .before .before .before .before .before .before .before .before .before .before .args .name)) (c .before .before .before .before .before .before .before .before .before .before .args .m) (bucketOf (c .before .before .before .before .before .before .before .before .before .before .args .n) (c .before .before .before .before .before .before .before .before .before .before .args .m)) (c .before .before .before .before .before .before .before .before .before .before .pre .0) (c .before .before .before .before .before .before .before .before .before .before .pre .1) refl (c .before .before .before .before .loop .next) (c .before .before .before .loop-test .taken) (c .before .before .before .before .loop .inv) (c .link .result) (sym (c .before .if1 .left) ∙ c .before .before .is-name .ensures) (c .link .ensures)
+loop-less c = walk-less (now (c .before .before .before .before .before .before .before .before .before .before .args .s)) (c .before .before .before .before .before .before .before .before .before .before .args .n) (now (c .before .before .before .before .before .before .before .before .before .before .args .t)) (now (c .before .before .before .before .before .before .before .before .before .before .args .name)) (c .before .before .before .before .before .before .before .before .before .before .args .m) (bucketOf (c .before .before .before .before .before .before .before .before .before .before .args .n) (c .before .before .before .before .before .before .before .before .before .before .args .m)) (c .before .before .before .before .before .before .before .before .before .before .pre .0) (c .before .before .before .before .before .before .before .before .before .before .pre .1) refl (c .before .before .before .before .loop .next) (omega (arith, c .before .before .before .loop-test .taken)) (c .before .before .before .before .loop .inv) (c .link .result) (sym (c .before .if1 .left) ∙ c .before .before .is-name .ensures) (c .link .ensures)
 
 loop-again : tie.Need-loop-again Inv-loop μ-loop
-loop-again c = walk-on (now (c .before .before .before .before .before .before .before .before .before .before .args .s)) (c .before .before .before .before .before .before .before .before .before .before .args .n) (now (c .before .before .before .before .before .before .before .before .before .before .args .t)) (now (c .before .before .before .before .before .before .before .before .before .before .args .name)) (c .before .before .before .before .before .before .before .before .before .before .args .m) (bucketOf (c .before .before .before .before .before .before .before .before .before .before .args .n) (c .before .before .before .before .before .before .before .before .before .before .args .m)) (c .before .before .before .before .before .before .before .before .before .before .pre .0) (c .before .before .before .before .before .before .before .before .before .before .pre .1) refl (c .before .before .before .before .loop .next) (c .before .before .before .loop-test .taken) (c .before .before .before .before .loop .inv) (c .link .result) (sym (c .before .if1 .left) ∙ c .before .before .is-name .ensures) (c .link .ensures)
+loop-again c = walk-on (now (c .before .before .before .before .before .before .before .before .before .before .args .s)) (c .before .before .before .before .before .before .before .before .before .before .args .n) (now (c .before .before .before .before .before .before .before .before .before .before .args .t)) (now (c .before .before .before .before .before .before .before .before .before .before .args .name)) (c .before .before .before .before .before .before .before .before .before .before .args .m) (bucketOf (c .before .before .before .before .before .before .before .before .before .before .args .n) (c .before .before .before .before .before .before .before .before .before .before .args .m)) (c .before .before .before .before .before .before .before .before .before .before .pre .0) (c .before .before .before .before .before .before .before .before .before .before .pre .1) refl (c .before .before .before .before .loop .next) (omega (arith, c .before .before .before .loop-test .taken)) (c .before .before .before .before .loop .inv) (c .link .result) (sym (c .before .if1 .left) ∙ c .before .before .is-name .ensures) (c .link .ensures)
 
 returns-2 : tie.Need-returns-2 Inv-loop μ-loop
-returns-2 c = walk-end (now (c .before .before .before .before .before .before .before .args .s)) (c .before .before .before .before .before .before .before .args .n) (now (c .before .before .before .before .before .before .before .args .t)) (now (c .before .before .before .before .before .before .before .args .name)) (c .before .before .before .before .before .before .before .args .m) (bucketOf (c .before .before .before .before .before .before .before .args .n) (c .before .before .before .before .before .before .before .args .m)) (c .before .before .before .before .before .before .before .pre .0) (c .before .before .before .before .before .before .before .pre .1) refl (c .before .loop .next) (c .loop-test .left) (c .before .loop .inv)
+returns-2 c = walk-end (now (c .before .before .before .before .before .before .before .args .s)) (c .before .before .before .before .before .before .before .args .n) (now (c .before .before .before .before .before .before .before .args .t)) (now (c .before .before .before .before .before .before .before .args .name)) (c .before .before .before .before .before .before .before .args .m) (bucketOf (c .before .before .before .before .before .before .before .args .n) (c .before .before .before .before .before .before .before .args .m)) (c .before .before .before .before .before .before .before .pre .0) (c .before .before .before .before .before .before .before .pre .1) refl (c .before .loop .next) (omega (arith, c .loop-test .left)) (c .before .loop .inv)
 
 pub find-marked-spec : {M : Type 1} → statement M
 find-marked-spec =
