@@ -9,6 +9,9 @@
  *     uint64_t answer = mishantral_load(bytes, length, policy, words, sessions, .., orders, ..);
  *     if (mishantral_reply_of(answer) != MISHANTRAL_GRANTED)   refused at record mishantral_place_of(answer)
  *
+ * What is decided, and which reply is given when, is docs/RULES.md of the project: its section "Numbers" has
+ * the records and kinds, "The replies" the replies, "The ledger and the claim rules" the rules of a claim.
+ *
  * Link with libmishantral.a. Nothing else is needed.
  */
 #ifndef MISHANTRAL_H
@@ -67,7 +70,8 @@ uint64_t mishantral_lower_request(const uint8_t *record, size_t length,
                                   uint64_t *policy, size_t policy_words,
                                   uint64_t *sessions, size_t sessions_words);
 
-/* Replies. Checks run in the order of these numbers, and the first that applies is given. */
+/* Replies (docs/RULES.md, "The replies"). Checks run in the order of these numbers, and the first that applies
+ * is given. */
 enum mishantral_reply {
     MISHANTRAL_GRANTED = 0,      /* accepted, or granted */
     MISHANTRAL_ROOM = 1,         /* a lent buffer has not its fixed length; nothing is written */
@@ -92,7 +96,8 @@ enum mishantral_reply {
     MISHANTRAL_FULL = 20         /* no ledger entry is free, or the rule limit of that kind is reached */
 };
 
-/* Kinds of record. A field that is not listed is zero; bit i of m stands for role or task i. */
+/* Kinds of record (docs/RULES.md, "Numbers"). A field that is not listed is zero; bit i of m stands for role or
+ * task i. */
 enum mishantral_kind {
     /* For a load. */
     MISHANTRAL_USER = 1,                /* user a (to 1,023) */

@@ -1,4 +1,4 @@
-/* Document 01's desk program in C over the proved library: policy.rec, then requests from standard input.
+/* The desk program (docs/RULES.md) in C over the proved library: policy.rec, then requests from standard input.
  * Built where the archive is:  cc -I include examples/c/desk.c target/native/libmishantral.a -o desk */
 #include "mishantral.h"
 

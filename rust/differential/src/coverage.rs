@@ -1,4 +1,4 @@
-//! How often each kind was answered with each reply, and which pairs document 01 allows.
+//! How often each kind was answered with each reply, and which pairs the rules allow (docs/RULES.md, "The order of checks").
 
 use records::Reply::{self, *};
 use std::collections::BTreeMap;
@@ -8,8 +8,8 @@ pub struct Coverage {
     seen: BTreeMap<(u8, u8), u64>,
 }
 
-/// The replies that a kind can have in a state that a load and requests made.
-fn possible(kind: u8) -> Option<Vec<Reply>> {
+/// The replies that a kind can have in a state that a load and requests made, in the order of checks.
+pub fn possible(kind: u8) -> Option<Vec<Reply>> {
     let more: &[Reply] = match kind {
         1..=3 | 6 | 32 => &[Taken],
         4 | 34 => &[Unknown, Taken, Static],

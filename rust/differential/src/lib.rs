@@ -19,7 +19,7 @@ mod walk;
 pub use cases::{Case, Step};
 pub use command::command;
 pub use compare::{compare, Failure};
-pub use coverage::Coverage;
+pub use coverage::{possible, Coverage};
 pub use desks::{plain, proved, Answer, Desk, Difference, Panel};
 #[cfg(mishantral_engine)]
 pub use garbage::garbage;

@@ -1,4 +1,4 @@
-//! Document 01 once more, as sets and lists and nothing derived: each rule walks all that it speaks of.
+//! The rules (docs/RULES.md) once more, as sets and lists and nothing derived: each rule walks all that it speaks of.
 //! It shares no code with the plain engine, so that the two can be held against each other.
 
 use records::{Record, Reply, Reply::*, Set};

@@ -1,4 +1,4 @@
-//! Document 01's desk program over the proved library: `policy.rec`, then requests from standard input.
+//! The desk program (docs/RULES.md) over the proved library: `policy.rec`, then requests from standard input.
 
 #[cfg(mishantral_engine)]
 fn main() -> std::io::Result<()> {

@@ -1,6 +1,6 @@
 //! The proved policy engine from Rust, without a dependency.
 //!
-//! [`Record`] has a constructor for each kind of document 01, and [`Reply`] each reply's number and name.
+//! [`Record`] has a constructor for each kind (docs/RULES.md), and [`Reply`] each reply's number and name.
 //! `Engine` owns the state that the library works on: it loads a policy and answers requests.
 //!
 //! `Engine` is there where the proved library's archive was found when this crate was built: by the

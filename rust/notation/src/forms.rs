@@ -109,7 +109,7 @@ impl Part {
 }
 
 impl Field {
-    /// The largest number that fits: the field's width decides, not document 01's limits.
+    /// The largest number that fits: the field's width decides, not the limits of docs/RULES.md.
     pub fn last(self) -> u64 {
         match self {
             Field::Kind | Field::N => u64::from(u8::MAX),

@@ -1,4 +1,4 @@
-//! Records as lines of document 01's words, and back: one line a record, `#` begins a comment.
+//! Records as lines of words (docs/RULES.md), and back: one line a record, `#` begins a comment.
 //!
 //! ```
 //! let text = b"user 300  # the signer\nuser 300 has role 0\n";
@@ -21,7 +21,7 @@ pub use read::{read, Error};
 pub use records::Reply;
 pub use write::{line, write};
 
-/// Every line that the notation has, one for each kind of document 01 and two for any bytes.
+/// Every line that the notation has, one for each kind and two for any bytes.
 pub fn forms() -> String {
     let line = |(_, pattern)| {
         let shown: Vec<String> = forms::parts(pattern).map(forms::Part::shown).collect();

@@ -5,7 +5,7 @@ use std::io::{self, Read, Write};
 use std::process::ExitCode;
 
 const HELP: &str = "\
-Records as lines of document 01's words, and back.
+Records as lines of words (docs/RULES.md), and back.
 
   mishantral-notation records [--either] [FILE]   text to records; --either: records pass as they are
   mishantral-notation words [FILE]                records to text

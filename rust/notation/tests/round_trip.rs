@@ -76,9 +76,9 @@ fn every_kind_in_words_and_back() {
         kinds.push(record.kind());
     }
     kinds.dedup();
-    let document_01 = (1..=16).chain(32..=37).chain(40..=43).chain(48..=52);
-    let document_01: Vec<u8> = document_01.chain(56..=57).collect();
-    assert_eq!(kinds, document_01);
+    let all = (1..=16).chain(32..=37).chain(40..=43).chain(48..=52);
+    let all: Vec<u8> = all.chain(56..=57).collect();
+    assert_eq!(kinds, all);
 }
 
 #[test]

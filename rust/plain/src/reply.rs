@@ -1,6 +1,6 @@
-//! Document 01's replies, by name and number.
+//! The replies (docs/RULES.md, "The replies"), by name and number.
 
-/// What a record is answered with. The numbers are 01's, and are also the order of the checks.
+/// What a record is answered with. The numbers are also the order of the checks.
 #[derive(Clone, Copy, PartialEq, Eq, PartialOrd, Ord, Debug)]
 #[repr(u8)]
 pub enum Reply {
@@ -36,7 +36,7 @@ impl Reply {
 /// What one check, or a whole record, comes to: the reply is the refusal.
 pub(crate) type Outcome = Result<(), Reply>;
 
-/// One line of 01's table: `reply` is given when `applies`.
+/// One line of the table: `reply` is given when `applies`.
 #[inline(always)]
 pub(crate) fn refuse(reply: Reply, applies: bool) -> Outcome {
     if applies {

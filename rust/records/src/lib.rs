@@ -1,4 +1,4 @@
-//! Document 01's records and replies: bytes, names and numbers, and no rule of the engine.
+//! Records and replies (docs/RULES.md, "Numbers" and "The replies"): bytes, names and numbers, and no rule of the engine.
 
 mod record;
 mod reply;
@@ -13,7 +13,7 @@ mod tests {
     use super::*;
 
     #[test]
-    fn fields_stand_where_document_01_puts_them() {
+    fn fields_stand_where_the_rules_put_them() {
         let record = Record::new(0x11, 0x22, 0x3344, 0x5566, 0x7788, 0x99aa_bbcc_ddee_ff00);
         let bytes = [
             0x11, 0x22, 0x44, 0x33, 0x66, 0x55, 0x88, 0x77, 0x00, 0xff, 0xee, 0xdd, 0xcc, 0xbb,

@@ -1,4 +1,4 @@
-//! A record's sixteen bytes, with a constructor for each kind of document 01.
+//! A record's sixteen bytes, with a constructor for each kind (docs/RULES.md, "Numbers").
 //! Any sixteen bytes are a record here: whether they make sense is the engine's to say.
 
 use crate::Set;

@@ -1,4 +1,4 @@
-//! Document 01's replies, by number and name.
+//! The replies (docs/RULES.md, "The replies"), by number and name.
 
 use std::fmt;
 
@@ -79,7 +79,7 @@ impl Reply {
         Full,
     ];
 
-    /// The reply's number in document 01.
+    /// The reply's number in docs/RULES.md.
     pub const fn number(self) -> u8 {
         self as u8
     }
@@ -90,7 +90,7 @@ impl Reply {
         Reply::ALL.get(at).copied()
     }
 
-    /// The reply's name in document 01.
+    /// The reply's name in docs/RULES.md.
     pub const fn name(self) -> &'static str {
         match self {
             Granted => "GRANTED",

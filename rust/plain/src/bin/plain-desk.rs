@@ -1,4 +1,4 @@
-//! Document 01's desk program over the plain engine: `policy.rec`, then requests from standard input.
+//! The desk program (docs/RULES.md) over the plain engine: `policy.rec`, then requests from standard input.
 
 use plain::{Engine, Reply, RECORD};
 use std::fs::File;
