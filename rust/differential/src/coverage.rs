@@ -3,6 +3,7 @@
 use records::Reply::{self, *};
 use std::collections::BTreeMap;
 
+/// How often each pair came up.
 #[derive(Clone, Default)]
 pub struct Coverage {
     seen: BTreeMap<(u8, u8), u64>,
@@ -37,10 +38,12 @@ pub fn possible(kind: u8) -> Option<Vec<Reply>> {
 }
 
 impl Coverage {
+    /// Counts one answer.
     pub fn add(&mut self, kind: u8, reply: u8) {
         *self.seen.entry((kind, reply)).or_default() += 1;
     }
 
+    /// Adds what was counted elsewhere.
     pub fn join(&mut self, other: &Coverage) {
         for (pair, count) in &other.seen {
             *self.seen.entry(*pair).or_default() += count;

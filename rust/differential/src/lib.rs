@@ -30,4 +30,5 @@ pub const PROVED: bool = cfg!(mishantral_engine);
 
 /// The seed and the number of cases where none are given.
 pub const SEED: u64 = 1;
+/// The number of cases where none is given.
 pub const CASES: u64 = 400;

@@ -137,6 +137,9 @@ fn largest(cell: &str, width: u64) -> Option<u64> {
     }
 }
 
+/// A record of a kind with one field set.
+type Put = fn(u8, u64) -> Record;
+
 const SHAPE: u8 = 2;
 const RANGE: u8 = 3;
 
@@ -146,7 +149,7 @@ fn kinds_have_the_fields_and_limits_that_the_page_gives_them() {
     assert_eq!(table.len(), notation::forms().lines().count() - 2);
     for row in table {
         let kind: u8 = row[0].parse().unwrap();
-        let put: [(u64, fn(u8, u64) -> Record); 5] = [
+        let put: [(u64, Put); 5] = [
             (0xff, |k, x| Record::new(k, x as u8, 0, 0, 0, 0)),
             (0xffff, |k, x| Record::new(k, 0, x as u16, 0, 0, 0)),
             (0xffff, |k, x| Record::new(k, 0, 0, x as u16, 0, 0)),

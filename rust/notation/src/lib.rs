@@ -12,22 +12,22 @@
 //! ```
 
 mod explain;
-mod forms;
 mod read;
 mod write;
 
 pub use explain::explain;
 pub use read::{read, Error};
+use records::forms::{parts, FORMS};
 pub use records::Reply;
 pub use write::{line, write};
 
 /// Every line that the notation has, one for each kind and two for any bytes.
 pub fn forms() -> String {
     let line = |(_, pattern)| {
-        let shown: Vec<String> = forms::parts(pattern).map(forms::Part::shown).collect();
+        let shown: Vec<String> = parts(pattern).map(|part| part.to_string()).collect();
         shown.join(" ").replace(" :", ":") + "\n"
     };
-    forms::FORMS.into_iter().map(line).collect()
+    FORMS.into_iter().map(line).collect()
 }
 
 /// Whether bytes are text rather than records.

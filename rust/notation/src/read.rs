@@ -1,6 +1,6 @@
 //! Text to records: all patterns are followed at once, so that an error can say all that was expected.
 
-use crate::forms::{parts, Field, Part, FORMS};
+use records::forms::{parts, Field, Part, FORMS};
 use records::{Record, Set, LENGTH};
 use std::fmt;
 
@@ -8,9 +8,13 @@ use std::fmt;
 /// was found.
 #[derive(Clone, PartialEq, Eq, Debug)]
 pub struct Error {
+    /// The line, from 1.
     pub line: usize,
+    /// The column, from 1: characters, not bytes.
     pub column: usize,
+    /// What may stand there, in words.
     pub expected: String,
+    /// What stands there, in words.
     pub found: String,
 }
 

@@ -1,9 +1,13 @@
 //! The replies (docs/RULES.md, "The replies"), by number and name.
 
-use std::fmt;
+use core::fmt;
 
 /// What a record is answered with. The checks run in the order of these numbers, and the first that
 /// applies is the reply.
+///
+/// Later versions may have further replies.
+#[must_use = "a record that was refused has changed nothing"]
+#[non_exhaustive]
 #[derive(Clone, Copy, PartialEq, Eq, PartialOrd, Ord, Hash, Debug)]
 #[repr(u8)]
 pub enum Reply {
@@ -55,7 +59,7 @@ use Reply::*;
 
 impl Reply {
     /// All replies, by their numbers.
-    pub const ALL: [Reply; 21] = [
+    pub const ALL: &'static [Reply] = &[
         Granted,
         Room,
         Shape,
@@ -117,6 +121,8 @@ impl Reply {
         }
     }
 
+    /// Whether the record was accepted or granted.
+    #[must_use]
     pub const fn is_granted(self) -> bool {
         matches!(self, Granted)
     }
