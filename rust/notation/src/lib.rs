@@ -6,17 +6,17 @@
 //! assert_eq!(records.len(), 32);
 //! assert_eq!(notation::write(&records), "user 300\nuser 300 has role 0\n");
 //!
-//! let error = notation::read(b"user 300\nuser 300 has rolle 0\n").unwrap_err();
+//! let errors = notation::read(b"user 300\nuser 300 has rolle 0\n").unwrap_err();
 //! let message = "line 2, column 14: expected \"role\", found \"rolle\"";
-//! assert_eq!(error.to_string(), message);
+//! assert_eq!(errors[0].to_string(), message);
 //! ```
 
 mod explain;
 mod read;
 mod write;
 
-pub use explain::explain;
-pub use read::{read, Error};
+pub use explain::{explain, refused};
+pub use read::{read, read_lines, Error};
 use records::forms::{parts, FORMS};
 pub use records::Reply;
 pub use write::{line, write};
