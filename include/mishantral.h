@@ -9,7 +9,10 @@
  *     uint64_t answer = mishantral_load(bytes, length, policy, words, sessions, .., orders, ..);
  *     if (mishantral_reply_of(answer) != MISHANTRAL_GRANTED)   refused at record mishantral_place_of(answer)
  *
- * Link with libmishantral.a. Nothing else is needed.
+ * What is decided, and which reply is given when, is docs/RULES.md of the project: its section "Numbers" has
+ * the records and kinds, "The replies" the replies, "The ledger and the claim rules" the rules of a claim.
+ *
+ * Link with libmishantral.a. Of what is outside it, it calls memset alone.
  */
 #ifndef MISHANTRAL_H
 #define MISHANTRAL_H
@@ -20,6 +23,38 @@
 #ifdef __cplusplus
 extern "C" {
 #endif
+
+/* This header's version; the project's CHANGELOG.md says what changed with each. */
+#define MISHANTRAL_VERSION "0.1.0"
+#define MISHANTRAL_VERSION_MAJOR 0
+#define MISHANTRAL_VERSION_MINOR 1
+#define MISHANTRAL_VERSION_PATCH 0
+
+/* How many 64-bit words each buffer has, where a constant is wanted: uint64_t policy[MISHANTRAL_POLICY_WORDS]. The
+ * library that is linked tells its own by mishantral_words; with another length than that it answers ROOM. */
+#define MISHANTRAL_POLICY_WORDS 4504
+#define MISHANTRAL_SESSIONS_WORDS 256
+#define MISHANTRAL_ORDERS_WORDS 2113
+
+/* The last number of each thing: users are 0 to MISHANTRAL_LAST_USER, and so on. */
+#define MISHANTRAL_LAST_USER 1023
+#define MISHANTRAL_LAST_ROLE 63
+#define MISHANTRAL_LAST_PERMISSION 255
+#define MISHANTRAL_LAST_TASK 63
+#define MISHANTRAL_LAST_TEMPLATE 15
+#define MISHANTRAL_LAST_PARTITIONING 15
+#define MISHANTRAL_LAST_SUBJECT 127
+#define MISHANTRAL_LAST_ORDER 63
+
+/* How many there may be: rules of a policy, entries of all orders together, bytes of a record. */
+#define MISHANTRAL_MOST_STATIC_SETS 32
+#define MISHANTRAL_MOST_DYNAMIC_SETS 32
+#define MISHANTRAL_MOST_TASK_SETS 32
+#define MISHANTRAL_MOST_BLOCKS 64
+#define MISHANTRAL_MOST_BINDINGS 64
+#define MISHANTRAL_MOST_PREREQUISITES 64
+#define MISHANTRAL_MOST_ENTRIES 2048
+#define MISHANTRAL_RECORD_BYTES 16
 
 /* The three buffers. */
 enum mishantral_group {
@@ -67,7 +102,8 @@ uint64_t mishantral_lower_request(const uint8_t *record, size_t length,
                                   uint64_t *policy, size_t policy_words,
                                   uint64_t *sessions, size_t sessions_words);
 
-/* Replies. Checks run in the order of these numbers, and the first that applies is given. */
+/* Replies (docs/RULES.md, "The replies"). Checks run in the order of these numbers, and the first that applies
+ * is given. */
 enum mishantral_reply {
     MISHANTRAL_GRANTED = 0,      /* accepted, or granted */
     MISHANTRAL_ROOM = 1,         /* a lent buffer has not its fixed length; nothing is written */
@@ -92,7 +128,8 @@ enum mishantral_reply {
     MISHANTRAL_FULL = 20         /* no ledger entry is free, or the rule limit of that kind is reached */
 };
 
-/* Kinds of record. A field that is not listed is zero; bit i of m stands for role or task i. */
+/* Kinds of record (docs/RULES.md, "Numbers"). A field that is not listed is zero; bit i of m stands for role or
+ * task i. */
 enum mishantral_kind {
     /* For a load. */
     MISHANTRAL_USER = 1,                /* user a (to 1,023) */
@@ -136,6 +173,35 @@ static inline unsigned mishantral_reply_of(uint64_t answer) { return (unsigned)(
 
 /* The place of an answer. */
 static inline uint64_t mishantral_place_of(uint64_t answer) { return answer / 256; }
+
+/* A reply's name, as "IN USE"; "?" for a number that is no reply. */
+static inline const char *mishantral_reply_name(unsigned reply)
+{
+    switch (reply) {
+    case MISHANTRAL_GRANTED: return "GRANTED";
+    case MISHANTRAL_ROOM: return "ROOM";
+    case MISHANTRAL_SHAPE: return "SHAPE";
+    case MISHANTRAL_RANGE: return "RANGE";
+    case MISHANTRAL_UNKNOWN: return "UNKNOWN";
+    case MISHANTRAL_TAKEN: return "TAKEN";
+    case MISHANTRAL_IN_USE: return "IN USE";
+    case MISHANTRAL_RULE: return "RULE";
+    case MISHANTRAL_NOT_ASSIGNED: return "NOT ASSIGNED";
+    case MISHANTRAL_STATIC: return "STATIC";
+    case MISHANTRAL_DYNAMIC: return "DYNAMIC";
+    case MISHANTRAL_NO_ROLE: return "NO ROLE";
+    case MISHANTRAL_NOT_YOURS: return "NOT YOURS";
+    case MISHANTRAL_DENIED: return "DENIED";
+    case MISHANTRAL_BEFORE: return "BEFORE";
+    case MISHANTRAL_SEPARATION: return "SEPARATION";
+    case MISHANTRAL_BLOCK: return "BLOCK";
+    case MISHANTRAL_ALONE: return "ALONE";
+    case MISHANTRAL_BOUND: return "BOUND";
+    case MISHANTRAL_COUNT: return "COUNT";
+    case MISHANTRAL_FULL: return "FULL";
+    default: return "?";
+    }
+}
 
 /* Writes a record's sixteen bytes: kind, n, a, b, c, m, little-endian on every processor. */
 static inline void mishantral_record(uint8_t record[16], uint8_t kind, uint8_t n,

@@ -1,28 +1,19 @@
-/* Document 01's desk program in C over the proved library: policy.rec, then requests from standard input.
- * Built where the archive is:  cc -I include examples/c/desk.c target/native/libmishantral.a -o desk */
+/* The desk program (docs/RULES.md) in C over the proved library: policy.rec, then requests from standard input. It is valid
+ * as C++ too. Built where the archive is:  cc -I include examples/c/desk.c target/native/libmishantral.a -o desk
+ * or, installed by tools/install:          cc examples/c/desk.c $(pkg-config --cflags --libs mishantral) -o desk
+ *
+ * Exit status: 0 the load was accepted; 1 it was refused; 2 the output could not be written. */
 #include "mishantral.h"
 
 #include <inttypes.h>
 #include <stdio.h>
-#include <stdlib.h>
 
 #define LONGEST 65536
 
-struct state {
-    uint64_t *policy, *sessions, *orders;
-    size_t policy_words, sessions_words, orders_words;
-};
-
-static uint64_t *buffer(uint64_t group, size_t *words)
-{
-    *words = (size_t)mishantral_words(group);
-    uint64_t *all = calloc(*words, sizeof *all);
-    if (all == NULL) {
-        fputs("desk: no memory\n", stderr);
-        exit(2);
-    }
-    return all;
-}
+/* The engine's state: three buffers that nothing else looks into. */
+static uint64_t policy[MISHANTRAL_POLICY_WORDS];
+static uint64_t sessions[MISHANTRAL_SESSIONS_WORDS];
+static uint64_t orders[MISHANTRAL_ORDERS_WORDS];
 
 /* The policy file's length, or -1 where it is too long or cannot be read. */
 static long read_policy(uint8_t bytes[LONGEST + 1])
@@ -36,38 +27,35 @@ static long read_policy(uint8_t bytes[LONGEST + 1])
     return failed || length > LONGEST ? -1 : (long)length;
 }
 
-static uint64_t load(struct state *s, const uint8_t *bytes, size_t length)
+static uint64_t load(const uint8_t *bytes, size_t length)
 {
-    return mishantral_load(bytes, length, s->policy, s->policy_words,
-                           s->sessions, s->sessions_words, s->orders, s->orders_words);
+    return mishantral_load(bytes, length, policy, MISHANTRAL_POLICY_WORDS,
+                           sessions, MISHANTRAL_SESSIONS_WORDS, orders, MISHANTRAL_ORDERS_WORDS);
 }
 
-static uint64_t request(struct state *s, const uint8_t *record, size_t length)
+static uint64_t request(const uint8_t *record, size_t length)
 {
-    return mishantral_request(record, length, s->policy, s->policy_words,
-                              s->sessions, s->sessions_words, s->orders, s->orders_words);
+    return mishantral_request(record, length, policy, MISHANTRAL_POLICY_WORDS,
+                              sessions, MISHANTRAL_SESSIONS_WORDS, orders, MISHANTRAL_ORDERS_WORDS);
 }
 
 int main(void)
 {
-    static uint8_t policy[LONGEST + 1];
-    struct state s;
-    s.policy = buffer(MISHANTRAL_POLICY, &s.policy_words);
-    s.sessions = buffer(MISHANTRAL_SESSIONS, &s.sessions_words);
-    s.orders = buffer(MISHANTRAL_ORDERS, &s.orders_words);
-
-    long length = read_policy(policy);
-    uint64_t answer = length < 0 ? MISHANTRAL_ROOM : load(&s, policy, (size_t)length);
+    static uint8_t bytes[LONGEST + 1];
+    long length = read_policy(bytes);
+    uint64_t answer = MISHANTRAL_ROOM;
+    if (length >= 0)
+        answer = load(bytes, (size_t)length);
     printf("load %u %" PRIu64 "\n", mishantral_reply_of(answer), mishantral_place_of(answer));
 
-    uint8_t record[16];
+    int loaded = mishantral_reply_of(answer) == MISHANTRAL_GRANTED;
+    uint8_t record[MISHANTRAL_RECORD_BYTES];
     size_t got;
     unsigned long place = 0;
-    while (mishantral_reply_of(answer) == MISHANTRAL_GRANTED && (got = fread(record, 1, 16, stdin)) > 0)
-        printf("%lu %u\n", ++place, mishantral_reply_of(request(&s, record, got)));
+    while (loaded && fflush(stdout) == 0 && (got = fread(record, 1, sizeof record, stdin)) > 0)
+        printf("%lu %u\n", ++place, mishantral_reply_of(request(record, got)));
 
-    free(s.policy);
-    free(s.sessions);
-    free(s.orders);
-    return fflush(stdout) == 0 ? 0 : 2;
+    if (fflush(stdout) != 0 || ferror(stdout))
+        return 2;
+    return loaded ? 0 : 1;
 }

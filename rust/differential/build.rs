@@ -1,9 +1,14 @@
-//! The crate `mishantral` says whether it has the proved library.
+//! The crate `mishantral` says whether it has the proved library, and whether the lower part's.
 
 fn main() {
-    println!("cargo:rustc-check-cfg=cfg(mishantral_engine)");
     println!("cargo:rerun-if-changed=build.rs");
-    if std::env::var_os("DEP_MISHANTRAL_ENGINE").is_some() {
-        println!("cargo:rustc-cfg=mishantral_engine");
+    for (told, cfg) in [
+        ("DEP_MISHANTRAL_ENGINE", "mishantral_engine"),
+        ("DEP_MISHANTRAL_LOWER", "mishantral_lower"),
+    ] {
+        println!("cargo:rustc-check-cfg=cfg({cfg})");
+        if std::env::var_os(told).is_some() {
+            println!("cargo:rustc-cfg={cfg}");
+        }
     }
 }

@@ -1,37 +1,82 @@
-//! Links the proved library's archive. Where there is none, the crate has records and replies alone.
+//! Links the proved library's archives: the whole engine's, and the lower part's. What is not there is left out of the crate.
 //!
-//! The archive is named by MISHANTRAL_ARCHIVE, else it is target/native/libmishantral.a of the repository.
+//! An archive is named by its environment variable, else it is in target/native of the repository.
 
 use std::env;
 use std::path::{Path, PathBuf};
 
-const VARIABLE: &str = "MISHANTRAL_ARCHIVE";
+/// An archive: the variable that names it, its usual place, the cfg that it turns on, the key that crates above read, the command
+/// that makes it, and what is there with it.
+struct Archive {
+    variable: &'static str,
+    usual: &'static str,
+    cfg: &'static str,
+    key: &'static str,
+    made_by: &'static str,
+    item: &'static str,
+}
 
-fn link(archive: &Path) {
-    let stem = archive.file_stem().and_then(|stem| stem.to_str());
+const ARCHIVES: [Archive; 2] = [
+    Archive {
+        variable: "MISHANTRAL_ARCHIVE",
+        usual: "target/native/libmishantral.a",
+        cfg: "mishantral_engine",
+        key: "engine",
+        made_by: "tools/archive",
+        item: "mishantral::Engine",
+    },
+    Archive {
+        variable: "MISHANTRAL_LOWER_ARCHIVE",
+        usual: "target/native/libmishantral_lower.a",
+        cfg: "mishantral_lower",
+        key: "lower",
+        made_by: "tools/archive lower",
+        item: "mishantral::lower::Engine",
+    },
+];
+
+fn link(archive: &Archive, found: &Path) {
+    let stem = found.file_stem().and_then(|stem| stem.to_str());
     let Some(name) = stem.and_then(|stem| stem.strip_prefix("lib")) else {
-        panic!("{}: an archive is named lib*.a", archive.display());
+        panic!("{}: an archive is named lib*.a", found.display());
     };
-    let folder = archive.parent().unwrap_or(Path::new("."));
+    let folder = found.parent().unwrap_or(Path::new("."));
     println!("cargo:rustc-link-search=native={}", folder.display());
     println!("cargo:rustc-link-lib=static={name}");
-    println!("cargo:rustc-cfg=mishantral_engine");
-    // What the build scripts of crates above read as DEP_MISHANTRAL_ENGINE.
-    println!("cargo:engine=linked");
+    println!("cargo:rustc-cfg={}", archive.cfg);
+    // What the build scripts of crates above read as DEP_MISHANTRAL_ENGINE, DEP_MISHANTRAL_LOWER.
+    println!("cargo:{}=linked", archive.key);
+}
+
+/// Links the archive if it is there; whether it is.
+fn linked(root: &Path, archive: &Archive) -> bool {
+    let variable = archive.variable;
+    let named = env::var_os(variable).map(PathBuf::from);
+    let path = named.clone().unwrap_or_else(|| root.join(archive.usual));
+    println!("cargo:rustc-check-cfg=cfg({})", archive.cfg);
+    println!("cargo:rerun-if-env-changed={variable}");
+    println!("cargo:rerun-if-changed={}", path.display());
+    match path.canonicalize() {
+        Ok(found) => link(archive, &found),
+        Err(why) if named.is_some() => panic!("{variable}={}: {why}", path.display()),
+        Err(_) => return false,
+    }
+    true
 }
 
 fn main() {
     let root = Path::new(env!("CARGO_MANIFEST_DIR")).join("../..");
-    let named = env::var_os(VARIABLE).map(PathBuf::from);
-    let archive = named
-        .clone()
-        .unwrap_or_else(|| root.join("target/native/libmishantral.a"));
-    println!("cargo:rustc-check-cfg=cfg(mishantral_engine)");
-    println!("cargo:rerun-if-env-changed={VARIABLE}");
-    println!("cargo:rerun-if-changed={}", archive.display());
-    match archive.canonicalize() {
-        Ok(found) => link(&found),
-        Err(why) if named.is_some() => panic!("{VARIABLE}={}: {why}", archive.display()),
-        Err(_) => {}
+    let root = root.canonicalize().unwrap_or(root);
+    if ARCHIVES.iter().filter(|a| linked(&root, a)).count() > 0 {
+        return;
+    }
+    println!("cargo:warning=the proved library is not there, and so `mishantral::Engine` is not");
+    for archive in &ARCHIVES {
+        let (made_by, of) = (root.join(archive.made_by), archive.item);
+        let made_by = made_by.display();
+        println!(
+            "cargo:warning=for `{of}`: run `{made_by}`, or name its archive by {}",
+            archive.variable
+        );
     }
 }

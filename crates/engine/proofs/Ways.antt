@@ -22,7 +22,7 @@ use Rattle.sessions.specs.Lower.{lowerTables}
 use Rattle.ledger.specs.Reading.{ordersWords, Cleared}
 use Rattle.lower.specs.Answers.{Loads, fit as lowerFit}
 use Rattle.lower.specs.Exports.{inOne}
-use Rattle.engine.specs.Buffers.{Buffers, buffers, tablesOf, fit}
+use Rattle.engine.specs.Buffers.{Buffers, buffers, tablesOf, fit, SameLengths}
 use Rattle.engine.specs.Step.{Step}
 use Rattle.engine.specs.Answers.{requestAnswer, Requested, loadAnswer, LoadDone}
 use Rattle.engine.specs.Exports.{LoadExported, RequestExported}
@@ -44,6 +44,9 @@ not-all false b c h = refl
 abbrev pub unfit : Buffers → Bool
 unfit x = (not (eqb (length (x .policy)) policyWords) || not (eqb (length (x .sessions)) sessionsWords)) || not (eqb (length (x .orders)) ordersWords)
 
+pub same-lengths : {p s o p′ s′ o′ : List ℕ} → length p′ ≡ length p → length s′ ≡ length s → length o′ ≡ length o → SameLengths (buffers p s o) (buffers p′ s′ o′)
+same-lengths a b c = record { policy = a; sessions = b; orders = c }
+
 module _ (x : Buffers) where
   pub lengths : unfit x ≡ false → (length (x .policy) ≡ policyWords) × ((length (x .sessions) ≡ sessionsWords) × (length (x .orders) ≡ ordersWords))
   lengths h =
@@ -62,18 +65,19 @@ module _ (x : Buffers) where
   unfolding requestAnswer
   no-room bytes h =
       let f = fits-not h in
-      record { replies = rw f; tables = rw f (tables-refl (tablesOf x)); kept = λ _. refl }
+      record { replies = rw f; tables = rw f (tables-refl (tablesOf x)); lengths = same-lengths refl refl refl; kept = λ _. refl }
 
 -- a step that is the definition's answer
 pub answered : {bytes : Bytes} {x x′ : Buffers} {reply : ℕ} {next : Engine} {r : Reply} → unfit x ≡ false
     → request (tablesOf x) bytes ≡ record { reply = reply; tables = granted reply next (tablesOf x) }
-    → Step reply next x x′ r → Requested bytes x x′ r
+    → Step reply next x x′ r → SameLengths x x′ → Requested bytes x x′ r
 unfolding requestAnswer
-answered {bytes} {x} {x′} {reply} {next} {r} h e d =
+answered {bytes} {x} {x′} {reply} {next} {r} h e d l =
     let a : requestAnswer bytes x ≡ record { reply = reply; tables = granted reply next (tablesOf x) } = rw (fits x h) e in
     record {
       replies = d .replies ∙ sym (ap (λ (y : Answer Engine). y .reply) a);
       tables = subst (λ (t : Engine). SameTables (tablesOf x′) t) (d .tables ∙ sym (ap (λ (y : Answer Engine). y .tables) a)) (tables-refl (tablesOf x′));
+      lengths = l;
       kept = d .kept;
     }
 
@@ -82,13 +86,13 @@ pub no-load : (bytes : Bytes) (x : Buffers) → unfit x ≡ true → LoadDone by
 unfolding loadAnswer
 no-load bytes x h =
     let f = fits-not x h in
-    record { replies = rw f; places = rw f; tables = rw f; room = λ _. refl; zeros = λ e. absurd (true≢false (sym e ∙ f)) }
+    record { replies = rw f; places = rw f; tables = rw f; lengths = same-lengths refl refl refl; room = λ _. refl; zeros = λ e. absurd (true≢false (sym e ∙ f)) }
 
 -- the orders are emptied, and the lower part is loaded
 pub loaded : {bytes : Bytes} {p s o p′ s′ o′ : List ℕ} {r : Reply} {place : ℕ} → unfit (buffers p s o) ≡ false → Cleared o′ → Loads bytes p s p′ s′ r place
-    → LoadDone bytes (buffers p s o) (buffers p′ s′ o′) r place
+    → SameLengths (buffers p s o) (buffers p′ s′ o′) → LoadDone bytes (buffers p s o) (buffers p′ s′ o′) r place
 unfolding loadAnswer engineOf
-loaded {bytes} {p} {s} {o} {p′} {s′} {o′} {r} {place} h c d =
+loaded {bytes} {p} {s} {o} {p′} {s′} {o′} {r} {place} h c d l =
     let e = all (eqb (length p) policyWords) (eqb (length s) sessionsWords) (eqb (length o) ordersWords) h in
     let f = fits (buffers p s o) h in
     let g : lowerFit p s ≡ true = rw (e .0, e .1) in
@@ -97,6 +101,7 @@ loaded {bytes} {p} {s} {o} {p′} {s′} {o′} {r} {place} h c d =
       replies = d .replies ∙ rw (e .0, e .1, e .2);
       places = d .places ∙ rw (e .0, e .1, e .2);
       tables = rw (e .0, e .1, e .2) (λ i. record { lower = t i; orders = c .tables i });
+      lengths = l;
       room = λ n. absurd (true≢false (sym f ∙ n));
       zeros = λ _ n. record { policy = λ i. d .zeros g n i .0; sessions = λ i. d .zeros g n i .1; orders = c .zeros };
     }
@@ -107,9 +112,10 @@ load-exported d e =
     record {
       answers = rw (e, d .replies, d .places);
       tables = d .tables;
+      lengths = d .lengths;
       room = d .room;
       zeros = λ f n. d .zeros f (λ z. n (sym (d .replies) ∙ z));
     }
 
 pub request-exported : {bytes : Bytes} {x x′ : Buffers} {r : Reply} {number : ℕ} → Requested bytes x x′ r → number ≡ numberOf r → RequestExported bytes x x′ number
-request-exported d e = record { answers = e ∙ d .replies; tables = d .tables; kept = λ n. d .kept (λ z. n (sym (d .replies) ∙ z)) }
+request-exported d e = record { answers = e ∙ d .replies; tables = d .tables; lengths = d .lengths; kept = λ n. d .kept (λ z. n (sym (d .replies) ∙ z)) }

@@ -11,7 +11,7 @@ use Rattle.paper_upper.specs.Orders.{Engine, SameTables}
 use Rattle.paper_upper.specs.Engine.{request, engineOf}
 use Rattle.replies.specs.Replies.{numberOf}
 use Rattle.replies.specs.declared.Reply.{Reply}
-use Rattle.engine.specs.Buffers.{Buffers, tablesOf, fit}
+use Rattle.engine.specs.Buffers.{Buffers, tablesOf, fit, SameLengths}
 
 -- ---- A request.
 
@@ -22,6 +22,7 @@ requestAnswer bytes x = cond (fit x) (request (tablesOf x) bytes) (record { repl
 pub record Requested (bytes : Bytes) (x x′ : Buffers) (r : Reply) : Type 0 where
   pub replies : numberOf r ≡ requestAnswer bytes x .reply
   pub tables : SameTables (tablesOf x′) (requestAnswer bytes x .tables)
+  pub lengths : SameLengths x x′
   -- "Refused requests change no byte of the state."
   pub kept : (numberOf r ≡ 0 → ⊥) → x′ ≡ x
 
@@ -48,5 +49,6 @@ pub record LoadDone (bytes : Bytes) (x x′ : Buffers) (r : Reply) (place : ℕ)
   pub replies : numberOf r ≡ loadAnswer bytes x .reply
   pub places : place ≡ loadAnswer bytes x .place
   pub tables : tablesOf x′ ≡ loadAnswer bytes x .tables
+  pub lengths : SameLengths x x′
   pub room : fit x ≡ false → x′ ≡ x
   pub zeros : fit x ≡ true → (numberOf r ≡ 0 → ⊥) → Zeros x′

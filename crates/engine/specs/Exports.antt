@@ -9,12 +9,13 @@ use Rattle.policy.specs.Layout.{policyWords}
 use Rattle.sessions.specs.Reading.{sessionsWords}
 use Rattle.ledger.specs.Reading.{ordersWords}
 use Rattle.lower.specs.Exports.{inOne}
-use Rattle.engine.specs.Buffers.{Buffers, tablesOf, fit}
+use Rattle.engine.specs.Buffers.{Buffers, tablesOf, fit, SameLengths}
 use Rattle.engine.specs.Answers.{requestAnswer, loadAnswer, Zeros}
 
 pub record LoadExported (bytes : Bytes) (x x′ : Buffers) (number : ℕ) : Type 0 where
   pub answers : number ≡ inOne (loadAnswer bytes x .reply) (loadAnswer bytes x .place)
   pub tables : tablesOf x′ ≡ loadAnswer bytes x .tables
+  pub lengths : SameLengths x x′
   pub room : fit x ≡ false → x′ ≡ x
   pub zeros : fit x ≡ true → (loadAnswer bytes x .reply ≡ 0 → ⊥) → Zeros x′
 
@@ -22,6 +23,7 @@ pub record LoadExported (bytes : Bytes) (x x′ : Buffers) (number : ℕ) : Type
 pub record RequestExported (bytes : Bytes) (x x′ : Buffers) (number : ℕ) : Type 0 where
   pub answers : number ≡ requestAnswer bytes x .reply
   pub tables : SameTables (tablesOf x′) (requestAnswer bytes x .tables)
+  pub lengths : SameLengths x x′
   pub kept : (requestAnswer bytes x .reply ≡ 0 → ⊥) → x′ ≡ x
 
 -- the length of a buffer: policy 0, sessions 1, orders 2

@@ -2,5 +2,4 @@ pub mod Buffers
 pub mod Step
 pub mod Answers
 pub mod Respects
-pub mod OneAnswer
 pub mod Exports

@@ -21,7 +21,7 @@ use Rattle.loading.specs.LoadDone.{LoadDone}
 use Rattle.lower.specs.Stepped.{Stepped}
 use Rattle.replies.specs.Replies.{numberOf}
 use Rattle.lower.specs.Exports.{inOne, LoadExported, RequestExported}
-use Rattle.lower.specs.Answers.{fit, requestAnswer, Requested, Loads}
+use Rattle.lower.specs.Answers.{fit, SameLengths, requestAnswer, Requested, Loads}
 
 -- the code's test of the lengths
 both : (a b : Bool) → not a || not b ≡ false → (a ≡ true) × (b ≡ true)
@@ -45,18 +45,19 @@ lengths p s h =
 pub no-room : (bytes : Bytes) (p s : List ℕ) → unfit p s ≡ true → Requested bytes p s p s Room
 no-room bytes p s h =
     let f = not-both (eqb (length p) policyWords) (eqb (length s) sessionsWords) h in
-    record { replies = rw f; tables = rw f; kept = λ _. (refl, refl) }
+    record { replies = rw f; tables = rw f; lengths = (refl, refl); kept = λ _. (refl, refl) }
 
 -- a step that is the definition's answer
 pub answered : {bytes : Bytes} {p s p′ s′ : List ℕ} {reply : ℕ} {next : Lower} {r : Reply} → unfit p s ≡ false
     → lowerRequest (lowerTables p s) bytes ≡ record { reply = reply; tables = granted reply next (lowerTables p s) }
-    → Stepped reply next p s p′ s′ r → Requested bytes p s p′ s′ r
-answered {bytes} {p} {s} {p′} {s′} {reply} {next} {r} h e d =
+    → Stepped reply next p s p′ s′ r → SameLengths p s p′ s′ → Requested bytes p s p′ s′ r
+answered {bytes} {p} {s} {p′} {s′} {reply} {next} {r} h e d l =
     let f = both (eqb (length p) policyWords) (eqb (length s) sessionsWords) h in
     let a : requestAnswer bytes p s ≡ record { reply = reply; tables = granted reply next (lowerTables p s) } = rw (f .0, f .1) e in
     record {
       replies = d .replies ∙ sym (ap (λ (x : Answer Lower). x .reply) a);
       tables = d .tables ∙ sym (ap (λ (x : Answer Lower). x .tables) a);
+      lengths = l;
       kept = d .kept;
     }
 
@@ -64,11 +65,11 @@ answered {bytes} {p} {s} {p′} {s′} {reply} {next} {r} h e d =
 pub no-load : (bytes : Bytes) (p s : List ℕ) → unfit p s ≡ true → Loads bytes p s p s Room 0
 no-load bytes p s h =
     let f = not-both (eqb (length p) policyWords) (eqb (length s) sessionsWords) h in
-    record { replies = rw f; places = rw f; tables = rw f; room = λ _. (refl, refl); zeros = λ e. absurd (true≢false (sym e ∙ f)) }
+    record { replies = rw f; places = rw f; tables = rw f; lengths = (refl, refl); room = λ _. (refl, refl); zeros = λ e. absurd (true≢false (sym e ∙ f)) }
 
-pub loaded : {bytes : Bytes} {p s p′ s′ : List ℕ} {r : Reply} {place : ℕ} → unfit p s ≡ false → Cleared s′ → LoadDone bytes p p′ r place → Loads bytes p s p′ s′ r place
+pub loaded : {bytes : Bytes} {p s p′ s′ : List ℕ} {r : Reply} {place : ℕ} → unfit p s ≡ false → Cleared s′ → LoadDone bytes p p′ r place → SameLengths p s p′ s′ → Loads bytes p s p′ s′ r place
 unfolding lowerOf
-loaded {bytes} {p} {s} {p′} {s′} {r} {place} h c d =
+loaded {bytes} {p} {s} {p′} {s′} {r} {place} h c d n =
     let e = both (eqb (length p) policyWords) (eqb (length s) sessionsWords) h in
     let f : fit p s ≡ true = rw (e .0, e .1) in
     let l = eqb-true (length p) policyWords (e .0) in
@@ -77,6 +78,7 @@ loaded {bytes} {p} {s} {p′} {s′} {r} {place} h c d =
       replies = rw f (ap (λ (x : Loaded). x .reply) a);
       places = rw f (ap (λ (x : Loaded). x .place) a);
       tables = rw f (λ i. record { policy = a i .tables; sessions = c .tables i });
+      lengths = n;
       room = λ n. absurd (true≢false (sym f ∙ n));
       zeros = λ _ n i. (d .emptied l n .zeros i, c .zeros i);
     }
@@ -87,9 +89,10 @@ load-exported d e =
     record {
       answers = rw (e, d .replies, d .places);
       tables = d .tables;
+      lengths = d .lengths;
       room = d .room;
       zeros = λ f n. d .zeros f (λ z. n (sym (d .replies) ∙ z));
     }
 
 pub request-exported : {bytes : Bytes} {p s p′ s′ : List ℕ} {r : Reply} {number : ℕ} → Requested bytes p s p′ s′ r → number ≡ numberOf r → RequestExported bytes p s p′ s′ number
-request-exported d e = record { answers = e ∙ d .replies; tables = d .tables; kept = λ n. d .kept (λ z. n (sym (d .replies) ∙ z)) }
+request-exported d e = record { answers = e ∙ d .replies; tables = d .tables; lengths = d .lengths; kept = λ n. d .kept (λ z. n (sym (d .replies) ∙ z)) }

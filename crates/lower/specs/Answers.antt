@@ -21,6 +21,10 @@ use Rattle.sessions.specs.Lower.{lowerTables}
 abbrev pub fit : List ℕ → List ℕ → Bool
 fit p s = eqb (length p) policyWords && eqb (length s) sessionsWords
 
+-- a call leaves them their lengths, whatever these are
+abbrev pub SameLengths : List ℕ → List ℕ → List ℕ → List ℕ → Type 0
+SameLengths p s p′ s′ = (length p′ ≡ length p) × (length s′ ≡ length s)
+
 -- "ROOM: a lent state buffer has not its fixed length; nothing is written"
 abbrev pub requestAnswer : Bytes → List ℕ → List ℕ → Answer Lower
 requestAnswer bytes p s = cond (fit p s) (lowerRequest (lowerTables p s) bytes) (record { reply = ROOM; tables = lowerTables p s })
@@ -28,6 +32,7 @@ requestAnswer bytes p s = cond (fit p s) (lowerRequest (lowerTables p s) bytes) 
 pub record Requested (bytes : Bytes) (p s p′ s′ : List ℕ) (r : Reply) : Type 0 where
   pub replies : numberOf r ≡ requestAnswer bytes p s .reply
   pub tables : lowerTables p′ s′ ≡ requestAnswer bytes p s .tables
+  pub lengths : SameLengths p s p′ s′
   -- "Refused requests change no byte of the state."
   pub kept : (numberOf r ≡ 0 → ⊥) → (p′ ≡ p) × (s′ ≡ s)
 
@@ -48,6 +53,7 @@ pub record Loads (bytes : Bytes) (p s p′ s′ : List ℕ) (r : Reply) (place :
   pub replies : numberOf r ≡ loadAnswer bytes p s .reply
   pub places : place ≡ loadAnswer bytes p s .place
   pub tables : lowerTables p′ s′ ≡ loadAnswer bytes p s .tables
+  pub lengths : SameLengths p s p′ s′
   pub room : fit p s ≡ false → (p′ ≡ p) × (s′ ≡ s)
   -- an empty engine is all zero words
   pub zeros : fit p s ≡ true → (numberOf r ≡ 0 → ⊥) → (i : ℕ) → (getD p′ i 0 ≡ 0) × (getD s′ i 0 ≡ 0)

@@ -15,7 +15,7 @@ use Rattle.paper_lower.proofs.ListLaws.{both, not-both, every-map, every-all, e
 use Rattle.sets.proofs.SetLaws.{Part, part-refl, part-more, meets-empty, meets-plus, meets-part, meets-new, none-common}
 use Rattle.paper_upper.specs.Rules.{own, strange, blockIn, block, found}
 use Rattle.theorems.specs.OverEntries.{ofKind, EveryTwo, OneBlock}
-use Rattle.theorems.specs.WellMade.{WellMade}
+use Rattle.theorems.specs.WellMade.{WellCut, WellMade}
 use Rattle.theorems.proofs.Made.{aBlock, Made, of-each}
 
 -- ---- every two of a list
@@ -91,11 +91,11 @@ module _ (ru : Rules) (d : Set) (c : ℕ) where
       go false p true q = true≢false (sym (sym (meets-plus (k .tasks) d c p) ∙ x) ∙ free .1 q (sym e) p)
       go false p false q = s e (sym (meets-plus (k .tasks) d c p) ∙ x) (sym (meets-plus (l .tasks) d c q) ∙ y)
 
-  block-forth : (f : ℕ → Maybe ℕ) → WellMade f ru → block ru d c ≡ 0 → EveryTwo (Single d) (ru .blocks) → EveryTwo (Single (plus d c)) (ru .blocks)
+  block-forth : (f : ℕ → Maybe ℕ) → WellCut f (ru .blocks) → block ru d c ≡ 0 → EveryTwo (Single d) (ru .blocks) → EveryTwo (Single (plus d c)) (ru .blocks)
   block-forth f well z h =
       two-both (λ k l. Single d k l → Single (plus d c) k l) (Single d) (Single (plus d c)) (ru .blocks) (λ k l g s. g s)
-      (two-both _ (λ k l. Free d c k l × Free d c l k) _ (ru .blocks) one-pair (well .blocks .disjoint)
-      (two-of-every (Free d c) (ru .blocks) (nothing-strange (well .blocks .partitionings) z))) h
+      (two-both _ (λ k l. Free d c k l × Free d c l k) _ (ru .blocks) one-pair (well .disjoint)
+      (two-of-every (Free d c) (ru .blocks) (nothing-strange (well .partitionings) z))) h
 
   block-back : EveryTwo (Single (plus d c)) (ru .blocks) → block ru d c ≡ 0
   unfolding block blockIn own strange
@@ -135,10 +135,10 @@ module _ (policy : List Record) where
   pub blocks-less : (m : Maybe ℕ) (d e : Set) → Part d e → BlocksOf m e → BlocksOf m d
   blocks-less m d e p h = two-map _ _ (ofKind 12 policy) (λ r q s i x y. s i (meets-part (r .m) d e p x) (meets-part (q .m) d e p y)) h
 
-  pub blocks-claim : (k : Tasks) (ru : Rules) → Made policy k ru → WellMade (k .template) ru → (m : Maybe ℕ) (d : Set) (c : ℕ) → BlocksOf m d
+  pub blocks-claim : (k : Tasks) (ru : Rules) → Made policy k ru → WellMade (k .template) (k .most) ru → (m : Maybe ℕ) (d : Set) (c : ℕ) → BlocksOf m d
       → (found (block ru d c) ≡ false) ↔ BlocksOf m (plus d c)
   blocks-claim k ru made well m d c h = (
-    λ e. records (plus d c) .1 (block-forth ru d c (k .template) well (eqb-true _ _ (not-false _ e)) (records d .0 h)),
+    λ e. records (plus d c) .1 (block-forth ru d c (k .template) (well .blocks) (eqb-true _ _ (not-false _ e)) (records d .0 h)),
     λ w. ap not (eq-eqb (block ru d c) 0 (block-back ru d c (records (plus d c) .0 w))),
   )
     where

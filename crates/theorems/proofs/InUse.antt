@@ -20,18 +20,20 @@ use Rattle.sets.proofs.Bits.{same-or-other}
 use Rattle.paper_upper.specs.Orders.{Standing, isHeld, isHeldBy, Entry, Orders, noOrders, inOrder, ofTask, heldBy}
 use Rattle.paper_upper.specs.Orders.Standing.{held, done}
 use Rattle.paper_upper.specs.Requests.{openChecks, openNext, endChecks, endNext, claimChecks, claimNext, holdChecks, releaseNext, doneNext, turned, upperKinds}
-use Rattle.paper_upper.specs.Engine.{raised, sharedKinds, requestKinds, engineOf}
+use Rattle.paper_upper.specs.Engine.{raised, sharedKinds, requestKinds, request, engineOf}
+use Rattle.theorems.specs.Outside.{followed}
 use Rattle.theorems.specs.InUse.{Tally, tally, noTally, counting, count, inUse}
 use Rattle.theorems.specs.Theorems.{tablesAfter, saidAfter}
+use Rattle.theorems.proofs.Replies.{engine-order}
 use Rattle.theorems.proofs.Rows.{Rows, run-follows}
 use Rattle.theorems.proofs.EntryLaws.{opening, ending, claiming, releasing, finishing, turned-same}
 use Rattle.theorems.proofs.CountLaws.{count-imp, count-same, count-keep, count-each, many-each, count-split, count-none, count-some}
 use Rattle.theorems.proofs.Ledger.{heldTask}
 use Rattle.theorems.proofs.Keeps.{Kept, is-open, kept-rows, kept-load}
 
-record Tallied (o : Orders) (x : Tally) : Type 0 where
-  all : x .ended + x .releases + many (o .entries) ≡ x .claims
-  since : (i : ℕ) → there (o .opened i) ≡ true → x .since i ≡ many (keep (inOrder i) (o .entries))
+pub record Tallied (o : Orders) (x : Tally) : Type 0 where
+  pub all : x .ended + x .releases + many (o .entries) ≡ x .claims
+  pub since : (i : ℕ) → there (o .opened i) ≡ true → x .since i ≡ many (keep (inOrder i) (o .entries))
 
 -- ---- entries of one instance and of another
 elsewhere : (a k : ℕ) (e : Entry) → (k ≡ a → ⊥) → inOrder k e ≡ true → inOrder a e ≡ false
@@ -162,11 +164,14 @@ rows policy =
 
 -- ---- the whole
 pub counted : (policy : Bytes) → load policy .reply ≡ 0 → (ss : List Bytes)
-    → inUse (saidAfter policy ss) ≡ many (tablesAfter policy ss .orders .entries)
-unfolding inUse count engineOf noOrders noTally many keep
+    → Tallied (tablesAfter policy ss .orders) (followed count noTally (saidAfter policy ss))
+unfolding count engineOf noOrders noTally many keep request
 counted policy accepted ss =
-    let x = run-follows (Kept (recordsOf policy)) (λ t y. Tallied (t .orders) y) (λ n y r. chosen counting n .next y r)
+    run-follows requestForms requestKinds engine-order (Kept (recordsOf policy)) (λ t y. Tallied (t .orders) y) (λ n y r. chosen counting n .next y r)
     (kept-rows (recordsOf policy)) (rows (recordsOf policy))
-    (engineOf (load policy .tables)) noTally ss (kept-load policy accepted) (record { all = refl; since = λ i l. refl }) in
-    let y = x .all in
-    omega arith
+    (engineOf (load policy .tables)) noTally ss (kept-load policy accepted) (record { all = refl; since = λ i l. refl })
+
+pub in-use : (policy : Bytes) → load policy .reply ≡ 0 → (ss : List Bytes)
+    → inUse (saidAfter policy ss) ≡ many (tablesAfter policy ss .orders .entries)
+unfolding inUse
+in-use policy accepted ss = let y = counted policy accepted ss .all in omega arith

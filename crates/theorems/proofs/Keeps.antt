@@ -7,25 +7,26 @@ use native.Mathlib.Omega.{arith}
 use borrow.Author.Tests.{not-false}
 use lib.Dec.{ltb, leb}
 use Rattle.paper_lower.specs.Sets.{has}
-use Rattle.paper_lower.specs.Lists.{Maybe, holds, there, many, each, keep}
+use Rattle.paper_lower.specs.Lists.{Maybe, holds, there, many}
 use Rattle.paper_lower.specs.Lists.Maybe.{none, just}
 use Rattle.paper_lower.specs.Checks.{FULL}
 use Rattle.paper_lower.specs.Records.{Bytes, Record}
 use Rattle.paper_lower.specs.Forms.{lowerForms, requestForms, formOf, above, outOfRange}
-use Rattle.paper_lower.specs.Tables.{Tasks, Rules}
+use Rattle.paper_lower.specs.Tables.{Tasks, Rules, Lower}
 use Rattle.paper_lower.specs.Policy.{assignChecks, assignNext, giveNext}
 use Rattle.paper_lower.specs.Load.{load, recordsOf}
 use Rattle.paper_lower.specs.Roles.{joinChecks, joinNext, deleteChecks, deleteNext, takeBackChecks, takeBackNext, withdrawNext, roleKinds}
-use Rattle.paper_lower.specs.Sessions.{createChecks, activateChecks, deactivateChecks, sessionKinds, lowerKinds, lowerOf}
-use Rattle.paper_lower.proofs.ListLaws.{or-none, every-left, every-right, _⨾_}
+use Rattle.paper_lower.specs.Sessions.{createChecks, activateChecks, deactivateChecks, sessionKinds, lowerKinds, lowerRequest, lowerOf}
+use Rattle.paper_lower.proofs.ListLaws.{or-none, every-map, every-left, every-right, _⨾_}
 use Rattle.paper_lower.proofs.CheckLaws.{Passed}
 use Rattle.paper_upper.specs.Orders.{Engine}
 use Rattle.paper_upper.specs.Rules.{ruleChecks}
 use Rattle.paper_upper.specs.Requests.{openChecks, openNext, endNext, unknown, claimChecks, claimNext, releaseNext, doneNext, upperKinds}
-use Rattle.paper_upper.specs.Engine.{raised, sharedKinds, requestKinds, engineOf}
+use Rattle.paper_upper.specs.Engine.{requestKinds, request, engineOf}
 use Rattle.theorems.specs.WellMade.{WellMade}
-use Rattle.theorems.specs.Theorems.{tablesAfter, AfterEvery}
-use Rattle.theorems.proofs.Rows.{Rows, run-keeps}
+use Rattle.theorems.specs.Theorems.{tablesAfter, lowerAfter, AfterEvery}
+use Rattle.theorems.proofs.Replies.{lower-order, engine-order}
+use Rattle.theorems.proofs.Rows.{Rows, run-keeps, engine-rows}
 use Rattle.theorems.proofs.Made.{Made, made}
 use Rattle.theorems.proofs.WellMade.{a-within, load-well-made}
 use Rattle.theorems.proofs.Sound.{Sound, sound-start, sound-open, sound-end, sound-claim, sound-release, sound-finish}
@@ -34,13 +35,17 @@ use Rattle.theorems.proofs.LoadedRoles.{loaded-limited}
 
 pub record Given (policy : List Record) (k : Tasks) (ru : Rules) : Type 0 where
   pub made : Made policy k ru
-  pub well : WellMade (k .template) ru
+  pub well : WellMade (k .template) (k .most) ru
 
 abbrev pub Kept : List Record → Engine → Type 0
 Kept policy t =
     Given policy (t .lower .policy .tasks) (t .lower .policy .rules)
     × Sound policy (t .orders)
     × Limited (t .lower .policy .people) (t .lower .sessions) (t .lower .policy .rules)
+
+-- what of it is the lower part's
+abbrev pub LowerKept : List Record → Lower → Type 0
+LowerKept policy t = Given policy (t .policy .tasks) (t .policy .rules) × Limited (t .policy .people) (t .sessions) (t .policy .rules)
 
 there-if : (p : ℕ → Bool) (x : Maybe ℕ) → holds p x ≡ true → there x ≡ true
 unfolding holds
@@ -67,9 +72,32 @@ claim-row policy t a b c p i =
 named : (x y : Bool) → not x || y ≡ false → x ≡ true
 named x y h = not-false x (or-none (not x) y h .0)
 
-pub kept-rows : (policy : List Record) → Rows requestForms (λ n t r x. Kept policy t → Kept policy x) requestKinds
-unfolding requestKinds upperKinds raised sharedKinds lowerKinds roleKinds sessionKinds keep each requestForms lowerForms formOf outOfRange above joinChecks joinNext assignChecks assignNext giveNext deleteChecks deleteNext takeBackChecks takeBackNext withdrawNext createChecks activateChecks deactivateChecks openChecks openNext endNext releaseNext doneNext
-kept-rows policy =
+pub lower-rows : (policy : List Record) → Rows lowerForms (λ n t r x. LowerKept policy t → LowerKept policy x) lowerKinds
+unfolding lowerKinds roleKinds sessionKinds lowerForms formOf outOfRange above joinChecks joinNext assignChecks assignNext giveNext deleteChecks deleteNext takeBackChecks takeBackNext withdrawNext createChecks activateChecks deactivateChecks
+lower-rows policy =
+    (λ t r g p i. (i .0, joins _ _ _ (i .1) (r .a) (r .m) (p .1 .0) (p .1 .1 .0)))
+    ⨾ (λ t r g p i. (i .0, deletes _ _ _ (i .1) (r .a) (p .1 .0)))
+    ⨾ (λ t r g p i. (i .0, assigns _ _ _ (i .1) (r .a) (r .b) (p .1 .1 .0)))
+    ⨾ (λ t r g p i. (i .0, takes _ _ _ (i .1) (r .a) (r .b) (p .1 .0)))
+    ⨾ (λ t r g p i. i)
+    ⨾ (λ t r g p i. i)
+    ⨾ (λ t r g p i.
+    let l = a-within 127 (r .a) (ltb 1023 (r .b)) g in
+    let u = named (t .policy .people .users (r .b)) _ (p .0) in
+    (i .0, creates _ _ _ (i .1) (r .a) (r .b) (r .m) (omega arith) u (not-false _ (p .1 .1 .0)) (p .1 .1 .1 .0)))
+    ⨾ (λ t r g p i. (i .0, destroys _ _ _ (i .1) (r .a)))
+    ⨾ (λ t r g p i.
+    let l = named (t .sessions .live (r .a)) _ (p .0) in
+    (i .0, activates _ _ _ (i .1) (r .a) (r .b) l (not-false _ (p .1 .1 .0)) (p .1 .1 .1 .0)))
+    ⨾ (λ t r g p i.
+    let l = named (t .sessions .live (r .a)) _ (or-none _ (not (has (t .sessions .active (r .a)) (r .b))) (p .0) .0) in
+    (i .0, deactivates _ _ _ (i .1) (r .a) (r .b) l))
+    ⨾ (λ t r g p i. i)
+    ⨾ tt
+
+upper-rows : (policy : List Record) → Rows requestForms (λ n t r x. Kept policy t → Kept policy x) upperKinds
+unfolding upperKinds deleteChecks deleteNext openChecks openNext endNext releaseNext doneNext
+upper-rows policy =
     (λ t r g p i. (i .0, i .1, deletes _ _ _ (i .2) (r .a) (p .1 .0)))
     ⨾ (λ t r g p i. (i .0, i .1, destroys _ _ _ (i .2) (r .a)))
     ⨾ (λ t r g p i. (i .0, sound-open policy (t .orders) (i .1) _ _ (i .0 .made) (i .0 .well) (r .a) (r .b) (not-false _ (p .0)) (p .1 .0), i .2))
@@ -78,28 +106,25 @@ kept-rows policy =
     ⨾ (λ t r g p i. (i .0, sound-release policy (t .orders) (i .1) (r .a) (r .b) (r .c), i .2))
     ⨾ (λ t r g p i. (i .0, sound-finish policy (t .orders) (i .1) (r .a) (r .b) (r .c), i .2))
     ⨾ (λ t r g p i. i)
-    ⨾ (λ t r g p i. (i .0, i .1, joins _ _ _ (i .2) (r .a) (r .m) (p .1 .0) (p .1 .1 .0)))
-    ⨾ (λ t r g p i. (i .0, i .1, assigns _ _ _ (i .2) (r .a) (r .b) (p .1 .1 .0)))
-    ⨾ (λ t r g p i. (i .0, i .1, takes _ _ _ (i .2) (r .a) (r .b) (p .1 .0)))
-    ⨾ (λ t r g p i. i)
-    ⨾ (λ t r g p i. i)
-    ⨾ (λ t r g p i.
-    let l = a-within 127 (r .a) (ltb 1023 (r .b)) g in
-    let u = named (t .lower .policy .people .users (r .b)) _ (p .0) in
-    (i .0, i .1, creates _ _ _ (i .2) (r .a) (r .b) (r .m) (omega arith) u (not-false _ (p .1 .1 .0)) (p .1 .1 .1 .0)))
-    ⨾ (λ t r g p i.
-    let l = named (t .lower .sessions .live (r .a)) _ (p .0) in
-    (i .0, i .1, activates _ _ _ (i .2) (r .a) (r .b) l (not-false _ (p .1 .1 .0)) (p .1 .1 .1 .0)))
-    ⨾ (λ t r g p i.
-    let l = named (t .lower .sessions .live (r .a)) _ (or-none _ (not (has (t .lower .sessions .active (r .a)) (r .b))) (p .0) .0) in
-    (i .0, i .1, deactivates _ _ _ (i .2) (r .a) (r .b) l))
-    ⨾ (λ t r g p i. i)
     ⨾ tt
+
+pub kept-rows : (policy : List Record) → Rows requestForms (λ n t r x. Kept policy t → Kept policy x) requestKinds
+kept-rows policy =
+    engine-rows (λ n t r x. Kept policy t → Kept policy x) (upper-rows policy)
+    (every-map lowerKinds (λ k h t r g p i. let l = h (t .lower) r g p (i .0, i .2) in (l .0, i .1, l .1)) (lower-rows policy))
 
 pub kept-load : (policy : Bytes) → load policy .reply ≡ 0 → Kept (recordsOf policy) (engineOf (load policy .tables))
 unfolding engineOf lowerOf
 kept-load policy h = (record { made = made policy h; well = load-well-made policy h }, sound-start (recordsOf policy), loaded-limited policy h)
 
 pub kept-after : AfterEvery (λ policy requests. Kept (recordsOf policy) (tablesAfter policy requests))
+unfolding request
 kept-after policy accepted ss =
-    run-keeps (Kept (recordsOf policy)) (kept-rows (recordsOf policy)) (engineOf (load policy .tables)) ss (kept-load policy accepted)
+    run-keeps requestForms requestKinds engine-order (Kept (recordsOf policy)) (kept-rows (recordsOf policy)) (engineOf (load policy .tables)) ss
+    (kept-load policy accepted)
+
+pub lower-kept-after : AfterEvery (λ policy requests. LowerKept (recordsOf policy) (lowerAfter policy requests))
+unfolding lowerRequest lowerOf
+lower-kept-after policy accepted ss =
+    run-keeps lowerForms lowerKinds lower-order (LowerKept (recordsOf policy)) (lower-rows (recordsOf policy)) (lowerOf (load policy .tables)) ss
+    (record { made = made policy accepted; well = load-well-made policy accepted }, loaded-limited policy accepted)

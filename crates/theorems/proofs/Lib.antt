@@ -1,3 +1,4 @@
+pub mod Replies
 pub mod Rows
 pub mod Loads
 pub mod Made

@@ -11,18 +11,12 @@ use Rattle.paper_lower.specs.Records.{Bytes, Record, decode}
 use Rattle.paper_lower.specs.Forms.{policyForms, formOf, outOfRange, formChecks}
 use Rattle.paper_lower.specs.Kinds.{chosen, replyTo, answer}
 use Rattle.paper_lower.specs.Tables.{Policy, noPolicy}
-use Rattle.paper_lower.specs.Policy.{userChecks, roleChecks, permissionChecks, assignChecks, giveChecks, taskChecks, openToChecks, carriesChecks, staticChecks, dynamicChecks, taskSetChecks, blockChecks, banChecks, mostChecks, bindChecks, beforeChecks, policyKinds}
+use Rattle.paper_lower.specs.Policy.{policyKinds}
 use Rattle.paper_lower.specs.Load.{Loaded, accepted, refused, policyAnswer, loadFrom, load, recordsFrom, recordsOf}
 use Rattle.paper_lower.proofs.CheckLaws.{Passed}
-use Rattle.paper_lower.proofs.KindLaws.{AllNumbered, reply-passed}
-use Rattle.paper_lower.proofs.ListLaws.{_⨾_}
+use Rattle.paper_lower.proofs.KindLaws.{reply-passed}
+use Rattle.theorems.proofs.Replies.{policy-order, numbered}
 use Rattle.theorems.proofs.Rows.{Rows, of-rows}
-
-numbered : AllNumbered policyKinds
-unfolding policyKinds userChecks roleChecks permissionChecks assignChecks giveChecks taskChecks openToChecks carriesChecks staticChecks dynamicChecks taskSetChecks blockChecks banChecks mostChecks bindChecks beforeChecks
-numbered =
-    (omega arith) ⨾ (omega arith) ⨾ (omega arith) ⨾ (omega arith) ⨾ (omega arith) ⨾ (omega arith) ⨾ (omega arith) ⨾ (omega arith)
-    ⨾ (omega arith) ⨾ (omega arith) ⨾ (omega arith) ⨾ (omega arith) ⨾ (omega arith) ⨾ (omega arith) ⨾ (omega arith) ⨾ (omega arith) ⨾ tt
 
 abbrev pub step : Policy → Record → Policy
 step p r = chosen policyKinds (r .kind) .next p r
@@ -60,7 +54,7 @@ one-more : (p : Policy) (s : Bytes) (rest : Policy → Loaded) (rs : List Record
     → Whole p (granted q (rest (granted q (step p (decode s)) p)) (refused q place)) (decode s ∷ rs)
 unfolding Whole filled formChecks
 one-more p s rest rs place zero e ih h =
-    let x = reply-passed policyForms policyKinds numbered p s e in
+    let x = reply-passed policyForms policyKinds (numbered policyKinds policy-order) p s e in
     let y = ih h in
     ((record { range = x .0 .1 .0; checks = x .1 }, y .0), y .1)
 one-more p s rest rs place (suc q) e ih h = let z : ⊥ = omega arith in absurd z

@@ -50,7 +50,7 @@ module _ (policy : List Record) where
   pub lone-none : (d : Set) → LoneOf none d
   lone-none d = every-all (ofKind 13 policy) (λ r e two all. none-just e)
 
-  module _ (k : Tasks) (ru : Rules) (made : Made policy k ru) (well : WellMade (k .template) ru) where
+  module _ (k : Tasks) (ru : Rules) (made : Made policy k ru) (well : WellMade (k .template) (k .most) ru) where
     -- the tasks of a template are those of its records
     all-in : (j : ℕ) (d : Set) → EveryTask policy j d ↔ ((t : ℕ) → has (tasksOf k j) t ≡ true → has d t ≡ true)
     unfolding tasksOf

@@ -89,7 +89,7 @@ module _ (policy : List Record) where
       counts = counts-finish policy o (h .counts) a b c;
     }
 
-    module _ (k : Tasks) (ru : Rules) (made : Made policy k ru) (well : WellMade (k .template) ru) where
+    module _ (k : Tasks) (ru : Rules) (made : Made policy k ru) (well : WellMade (k .template) (k .most) ru) where
       pub sound-open : (a b : ℕ) → hasTask k b ≡ true → there (o .opened a) ≡ false → Sound (opening o a b)
       sound-open a b some new = record {
         ledger = ledger-open o (h .ledger) a b;

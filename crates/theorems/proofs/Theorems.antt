@@ -2,47 +2,59 @@
 use Prim.Native.Nat.{ℕ, _≤_}
 use mathlib.Core.Path.{_≡_, refl, sym, ap, _∙_}
 use mathlib.Core.Bool.{Bool, true, false, cond}
+use mathlib.Core.List.{List}
 use borrow.Author.Tests.{leb-true, le-leb}
 use native.Mathlib.Omega.{arith}
 use lib.Dec.{leb}
 use Rattle.paper_lower.specs.Sets.{overlap}
-use Rattle.paper_lower.specs.Lists.{each, many, keep}
+use Rattle.paper_lower.specs.Lists.{many, Every}
 use Rattle.paper_lower.specs.Checks.{FULL}
+use Rattle.paper_lower.specs.Records.{Record}
 use Rattle.paper_lower.specs.Forms.{requestForms}
+use Rattle.paper_lower.specs.Tables.{Lower}
 use Rattle.paper_lower.specs.Policy.{assignNext, giveNext}
 use Rattle.paper_lower.specs.Load.{recordsOf}
 use Rattle.paper_lower.specs.Roles.{activeOf, joinNext, deleteNext, takeBackNext, withdrawNext, roleKinds}
 use Rattle.paper_lower.specs.Sessions.{sessionKinds, lowerKinds}
+use Rattle.paper_lower.proofs.ListLaws.{every-map, _⨾_}
+use Rattle.paper_upper.specs.Orders.{Orders}
 use Rattle.paper_upper.specs.Requests.{openNext, endNext, claimNext, releaseNext, doneNext, upperKinds}
-use Rattle.paper_upper.specs.Engine.{raised, sharedKinds, requestKinds, request}
-use Rattle.paper_lower.proofs.ListLaws.{_⨾_}
+use Rattle.paper_upper.specs.Engine.{requestKinds, request}
 use Rattle.theorems.specs.Outside.{Told}
-use Rattle.theorems.specs.OverEntries.{ofKind}
+use Rattle.theorems.specs.OverEntries.{ofKind, RoleLimits}
 use Rattle.theorems.specs.InUse.{inUse}
-use Rattle.theorems.specs.Theorems.{tablesAfter, saidAfter, OrdersKeepTheRules, ClerksKeepTheLimits, FirstRuleBroken, EntriesInUse, RulesAreWellMade, LedgerIsSound, SameRules, RequestsChangeNoRule}
-use Rattle.theorems.proofs.Rows.{Rows, numbered, answer-rows}
+use Rattle.theorems.specs.Theorems.{tablesAfter, saidAfter, lowerAfter, shown, OrdersKeepTheRules, ClerksKeepTheLimits, DealersKeepTheLimits, FirstRuleBroken, EntriesInUse, RulesAreWellMade, LedgerIsSound, fixed, RequestsChangeNoRule}
+use Rattle.theorems.proofs.Replies.{engine-order}
+use Rattle.theorems.proofs.Rows.{Rows, answer-rows, engine-rows}
 use Rattle.theorems.proofs.Made.{aLimit, of-each}
 use Rattle.theorems.proofs.Sound.{kept}
-use Rattle.theorems.proofs.Keeps.{kept-after}
-use Rattle.theorems.proofs.Outside.{told-is-true}
+use Rattle.theorems.proofs.Keeps.{LowerKept, kept-after, lower-kept-after}
+use Rattle.theorems.proofs.Outside.{over, told-is-true, lower-told}
 use Rattle.theorems.proofs.FirstRule.{first-of-six, full-reply}
-use Rattle.theorems.proofs.InUse.{counted}
+use Rattle.theorems.proofs.InUse.{counted, in-use}
 
 pub orders-keep-the-rules : OrdersKeepTheRules
 orders-keep-the-rules policy accepted ss =
     rw (told-is-true policy accepted ss) (kept (recordsOf policy) (tablesAfter policy ss .orders) (kept-after policy accepted ss .1))
 
+role-limits : (policy : List Record) (o : Orders) (t : Lower) → LowerKept policy t → RoleLimits policy (shown (over o t))
+role-limits policy o t k =
+    record {
+      statics = λ u. of-each (λ l. overlap (l .members) (t .policy .people .assigned u) ≤ l .n) aLimit (ofKind 9 policy)
+          (rw (k .0 .made .statics) at (k .1 .statics u));
+      dynamics = λ u. of-each (λ l. overlap (l .members) (activeOf (t .sessions) u) ≤ l .n) aLimit (ofKind 10 policy)
+          (rw (k .0 .made .dynamics) at (k .1 .dynamics u));
+      active = k .1 .active;
+    }
+
 pub clerks-keep-the-limits : ClerksKeepTheLimits
 clerks-keep-the-limits policy accepted ss =
     let k = kept-after policy accepted ss in
-    rw (told-is-true policy accepted ss)
-    (record {
-      statics = λ u. of-each (λ l. overlap (l .members) (tablesAfter policy ss .lower .policy .people .assigned u) ≤ l .n) aLimit
-          (ofKind 9 (recordsOf policy)) (rw (k .0 .made .statics) at (k .2 .statics u));
-      dynamics = λ u. of-each (λ l. overlap (l .members) (activeOf (tablesAfter policy ss .lower .sessions) u) ≤ l .n) aLimit
-          (ofKind 10 (recordsOf policy)) (rw (k .0 .made .dynamics) at (k .2 .dynamics u));
-      active = k .2 .active;
-    })
+    rw (told-is-true policy accepted ss) (role-limits (recordsOf policy) _ (tablesAfter policy ss .lower) (k .0, k .2))
+
+pub dealers-keep-the-limits : DealersKeepTheLimits
+dealers-keep-the-limits policy accepted ss =
+    rw (lower-told policy accepted ss) (role-limits (recordsOf policy) _ (lowerAfter policy ss) (lower-kept-after policy accepted ss))
 
 pub rules-are-well-made : RulesAreWellMade
 rules-are-well-made policy accepted ss = kept-after policy accepted ss .0 .well
@@ -50,19 +62,29 @@ rules-are-well-made policy accepted ss = kept-after policy accepted ss .0 .well
 pub ledger-is-sound : LedgerIsSound
 ledger-is-sound policy accepted ss = kept-after policy accepted ss .1 .ledger
 
--- ---- no request writes tasks or rules
-rows : Rows requestForms (λ n t r x. SameRules t x) requestKinds
-unfolding requestKinds upperKinds raised sharedKinds lowerKinds roleKinds sessionKinds keep each joinNext assignNext giveNext deleteNext takeBackNext withdrawNext openNext endNext claimNext releaseNext doneNext
+-- ---- no request writes roles, tasks or rules
+lower-rows : Every (λ k. (t : Lower) (r : Record) → fixed (k .next t r .policy) ≡ fixed (t .policy)) lowerKinds
+unfolding lowerKinds roleKinds sessionKinds joinNext assignNext giveNext deleteNext takeBackNext withdrawNext
+lower-rows =
+    (λ t r. refl) ⨾ (λ t r. refl) ⨾ (λ t r. refl) ⨾ (λ t r. refl) ⨾ (λ t r. refl) ⨾ (λ t r. refl)
+    ⨾ (λ t r. refl) ⨾ (λ t r. refl) ⨾ (λ t r. refl) ⨾ (λ t r. refl) ⨾ (λ t r. refl) ⨾ tt
+
+upper-rows : Rows requestForms (λ n t r x. fixed (x .lower .policy) ≡ fixed (t .lower .policy)) upperKinds
+unfolding upperKinds deleteNext openNext endNext claimNext releaseNext doneNext
+upper-rows =
+    (λ t r g p. refl) ⨾ (λ t r g p. refl) ⨾ (λ t r g p. refl) ⨾ (λ t r g p. refl)
+    ⨾ (λ t r g p. refl) ⨾ (λ t r g p. refl) ⨾ (λ t r g p. refl) ⨾ (λ t r g p. refl) ⨾ tt
+
+rows : Rows requestForms (λ n t r x. fixed (x .lower .policy) ≡ fixed (t .lower .policy)) requestKinds
 rows =
-    (λ t r g p. (refl, refl)) ⨾ (λ t r g p. (refl, refl)) ⨾ (λ t r g p. (refl, refl)) ⨾ (λ t r g p. (refl, refl)) ⨾ (λ t r g p. (refl, refl))
-    ⨾ (λ t r g p. (refl, refl)) ⨾ (λ t r g p. (refl, refl)) ⨾ (λ t r g p. (refl, refl)) ⨾ (λ t r g p. (refl, refl)) ⨾ (λ t r g p. (refl, refl))
-    ⨾ (λ t r g p. (refl, refl)) ⨾ (λ t r g p. (refl, refl)) ⨾ (λ t r g p. (refl, refl)) ⨾ (λ t r g p. (refl, refl)) ⨾ (λ t r g p. (refl, refl))
-    ⨾ (λ t r g p. (refl, refl)) ⨾ (λ t r g p. (refl, refl)) ⨾ tt
+    engine-rows (λ n t r x. fixed (x .lower .policy) ≡ fixed (t .lower .policy)) upper-rows
+    (every-map lowerKinds (λ k h t r g p. h (t .lower) r) lower-rows)
 
 pub requests-change-no-rule : RequestsChangeNoRule
 unfolding request
 requests-change-no-rule t s =
-    answer-rows requestForms (λ n t r x. SameRules t x) requestKinds numbered rows t s (λ q x. SameRules t x) (λ x h. h) (λ q. (refl, refl))
+    answer-rows requestForms (λ n t r x. fixed (x .lower .policy) ≡ fixed (t .lower .policy)) requestKinds engine-order rows
+    t s (λ q x. fixed (x .lower .policy) ≡ fixed (t .lower .policy)) (λ x h. h) (λ q. refl)
 
 -- ---- claims
 pub first-rule-broken : FirstRuleBroken
@@ -71,10 +93,13 @@ first-rule-broken policy accepted ss s e h =
 
 pub entries-in-use : EntriesInUse
 entries-in-use policy accepted ss =
-    let c = counted policy accepted ss in
+    let b = counted policy accepted ss in
+    let c : inUse (saidAfter policy ss) ≡ used = in-use policy accepted ss in
     let l = ledger-is-sound policy accepted ss .room in
+    let e = ap (λ (x : Told). many (x .orders .entries)) (sym (told-is-true policy accepted ss)) in
     record {
-      entries = c ∙ ap (λ (x : Told). many (x .orders .entries)) (sym (told-is-true policy accepted ss));
+      balance = omega arith;
+      entries = c ∙ e;
       room = omega arith;
       full = λ s e h. let q = full-reply (tablesAfter policy ss) s e h in
           (λ w. at c l (leb 2048 used) refl (sym q ∙ w), λ w. q ∙ rw (le-leb 2048 used (omega arith)));

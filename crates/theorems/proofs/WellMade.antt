@@ -13,9 +13,9 @@ use Rattle.paper_lower.specs.Lists.Maybe.{none, just}
 use Rattle.paper_lower.specs.Records.{Bytes}
 use Rattle.paper_lower.specs.Forms.{policyForms, formOf, above, outOfRange}
 use Rattle.paper_lower.specs.Tables.{Tasks, Limit, Block, Pair, Rules, noPolicy, withStatics, withDynamics, withTaskSets, withBlocks, withBindings, withBefores}
-use Rattle.paper_lower.specs.Policy.{tasksOf, oneTemplate, together, illMade, userNext, roleNext, permissionNext, assignNext, giveNext, taskChecks, taskNext, openToNext, carriesNext, staticChecks, staticNext, dynamicChecks, dynamicNext, taskSetChecks, taskSetNext, partitioned, blockChecks, blockNext, banNext, mostNext, bindChecks, bindNext, beforeChecks, beforeNext, policyKinds}
+use Rattle.paper_lower.specs.Policy.{tasksOf, oneTemplate, together, illMade, userNext, roleNext, permissionNext, assignNext, giveNext, taskChecks, taskNext, openToNext, carriesNext, staticChecks, staticNext, dynamicChecks, dynamicNext, taskSetChecks, taskSetNext, partitioned, blockChecks, blockNext, banNext, mostChecks, mostNext, bindChecks, bindNext, beforeChecks, beforeNext, policyKinds}
 use Rattle.paper_lower.specs.Load.{load, recordsOf}
-use Rattle.paper_lower.proofs.ListLaws.{or-none, both, upd-other, every-map, every-added, _⨾_}
+use Rattle.paper_lower.proofs.ListLaws.{or-none, both, upd-same, upd-other, every-map, every-added, _⨾_}
 use Rattle.sets.proofs.Bits.{same-or-other}
 use Rattle.sets.proofs.SetLaws.{Part, part-trans, part-left, part-right, within-part, has-part, collect-above, collect-below, none-common, meets-none}
 use Rattle.theorems.specs.OverEntries.{EveryTwo}
@@ -79,14 +79,16 @@ module _ (f : ℕ → Maybe ℕ) (a b : ℕ) (new : there (f a) ≡ false) where
   still-linked : (x : Pair) → Linked f x → Linked (upd f a (just b)) x
   still-linked x y = (y .0, (y .1 .0, still (x .a) (y .1 .0) (y .1 .1), still (x .b) (y .1 .0) (y .1 .2)))
 
-  task-more : (k : Rules) → a < 64 → WellMade f k → WellMade (upd f a (just b)) k
-  task-more k l i = record {
+  task-more : (most : ℕ → Maybe ℕ) (k : Rules) → a < 64 → WellMade f most k → WellMade (upd f a (just b)) most k
+  task-more most k l i = record {
     tasks = λ t j h. ⊎-elim (λ (e : t ≡ a). omega arith) (λ n. i .tasks t j (sym (upd-other f a t (just b) n) ∙ h)) (same-or-other t a);
+    counts = i .counts;
     statics = i .statics;
     dynamics = i .dynamics;
     taskSets = every-map (k .taskSets) (λ s x. (x .0, (x .1 .0, λ t h. still t (x .1 .0) (x .1 .1 t h)))) (i .taskSets);
     blocks = record {
       partitionings = i .blocks .partitionings;
+      none-empty = i .blocks .none-empty;
       one-template = λ q.
           let x = i .blocks .one-template q in
           (x .0, every-map (k .blocks) (λ s y e t h. still t (x .0) (y e t h)) (x .1));
@@ -133,40 +135,58 @@ module _ (k : Tasks) (bs : List Block) (a : ℕ) (m : Set) where
   apart : meets m (partitioned a bs) ≡ false → Every (λ b. b .partitioning ≡ a → meets (b .tasks) m ≡ false) bs
   apart h = every-map bs (λ b p e. meets-none (b .tasks) m (λ t x y. none-common m _ t h y (has-part _ _ t (p e) x))) (in-partitioned a bs)
 
-  block-more : a < 16 → not (oneTemplate k (union m (partitioned a bs))) ≡ false → meets m (partitioned a bs) ≡ false → WellCut (k .template) bs
+  block-more : a < 16 → eqb m empty ≡ false → not (oneTemplate k (union m (partitioned a bs))) ≡ false → meets m (partitioned a bs) ≡ false → WellCut (k .template) bs
       → WellCut (k .template) (add bs new)
-  block-more l one free i = record {
+  block-more l some one free i = record {
     partitionings = every-added (λ b. b .partitioning < 16) bs new (i .partitionings) l;
+    none-empty = every-added (λ b. b .tasks ≡ empty → ⊥) bs new (i .none-empty) (eqb-false m empty some);
     one-template = λ q. ⊎-elim (λ e. same q e one)
         (λ n. let x = i .one-template q in (x .0, every-added (Of q (x .0)) bs new (x .1) (λ e. absurd (n e)))) (same-or-other a q);
     disjoint = two-added _ bs new (i .disjoint) (apart free);
   }
 
 -- ---- one rule more
-module _ (f : ℕ → Maybe ℕ) (ru : Rules) (i : WellMade f ru) where
-  with-statics : (ls : List Limit) → Every Limits ls → WellMade f (withStatics ru ls)
+module _ (f g : ℕ → Maybe ℕ) (ru : Rules) (i : WellMade f g ru) where
+  with-statics : (ls : List Limit) → Every Limits ls → WellMade f g (withStatics ru ls)
   with-statics ls h =
-      record { tasks = i .tasks; statics = h; dynamics = i .dynamics; taskSets = i .taskSets; blocks = i .blocks; bindings = i .bindings; befores = i .befores }
+      record { tasks = i .tasks; counts = i .counts; statics = h; dynamics = i .dynamics; taskSets = i .taskSets; blocks = i .blocks; bindings = i .bindings; befores = i .befores }
 
-  with-dynamics : (ls : List Limit) → Every Limits ls → WellMade f (withDynamics ru ls)
+  with-dynamics : (ls : List Limit) → Every Limits ls → WellMade f g (withDynamics ru ls)
   with-dynamics ls h =
-      record { tasks = i .tasks; statics = i .statics; dynamics = h; taskSets = i .taskSets; blocks = i .blocks; bindings = i .bindings; befores = i .befores }
+      record { tasks = i .tasks; counts = i .counts; statics = i .statics; dynamics = h; taskSets = i .taskSets; blocks = i .blocks; bindings = i .bindings; befores = i .befores }
 
-  with-task-sets : (ls : List Limit) → Every (λ l. Limits l × ((j : ℕ) × AllOf f j (l .members))) ls → WellMade f (withTaskSets ru ls)
+  with-task-sets : (ls : List Limit) → Every (λ l. Limits l × ((j : ℕ) × AllOf f j (l .members))) ls → WellMade f g (withTaskSets ru ls)
   with-task-sets ls h =
-      record { tasks = i .tasks; statics = i .statics; dynamics = i .dynamics; taskSets = h; blocks = i .blocks; bindings = i .bindings; befores = i .befores }
+      record { tasks = i .tasks; counts = i .counts; statics = i .statics; dynamics = i .dynamics; taskSets = h; blocks = i .blocks; bindings = i .bindings; befores = i .befores }
 
-  with-blocks : (bs : List Block) → WellCut f bs → WellMade f (withBlocks ru bs)
+  with-blocks : (bs : List Block) → WellCut f bs → WellMade f g (withBlocks ru bs)
   with-blocks bs h =
-      record { tasks = i .tasks; statics = i .statics; dynamics = i .dynamics; taskSets = i .taskSets; blocks = h; bindings = i .bindings; befores = i .befores }
+      record { tasks = i .tasks; counts = i .counts; statics = i .statics; dynamics = i .dynamics; taskSets = i .taskSets; blocks = h; bindings = i .bindings; befores = i .befores }
 
-  with-bindings : (ps : List Pair) → Every (Linked f) ps → WellMade f (withBindings ru ps)
+  with-bindings : (ps : List Pair) → Every (Linked f) ps → WellMade f g (withBindings ru ps)
   with-bindings ps h =
-      record { tasks = i .tasks; statics = i .statics; dynamics = i .dynamics; taskSets = i .taskSets; blocks = i .blocks; bindings = h; befores = i .befores }
+      record { tasks = i .tasks; counts = i .counts; statics = i .statics; dynamics = i .dynamics; taskSets = i .taskSets; blocks = i .blocks; bindings = h; befores = i .befores }
 
-  with-befores : (ps : List Pair) → Every (Linked f) ps → WellMade f (withBefores ru ps)
+  with-befores : (ps : List Pair) → Every (Linked f) ps → WellMade f g (withBefores ru ps)
   with-befores ps h =
-      record { tasks = i .tasks; statics = i .statics; dynamics = i .dynamics; taskSets = i .taskSets; blocks = i .blocks; bindings = i .bindings; befores = h }
+      record { tasks = i .tasks; counts = i .counts; statics = i .statics; dynamics = i .dynamics; taskSets = i .taskSets; blocks = i .blocks; bindings = i .bindings; befores = h }
+
+-- ---- one count more
+count-more : (f g : ℕ → Maybe ℕ) (ru : Rules) (a n : ℕ) → eqb n 0 ≡ false → WellMade f g ru → WellMade f (upd g a (just n)) ru
+count-more f g ru a n some i = record {
+  tasks = i .tasks;
+  counts = λ t k h. ⊎-elim (λ (e : t ≡ a). at k (sym (upd-same g a t (just n) e) ∙ h))
+      (λ q. i .counts t k (sym (upd-other g a t (just n) q) ∙ h)) (same-or-other t a);
+  statics = i .statics;
+  dynamics = i .dynamics;
+  taskSets = i .taskSets;
+  blocks = i .blocks;
+  bindings = i .bindings;
+  befores = i .befores;
+}
+  where
+    at : (k : ℕ) → just n ≡ just k → 1 ≤ k
+    at k e = let d = eqb-false n 0 some in let z : n ≡ k = cc in omega arith
 
 task-set : (k : Tasks) (n : ℕ) (m : Set) → illMade n m || not (oneTemplate k m) ≡ false
     → Limits (record { n = n; members = m }) × ((j : ℕ) × AllOf (k .template) j m)
@@ -180,40 +200,42 @@ task-set k n m h =
 pub a-within : (k a : ℕ) (b : Bool) → false || ltb k a || b || false || false ≡ false → a ≤ k
 a-within k a b g = ltb-false k a (or-none (ltb k a) b (or-none _ _ (or-none _ _ g .0) .0) .0)
 
-rows : Rows policyForms (λ n p r x. WellMade (p .tasks .template) (p .rules) → WellMade (x .tasks .template) (x .rules)) policyKinds
-unfolding policyKinds policyForms formOf outOfRange above userNext roleNext permissionNext assignNext giveNext taskChecks taskNext openToNext carriesNext staticChecks staticNext dynamicChecks dynamicNext taskSetChecks taskSetNext blockChecks blockNext banNext mostNext bindChecks bindNext beforeChecks beforeNext
+rows : Rows policyForms (λ n p r x. WellMade (p .tasks .template) (p .tasks .most) (p .rules) → WellMade (x .tasks .template) (x .tasks .most) (x .rules)) policyKinds
+unfolding policyKinds policyForms formOf outOfRange above userNext roleNext permissionNext assignNext giveNext taskChecks taskNext openToNext carriesNext staticChecks staticNext dynamicChecks dynamicNext taskSetChecks taskSetNext blockChecks blockNext banNext mostChecks mostNext bindChecks bindNext beforeChecks beforeNext
 rows =
     (λ p r g c i. i) ⨾ (λ p r g c i. i) ⨾ (λ p r g c i. i) ⨾ (λ p r g c i. i) ⨾ (λ p r g c i. i)
-    ⨾ (λ p r g c i. task-more _ (r .a) (r .b) (c .0) (p .rules) (let l = a-within 63 (r .a) (ltb 15 (r .b)) g in omega arith) i)
+    ⨾ (λ p r g c i. task-more _ (r .a) (r .b) (c .0) _ (p .rules) (let l = a-within 63 (r .a) (ltb 15 (r .b)) g in omega arith) i)
     ⨾ (λ p r g c i. i) ⨾ (λ p r g c i. i)
-    ⨾ (λ p r g c i. with-statics _ (p .rules) i _ (every-added Limits (p .rules .statics) _ (i .statics) (limits (r .n) (r .m) (c .1 .1 .0))))
-    ⨾ (λ p r g c i. with-dynamics _ (p .rules) i _ (every-added Limits (p .rules .dynamics) _ (i .dynamics) (limits (r .n) (r .m) (c .1 .1 .0))))
-    ⨾ (λ p r g c i. with-task-sets _ (p .rules) i _
+    ⨾ (λ p r g c i. with-statics _ _ (p .rules) i _ (every-added Limits (p .rules .statics) _ (i .statics) (limits (r .n) (r .m) (c .1 .1 .0))))
+    ⨾ (λ p r g c i. with-dynamics _ _ (p .rules) i _ (every-added Limits (p .rules .dynamics) _ (i .dynamics) (limits (r .n) (r .m) (c .1 .1 .0))))
+    ⨾ (λ p r g c i. with-task-sets _ _ (p .rules) i _
     (every-added _ (p .rules .taskSets) _ (i .taskSets) (task-set (p .tasks) (r .n) (r .m) (c .1 .1 .0))))
     ⨾ (λ p r g c i.
     let x = or-none _ (meets (r .m) (partitioned (r .a) (p .rules .blocks))) (c .1 .1 .0) in
     let y = or-none (eqb (r .m) empty) _ (x .0) in
     let l = a-within 15 (r .a) false g in
-    with-blocks _ (p .rules) i _ (block-more (p .tasks) (p .rules .blocks) (r .a) (r .m) (omega arith) (y .1) (x .1) (i .blocks)))
-    ⨾ (λ p r g c i. i) ⨾ (λ p r g c i. i)
-    ⨾ (λ p r g c i. with-bindings _ (p .rules) i _
+    with-blocks _ _ (p .rules) i _ (block-more (p .tasks) (p .rules .blocks) (r .a) (r .m) (omega arith) (y .0) (y .1) (x .1) (i .blocks)))
+    ⨾ (λ p r g c i. i)
+    ⨾ (λ p r g c i. count-more _ _ (p .rules) (r .a) (r .n) (c .1 .1 .0) i)
+    ⨾ (λ p r g c i. with-bindings _ _ (p .rules) i _
     (every-added _ (p .rules .bindings) _ (i .bindings) (linked (p .tasks) (r .a) (r .b) (c .1 .1 .0))))
-    ⨾ (λ p r g c i. with-befores _ (p .rules) i _ (every-added _ (p .rules .befores) _ (i .befores) (linked (p .tasks) (r .a) (r .b) (c .1 .1 .0))))
+    ⨾ (λ p r g c i. with-befores _ _ (p .rules) i _ (every-added _ (p .rules .befores) _ (i .befores) (linked (p .tasks) (r .a) (r .b) (c .1 .1 .0))))
     ⨾ tt
 
-start : WellMade (noPolicy .tasks .template) (noPolicy .rules)
+start : WellMade (noPolicy .tasks .template) (noPolicy .tasks .most) (noPolicy .rules)
 unfolding noPolicy
 start = record {
   tasks = λ t j (e : none ≡ just j). let z : _≡_ {A = ℕ} 0 1 = cc in absurd (omega arith);
+  counts = λ t n (e : none ≡ just n). let z : _≡_ {A = ℕ} 0 1 = cc in absurd (omega arith);
   statics = tt;
   dynamics = tt;
   taskSets = tt;
-  blocks = record { partitionings = tt; one-template = λ q. (0, tt); disjoint = tt };
+  blocks = record { partitionings = tt; none-empty = tt; one-template = λ q. (0, tt); disjoint = tt };
   bindings = tt;
   befores = tt;
 }
 
-pub load-well-made : (policy : Bytes) → load policy .reply ≡ 0 → WellMade (load policy .tables .tasks .template) (load policy .tables .rules)
+pub load-well-made : (policy : Bytes) → load policy .reply ≡ 0 → WellMade (load policy .tables .tasks .template) (load policy .tables .tasks .most) (load policy .tables .rules)
 load-well-made policy h =
     let x = load-accepted policy h in
-    rw (x .1) (load-keeps (λ p. WellMade (p .tasks .template) (p .rules)) rows noPolicy (recordsOf policy) (x .0) start)
+    rw (x .1) (load-keeps (λ p. WellMade (p .tasks .template) (p .tasks .most) (p .rules)) rows noPolicy (recordsOf policy) (x .0) start)

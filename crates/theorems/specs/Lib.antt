@@ -1,3 +1,4 @@
+pub mod Replies
 pub mod Outside
 pub mod OverEntries
 pub mod WellMade

@@ -1,19 +1,22 @@
 -- The theorems, over the definitions of the load and of the request: what holds after every accepted load and any requests.
-use Prim.Native.Nat.{ℕ, _≤_, _<_}
+use Prim.Native.Nat.{ℕ, _+_, _≤_, _<_}
 use mathlib.Core.Path.{_≡_}
 use mathlib.Core.Logic.{_↔_}
 use mathlib.Core.List.{List}
-use Rattle.paper_lower.specs.Lists.{many, Every}
+use Rattle.paper_lower.specs.Sets.{Set}
+use Rattle.paper_lower.specs.Lists.{Maybe, many, Every}
 use Rattle.paper_lower.specs.Checks.{GRANTED, BEFORE, FULL}
 use Rattle.paper_lower.specs.Records.{Bytes, Record, decode}
 use Rattle.paper_lower.specs.Kinds.{Said, run, after}
+use Rattle.paper_lower.specs.Tables.{Permission, Tasks, Rules, Policy, Lower}
 use Rattle.paper_lower.specs.Load.{load, recordsOf}
+use Rattle.paper_lower.specs.Sessions.{lowerRequest, lowerOf}
 use Rattle.paper_upper.specs.Orders.{Orders, Engine}
 use Rattle.paper_upper.specs.Engine.{request, engineOf}
-use Rattle.theorems.specs.Outside.{Told, hear, outside}
+use Rattle.theorems.specs.Outside.{Told, hear, followed, outside}
 use Rattle.theorems.specs.OverEntries.{Rule, claimRules, RoleLimits}
 use Rattle.theorems.specs.WellMade.{WellMade, Ledger}
-use Rattle.theorems.specs.InUse.{inUse}
+use Rattle.theorems.specs.InUse.{noTally, count, inUse}
 
 -- ---- After a policy and the requests that followed it:
 
@@ -33,6 +36,13 @@ toldAfter policy requests = outside policy (saidAfter policy requests)
 abbrev pub replyAfter : Bytes → List Bytes → Bytes → ℕ
 replyAfter policy requests s = request (tablesAfter policy requests) s .reply
 
+-- the same of the lower part alone
+abbrev pub lowerAfter : Bytes → List Bytes → Lower
+lowerAfter policy requests = after lowerRequest (lowerOf (load policy .tables)) requests
+
+abbrev pub lowerToldAfter : Bytes → List Bytes → Told
+lowerToldAfter policy requests = outside policy (run lowerRequest (lowerOf (load policy .tables)) requests)
+
 -- Of every policy that loads, and any requests.
 abbrev pub AfterEvery : (Bytes → List Bytes → Type 0) → Type 0
 AfterEvery P = (policy : Bytes) → load policy .reply ≡ GRANTED → (requests : List Bytes) → P policy requests
@@ -50,6 +60,10 @@ OrdersKeepTheRules = AfterEvery (λ policy requests. Every (λ k. k .Kept (recor
 
 abbrev pub ClerksKeepTheLimits : Type 0
 ClerksKeepTheLimits = AfterEvery (λ policy requests. RoleLimits (recordsOf policy) (toldAfter policy requests))
+
+-- "dealers build the lower part alone": there too
+abbrev pub DealersKeepTheLimits : Type 0
+DealersKeepTheLimits = AfterEvery (λ policy requests. RoleLimits (recordsOf policy) (lowerToldAfter policy requests))
 
 -- ---- A reply that no check before number k gave. "Checks run in the order of their numbers; the first that applies is given"
 abbrev pub Reaches : ℕ → ℕ → Type 0
@@ -72,7 +86,11 @@ FirstRuleBroken =
 
 -- ---- The entries in use.
 pub record Counted (policy : Bytes) (requests : List Bytes) : Type 0 where
-  -- they are the entries that are told
+  -- nothing is subtracted from less: the claims are the releases, what ended, and the entries that are told
+  pub balance :
+      let x = followed count noTally (saidAfter policy requests) in
+      x .claims ≡ x .releases + x .ended + many (toldAfter policy requests .orders .entries)
+  -- so these are in use
   pub entries : inUse (saidAfter policy requests) ≡ many (toldAfter policy requests .orders .entries)
   pub room : inUse (saidAfter policy requests) ≤ 2048
   -- "FULL is given only at 2,048 in use", and there always, to a claim that every check before it lets pass
@@ -87,14 +105,27 @@ abbrev pub RulesAreWellMade : Type 0
 RulesAreWellMade =
     AfterEvery (λ policy requests.
     let p = tablesAfter policy requests .lower .policy in
-    WellMade (p .tasks .template) (p .rules))
+    WellMade (p .tasks .template) (p .tasks .most) (p .rules))
 
 abbrev pub LedgerIsSound : Type 0
 LedgerIsSound = AfterEvery (λ policy requests. Ledger (tablesAfter policy requests .orders))
 
--- "Deleting roles and changing rules after a load are not offered."
-abbrev pub SameRules : Engine → Engine → Type 0
-SameRules t x = (x .lower .policy .tasks ≡ t .lower .policy .tasks) × (x .lower .policy .rules ≡ t .lower .policy .rules)
+-- "Deleting roles and changing rules after a load are not offered.": the declared roles, the tasks, what they carry, and the rules
+pub record Fixed : Type 0 where
+  pub roles : Set
+  pub tasks : Tasks
+  pub declared : ℕ → Maybe Permission
+  pub carriers : ℕ → Set
+  pub rules : Rules
+
+abbrev pub fixed : Policy → Fixed
+fixed p = record {
+  roles = p .people .roles;
+  tasks = p .tasks;
+  declared = p .permissions .declared;
+  carriers = p .permissions .carriers;
+  rules = p .rules;
+}
 
 abbrev pub RequestsChangeNoRule : Type 0
-RequestsChangeNoRule = (t : Engine) (s : Bytes) → SameRules t (request t s .tables)
+RequestsChangeNoRule = (t : Engine) (s : Bytes) → fixed (request t s .tables .lower .policy) ≡ fixed (t .lower .policy)

@@ -3,7 +3,7 @@ use Prim.Native.Nat.{ℕ, _<_, _≤_}
 use mathlib.Core.Path.{_≡_}
 use mathlib.Core.Bool.{true, false, _&&_}
 use mathlib.Core.List.{List}
-use Rattle.paper_lower.specs.Sets.{Set, has, size, meets}
+use Rattle.paper_lower.specs.Sets.{Set, empty, has, size, meets}
 use Rattle.paper_lower.specs.Lists.{Maybe, there, many, keep, Every}
 use Rattle.paper_lower.specs.Lists.Maybe.{just}
 use Rattle.paper_lower.specs.Tables.{Limit, Block, Pair, Rules}
@@ -27,14 +27,18 @@ Linked template x = (x .a ≡ x .b → ⊥) × ((j : ℕ) × (template (x .a) �
 pub record WellCut (template : ℕ → Maybe ℕ) (blocks : List Block) : Type 0 where
   -- "Partitionings 0 to 15."
   pub partitionings : Every (λ k. k .partitioning < 16) blocks
+  -- "12 if empty"
+  pub none-empty : Every (λ k. k .tasks ≡ empty → ⊥) blocks
   -- "of another template than the partitioning's earlier blocks"
   pub one-template : (q : ℕ) → (j : ℕ) × Every (λ k. k .partitioning ≡ q → AllOf template j (k .tasks)) blocks
   -- "or sharing a task with one"
   pub disjoint : EveryTwo (λ k l. k .partitioning ≡ l .partitioning → meets (k .tasks) (l .tasks) ≡ false) blocks
 
-pub record WellMade (template : ℕ → Maybe ℕ) (rules : Rules) : Type 0 where
+pub record WellMade (template most : ℕ → Maybe ℕ) (rules : Rules) : Type 0 where
   -- "Tasks 0 to 63."
   pub tasks : (t j : ℕ) → template t ≡ just j → t < 64
+  -- "14 if n = 0"
+  pub counts : (t n : ℕ) → most t ≡ just n → 1 ≤ n
   pub statics : Every Limits (rules .statics)
   pub dynamics : Every Limits (rules .dynamics)
   -- "if the tasks are not all of one template"

@@ -9,21 +9,25 @@ use differential::proved;
 /// every sweep.
 #[derive(Clone, Copy, PartialEq, Eq)]
 pub struct Effort {
+    /// Sweeps over all workloads.
     pub sweeps: usize,
     /// Passes of each engine in a sweep.
     pub passes: usize,
 }
 
 impl Effort {
+    /// What the page's figures take.
     pub const FULL: Effort = Effort {
         sweeps: 40,
         passes: 10,
     };
+    /// Enough to see that all replies agree.
     pub const QUICK: Effort = Effort {
         sweeps: 1,
         passes: 2,
     };
 
+    /// How often each stream runs on each engine.
     pub fn repeats(self) -> usize {
         self.sweeps * self.passes
     }
@@ -53,11 +57,17 @@ pub struct Stack {
     pub requests: usize,
 }
 
+/// All that the page shows.
 pub struct Figures {
+    /// The main table.
     pub main: Vec<Line>,
+    /// How times grow with the entries of others.
     pub entries: Growth,
+    /// How times grow with the permissions.
     pub permissions: Growth,
+    /// A line for each kind of request.
     pub kinds: Vec<Line>,
+    /// The stack, where the library is linked.
     pub stack: Option<Stack>,
     /// The bytes of the three lent buffers.
     pub state: Option<[usize; 3]>,
@@ -152,6 +162,7 @@ pub fn only(words: &str, effort: Effort) -> Result<Vec<Line>, String> {
 }
 
 impl Figures {
+    /// Measures everything.
     pub fn measure(effort: Effort) -> Result<Figures, String> {
         let workloads = workloads();
         let mut lines = race_all(&workloads, effort)?.into_iter();

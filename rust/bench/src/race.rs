@@ -23,6 +23,7 @@ pub struct Best {
 
 /// A workload with engines that are ready to run it.
 pub struct Race<'a> {
+    /// What is run.
     pub workload: &'a Workload,
     policy: Vec<u8>,
     expected: Vec<u8>,
@@ -112,6 +113,7 @@ impl<'a> Race<'a> {
         Ok(())
     }
 
+    /// Each engine's best time.
     pub fn best(&self) -> Vec<Best> {
         let length = self.workload.length() as f64;
         let best = |runner: &Runner| Best {

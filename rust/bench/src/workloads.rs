@@ -21,11 +21,15 @@ pub enum Timed {
     Requests(Vec<Record>),
 }
 
+/// A stream of records that is timed, and what comes before it.
 pub struct Workload {
+    /// Its name in the tables.
     pub name: String,
+    /// The policy that is loaded first, or timed.
     pub policy: Vec<Record>,
     /// Requests before the timed ones, all of which are granted.
     pub setup: Vec<Record>,
+    /// What is timed.
     pub timed: Timed,
 }
 
@@ -47,6 +51,7 @@ impl Workload {
         }
     }
 
+    /// The policy's bytes.
     pub fn policy_bytes(&self) -> Vec<u8> {
         self.policy.iter().flat_map(|record| record.0).collect()
     }

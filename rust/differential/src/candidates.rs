@@ -127,7 +127,7 @@ impl Pools {
     }
 }
 
-/// Numbers next to document 01's limits.
+/// Numbers next to the limits (docs/RULES.md, "Numbers").
 const BEYOND: [u16; 10] = [16, 64, 65, 128, 129, 256, 1023, 1024, 1025, u16::MAX];
 
 /// The record with one thing wrong in its sixteen bytes.

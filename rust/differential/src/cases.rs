@@ -6,14 +6,20 @@ use plain::{Engine, OrderLists};
 use random::Random;
 use records::{Record, Set};
 
+/// What is asked of the engines.
 #[derive(Clone, PartialEq, Debug)]
 pub enum Step {
+    /// A policy's bytes.
     Load(Vec<u8>),
+    /// A request's bytes.
     Request(Vec<u8>),
 }
 
+/// Steps, and the numbers that they are about.
 pub struct Case {
+    /// Loads and requests, one after the other.
     pub steps: Vec<Step>,
+    /// The numbers, which the walk afterwards asks about.
     pub pools: Pools,
 }
 

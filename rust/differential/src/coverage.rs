@@ -1,15 +1,16 @@
-//! How often each kind was answered with each reply, and which pairs document 01 allows.
+//! How often each kind was answered with each reply, and which pairs the rules allow (docs/RULES.md, "The order of checks").
 
 use records::Reply::{self, *};
 use std::collections::BTreeMap;
 
+/// How often each pair came up.
 #[derive(Clone, Default)]
 pub struct Coverage {
     seen: BTreeMap<(u8, u8), u64>,
 }
 
-/// The replies that a kind can have in a state that a load and requests made.
-fn possible(kind: u8) -> Option<Vec<Reply>> {
+/// The replies that a kind can have in a state that a load and requests made, in the order of checks.
+pub fn possible(kind: u8) -> Option<Vec<Reply>> {
     let more: &[Reply] = match kind {
         1..=3 | 6 | 32 => &[Taken],
         4 | 34 => &[Unknown, Taken, Static],
@@ -37,10 +38,12 @@ fn possible(kind: u8) -> Option<Vec<Reply>> {
 }
 
 impl Coverage {
+    /// Counts one answer.
     pub fn add(&mut self, kind: u8, reply: u8) {
         *self.seen.entry((kind, reply)).or_default() += 1;
     }
 
+    /// Adds what was counted elsewhere.
     pub fn join(&mut self, other: &Coverage) {
         for (pair, count) in &other.seen {
             *self.seen.entry(*pair).or_default() += count;

@@ -2,15 +2,20 @@
 
 use crate::slow::Slow;
 use plain::{Engine, FlatLedger, Ledger, OrderLists};
-use records::Record;
+use records::{Record, Reply};
 
 /// A reply's number, and a place.
 pub type Answer = (u8, usize);
 
+/// An engine that is compared.
 pub trait Desk {
+    /// The name that a report gives it.
     fn name(&self) -> &'static str;
+    /// Loads a policy.
     fn load(&mut self, policy: &[u8]) -> Answer;
+    /// Answers a request with a reply's number.
     fn request(&mut self, record: &[u8]) -> u8;
+    /// The engine once more, in the same state.
     fn copy(&self) -> Box<dyn Desk>;
 
     /// Answers records one after another. Each engine has its own copy of this loop with its own `request`
@@ -62,25 +67,60 @@ impl Desk for Slow {
     }
 }
 
+/// The proved engine's answers: the wrapper of the whole and that of the lower part have the same calls.
+#[cfg(any(mishantral_engine, mishantral_lower))]
+macro_rules! proved_desk {
+    ($engine:ty) => {
+        impl Desk for $engine {
+            fn name(&self) -> &'static str {
+                "proved"
+            }
+
+            fn load(&mut self, policy: &[u8]) -> Answer {
+                match <$engine>::load(self, policy) {
+                    Ok(()) => (0, 0),
+                    Err(refused) => (refused.reply.number(), refused.place),
+                }
+            }
+
+            fn request(&mut self, record: &[u8]) -> u8 {
+                <$engine>::request(self, record).number()
+            }
+
+            fn copy(&self) -> Box<dyn Desk> {
+                Box::new(self.clone())
+            }
+        }
+    };
+}
+
 #[cfg(mishantral_engine)]
-impl Desk for mishantral::Engine {
+proved_desk!(mishantral::Engine);
+
+#[cfg(mishantral_lower)]
+proved_desk!(mishantral::lower::Engine);
+
+/// What the lower part of an engine answers: the kinds that are about orders are none of its kinds.
+struct Lowered(Box<dyn Desk>);
+
+impl Desk for Lowered {
     fn name(&self) -> &'static str {
-        "proved"
+        self.0.name()
     }
 
     fn load(&mut self, policy: &[u8]) -> Answer {
-        match mishantral::Engine::load(self, policy) {
-            Ok(()) => (0, 0),
-            Err(refused) => (refused.reply.number(), refused.place),
-        }
+        self.0.load(policy)
     }
 
     fn request(&mut self, record: &[u8]) -> u8 {
-        mishantral::Engine::request(self, record).number()
+        match record.first() {
+            Some(48..=52 | 57) => Reply::Shape.number(),
+            _ => self.0.request(record),
+        }
     }
 
     fn copy(&self) -> Box<dyn Desk> {
-        Box::new(self.clone())
+        Box::new(Lowered(self.0.copy()))
     }
 }
 
@@ -119,14 +159,34 @@ impl Panel {
         Panel(desks)
     }
 
+    /// The lower part alone, where its library is linked: the others answer as their lower part would.
+    #[cfg(mishantral_lower)]
+    pub fn lower() -> Option<Panel> {
+        let lists = plain("lists", Engine::<OrderLists>::new());
+        Some(Panel(vec![
+            Box::new(Lowered(lists)),
+            Box::new(mishantral::lower::Engine::new()),
+            Box::new(Lowered(Box::new(Slow::default()))),
+        ]))
+    }
+
+    /// The lower part alone, where its library is linked: it is not.
+    #[cfg(not(mishantral_lower))]
+    pub fn lower() -> Option<Panel> {
+        None
+    }
+
+    /// These engines.
     pub fn of(desks: Vec<Box<dyn Desk>>) -> Panel {
         Panel(desks)
     }
 
+    /// The engines' names.
     pub fn names(&self) -> Vec<&'static str> {
         self.0.iter().map(|desk| desk.name()).collect()
     }
 
+    /// All engines once more, in the same states.
     pub fn copy(&self) -> Panel {
         Panel(self.0.iter().map(|desk| desk.copy()).collect())
     }
@@ -138,11 +198,13 @@ impl Panel {
         Err(Difference(self.names().into_iter().zip(answers).collect()))
     }
 
+    /// Loads a policy everywhere: the one answer, or what each answered.
     pub fn load(&mut self, policy: &[u8]) -> Result<Answer, Difference> {
         let answers = self.0.iter_mut().map(|desk| desk.load(policy)).collect();
         self.agreed(answers)
     }
 
+    /// Asks all engines: the one answer, or what each answered.
     pub fn request(&mut self, record: &[u8]) -> Result<u8, Difference> {
         let ask = |desk: &mut Box<dyn Desk>| (desk.request(record), 0);
         let answers = self.0.iter_mut().map(ask).collect();

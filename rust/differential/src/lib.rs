@@ -19,7 +19,7 @@ mod walk;
 pub use cases::{Case, Step};
 pub use command::command;
 pub use compare::{compare, Failure};
-pub use coverage::Coverage;
+pub use coverage::{possible, Coverage};
 pub use desks::{plain, proved, Answer, Desk, Difference, Panel};
 #[cfg(mishantral_engine)]
 pub use garbage::garbage;
@@ -30,4 +30,5 @@ pub const PROVED: bool = cfg!(mishantral_engine);
 
 /// The seed and the number of cases where none are given.
 pub const SEED: u64 = 1;
+/// The number of cases where none is given.
 pub const CASES: u64 = 400;

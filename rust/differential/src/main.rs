@@ -1,11 +1,13 @@
 //! Compares all engines over random cases, and says which pairs of kind and reply came up.
 
-use differential::{command, compare, Case, Coverage, Panel, CASES, PROVED, SEED};
+use differential::{command, compare, Case, Coverage, Failure, Panel, CASES, PROVED, SEED};
 use std::process::ExitCode;
 
 const HELP: &str = "\
 Compares engines over random policies and requests: the plain engine with two ledgers, a slow one, and the
 proved library where its archive was found at build time (MISHANTRAL_ARCHIVE, or target/native/libmishantral.a).
+The same cases are then put to the lower part alone, where its archive was found (MISHANTRAL_LOWER_ARCHIVE, or
+target/native/libmishantral_lower.a).
 
   differential [--seed N] [--cases N] [--first N] [--coverage]
 
@@ -49,16 +51,19 @@ fn options(arguments: &[String]) -> Result<Options, String> {
 }
 
 fn run(options: &Options) -> Result<Coverage, String> {
-    let panel = Panel::all();
+    let (panel, lower) = (Panel::all(), Panel::lower());
     let mut coverage = Coverage::default();
     for number in options.first..options.first.saturating_add(options.cases) {
         let case = Case::random(options.seed, number);
         let fill = number % 20 == 0;
-        let seen = compare(&panel, &case, fill).map_err(|failure| {
+        let report = |failure: Box<Failure>| {
             let again = format!("--seed {} --first {number} --cases 1", options.seed);
             format!("{}differs in case {number}: {again}", failure.report())
-        })?;
-        coverage.join(&seen);
+        };
+        coverage.join(&compare(&panel, &case, fill).map_err(report)?);
+        if let Some(lower) = &lower {
+            compare(lower, &case, false).map_err(report)?;
+        }
         garbage(options.seed, number)?;
     }
     Ok(coverage)
@@ -75,6 +80,9 @@ fn garbage(_seed: u64, _number: u64) -> Result<(), String> {
 
 fn tell(options: &Options) -> Result<(), String> {
     println!("engines: {}", Panel::all().names().join(", "));
+    if let Some(lower) = Panel::lower() {
+        println!("the lower part alone: {}", lower.names().join(", "));
+    }
     if !PROVED {
         println!("the proved library is not linked: its archive was not found at build time");
     }

@@ -1,4 +1,4 @@
-//! Document 01 once more, as sets and lists and nothing derived: each rule walks all that it speaks of.
+//! The rules (docs/RULES.md) once more, as sets and lists and nothing derived: each rule walks all that it speaks of.
 //! It shares no code with the plain engine, so that the two can be held against each other.
 
 use records::{Record, Reply, Reply::*, Set};
@@ -16,6 +16,7 @@ struct Entry {
     holder: Option<u16>,
 }
 
+/// The engine: sets, pairs and lists, each as the rules name them.
 #[derive(Clone, Default)]
 pub struct Slow {
     users: Numbers,
@@ -106,6 +107,7 @@ fn well_formed(bytes: &[u8], policy: bool) -> Result<Record, Reply> {
 }
 
 impl Slow {
+    /// Loads a policy: the reply, and the place of the refused record from 1, or 0.
     pub fn load(&mut self, policy: &[u8]) -> (Reply, usize) {
         *self = Slow::default();
         for (before, bytes) in policy.chunks(16).enumerate() {
@@ -121,6 +123,7 @@ impl Slow {
         (Granted, 0)
     }
 
+    /// Answers one request.
     pub fn request(&mut self, bytes: &[u8]) -> Reply {
         match well_formed(bytes, false) {
             Ok(record) => self.serve(record),

@@ -17,6 +17,31 @@ fn all_engines_agree_and_every_reply_comes_up() {
     assert_eq!(coverage.surprising(), [], "\n{}", coverage.table());
 }
 
+/// The kinds that the lower part answers.
+#[cfg(mishantral_lower)]
+fn of_the_lower_part(kind: u8) -> bool {
+    kind < 48 || kind == 56
+}
+
+#[cfg(mishantral_lower)]
+#[test]
+fn the_lower_part_agrees_and_every_reply_of_it_comes_up() {
+    use records::Reply;
+    let panel = Panel::lower().expect("its library is linked");
+    let mut coverage = Coverage::default();
+    for number in 0..CASES {
+        match compare(&panel, &Case::random(SEED, number), false) {
+            Ok(seen) => coverage.join(&seen),
+            Err(failure) => panic!("case {number} differs:\n{}", failure.report()),
+        }
+    }
+    // Without entries no subject holds a task.
+    let missing = coverage.missing().into_iter();
+    let missing = missing
+        .filter(|&(kind, reply)| of_the_lower_part(kind) && (kind, reply) != (41, Reply::InUse));
+    assert_eq!(missing.collect::<Vec<_>>(), [], "\n{}", coverage.table());
+}
+
 #[cfg(mishantral_engine)]
 #[test]
 fn the_proved_library_answers_over_garbage() {

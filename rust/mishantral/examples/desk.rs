@@ -1,38 +1,75 @@
-//! Document 01's desk program over the proved library: `policy.rec`, then requests from standard input.
+//! The desk program (docs/RULES.md) over the proved library: `policy.rec`, then requests from standard input, each answered as
+//! soon as it is there.
+//!
+//! Exit status: 0 the load was accepted; 1 it was refused; 2 a read or a write failed.
 
 #[cfg(mishantral_engine)]
-fn main() -> std::io::Result<()> {
+mod desk {
     use mishantral::{Engine, Refused, Reply, LENGTH};
-    use std::io::{stdin, stdout, Read, Write};
+    use std::fs::File;
+    use std::io::{stdin, stdout, BufReader, BufWriter, Read, Result, Write};
 
-    let mut policy = Vec::new();
-    let read = std::fs::File::open("policy.rec")
-        .and_then(|file| file.take(65_537).read_to_end(&mut policy));
-    let mut engine = Engine::new();
-    let room = Refused {
-        reply: Reply::Room,
-        place: 0,
-    };
-    let load = match read {
-        Ok(length) if length <= 65_536 => engine.load(&policy),
-        _ => Err(room),
-    };
-    let mut out = stdout().lock();
-    if let Err(Refused { reply, place }) = load {
-        return writeln!(out, "load {} {place}", reply.number());
+    /// The longest policy file that is read.
+    const LONGEST: u64 = 65_536;
+
+    fn load(engine: &mut Engine) -> std::result::Result<(), Refused> {
+        let mut policy = Vec::new();
+        let read = File::open("policy.rec")
+            .and_then(|file| file.take(LONGEST + 1).read_to_end(&mut policy));
+        match read {
+            Ok(length) if length as u64 <= LONGEST => engine.load(&policy),
+            _ => Err(Refused {
+                reply: Reply::Room,
+                place: 0,
+            }),
+        }
     }
-    writeln!(out, "load 0 0")?;
-    let mut requests = Vec::new();
-    stdin().read_to_end(&mut requests)?;
-    for (before, record) in requests.chunks(LENGTH).enumerate() {
-        let reply = engine.request(record);
-        writeln!(out, "{} {}", before + 1, reply.number())?;
+
+    /// Whether the load was accepted.
+    pub fn run() -> Result<bool> {
+        let mut engine = Engine::new();
+        let mut out = BufWriter::new(stdout().lock());
+        if let Err(Refused { reply, place }) = load(&mut engine) {
+            writeln!(out, "load {} {place}", reply.number())?;
+            return out.flush().map(|()| false);
+        }
+        writeln!(out, "load 0 0")?;
+        let mut requests = BufReader::new(stdin().lock());
+        for place in 1u64.. {
+            // What has been answered is written before a read that may wait.
+            if requests.buffer().len() < LENGTH {
+                out.flush()?;
+            }
+            let mut record = Vec::with_capacity(LENGTH);
+            requests
+                .by_ref()
+                .take(LENGTH as u64)
+                .read_to_end(&mut record)?;
+            if record.is_empty() {
+                break;
+            }
+            writeln!(out, "{place} {}", engine.request(&record).number())?;
+        }
+        out.flush().map(|()| true)
     }
-    Ok(())
+}
+
+#[cfg(mishantral_engine)]
+fn main() -> std::process::ExitCode {
+    match desk::run() {
+        Ok(true) => 0.into(),
+        Ok(false) => 1.into(),
+        Err(why) => {
+            eprintln!("desk: {why}");
+            2.into()
+        }
+    }
 }
 
 #[cfg(not(mishantral_engine))]
 fn main() {
-    eprintln!("the proved library is not linked: its archive was not found at build time");
+    eprintln!(
+        "the proved library is not linked: tools/archive makes it, and the example is built anew"
+    );
     std::process::exit(2);
 }

@@ -1,8 +1,10 @@
 //! The engine over the linked library: three lent buffers, two calls.
 //! The declarations are those of include/mishantral.h; nothing else here is unsafe.
 
+use crate::answer::{bytes, loaded, reply_and_place, shown, zeroed};
 use crate::{Record, Refused, Reply};
-use std::fmt;
+use alloc::boxed::Box;
+use core::fmt;
 
 type Call = unsafe extern "C" fn(
     bytes: *const u8,
@@ -43,20 +45,19 @@ extern "C" {
 /// says how it reads. Buffers of other lengths are answered with ROOM, and are not written to.
 #[derive(Clone, PartialEq, Eq)]
 pub struct State {
+    /// Users, roles, permissions, tasks and rules.
     pub policy: Box<[u64]>,
+    /// Subjects and their active roles.
     pub sessions: Box<[u64]>,
+    /// Open orders and their entries.
     pub orders: Box<[u64]>,
 }
 
 impl State {
     /// Buffers of the fixed lengths, all zero.
     pub fn zeroed() -> State {
-        let buffer = |group| {
-            // SAFETY: the function takes a number and gives a number.
-            let words = unsafe { mishantral_words(group) };
-            let words = usize::try_from(words).expect("a buffer's length fits a usize");
-            vec![0; words].into_boxed_slice()
-        };
+        // SAFETY: the function takes a number and gives a number.
+        let buffer = |group| zeroed(unsafe { mishantral_words(group) });
         State {
             policy: buffer(0),
             sessions: buffer(1),
@@ -64,12 +65,12 @@ impl State {
         }
     }
 
-    /// The library's answer to these bytes: its reply and place.
-    fn call(&mut self, call: Call, bytes: &[u8]) -> (Reply, usize) {
+    /// The library's answer to these bytes.
+    fn call(&mut self, call: Call, bytes: &[u8]) -> u64 {
         let (policy, sessions, orders) = (&mut self.policy, &mut self.sessions, &mut self.orders);
         // SAFETY: each pointer is a slice's own, with its length in elements behind it; the four slices are
         // apart, and the library keeps none of them.
-        let answer = unsafe {
+        unsafe {
             call(
                 bytes.as_ptr(),
                 bytes.len(),
@@ -80,21 +81,16 @@ impl State {
                 orders.as_mut_ptr(),
                 orders.len(),
             )
-        };
-        let reply = Reply::from_number(answer % 256)
-            .unwrap_or_else(|| panic!("a library with other replies is linked: {answer}"));
-        let place = usize::try_from(answer / 256).expect("a place is below the input's length");
-        (reply, place)
+        }
     }
 }
 
 impl fmt::Debug for State {
     fn fmt(&self, f: &mut fmt::Formatter) -> fmt::Result {
-        let words = |buffer: &[u64]| format!("{} words", buffer.len());
         f.debug_struct("State")
-            .field("policy", &words(&self.policy))
-            .field("sessions", &words(&self.sessions))
-            .field("orders", &words(&self.orders))
+            .field("policy", &shown(&self.policy))
+            .field("sessions", &shown(&self.sessions))
+            .field("orders", &shown(&self.orders))
             .finish()
     }
 }
@@ -142,30 +138,28 @@ impl Engine {
         Engine { state }
     }
 
+    /// The state, to look at or to keep.
     pub fn state(&self) -> &State {
         &self.state
     }
 
+    /// The state, which outlives the engine.
     pub fn into_state(self) -> State {
         self.state
     }
 
     /// Loads a policy's bytes in the place of all that was there. A refused load leaves the engine empty.
     pub fn load(&mut self, policy: &[u8]) -> Result<(), Refused> {
-        match self.state.call(mishantral_load, policy) {
-            (Reply::Granted, _) => Ok(()),
-            (reply, place) => Err(Refused { reply, place }),
-        }
+        loaded(self.state.call(mishantral_load, policy))
     }
 
     /// As `load`, of records.
     pub fn load_records(&mut self, policy: &[Record]) -> Result<(), Refused> {
-        let bytes: Vec<u8> = policy.iter().flat_map(|record| record.0).collect();
-        self.load(&bytes)
+        self.load(&bytes(policy))
     }
 
     /// Answers one request: a [`Record`], or bytes of any length. A refused one changes nothing.
     pub fn request<R: AsRef<[u8]> + ?Sized>(&mut self, record: &R) -> Reply {
-        self.state.call(mishantral_request, record.as_ref()).0
+        reply_and_place(self.state.call(mishantral_request, record.as_ref())).0
     }
 }

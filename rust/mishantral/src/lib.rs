@@ -1,17 +1,30 @@
-//! The proved policy engine from Rust, without a dependency.
+//! The proved policy engine from Rust, without a dependency and without std: an allocator is enough.
 //!
-//! [`Record`] has a constructor for each kind of document 01, and [`Reply`] each reply's number and name.
-//! `Engine` owns the state that the library works on: it loads a policy and answers requests.
+//! [`Record`] has a constructor for each kind (docs/RULES.md), and [`Reply`] each reply's number and name.
+//! `Engine` owns the state that the library works on: it loads a policy and answers requests. `lower::Engine` is the
+//! lower part alone, without orders.
 //!
 //! `Engine` is there where the proved library's archive was found when this crate was built: by the
-//! environment variable `MISHANTRAL_ARCHIVE`, or as `target/native/libmishantral.a` of the repository.
+//! environment variable `MISHANTRAL_ARCHIVE`, or as `target/native/libmishantral.a` of the repository, where `tools/archive`
+//! makes it. `lower` has an archive of its own, which `tools/archive lower` makes.
+#![no_std]
+
+extern crate alloc;
+#[cfg(test)]
+extern crate std;
 
 pub use records::{Record, Reply, Set, LENGTH};
 
 mod refused;
 pub use refused::Refused;
 
+#[cfg(any(mishantral_engine, mishantral_lower))]
+mod answer;
+
 #[cfg(mishantral_engine)]
 mod engine;
 #[cfg(mishantral_engine)]
 pub use engine::{Engine, State};
+
+#[cfg(mishantral_lower)]
+pub mod lower;

@@ -1,11 +1,12 @@
 //! A load that was refused, as an error.
 
+use core::fmt;
 use records::Reply;
-use std::fmt;
 
 /// Why a load was refused, and at which record, counted from 1. The engine is empty then.
 #[derive(Clone, Copy, PartialEq, Eq, Debug)]
 pub struct Refused {
+    /// The refusal.
     pub reply: Reply,
     /// 0 where no record is to blame: the reply is ROOM.
     pub place: usize,
@@ -20,11 +21,12 @@ impl fmt::Display for Refused {
     }
 }
 
-impl std::error::Error for Refused {}
+impl core::error::Error for Refused {}
 
 #[cfg(test)]
 mod tests {
     use super::*;
+    use std::string::ToString;
 
     #[test]
     fn a_refusal_says_its_reply_and_place() {

@@ -1,6 +1,7 @@
 //! A desk program's bare listing, with each request in words and each reply by its name.
 
-use crate::read::{tokens, Error, Token, END};
+use crate::is_text;
+use crate::read::{read_lines, tokens, Error, Token, END};
 use crate::write::line;
 use records::{Reply, LENGTH};
 
@@ -38,7 +39,8 @@ impl<'a> Listed<'a> {
     }
 
     fn reply(&mut self) -> Result<Reply, Error> {
-        self.next("a reply, 0 to 20", |t| Reply::from_number(t.number()?))
+        let expected = format!("a reply, 0 to {}", Reply::ALL.len() - 1);
+        self.next(&expected, |t| Reply::from_number(t.number()?))
     }
 
     fn end(self) -> Result<(), Error> {
@@ -99,5 +101,25 @@ pub fn explain(policy: Option<&[u8]>, requests: &[u8], listing: &str) -> Result<
             expected: "the end of the listing".to_string(),
             found: format!("\"{further}\""),
         }),
+    }
+}
+
+/// Where a refused load's record is in a policy, text or records, with the reply and the record in words:
+/// `line 7: 5 TAKEN: user 3`, or `record 2: 5 TAKEN: user 3`.
+pub fn refused(policy: &[u8], reply: Reply, place: usize) -> String {
+    let Some(before) = place.checked_sub(1) else {
+        return reply.to_string();
+    };
+    let text = if is_text(policy) {
+        read_lines(policy).unwrap_or_default()
+    } else {
+        Vec::new()
+    };
+    match (text.get(before), policy.chunks(LENGTH).nth(before)) {
+        (Some((number, record)), _) => format!("line {number}: {reply}: {}", line(record)),
+        (None, Some(record)) if text.is_empty() => {
+            format!("record {place}: {reply}: {}", line(record))
+        }
+        _ => format!("record {place}: {reply}"),
     }
 }

@@ -1,4 +1,4 @@
-//! Records as lines of document 01's words, and back: one line a record, `#` begins a comment.
+//! Records as lines of words (docs/RULES.md), and back: one line a record, `#` begins a comment.
 //!
 //! ```
 //! let text = b"user 300  # the signer\nuser 300 has role 0\n";
@@ -6,28 +6,28 @@
 //! assert_eq!(records.len(), 32);
 //! assert_eq!(notation::write(&records), "user 300\nuser 300 has role 0\n");
 //!
-//! let error = notation::read(b"user 300\nuser 300 has rolle 0\n").unwrap_err();
+//! let errors = notation::read(b"user 300\nuser 300 has rolle 0\n").unwrap_err();
 //! let message = "line 2, column 14: expected \"role\", found \"rolle\"";
-//! assert_eq!(error.to_string(), message);
+//! assert_eq!(errors[0].to_string(), message);
 //! ```
 
 mod explain;
-mod forms;
 mod read;
 mod write;
 
-pub use explain::explain;
-pub use read::{read, Error};
+pub use explain::{explain, refused};
+pub use read::{read, read_lines, Error};
+use records::forms::{parts, FORMS};
 pub use records::Reply;
 pub use write::{line, write};
 
-/// Every line that the notation has, one for each kind of document 01 and two for any bytes.
+/// Every line that the notation has, one for each kind and two for any bytes.
 pub fn forms() -> String {
     let line = |(_, pattern)| {
-        let shown: Vec<String> = forms::parts(pattern).map(forms::Part::shown).collect();
+        let shown: Vec<String> = parts(pattern).map(|part| part.to_string()).collect();
         shown.join(" ").replace(" :", ":") + "\n"
     };
-    forms::FORMS.into_iter().map(line).collect()
+    FORMS.into_iter().map(line).collect()
 }
 
 /// Whether bytes are text rather than records.

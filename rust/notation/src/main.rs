@@ -5,7 +5,7 @@ use std::io::{self, Read, Write};
 use std::process::ExitCode;
 
 const HELP: &str = "\
-Records as lines of document 01's words, and back.
+Records as lines of words (docs/RULES.md), and back.
 
   mishantral-notation records [--either] [FILE]   text to records; --either: records pass as they are
   mishantral-notation words [FILE]                records to text
@@ -13,23 +13,27 @@ Records as lines of document 01's words, and back.
                                                   a desk program's listing, from standard input, with
                                                   the records of REQUESTS in words and replies by name;
                                                   --policy: the policy's records, to show a refused one
+  mishantral-notation refused [--name NAME] POLICY REPLY PLACE
+                                                  which record of the policy, text or records, a load's
+                                                  refusal is about; --name: what to call the file
   mishantral-notation forms                       every line that the notation has
   mishantral-notation replies                     every reply's number and name
 
 Without FILE, or where it is -, standard input is read. What is made goes to standard output.
-One line a record; # begins a comment. A number is decimal, or hexadecimal after 0x.
+One line a record; # begins a comment. A number is decimal, or hexadecimal after 0x. All that is wrong in a
+text is told, and then nothing is made. Whoever stops reading what is made ends the program quietly.
 
-Exit status: 0 done; 1 the input is not as it must be, the message says where; 2 wrong use, or a file
+Exit status: 0 done; 1 the input is not as it must be, the messages say where; 2 wrong use, or a file
 that cannot be read or written.
 ";
 
-/// Why the program ends early: what to say, and the status.
-struct Stop(String, u8);
+/// Why the program ends early: what to say, a line each, and the status.
+struct Stop(Vec<String>, u8);
 
 type Made = Result<Vec<u8>, Stop>;
 
 fn usage(what: &str) -> Stop {
-    Stop(format!("{what}; --help tells the use"), 2)
+    Stop(vec![format!("{what}; --help tells the use")], 2)
 }
 
 /// A file's bytes, or standard input's.
@@ -40,7 +44,7 @@ fn input(file: &str) -> Made {
     } else {
         fs::read(file)
     };
-    read.map_err(|why| Stop(format!("{file}: {why}"), 2))
+    read.map_err(|why| Stop(vec![format!("{file}: {why}")], 2))
 }
 
 /// At most one file name.
@@ -52,9 +56,10 @@ fn one_file<'a>(files: &[&'a str]) -> Result<&'a str, Stop> {
     }
 }
 
-fn within(file: &str, error: notation::Error) -> Stop {
+fn within(file: &str, errors: Vec<notation::Error>) -> Stop {
     let name = if file == "-" { "standard input" } else { file };
-    Stop(format!("{name}: {error}"), 1)
+    let told = errors.iter().map(|error| format!("{name}: {error}"));
+    Stop(told.collect(), 1)
 }
 
 fn records(arguments: &[&str]) -> Made {
@@ -67,7 +72,7 @@ fn records(arguments: &[&str]) -> Made {
     if either && !notation::is_text(&bytes) {
         return Ok(bytes);
     }
-    notation::read(&bytes).map_err(|error| within(file, error))
+    notation::read(&bytes).map_err(|errors| within(file, errors))
 }
 
 fn explain(arguments: &[&str]) -> Made {
@@ -79,11 +84,33 @@ fn explain(arguments: &[&str]) -> Made {
         return Err(usage("explain takes one file of request records"));
     };
     let requests = input(requests)?;
-    let listing = String::from_utf8(input("-")?)
-        .map_err(|_| Stop("standard input: the listing is not text".to_string(), 1))?;
+    let listing = String::from_utf8(input("-")?).map_err(|_| {
+        Stop(
+            vec!["standard input: the listing is not text".to_string()],
+            1,
+        )
+    })?;
     notation::explain(policy.as_deref(), &requests, &listing)
         .map(String::into_bytes)
-        .map_err(|error| within("-", error))
+        .map_err(|error| within("-", vec![error]))
+}
+
+fn refused(arguments: &[&str]) -> Made {
+    let (name, rest) = match arguments {
+        ["--name", name, rest @ ..] => (Some(*name), rest),
+        rest => (None, rest),
+    };
+    let [file, reply, place] = rest else {
+        return Err(usage(
+            "refused takes a policy, a reply's number and a place",
+        ));
+    };
+    let number = reply.parse().ok().and_then(notation::Reply::from_number);
+    let reply = number.ok_or(usage(&format!("no such reply: {reply:?}")))?;
+    let place = place.parse().ok();
+    let place = place.ok_or(usage("a place is a number"))?;
+    let told = notation::refused(&input(file)?, reply, place);
+    Ok(format!("{}: {told}\n", name.unwrap_or(file)).into_bytes())
 }
 
 fn replies() -> String {
@@ -96,6 +123,7 @@ fn made(arguments: &[&str]) -> Made {
         ["records", rest @ ..] => records(rest),
         ["words", rest @ ..] => Ok(notation::write(&input(one_file(rest)?)?).into_bytes()),
         ["explain", rest @ ..] => explain(rest),
+        ["refused", rest @ ..] => refused(rest),
         ["forms"] => Ok(notation::forms().into_bytes()),
         ["replies"] => Ok(replies().into_bytes()),
         ["help" | "--help" | "-h", ..] => Ok(HELP.as_bytes().to_vec()),
@@ -111,12 +139,17 @@ fn main() -> ExitCode {
         let mut out = io::stdout().lock();
         out.write_all(&bytes)
             .and_then(|()| out.flush())
-            .map_err(|why| Stop(format!("standard output: {why}"), 2))
+            .or_else(|why| match why.kind() {
+                io::ErrorKind::BrokenPipe => Ok(()),
+                _ => Err(Stop(vec![format!("standard output: {why}")], 2)),
+            })
     });
     match written {
         Ok(()) => ExitCode::SUCCESS,
-        Err(Stop(message, status)) => {
-            eprintln!("mishantral-notation: {message}");
+        Err(Stop(messages, status)) => {
+            for message in messages {
+                eprintln!("mishantral-notation: {message}");
+            }
             ExitCode::from(status)
         }
     }

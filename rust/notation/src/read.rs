@@ -1,16 +1,20 @@
 //! Text to records: all patterns are followed at once, so that an error can say all that was expected.
 
-use crate::forms::{parts, Field, Part, FORMS};
+use records::forms::{parts, Field, Part, FORMS};
 use records::{Record, Set, LENGTH};
 use std::fmt;
 
-/// Where the text is not the notation: the line and column from 1, what was expected there, and what
+/// Where a text is not the notation: the line and column from 1, what was expected there, and what
 /// was found.
 #[derive(Clone, PartialEq, Eq, Debug)]
 pub struct Error {
+    /// The line, from 1.
     pub line: usize,
+    /// The column, from 1: characters, not bytes.
     pub column: usize,
+    /// What may stand there, in words.
     pub expected: String,
+    /// What stands there, in words.
     pub found: String,
 }
 
@@ -29,7 +33,7 @@ impl std::error::Error for Error {}
 
 pub(crate) const END: &str = "the end of the line";
 
-/// A word, number or colon, with its column from 1.
+/// A word, number, colon or comma, with its column from 1.
 #[derive(Clone, Copy)]
 pub(crate) struct Token<'a> {
     pub text: &'a str,
@@ -74,7 +78,7 @@ pub(crate) fn tokens(line: &str) -> Vec<Token<'_>> {
                 push(start.take(), at);
                 return tokens;
             }
-            ':' => {
+            ':' | ',' => {
                 push(start.take(), at);
                 push(Some((at, column)), at + 1);
             }
@@ -93,6 +97,8 @@ struct Attempt {
     rest: &'static str,
     record: Record,
     bytes: Vec<u8>,
+    /// Whether a set's last token is a comma, so that a member must follow.
+    comma: bool,
 }
 
 impl Attempt {
@@ -101,6 +107,7 @@ impl Attempt {
             rest: pattern,
             record: Record::new(kind, 0, 0, 0, 0, 0),
             bytes: Vec::new(),
+            comma: false,
         }
     }
 
@@ -116,6 +123,7 @@ impl Attempt {
     /// The attempt with one token more, if its pattern goes on so.
     fn step(mut self, token: Token) -> Option<Attempt> {
         match self.part()? {
+            Part::Word("times") if token.text == "time" => self.next(),
             Part::Word(word) => (word == token.text).then(|| self.next())?,
             Part::Number(field, _) => {
                 let number = token.number_up_to(field.last())?;
@@ -123,11 +131,16 @@ impl Attempt {
                 self.next()
             }
             Part::Set if token.text == "none" && self.record.m() == 0 => self.next(),
+            Part::Set if token.text == "," && self.complete() => {
+                self.comma = true;
+                Some(self)
+            }
             Part::Set => {
                 let member = token.number_up_to(63)? as u8;
                 let m = Set(self.record.m());
                 (!m.has(member)).then_some(())?;
                 self.record = Field::M.put(self.record, Set::EMPTY.with(member).0);
+                self.comma = false;
                 Some(self)
             }
             Part::Bytes => {
@@ -142,7 +155,7 @@ impl Attempt {
     fn complete(&self) -> bool {
         match self.part() {
             None => true,
-            Some(Part::Set) => self.record.m() != 0,
+            Some(Part::Set) => self.record.m() != 0 && !self.comma,
             Some(Part::Bytes) => !self.bytes.is_empty(),
             Some(_) => false,
         }
@@ -218,37 +231,60 @@ fn read_line(number: usize, line: &str) -> Result<Option<Vec<u8>>, Error> {
     whole.map(|a| Some(a.finish())).ok_or(missing)
 }
 
-/// The text, where it is UTF-8.
-fn decode(text: &[u8]) -> Result<&str, Error> {
-    std::str::from_utf8(text).map_err(|wrong| {
-        let good = String::from_utf8_lossy(&text[..wrong.valid_up_to()]);
-        let last = good.rsplit('\n').next().unwrap_or("");
-        Error {
-            line: good.matches('\n').count() + 1,
-            column: last.chars().count() + 1,
-            expected: "text in UTF-8".to_string(),
-            found: format!("the byte 0x{:02x}", text[wrong.valid_up_to()]),
-        }
+/// The line, where it is UTF-8.
+fn decode(number: usize, line: &[u8]) -> Result<&str, Error> {
+    std::str::from_utf8(line).map_err(|wrong| Error {
+        line: number,
+        column: String::from_utf8_lossy(&line[..wrong.valid_up_to()])
+            .chars()
+            .count()
+            + 1,
+        expected: "text in UTF-8".to_string(),
+        found: format!("the byte 0x{:02x}", line[wrong.valid_up_to()]),
     })
 }
 
-/// The records of a text, one line a record. A cut record may only be the last.
-pub fn read(text: &[u8]) -> Result<Vec<u8>, Error> {
-    let mut bytes = Vec::new();
-    for (before, line) in decode(text)?.split('\n').enumerate() {
-        let Some(record) = read_line(before + 1, line)? else {
-            continue;
-        };
-        if bytes.len() % LENGTH != 0 {
-            let first = tokens(line)[0];
-            return Err(Error {
-                line: before + 1,
-                column: first.column,
-                expected: "no record after a cut one".to_string(),
-                found: format!("\"{}\"", first.text),
-            });
-        }
-        bytes.extend(record);
+fn behind_a_cut_one(number: usize, line: &str) -> Error {
+    let first = tokens(line)[0];
+    Error {
+        line: number,
+        column: first.column,
+        expected: "no record after a cut one".to_string(),
+        found: format!("\"{}\"", first.text),
     }
-    Ok(bytes)
+}
+
+/// The records of a text, each with the number of its line, from 1; or all that is wrong in the text. A byte order mark at its
+/// beginning is skipped. A cut record may only be the last.
+pub fn read_lines(text: &[u8]) -> Result<Vec<(usize, Vec<u8>)>, Vec<Error>> {
+    let text = text.strip_prefix(b"\xef\xbb\xbf").unwrap_or(text);
+    let (mut records, mut errors) = (Vec::new(), Vec::new());
+    let mut cut = false;
+    for (before, line) in text.split(|&byte| byte == b'\n').enumerate() {
+        let number = before + 1;
+        let read = decode(number, line).and_then(|line| Ok((line, read_line(number, line)?)));
+        match read {
+            Ok((_, None)) => {}
+            Ok((line, Some(_))) if cut => {
+                errors.push(behind_a_cut_one(number, line));
+                cut = false;
+            }
+            Ok((_, Some(record))) => {
+                cut = record.len() < LENGTH;
+                records.push((number, record));
+            }
+            Err(error) => errors.push(error),
+        }
+    }
+    if errors.is_empty() {
+        Ok(records)
+    } else {
+        Err(errors)
+    }
+}
+
+/// The bytes of a text's records, one line a record; or all that is wrong in the text.
+pub fn read(text: &[u8]) -> Result<Vec<u8>, Vec<Error>> {
+    let records = read_lines(text)?;
+    Ok(records.into_iter().flat_map(|(_, record)| record).collect())
 }

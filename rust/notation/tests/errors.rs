@@ -4,7 +4,9 @@ use notation::read;
 
 /// The text's error: line, column, expected, found.
 fn refused(text: &str, line: usize, column: usize, expected: &str, found: &str) {
-    let error = read(text.as_bytes()).expect_err(text);
+    let errors = read(text.as_bytes()).expect_err(text);
+    assert_eq!(errors.len(), 1, "{text:?}");
+    let error = &errors[0];
     let got = (
         error.line,
         error.column,
@@ -136,7 +138,39 @@ fn a_member_that_is_too_large_or_named_twice() {
 
 #[test]
 fn bytes_that_are_no_text() {
-    let error = read(b"user 3\nus\xffer 4").unwrap_err();
+    let errors = read(b"user 3\nus\xffer 4").unwrap_err();
     let message = "line 2, column 3: expected text in UTF-8, found the byte 0xff";
-    assert_eq!(error.to_string(), message);
+    assert_eq!(errors[0].to_string(), message);
+}
+
+#[test]
+fn all_errors_of_a_text() {
+    let text = b"user x\nuser 3\nus\xffer 4\nclaim 5 0\nbytes 01\nuser 5\nuser 6\n";
+    let errors = read(text).unwrap_err();
+    let told: Vec<String> = errors.iter().map(ToString::to_string).collect();
+    assert_eq!(
+        told,
+        [
+            "line 1, column 6: expected a number up to 65535, found \"x\"",
+            "line 3, column 3: expected text in UTF-8, found the byte 0xff",
+            "line 4, column 10: expected the task, a number up to 65535, found the end of the line",
+            "line 6, column 1: expected no record after a cut one, found \"user\"",
+        ]
+    );
+}
+
+#[test]
+fn a_comma_stands_between_members() {
+    let member = "a number up to 63 or \"none\"";
+    let further = "a number up to 63 not named before";
+    refused("task set 1 of , 1", 1, 15, member, "\",\"");
+    refused("task set 1 of 0, ", 1, 17, further, END);
+    refused("task set 1 of 0,,1", 1, 17, further, "\",\"");
+    refused(
+        "claim 5, 0 1",
+        1,
+        8,
+        "the order, a number up to 65535",
+        "\",\"",
+    );
 }

@@ -1,6 +1,6 @@
 //! A listing with its requests in words, and listings that do not fit their requests.
 
-use notation::{explain, read};
+use notation::{explain, read, refused, Reply};
 
 fn records(text: &str) -> Vec<u8> {
     read(text.as_bytes()).unwrap()
@@ -70,4 +70,18 @@ fn a_listing_that_does_not_fit() {
         "load 5 1\n1 0\n",
         "line 2, column 1: expected the end of the listing, found \"1 0\"",
     );
+}
+
+#[test]
+fn a_refused_record_is_found_in_text_and_in_records() {
+    let text = b"# two users\nuser 3\n\nuser 3\n";
+    let told = refused(text, Reply::Taken, 2);
+    assert_eq!(told, "line 4: 5 TAKEN: user 3");
+    let bytes = read(text).unwrap();
+    let told = refused(&bytes, Reply::Taken, 2);
+    assert_eq!(told, "record 2: 5 TAKEN: user 3");
+    let told = refused(&bytes[..20], Reply::Shape, 2);
+    assert_eq!(told, "record 2: 2 SHAPE: bytes 01 00 03 00");
+    assert_eq!(refused(&bytes, Reply::Room, 0), "1 ROOM");
+    assert_eq!(refused(&bytes, Reply::Shape, 7), "record 7: 2 SHAPE");
 }

@@ -40,6 +40,24 @@ fn a_wrong_text_writes_nothing_and_says_where() {
 }
 
 #[test]
+fn every_error_of_a_text_has_its_line() {
+    let (_, said, status) = run(&["records"], b"user x\nuser 3\nuser y\n");
+    assert_eq!((said.lines().count(), status), (2, 1));
+}
+
+#[test]
+fn a_refused_record_is_named() {
+    let folder = std::path::Path::new(env!("CARGO_TARGET_TMPDIR"));
+    let file = folder.join("refused policy.txt");
+    std::fs::write(&file, "user 3\n\nuser 3\n").unwrap();
+    let file = file.to_str().unwrap();
+    let (told, _, status) = run(&["refused", "--name", "mine", file, "5", "2"], b"");
+    assert_eq!(told, b"mine: line 3: 5 TAKEN: user 3\n");
+    assert_eq!(status, 0);
+    assert_eq!(run(&["refused", file, "99", "2"], b"").2, 2);
+}
+
+#[test]
 fn a_listing_is_explained() {
     let folder = std::path::Path::new(env!("CARGO_TARGET_TMPDIR"));
     let file = folder.join("requests.rec");

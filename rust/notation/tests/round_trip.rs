@@ -76,9 +76,9 @@ fn every_kind_in_words_and_back() {
         kinds.push(record.kind());
     }
     kinds.dedup();
-    let document_01 = (1..=16).chain(32..=37).chain(40..=43).chain(48..=52);
-    let document_01: Vec<u8> = document_01.chain(56..=57).collect();
-    assert_eq!(kinds, document_01);
+    let all = (1..=16).chain(32..=37).chain(40..=43).chain(48..=52);
+    let all: Vec<u8> = all.chain(56..=57).collect();
+    assert_eq!(kinds, all);
 }
 
 #[test]
@@ -175,6 +175,12 @@ fn spaces_comments_and_blank_lines_make_no_difference() {
         read(b"block of partitioning 3 : 0 1")
     );
     assert_eq!(read(b"user 0x12c#tight"), read(b"user 300"));
+    assert_eq!(read(b"task set 1 of 0,1 , 2"), read(b"task set 1 of 0 1 2"));
+    assert_eq!(
+        read(b"task 5 at most 1 time"),
+        read(b"task 5 at most 1 times")
+    );
+    assert_eq!(read(b"\xef\xbb\xbfuser 300\r\n"), read(b"user 300"));
     assert_eq!(read(b""), Ok(vec![]));
     assert_eq!(read(b"# nothing\n\n"), Ok(vec![]));
 }

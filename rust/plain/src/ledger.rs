@@ -9,8 +9,11 @@ pub const ENTRIES: usize = 2048;
 /// One entry: who has which task of which instance, and by which subject while it is held.
 #[derive(Clone, Copy, PartialEq, Eq, PartialOrd, Ord, Debug)]
 pub struct Entry {
+    /// The order.
     pub instance: u8,
+    /// Whose entry it is.
     pub user: u16,
+    /// The task.
     pub task: u8,
     /// The claiming subject; none where the task is done.
     pub holder: Option<u8>,
@@ -49,13 +52,21 @@ impl View {
     }
 }
 
+/// How entries are kept: the tests and the benchmark try two ways.
 pub trait Ledger: Clone + PartialEq + std::fmt::Debug {
+    /// A ledger without entries.
     fn empty() -> Self;
+    /// Removes all entries.
     fn clear(&mut self);
+    /// How many entries there are.
     fn in_use(&self) -> usize;
+    /// What a claim has to know of the order.
     fn view(&self, instance: u8, user: u16, task: u8) -> View;
+    /// Whether a task of the order is held.
     fn any_held(&self, instance: u8) -> bool;
+    /// Whether the user has an entry, held or done.
     fn any_of_user(&self, user: u16) -> bool;
+    /// Whether the subject holds a task.
     fn any_held_by(&self, subject: u8) -> bool;
     /// Whether the subject holds the task.
     fn holds(&self, instance: u8, task: u8, subject: u8) -> bool;

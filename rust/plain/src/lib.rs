@@ -1,7 +1,7 @@
-//! Document 01 in plain Rust, written from its text alone and apart from the proved engine.
+//! The rules (docs/RULES.md) in plain Rust, written from document 01's text alone and apart from the proved engine.
 //! It is the oracle of the differential test and, written for speed, the baseline of the benchmark.
 //!
-//! There are no lent buffers here, so no call answers ROOM; all else is as 01 says.
+//! There are no lent buffers here, so no call answers ROOM; all else is as the rules say.
 //!
 //! ```
 //! use plain::{encode, Engine, OrderLists, Reply};

@@ -1,4 +1,4 @@
-//! Subjects and their active roles: the requests of document 01's lower part.
+//! Subjects and their active roles: the requests of the lower part (docs/RULES.md, "Roles and sessions").
 //! What kinds 33 and 41 ask of entries is asked by the engine, above.
 
 use crate::policy::{bit, Policy};

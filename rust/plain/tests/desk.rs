@@ -3,7 +3,7 @@
 mod common;
 use common::*;
 use std::fs;
-use std::io::Write;
+use std::io::{BufRead, BufReader, Write};
 use std::path::{Path, PathBuf};
 use std::process::{Command, Stdio};
 
@@ -27,7 +27,34 @@ fn run(folder: &Path, requests: &[u8]) -> String {
         .unwrap();
     // A refused load reads no request, so the pipe may be closed already.
     let _ = child.stdin.take().unwrap().write_all(requests);
-    String::from_utf8(child.wait_with_output().unwrap().stdout).unwrap()
+    let output = child.wait_with_output().unwrap();
+    let listing = String::from_utf8(output.stdout).unwrap();
+    let accepted = listing.starts_with("load 0 0\n");
+    assert_eq!(output.status.code(), Some(if accepted { 0 } else { 1 }));
+    listing
+}
+
+#[test]
+fn a_caller_that_waits_for_each_reply_gets_it() {
+    let folder = PathBuf::from(env!("CARGO_TARGET_TMPDIR")).join("waits");
+    fs::create_dir_all(&folder).unwrap();
+    fs::write(folder.join("policy.rec"), []).unwrap();
+    let mut child = Command::new(env!("CARGO_BIN_EXE_plain-desk"))
+        .current_dir(&folder)
+        .stdin(Stdio::piped())
+        .stdout(Stdio::piped())
+        .spawn()
+        .unwrap();
+    let mut requests = child.stdin.take().unwrap();
+    let mut lines = BufReader::new(child.stdout.take().unwrap()).lines();
+    let mut next = || lines.next().unwrap().unwrap();
+    assert_eq!(next(), "load 0 0");
+    requests.write_all(&add_user(300)).unwrap();
+    assert_eq!(next(), "1 0");
+    requests.write_all(&add_user(300)).unwrap();
+    assert_eq!(next(), "2 5");
+    drop(requests);
+    assert!(child.wait().unwrap().success());
 }
 
 #[test]

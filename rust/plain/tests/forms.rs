@@ -7,7 +7,7 @@ use plain::Reply::{self, *};
 /// A limit that no number of a field is above.
 const ANY: u16 = u16::MAX;
 
-/// A kind's fields as document 01 lists them, each of a, b and c with its largest number.
+/// A kind's fields as docs/RULES.md lists them ("Numbers"), each of a, b and c with its largest number.
 struct Form {
     kind: u8,
     n: bool,

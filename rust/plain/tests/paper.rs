@@ -1,4 +1,4 @@
-//! Document 01's listing, its cases at the edges, and what it calls tempting and wrong.
+//! The listing of docs/RULES.md, its cases "At the edges", and what it calls tempting and wrong.
 
 mod common;
 use common::*;

@@ -1,13 +1,16 @@
 //! SplitMix64: random numbers that repeat from a seed, for tests and the benchmark alone.
 
+/// The numbers that follow a seed.
 #[derive(Clone, Debug)]
 pub struct Random(u64);
 
 impl Random {
+    /// The numbers of this seed, from the first on.
     pub fn new(seed: u64) -> Random {
         Random(seed)
     }
 
+    /// The next number, of 64 bits.
     pub fn word(&mut self) -> u64 {
         self.0 = self.0.wrapping_add(0x9e37_79b9_7f4a_7c15);
         let mut z = self.0;
@@ -31,6 +34,7 @@ impl Random {
         of[self.below(of.len())]
     }
 
+    /// So many bytes.
     pub fn bytes<const COUNT: usize>(&mut self) -> [u8; COUNT] {
         std::array::from_fn(|_| self.word() as u8)
     }

@@ -1,4 +1,4 @@
-//! A record's sixteen bytes, with a constructor for each kind of document 01.
+//! A record's sixteen bytes, with a constructor for each kind (docs/RULES.md, "Numbers").
 //! Any sixteen bytes are a record here: whether they make sense is the engine's to say.
 
 use crate::Set;
@@ -7,7 +7,9 @@ use crate::Set;
 pub const LENGTH: usize = 16;
 
 /// Byte 0 kind; byte 1 n; bytes 2-3 a; 4-5 b; 6-7 c; 8-15 m; little-endian, without a header.
-#[derive(Clone, Copy, PartialEq, Eq, Hash, Debug)]
+///
+/// It prints as its line in the notation, as `claim 5 0 1`.
+#[derive(Clone, Copy, PartialEq, Eq, Hash)]
 pub struct Record(pub [u8; LENGTH]);
 
 impl AsRef<[u8]> for Record {
@@ -37,10 +39,12 @@ impl Record {
         record(kind, n, [a, b, c], m)
     }
 
+    /// The kind, byte 0.
     pub const fn kind(&self) -> u8 {
         self.0[0]
     }
 
+    /// The field n, byte 1.
     pub const fn n(&self) -> u8 {
         self.0[1]
     }
@@ -49,18 +53,22 @@ impl Record {
         u16::from_le_bytes([self.0[at], self.0[at + 1]])
     }
 
+    /// The field a, bytes 2 and 3.
     pub const fn a(&self) -> u16 {
         self.half(2)
     }
 
+    /// The field b, bytes 4 and 5.
     pub const fn b(&self) -> u16 {
         self.half(4)
     }
 
+    /// The field c, bytes 6 and 7.
     pub const fn c(&self) -> u16 {
         self.half(6)
     }
 
+    /// The field m, bytes 8 to 15.
     pub const fn m(&self) -> u64 {
         let [.., m0, m1, m2, m3, m4, m5, m6, m7] = self.0;
         u64::from_le_bytes([m0, m1, m2, m3, m4, m5, m6, m7])
@@ -69,10 +77,12 @@ impl Record {
 
 /// Kinds 1 to 16: the records of a policy.
 impl Record {
+    /// Declares a user.
     pub const fn user(user: u16) -> Record {
         record(1, 0, [user, 0, 0], 0)
     }
 
+    /// Declares a role.
     pub const fn role(role: u16) -> Record {
         record(2, 0, [role, 0, 0], 0)
     }
@@ -82,22 +92,27 @@ impl Record {
         record(3, 0, [permission, operation, object], 0)
     }
 
+    /// The user is assigned the role.
     pub const fn user_has_role(user: u16, role: u16) -> Record {
         record(4, 0, [user, role, 0], 0)
     }
 
+    /// The role has the permission.
     pub const fn role_has_permission(role: u16, permission: u16) -> Record {
         record(5, 0, [role, permission, 0], 0)
     }
 
+    /// Declares a task of a template.
     pub const fn task(task: u16, template: u16) -> Record {
         record(6, 0, [task, template, 0], 0)
     }
 
+    /// The task may be claimed with the role active.
     pub const fn task_open_to(task: u16, role: u16) -> Record {
         record(7, 0, [task, role, 0], 0)
     }
 
+    /// Who holds the task has the permission by it.
     pub const fn task_carries(task: u16, permission: u16) -> Record {
         record(8, 0, [task, permission, 0], 0)
     }
@@ -145,62 +160,77 @@ impl Record {
 
 /// Kinds 32 to 57: requests.
 impl Record {
+    /// Adds a user, who has no roles yet.
     pub const fn add_user(user: u16) -> Record {
         record(32, 0, [user, 0, 0], 0)
     }
 
+    /// Deletes a user, and the user's assignments.
     pub const fn delete_user(user: u16) -> Record {
         record(33, 0, [user, 0, 0], 0)
     }
 
+    /// Assigns the role to the user.
     pub const fn assign_role(user: u16, role: u16) -> Record {
         record(34, 0, [user, role, 0], 0)
     }
 
+    /// Takes the role back from the user.
     pub const fn take_role(user: u16, role: u16) -> Record {
         record(35, 0, [user, role, 0], 0)
     }
 
+    /// Gives the role the permission.
     pub const fn give_permission(role: u16, permission: u16) -> Record {
         record(36, 0, [role, permission, 0], 0)
     }
 
+    /// Takes the permission back from the role.
     pub const fn take_permission(role: u16, permission: u16) -> Record {
         record(37, 0, [role, permission, 0], 0)
     }
 
+    /// Creates a subject (a session) for the user, with these roles active.
     pub const fn create_subject(subject: u16, user: u16, roles: Set) -> Record {
         record(40, 0, [subject, user, 0], roles.0)
     }
 
+    /// Destroys the subject.
     pub const fn destroy_subject(subject: u16) -> Record {
         record(41, 0, [subject, 0, 0], 0)
     }
 
+    /// Activates a role of the user in the subject.
     pub const fn activate_role(subject: u16, role: u16) -> Record {
         record(42, 0, [subject, role, 0], 0)
     }
 
+    /// Deactivates the role in the subject.
     pub const fn deactivate_role(subject: u16, role: u16) -> Record {
         record(43, 0, [subject, role, 0], 0)
     }
 
+    /// Opens an order (an instance) of the template.
     pub const fn open_order(order: u16, template: u16) -> Record {
         record(48, 0, [order, template, 0], 0)
     }
 
+    /// Ends the order, and removes its entries.
     pub const fn end_order(order: u16) -> Record {
         record(49, 0, [order, 0, 0], 0)
     }
 
+    /// The subject claims the task of the order.
     pub const fn claim(subject: u16, order: u16, task: u16) -> Record {
         record(50, 0, [subject, order, task], 0)
     }
 
+    /// The subject gives back a task that it holds.
     pub const fn release(subject: u16, order: u16, task: u16) -> Record {
         record(51, 0, [subject, order, task], 0)
     }
 
+    /// The subject has done a task that it holds.
     pub const fn done(subject: u16, order: u16, task: u16) -> Record {
         record(52, 0, [subject, order, task], 0)
     }

@@ -1,9 +1,13 @@
-//! Document 01's replies, by number and name.
+//! The replies (docs/RULES.md, "The replies"), by number and name.
 
-use std::fmt;
+use core::fmt;
 
 /// What a record is answered with. The checks run in the order of these numbers, and the first that
 /// applies is the reply.
+///
+/// Later versions may have further replies.
+#[must_use = "a record that was refused has changed nothing"]
+#[non_exhaustive]
 #[derive(Clone, Copy, PartialEq, Eq, PartialOrd, Ord, Hash, Debug)]
 #[repr(u8)]
 pub enum Reply {
@@ -55,7 +59,7 @@ use Reply::*;
 
 impl Reply {
     /// All replies, by their numbers.
-    pub const ALL: [Reply; 21] = [
+    pub const ALL: &'static [Reply] = &[
         Granted,
         Room,
         Shape,
@@ -79,7 +83,7 @@ impl Reply {
         Full,
     ];
 
-    /// The reply's number in document 01.
+    /// The reply's number in docs/RULES.md.
     pub const fn number(self) -> u8 {
         self as u8
     }
@@ -90,7 +94,7 @@ impl Reply {
         Reply::ALL.get(at).copied()
     }
 
-    /// The reply's name in document 01.
+    /// The reply's name in docs/RULES.md.
     pub const fn name(self) -> &'static str {
         match self {
             Granted => "GRANTED",
@@ -117,6 +121,8 @@ impl Reply {
         }
     }
 
+    /// Whether the record was accepted or granted.
+    #[must_use]
     pub const fn is_granted(self) -> bool {
         matches!(self, Granted)
     }

@@ -1,11 +1,13 @@
 //! A set of roles or tasks: bit i stands for number i.
 
-use std::fmt;
+use core::fmt;
 
+/// Roles or tasks, each a bit of the word.
 #[derive(Clone, Copy, PartialEq, Eq, Hash, Default)]
 pub struct Set(pub u64);
 
 impl Set {
+    /// The set without members.
     pub const EMPTY: Set = Set(0);
 
     /// The set of these numbers.
@@ -31,6 +33,7 @@ impl Set {
         Set(self.0 | 1 << number)
     }
 
+    /// Whether the number is in the set.
     pub const fn has(self, number: u8) -> bool {
         number < 64 && self.0 >> number & 1 == 1
     }
@@ -38,6 +41,16 @@ impl Set {
     /// The numbers in the set, rising.
     pub fn members(self) -> impl Iterator<Item = u8> {
         (0..64).filter(move |&number| self.has(number))
+    }
+}
+
+/// The set of the numbers.
+///
+/// # Panics
+/// Where a number is above 63.
+impl FromIterator<u8> for Set {
+    fn from_iter<I: IntoIterator<Item = u8>>(numbers: I) -> Set {
+        numbers.into_iter().fold(Set::EMPTY, Set::with)
     }
 }
 

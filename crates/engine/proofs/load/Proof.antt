@@ -1,7 +1,7 @@
 -- Buffers of another length are ROOM; else the orders are emptied and the lower part is loaded.
 use borrow.Author.Needs.{needs}
 use Rattle.engine.specs.Buffers.{buffers}
-use Rattle.engine.proofs.Ways.{lengths, no-load, loaded}
+use Rattle.engine.proofs.Ways.{same-lengths, lengths, no-load, loaded}
 use Rattle.engine.proofs.load.Statement.{statement}
 use Rattle.engine.proofs.load.Tie as tie
 
@@ -24,7 +24,7 @@ same-length-3 : tie.Need-same-length-3
 same-length-3 c = search needs
 
 returns-2 : tie.Need-returns-2
-returns-2 c = loaded (c .before .before .before .before .before .before .before .before .before .before .before .if1 .left) (c .before .before .before .before .before .before .before .before .before .clear .ensures) (c .before .before .before .before .load .ensures)
+returns-2 c = loaded (c .before .before .before .before .before .before .before .before .before .before .before .if1 .left) (c .before .before .before .before .before .before .before .before .before .clear .ensures) (c .before .before .before .before .load .ensures) (same-lengths (same-length c) (same-length-2 c) (same-length-3 c))
 
 pub load-spec : {M : Type 1} → statement M
 load-spec = tie.close (tie.spec returns clear-requires load-requires same-length same-length-2 same-length-3 returns-2)

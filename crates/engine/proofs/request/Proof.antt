@@ -7,7 +7,7 @@ use Rattle.records.specs.Calls.{settled}
 use Rattle.records.proofs.Passing.{refused-answer, sized, passed, passed-answer}
 use Rattle.engine.specs.Buffers.{buffers, tablesOf}
 use Rattle.engine.proofs.Lifts.{of-none}
-use Rattle.engine.proofs.Ways.{lengths, no-room, answered}
+use Rattle.engine.proofs.Ways.{same-lengths, lengths, no-room, answered}
 use Rattle.engine.proofs.request.Statement.{statement}
 use Rattle.engine.proofs.request.Tie as tie
 
@@ -25,7 +25,7 @@ unfolding request
 returns-2 c =
     answered (c .before .before .before .if1 .left)
     (refused-answer requestForms (c .before .before .before .before .before .before .before .before .args .bytes .now) requestKinds (tablesOf (buffers (c .before .before .before .before .before .before .before .before .args .policy .now) (c .before .before .before .before .before .before .before .before .args .sessions .now) (c .before .before .before .before .before .before .before .before .args .orders .now))) (c .before .before .judge .result) (c .before .before .judge .ensures) (c .before .accepted .ensures) (c .if2 .taken))
-    (of-none refl)
+    (of-none refl) (same-lengths refl refl refl)
 
 decode-requires : tie.Need-decode-requires
 decode-requires c κs = sized requestForms (c .before .before .before .before .before .before .before .before .args .bytes .now) (c .before .before .judge .result) (c .before .before .judge .ensures) (c .before .accepted .ensures) (c .if2 .left)
@@ -50,7 +50,7 @@ unfolding request settled
 returns-3 c =
     answered (c .before .before .before .before .before .before .before .before .before .before .before .before .before .before .if1 .left)
     (passed-answer requestForms (c .before .before .before .before .before .before .before .before .before .before .before .before .before .before .before .before .before .before .before .args .bytes .now) (c .before .before .before .before .before .before .before .before .before .before .before .before .before .judge .result) (c .before .before .before .before .before .before .before .before .before .before .before .before .before .judge .ensures) (c .before .before .before .before .before .before .before .before .before .before .before .before .accepted .ensures) (c .before .before .before .before .before .before .before .before .before .before .before .if2 .left) (c .before .before .before .before .before .before .before .before .before .before .decode .ensures) requestKinds (tablesOf (buffers (c .before .before .before .before .before .before .before .before .before .before .before .before .before .before .before .before .before .before .before .args .policy .now) (c .before .before .before .before .before .before .before .before .before .before .before .before .before .before .before .before .before .before .before .args .sessions .now) (c .before .before .before .before .before .before .before .before .before .before .before .before .before .before .before .before .before .before .before .args .orders .now))))
-    (c .before .before .before .before .before .before .step .ensures)
+    (c .before .before .before .before .before .before .step .ensures) (same-lengths (same-length c) (same-length-2 c) (same-length-3 c))
 
 pub request-spec : {M : Type 1} → statement M
 request-spec =

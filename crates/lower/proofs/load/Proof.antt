@@ -20,7 +20,7 @@ same-length-2 : tie.Need-same-length-2
 same-length-2 c = search needs
 
 returns-2 : tie.Need-returns-2
-returns-2 c = loaded (c .before .before .before .before .before .before .before .before .if1 .left) (c .before .before .before .before .before .before .clear .ensures) (c .before .before .load .ensures)
+returns-2 c = loaded (c .before .before .before .before .before .before .before .before .if1 .left) (c .before .before .before .before .before .before .clear .ensures) (c .before .before .load .ensures) (same-length c, same-length-2 c)
 
 pub load-spec : {M : Type 1} → statement M
 load-spec = tie.close (tie.spec returns clear-requires load-requires same-length same-length-2 returns-2)

@@ -25,7 +25,7 @@ unfolding lowerRequest
 returns-2 c =
     answered (c .before .before .before .if1 .left)
     (refused-answer lowerForms (c .before .before .before .before .before .before .before .args .bytes .now) lowerKinds (lowerTables (c .before .before .before .before .before .before .before .args .p .now) (c .before .before .before .before .before .before .before .args .s .now)) (c .before .before .judge .result) (c .before .before .judge .ensures) (c .before .accepted .ensures) (c .if2 .taken))
-    (of-neither refl)
+    (of-neither refl) (refl, refl)
 
 decode-requires : tie.Need-decode-requires
 decode-requires c κs = sized lowerForms (c .before .before .before .before .before .before .before .args .bytes .now) (c .before .before .judge .result) (c .before .before .judge .ensures) (c .before .accepted .ensures) (c .if2 .left)
@@ -46,7 +46,7 @@ unfolding lowerRequest settled
 returns-3 c =
     answered (c .before .before .before .before .before .before .before .before .before .before .before .if1 .left)
     (passed-answer lowerForms (c .before .before .before .before .before .before .before .before .before .before .before .before .before .before .before .args .bytes .now) (c .before .before .before .before .before .before .before .before .before .before .judge .result) (c .before .before .before .before .before .before .before .before .before .before .judge .ensures) (c .before .before .before .before .before .before .before .before .before .accepted .ensures) (c .before .before .before .before .before .before .before .before .if2 .left) (c .before .before .before .before .before .before .before .decode .ensures) lowerKinds (lowerTables (c .before .before .before .before .before .before .before .before .before .before .before .before .before .before .before .args .p .now) (c .before .before .before .before .before .before .before .before .before .before .before .before .before .before .before .args .s .now)))
-    (c .before .before .before .before .step .ensures)
+    (c .before .before .before .before .step .ensures) (same-length c, same-length-2 c)
 
 pub request-spec : {M : Type 1} → statement M
 request-spec =

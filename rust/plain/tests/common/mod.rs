@@ -1,4 +1,4 @@
-//! Records under document 01's words, and engines of both ledgers run side by side.
+//! Records under the words of docs/RULES.md, and engines of both ledgers run side by side.
 #![allow(dead_code)] // each test file uses its own part
 
 use plain::{encode, Engine, FlatLedger, OrderLists, Reply};

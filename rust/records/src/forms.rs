@@ -1,32 +1,44 @@
 //! The one table of the notation: each kind's line, read and written by the same pattern.
 
-use records::Record;
+use crate::Record;
+use core::fmt;
 
 /// A record's fields, and the two halves of m that kind 57 has.
-#[derive(Clone, Copy, PartialEq, Debug)]
-pub(crate) enum Field {
+#[derive(Clone, Copy, PartialEq, Eq, Debug)]
+pub enum Field {
+    /// Byte 0.
     Kind,
+    /// Byte 1.
     N,
+    /// Bytes 2 and 3.
     A,
+    /// Bytes 4 and 5.
     B,
+    /// Bytes 6 and 7.
     C,
+    /// Bytes 8 to 15.
     M,
+    /// The lower half of kind 57's pair, in m.
     Operation,
+    /// Its upper half.
     Object,
 }
 
 /// One piece of a pattern. A set or bytes take the rest of the line.
-#[derive(Clone, Copy, PartialEq, Debug)]
-pub(crate) enum Part {
+#[derive(Clone, Copy, PartialEq, Eq, Debug)]
+pub enum Part {
+    /// A word that stands in the line as it is.
     Word(&'static str),
     /// A field, under the name that people know it by where the words before it do not say it.
     Number(Field, &'static str),
+    /// Members of m, or `none`.
     Set,
+    /// Bytes as two hexadecimal digits each.
     Bytes,
 }
 
 /// The kind that a pattern is for, where the line itself does not say it, and the pattern.
-pub(crate) const FORMS: [(u8, &str); 35] = [
+pub const FORMS: [(u8, &str); 35] = [
     (1, "user <a>"),
     (2, "role <a>"),
     (3, "permission <a> is operation <b> on object <c>"),
@@ -68,10 +80,10 @@ pub(crate) const FORMS: [(u8, &str); 35] = [
 ];
 
 /// The line of any record, whatever its kind and fields.
-pub(crate) const RAW: &str = "record <kind=kind> <n=n> <a=a> <b=b> <c=c> <m=m>";
+pub const RAW: &str = "record <kind=kind> <n=n> <a=a> <b=b> <c=c> <m=m>";
 
 /// The parts of a pattern, or of what is left of one.
-pub(crate) fn parts(pattern: &'static str) -> impl Iterator<Item = Part> {
+pub fn parts(pattern: &'static str) -> impl Iterator<Item = Part> {
     pattern.split_terminator(' ').map(part)
 }
 
@@ -95,21 +107,23 @@ fn part(piece: &'static str) -> Part {
     Part::Number(field, name)
 }
 
-impl Part {
-    /// How the piece is shown in the list of forms.
-    pub fn shown(self) -> String {
+/// How the piece is shown in the list of forms.
+impl fmt::Display for Part {
+    fn fmt(&self, f: &mut fmt::Formatter) -> fmt::Result {
         match self {
-            Part::Word(word) => word.to_string(),
-            Part::Number(_, "") => "NUMBER".to_string(),
-            Part::Number(_, name) => name.to_uppercase(),
-            Part::Set => "NUMBERS".to_string(),
-            Part::Bytes => "BYTES".to_string(),
+            Part::Word(word) => f.write_str(word),
+            Part::Number(_, "") => f.write_str("NUMBER"),
+            Part::Number(_, name) => name
+                .chars()
+                .try_for_each(|c| write!(f, "{}", c.to_ascii_uppercase())),
+            Part::Set => f.write_str("NUMBERS"),
+            Part::Bytes => f.write_str("BYTES"),
         }
     }
 }
 
 impl Field {
-    /// The largest number that fits: the field's width decides, not document 01's limits.
+    /// The largest number that fits: the field's width decides, not the limits of docs/RULES.md.
     pub fn last(self) -> u64 {
         match self {
             Field::Kind | Field::N => u64::from(u8::MAX),
@@ -118,6 +132,7 @@ impl Field {
         }
     }
 
+    /// The field's number in a record.
     pub fn of(self, record: Record) -> u64 {
         match self {
             Field::Kind => record.kind().into(),
@@ -143,6 +158,6 @@ impl Field {
             Field::Object => (0, 0, 0, 0, 0, number << 16),
         };
         let set = Record::new(kind, n, a, b, c, m);
-        Record(std::array::from_fn(|i| record.0[i] | set.0[i]))
+        Record(core::array::from_fn(|i| record.0[i] | set.0[i]))
     }
 }

@@ -1,0 +1,126 @@
+-- The lower part alone: one answer, and the role limits.
+use Prim.Native.Nat.{ℕ, _≤_}
+use mathlib.Core.Bool.{Bool, true, false, cond}
+use mathlib.Core.List.{List}
+use mathlib.Core.Path.{_≡_, refl, sym, ap, _∙_}
+use native.Mathlib.Omega.{arith}
+use Rattle.paper_lower.specs.Checks.{GRANTED, ROOM, FULL}
+use Rattle.paper_lower.specs.Records.{Bytes}
+use Rattle.paper_lower.specs.Kinds.{Answer, Said}
+use Rattle.paper_lower.specs.Tables.{Lower}
+use Rattle.paper_lower.specs.Load.{load, recordsOf}
+use Rattle.paper_lower.specs.Sessions.{lowerRequest, lowerOf}
+use Rattle.replies.specs.declared.Reply.{Reply}
+use Rattle.lower.specs.Answers as lower
+use Rattle.lower.specs.Exports as exports
+use Rattle.lower.proofs.Ways.{request-exported, load-exported}
+use Rattle.theorems.specs.Outside.{hear, outside}
+use Rattle.theorems.specs.OverEntries.{RoleLimits}
+use Rattle.theorems.proofs.Replies.{replies-are-listed}
+use Rattle.theorems.proofs.Theorems.{dealers-keep-the-limits}
+use Rattle.demands.specs.Calls.{Chain, fitting, asked}
+use Rattle.demands.specs.Dealers.{Buffers, tablesOf, fit, Request, Load, OneAnswer, LimitsHold}
+use Rattle.demands.specs.Dealers.Request.{within, exported}
+use Rattle.demands.specs.Dealers.Load.{within as load-within, exported as load-exported-here}
+use Rattle.demands.proofs.Calls.{first-byte, Reading, chain-run, told-fitting}
+
+-- ---- requests
+as-number : {bytes : Bytes} {x y : Buffers} {reply : ℕ} → Request bytes x y reply
+    → exports.RequestExported bytes (x .policy) (x .sessions) (y .policy) (y .sessions) reply
+as-number (within d) = request-exported d refl
+as-number (exported d) = d
+
+module _ {bytes : Bytes} {x y : Buffers} {reply : ℕ} (r : Request bytes x y reply) where
+  answers : fit x ≡ true → (reply ≡ lowerRequest (tablesOf x) bytes .reply) × (tablesOf y ≡ lowerRequest (tablesOf x) bytes .tables)
+  answers f = (as-number r .answers ∙ rw f, as-number r .tables ∙ rw f)
+
+  no-room : fit x ≡ false → (reply ≡ ROOM) × (tablesOf y ≡ tablesOf x)
+  no-room f = (as-number r .answers ∙ rw f, as-number r .tables ∙ rw f)
+
+  still-fit : fit y ≡ fit x
+  still-fit = let l = as-number r .lengths in rw (l .0, l .1)
+
+same-tables : (t u : Lower) → t ≡ u → (s : Bytes) → (lowerRequest t s .reply ≡ lowerRequest u s .reply) × (lowerRequest t s .tables ≡ lowerRequest u s .tables)
+same-tables t u h s = (ap (λ (k : Lower). lowerRequest k s .reply) h, ap (λ (k : Lower). lowerRequest k s .tables) h)
+
+reading : Reading Request fit tablesOf lowerRequest (λ t u. t ≡ u)
+reading = record {
+  answers = λ bytes x y reply r f. let a = answers r f in (a .0, a .1, still-fit r ∙ f);
+  no-room = λ bytes x y reply r f. no-room r f .0;
+  listed = replies-are-listed .lowerRequests;
+  respects = same-tables;
+  chained = λ t u v h k. h ∙ k;
+}
+
+-- ---- loads
+as-load : {bytes : Bytes} {x y : Buffers} {reply : ℕ} → Load bytes x y reply
+    → (n : ℕ) × exports.LoadExported bytes (x .policy) (x .sessions) (y .policy) (y .sessions) n
+as-load (load-within d) = (_, load-exported d refl)
+as-load (load-exported-here {n} d) = (n, d)
+
+load-listed : (bytes : Bytes) (x : Buffers) → lower.loadAnswer bytes (x .policy) (x .sessions) .reply ≤ FULL
+load-listed bytes x = go (fit x)
+  where
+    go : (b : Bool) → cond {A = lower.LoadAnswer} b (record { reply = load bytes .reply; place = load bytes .place; tables = lowerOf (load bytes .tables) }) (record { reply = ROOM; place = 0; tables = tablesOf x }) .reply ≤ FULL
+    go true = replies-are-listed .loads bytes .0
+    go false = omega arith
+
+load-reply : {bytes : Bytes} {x y : Buffers} {reply : ℕ} → Load bytes x y reply → reply ≡ lower.loadAnswer bytes (x .policy) (x .sessions) .reply
+load-reply (load-within d) = d .replies
+load-reply {bytes} {x} (load-exported-here {n} d) = first-byte _ _ n (load-listed bytes x) (d .answers)
+
+loads : {bytes : Bytes} {x y : Buffers} {reply : ℕ} → Load bytes x y reply → fit x ≡ true → (reply ≡ load bytes .reply) × (tablesOf y ≡ lowerOf (load bytes .tables))
+loads l f = (load-reply l ∙ rw f, as-load l .1 .tables ∙ rw f)
+
+place-of : {bytes : Bytes} {p s p′ s′ : List ℕ} {r : Reply} {i : ℕ} → lower.fit p s ≡ true → lower.Loads bytes p s p′ s′ r i → i ≡ load bytes .place
+place-of f d = d .places ∙ rw f
+
+number-of : {bytes : Bytes} {p s p′ s′ : List ℕ} {n : ℕ} → lower.fit p s ≡ true → exports.LoadExported bytes p s p′ s′ n
+    → n ≡ exports.inOne (load bytes .reply) (load bytes .place)
+number-of f d = d .answers ∙ rw f
+
+pub one-answer : OneAnswer
+one-answer = record {
+  requests = λ {bytes} {x} e h a b. same e h a b (fit x) refl;
+  loads = λ f g a b. (loads a f .0 ∙ sym (loads b g .0), loads a f .1 ∙ sym (loads b g .1));
+  places = λ f g a b. place-of f a ∙ sym (place-of g b);
+  numbers = λ f g a b. number-of f a ∙ sym (number-of g b);
+}
+  where
+    same : {bytes : Bytes} {x x′ y y′ : Buffers} {q r : ℕ} → fit x ≡ fit x′ → tablesOf x ≡ tablesOf x′
+        → Request bytes x y q → Request bytes x′ y′ r → (b : Bool) → fit x ≡ b → (q ≡ r) × (tablesOf y ≡ tablesOf y′)
+    same {bytes} e h a b true f =
+        let c = answers a f in
+        let d = answers b (sym e ∙ f) in
+        let s = same-tables _ _ h bytes in
+        (c .0 ∙ s .0 ∙ sym (d .0), c .1 ∙ s .1 ∙ sym (d .1))
+    same e h a b false f =
+        let c = no-room a f in
+        let d = no-room b (sym e ∙ f) in
+        (c .0 ∙ sym (d .0), c .1 ∙ h ∙ sym (d .1))
+
+-- ---- the role limits
+module _ {policy : Bytes} {x y z : Buffers} {reply : ℕ} {said : List Said} (l : Load policy x y reply) (g : reply ≡ GRANTED) (c : Chain Request fit y said z) where
+  -- an accepted load was lent buffers of their lengths
+  fits : fit x ≡ true
+  fits = go (fit x) refl
+    where
+      go : (b : Bool) → fit x ≡ b → b ≡ true
+      go true e = refl
+      go false e = let m : reply ≡ ROOM = load-reply l ∙ rw e in absurd (omega arith)
+
+  still-fits : fit y ≡ true
+  still-fits = let n = as-load l .1 .lengths in let f = fits in rw (n .0, n .1) f
+
+  accepted : load policy .reply ≡ GRANTED
+  accepted = sym (loads l fits .0) ∙ g
+
+  limits : RoleLimits (recordsOf policy) (outside policy said)
+  unfolding outside
+  limits =
+      let a = chain-run Request fit tablesOf lowerRequest (λ t u. t ≡ u) reading c still-fits (lowerOf (load policy .tables)) (loads l fits .1) in
+      let told = ap (outside policy) (sym (a .0)) ∙ told-fitting hear _ said in
+      rw told at (dealers-keep-the-limits policy accepted (asked (fitting said)))
+
+pub limits-hold : LimitsHold
+limits-hold = record { upheld = λ l g c. limits l g c }

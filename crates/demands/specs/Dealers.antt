@@ -1,0 +1,55 @@
+-- "dealers build the lower part alone": one answer of its two calls, by the functions of Rattle and by those that C and Rust link, and the
+-- role limits. (What demands 1 and 2 say of a call is its contract itself: lower/specs/Answers.)
+use Prim.Native.Nat.{ℕ, _%_}
+use mathlib.Core.Bool.{Bool, true}
+use mathlib.Core.List.{List}
+use mathlib.Core.Path.{_≡_}
+use Rattle.paper_lower.specs.Checks.{GRANTED}
+use Rattle.paper_lower.specs.Records.{Bytes}
+use Rattle.paper_lower.specs.Kinds.{Said}
+use Rattle.paper_lower.specs.Load.{recordsOf}
+use Rattle.paper_lower.specs.Tables.{Lower}
+use Rattle.replies.specs.Replies.{numberOf}
+use Rattle.replies.specs.declared.Reply.{Reply}
+use Rattle.sessions.specs.Lower.{lowerTables}
+use Rattle.lower.specs.Answers as lower
+use Rattle.lower.specs.Exports as exports
+use Rattle.theorems.specs.Outside.{outside}
+use Rattle.theorems.specs.OverEntries.{RoleLimits}
+use Rattle.demands.specs.Calls.{Chain}
+
+-- its two buffers, the tables that they read as, and whether each has its length
+pub record Buffers : Type 0 where
+  pub policy : List ℕ
+  pub sessions : List ℕ
+
+abbrev pub tablesOf : Buffers → Lower
+tablesOf x = lowerTables (x .policy) (x .sessions)
+
+abbrev pub fit : Buffers → Bool
+fit x = lower.fit (x .policy) (x .sessions)
+
+-- A request and a load, by either function.
+pub data Request (bytes : Bytes) (x y : Buffers) : ℕ → Type 0 where
+  within : {r : Reply} → lower.Requested bytes (x .policy) (x .sessions) (y .policy) (y .sessions) r → Request bytes x y (numberOf r)
+  exported : {n : ℕ} → exports.RequestExported bytes (x .policy) (x .sessions) (y .policy) (y .sessions) n → Request bytes x y n
+
+pub data Load (bytes : Bytes) (x y : Buffers) : ℕ → Type 0 where
+  within : {r : Reply} {place : ℕ} → lower.Loads bytes (x .policy) (x .sessions) (y .policy) (y .sessions) r place → Load bytes x y (numberOf r)
+  exported : {n : ℕ} → exports.LoadExported bytes (x .policy) (x .sessions) (y .policy) (y .sessions) n → Load bytes x y (n % 256)
+
+-- "A proof shows that no second answer fits"
+pub record OneAnswer : Type 0 where
+  pub requests : {bytes : Bytes} {x x′ y y′ : Buffers} {q r : ℕ} → fit x ≡ fit x′ → tablesOf x ≡ tablesOf x′
+      → Request bytes x y q → Request bytes x′ y′ r → (q ≡ r) × (tablesOf y ≡ tablesOf y′)
+  pub loads : {bytes : Bytes} {x x′ y y′ : Buffers} {q r : ℕ} → fit x ≡ true → fit x′ ≡ true
+      → Load bytes x y q → Load bytes x′ y′ r → (q ≡ r) × (tablesOf y ≡ tablesOf y′)
+  pub places : {bytes : Bytes} {p s p′ s′ k t k′ t′ : List ℕ} {q r : Reply} {i j : ℕ} → lower.fit p s ≡ true → lower.fit k t ≡ true
+      → lower.Loads bytes p s p′ s′ q i → lower.Loads bytes k t k′ t′ r j → i ≡ j
+  pub numbers : {bytes : Bytes} {p s p′ s′ k t k′ t′ : List ℕ} {m n : ℕ} → lower.fit p s ≡ true → lower.fit k t ≡ true
+      → exports.LoadExported bytes p s p′ s′ m → exports.LoadExported bytes k t k′ t′ n → m ≡ n
+
+-- After an accepted load and any further requests, "role limits hold": of the roles that requests and answers tell.
+pub record LimitsHold : Type 0 where
+  pub upheld : {policy : Bytes} {x y z : Buffers} {reply : ℕ} {said : List Said} → Load policy x y reply → reply ≡ GRANTED → Chain Request fit y said z
+      → RoleLimits (recordsOf policy) (outside policy said)

@@ -1,0 +1,63 @@
+-- Each way out by the bytes that were met.
+use Prim.Native.Nat.{_+_}
+use native.Mathlib.Omega.{arith}
+use denote.Ref.{now}
+use borrow.Author.Needs.{needs}
+use Rattle.paper_opl.specs.Naming.{inLine}
+use Rattle.opl_text.proofs.Laws.{onward}
+use Rattle.opl_lines.proofs.LineLaws.{line-empty, line-unspaced, line-past, line-one, line-last, line-unended, line-whole}
+use Rattle.opl_lines.proofs.read_line.Statement.{statement}
+use Rattle.opl_lines.proofs.read_line.Tie as tie
+
+name-end-requires : tie.Need-name-end-requires
+name-end-requires c κs = search needs
+
+returns : tie.Need-returns
+returns c = record { read-is = line-empty (now (c .before .before .before .args .t)) (c .before .before .before .args .at) (c .before .name-end .result) (c .before .before .before .pre) (c .before .name-end .ensures .rest) (c .before .name-end .ensures .inside) (c .if1 .taken); stands = c .before .name-end .ensures .inside }
+
+is-at-requires : tie.Need-is-at-requires
+is-at-requires c κs = search needs
+
+returns-2 : tie.Need-returns-2
+returns-2 c = record { read-is = line-unspaced (now (c .before .before .before .before .before .args .t)) (c .before .before .before .before .before .args .at) (c .before .before .before .name-end .result) (c .before .before .before .before .before .pre) (c .before .before .before .name-end .ensures .rest) (c .before .before .before .name-end .ensures .inside) (c .before .before .if1 .left) (c .before .is-at .result) (c .before .is-at .ensures) (c .if2 .taken); stands = c .before .before .before .name-end .ensures .inside }
+
+add-from : tie.Need-add-from
+add-from c = search needs
+
+name-end-requires-2 : tie.Need-name-end-requires-2
+name-end-requires-2 c κs = line-past (now (c .before .before .before .before .before .args .t)) (c .before .before .before .before .before .args .at) (c .before .before .before .name-end .result) (c .before .before .before .before .before .pre) (c .before .before .before .name-end .ensures .rest) (c .before .before .before .name-end .ensures .inside) (c .before .before .if1 .left) (c .before .is-at .result) (c .before .is-at .ensures) (c .if2 .left)
+
+returns-3 : tie.Need-returns-3
+returns-3 c = record { read-is = line-one (now (c .before .before .before .before .before .before .before .args .t)) (c .before .before .before .before .before .before .before .args .at) (c .before .before .before .before .before .name-end .result) (c .before .before .before .before .before .before .before .pre) (c .before .before .before .before .before .name-end .ensures .rest) (c .before .before .before .before .before .name-end .ensures .inside) (c .before .before .before .before .if1 .left) (c .before .before .before .is-at .result) (c .before .before .before .is-at .ensures) (c .before .before .if2 .left) (c .before .name-end2 .result) (c .before .name-end2 .ensures .rest) (c .before .name-end2 .ensures .inside) (c .if3 .taken); stands = c .before .name-end2 .ensures .inside }
+
+returns-4 : tie.Need-returns-4
+returns-4 c = record { read-is = line-last (now (c .before .before .before .before .before .before .before .before .args .t)) (c .before .before .before .before .before .before .before .before .args .at) (c .before .before .before .before .before .before .name-end .result) (c .before .before .before .before .before .before .before .before .pre) (c .before .before .before .before .before .before .name-end .ensures .rest) (c .before .before .before .before .before .before .name-end .ensures .inside) (c .before .before .before .before .before .if1 .left) (c .before .before .before .before .is-at .result) (c .before .before .before .before .is-at .ensures) (c .before .before .before .if2 .left) (c .before .before .name-end2 .result) (c .before .before .name-end2 .ensures .rest) (c .before .before .name-end2 .ensures .inside) (c .before .if3 .left) (c .if4 .taken); stands = record { task = omega (arith, onward inLine (now (c .before .before .before .before .before .before .before .before .args .t)) (c .before .before .before .before .before .before .before .before .args .at) (c .before .before .before .before .before .before .name-end .result) (c .before .before .before .before .before .before .before .before .pre) (c .before .before .before .before .before .before .name-end .ensures .rest) (c .before .before .before .before .before .before .name-end .ensures .inside), c .before .before .before .before .before .if1 .left); template = omega (arith, onward inLine (now (c .before .before .before .before .before .before .before .before .args .t)) (c .before .before .before .before .before .before .name-end .result + 1) (c .before .before .name-end2 .result) (line-past (now (c .before .before .before .before .before .before .before .before .args .t)) (c .before .before .before .before .before .before .before .before .args .at) (c .before .before .before .before .before .before .name-end .result) (c .before .before .before .before .before .before .before .before .pre) (c .before .before .before .before .before .before .name-end .ensures .rest) (c .before .before .before .before .before .before .name-end .ensures .inside) (c .before .before .before .before .before .if1 .left) (c .before .before .before .before .is-at .result) (c .before .before .before .before .is-at .ensures) (c .before .before .before .if2 .left)) (c .before .before .name-end2 .ensures .rest) (c .before .before .name-end2 .ensures .inside), c .before .if3 .left); next = omega arith; inside = c .before .before .name-end2 .ensures .inside } }
+
+is-at-requires-2 : tie.Need-is-at-requires-2
+is-at-requires-2 c κs = search needs
+
+returns-5 : tie.Need-returns-5
+returns-5 c = record { read-is = line-unended (now (c .before .before .before .before .before .before .before .before .before .before .args .t)) (c .before .before .before .before .before .before .before .before .before .before .args .at) (c .before .before .before .before .before .before .before .before .name-end .result) (c .before .before .before .before .before .before .before .before .before .before .pre) (c .before .before .before .before .before .before .before .before .name-end .ensures .rest) (c .before .before .before .before .before .before .before .before .name-end .ensures .inside) (c .before .before .before .before .before .before .before .if1 .left) (c .before .before .before .before .before .before .is-at .result) (c .before .before .before .before .before .before .is-at .ensures) (c .before .before .before .before .before .if2 .left) (c .before .before .before .before .name-end2 .result) (c .before .before .before .before .name-end2 .ensures .rest) (c .before .before .before .before .name-end2 .ensures .inside) (c .before .before .before .if3 .left) (omega (arith, c .before .before .if4 .left)) (c .before .is-at2 .result) (c .before .is-at2 .ensures) (c .if5 .taken); stands = c .before .before .before .before .name-end2 .ensures .inside }
+
+add-t8 : tie.Need-add-t8
+add-t8 c = search needs
+
+returns-6 : tie.Need-returns-6
+returns-6 c = record { read-is = line-whole (now (c .before .before .before .before .before .before .before .before .before .before .args .t)) (c .before .before .before .before .before .before .before .before .before .before .args .at) (c .before .before .before .before .before .before .before .before .name-end .result) (c .before .before .before .before .before .before .before .before .before .before .pre) (c .before .before .before .before .before .before .before .before .name-end .ensures .rest) (c .before .before .before .before .before .before .before .before .name-end .ensures .inside) (c .before .before .before .before .before .before .before .if1 .left) (c .before .before .before .before .before .before .is-at .result) (c .before .before .before .before .before .before .is-at .ensures) (c .before .before .before .before .before .if2 .left) (c .before .before .before .before .name-end2 .result) (c .before .before .before .before .name-end2 .ensures .rest) (c .before .before .before .before .name-end2 .ensures .inside) (c .before .before .before .if3 .left) (omega (arith, c .before .before .if4 .left)) (c .before .is-at2 .result) (c .before .is-at2 .ensures) (c .if5 .left); stands = record { task = omega (arith, onward inLine (now (c .before .before .before .before .before .before .before .before .before .before .args .t)) (c .before .before .before .before .before .before .before .before .before .before .args .at) (c .before .before .before .before .before .before .before .before .name-end .result) (c .before .before .before .before .before .before .before .before .before .before .pre) (c .before .before .before .before .before .before .before .before .name-end .ensures .rest) (c .before .before .before .before .before .before .before .before .name-end .ensures .inside), c .before .before .before .before .before .before .before .if1 .left); template = omega (arith, onward inLine (now (c .before .before .before .before .before .before .before .before .before .before .args .t)) (c .before .before .before .before .before .before .before .before .name-end .result + 1) (c .before .before .before .before .name-end2 .result) (line-past (now (c .before .before .before .before .before .before .before .before .before .before .args .t)) (c .before .before .before .before .before .before .before .before .before .before .args .at) (c .before .before .before .before .before .before .before .before .name-end .result) (c .before .before .before .before .before .before .before .before .before .before .pre) (c .before .before .before .before .before .before .before .before .name-end .ensures .rest) (c .before .before .before .before .before .before .before .before .name-end .ensures .inside) (c .before .before .before .before .before .before .before .if1 .left) (c .before .before .before .before .before .before .is-at .result) (c .before .before .before .before .before .before .is-at .ensures) (c .before .before .before .before .before .if2 .left)) (c .before .before .before .before .name-end2 .ensures .rest) (c .before .before .before .before .name-end2 .ensures .inside), c .before .before .before .if3 .left); next = omega arith; inside = omega (arith, c .before .before .if4 .left) } }
+
+pub read-line-spec : {M : Type 1} → statement M
+read-line-spec =
+    tie.close
+    (tie.spec
+    name-end-requires
+    returns
+    is-at-requires
+    returns-2
+    add-from
+    name-end-requires-2
+    returns-3
+    returns-4
+    is-at-requires-2
+    returns-5
+    add-t8
+    returns-6)

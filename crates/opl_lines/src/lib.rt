@@ -1,0 +1,91 @@
+// The task lines: each a task's name, one space and a template's name. It rests on paper_opl's `lines` and on the readers of opl_text.
+ghost use mathlib.Core.Path.{_≡_};
+ghost use Prim.Native.Nat.{_≤_, _<_};
+ghost use lib.ListN.{length, drop};
+ghost use Rattle.paper_opl.specs.Reading.{behind};
+ghost use Rattle.paper_opl.specs.Naming.{inLine, lines};
+ghost use Rattle.opl_text.specs.Steps.{From, Reads, stepOf};
+ghost use Rattle.opl_lines.specs.Lines.{forget, ReadsLine};
+use opl_text::Step;
+use opl_text::is_at;
+
+// Where the two names of a line end and the next line begins; or the byte that cannot stand where it stands.
+pub enum Ends {
+    Line {
+        task: usize,
+        template: usize,
+        next: usize,
+    },
+    Bad(usize),
+}
+
+// Behind the name from `at` on.
+fn name_end(t: &[u8], at: usize) -> usize
+    requires { ⌜ at ≤ length (now t) ⌝ }
+    ensures { λ r. ⌜ From (now (t .entry)) (behind inLine (drop at (now (t .entry)))) r ⌝ }
+{
+    let mut i = at;
+    while i < t.len() {
+        if t[i] <= 32 {
+            return i;
+        }
+        i += 1;
+    }
+    i
+}
+
+pub fn read_line(t: &[u8], at: usize) -> Ends
+    requires { ⌜ at ≤ length (now t) ⌝ }
+    ensures { λ r. ⌜ ReadsLine (now (t .entry)) at r ⌝ }
+{
+    let task = name_end(t, at);
+    if task == at {
+        return Ends::Bad(task);
+    }
+    if !is_at(t, task, 32) {
+        return Ends::Bad(task);
+    }
+    let from = task + 1;
+    let template = name_end(t, from);
+    if template == from {
+        return Ends::Bad(template);
+    }
+    if t.len() <= template {
+        return Ends::Line {
+            task,
+            template,
+            next: template,
+        };
+    }
+    if !is_at(t, template, 10) {
+        return Ends::Bad(template);
+    }
+    Ends::Line {
+        task,
+        template,
+        next: template + 1,
+    }
+}
+
+// Next is the end of the text.
+pub fn judge(t: &[u8]) -> Step
+    ensures { λ r. ⌜ Reads (now (t .entry)) (stepOf (now (t .entry))) (forget (lines (length (now (t .entry))) (now (t .entry)))) r ⌝ }
+{
+    let mut at = 0;
+    while at < t.len() {
+        let r = read_line(t, at);
+        match r {
+            Ends::Line {
+                task: _,
+                template: _,
+                next,
+            } => {
+                at = next;
+            }
+            Ends::Bad(i) => {
+                return Step::Bad(i);
+            }
+        }
+    }
+    Step::Next(at)
+}

@@ -1,0 +1,720 @@
+-- What an element has at first, and what the masks say: one computation at each number.
+use mathlib.Core.Path.{_≡_, refl, sym}
+use mathlib.Core.List.{List, [], _∷_}
+use mathlib.Core.Bool.{true, false}
+use Prim.Native.Nat.{ℕ, _/_, _%_, _^_, _*_, _<_, _≤_}
+use native.Mathlib.Nat.{zero-div}
+use native.Mathlib.Omega.{arith}
+use lib.Dec.{eqb, eqb·suc-zero}
+use lib.ListN.{length, getD, List·getD-eq-default}
+use Rattle.paper_lower.specs.Lists.{some, every, each}
+use Rattle.paper_opl.specs.Reading.{Text, text, same}
+use Rattle.paper_opl.specs.Elements.{elements, rowIn, mayEnd}
+use Rattle.paper_opl.specs.Tree.{required}
+use Rattle.opl_table.specs.Numbers.{names, nameOf, stages, joined, lefts, leftOf, lists, listOf, firstState, firstList, packed, wordAt, numberAt}
+use Rattle.opl_table.proofs.Cases.{AllTo, at, everywhere, past, lefts-length, lists-length, names-length}
+
+nothing-named : (id : ℕ) → 65 ≤ id → nameOf id ≡ []
+unfolding nameOf
+nothing-named id h = let n : length names ≤ id = omega (arith, names-length) in List·getD-eq-default names [] n
+
+pub no-name : (v : Text) (id : ℕ) → 65 ≤ id → eqb (length v) 0 ≡ same v (nameOf id)
+unfolding same
+no-name [] id h = rw (nothing-named id h)
+no-name (b ∷ v) id h = rw (nothing-named id h, eqb·suc-zero (length v))
+
+-- behind the end of a table of fifty stands 0
+zeros : (ns : List ℕ) (id : ℕ) → length ns ≡ 50 → 65 ≤ id → 0 ≡ numberAt ns id
+unfolding numberAt
+zeros ns id l h =
+    let n : length ns ≤ 8 * (id / 8) = omega arith in
+    let e : 0 ≡ wordAt ns (id / 8) = past ns (id / 8) n in
+    rw (sym e, zero-div (2 ^ (8 * (id % 8))))
+
+First : ℕ → Type 0
+First id = leftOf (numberAt firstState id) ≡ rowIn elements (nameOf id) .children
+
+all-first : AllTo First 65
+unfolding First leftOf lefts stages joined each elements text nameOf names numberAt wordAt packed firstState rowIn same
+all-first = (
+  refl,
+  (
+    refl,
+    (
+      refl,
+      (
+        refl,
+        (
+          refl,
+          (
+            refl,
+            (
+              refl,
+              (
+                refl,
+                (
+                  refl,
+                  (
+                    refl,
+                    (
+                      refl,
+                      (
+                        refl,
+                        (
+                          refl,
+                          (
+                            refl,
+                            (
+                              refl,
+                              (
+                                refl,
+                                (
+                                  refl,
+                                  (
+                                    refl,
+                                    (
+                                      refl,
+                                      (
+                                        refl,
+                                        (
+                                          refl,
+                                          (
+                                            refl,
+                                            (
+                                              refl,
+                                              (
+                                                refl,
+                                                (
+                                                  refl,
+                                                  (
+                                                    refl,
+                                                    (
+                                                      refl,
+                                                      (
+                                                        refl,
+                                                        (
+                                                          refl,
+                                                          (
+                                                            refl,
+                                                            (
+                                                              refl,
+                                                              (
+                                                                refl,
+                                                                (
+                                                                  refl,
+                                                                  (
+                                                                    refl,
+                                                                    (
+                                                                      refl,
+                                                                      (
+                                                                        refl,
+                                                                        (
+                                                                          refl,
+                                                                          (
+                                                                            refl,
+                                                                            (
+                                                                              refl,
+                                                                              (
+                                                                                refl,
+                                                                                (
+                                                                                  refl,
+                                                                                  (
+                                                                                    refl,
+                                                                                    (
+                                                                                      refl,
+                                                                                      (
+                                                                                        refl,
+                                                                                        (
+                                                                                          refl,
+                                                                                          (
+                                                                                            refl,
+                                                                                            (
+                                                                                              refl,
+                                                                                              (
+                                                                                                refl,
+                                                                                                (
+                                                                                                  refl,
+                                                                                                  (
+                                                                                                    refl,
+                                                                                                    (
+                                                                                                      refl,
+                                                                                                      (refl, (refl, (refl, (refl, (refl, (refl, (refl, (refl, (refl, (refl, (refl, (refl, (refl, (refl, tt)))))))))))))),
+                                                                                                    ),
+                                                                                                  ),
+                                                                                                ),
+                                                                                              ),
+                                                                                            ),
+                                                                                          ),
+                                                                                        ),
+                                                                                      ),
+                                                                                    ),
+                                                                                  ),
+                                                                                ),
+                                                                              ),
+                                                                            ),
+                                                                          ),
+                                                                        ),
+                                                                      ),
+                                                                    ),
+                                                                  ),
+                                                                ),
+                                                              ),
+                                                            ),
+                                                          ),
+                                                        ),
+                                                      ),
+                                                    ),
+                                                  ),
+                                                ),
+                                              ),
+                                            ),
+                                          ),
+                                        ),
+                                      ),
+                                    ),
+                                  ),
+                                ),
+                              ),
+                            ),
+                          ),
+                        ),
+                      ),
+                    ),
+                  ),
+                ),
+              ),
+            ),
+          ),
+        ),
+      ),
+    ),
+  ),
+)
+
+none-first : leftOf 0 ≡ rowIn elements [] .children
+unfolding leftOf lefts rowIn elements text same
+none-first = refl
+
+past-first : (id : ℕ) → 65 ≤ id → First id
+unfolding First firstState
+past-first id h = rw (nothing-named id h, sym (zeros firstState id refl h)) none-first
+
+pub first-is : (id r : ℕ) → r ≡ numberAt firstState id → leftOf r ≡ rowIn elements (nameOf id) .children
+unfolding First
+first-is id r e = rw e (everywhere First 65 all-first past-first id)
+
+Given : ℕ → Type 0
+Given id = listOf (numberAt firstList id) ≡ rowIn elements (nameOf id) .attributes
+
+all-given : AllTo Given 65
+unfolding Given listOf lists each elements text nameOf names numberAt wordAt packed firstList rowIn same
+all-given = (
+  refl,
+  (
+    refl,
+    (
+      refl,
+      (
+        refl,
+        (
+          refl,
+          (
+            refl,
+            (
+              refl,
+              (
+                refl,
+                (
+                  refl,
+                  (
+                    refl,
+                    (
+                      refl,
+                      (
+                        refl,
+                        (
+                          refl,
+                          (
+                            refl,
+                            (
+                              refl,
+                              (
+                                refl,
+                                (
+                                  refl,
+                                  (
+                                    refl,
+                                    (
+                                      refl,
+                                      (
+                                        refl,
+                                        (
+                                          refl,
+                                          (
+                                            refl,
+                                            (
+                                              refl,
+                                              (
+                                                refl,
+                                                (
+                                                  refl,
+                                                  (
+                                                    refl,
+                                                    (
+                                                      refl,
+                                                      (
+                                                        refl,
+                                                        (
+                                                          refl,
+                                                          (
+                                                            refl,
+                                                            (
+                                                              refl,
+                                                              (
+                                                                refl,
+                                                                (
+                                                                  refl,
+                                                                  (
+                                                                    refl,
+                                                                    (
+                                                                      refl,
+                                                                      (
+                                                                        refl,
+                                                                        (
+                                                                          refl,
+                                                                          (
+                                                                            refl,
+                                                                            (
+                                                                              refl,
+                                                                              (
+                                                                                refl,
+                                                                                (
+                                                                                  refl,
+                                                                                  (
+                                                                                    refl,
+                                                                                    (
+                                                                                      refl,
+                                                                                      (
+                                                                                        refl,
+                                                                                        (
+                                                                                          refl,
+                                                                                          (
+                                                                                            refl,
+                                                                                            (
+                                                                                              refl,
+                                                                                              (
+                                                                                                refl,
+                                                                                                (
+                                                                                                  refl,
+                                                                                                  (
+                                                                                                    refl,
+                                                                                                    (
+                                                                                                      refl,
+                                                                                                      (refl, (refl, (refl, (refl, (refl, (refl, (refl, (refl, (refl, (refl, (refl, (refl, (refl, (refl, tt)))))))))))))),
+                                                                                                    ),
+                                                                                                  ),
+                                                                                                ),
+                                                                                              ),
+                                                                                            ),
+                                                                                          ),
+                                                                                        ),
+                                                                                      ),
+                                                                                    ),
+                                                                                  ),
+                                                                                ),
+                                                                              ),
+                                                                            ),
+                                                                          ),
+                                                                        ),
+                                                                      ),
+                                                                    ),
+                                                                  ),
+                                                                ),
+                                                              ),
+                                                            ),
+                                                          ),
+                                                        ),
+                                                      ),
+                                                    ),
+                                                  ),
+                                                ),
+                                              ),
+                                            ),
+                                          ),
+                                        ),
+                                      ),
+                                    ),
+                                  ),
+                                ),
+                              ),
+                            ),
+                          ),
+                        ),
+                      ),
+                    ),
+                  ),
+                ),
+              ),
+            ),
+          ),
+        ),
+      ),
+    ),
+  ),
+)
+
+none-given : listOf 0 ≡ rowIn elements [] .attributes
+unfolding listOf lists rowIn elements text same
+none-given = refl
+
+past-given : (id : ℕ) → 65 ≤ id → Given id
+unfolding Given firstList
+past-given id h = rw (nothing-named id h, sym (zeros firstList id refl h)) none-given
+
+pub given-is : (id r : ℕ) → r ≡ numberAt firstList id → listOf r ≡ rowIn elements (nameOf id) .attributes
+unfolding Given
+given-is id r e = rw e (everywhere Given 65 all-given past-given id)
+
+-- ---- The masks.
+
+Ends : ℕ → Type 0
+Ends left = eqb (18446369963039506785 / 2 ^ left % 2) 1 ≡ mayEnd (leftOf left)
+
+all-ends : AllTo Ends 64
+unfolding Ends leftOf lefts stages joined each elements text every
+all-ends = (
+  refl,
+  (
+    refl,
+    (
+      refl,
+      (
+        refl,
+        (
+          refl,
+          (
+            refl,
+            (
+              refl,
+              (
+                refl,
+                (
+                  refl,
+                  (
+                    refl,
+                    (
+                      refl,
+                      (
+                        refl,
+                        (
+                          refl,
+                          (
+                            refl,
+                            (
+                              refl,
+                              (
+                                refl,
+                                (
+                                  refl,
+                                  (
+                                    refl,
+                                    (
+                                      refl,
+                                      (
+                                        refl,
+                                        (
+                                          refl,
+                                          (
+                                            refl,
+                                            (
+                                              refl,
+                                              (
+                                                refl,
+                                                (
+                                                  refl,
+                                                  (
+                                                    refl,
+                                                    (
+                                                      refl,
+                                                      (
+                                                        refl,
+                                                        (
+                                                          refl,
+                                                          (
+                                                            refl,
+                                                            (
+                                                              refl,
+                                                              (
+                                                                refl,
+                                                                (
+                                                                  refl,
+                                                                  (
+                                                                    refl,
+                                                                    (
+                                                                      refl,
+                                                                      (
+                                                                        refl,
+                                                                        (
+                                                                          refl,
+                                                                          (
+                                                                            refl,
+                                                                            (
+                                                                              refl,
+                                                                              (
+                                                                                refl,
+                                                                                (
+                                                                                  refl,
+                                                                                  (
+                                                                                    refl,
+                                                                                    (
+                                                                                      refl,
+                                                                                      (
+                                                                                        refl,
+                                                                                        (
+                                                                                          refl,
+                                                                                          (
+                                                                                            refl,
+                                                                                            (
+                                                                                              refl,
+                                                                                              (
+                                                                                                refl,
+                                                                                                (
+                                                                                                  refl,
+                                                                                                  (
+                                                                                                    refl,
+                                                                                                    (
+                                                                                                      refl,
+                                                                                                      (refl, (refl, (refl, (refl, (refl, (refl, (refl, (refl, (refl, (refl, (refl, (refl, (refl, tt))))))))))))),
+                                                                                                    ),
+                                                                                                  ),
+                                                                                                ),
+                                                                                              ),
+                                                                                            ),
+                                                                                          ),
+                                                                                        ),
+                                                                                      ),
+                                                                                    ),
+                                                                                  ),
+                                                                                ),
+                                                                              ),
+                                                                            ),
+                                                                          ),
+                                                                        ),
+                                                                      ),
+                                                                    ),
+                                                                  ),
+                                                                ),
+                                                              ),
+                                                            ),
+                                                          ),
+                                                        ),
+                                                      ),
+                                                    ),
+                                                  ),
+                                                ),
+                                              ),
+                                            ),
+                                          ),
+                                        ),
+                                      ),
+                                    ),
+                                  ),
+                                ),
+                              ),
+                            ),
+                          ),
+                        ),
+                      ),
+                    ),
+                  ),
+                ),
+              ),
+            ),
+          ),
+        ),
+      ),
+    ),
+  ),
+)
+
+pub ends-is : (left : ℕ) → left < 64 → eqb (18446369963039506785 / 2 ^ left % 2) 1 ≡ mayEnd (leftOf left)
+unfolding Ends
+ends-is left h = at Ends 64 all-ends left h
+
+pub ends-past : (left : ℕ) → 64 ≤ left → true ≡ mayEnd (leftOf left)
+unfolding leftOf every
+ends-past left h =
+    let n : length lefts ≤ left = omega (arith, lefts-length) in
+    let e : getD lefts left [] ≡ [] = List·getD-eq-default lefts [] n in
+    rw e
+
+Missing : ℕ → Type 0
+Missing list = eqb (968818686 / 2 ^ list % 2) 1 ≡ some (λ a. required (a .class)) (listOf list)
+
+all-missing : AllTo Missing 64
+unfolding Missing listOf lists text some
+all-missing = (
+  refl,
+  (
+    refl,
+    (
+      refl,
+      (
+        refl,
+        (
+          refl,
+          (
+            refl,
+            (
+              refl,
+              (
+                refl,
+                (
+                  refl,
+                  (
+                    refl,
+                    (
+                      refl,
+                      (
+                        refl,
+                        (
+                          refl,
+                          (
+                            refl,
+                            (
+                              refl,
+                              (
+                                refl,
+                                (
+                                  refl,
+                                  (
+                                    refl,
+                                    (
+                                      refl,
+                                      (
+                                        refl,
+                                        (
+                                          refl,
+                                          (
+                                            refl,
+                                            (
+                                              refl,
+                                              (
+                                                refl,
+                                                (
+                                                  refl,
+                                                  (
+                                                    refl,
+                                                    (
+                                                      refl,
+                                                      (
+                                                        refl,
+                                                        (
+                                                          refl,
+                                                          (
+                                                            refl,
+                                                            (
+                                                              refl,
+                                                              (
+                                                                refl,
+                                                                (
+                                                                  refl,
+                                                                  (
+                                                                    refl,
+                                                                    (
+                                                                      refl,
+                                                                      (
+                                                                        refl,
+                                                                        (
+                                                                          refl,
+                                                                          (
+                                                                            refl,
+                                                                            (
+                                                                              refl,
+                                                                              (
+                                                                                refl,
+                                                                                (
+                                                                                  refl,
+                                                                                  (
+                                                                                    refl,
+                                                                                    (
+                                                                                      refl,
+                                                                                      (
+                                                                                        refl,
+                                                                                        (
+                                                                                          refl,
+                                                                                          (
+                                                                                            refl,
+                                                                                            (
+                                                                                              refl,
+                                                                                              (
+                                                                                                refl,
+                                                                                                (
+                                                                                                  refl,
+                                                                                                  (
+                                                                                                    refl,
+                                                                                                    (
+                                                                                                      refl,
+                                                                                                      (refl, (refl, (refl, (refl, (refl, (refl, (refl, (refl, (refl, (refl, (refl, (refl, (refl, tt))))))))))))),
+                                                                                                    ),
+                                                                                                  ),
+                                                                                                ),
+                                                                                              ),
+                                                                                            ),
+                                                                                          ),
+                                                                                        ),
+                                                                                      ),
+                                                                                    ),
+                                                                                  ),
+                                                                                ),
+                                                                              ),
+                                                                            ),
+                                                                          ),
+                                                                        ),
+                                                                      ),
+                                                                    ),
+                                                                  ),
+                                                                ),
+                                                              ),
+                                                            ),
+                                                          ),
+                                                        ),
+                                                      ),
+                                                    ),
+                                                  ),
+                                                ),
+                                              ),
+                                            ),
+                                          ),
+                                        ),
+                                      ),
+                                    ),
+                                  ),
+                                ),
+                              ),
+                            ),
+                          ),
+                        ),
+                      ),
+                    ),
+                  ),
+                ),
+              ),
+            ),
+          ),
+        ),
+      ),
+    ),
+  ),
+)
+
+pub missing-is : (list : ℕ) → list < 64 → eqb (968818686 / 2 ^ list % 2) 1 ≡ some (λ a. required (a .class)) (listOf list)
+unfolding Missing
+missing-is list h = at Missing 64 all-missing list h
+
+pub missing-past : (list : ℕ) → 64 ≤ list → false ≡ some (λ a. required (a .class)) (listOf list)
+unfolding listOf some
+missing-past list h =
+    let n : length lists ≤ list = omega (arith, lists-length) in
+    let e : getD lists list [] ≡ [] = List·getD-eq-default lists [] n in
+    rw e

@@ -1,0 +1,388 @@
+// The table of elements in code: which name may stand where, what may follow it, and which attributes an element has. Elements, names and what may
+// still stand are numbers, whose meaning specs/Numbers has. It rests on the paper's definitions and on the comparison of bytes.
+ghost use mathlib.Core.Path.{_≡_};
+ghost use mathlib.Core.List.{List, [], _∷_};
+ghost use Prim.Native.Nat.{_+_, _-_, _/_, _<_};
+ghost use Rattle.paper_lower.specs.Lists.{some};
+ghost use Rattle.paper_opl.specs.Reading.{same};
+ghost use Rattle.paper_opl.specs.Elements.{elements, rowIn, mayEnd};
+ghost use Rattle.paper_opl.specs.Tree.{required};
+ghost use Rattle.opl_table.specs.Numbers.{nameOf, leftOf, listOf, wordAt, digit as digitOf, numberAt, stateFrom, listFrom, placeName, placeThen, firstState, firstList};
+ghost use Rattle.opl_table.specs.Found.{placeOf, Follows, Allows};
+
+// A name that may stand: an element and what may follow it, or an attribute's class and those that may still be given behind it.
+pub enum Found {
+    Known(u64, u64),
+    Unknown,
+}
+
+pub enum Place {
+    Here(u64),
+    Nowhere,
+}
+
+// The name is number 0 + i.
+fn is_name_0(v: &[u8], i: u64) -> bool
+    requires { ⌜ i < 10 ⌝ }
+    ensures { λ r. ⌜ r ≡ same (now (v .entry)) (nameOf (0 + i)) ⌝ }
+{
+    match i {
+        0 => opl_text::same_bytes(v, b"policy_object"),
+        1 => opl_text::same_bytes(v, b"policy_object_attributes"),
+        2 => opl_text::same_bytes(v, b"attribute"),
+        3 => opl_text::same_bytes(v, b"active_modules"),
+        4 => opl_text::same_bytes(v, b"active_module"),
+        5 => opl_text::same_bytes(v, b"policy_object_modules"),
+        6 => opl_text::same_bytes(v, b"module_rbac_core_policy"),
+        7 => opl_text::same_bytes(v, b"users"),
+        8 => opl_text::same_bytes(v, b"roles"),
+        _ => opl_text::same_bytes(v, b"permissions"),
+    }
+}
+
+// The name is number 10 + i.
+fn is_name_1(v: &[u8], i: u64) -> bool
+    requires { ⌜ i < 10 ⌝ }
+    ensures { λ r. ⌜ r ≡ same (now (v .entry)) (nameOf (10 + i)) ⌝ }
+{
+    match i {
+        0 => opl_text::same_bytes(v, b"user_assignments"),
+        1 => opl_text::same_bytes(v, b"permission_assignments"),
+        2 => opl_text::same_bytes(v, b"user"),
+        3 => opl_text::same_bytes(v, b"role"),
+        4 => opl_text::same_bytes(v, b"permission"),
+        5 => opl_text::same_bytes(v, b"operation"),
+        6 => opl_text::same_bytes(v, b"object"),
+        7 => opl_text::same_bytes(v, b"user_assignment"),
+        8 => opl_text::same_bytes(v, b"permission_assignment"),
+        _ => opl_text::same_bytes(v, b"module_sep_duty_policy"),
+    }
+}
+
+// The name is number 20 + i.
+fn is_name_2(v: &[u8], i: u64) -> bool
+    requires { ⌜ i < 10 ⌝ }
+    ensures { λ r. ⌜ r ≡ same (now (v .entry)) (nameOf (20 + i)) ⌝ }
+{
+    match i {
+        0 => opl_text::same_bytes(v, b"static_separation_of_duty"),
+        1 => opl_text::same_bytes(v, b"dynamic_separation_of_duty"),
+        2 => opl_text::same_bytes(v, b"critical_role_sets"),
+        3 => opl_text::same_bytes(v, b"critical_role_set"),
+        4 => opl_text::same_bytes(v, b"critical_roles"),
+        5 => opl_text::same_bytes(v, b"critical_role"),
+        6 => opl_text::same_bytes(v, b"module_wf_core_policy"),
+        7 => opl_text::same_bytes(v, b"task_permission_assignments"),
+        8 => opl_text::same_bytes(v, b"task_role_assignments"),
+        _ => opl_text::same_bytes(v, b"task_permission_assignment"),
+    }
+}
+
+// The name is number 30 + i.
+fn is_name_3(v: &[u8], i: u64) -> bool
+    requires { ⌜ i < 10 ⌝ }
+    ensures { λ r. ⌜ r ≡ same (now (v .entry)) (nameOf (30 + i)) ⌝ }
+{
+    match i {
+        0 => opl_text::same_bytes(v, b"task_role_assignment"),
+        1 => opl_text::same_bytes(v, b"module_wf_sep_duty_policy"),
+        2 => opl_text::same_bytes(v, b"hdsodsl"),
+        3 => opl_text::same_bytes(v, b"critical_workflow_template"),
+        4 => opl_text::same_bytes(v, b"hdsod"),
+        5 => opl_text::same_bytes(v, b"critical_tasks_set"),
+        6 => opl_text::same_bytes(v, b"critical_task"),
+        7 => opl_text::same_bytes(v, b"hdsodtp"),
+        8 => opl_text::same_bytes(v, b"hdsodtp_partitioning"),
+        _ => opl_text::same_bytes(v, b"hdsodtp_partition"),
+    }
+}
+
+// The name is number 40 + i.
+fn is_name_4(v: &[u8], i: u64) -> bool
+    requires { ⌜ i < 10 ⌝ }
+    ensures { λ r. ⌜ r ≡ same (now (v .entry)) (nameOf (40 + i)) ⌝ }
+{
+    match i {
+        0 => opl_text::same_bytes(v, b"partition_task"),
+        1 => opl_text::same_bytes(v, b"module_wf_cardinality_policy"),
+        2 => opl_text::same_bytes(v, b"task_cardinalities"),
+        3 => opl_text::same_bytes(v, b"task_cardinality"),
+        4 => opl_text::same_bytes(v, b"module_wf_bind_duty_policy"),
+        5 => opl_text::same_bytes(v, b"bind_of_duty_constraints"),
+        6 => opl_text::same_bytes(v, b"bind_of_duty_constraint"),
+        7 => opl_text::same_bytes(v, b"module_wf_prereq_step_policy"),
+        8 => opl_text::same_bytes(v, b"prereq_steps"),
+        _ => opl_text::same_bytes(v, b"prereq_step"),
+    }
+}
+
+// The name is number 50 + i.
+fn is_name_5(v: &[u8], i: u64) -> bool
+    requires { ⌜ i < 10 ⌝ }
+    ensures { λ r. ⌜ r ≡ same (now (v .entry)) (nameOf (50 + i)) ⌝ }
+{
+    match i {
+        0 => opl_text::same_bytes(v, b"key"),
+        1 => opl_text::same_bytes(v, b"value"),
+        2 => opl_text::same_bytes(v, b"name"),
+        3 => opl_text::same_bytes(v, b"user_id"),
+        4 => opl_text::same_bytes(v, b"role_id"),
+        5 => opl_text::same_bytes(v, b"role_description"),
+        6 => opl_text::same_bytes(v, b"permission_id"),
+        7 => opl_text::same_bytes(v, b"operation_id"),
+        8 => opl_text::same_bytes(v, b"object_id"),
+        _ => opl_text::same_bytes(v, b"cardinality"),
+    }
+}
+
+// The name is number 60 + i.
+fn is_name_6(v: &[u8], i: u64) -> bool
+    requires { ⌜ i < 10 ⌝ }
+    ensures { λ r. ⌜ r ≡ same (now (v .entry)) (nameOf (60 + i)) ⌝ }
+{
+    match i {
+        0 => opl_text::same_bytes(v, b"description"),
+        1 => opl_text::same_bytes(v, b"task_id"),
+        2 => opl_text::same_bytes(v, b"template_id"),
+        3 => opl_text::same_bytes(v, b"bound_task_id"),
+        4 => opl_text::same_bytes(v, b"prereq_task_id"),
+        _ => v.len() == 0,
+    }
+}
+
+// The name is the one of this number.
+pub fn is_name(v: &[u8], id: u64) -> bool
+    ensures { λ r. ⌜ r ≡ same (now (v .entry)) (nameOf id) ⌝ }
+{
+    let i = id % 10;
+    match id / 10 {
+        0 => is_name_0(v, i),
+        1 => is_name_1(v, i),
+        2 => is_name_2(v, i),
+        3 => is_name_3(v, i),
+        4 => is_name_4(v, i),
+        5 => is_name_5(v, i),
+        6 => is_name_6(v, i),
+        _ => v.len() == 0,
+    }
+}
+
+// Number k of a table, in its word.
+fn digit(w: u64, k: u64) -> u64
+    ensures { λ r. ⌜ r ≡ digitOf w k ⌝ }
+{
+    (w >> (8 * (k % 8))) % 256
+}
+
+fn state_from_word(j: u64) -> u64
+    ensures { λ r. ⌜ r ≡ wordAt stateFrom j ⌝ }
+{
+    match j {
+        0 => 0x0605040302010000,
+        1 => 0x1a1918171615140d,
+        2 => 0x2322201f1e1d1c1b,
+        3 => 0x2b2a292827262524,
+        4 => 0x3635343332302d2c,
+        5 => 0x3e3d3c3b3a393837,
+        6 => 0x000000000041403f,
+        _ => 0,
+    }
+}
+
+fn list_from_word(j: u64) -> u64
+    ensures { λ r. ⌜ r ≡ wordAt listFrom j ⌝ }
+{
+    match j {
+        0 => 0x4948474544434141,
+        1 => 0x57565452514e4c4a,
+        2 => 0x636261605e5c5a58,
+        3 => 0x006c6b6a69686765,
+        _ => 0,
+    }
+}
+
+fn place_name_word(j: u64) -> u64
+    ensures { λ r. ⌜ r ≡ wordAt placeName j ⌝ }
+{
+    match j {
+        0 => 0x1306040205030100,
+        1 => 0x1a13062f2c291f1a,
+        2 => 0x0a0908072f2c291f,
+        3 => 0x100f12110e0d0c0b,
+        4 => 0x1918171616151514,
+        5 => 0x2522201e1d1c1b19,
+        6 => 0x2624242321252522,
+        7 => 0x302e2d2b2a282827,
+        8 => 0x3837363534333231,
+        9 => 0x343b363836353a39,
+        10 => 0x3d3e363d383d363c,
+        11 => 0x3d403f3d3b3d3c34,
+        12 => 0x3c343b3c3b373233,
+        13 => 0x00000000403f3b34,
+        _ => 0,
+    }
+}
+
+fn place_then_word(j: u64) -> u64
+    ensures { λ r. ⌜ r ≡ wordAt placeThen j ⌝ }
+{
+    match j {
+        0 => 0x0808060500040300,
+        1 => 0x0808080808080808,
+        2 => 0x0d0c0b0a08080808,
+        3 => 0x00141211100f0e00,
+        4 => 0x1c00190000000016,
+        5 => 0x002322201f001e1c,
+        6 => 0x2827272524000023,
+        7 => 0x002f002d002b2b29,
+        8 => 0x00cb160080959431,
+        9 => 0xd750050b030b0000,
+        10 => 0x00000f0b0f0500d8,
+        11 => 0x1d0f0f1c4f1bdad9,
+        12 => 0xc0db5adb59c08080,
+        13 => 0x00000000000040c0,
+        _ => 0,
+    }
+}
+
+fn first_state_word(j: u64) -> u64
+    ensures { λ r. ⌜ r ≡ wordAt firstState j ⌝ }
+{
+    match j {
+        0 => 0x0e09070006000502,
+        1 => 0x001300001211100f,
+        2 => 0x1a19171715000000,
+        3 => 0x210000201f1d001b,
+        4 => 0x2a29280026250024,
+        5 => 0x30002f2e002d2c00,
+        6 => 0x0000000000000031,
+        _ => 0,
+    }
+}
+
+fn first_list_word(j: u64) -> u64
+    ensures { λ r. ⌜ r ≡ wordAt firstList j ⌝ }
+{
+    match j {
+        0 => 0x0000000200010000,
+        1 => 0x0605040300000000,
+        2 => 0x0a00000000090807,
+        3 => 0x000d0c0000000b00,
+        4 => 0x1010000f0a000e00,
+        5 => 0x001200001100000f,
+        6 => 0x0000000000001300,
+        _ => 0,
+    }
+}
+
+// The first place where what may stand has this number; the next number says where they end.
+fn state_from(k: u64) -> u64
+    ensures { λ r. ⌜ r ≡ numberAt stateFrom k ⌝ }
+{
+    digit(state_from_word(k / 8), k)
+}
+
+// The same where attributes are given.
+fn list_from(k: u64) -> u64
+    ensures { λ r. ⌜ r ≡ numberAt listFrom k ⌝ }
+{
+    digit(list_from_word(k / 8), k)
+}
+
+// The name of a place.
+fn place_name(k: u64) -> u64
+    ensures { λ r. ⌜ r ≡ numberAt placeName k ⌝ }
+{
+    digit(place_name_word(k / 8), k)
+}
+
+// The number behind a place.
+fn place_then(k: u64) -> u64
+    ensures { λ r. ⌜ r ≡ numberAt placeThen k ⌝ }
+{
+    digit(place_then_word(k / 8), k)
+}
+
+// The numbers of what may stand at which an element may end, and of the attributes of which one must be given: a bit each.
+const ENDS: u64 = 0xfffeabbf9267c161;
+
+const MISSING: u64 = 0x0000000039befffe;
+
+// The first place from k on, before `end`, whose name is v.
+fn pick(v: &[u8], from: u64, end: u64) -> Place
+    ensures { λ r. ⌜ r ≡ placeOf (now (v .entry)) from (end - from) ⌝ }
+{
+    let mut k = from;
+    while k < end {
+        if is_name(v, place_name(k)) {
+            return Place::Here(k);
+        }
+        k += 1;
+    }
+    Place::Nowhere
+}
+
+// The child of this name, where these may stand.
+pub fn next(v: &[u8], left: u64) -> Found
+    ensures { λ r. ⌜ Follows (now (v .entry)) (leftOf left) r ⌝ }
+{
+    if 50 <= left {
+        return Found::Unknown;
+    }
+    let p = pick(v, state_from(left), state_from(left + 1));
+    match p {
+        Place::Here(k) => Found::Known(place_name(k), place_then(k)),
+        Place::Nowhere => Found::Unknown,
+    }
+}
+
+// The attribute of this name, where these may be given.
+pub fn attribute(v: &[u8], list: u64) -> Found
+    ensures { λ r. ⌜ Allows (now (v .entry)) (listOf list) r ⌝ }
+{
+    if 30 <= list {
+        return Found::Unknown;
+    }
+    let p = pick(v, list_from(list), list_from(list + 1));
+    match p {
+        Place::Here(k) => {
+            let then = place_then(k);
+            Found::Known(then / 64, then % 64)
+        }
+        Place::Nowhere => Found::Unknown,
+    }
+}
+
+// What may stand in an element at first.
+pub fn first(id: u64) -> u64
+    ensures { λ r. ⌜ leftOf r ≡ rowIn elements (nameOf id) .children ⌝ }
+{
+    digit(first_state_word(id / 8), id)
+}
+
+// The attributes of an element.
+pub fn attributes(id: u64) -> u64
+    ensures { λ r. ⌜ listOf r ≡ rowIn elements (nameOf id) .attributes ⌝ }
+{
+    digit(first_list_word(id / 8), id)
+}
+
+// Nothing that must stand is missing.
+pub fn may_end(left: u64) -> bool
+    ensures { λ r. ⌜ r ≡ mayEnd (leftOf left) ⌝ }
+{
+    if 64 <= left {
+        return true;
+    }
+    (ENDS >> left) % 2 == 1
+}
+
+// An attribute that must be given is missing.
+pub fn missing(list: u64) -> bool
+    ensures { λ r. ⌜ r ≡ some (λ a. required (a .class)) (listOf list) ⌝ }
+{
+    if 64 <= list {
+        return false;
+    }
+    (MISSING >> list) % 2 == 1
+}

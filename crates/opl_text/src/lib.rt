@@ -1,0 +1,231 @@
+// The bytes of a policy text: white space, comments, names, values, literals. Each reader answers where it stopped, and a value is handed back as
+// the part of the text between its quotes. It rests on the paper's definitions alone.
+ghost use mathlib.Core.Path.{_≡_};
+ghost use mathlib.Core.List.{[], _∷_};
+ghost use Prim.Native.Nat.{_+_, _-_, _≤_};
+ghost use lib.ListN.{length, take, drop};
+ghost use Rattle.paper_opl.specs.Reading.{text, white as whiteOf, control as controlOf, inName, inValue, same, starts, expect as expectOf, behind, name as nameOf, value as valueIn, comment, misc};
+ghost use Rattle.opl_text.specs.Steps.{From, Reads, stepOf, wordOf, valueOf};
+
+// Where a reader stopped: behind what it read, or at the byte that cannot stand there.
+pub enum Step {
+    Next(usize),
+    Bad(usize),
+}
+
+pub fn white(b: u8) -> bool
+    ensures { λ r. ⌜ r ≡ whiteOf b ⌝ }
+{
+    (b == 32) | (b == 9) | (b == 10) | (b == 13)
+}
+
+pub fn control(b: u8) -> bool
+    ensures { λ r. ⌜ r ≡ controlOf b ⌝ }
+{
+    (b < 32) & !white(b)
+}
+
+pub fn in_name(b: u8) -> bool
+    ensures { λ r. ⌜ r ≡ inName b ⌝ }
+{
+    ((97 <= b) & (b <= 122))
+        | ((65 <= b) & (b <= 90))
+        | ((48 <= b) & (b <= 58))
+        | (b == 95)
+        | (b == 45)
+        | (b == 46)
+        | (128 <= b)
+}
+
+pub fn in_value(q: u8, b: u8) -> bool
+    ensures { λ r. ⌜ r ≡ inValue q b ⌝ }
+{
+    !((b == q) | (b == 60) | (b == 38) | control(b))
+}
+
+// The byte b stands at `at`.
+pub fn is_at(s: &[u8], at: usize, b: u8) -> bool
+    ensures { λ r. ⌜ r ≡ starts (b ∷ []) (drop at (now (s .entry))) ⌝ }
+{
+    if s.len() <= at {
+        return false;
+    }
+    b == s[at]
+}
+
+// Behind the white space from `at` on.
+pub fn skip_space(s: &[u8], at: usize) -> usize
+    requires { ⌜ at ≤ length (now s) ⌝ }
+    ensures { λ r. ⌜ From (now (s .entry)) (behind whiteOf (drop at (now (s .entry)))) r ⌝ }
+{
+    let mut i = at;
+    while i < s.len() {
+        if !white(s[i]) {
+            return i;
+        }
+        i += 1;
+    }
+    i
+}
+
+// Behind the name from `at` on.
+pub fn name_end(s: &[u8], at: usize) -> usize
+    requires { ⌜ at ≤ length (now s) ⌝ }
+    ensures { λ r. ⌜ From (now (s .entry)) (behind inName (drop at (now (s .entry)))) r ⌝ }
+{
+    let mut i = at;
+    while i < s.len() {
+        if !in_name(s[i]) {
+            return i;
+        }
+        i += 1;
+    }
+    i
+}
+
+// The first byte from `at` on that cannot stand between quotes q.
+pub fn value_end(s: &[u8], at: usize, q: u8) -> usize
+    requires { ⌜ at ≤ length (now s) ⌝ }
+    ensures { λ r. ⌜ From (now (s .entry)) (behind (inValue q) (drop at (now (s .entry)))) r ⌝ }
+{
+    let mut i = at;
+    while i < s.len() {
+        if !in_value(q, s[i]) {
+            return i;
+        }
+        i += 1;
+    }
+    i
+}
+
+// A name, one byte at least.
+pub fn read_name(s: &[u8], at: usize) -> Step
+    requires { ⌜ at ≤ length (now s) ⌝ }
+    ensures { λ r. ⌜ Reads (now (s .entry)) (wordOf (now (s .entry)) at) (nameOf (drop at (now (s .entry)))) r ⌝ }
+{
+    let e = name_end(s, at);
+    if e == at {
+        return Step::Bad(at);
+    }
+    Step::Next(e)
+}
+
+// A quoted value. Next is the place of its closing quote: the value is s[at + 1..], up to there.
+pub fn read_value(s: &[u8], at: usize) -> Step
+    requires { ⌜ at ≤ length (now s) ⌝ }
+    ensures { λ r. ⌜ Reads (now (s .entry)) (valueOf (now (s .entry)) (at + 1)) (valueIn (drop at (now (s .entry)))) r ⌝ }
+{
+    if s.len() <= at {
+        return Step::Bad(at);
+    }
+    let q = s[at];
+    if !((q == 34) | (q == 39)) {
+        return Step::Bad(at);
+    }
+    let e = value_end(s, at + 1, q);
+    if !is_at(s, e, q) {
+        return Step::Bad(e);
+    }
+    Step::Next(e)
+}
+
+// Behind a comment, from behind its opening on.
+pub fn comment_end(s: &[u8], at: usize) -> Step
+    requires { ⌜ at ≤ length (now s) ⌝ }
+    ensures { λ r. ⌜ Reads (now (s .entry)) (stepOf (now (s .entry))) (comment (drop at (now (s .entry)))) r ⌝ }
+{
+    let mut i = at;
+    while i < s.len() {
+        if is_at(s, i, 45) & is_at(s, i + 1, 45) {
+            if s.len() <= i + 2 {
+                return Step::Bad(s.len());
+            }
+            if s[i + 2] == 62 {
+                return Step::Next(i + 3);
+            }
+            return Step::Bad(i);
+        }
+        if control(s[i]) {
+            return Step::Bad(i);
+        }
+        i += 1;
+    }
+    Step::Bad(i)
+}
+
+// A comment opens at `at`.
+pub fn opens_comment(s: &[u8], at: usize) -> bool
+    requires { ⌜ at ≤ length (now s) ⌝ }
+    ensures { λ r. ⌜ r ≡ starts (text "<!--") (drop at (now (s .entry))) ⌝ }
+{
+    is_at(s, at, 60) & is_at(s, at + 1, 33) & is_at(s, at + 2, 45) & is_at(s, at + 3, 45)
+}
+
+// Behind white space and comments.
+pub fn skip_misc(s: &[u8], at: usize) -> Step
+    requires { ⌜ at ≤ length (now s) ⌝ }
+    ensures { λ r. ⌜ Reads (now (s .entry)) (stepOf (now (s .entry))) (misc (length (drop at (now (s .entry)))) (drop at (now (s .entry)))) r ⌝ }
+{
+    let mut i = skip_space(s, at);
+    while opens_comment(s, i) {
+        let r = comment_end(s, i + 4);
+        let Step::Next(e) = r else {
+            return r;
+        };
+        i = skip_space(s, e);
+    }
+    Step::Next(i)
+}
+
+// The two are the same, byte by byte.
+pub fn same_bytes(v: &[u8], w: &[u8]) -> bool
+    ensures { λ r. ⌜ r ≡ same (now (v .entry)) (now (w .entry)) ⌝ }
+{
+    if v.len() != w.len() {
+        return false;
+    }
+    let mut i = 0;
+    while i < v.len() {
+        if v[i] != w[i] {
+            return false;
+        }
+        i += 1;
+    }
+    true
+}
+
+// These bytes and no others.
+pub fn expect(s: &[u8], at: usize, w: &[u8]) -> Step
+    requires { ⌜ at ≤ length (now s) ⌝ }
+    ensures { λ r. ⌜ Reads (now (s .entry)) (stepOf (now (s .entry))) (expectOf (now (w .entry)) (drop at (now (s .entry)))) r ⌝ }
+{
+    let mut i = 0;
+    while i < w.len() {
+        if !is_at(s, at + i, w[i]) {
+            return Step::Bad(at + i);
+        }
+        i += 1;
+    }
+    Step::Next(at + i)
+}
+
+// The text goes on with these bytes.
+pub fn starts_with(s: &[u8], at: usize, w: &[u8]) -> bool
+    requires { ⌜ at ≤ length (now s) ⌝ }
+    ensures { λ r. ⌜ r ≡ starts (now (w .entry)) (drop at (now (s .entry))) ⌝ }
+{
+    let r = expect(s, at, w);
+    match r {
+        Step::Next(_) => true,
+        Step::Bad(_) => false,
+    }
+}
+
+// The value whose opening quote stands at `at` and whose closing one at `end`: the part of the text between them.
+pub fn quoted(s: &[u8], at: usize, end: usize) -> &[u8]
+    requires { ⌜ (at + 1 ≤ end) × (end ≤ length (now s)) ⌝ }
+    ensures { λ r. ⌜ now r ≡ take (end - (at + 1)) (drop (at + 1) (now (s .entry))) ⌝ }
+{
+    let from = at + 1;
+    &s[from..end]
+}

@@ -1,0 +1,101 @@
+-- What an accepted call yields.
+use mathlib.Core.Path.{_≡_, refl, sym, ap, _∙_, subst}
+use mathlib.Core.List.{List, [], _∷_, _++_}
+use mathlib.Core.Bool.{Bool, true, false, cond, false≢true}
+use Prim.Native.Nat.{ℕ, zero, suc, _+_, _*_, _≤_}
+use native.Mathlib.Omega.{arith}
+use lib.Dec.{eqb, leb}
+use lib.ListN.{length, drop, length-append}
+use Rattle.paper_lower.specs.Lists.{Maybe, many, keep, each, Every}
+use Rattle.paper_lower.specs.Lists.Maybe.{none, just}
+use Rattle.paper_lower.specs.Checks.{GRANTED, ROOM}
+use Rattle.paper_lower.specs.Records.{Bytes, Record, encode}
+use Rattle.paper_opl.specs.Reading.{Text, text, Read, after, same, expect, word, misc}
+use Rattle.paper_opl.specs.Reading.Read.{got, bad}
+use Rattle.paper_opl.specs.Elements.{elements}
+use Rattle.paper_opl.specs.Tree.{Elements, if-found, opening, element, prolog, DEPTH, document}
+use Rattle.paper_opl.specs.Naming.{Line, inLine, lines, those, firstRows, lastRows, taskRecord, recordsBy, namesOf, allOf, recordsOf, TEXT, NAMES, Answer, refused, placeIn, written, writes, judged, translate}
+use Rattle.paper_opl.specs.Promises.{WellShaped, RisingFrom, Yield}
+use Rattle.paper_opl.proofs.Inversion.{on, on-test, on-found, bad≢got, got-rest, got-value, none≢just, just-value}
+use Rattle.paper_opl.proofs.Conforms.{root}
+use Rattle.paper_opl.proofs.Tags.{same-end}
+use Rattle.paper_opl.proofs.Judging.{all-are}
+use Rattle.paper_opl.proofs.Cardinalities.{AllSmall, document-small}
+use Rattle.paper_opl.proofs.WellFormed.{Rise, all-rise}
+
+-- ---- A text is read to its end.
+
+pub document-end : (s : Text) (es : Elements) (r : Text) → document s ≡ got es r → r ≡ []
+unfolding document
+document-end s es r e =
+    on (prolog s) (λ _ u p. on (opening root u) (λ c z o. on (element elements DEPTH (c .name) z) (λ i y h. on (misc (length y) y) (λ _ x m. on-test (same x [])
+    (λ f. sym (got-rest (rw (p, o, h, m, f) at e)) ∙ same-end x f)
+    (λ f. absurd (bad≢got (rw (p, o, h, m, f) at e)))) (λ x m. absurd (bad≢got (rw (p, o, h, m) at e)))) (λ y h. absurd (bad≢got (rw (p, o, h) at e)))) (λ z o. absurd (bad≢got (rw (p, o) at e)))) (λ u p. absurd (bad≢got (rw p at e)))
+
+pub lines-end : (n : ℕ) (s : Text) (ls : List Line) (r : Text) → lines n s ≡ got ls r → r ≡ []
+unfolding lines
+lines-end zero s ls r e = on-test (same s []) (λ q. sym (got-rest (rw q at e)) ∙ same-end s q) (λ q. absurd (bad≢got (rw q at e)))
+lines-end (suc n) s ls r e =
+    on-test (same s []) (λ q. sym (got-rest (rw q at e)) ∙ same-end s q)
+    (λ q. on (word inLine s) (λ v u a. on (expect (32 ∷ []) u) (λ _ z b. on (word inLine z) (λ w y c. on (cond (same y []) (got tt y) (expect (10 ∷ []) y)) (λ _ x d. on (lines n x)
+    (λ ms i f. sym (got-rest (rw (q, a, b, c, d, f) at e)) ∙ lines-end n x ms i f)
+    (λ i f. absurd (bad≢got (rw (q, a, b, c, d, f) at e)))) (λ x d. absurd (bad≢got (rw (q, a, b, c, d) at e)))) (λ y c. absurd (bad≢got (rw (q, a, b, c) at e))))
+    (λ z b. absurd (bad≢got (rw (q, a, b) at e)))) (λ u a. absurd (bad≢got (rw (q, a) at e))))
+
+-- ---- Records.
+
+risen : (k : ℕ) (rs : List Record) → Rise k (each just rs) → Every WellShaped rs × RisingFrom k rs
+unfolding Rise RisingFrom each
+risen k [] h = (tt, tt)
+risen k (r ∷ rs) h = let q = risen (r .kind) rs (h .2) in ((h .1, q .0), (h .0, q .1))
+
+records-rise : (es : Elements) (ls : List Line) (rs : List Record) → AllSmall es → recordsOf es ls ≡ just rs → Every WellShaped rs × RisingFrom 1 rs
+unfolding recordsOf
+records-rise es ls rs h e =
+    on-test (leb (many (those (text "hdsodtp_partitioning") 0 es)) 16)
+    (λ q. risen 1 rs (subst (λ (x : List (Maybe Record)). Rise 1 x) (all-are _ rs (rw q at e)) (all-rise es h ls)))
+    (λ q. absurd (none≢just (rw q at e)))
+
+written-length : (rs : List Record) → Every WellShaped rs → length (written rs) ≡ 16 * many rs
+unfolding written many
+written-length [] h = refl
+written-length (r ∷ rs) h = let a = h .0 .sixteen in let b = written-length rs (h .1) in length-append (encode r) (written rs) ∙ rw (a, b) (omega arith)
+
+-- ---- "Accepted text always yields a policy of well-shaped records that says what the elements say".
+
+pub accepted : (s t : Text) (out : Bytes) → translate s t out .reply ≡ GRANTED → Yield s t out
+unfolding translate
+accepted s t out e =
+    on (document s) (λ es r d. on (lines (length t) t) (λ ls u l. on-found (recordsOf es ls)
+    (λ rs q. on-test (leb (length (written rs)) (length out))
+    (λ f.
+    let w = records-rise es ls rs (document-small s es r d) q in
+    record {
+      elements = es;
+      taskLines = ls;
+      records = rs;
+      text-is = rw (sym (document-end s es r d)) d;
+      lines-are = rw (sym (lines-end (length t) t ls u l)) l;
+      says = q;
+      well-shaped = w .0;
+      kinds-rise = w .1;
+      sixteen-each = written-length rs (w .0);
+      answer-is = rw (d, l, q, f);
+    })
+    (λ f. absurd (one≢zero (rw (d, l, q, f) at e)))) (λ q. absurd (names≢zero (rw (d, l, q) at e)))) (λ u l. absurd (text≢zero (rw (d, l) at e)))) (λ r d. absurd (text≢zero (rw d at e)))
+  where
+    one≢zero : _≡_ {A = ℕ} 1 0 → ⊥
+    one≢zero q = omega arith
+
+    names≢zero : _≡_ {A = ℕ} 22 0 → ⊥
+    names≢zero q = omega arith
+
+    text≢zero : _≡_ {A = ℕ} 21 0 → ⊥
+    text≢zero q = omega arith
+
+-- "Refusals, nothing written"
+pub refusal-writes-nothing : (s t : Text) (out : Bytes) → (translate s t out .reply ≡ GRANTED → ⊥) → translate s t out .output ≡ out
+unfolding translate
+refusal-writes-nothing s t out n =
+    on (document s) (λ es r d. on (lines (length t) t) (λ ls u l. on-found (recordsOf es ls)
+    (λ rs q. on-test (leb (length (written rs)) (length out)) (λ f. absurd (n (rw (d, l, q, f)))) (λ f. rw (d, l, q, f))) (λ q. rw (d, l, q))) (λ u l. rw (d, l))) (λ r d. rw d)

@@ -1,0 +1,154 @@
+-- What an accepted text's elements keep of the table: each stands in an element whose row has it as a child. What holds of every row, by
+-- one computed test, so holds of every element and what stands in it.
+use mathlib.Core.Path.{_≡_, refl, sym, ap, _∙_}
+use mathlib.Core.List.{List, [], _∷_, _++_}
+use mathlib.Core.Bool.{Bool, true, false, not, cond, _&&_, _||_, false≢true, true≢false}
+use Prim.Native.Nat.{ℕ, zero, suc, _+_}
+use lib.Dec.{eqb}
+use lib.ListN.{length, drop}
+use borrow.Author.Tests.{eqb-true}
+use Rattle.paper_lower.specs.Lists.{Maybe, some, every}
+use Rattle.paper_lower.specs.Lists.Maybe.{none, just}
+use Rattle.paper_lower.proofs.ListLaws.{both, or-true}
+use Rattle.paper_opl.specs.Reading.{Text, Read, after, text, same, starts, expect, skip, name, misc}
+use Rattle.paper_opl.specs.Reading.Read.{got, bad}
+use Rattle.paper_opl.specs.Elements.{Times, Child, Element, elements, rowIn, one, needed, follow, next, mayEnd}
+use Rattle.paper_opl.specs.Elements.Times.{once, perhaps, often, least}
+use Rattle.paper_opl.specs.Tree.{Given, Elements, if-found, attributes, Opened, opening, ending, Inside, content, element, prolog, DEPTH, document}
+use Rattle.paper_opl.specs.Tree.Elements.{nothing, node}
+use Rattle.paper_opl.proofs.Inversion.{on, on-test, on-found, bad≢got, got-value, none≢just, just-value}
+
+pub same-true : (v w : Text) → same v w ≡ true → v ≡ w
+unfolding same
+same-true [] [] e = refl
+same-true [] (c ∷ w) e = absurd (false≢true e)
+same-true (b ∷ v) [] e = absurd (false≢true e)
+same-true (b ∷ v) (c ∷ w) e =
+    let h = both (eqb b c) (same v w) e in
+    rw (eqb-true b c (h .0), same-true v w (h .1))
+
+-- ---- Children.
+
+-- the name is a child's
+abbrev pub among : List Child → Text → Bool
+among cs w = some (λ c. some (same w) (c .names)) cs
+
+-- every child's name has the property
+abbrev pub forNames : (Text → Bool) → List Child → Bool
+forNames q cs = every (λ c. every q (c .names)) cs
+
+pub name-has : (q : Text → Bool) (vs : List Text) (w : Text) → every q vs ≡ true → some (same w) vs ≡ true → q w ≡ true
+unfolding every some
+name-has q [] w h e = absurd (false≢true e)
+name-has q (v ∷ vs) w h e =
+    let b = both (q v) (every q vs) h in
+    on-test (same w v) (λ s. rw (same-true w v s) (b .0)) (λ s. name-has q vs w (b .1) (rw s at e))
+
+pub child-has : (q : Text → Bool) (cs : List Child) (w : Text) → forNames q cs ≡ true → among cs w ≡ true → q w ≡ true
+unfolding every some
+child-has q [] w h e = absurd (false≢true e)
+child-has q (c ∷ cs) w h e =
+    let b = both (every q (c .names)) (forNames q cs) h in
+    on-test (some (same w) (c .names)) (λ s. name-has q (c .names) w (b .0) s) (λ s. child-has q cs w (b .1) (rw s at e))
+
+or-left : (a b : Bool) → a ≡ true → a || b ≡ true
+or-left a b e = rw e
+
+-- what may follow was among the children before
+follow-among : (t : Times) (vs : List Text) (cs : List Child) (v : Text) → among (follow t vs cs) v ≡ true → some (same v) vs || among cs v ≡ true
+unfolding some
+follow-among once vs cs v e = rw e (or-true (some (same v) vs))
+follow-among perhaps vs cs v e = rw e (or-true (some (same v) vs))
+follow-among often vs cs v e = e
+follow-among least vs cs v e = e
+
+pub next-among : (cs ds : List Child) (w : Text) → next cs w ≡ just ds → (among cs w ≡ true) × ((v : Text) → among ds v ≡ true → among cs v ≡ true)
+unfolding next some
+next-among [] ds w e = absurd (none≢just e)
+next-among (c ∷ cs) ds w e =
+    on-test (some (same w) (c .names))
+    (λ s. (rw s, λ v h. follow-among (c .times) (c .names) cs v (rw (just-value (rw s at e)) h)))
+    (λ s. on-test (needed (c .times)) (λ n. absurd (none≢just (rw (s, n) at e)))
+    (λ n. let r = next-among cs ds w (rw (s, n) at e) in (rw s (r .0), λ v h. rw (r .1 v h) (or-true (some (same v) (c .names))))))
+
+-- ---- Elements.
+
+-- every element stands in one whose row has it as a child
+unfoldable pub Fits : List Child → Elements → Type 0
+Fits cs nothing = Unit {0}
+Fits cs (node w gs inside behind) = (among cs w ≡ true) × Fits (rowIn elements w .children) inside × Fits cs behind
+
+-- a reader of elements that keeps the table
+abbrev Keeps : (Text → Text → Read Inside) → Type 0
+Keeps inner = (w s : Text) (e : Inside) (r : Text) → inner w s ≡ got e r → Fits (rowIn elements w .children) (e .elements)
+
+fits-more : (ds cs : List Child) (es : Elements) → ((v : Text) → among ds v ≡ true → among cs v ≡ true) → Fits ds es → Fits cs es
+unfolding Fits
+fits-more ds cs nothing f h = tt
+fits-more ds cs (node w gs inside behind) f h = (f w (h .0), h .1, fits-more ds cs behind f (h .2))
+
+pub opened-fits : (left : List Child) (s : Text) (c : Opened) (u : Text) → opening left s ≡ got c u → next left (c .name) ≡ just (c .left)
+unfolding opening
+opened-fits left s c u e =
+    on-test (starts (text "<!") s || starts (text "<?") s) (λ q. absurd (bad≢got (rw q at e)))
+    (λ q. on (expect (text "<") s) (λ _ r p. on (name r) (λ w z o. on-found (next left w)
+    (λ cs f. let k = got-value (rw (q, p, o, f) at e) in rw (sym (ap (λ x. x .name) k), sym (ap (λ x. x .left) k)) f)
+    (λ f. absurd (bad≢got (rw (q, p, o, f) at e)))) (λ z o. absurd (bad≢got (rw (q, p, o) at e)))) (λ r p. absurd (bad≢got (rw (q, p) at e))))
+
+content-fits : (inner : Text → Text → Read Inside) → Keeps inner → (n : ℕ) (w : Text) (left : List Child) (s : Text) (es : Elements) (r : Text)
+    → content inner n w left s ≡ got es r → Fits left es
+unfolding content ending Fits
+content-fits inner keeps zero w left s es r e = absurd (bad≢got e)
+content-fits inner keeps (suc n) w left s es r e =
+    on (misc (length s) s) (λ _ u m. on-test (starts (text "</") u)
+    (λ c. on (name (drop 2 u)) (λ v z o. on-test (same v w && mayEnd left) (λ f. on (expect (text ">") (skip z))
+    (λ _ y p. rw (sym (got-value (rw (m, c, o, f, p) at e))) tt)
+    (λ y p. absurd (bad≢got (rw (m, c, o, f, p) at e)))) (λ f. absurd (bad≢got (rw (m, c, o, f) at e)))) (λ z o. absurd (bad≢got (rw (m, c, o) at e))))
+    (λ c. on (opening left u) (λ k z o. on (inner (k .name) z) (λ i y p. on (content inner n w (k .left) y)
+    (λ fs x q.
+    let h = next-among left (k .left) (k .name) (opened-fits left u k z o) in
+    rw (sym (got-value (rw (m, c, o, p, q) at e)))
+    (h .0, keeps (k .name) z i y p, fits-more (k .left) left fs (h .1) (content-fits inner keeps n w (k .left) y fs x q)))
+    (λ x q. absurd (bad≢got (rw (m, c, o, p, q) at e)))) (λ y p. absurd (bad≢got (rw (m, c, o, p) at e)))) (λ z o. absurd (bad≢got (rw (m, c, o) at e)))))
+    (λ u m. absurd (bad≢got (rw m at e)))
+
+element-fits : (d : ℕ) → Keeps (element elements d)
+unfolding element Fits
+element-fits zero w s e r h = absurd (bad≢got h)
+element-fits (suc d) w s e r h =
+    on (attributes (length s) (rowIn elements w .attributes) s) (λ gs z a. on-test (starts (text ">") z)
+    (λ c. on (content (element elements d) (length z) (rowIn elements w .name) (rowIn elements w .children) (drop 1 z))
+    (λ es u q.
+    rw (sym (got-value (rw (a, c, q) at h)))
+    (content-fits (element elements d) (element-fits d) (length z) (rowIn elements w .name) (rowIn elements w .children) (drop 1 z) es u q))
+    (λ u q. absurd (bad≢got (rw (a, c, q) at h))))
+    (λ c. on (expect (text ">") (drop 1 z)) (λ _ u q. on-test (mayEnd (rowIn elements w .children))
+    (λ f. rw (sym (got-value (rw (a, c, q, f) at h))) tt)
+    (λ f. absurd (bad≢got (rw (a, c, q, f) at h)))) (λ u q. absurd (bad≢got (rw (a, c, q) at h)))))
+    (λ z a. absurd (bad≢got (rw a at h)))
+
+-- the policy object stands alone
+abbrev pub root : List Child
+root = one "policy_object" ∷ []
+
+pub document-fits : (s : Text) (es : Elements) (r : Text) → document s ≡ got es r → Fits root es
+unfolding document Fits
+document-fits s es r e =
+    on (prolog s) (λ _ u p. on (opening root u) (λ c z o. on (element elements DEPTH (c .name) z) (λ i y h. on (misc (length y) y) (λ _ x m. on-test (same x [])
+    (λ f. rw (sym (got-value (rw (p, o, h, m, f) at e))) (next-among root (c .left) (c .name) (opened-fits root u c z o) .0, element-fits DEPTH (c .name) z i y h, tt))
+    (λ f. absurd (bad≢got (rw (p, o, h, m, f) at e)))) (λ x m. absurd (bad≢got (rw (p, o, h, m) at e)))) (λ y h. absurd (bad≢got (rw (p, o, h) at e)))) (λ z o. absurd (bad≢got (rw (p, o) at e)))) (λ u p. absurd (bad≢got (rw p at e)))
+
+-- ---- One test for all rows.
+
+-- a test that an element without a row passes
+pub row-has : (q : Element → Bool) (es : List Element) (w : Text) → ((v : Text) → q (record { name = v; attributes = []; children = [] }) ≡ true) → every q es ≡ true → q (rowIn es w) ≡ true
+unfolding rowIn every
+row-has q [] w d h = d w
+row-has q (e ∷ es) w d h =
+    let b = both (q e) (every q es) h in
+    on-test (same (e .name) w) (λ s. rw s (b .0)) (λ s. rw s (row-has q es w d (b .1)))
+
+pub row-name : (es : List Element) (w : Text) → rowIn es w .name ≡ w
+unfolding rowIn
+row-name [] w = refl
+row-name (e ∷ es) w = on-test (same (e .name) w) (λ s. rw s (same-true (e .name) w s)) (λ s. rw s (row-name es w))

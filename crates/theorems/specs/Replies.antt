@@ -1,0 +1,54 @@
+-- The replies: of the table, and the first refusal in the order of the numbers. A refused load leaves the empty engine's tables.
+use Prim.Native.Nat.{ℕ, _≤_}
+use mathlib.Core.Path.{_≡_}
+use mathlib.Core.Bool.{Bool, true, false, _&&_}
+use mathlib.Core.List.{List, [], _∷_, _++_}
+use lib.Dec.{leb}
+use Rattle.paper_lower.specs.Lists.{Every}
+use Rattle.paper_lower.specs.Checks.{Check, first, GRANTED, SHAPE, UNKNOWN, FULL}
+use Rattle.paper_lower.specs.Records.{Bytes, Record, decode}
+use Rattle.paper_lower.specs.Forms.{Form, policyForms, lowerForms, requestForms, formChecks}
+use Rattle.paper_lower.specs.Kinds.{Kind}
+use Rattle.paper_lower.specs.Tables.{Lower, noPolicy}
+use Rattle.paper_lower.specs.Policy.{policyKinds}
+use Rattle.paper_lower.specs.Load.{load}
+use Rattle.paper_lower.specs.Sessions.{lowerKinds, lowerRequest}
+use Rattle.paper_upper.specs.Orders.{Engine}
+use Rattle.paper_upper.specs.Engine.{requestKinds, request}
+
+-- ---- "Checks run in the order of their numbers"
+
+-- numbers of the table, none below k, and none below the one before it
+unfoldable pub rising : ℕ → List Check → Bool
+rising k [] = true
+rising k (x ∷ xs) = leb k (x .1) && leb (x .1) FULL && rising (x .1) xs
+
+-- Of every kind the checks have rising numbers; those that each record meets before them, SHAPE and RANGE, have lower ones.
+abbrev pub InOrder : {T : Type 0} → List (Kind T) → Type 0
+InOrder {T} ks = Every (λ k. (t : T) (r : Record) → rising UNKNOWN (k .checks t r) ≡ true) ks
+
+-- "the first that applies is given, and none is given otherwise": the lowest number of those that apply
+pub record FirstRefusal (checks : List Check) : Type 0 where
+  pub grants : Every (λ x. x .0 ≡ false) checks → first checks ≡ GRANTED
+  pub refuses : Every (λ x. x .0 ≡ true → (first checks ≡ GRANTED → ⊥) × (first checks ≤ x .1)) checks
+
+abbrev pub FirstRefusals : {T : Type 0} → List Form → List (Kind T) → Type 0
+FirstRefusals {T} fs ks = Every (λ k. (t : T) (s : Bytes) → FirstRefusal (formChecks fs s ++ k .checks t (decode s))) ks
+
+pub record ChecksInOrder : Type 0 where
+  pub policy : InOrder policyKinds × FirstRefusals policyForms policyKinds
+  pub lower : InOrder lowerKinds × FirstRefusals lowerForms lowerKinds
+  pub engine : InOrder requestKinds × FirstRefusals requestForms requestKinds
+
+-- ---- Granted, or a refusal of the table other than ROOM, which is for the lengths of buffers.
+abbrev pub Listed : ℕ → Type 0
+Listed reply = (reply ≤ FULL) × ((reply ≡ GRANTED → ⊥) → SHAPE ≤ reply)
+
+pub record RepliesAreListed : Type 0 where
+  pub requests : (t : Engine) (s : Bytes) → Listed (request t s .reply)
+  pub lowerRequests : (t : Lower) (s : Bytes) → Listed (lowerRequest t s .reply)
+  pub loads : (s : Bytes) → Listed (load s .reply)
+
+-- "a refused one leaves it empty"
+abbrev pub RefusedLoadsAreEmpty : Type 0
+RefusedLoadsAreEmpty = (s : Bytes) → (load s .reply ≡ GRANTED → ⊥) → load s .tables ≡ noPolicy

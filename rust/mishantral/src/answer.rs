@@ -1,0 +1,36 @@
+//! The number that a call of the library answers: the reply + 256 times the place.
+
+use crate::{Record, Refused, Reply};
+use alloc::{boxed::Box, format, string::String, vec, vec::Vec};
+
+/// The reply and the place.
+pub(crate) fn reply_and_place(answer: u64) -> (Reply, usize) {
+    let reply = Reply::from_number(answer % 256)
+        .unwrap_or_else(|| panic!("a library with other replies is linked: {answer}"));
+    let place = usize::try_from(answer / 256).expect("a place is below the input's length");
+    (reply, place)
+}
+
+/// A load's answer as a value.
+pub(crate) fn loaded(answer: u64) -> Result<(), Refused> {
+    match reply_and_place(answer) {
+        (Reply::Granted, _) => Ok(()),
+        (reply, place) => Err(Refused { reply, place }),
+    }
+}
+
+/// The bytes of a policy.
+pub(crate) fn bytes(policy: &[Record]) -> Vec<u8> {
+    policy.iter().flat_map(|record| record.0).collect()
+}
+
+/// A buffer of so many words, all zero.
+pub(crate) fn zeroed(words: u64) -> Box<[u64]> {
+    let words = usize::try_from(words).expect("a buffer's length fits a usize");
+    vec![0; words].into_boxed_slice()
+}
+
+/// How a buffer is shown: its words are thousands.
+pub(crate) fn shown(buffer: &[u64]) -> String {
+    format!("{} words", buffer.len())
+}
