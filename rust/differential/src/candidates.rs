@@ -78,7 +78,8 @@ impl Pools {
         let (user, role) = (random.pick(&self.users), random.pick(&self.roles));
         let permission = random.pick(&self.permissions);
         match random.below(10) {
-            0 => Record::add_user(user),
+            0 if random.chance(1, 3) => Record::add_user(user),
+            0 => Record::add_user_with(user, members(random, &self.roles)),
             1 => Record::delete_user(user),
             2..=4 => Record::assign_role(user, role),
             5 | 6 => Record::take_role(user, role),

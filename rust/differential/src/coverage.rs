@@ -12,8 +12,8 @@ pub struct Coverage {
 /// The replies that a kind can have in a state that a load and requests made, in the order of checks.
 pub fn possible(kind: u8) -> Option<Vec<Reply>> {
     let more: &[Reply] = match kind {
-        1..=3 | 6 | 32 => &[Taken],
-        4 | 34 => &[Unknown, Taken, Static],
+        1..=3 | 6 => &[Taken],
+        4 | 32 | 34 => &[Unknown, Taken, Static],
         5 | 7 | 8 | 13 | 36 | 48 => &[Unknown, Taken],
         9 => &[Unknown, Taken, Rule, Static, Full],
         10..=12 | 15 | 16 => &[Unknown, Taken, Rule, Full],

@@ -65,7 +65,8 @@ type Form = ([Option<u16>; 3], bool, bool);
 fn form(kind: u8) -> Option<Form> {
     let any = u16::MAX;
     Some(match kind {
-        1 | 32 | 33 => ([Some(1023), None, None], false, false),
+        1 | 33 => ([Some(1023), None, None], false, false),
+        32 => ([Some(1023), None, None], false, true),
         2 => ([Some(63), None, None], false, false),
         3 => ([Some(255), Some(any), Some(any)], false, false),
         4 | 34 | 35 => ([Some(1023), Some(63), None], false, false),
@@ -339,7 +340,14 @@ impl Slow {
         let (a, b) = (r.a(), r.b());
         let user = self.users.contains(&a);
         match r.kind() {
-            32 => first(&[(Taken, user)]),
+            32 => {
+                let roles = numbers(r.m());
+                first(&[
+                    (Unknown, !roles.iter().all(|role| self.roles.contains(role))),
+                    (Taken, user),
+                    (Static, broken(&self.static_sets, &roles)),
+                ])
+            }
             33 => {
                 let live = self.subjects.values().any(|(u, _)| *u == a);
                 let entered = |e: &Entry| e.user == a && self.instances.contains_key(&e.instance);
@@ -472,6 +480,7 @@ impl Slow {
         others.remove(&task);
         let template = self.tasks[&task];
         let mut rest = self.tasks_of(template);
+        let governed = self.bans.contains(&template) && rest.len() > 1;
         rest.remove(&task);
         let of_another = |t: u16| order.iter().any(|e| e.task == t && e.user != user);
         let count = order.iter().filter(|e| e.task == task).count();
@@ -491,7 +500,7 @@ impl Slow {
                     .iter()
                     .any(|own| self.leaves_block(own, task, &d)),
             ),
-            (Alone, self.bans.contains(&template) && rest.is_subset(&d)),
+            (Alone, governed && rest.is_subset(&d)),
             (Bound, self.bindings.iter().any(apart)),
             (Count, self.limits.get(&task).is_some_and(too_often)),
         ]
@@ -508,7 +517,11 @@ impl Slow {
     fn act(&mut self, r: Record) {
         let (a, b) = (r.a(), r.b());
         match r.kind() {
-            32 => self.users.extend([a]),
+            32 => {
+                self.users.extend([a]);
+                self.user_roles
+                    .extend(numbers(r.m()).into_iter().map(|role| (a, role)));
+            }
             33 => {
                 self.users.retain(|user| *user != a);
                 self.user_roles.retain(|(user, _)| *user != a);

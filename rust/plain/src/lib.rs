@@ -100,7 +100,7 @@ impl<L: Ledger> Engine<L> {
         let (policy, sessions, orders) = (&mut self.policy, &mut self.sessions, &mut self.orders);
         let (a, b) = (usize::from(r.a), usize::from(r.b));
         match r.kind {
-            32 => policy.user(a),
+            32 => policy.join(a, r.m),
             33 => self.delete_user(r.a),
             34 => policy.assign(a, b),
             35 => sessions.take_role(policy, r.a, b),

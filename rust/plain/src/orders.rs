@@ -118,8 +118,10 @@ fn claim_rules(policy: &Policy, template: u8, task: usize, view: View) -> Outcom
     refuse(Reply::Separation, separated(policy, rules.sets, mine_other))?;
     refuse(Reply::Block, rules.other_blocks & view.mine != 0)?;
     let banned = policy.banned & 1 << template != 0;
-    let rest = policy.tasks_of[usize::from(template)] & !bit(task);
-    refuse(Reply::Alone, banned && rest & !view.mine == 0)?;
+    let tasks = policy.tasks_of[usize::from(template)];
+    let governed = banned && tasks.count_ones() >= 2;
+    let rest = tasks & !bit(task);
+    refuse(Reply::Alone, governed && rest & !view.mine == 0)?;
     refuse(Reply::Bound, rules.bound_with & view.others != 0)?;
     refuse(
         Reply::Count,

@@ -194,10 +194,19 @@ impl Policy {
         }
     }
 
-    /// Kinds 1 and 32.
-    pub fn user(&mut self, user: usize) -> Outcome {
+    fn user(&mut self, user: usize) -> Outcome {
         refuse(Reply::Taken, self.is_user[user])?;
         self.is_user[user] = true;
+        Ok(())
+    }
+
+    /// Kind 32: the user and all the roles, or nothing.
+    pub fn join(&mut self, user: usize, roles: u64) -> Outcome {
+        refuse(Reply::Unknown, roles & !self.roles != 0)?;
+        refuse(Reply::Taken, self.is_user[user])?;
+        refuse(Reply::Static, self.breaks_static(roles))?;
+        self.is_user[user] = true;
+        self.assigned[user] = roles;
         Ok(())
     }
 

@@ -27,7 +27,7 @@ const FORMS: [Form; 33] = [
     form(10, true, &[], true), form(11, true, &[], true), form(12, false, &[15], true),
     form(13, false, &[15], false), form(14, true, &[63], false), form(15, false, &[63, 63], false),
     form(16, false, &[63, 63], false),
-    form(32, false, &[1023], false), form(33, false, &[1023], false), form(34, false, &[1023, 63], false),
+    form(32, false, &[1023], true), form(33, false, &[1023], false), form(34, false, &[1023, 63], false),
     form(35, false, &[1023, 63], false), form(36, false, &[63, 255], false), form(37, false, &[63, 255], false),
     form(40, false, &[127, 1023], true), form(41, false, &[127], false), form(42, false, &[127, 63], false),
     form(43, false, &[127, 63], false), form(48, false, &[63, 15], false), form(49, false, &[63], false),

@@ -100,15 +100,27 @@ fn in_order(conditions: &[Reply], apart: &[&[Reply]], build: impl Fn(Wrong) -> T
 }
 
 #[test]
-fn kinds_1_and_32() {
-    for make in [user, add_user] {
-        in_order(&[Range, Taken], &[&[Range, Taken]], |w| {
-            Trial::of(
-                &[w.when(Taken, &[user(300)])],
-                make(w.pick(Range, 1024, 300)),
-            )
-        });
-    }
+fn kind_1() {
+    in_order(&[Range, Taken], &[&[Range, Taken]], |w| {
+        Trial::of(
+            &[w.when(Taken, &[user(300)])],
+            user(w.pick(Range, 1024, 300)),
+        )
+    });
+}
+
+#[test]
+fn kind_32() {
+    let conditions = [Range, Unknown, Taken, Static];
+    in_order(&conditions, &[&[Range, Taken]], |w| {
+        let declared = vec![role(0), role(1), static_set(1, &[0, 1])];
+        let mut roles = w.pick(Static, vec![0, 1], vec![0]);
+        roles.extend(w.pick(Unknown, vec![63], vec![]));
+        Trial::of(
+            &[declared, w.when(Taken, &[user(300)])],
+            join(w.pick(Range, 1024, 300), &roles),
+        )
+    });
 }
 
 #[test]

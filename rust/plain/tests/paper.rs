@@ -291,9 +291,17 @@ fn a_number_returns_only_without_entries_and_without_its_roles() {
 }
 
 #[test]
-fn a_banned_template_with_one_task_is_never_claimed() {
+fn a_banned_template_with_one_task_is_free_of_the_ban() {
     let mut both = order(&[task(9, 3), open_to(9, 0), ban(3)]);
-    expect(&mut both, &[(open(1, 3), Granted), (claim(5, 1, 9), Alone)]);
+    expect(
+        &mut both,
+        &[
+            (open(1, 3), Granted),
+            (claim(5, 1, 9), Granted),
+            (done(5, 1, 9), Granted),
+            (claim(5, 1, 9), Granted),
+        ],
+    );
 }
 
 #[test]

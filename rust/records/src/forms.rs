@@ -38,7 +38,7 @@ pub enum Part {
 }
 
 /// The kind that a pattern is for, where the line itself does not say it, and the pattern.
-pub const FORMS: [(u8, &str); 35] = [
+pub const FORMS: [(u8, &str); 36] = [
     (1, "user <a>"),
     (2, "role <a>"),
     (3, "permission <a> is operation <b> on object <c>"),
@@ -56,6 +56,7 @@ pub const FORMS: [(u8, &str); 35] = [
     (15, "task <a> bound to task <b>"),
     (16, "task <a> before task <b>"),
     (32, "add user <a>"),
+    (32, "add user <a> with roles <set>"),
     (33, "delete user <a>"),
     (34, "assign role <b> to user <a>"),
     (35, "take role <b> from user <a>"),

@@ -165,6 +165,11 @@ impl Record {
         record(32, 0, [user, 0, 0], 0)
     }
 
+    /// Adds a user with roles: all of it happens, or nothing.
+    pub const fn add_user_with(user: u16, roles: Set) -> Record {
+        record(32, 0, [user, 0, 0], roles.0)
+    }
+
     /// Deletes a user, and the user's assignments.
     pub const fn delete_user(user: u16) -> Record {
         record(33, 0, [user, 0, 0], 0)

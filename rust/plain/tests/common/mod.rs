@@ -69,6 +69,9 @@ pub fn before(a: u16, b: u16) -> Bytes {
 pub fn add_user(a: u16) -> Bytes {
     ab(32, a, 0)
 }
+pub fn join(a: u16, roles: &[u32]) -> Bytes {
+    record(32, 0, a, 0, 0, set(roles))
+}
 pub fn delete_user(a: u16) -> Bytes {
     ab(33, a, 0)
 }
