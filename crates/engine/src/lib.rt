@@ -15,10 +15,12 @@ ghost use Rattle.engine.specs.Buffers.{buffers};
 ghost use Rattle.engine.specs.Step.{Step};
 ghost use Rattle.engine.specs.Answers.{Requested, LoadDone};
 ghost use Rattle.engine.specs.Exports.{LoadExported, RequestExported, wordsOf};
+use ledger::ORDERS_WORDS;
 use loading::Loaded;
 use records::Call;
 use records::Record;
 use replies::Reply;
+use sessions::SESSIONS_WORDS;
 
 // A request that SHAPE and RANGE let pass: the upper part's kinds here, all others by the lower part.
 fn step(r: Record, p: &mut [u64], s: &mut [u64], o: &mut [u64]) -> Reply
@@ -43,7 +45,10 @@ fn step(r: Record, p: &mut [u64], s: &mut [u64], o: &mut [u64]) -> Reply
 pub fn request(bytes: &[u8], policy: &mut [u64], sessions: &mut [u64], orders: &mut [u64]) -> Reply
     ensures { λ r. ⌜ Requested (now (bytes .entry)) (buffers (now (policy .entry)) (now (sessions .entry)) (now (orders .entry))) (buffers (now (policy .exit)) (now (sessions .exit)) (now (orders .exit))) r ⌝ }
 {
-    if (policy.len() != 4504) | (sessions.len() != 256) | (orders.len() != 2113) {
+    if (policy.len() != 4504)
+        | (sessions.len() != SESSIONS_WORDS)
+        | (orders.len() != ORDERS_WORDS)
+    {
         return Reply::Room;
     }
     let r = records::judge(Call::Request, bytes);
@@ -57,7 +62,10 @@ pub fn request(bytes: &[u8], policy: &mut [u64], sessions: &mut [u64], orders: &
 pub fn load(bytes: &[u8], policy: &mut [u64], sessions: &mut [u64], orders: &mut [u64]) -> Loaded
     ensures { λ x. ⌜ LoadDone (now (bytes .entry)) (buffers (now (policy .entry)) (now (sessions .entry)) (now (orders .entry))) (buffers (now (policy .exit)) (now (sessions .exit)) (now (orders .exit))) (x .reply) (x .place) ⌝ }
 {
-    if (policy.len() != 4504) | (sessions.len() != 256) | (orders.len() != 2113) {
+    if (policy.len() != 4504)
+        | (sessions.len() != SESSIONS_WORDS)
+        | (orders.len() != ORDERS_WORDS)
+    {
         return Loaded {
             reply: Reply::Room,
             place: 0,
@@ -105,10 +113,10 @@ pub extern "C" fn mishantral_words(group: u64) -> u64
         return 4504;
     }
     if group == 1 {
-        return 256;
+        return SESSIONS_WORDS as u64;
     }
     if group == 2 {
-        return 2113;
+        return ORDERS_WORDS as u64;
     }
     0
 }

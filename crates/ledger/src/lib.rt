@@ -2,7 +2,7 @@
 // Each function equals what paper_upper defines over the tables that the buffer reads as (specs/Reading).
 ghost use mathlib.Core.Path.{_≡_};
 ghost use Prim.Native.Nat.{_+_, _/_, _%_, _<_, _≤_};
-ghost use lib.ListN.{length, getD};
+ghost use lib.ListN.{length};
 ghost use mathlib.Core.Bool.{cond, not, _&&_};
 ghost use mathlib.Core.List.{_∷_};
 ghost use lib.Dec.{eqb};
@@ -12,14 +12,18 @@ ghost use Rattle.paper_lower.specs.Lists.Maybe.{just, none};
 ghost use Rattle.paper_upper.specs.Orders.{entry, isHeld, isHeldBy, inOrder, heldBy};
 ghost use Rattle.paper_upper.specs.Orders.Standing.{held};
 ghost use Rattle.paper_upper.specs.Requests.{turned};
-ghost use Rattle.ledger.specs.Reading.{ordersWords, Cleared, ordersOf, wordsOf, withInstance, withLedger, openedOf, inOpenOrder, templateOf, entryOf, keyOf, inUse, fits, stays, NoneFits, NextEntry, turnedWord};
+ghost use Rattle.ledger.specs.Reading.{ordersWords, Cleared, ordersOf, wordAt, wordsOf, withInstance, withLedger, openedOf, inOpenOrder, templateOf, entryOf, keyOf, inUse, fits, stays, NoneFits, NextEntry, turnedWord};
 ghost use Rattle.ledger.specs.Gathering.{gatheredOf, takenIn};
 use sets::set_of;
 
-// The length of the buffer, the word of the first entry, and how many entries there are at most.
-const WORDS: usize = 2113;
+// The length of the buffer in words. The number of entries in use, the first instance and the first entry; and how many entries there are at most.
+pub const ORDERS_WORDS: usize = 2113;
 
-const FIRST: usize = 65;
+const IN_USE: usize = 0;
+
+const INSTANCES: usize = 1;
+
+const ENTRIES: usize = 65;
 
 const MOST: u64 = 2048;
 
@@ -44,7 +48,7 @@ pub fn opened(o: &[u64], i: u64) -> Instance
     requires { ⌜ (length (now o) ≡ ordersWords) × (i < 64) ⌝ }
     ensures { λ r. ⌜ (openedOf r ≡ ordersOf (now (o .entry)) .opened i) × (r .template < 16) ⌝ }
 {
-    let w = o[1 + i as usize];
+    let w = o[INSTANCES + i as usize];
     Instance {
         open: w / 16 % 2 == 1,
         template: w % 16,
@@ -55,7 +59,7 @@ fn set_instance(o: &mut [u64], i: u64, w: u64)
     requires { ⌜ (length (now o) ≡ ordersWords) × (i < 64) ⌝ }
     ensures { λ _. ⌜ ordersOf (now (o .exit)) ≡ withInstance (ordersOf (now (o .entry))) i (templateOf w) ⌝ }
 {
-    o[1 + i as usize] = w;
+    o[INSTANCES + i as usize] = w;
 }
 
 pub fn set_opened(o: &mut [u64], i: u64, j: u64)
@@ -69,7 +73,7 @@ pub fn in_use(o: &[u64]) -> usize
     requires { ⌜ length (now o) ≡ ordersWords ⌝ }
     ensures { λ r. ⌜ (r ≡ many (ordersOf (now (o .entry)) .entries)) × (r ≤ 2048) ⌝ }
 {
-    let n = o[0];
+    let n = o[IN_USE];
     if n < MOST { n as usize } else { MOST as usize }
 }
 
@@ -77,15 +81,15 @@ pub fn in_use(o: &[u64]) -> usize
 
 fn word_fits(o: &[u64], k: usize, mask: u64, key: u64) -> bool
     requires { ⌜ (length (now o) ≡ ordersWords) × (k < 2048) ⌝ }
-    ensures { λ r. ⌜ r ≡ fits mask key (getD (now (o .entry)) (65 + k) 0) ⌝ }
+    ensures { λ r. ⌜ r ≡ fits mask key (wordAt (now (o .entry)) k) ⌝ }
 {
-    o[FIRST + k] & mask == key
+    o[ENTRIES + k] & mask == key
 }
 
 // Whether one of eight entries fits: eight compares without a branch.
 fn eight_fit(o: &[u64], k: usize, mask: u64, key: u64) -> bool
     requires { ⌜ (length (now o) ≡ ordersWords) × (k + 8 ≤ 2048) ⌝ }
-    ensures { λ r. ⌜ r ≡ someBelow 8 (λ j. fits mask key (getD (now (o .entry)) (65 + (k + j)) 0)) ⌝ }
+    ensures { λ r. ⌜ r ≡ someBelow 8 (λ j. fits mask key (wordAt (now (o .entry)) (k + j))) ⌝ }
 {
     word_fits(o, k + 7, mask, key)
         | (word_fits(o, k + 6, mask, key)
@@ -206,7 +210,7 @@ pub fn gather(o: &[u64], i: u64, u: u64, t: u64) -> Gathered
     };
     let mut k = next_entry(o, 0, ORDER, i);
     while k < n {
-        let w = o[FIRST + k];
+        let w = o[ENTRIES + k];
         g = take_in(g, w, u, t);
         k = next_entry(o, k + 1, ORDER, i);
     }
@@ -228,8 +232,8 @@ pub fn enter(o: &mut [u64], i: u64, u: u64, t: u64, a: u64)
 {
     let n = in_use(o);
     let key = key_of(i, t, a);
-    o[FIRST + n] = key + 1048576 * u;
-    o[0] = n as u64 + 1;
+    o[ENTRIES + n] = key + 1048576 * u;
+    o[IN_USE] = n as u64 + 1;
 }
 
 // Removes each entry whose word, cut by the mask, is the key; the others keep their order, and those before the first such stay where they are. Each
@@ -242,12 +246,12 @@ fn remove(o: &mut [u64], mask: u64, key: u64)
     let mut k = next_entry(o, 0, mask, key);
     let mut to = k as u64;
     while k < n {
-        let w = o[FIRST + k];
-        o[FIRST + to as usize] = w;
+        let w = o[ENTRIES + k];
+        o[ENTRIES + to as usize] = w;
         to = more_if(w & mask != key, to);
         k += 1;
     }
-    o[0] = to;
+    o[IN_USE] = to;
 }
 
 pub fn release(o: &mut [u64], i: u64, t: u64, a: u64)
@@ -282,8 +286,8 @@ pub fn finish(o: &mut [u64], i: u64, t: u64, a: u64)
     let key = key_of(i, t, a);
     let mut k = 0;
     while k < n {
-        let w = o[FIRST + k];
-        o[FIRST + k] = turn(w, key);
+        let w = o[ENTRIES + k];
+        o[ENTRIES + k] = turn(w, key);
         k += 1;
     }
 }
@@ -319,7 +323,7 @@ pub fn in_open_order(o: &[u64], u: u64) -> bool
     let n = in_use(o);
     let mut k = next_entry(o, 0, USER, 1048576 * u);
     while k < n {
-        let w = o[FIRST + k];
+        let w = o[ENTRIES + k];
         let x = opened(o, w % 64);
         if x.open {
             return true;
@@ -334,7 +338,7 @@ pub fn clear(o: &mut [u64])
     ensures { λ _. ⌜ Cleared (now (o .exit)) ⌝ }
 {
     let mut k = 0;
-    while k < WORDS {
+    while k < ORDERS_WORDS {
         o[k] = 0;
         k += 1;
     }
