@@ -10,7 +10,7 @@ ghost use Rattle.records.specs.Limits.{Limits};
 ghost use Rattle.policy.specs.Layout.{policyWords};
 ghost use Rattle.sessions.specs.Reading.{sessionsWords};
 ghost use Rattle.ledger.specs.Reading.{ordersWords};
-ghost use Rattle.claims.specs.Tables.{engineTables};
+ghost use Rattle.orders.specs.Tables.{engineTables};
 ghost use Rattle.engine.specs.Buffers.{buffers};
 ghost use Rattle.engine.specs.Step.{Step};
 ghost use Rattle.engine.specs.Answers.{Requested, LoadDone};
@@ -29,10 +29,10 @@ fn step(r: Record, p: &mut [u64], s: &mut [u64], o: &mut [u64]) -> Reply
 {
     let kind = r.kind;
     match kind {
-        33 => claims::delete(p, s, o, r.a),
-        41 => claims::destroy(s, o, r.a),
-        48 => claims::open_order(p, o, r.a, r.b),
-        49 => claims::end_order(o, r.a),
+        33 => orders::delete(p, s, o, r.a),
+        41 => orders::destroy(s, o, r.a),
+        48 => orders::open_order(p, o, r.a, r.b),
+        49 => orders::end_order(o, r.a),
         50 => claims::claim(p, s, o, r.a, r.b, r.c),
         51 => claims::release(p, s, o, r.a, r.b, r.c),
         52 => claims::finish(p, s, o, r.a, r.b, r.c),

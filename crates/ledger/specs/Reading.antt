@@ -58,14 +58,6 @@ withInstance x i j = record { opened = upd (x .opened) i j; entries = x .entries
 abbrev pub withLedger : Orders → List Entry → Orders
 withLedger x es = record { opened = x .opened; entries = es }
 
--- ---- The numbers of an entry within their limits.
-abbrev pub SubjectInRange : Standing → Type 0
-SubjectInRange (held a) = a < 128
-SubjectInRange done = Unit {0}
-
-abbrev pub InRange : Entry → Type 0
-InRange e = (e .instance < 64) × ((e .user < 1024) × ((e .task < 64) × SubjectInRange (e .standing)))
-
 -- ---- The buffer of no orders: all its words are 0.
 pub record Cleared (l : List ℕ) : Type 0 where
   pub tables : ordersOf l ≡ noOrders

@@ -3,18 +3,16 @@
 ghost use mathlib.Core.Path.{_≡_};
 ghost use Prim.Native.Nat.{_+_, _/_, _%_, _<_, _≤_};
 ghost use lib.ListN.{length};
-ghost use mathlib.Core.Bool.{cond, not, _&&_};
-ghost use mathlib.Core.List.{_∷_};
+ghost use mathlib.Core.Bool.{cond, _&&_};
 ghost use lib.Dec.{eqb};
 ghost use Rattle.paper_lower.specs.Sets.{plus};
-ghost use Rattle.paper_lower.specs.Lists.{someBelow, some, many, keep, each};
-ghost use Rattle.paper_lower.specs.Lists.Maybe.{just, none};
-ghost use Rattle.paper_upper.specs.Orders.{entry, isHeld, isHeldBy, inOrder, heldBy};
-ghost use Rattle.paper_upper.specs.Orders.Standing.{held};
-ghost use Rattle.paper_upper.specs.Requests.{turned};
-ghost use Rattle.ledger.specs.Reading.{ordersWords, Cleared, ordersOf, wordAt, wordsOf, withInstance, withLedger, openedOf, inOpenOrder, templateOf, entryOf, keyOf, inUse, fits, stays, NoneFits, NextEntry, turnedWord};
+ghost use Rattle.paper_lower.specs.Lists.{someBelow, some, many};
+ghost use Rattle.paper_lower.specs.Lists.Maybe.{just};
+ghost use Rattle.paper_upper.specs.Orders.{isHeld, isHeldBy, inOrder, heldBy};
+ghost use Rattle.ledger.specs.Reading.{ordersWords, Cleared, ordersOf, wordAt, wordsOf, withInstance, openedOf, inOpenOrder, templateOf, keyOf, inUse, fits, NoneFits, NextEntry, turnedWord};
+ghost use Rattle.ledger.specs.Acts.{InLimits, afterEnter, afterRemove, afterRelease, afterFinish, afterEnd};
 ghost use Rattle.ledger.specs.Gathering.{gatheredOf, takenIn};
-use sets::set_of;
+use sets::Set;
 
 // The length of the buffer in words. The number of entries in use, the first instance and the first entry; and how many entries there are at most.
 pub const ORDERS_WORDS: usize = 2113;
@@ -142,11 +140,11 @@ fn any_entry(o: &[u64], mask: u64, key: u64) -> bool
 // ---- What a claim asks.
 
 // The tasks of one instance with an entry of the user, with a done entry, with an entry of another user; the entries of one task, and 1 where one of
-// them is held. All are u64: the padding of a bool would go through memory at each turn.
+// them is held: the padding of a bool would go through memory at each turn.
 pub struct Gathered {
-    pub mine: u64,
-    pub done: u64,
-    pub others: u64,
+    pub mine: Set,
+    pub done: Set,
+    pub others: Set,
     pub times: u64,
     pub held: u64,
 }
@@ -164,12 +162,14 @@ fn more_if(c: bool, n: u64) -> u64
     if c { n + 1 } else { n }
 }
 
-fn with_if(c: bool, tasks: u64, t: u64) -> u64
+fn with_if(c: bool, tasks: Set, t: u64) -> Set
     requires { ⌜ t < 64 ⌝ }
-    ensures { λ r. ⌜ r ≡ cond c (plus tasks t) tasks ⌝ }
+    ensures { λ r. ⌜ r .bits ≡ cond c (plus (tasks .bits) t) (tasks .bits) ⌝ }
 {
-    let more = set_of(tasks).with(t);
-    pick(c, more.bits, tasks)
+    let more = tasks.with(t);
+    Set {
+        bits: pick(c, more.bits, tasks.bits),
+    }
 }
 
 // One entry more of the instance, without a branch.
@@ -202,9 +202,9 @@ pub fn gather(o: &[u64], i: u64, u: u64, t: u64) -> Gathered
 {
     let n = in_use(o);
     let mut g = Gathered {
-        mine: 0,
-        done: 0,
-        others: 0,
+        mine: Set::EMPTY,
+        done: Set::EMPTY,
+        others: Set::EMPTY,
         times: 0,
         held: 0,
     };
@@ -219,7 +219,7 @@ pub fn gather(o: &[u64], i: u64, u: u64, t: u64) -> Gathered
 
 // The part of an entry's word below its user: task t of instance i, held by subject a.
 fn key_of(i: u64, t: u64, a: u64) -> u64
-    requires { ⌜ (i < 64) × ((t < 64) × (a < 128)) ⌝ }
+    requires { ⌜ InLimits i t a ⌝ }
     ensures { λ r. ⌜ r ≡ keyOf i t a ⌝ }
 {
     i + 128 * t + 8192 * a
@@ -227,8 +227,8 @@ fn key_of(i: u64, t: u64, a: u64) -> u64
 
 // Subject a, of user u, takes task t of instance i: the entry takes the next word.
 pub fn enter(o: &mut [u64], i: u64, u: u64, t: u64, a: u64)
-    requires { ⌜ (length (now o) ≡ ordersWords) × ((many (ordersOf (now o) .entries) < 2048) × ((u < 1024) × ((i < 64) × ((t < 64) × (a < 128))))) ⌝ }
-    ensures { λ _. ⌜ ordersOf (now (o .exit)) ≡ withLedger (ordersOf (now (o .entry))) (entry i u t (held a) ∷ ordersOf (now (o .entry)) .entries) ⌝ }
+    requires { ⌜ (length (now o) ≡ ordersWords) × ((many (ordersOf (now o) .entries) < 2048) × ((u < 1024) × InLimits i t a)) ⌝ }
+    ensures { λ _. ⌜ ordersOf (now (o .exit)) ≡ afterEnter (ordersOf (now (o .entry))) i u t a ⌝ }
 {
     let n = in_use(o);
     let key = key_of(i, t, a);
@@ -240,7 +240,7 @@ pub fn enter(o: &mut [u64], i: u64, u: u64, t: u64, a: u64)
 // word behind it is stored, and where it is not to stay it is stored over: a branch would be hard to foretell.
 fn remove(o: &mut [u64], mask: u64, key: u64)
     requires { ⌜ length (now o) ≡ ordersWords ⌝ }
-    ensures { λ _. ⌜ ordersOf (now (o .exit)) ≡ withLedger (ordersOf (now (o .entry))) (each entryOf (keep (stays mask key) (wordsOf (now (o .entry))))) ⌝ }
+    ensures { λ _. ⌜ ordersOf (now (o .exit)) ≡ afterRemove mask key (now (o .entry)) ⌝ }
 {
     let n = in_use(o);
     let mut k = next_entry(o, 0, mask, key);
@@ -255,8 +255,8 @@ fn remove(o: &mut [u64], mask: u64, key: u64)
 }
 
 pub fn release(o: &mut [u64], i: u64, t: u64, a: u64)
-    requires { ⌜ (length (now o) ≡ ordersWords) × ((i < 64) × ((t < 64) × (a < 128))) ⌝ }
-    ensures { λ _. ⌜ ordersOf (now (o .exit)) ≡ withLedger (ordersOf (now (o .entry))) (keep (λ e. not (heldBy i t a e)) (ordersOf (now (o .entry)) .entries)) ⌝ }
+    requires { ⌜ (length (now o) ≡ ordersWords) × InLimits i t a ⌝ }
+    ensures { λ _. ⌜ ordersOf (now (o .exit)) ≡ afterRelease (ordersOf (now (o .entry))) i t a ⌝ }
 {
     let key = key_of(i, t, a);
     remove(o, HELD_BY, key);
@@ -265,7 +265,7 @@ pub fn release(o: &mut [u64], i: u64, t: u64, a: u64)
 // The instance is closed, and its entries go.
 pub fn end_order(o: &mut [u64], i: u64)
     requires { ⌜ (length (now o) ≡ ordersWords) × (i < 64) ⌝ }
-    ensures { λ _. ⌜ ordersOf (now (o .exit)) ≡ withInstance (withLedger (ordersOf (now (o .entry))) (keep (λ e. not (inOrder i e)) (ordersOf (now (o .entry)) .entries))) i none ⌝ }
+    ensures { λ _. ⌜ ordersOf (now (o .exit)) ≡ afterEnd (ordersOf (now (o .entry))) i ⌝ }
 {
     remove(o, ORDER, i);
     set_instance(o, i, 0);
@@ -279,8 +279,8 @@ fn turn(w: u64, key: u64) -> u64
 }
 
 pub fn finish(o: &mut [u64], i: u64, t: u64, a: u64)
-    requires { ⌜ (length (now o) ≡ ordersWords) × ((i < 64) × ((t < 64) × (a < 128))) ⌝ }
-    ensures { λ _. ⌜ ordersOf (now (o .exit)) ≡ withLedger (ordersOf (now (o .entry))) (each (turned i t a) (ordersOf (now (o .entry)) .entries)) ⌝ }
+    requires { ⌜ (length (now o) ≡ ordersWords) × InLimits i t a ⌝ }
+    ensures { λ _. ⌜ ordersOf (now (o .exit)) ≡ afterFinish (ordersOf (now (o .entry))) i t a ⌝ }
 {
     let n = in_use(o);
     let key = key_of(i, t, a);
@@ -293,7 +293,7 @@ pub fn finish(o: &mut [u64], i: u64, t: u64, a: u64)
 }
 
 pub fn holds_task(o: &[u64], i: u64, t: u64, a: u64) -> bool
-    requires { ⌜ (length (now o) ≡ ordersWords) × ((i < 64) × ((t < 64) × (a < 128))) ⌝ }
+    requires { ⌜ (length (now o) ≡ ordersWords) × InLimits i t a ⌝ }
     ensures { λ r. ⌜ r ≡ some (heldBy i t a) (ordersOf (now (o .entry)) .entries) ⌝ }
 {
     let key = key_of(i, t, a);

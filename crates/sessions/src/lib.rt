@@ -42,7 +42,7 @@ pub fn active(s: &[u64], a: usize) -> Set
 }
 
 // Whether subject a is a live one of user u: one compare of the word.
-pub fn of_user(s: &[u64], u: u64, a: usize) -> bool
+fn of_user(s: &[u64], u: u64, a: usize) -> bool
     requires { ⌜ (length (now s) ≡ sessionsWords) × ((u < 1024) × (a < 128)) ⌝ }
     ensures { λ r. ⌜ r ≡ ofUser (sessionsOf (now (s .entry))) u a ⌝ }
 {

@@ -1,9 +1,9 @@
 -- Each way out is the first check of the definition that applies.
 use borrow.Author.Needs.{needs}
 use Rattle.paper_upper.specs.Requests.{endChecks}
-use Rattle.claims.proofs.ClaimLaws.{open-there}
-use Rattle.claims.proofs.end_reply.Statement.{statement}
-use Rattle.claims.proofs.end_reply.Tie as tie
+use Rattle.ledger.proofs.TableLaws.{open-there}
+use Rattle.orders.proofs.end_reply.Statement.{statement}
+use Rattle.orders.proofs.end_reply.Tie as tie
 
 opened-requires : tie.Need-opened-requires
 opened-requires c κs = search needs

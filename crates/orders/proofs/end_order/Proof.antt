@@ -2,8 +2,8 @@
 use borrow.Author.Needs.{needs}
 use Rattle.paper_upper.specs.Requests.{endNext}
 use Rattle.replies.proofs.DoneLaws.{refused, done}
-use Rattle.claims.proofs.end_order.Statement.{statement}
-use Rattle.claims.proofs.end_order.Tie as tie
+use Rattle.orders.proofs.end_order.Statement.{statement}
+use Rattle.orders.proofs.end_order.Tie as tie
 
 end-reply-requires : tie.Need-end-reply-requires
 end-reply-requires c κs = search needs

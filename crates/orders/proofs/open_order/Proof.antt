@@ -2,8 +2,8 @@
 use borrow.Author.Needs.{needs}
 use Rattle.paper_upper.specs.Requests.{openNext}
 use Rattle.replies.proofs.DoneLaws.{refused, done}
-use Rattle.claims.proofs.open_order.Statement.{statement}
-use Rattle.claims.proofs.open_order.Tie as tie
+use Rattle.orders.proofs.open_order.Statement.{statement}
+use Rattle.orders.proofs.open_order.Tie as tie
 
 open-reply-requires : tie.Need-open-reply-requires
 open-reply-requires c κs = search needs

@@ -4,8 +4,8 @@ use borrow.Author.Needs.{needs}
 use Rattle.replies.proofs.DoneLaws.{refused, done}
 use Rattle.sessions.specs.Reading.{sessionsOf}
 use Rattle.ledger.specs.Reading.{ordersOf}
-use Rattle.claims.proofs.delete.Statement.{statement}
-use Rattle.claims.proofs.delete.Tie as tie
+use Rattle.orders.proofs.delete.Statement.{statement}
+use Rattle.orders.proofs.delete.Tie as tie
 
 delete-reply-requires : tie.Need-delete-reply-requires
 delete-reply-requires c κs = search needs

@@ -4,8 +4,8 @@ use borrow.Author.Needs.{needs}
 use Rattle.replies.proofs.DoneLaws.{refused, done}
 use Rattle.policy.specs.Reading.{policyOf}
 use Rattle.ledger.specs.Reading.{ordersOf}
-use Rattle.claims.proofs.destroy.Statement.{statement}
-use Rattle.claims.proofs.destroy.Tie as tie
+use Rattle.orders.proofs.destroy.Statement.{statement}
+use Rattle.orders.proofs.destroy.Tie as tie
 
 destroy-reply-requires : tie.Need-destroy-reply-requires
 destroy-reply-requires c κs = search needs

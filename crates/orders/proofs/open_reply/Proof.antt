@@ -1,9 +1,9 @@
 -- Each way out is the first check of the definition that applies.
 use borrow.Author.Needs.{needs}
 use Rattle.paper_upper.specs.Requests.{openChecks}
-use Rattle.claims.proofs.ClaimLaws.{open-there}
-use Rattle.claims.proofs.open_reply.Statement.{statement}
-use Rattle.claims.proofs.open_reply.Tie as tie
+use Rattle.ledger.proofs.TableLaws.{open-there}
+use Rattle.orders.proofs.open_reply.Statement.{statement}
+use Rattle.orders.proofs.open_reply.Tie as tie
 
 has-task-requires : tie.Need-has-task-requires
 has-task-requires c κs = search needs
