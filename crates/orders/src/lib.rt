@@ -20,10 +20,8 @@ fn delete_reply(p: &[u64], s: &[u64], o: &[u64], a: u64) -> Reply
     if !accepted(r) {
         return r;
     }
-    if ledger::in_open_order(o, a) {
-        return Reply::InUse;
-    }
-    Reply::Granted
+    let used = ledger::in_open_order(o, a);
+    if used { Reply::InUse } else { Reply::Granted }
 }
 
 pub fn delete(p: &mut [u64], s: &[u64], o: &[u64], a: u64) -> Reply
@@ -48,10 +46,8 @@ fn destroy_reply(s: &[u64], o: &[u64], a: u64) -> Reply
     if !accepted(r) {
         return r;
     }
-    if ledger::holds_any(o, a) {
-        return Reply::InUse;
-    }
-    Reply::Granted
+    let holds = ledger::holds_any(o, a);
+    if holds { Reply::InUse } else { Reply::Granted }
 }
 
 pub fn destroy(s: &mut [u64], o: &[u64], a: u64) -> Reply
@@ -104,10 +100,8 @@ fn end_reply(o: &[u64], a: u64) -> Reply
     if !x.open {
         return Reply::Unknown;
     }
-    if ledger::order_held(o, a) {
-        return Reply::InUse;
-    }
-    Reply::Granted
+    let held = ledger::order_held(o, a);
+    if held { Reply::InUse } else { Reply::Granted }
 }
 
 pub fn end_order(o: &mut [u64], a: u64) -> Reply

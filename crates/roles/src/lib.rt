@@ -21,10 +21,8 @@ pub fn delete_reply(p: &[u64], s: &[u64], a: u64) -> Reply
     if !policy::user_declared(p, a as usize) {
         return Reply::Unknown;
     }
-    if sessions::has_subject(s, a) {
-        return Reply::InUse;
-    }
-    Reply::Granted
+    let used = sessions::has_subject(s, a);
+    if used { Reply::InUse } else { Reply::Granted }
 }
 
 // The user is no longer one, and has no roles: for those who have judged.
@@ -59,11 +57,8 @@ fn take_back_reply(p: &[u64], s: &[u64], a: u64, b: u64) -> Reply
     {
         return Reply::Unknown;
     }
-    let active = sessions::active_of(s, a);
-    if active.has(b) {
-        return Reply::InUse;
-    }
-    Reply::Granted
+    let active = sessions::active_of(s, a).has(b);
+    if active { Reply::InUse } else { Reply::Granted }
 }
 
 pub fn take_back(p: &mut [u64], s: &[u64], a: u64, b: u64) -> Reply
