@@ -17,6 +17,7 @@ use loading::Loaded;
 use records::Call;
 use records::Record;
 use replies::Reply;
+use sessions::SESSIONS_WORDS;
 use sets::Set;
 
 // A request that SHAPE and RANGE let pass.
@@ -45,7 +46,7 @@ pub fn step(r: Record, p: &mut [u64], s: &mut [u64]) -> Reply
 pub fn request(bytes: &[u8], p: &mut [u64], s: &mut [u64]) -> Reply
     ensures { λ r. ⌜ Requested (now (bytes .entry)) (now (p .entry)) (now (s .entry)) (now (p .exit)) (now (s .exit)) r ⌝ }
 {
-    if (p.len() != 4504) | (s.len() != 256) {
+    if (p.len() != 4504) | (s.len() != SESSIONS_WORDS) {
         return Reply::Room;
     }
     let r = records::judge(Call::Lower, bytes);
@@ -59,7 +60,7 @@ pub fn request(bytes: &[u8], p: &mut [u64], s: &mut [u64]) -> Reply
 pub fn load(bytes: &[u8], p: &mut [u64], s: &mut [u64]) -> Loaded
     ensures { λ x. ⌜ Loads (now (bytes .entry)) (now (p .entry)) (now (s .entry)) (now (p .exit)) (now (s .exit)) (x .reply) (x .place) ⌝ }
 {
-    if (p.len() != 4504) | (s.len() != 256) {
+    if (p.len() != 4504) | (s.len() != SESSIONS_WORDS) {
         return Loaded {
             reply: Reply::Room,
             place: 0,
@@ -105,7 +106,7 @@ pub extern "C" fn mishantral_lower_words(group: u64) -> u64
         return 4504;
     }
     if group == 1 {
-        return 256;
+        return SESSIONS_WORDS as u64;
     }
     0
 }
