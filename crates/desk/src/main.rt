@@ -193,7 +193,7 @@ fn write_load(number: u64, place: u64) -> bool {
 }
 
 fn main() {
-    let mut policy = [0u64; 4504];
+    let mut policy = [0u64; policy::POLICY_WORDS];
     let mut sessions = [0u64; 256];
     let mut orders = [0u64; 2113];
     let loaded = load_file(&mut policy, &mut sessions, &mut orders);

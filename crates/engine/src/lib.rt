@@ -17,6 +17,7 @@ ghost use Rattle.engine.specs.Answers.{Requested, LoadDone};
 ghost use Rattle.engine.specs.Exports.{LoadExported, RequestExported, wordsOf};
 use ledger::ORDERS_WORDS;
 use loading::Loaded;
+use policy::POLICY_WORDS;
 use records::Call;
 use records::Record;
 use replies::Reply;
@@ -45,7 +46,7 @@ fn step(r: Record, p: &mut [u64], s: &mut [u64], o: &mut [u64]) -> Reply
 pub fn request(bytes: &[u8], policy: &mut [u64], sessions: &mut [u64], orders: &mut [u64]) -> Reply
     ensures { λ r. ⌜ Requested (now (bytes .entry)) (buffers (now (policy .entry)) (now (sessions .entry)) (now (orders .entry))) (buffers (now (policy .exit)) (now (sessions .exit)) (now (orders .exit))) r ⌝ }
 {
-    if (policy.len() != 4504)
+    if (policy.len() != POLICY_WORDS)
         | (sessions.len() != SESSIONS_WORDS)
         | (orders.len() != ORDERS_WORDS)
     {
@@ -62,7 +63,7 @@ pub fn request(bytes: &[u8], policy: &mut [u64], sessions: &mut [u64], orders: &
 pub fn load(bytes: &[u8], policy: &mut [u64], sessions: &mut [u64], orders: &mut [u64]) -> Loaded
     ensures { λ x. ⌜ LoadDone (now (bytes .entry)) (buffers (now (policy .entry)) (now (sessions .entry)) (now (orders .entry))) (buffers (now (policy .exit)) (now (sessions .exit)) (now (orders .exit))) (x .reply) (x .place) ⌝ }
 {
-    if (policy.len() != 4504)
+    if (policy.len() != POLICY_WORDS)
         | (sessions.len() != SESSIONS_WORDS)
         | (orders.len() != ORDERS_WORDS)
     {
@@ -110,7 +111,7 @@ pub extern "C" fn mishantral_words(group: u64) -> u64
     ensures { λ n. ⌜ n ≡ wordsOf group ⌝ }
 {
     if group == 0 {
-        return 4504;
+        return POLICY_WORDS as u64;
     }
     if group == 1 {
         return SESSIONS_WORDS as u64;
