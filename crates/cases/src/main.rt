@@ -14,10 +14,9 @@
 ghost use Prim.Native.Nat.{_<_, _≤_};
 ghost use lib.ListN.{length};
 use loading::Loaded;
+use policy::POLICY_WORDS;
 use replies::Reply;
 use scripts::Fields;
-
-const POLICY: usize = 4504;
 
 const SESSIONS: usize = 256;
 
@@ -157,7 +156,7 @@ fn ask_record(
 fn ask_cut(line: &[u8], room: &mut [u8], n: usize, p: &mut [u64], s: &mut [u64], o: &mut [u64]) {
     scripts::put(room, 0, scripts::record_of(line, 2));
     if n <= room.len() {
-        ask(line, &room[0..n], p, POLICY, s, SESSIONS, o, ORDERS);
+        ask(line, &room[0..n], p, POLICY_WORDS, s, SESSIONS, o, ORDERS);
     }
 }
 
@@ -169,7 +168,7 @@ fn cut(line: &[u8], n: usize, p: &mut [u64], s: &mut [u64], o: &mut [u64]) {
 // A request to words that mean nothing.
 fn attempt(line: &[u8], r: Fields, p: &mut [u64], s: &mut [u64], o: &mut [u64]) {
     let bytes = scripts::bytes(r);
-    let a = answered(&bytes, p, POLICY, s, SESSIONS, o, ORDERS);
+    let a = answered(&bytes, p, POLICY_WORDS, s, SESSIONS, o, ORDERS);
     say(line);
     say_if(a.reply <= 20, b": answered");
     say_if((a.reply != 0) & !a.kept, b", and words changed");
@@ -196,8 +195,8 @@ fn claimed(a: u64, b: u64, c: u64, p: &mut [u64], s: &mut [u64], o: &mut [u64]) 
         c: c,
         m: 0,
     });
-    let first = replies::number(request_in(&claim, p, POLICY, s, SESSIONS, o, ORDERS));
-    request_in(&done, p, POLICY, s, SESSIONS, o, ORDERS);
+    let first = replies::number(request_in(&claim, p, POLICY_WORDS, s, SESSIONS, o, ORDERS));
+    request_in(&done, p, POLICY_WORDS, s, SESSIONS, o, ORDERS);
     one_if(first == 0)
 }
 
@@ -294,7 +293,7 @@ fn load(
 // Loads the first n bytes.
 fn load_front(line: &[u8], bytes: &[u8], n: usize, p: &mut [u64], s: &mut [u64], o: &mut [u64]) {
     if n <= bytes.len() {
-        load(line, &bytes[0..n], p, POLICY, s, SESSIONS, o, ORDERS);
+        load(line, &bytes[0..n], p, POLICY_WORDS, s, SESSIONS, o, ORDERS);
     }
 }
 
@@ -339,7 +338,7 @@ fn run_ask(letter: u8, line: &[u8], p: &mut [u64], s: &mut [u64], o: &mut [u64])
             line,
             scripts::record_of(line, 1),
             p,
-            POLICY,
+            POLICY_WORDS,
             s,
             SESSIONS,
             o,

@@ -6,7 +6,7 @@ use mathlib.Core.Path.{_≡_, sym, ap, _∙_}
 use borrow.Author.Tests.{not-false, leb-false}
 use lib.Dec.{eqb, leb}
 use Rattle.paper_lower.specs.Sets.{meets}
-use Rattle.paper_lower.specs.Lists.{Maybe, holds, there, is, some, many}
+use Rattle.paper_lower.specs.Lists.{holds, is, some, many}
 use Rattle.paper_lower.specs.Lists.Maybe.{just}
 use Rattle.paper_lower.specs.Checks.{Check, first, FULL}
 use Rattle.paper_lower.proofs.ListLaws.{or-none, both}
@@ -22,13 +22,10 @@ use Rattle.ledger.specs.Reading.{openedOf}
 use Rattle.ledger.specs.Gathering.{gatheredOf}
 use Rattle.ledger.specs.declared.Instance.{Instance}
 use Rattle.ledger.specs.declared.Gathered.{Gathered}
-use Rattle.ledger.proofs.TableLaws.{holds-opened, there-opened, gathered-mine, gathered-done, gathered-others, gathered-times, gathered-held}
+use Rattle.ledger.proofs.TableLaws.{holds-opened, gathered-mine, gathered-done, gathered-others, gathered-times, gathered-held}
 use Rattle.rules.specs.Judging.{gatheredChecks}
 use Rattle.rules.proofs.JudgeLaws.{gathered}
-use Rattle.claims.proofs.Layers.{one-more}
-
-pub open-there : (x : Instance) {y : Maybe ℕ} → openedOf x ≡ y → there y ≡ x .open
-open-there x e = rw (← e) (there-opened x)
+use Rattle.orders.proofs.Layers.{one-more}
 
 module _ (t : Engine) (a b c : ℕ) where
   -- the claim rules and FULL, the last checks of a claim
@@ -71,7 +68,7 @@ module _ (t : Engine) (a b c : ℕ) where
     held-is h = sym (gathered-held b u c (t .orders .entries) gathers) ∙ h
 
     pub by-entries : {j : ℕ} (r : Reply) → t .orders .opened b ≡ just j
-        → numberOf r ≡ first (gatheredChecks (t .lower .policy .tasks) (t .lower .policy .rules) (just j) (g .mine) (g .done) (g .others) (g .times) c)
+        → numberOf r ≡ first (gatheredChecks (t .lower .policy .tasks) (t .lower .policy .rules) (just j) (g .mine .bits) (g .done .bits) (g .others .bits) (g .times) c)
         → numberOf r ≡ first rulesOf
     by-entries r e q =
         let es = t .orders .entries in

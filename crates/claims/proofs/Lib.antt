@@ -1,2 +1,1 @@
-mod Layers
 mod ClaimLaws

@@ -1,90 +1,27 @@
-// Requests 48 to 52 and 57, and the upper halves of 33 and 41, over the policy, the sessions and the orders together.
-// Each is judged over what is only read, and then done; each equals document 01's definition of it (paper_upper, Requests).
+// Requests 50 to 52 and 57: a task claimed, released, done, and what may be done with it, over the policy, the sessions and the orders together.
+// Each is judged over what is only read, and then done; specs/Promises says what each promises.
 ghost use mathlib.Core.Path.{_≡_};
-ghost use mathlib.Core.List.{List};
-ghost use Prim.Native.Nat.{ℕ, _<_};
+ghost use Prim.Native.Nat.{_<_};
 ghost use lib.ListN.{length};
 ghost use Rattle.paper_lower.specs.Sets.{meets};
-ghost use Rattle.paper_lower.specs.Lists.Maybe.{just};
-ghost use Rattle.paper_lower.specs.Checks.{first};
-ghost use Rattle.paper_upper.specs.Requests.{openChecks, openNext, endChecks, endNext, unknown, claimChecks, claimNext, holdChecks, releaseNext, doneNext, taskCheckChecks};
-ghost use Rattle.replies.specs.Replies.{numberOf};
-ghost use Rattle.replies.specs.Done.{Done};
+ghost use Rattle.paper_upper.specs.Requests.{unknown};
 ghost use Rattle.policy.specs.Layout.{policyWords};
 ghost use Rattle.policy.specs.Reading.{policyOf};
 ghost use Rattle.sessions.specs.Reading.{sessionsWords, sessionsOf};
-ghost use Rattle.ledger.specs.Reading.{ordersWords};
-ghost use Rattle.rules.specs.Judging.{gatheredChecks};
-ghost use Rattle.claims.specs.Tables.{engineTables, deleteWhole, deleteWholeNext, destroyWhole, destroyWholeNext};
+ghost use Rattle.orders.specs.Tables.{engineTables};
+ghost use Rattle.claims.specs.Promises.{InLimits, RulesJudged, ClaimJudged, Claimed, HoldJudged, Released, Finished, TaskCheckJudged};
 use ledger::Gathered;
 use replies::Reply;
 use replies::accepted;
-use sets::set_of;
 
 // "FULL is given only at 2,048 in use."
 const MOST: usize = 2048;
-
-// ---- 48: open instance a of template b, whatever the sessions are.
-
-pub fn open_reply(p: &[u64], o: &[u64], a: u64, b: u64) -> Reply
-    requires { ⌜ (length (now p) ≡ policyWords) × ((length (now o) ≡ ordersWords) × ((a < 64) × (b < 16))) ⌝ }
-    ensures { λ r. ⌜ ((s : List ℕ) → numberOf r ≡ first (openChecks (engineTables (now (p .entry)) s (now (o .entry))) a b)) ⌝ }
-{
-    if !questions::has_task(p, b) {
-        return Reply::Unknown;
-    }
-    let x = ledger::opened(o, a);
-    if x.open {
-        return Reply::Taken;
-    }
-    Reply::Granted
-}
-
-pub fn open_order(p: &[u64], o: &mut [u64], a: u64, b: u64) -> Reply
-    requires { ⌜ (length (now p) ≡ policyWords) × ((length (now o) ≡ ordersWords) × ((a < 64) × (b < 16))) ⌝ }
-    ensures { λ r. ⌜ ((s : List ℕ) → Done (engineTables (now (p .entry)) s) (first (openChecks (engineTables (now (p .entry)) s (now (o .entry))) a b)) (openNext (engineTables (now (p .entry)) s (now (o .entry))) a b) (now (o .entry)) (now (o .exit)) r) ⌝ }
-{
-    let r = open_reply(p, o, a, b);
-    if !accepted(r) {
-        return r;
-    }
-    ledger::set_opened(o, a, b);
-    r
-}
-
-// ---- 49: end instance a, whatever the policy and the sessions are.
-
-pub fn end_reply(o: &[u64], a: u64) -> Reply
-    requires { ⌜ (length (now o) ≡ ordersWords) × (a < 64) ⌝ }
-    ensures { λ r. ⌜ ((p s : List ℕ) → numberOf r ≡ first (endChecks (engineTables p s (now (o .entry))) a)) ⌝ }
-{
-    let x = ledger::opened(o, a);
-    if !x.open {
-        return Reply::Unknown;
-    }
-    if ledger::order_held(o, a) {
-        return Reply::InUse;
-    }
-    Reply::Granted
-}
-
-pub fn end_order(o: &mut [u64], a: u64) -> Reply
-    requires { ⌜ (length (now o) ≡ ordersWords) × (a < 64) ⌝ }
-    ensures { λ r. ⌜ ((p s : List ℕ) → Done (engineTables p s) (first (endChecks (engineTables p s (now (o .entry))) a)) (endNext (engineTables p s (now (o .entry))) a) (now (o .entry)) (now (o .exit)) r) ⌝ }
-{
-    let r = end_reply(o, a);
-    if !accepted(r) {
-        return r;
-    }
-    ledger::end_order(o, a);
-    r
-}
 
 // ---- 50 to 52 and 57: subject a, instance b, task c.
 
 // Whether the subject is not live, or the task not one of an open instance's template.
 fn is_unknown(p: &[u64], s: &[u64], o: &[u64], a: u64, b: u64, c: u64) -> bool
-    requires { ⌜ (length (now p) ≡ policyWords) × ((length (now s) ≡ sessionsWords) × ((length (now o) ≡ ordersWords) × ((a < 128) × ((b < 64) × (c < 64))))) ⌝ }
+    requires { ⌜ InLimits (now p) (now s) (now o) a b c ⌝ }
     ensures { λ r. ⌜ r ≡ unknown (engineTables (now (p .entry)) (now (s .entry)) (now (o .entry))) a b c ⌝ }
 {
     let x = ledger::opened(o, b);
@@ -103,20 +40,17 @@ fn has_role(p: &[u64], s: &[u64], a: u64, c: u64) -> bool
 // The claim rules for task t of an instance of the template, over what was gathered of its entries.
 fn rules_reply(p: &[u64], template: u64, g: Gathered, t: u64) -> Reply
     requires { ⌜ (length (now p) ≡ policyWords) × ((template < 16) × (t < 64)) ⌝ }
-    ensures { λ r. ⌜ numberOf r ≡ first (gatheredChecks (policyOf (now (p .entry)) .tasks) (policyOf (now (p .entry)) .rules) (just template) (g .mine) (g .done) (g .others) (g .times) t) ⌝ }
+    ensures { λ r. ⌜ RulesJudged (now (p .entry)) template g t r ⌝ }
 {
-    let mine = set_of(g.mine);
-    let done = set_of(g.done);
-    let others = set_of(g.others);
-    let j = rules::judge(p, template, mine, done, others, g.times, t);
+    let j = rules::judge(p, template, g.mine, g.done, g.others, g.times, t);
     j.reply
 }
 
 // ---- 50: claim. The entries are walked once.
 
-pub fn claim_reply(p: &[u64], s: &[u64], o: &[u64], a: u64, b: u64, c: u64) -> Reply
-    requires { ⌜ (length (now p) ≡ policyWords) × ((length (now s) ≡ sessionsWords) × ((length (now o) ≡ ordersWords) × ((a < 128) × ((b < 64) × (c < 64))))) ⌝ }
-    ensures { λ r. ⌜ numberOf r ≡ first (claimChecks (engineTables (now (p .entry)) (now (s .entry)) (now (o .entry))) a b c) ⌝ }
+fn claim_reply(p: &[u64], s: &[u64], o: &[u64], a: u64, b: u64, c: u64) -> Reply
+    requires { ⌜ InLimits (now p) (now s) (now o) a b c ⌝ }
+    ensures { λ r. ⌜ ClaimJudged (now (p .entry)) (now (s .entry)) (now (o .entry)) a b c r ⌝ }
 {
     if is_unknown(p, s, o, a, b, c) {
         return Reply::Unknown;
@@ -141,8 +75,8 @@ pub fn claim_reply(p: &[u64], s: &[u64], o: &[u64], a: u64, b: u64, c: u64) -> R
 }
 
 pub fn claim(p: &[u64], s: &[u64], o: &mut [u64], a: u64, b: u64, c: u64) -> Reply
-    requires { ⌜ (length (now p) ≡ policyWords) × ((length (now s) ≡ sessionsWords) × ((length (now o) ≡ ordersWords) × ((a < 128) × ((b < 64) × (c < 64))))) ⌝ }
-    ensures { λ r. ⌜ Done (engineTables (now (p .entry)) (now (s .entry))) (first (claimChecks (engineTables (now (p .entry)) (now (s .entry)) (now (o .entry))) a b c)) (claimNext (engineTables (now (p .entry)) (now (s .entry)) (now (o .entry))) a b c) (now (o .entry)) (now (o .exit)) r ⌝ }
+    requires { ⌜ InLimits (now p) (now s) (now o) a b c ⌝ }
+    ensures { λ r. ⌜ Claimed (now (p .entry)) (now (s .entry)) (now (o .entry)) (now (o .exit)) a b c r ⌝ }
 {
     let reply = claim_reply(p, s, o, a, b, c);
     if !accepted(reply) {
@@ -155,9 +89,9 @@ pub fn claim(p: &[u64], s: &[u64], o: &mut [u64], a: u64, b: u64, c: u64) -> Rep
 
 // ---- 51 and 52: release, done.
 
-pub fn hold_reply(p: &[u64], s: &[u64], o: &[u64], a: u64, b: u64, c: u64) -> Reply
-    requires { ⌜ (length (now p) ≡ policyWords) × ((length (now s) ≡ sessionsWords) × ((length (now o) ≡ ordersWords) × ((a < 128) × ((b < 64) × (c < 64))))) ⌝ }
-    ensures { λ r. ⌜ numberOf r ≡ first (holdChecks (engineTables (now (p .entry)) (now (s .entry)) (now (o .entry))) a b c) ⌝ }
+fn hold_reply(p: &[u64], s: &[u64], o: &[u64], a: u64, b: u64, c: u64) -> Reply
+    requires { ⌜ InLimits (now p) (now s) (now o) a b c ⌝ }
+    ensures { λ r. ⌜ HoldJudged (now (p .entry)) (now (s .entry)) (now (o .entry)) a b c r ⌝ }
 {
     if is_unknown(p, s, o, a, b, c) {
         return Reply::Unknown;
@@ -169,8 +103,8 @@ pub fn hold_reply(p: &[u64], s: &[u64], o: &[u64], a: u64, b: u64, c: u64) -> Re
 }
 
 pub fn release(p: &[u64], s: &[u64], o: &mut [u64], a: u64, b: u64, c: u64) -> Reply
-    requires { ⌜ (length (now p) ≡ policyWords) × ((length (now s) ≡ sessionsWords) × ((length (now o) ≡ ordersWords) × ((a < 128) × ((b < 64) × (c < 64))))) ⌝ }
-    ensures { λ r. ⌜ Done (engineTables (now (p .entry)) (now (s .entry))) (first (holdChecks (engineTables (now (p .entry)) (now (s .entry)) (now (o .entry))) a b c)) (releaseNext (engineTables (now (p .entry)) (now (s .entry)) (now (o .entry))) a b c) (now (o .entry)) (now (o .exit)) r ⌝ }
+    requires { ⌜ InLimits (now p) (now s) (now o) a b c ⌝ }
+    ensures { λ r. ⌜ Released (now (p .entry)) (now (s .entry)) (now (o .entry)) (now (o .exit)) a b c r ⌝ }
 {
     let r = hold_reply(p, s, o, a, b, c);
     if !accepted(r) {
@@ -181,8 +115,8 @@ pub fn release(p: &[u64], s: &[u64], o: &mut [u64], a: u64, b: u64, c: u64) -> R
 }
 
 pub fn finish(p: &[u64], s: &[u64], o: &mut [u64], a: u64, b: u64, c: u64) -> Reply
-    requires { ⌜ (length (now p) ≡ policyWords) × ((length (now s) ≡ sessionsWords) × ((length (now o) ≡ ordersWords) × ((a < 128) × ((b < 64) × (c < 64))))) ⌝ }
-    ensures { λ r. ⌜ Done (engineTables (now (p .entry)) (now (s .entry))) (first (holdChecks (engineTables (now (p .entry)) (now (s .entry)) (now (o .entry))) a b c)) (doneNext (engineTables (now (p .entry)) (now (s .entry)) (now (o .entry))) a b c) (now (o .entry)) (now (o .exit)) r ⌝ }
+    requires { ⌜ InLimits (now p) (now s) (now o) a b c ⌝ }
+    ensures { λ r. ⌜ Finished (now (p .entry)) (now (s .entry)) (now (o .entry)) (now (o .exit)) a b c r ⌝ }
 {
     let r = hold_reply(p, s, o, a, b, c);
     if !accepted(r) {
@@ -195,8 +129,8 @@ pub fn finish(p: &[u64], s: &[u64], o: &mut [u64], a: u64, b: u64, c: u64) -> Re
 // ---- 57: may the subject do this with the task that it holds? m is the operation and 65,536 times the object. It changes nothing.
 
 pub fn task_check_reply(p: &[u64], s: &[u64], o: &[u64], a: u64, b: u64, c: u64, m: u64) -> Reply
-    requires { ⌜ (length (now p) ≡ policyWords) × ((length (now s) ≡ sessionsWords) × ((length (now o) ≡ ordersWords) × ((a < 128) × ((b < 64) × ((c < 64) × (m < 4294967296)))))) ⌝ }
-    ensures { λ r. ⌜ numberOf r ≡ first (taskCheckChecks (engineTables (now (p .entry)) (now (s .entry)) (now (o .entry))) a b c m) ⌝ }
+    requires { ⌜ InLimits (now p) (now s) (now o) a b c × (m < 4294967296) ⌝ }
+    ensures { λ r. ⌜ TaskCheckJudged (now (p .entry)) (now (s .entry)) (now (o .entry)) a b c m r ⌝ }
 {
     let r = hold_reply(p, s, o, a, b, c);
     if !accepted(r) {
@@ -206,60 +140,4 @@ pub fn task_check_reply(p: &[u64], s: &[u64], o: &[u64], a: u64, b: u64, c: u64,
         return Reply::Denied;
     }
     Reply::Granted
-}
-
-// ---- 33: delete user a, who has no entry in an open instance.
-
-pub fn delete_reply(p: &[u64], s: &[u64], o: &[u64], a: u64) -> Reply
-    requires { ⌜ (length (now p) ≡ policyWords) × ((length (now s) ≡ sessionsWords) × ((length (now o) ≡ ordersWords) × (a < 1024))) ⌝ }
-    ensures { λ r. ⌜ numberOf r ≡ first (deleteWhole (engineTables (now (p .entry)) (now (s .entry)) (now (o .entry))) a) ⌝ }
-{
-    let r = roles::delete_reply(p, s, a);
-    if !accepted(r) {
-        return r;
-    }
-    if ledger::in_open_order(o, a) {
-        return Reply::InUse;
-    }
-    Reply::Granted
-}
-
-pub fn delete(p: &mut [u64], s: &[u64], o: &[u64], a: u64) -> Reply
-    requires { ⌜ (length (now p) ≡ policyWords) × ((length (now s) ≡ sessionsWords) × ((length (now o) ≡ ordersWords) × (a < 1024))) ⌝ }
-    ensures { λ r. ⌜ Done (λ l. engineTables l (now (s .entry)) (now (o .entry))) (first (deleteWhole (engineTables (now (p .entry)) (now (s .entry)) (now (o .entry))) a)) (deleteWholeNext (engineTables (now (p .entry)) (now (s .entry)) (now (o .entry))) a) (now (p .entry)) (now (p .exit)) r ⌝ }
-{
-    let r = delete_reply(p, s, o, a);
-    if !accepted(r) {
-        return r;
-    }
-    roles::remove(p, a);
-    r
-}
-
-// ---- 41: destroy subject a, which holds no task.
-
-pub fn destroy_reply(s: &[u64], o: &[u64], a: u64) -> Reply
-    requires { ⌜ (length (now s) ≡ sessionsWords) × ((length (now o) ≡ ordersWords) × (a < 128)) ⌝ }
-    ensures { λ r. ⌜ ((p : List ℕ) → numberOf r ≡ first (destroyWhole (engineTables p (now (s .entry)) (now (o .entry))) a)) ⌝ }
-{
-    let r = subjects::destroy_reply(s, a);
-    if !accepted(r) {
-        return r;
-    }
-    if ledger::holds_any(o, a) {
-        return Reply::InUse;
-    }
-    Reply::Granted
-}
-
-pub fn destroy(s: &mut [u64], o: &[u64], a: u64) -> Reply
-    requires { ⌜ (length (now s) ≡ sessionsWords) × ((length (now o) ≡ ordersWords) × (a < 128)) ⌝ }
-    ensures { λ r. ⌜ ((p : List ℕ) → Done (λ l. engineTables p l (now (o .entry))) (first (destroyWhole (engineTables p (now (s .entry)) (now (o .entry))) a)) (destroyWholeNext (engineTables p (now (s .entry)) (now (o .entry))) a) (now (s .entry)) (now (s .exit)) r) ⌝ }
-{
-    let r = destroy_reply(s, o, a);
-    if !accepted(r) {
-        return r;
-    }
-    sessions::destroy(s, a as usize);
-    r
 }

@@ -6,7 +6,7 @@ use mathlib.Core.Path.{_≡_, refl, sym, ap, _∙_}
 use native.Mathlib.Omega.{arith}
 use Rattle.paper_lower.specs.Checks.{GRANTED, ROOM, FULL}
 use Rattle.paper_lower.specs.Records.{Bytes}
-use Rattle.paper_lower.specs.Kinds.{Answer, Said}
+use Rattle.paper_lower.specs.Kinds.{Said}
 use Rattle.paper_lower.specs.Tables.{Lower}
 use Rattle.paper_lower.specs.Load.{load, recordsOf}
 use Rattle.paper_lower.specs.Sessions.{lowerRequest, lowerOf}

@@ -4,12 +4,10 @@ use mathlib.Core.Bool.{Bool, true, false}
 use mathlib.Core.List.{List}
 use mathlib.Core.Path.{_≡_, refl, sym, ap, subst, _∙_}
 use native.Mathlib.Omega.{arith}
-use Rattle.paper_lower.specs.Lists.{Every}
-use Rattle.paper_lower.specs.Checks.{GRANTED, ROOM, BEFORE, FULL}
-use Rattle.paper_lower.specs.Records.{Bytes, decode}
+use Rattle.paper_lower.specs.Checks.{GRANTED, ROOM, BEFORE}
+use Rattle.paper_lower.specs.Records.{Bytes}
 use Rattle.paper_lower.specs.Kinds.{Said}
-use Rattle.paper_lower.specs.Tables.{Policy}
-use Rattle.paper_lower.specs.Load.{load, recordsOf}
+use Rattle.paper_lower.specs.Load.{load}
 use Rattle.paper_upper.specs.Orders.{Engine, SameTables}
 use Rattle.paper_upper.specs.Engine.{request, engineOf}
 use Rattle.replies.specs.declared.Reply.{Reply}
@@ -21,8 +19,7 @@ use Rattle.engine.specs.Exports.{LoadExported}
 use Rattle.engine.proofs.SameLaws.{tables-refl, tables-sym, tables-then}
 use Rattle.engine.proofs.RespectLaws.{respects}
 use Rattle.theorems.specs.Outside.{hear, outside}
-use Rattle.theorems.specs.OverEntries.{claimRules, RoleLimits}
-use Rattle.theorems.specs.Theorems.{tablesAfter, saidAfter, replyAfter, Reaches, FirstBroken}
+use Rattle.theorems.specs.Theorems.{tablesAfter, saidAfter, replyAfter, Reaches}
 use Rattle.theorems.proofs.Replies.{checks-in-order, refused-loads-are-empty}
 use Rattle.theorems.proofs.Theorems.{orders-keep-the-rules, clerks-keep-the-limits, first-rule-broken}
 use Rattle.demands.specs.Calls.{Request, Load, Requests, fitting, asked}

@@ -1,8 +1,9 @@
-// Document 01's desk program: loads the file policy.rec, then answers the request records of standard input, one line a request.
-// It rests on the crate engine for every decision, and on io, libc and os for files and numbers as text.
+// The desk program (docs/RULES.md): loads the file policy.rec, then answers the request records of standard input, one line a request,
+// each as soon as it is there. It rests on the crate engine for every decision, and on io, libc and os for files and numbers as text.
 use loading::Loaded;
 use replies::Reply;
-ghost use Prim.Native.Nat.{_+_, _*_, _<_, _≤_};
+ghost use Prim.Native.Nat.{_+_, _%_, _<_, _≤_, min};
+ghost use mathlib.Core.Path.{_≡_};
 ghost use lib.ListN.{length};
 
 // What was read: this many bytes, or nothing, where a read failed.
@@ -23,7 +24,7 @@ fn read_some(fd: i32, buffer: &mut [u8], at: usize) -> Got
     Got::Bytes(io::count(got, part))
 }
 
-// Reads until the buffer is full or the input ends: a pipe gives what it has, and a record must not be cut there.
+// Reads until the buffer is full or the input ends.
 fn read_all(fd: i32, buffer: &mut [u8]) -> Got {
     let mut at = 0;
     while at < buffer.len() {
@@ -109,9 +110,16 @@ fn put_line(out: &mut [u8; 16384], at: usize, first: u64, second: u64) -> usize
 // Where the record that starts at `at` ends: behind 16 bytes, or with the input, which cuts it.
 fn record_end(at: usize, n: usize) -> usize
     requires { ⌜ at < n ⌝ }
-    ensures { λ r. ⌜ (at ≤ r) × (r ≤ n) ⌝ }
+    ensures { λ r. ⌜ r ≡ min (at + 16) n ⌝ }
 {
     if n - at < 16 { n } else { at + 16 }
+}
+
+// How many of the bytes read are whole records; those behind them begin the next one.
+fn whole_records(bytes: usize) -> usize
+    ensures { λ r. ⌜ (r % 16 ≡ 0) × ((r ≤ bytes) × (bytes < r + 16)) ⌝ }
+{
+    bytes - bytes % 16
 }
 
 // Answers the records of a block, the first of which has this place, and gives the number of bytes of the lines.
@@ -167,22 +175,67 @@ fn serve_front(
     write_lines(&out, length)
 }
 
-// Reads and answers a block of up to 256 requests; whether more may follow.
-fn serve_block(first: u64, policy: &mut [u64], sessions: &mut [u64], orders: &mut [u64]) -> bool
-    requires { ⌜ first < 1152921504606846976 ⌝ }
+// How many of the bytes are answered now: the whole records, and at the end of the input, where nothing came, also a cut one.
+fn answered(bytes: usize, came: usize) -> usize
+    ensures { λ r. ⌜ r ≤ bytes ⌝ }
 {
-    let mut buffer = [0u8; 4096];
-    let Got::Bytes(n) = read_all(0, &mut buffer) else {
-        return false;
-    };
-    serve_front(&buffer, n, first, policy, sessions, orders) && n == 4096
+    if came == 0 {
+        bytes
+    } else {
+        whole_records(bytes)
+    }
 }
 
-// The bound, 2^60, makes the end of the loop plain; no input is that long.
+// Moves the bytes of a record that is not all there yet to the front.
+fn keep_rest(buffer: &mut [u8; 4096], from: usize, to: usize)
+    requires { ⌜ from ≤ to ⌝ }
+    requires { ⌜ to ≤ 4096 ⌝ }
+{
+    let mut i = 0;
+    while i < to - from {
+        buffer[i] = buffer[from + i];
+        i += 1;
+    }
+}
+
+// Reads what is there, behind the bytes that are kept, and answers what can be answered now. How many bytes have been seen
+// then: as many as before where nothing more is to come.
+fn serve_some(
+    buffer: &mut [u8; 4096],
+    seen: u64,
+    policy: &mut [u64],
+    sessions: &mut [u64],
+    orders: &mut [u64],
+) -> u64
+    requires { ⌜ seen < 1152921504606846976 ⌝ }
+    ensures { λ r. ⌜ r ≤ seen + 4096 ⌝ }
+{
+    let kept = (seen % 16) as usize;
+    let Got::Bytes(n) = read_some(0, buffer, kept) else {
+        return seen;
+    };
+    if 4096 - kept < n {
+        return seen;
+    }
+    let bytes = kept + n;
+    let now = answered(bytes, n);
+    if !serve_front(buffer, now, seen / 16 + 1, policy, sessions, orders) {
+        return seen;
+    }
+    keep_rest(buffer, now, bytes);
+    seen + n as u64
+}
+
+// The bound on the bytes seen, 2^60, makes the end of the loop plain; no input is that long.
 fn serve(policy: &mut [u64], sessions: &mut [u64], orders: &mut [u64]) {
-    let mut first = 1;
-    while first < 1152921504606846976 && serve_block(first, policy, sessions, orders) {
-        first += 256;
+    let mut buffer = [0u8; 4096];
+    let mut seen = 0;
+    while seen < 1152921504606846976 {
+        let next = serve_some(&mut buffer, seen, policy, sessions, orders);
+        if next <= seen {
+            return;
+        }
+        seen = next;
     }
 }
 
@@ -193,7 +246,7 @@ fn write_load(number: u64, place: u64) -> bool {
 }
 
 fn main() {
-    let mut policy = [0u64; 4504];
+    let mut policy = [0u64; policy::POLICY_WORDS];
     let mut sessions = [0u64; 256];
     let mut orders = [0u64; 2113];
     let loaded = load_file(&mut policy, &mut sessions, &mut orders);

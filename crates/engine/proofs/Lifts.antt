@@ -11,7 +11,7 @@ use Rattle.replies.specs.declared.Reply.{Reply}
 use Rattle.sessions.specs.Lower.{lowerTables}
 use Rattle.ledger.specs.Reading.{ordersOf}
 use Rattle.lower.specs.Stepped.{Stepped}
-use Rattle.claims.specs.Tables.{engineTables}
+use Rattle.orders.specs.Tables.{engineTables}
 use Rattle.engine.specs.Buffers.{Buffers, buffers, tablesOf}
 use Rattle.engine.specs.Step.{Step}
 

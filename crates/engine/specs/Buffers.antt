@@ -9,7 +9,7 @@ use Rattle.paper_upper.specs.Orders.{Engine}
 use Rattle.policy.specs.Layout.{policyWords}
 use Rattle.sessions.specs.Reading.{sessionsWords}
 use Rattle.ledger.specs.Reading.{ordersWords}
-use Rattle.claims.specs.Tables.{engineTables}
+use Rattle.orders.specs.Tables.{engineTables}
 
 pub record Buffers : Type 0 where
   pub policy : List ℕ

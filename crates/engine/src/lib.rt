@@ -10,15 +10,18 @@ ghost use Rattle.records.specs.Limits.{Limits};
 ghost use Rattle.policy.specs.Layout.{policyWords};
 ghost use Rattle.sessions.specs.Reading.{sessionsWords};
 ghost use Rattle.ledger.specs.Reading.{ordersWords};
-ghost use Rattle.claims.specs.Tables.{engineTables};
+ghost use Rattle.orders.specs.Tables.{engineTables};
 ghost use Rattle.engine.specs.Buffers.{buffers};
 ghost use Rattle.engine.specs.Step.{Step};
 ghost use Rattle.engine.specs.Answers.{Requested, LoadDone};
 ghost use Rattle.engine.specs.Exports.{LoadExported, RequestExported, wordsOf};
+use ledger::ORDERS_WORDS;
 use loading::Loaded;
+use policy::POLICY_WORDS;
 use records::Call;
 use records::Record;
 use replies::Reply;
+use sessions::SESSIONS_WORDS;
 
 // A request that SHAPE and RANGE let pass: the upper part's kinds here, all others by the lower part.
 fn step(r: Record, p: &mut [u64], s: &mut [u64], o: &mut [u64]) -> Reply
@@ -27,10 +30,10 @@ fn step(r: Record, p: &mut [u64], s: &mut [u64], o: &mut [u64]) -> Reply
 {
     let kind = r.kind;
     match kind {
-        33 => claims::delete(p, s, o, r.a),
-        41 => claims::destroy(s, o, r.a),
-        48 => claims::open_order(p, o, r.a, r.b),
-        49 => claims::end_order(o, r.a),
+        33 => orders::delete(p, s, o, r.a),
+        41 => orders::destroy(s, o, r.a),
+        48 => orders::open_order(p, o, r.a, r.b),
+        49 => orders::end_order(o, r.a),
         50 => claims::claim(p, s, o, r.a, r.b, r.c),
         51 => claims::release(p, s, o, r.a, r.b, r.c),
         52 => claims::finish(p, s, o, r.a, r.b, r.c),
@@ -43,7 +46,10 @@ fn step(r: Record, p: &mut [u64], s: &mut [u64], o: &mut [u64]) -> Reply
 pub fn request(bytes: &[u8], policy: &mut [u64], sessions: &mut [u64], orders: &mut [u64]) -> Reply
     ensures { λ r. ⌜ Requested (now (bytes .entry)) (buffers (now (policy .entry)) (now (sessions .entry)) (now (orders .entry))) (buffers (now (policy .exit)) (now (sessions .exit)) (now (orders .exit))) r ⌝ }
 {
-    if (policy.len() != 4504) | (sessions.len() != 256) | (orders.len() != 2113) {
+    if (policy.len() != POLICY_WORDS)
+        | (sessions.len() != SESSIONS_WORDS)
+        | (orders.len() != ORDERS_WORDS)
+    {
         return Reply::Room;
     }
     let r = records::judge(Call::Request, bytes);
@@ -57,7 +63,10 @@ pub fn request(bytes: &[u8], policy: &mut [u64], sessions: &mut [u64], orders: &
 pub fn load(bytes: &[u8], policy: &mut [u64], sessions: &mut [u64], orders: &mut [u64]) -> Loaded
     ensures { λ x. ⌜ LoadDone (now (bytes .entry)) (buffers (now (policy .entry)) (now (sessions .entry)) (now (orders .entry))) (buffers (now (policy .exit)) (now (sessions .exit)) (now (orders .exit))) (x .reply) (x .place) ⌝ }
 {
-    if (policy.len() != 4504) | (sessions.len() != 256) | (orders.len() != 2113) {
+    if (policy.len() != POLICY_WORDS)
+        | (sessions.len() != SESSIONS_WORDS)
+        | (orders.len() != ORDERS_WORDS)
+    {
         return Loaded {
             reply: Reply::Room,
             place: 0,
@@ -102,13 +111,13 @@ pub extern "C" fn mishantral_words(group: u64) -> u64
     ensures { λ n. ⌜ n ≡ wordsOf group ⌝ }
 {
     if group == 0 {
-        return 4504;
+        return POLICY_WORDS as u64;
     }
     if group == 1 {
-        return 256;
+        return SESSIONS_WORDS as u64;
     }
     if group == 2 {
-        return 2113;
+        return ORDERS_WORDS as u64;
     }
     0
 }

@@ -12,7 +12,7 @@ use Rattle.paper_upper.specs.Orders.{Standing, Entry, isHeld, isDone, inOrder, 
 use Rattle.paper_upper.specs.Orders.Standing.{held, done}
 use Rattle.ledger.specs.declared.Gathered.{Gathered}
 use Rattle.ledger.specs.Reading.{standingOf, entryOf, newestFirst, wordsTo, fits, NoneFits}
-use Rattle.ledger.specs.Gathering.{digit, gatheredOf, takenIn}
+use Rattle.ledger.specs.Gathering.{digit, setOf, gatheredOf, takenIn}
 use Rattle.ledger.proofs.ListLaws.{many-kept, many-each}
 use Rattle.ledger.proofs.WordLaws.{fits-order, is-done}
 use Rattle.ledger.proofs.OrdersLaws.{words-more, many-words}
@@ -40,9 +40,9 @@ module _ (i u t : ℕ) where
   gatheredIf : Bool → Entry → List Entry → Gathered
   gatheredIf b e es =
       record {
-        mine = cond (b && eqb (e .user) u) (plus (tasksBy i u es) (e .task)) (tasksBy i u es);
-        done = cond (b && isDone (e .standing)) (plus (tasksDone i es) (e .task)) (tasksDone i es);
-        others = cond (b && not (eqb (e .user) u)) (plus (tasksOthers i u es) (e .task)) (tasksOthers i u es);
+        mine = setOf (cond (b && eqb (e .user) u) (plus (tasksBy i u es) (e .task)) (tasksBy i u es));
+        done = setOf (cond (b && isDone (e .standing)) (plus (tasksDone i es) (e .task)) (tasksDone i es));
+        others = setOf (cond (b && not (eqb (e .user) u)) (plus (tasksOthers i u es) (e .task)) (tasksOthers i u es));
         times = many (cond (b && eqb (e .task) t) (e ∷ keep (ofTask i t) es) (keep (ofTask i t) es));
         held = digit (((b && eqb (e .task) t) && isHeld (e .standing)) || some (λ e. ofTask i t e && isHeld (e .standing)) es);
       }
@@ -50,9 +50,9 @@ module _ (i u t : ℕ) where
   gathered-if : (b : Bool) (e : Entry) (es : List Entry) → cond b (takenIn u t (e .user) (e .task) (isDone (e .standing)) (gatheredOf i u t es)) (gatheredOf i u t es) ≡ gatheredIf b e es
   unfolding gatheredIf gatheredOf takenIn
   gathered-if true e es = λ x. record {
-    mine = cond (eqb (e .user) u) (plus (tasksBy i u es) (e .task)) (tasksBy i u es);
-    done = cond (isDone (e .standing)) (plus (tasksDone i es) (e .task)) (tasksDone i es);
-    others = cond (not (eqb (e .user) u)) (plus (tasksOthers i u es) (e .task)) (tasksOthers i u es);
+    mine = setOf (cond (eqb (e .user) u) (plus (tasksBy i u es) (e .task)) (tasksBy i u es));
+    done = setOf (cond (isDone (e .standing)) (plus (tasksDone i es) (e .task)) (tasksDone i es));
+    others = setOf (cond (not (eqb (e .user) u)) (plus (tasksOthers i u es) (e .task)) (tasksOthers i u es));
     times = one-more (eqb (e .task) t) e (keep (ofTask i t) es) x;
     held = one-held (e .standing) (eqb (e .task) t) (some (λ e. ofTask i t e && isHeld (e .standing)) es) x;
   }
@@ -63,7 +63,7 @@ module _ (i u t : ℕ) where
   entry-more e es = gathered-if (inOrder i e) e es
 
   -- ---- The walk: after k turns, what is gathered of the first k words.
-  pub gather-none : (l : List ℕ) → _≡_ {A = Gathered} (record { mine = 0; done = 0; others = 0; times = 0; held = 0 }) (gatheredOf i u t (each entryOf (wordsTo l 0)))
+  pub gather-none : (l : List ℕ) → _≡_ {A = Gathered} (record { mine = setOf 0; done = setOf 0; others = setOf 0; times = 0; held = 0 }) (gatheredOf i u t (each entryOf (wordsTo l 0)))
   unfolding each wordsTo newestFirst gatheredOf tasksBy tasksDone tasksOthers tasksWhere many keep some
   gather-none l = refl
 
@@ -78,7 +78,7 @@ module _ (i u t : ℕ) where
       sym (ap (λ (b : Bool). cond b (takenIn u t (entryOf (getD l (65 + k) 0) .user) (entryOf (getD l (65 + k) 0) .task) (isDone (entryOf (getD l (65 + k) 0) .standing)) (gatheredOf i u t (each entryOf (wordsTo l k)))) (gatheredOf i u t (each entryOf (wordsTo l k)))) (sym (fits-order (getD l (65 + k) 0) i) ∙ e))
       ∙ gather-turn l k refl
 
-  pub gather-skip : (l : List ℕ) (k d : ℕ) → NoneFits 63 i l k (k + d) → gatheredOf i u t (each entryOf (wordsTo l k)) ≡ gatheredOf i u t (each entryOf (wordsTo l (k + d)))
+  gather-skip : (l : List ℕ) (k d : ℕ) → NoneFits 63 i l k (k + d) → gatheredOf i u t (each entryOf (wordsTo l k)) ≡ gatheredOf i u t (each entryOf (wordsTo l (k + d)))
   gather-skip l k zero h = let e : k + 0 ≡ k = omega arith in rw e
   gather-skip l k (suc d) h =
       let e : k + d + 1 ≡ k + suc d = omega arith in

@@ -45,7 +45,7 @@ pub in-use-off : (l : List ℕ) (j v : ℕ) → 0 < j → inUse (set l j v) ≡ 
 unfolding inUse
 in-use-off l j v h = rw (getD-set-other l j 0 v 0 (λ e. omega arith))
 
-pub in-use-set : (l : List ℕ) (n : ℕ) → length l ≡ ordersWords → n ≤ 2048 → inUse (set l 0 n) ≡ n
+in-use-set : (l : List ℕ) (n : ℕ) → length l ≡ ordersWords → n ≤ 2048 → inUse (set l 0 n) ≡ n
 unfolding inUse
 in-use-set l n room h = rw (getD-set-same l 0 n 0 (omega arith)) (omega arith)
 
@@ -68,7 +68,7 @@ module _ (l : List ℕ) where
   unfolding wordsTo
   off j v n far = newest-same (λ k. getD (set l j v) (65 + k) 0) (λ k. getD l (65 + k) 0) n (λ k h. getD-set-other l j (65 + k) v 0 (far k h))
 
-  pub words-below : (j v n : ℕ) → j < 65 → wordsTo (set l j v) n ≡ wordsTo l n
+  words-below : (j v n : ℕ) → j < 65 → wordsTo (set l j v) n ≡ wordsTo l n
   words-below j v n h = off j v n (λ k k′ e. omega arith)
 
   pub words-above : (j v n : ℕ) → 65 + n ≤ j → wordsTo (set l j v) n ≡ wordsTo l n

@@ -16,14 +16,14 @@ pub record Untouched (k : ℕ) (l₀ l : List ℕ) : Type 0 where
   pub room : length l ≡ ordersWords
   pub number : inUse l ≡ inUse l₀
   pub instances : ordersOf l .opened ≡ ordersOf l₀ .opened
-  pub ahead : drop (65 + k) l ≡ drop (65 + k) l₀
+  ahead : drop (65 + k) l ≡ drop (65 + k) l₀
 
 pub untouched : (k : ℕ) (l : List ℕ) → length l ≡ ordersWords → Untouched k l l
 untouched k l room = record { room = room; number = refl; instances = refl; ahead = refl }
 
 module _ {k : ℕ} {l₀ l : List ℕ} (u : Untouched k l₀ l) where
   -- the word that is read next
-  pub next-word : getD l (65 + k) 0 ≡ getD l₀ (65 + k) 0
+  next-word : getD l (65 + k) 0 ≡ getD l₀ (65 + k) 0
   next-word =
       let e : 65 + k ≡ 65 + k + 0 = omega arith in
       rw e (sym (getD-drop (65 + k) l 0 0) ∙ ap (λ (x : List ℕ). getD x 0 0) (u .ahead) ∙ getD-drop (65 + k) l₀ 0 0)

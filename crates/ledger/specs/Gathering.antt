@@ -6,18 +6,22 @@ use lib.Dec.{eqb}
 use Rattle.paper_lower.specs.Sets.{plus}
 use Rattle.paper_lower.specs.Lists.{some, many, keep}
 use Rattle.paper_upper.specs.Orders.{Entry, isHeld, ofTask, tasksBy, tasksDone, tasksOthers}
+use Rattle.sets.specs.declared.Set.{Set}
 use Rattle.ledger.specs.declared.Gathered.{Gathered}
 
 -- a Boolean as a number
 abbrev pub digit : Bool → ℕ
 digit b = cond b 1 0
 
+abbrev pub setOf : ℕ → Set
+setOf tasks = record { bits = tasks }
+
 unfoldable pub gatheredOf : ℕ → ℕ → ℕ → List Entry → Gathered
 gatheredOf i u t es =
     record {
-      mine = tasksBy i u es;
-      done = tasksDone i es;
-      others = tasksOthers i u es;
+      mine = setOf (tasksBy i u es);
+      done = setOf (tasksDone i es);
+      others = setOf (tasksOthers i u es);
       times = many (keep (ofTask i t) es);
       held = digit (some (λ e. ofTask i t e && isHeld (e .standing)) es);
     }
@@ -26,9 +30,9 @@ gatheredOf i u t es =
 unfoldable pub takenIn : ℕ → ℕ → ℕ → ℕ → Bool → Gathered → Gathered
 takenIn u t user task finished g =
     record {
-      mine = cond (eqb user u) (plus (g .mine) task) (g .mine);
-      done = cond finished (plus (g .done) task) (g .done);
-      others = cond (not (eqb user u)) (plus (g .others) task) (g .others);
+      mine = setOf (cond (eqb user u) (plus (g .mine .bits) task) (g .mine .bits));
+      done = setOf (cond finished (plus (g .done .bits) task) (g .done .bits));
+      others = setOf (cond (not (eqb user u)) (plus (g .others .bits) task) (g .others .bits));
       times = cond (eqb task t) (g .times + 1) (g .times);
       held = cond (eqb task t && not finished) 1 (g .held);
     }

@@ -34,9 +34,13 @@ unfoldable pub newestFirst : {A : Type 0} → (ℕ → A) → ℕ → List A
 newestFirst f zero = []
 newestFirst f (suc n) = f n ∷ newestFirst f n
 
+-- the word of entry k
+abbrev pub wordAt : List ℕ → ℕ → ℕ
+wordAt l k = getD l (65 + k) 0
+
 -- the first n words of the ledger, the newest first
 unfoldable pub wordsTo : List ℕ → ℕ → List ℕ
-wordsTo l n = newestFirst (λ k. getD l (65 + k) 0) n
+wordsTo l n = newestFirst (wordAt l) n
 
 unfoldable pub inUse : List ℕ → ℕ
 inUse l = min (getD l 0 0) 2048
@@ -53,14 +57,6 @@ withInstance x i j = record { opened = upd (x .opened) i j; entries = x .entries
 
 abbrev pub withLedger : Orders → List Entry → Orders
 withLedger x es = record { opened = x .opened; entries = es }
-
--- ---- The numbers of an entry within their limits.
-abbrev pub SubjectInRange : Standing → Type 0
-SubjectInRange (held a) = a < 128
-SubjectInRange done = Unit {0}
-
-abbrev pub InRange : Entry → Type 0
-InRange e = (e .instance < 64) × ((e .user < 1024) × ((e .task < 64) × SubjectInRange (e .standing)))
 
 -- ---- The buffer of no orders: all its words are 0.
 pub record Cleared (l : List ℕ) : Type 0 where
@@ -93,13 +89,13 @@ stays mask key w = not (fits mask key w)
 
 -- none of the entries from one place to before another fits
 abbrev pub NoneFits : ℕ → ℕ → List ℕ → ℕ → ℕ → Type 0
-NoneFits mask key l from r = (from ≤ r) × ((k : ℕ) → from ≤ k → k < r → fits mask key (getD l (65 + k) 0) ≡ false)
+NoneFits mask key l from r = (from ≤ r) × ((k : ℕ) → from ≤ k → k < r → fits mask key (wordAt l k) ≡ false)
 
 -- r is the place of the oldest entry that fits, from a place on, or the number in use
 pub record NextEntry (mask key : ℕ) (l : List ℕ) (from r : ℕ) : Type 0 where
   pub within : r ≤ inUse l
   pub older : NoneFits mask key l from r
-  pub here : r < inUse l → fits mask key (getD l (65 + r) 0) ≡ true
+  pub here : r < inUse l → fits mask key (wordAt l r) ≡ true
 
 -- a held entry's word, with its done bit set where it is the key's
 unfoldable pub turnedWord : ℕ → ℕ → ℕ

@@ -2,24 +2,26 @@
 // Each function equals what paper_upper defines over the tables that the buffer reads as (specs/Reading).
 ghost use mathlib.Core.Path.{_≡_};
 ghost use Prim.Native.Nat.{_+_, _/_, _%_, _<_, _≤_};
-ghost use lib.ListN.{length, getD};
-ghost use mathlib.Core.Bool.{cond, not, _&&_};
-ghost use mathlib.Core.List.{_∷_};
+ghost use lib.ListN.{length};
+ghost use mathlib.Core.Bool.{cond, _&&_};
 ghost use lib.Dec.{eqb};
 ghost use Rattle.paper_lower.specs.Sets.{plus};
-ghost use Rattle.paper_lower.specs.Lists.{someBelow, some, many, keep, each};
-ghost use Rattle.paper_lower.specs.Lists.Maybe.{just, none};
-ghost use Rattle.paper_upper.specs.Orders.{entry, isHeld, isHeldBy, inOrder, heldBy};
-ghost use Rattle.paper_upper.specs.Orders.Standing.{held};
-ghost use Rattle.paper_upper.specs.Requests.{turned};
-ghost use Rattle.ledger.specs.Reading.{ordersWords, Cleared, ordersOf, wordsOf, withInstance, withLedger, openedOf, inOpenOrder, templateOf, entryOf, keyOf, inUse, fits, stays, NoneFits, NextEntry, turnedWord};
+ghost use Rattle.paper_lower.specs.Lists.{someBelow, some, many};
+ghost use Rattle.paper_lower.specs.Lists.Maybe.{just};
+ghost use Rattle.paper_upper.specs.Orders.{isHeld, isHeldBy, inOrder, heldBy};
+ghost use Rattle.ledger.specs.Reading.{ordersWords, Cleared, ordersOf, wordAt, wordsOf, withInstance, openedOf, inOpenOrder, templateOf, keyOf, inUse, fits, NoneFits, NextEntry, turnedWord};
+ghost use Rattle.ledger.specs.Acts.{InLimits, afterEnter, afterRemove, afterRelease, afterFinish, afterEnd};
 ghost use Rattle.ledger.specs.Gathering.{gatheredOf, takenIn};
-use sets::set_of;
+use sets::Set;
 
-// The length of the buffer, the word of the first entry, and how many entries there are at most.
-const WORDS: usize = 2113;
+// The length of the buffer in words. The number of entries in use, the first instance and the first entry; and how many entries there are at most.
+pub const ORDERS_WORDS: usize = 2113;
 
-const FIRST: usize = 65;
+const IN_USE: usize = 0;
+
+const INSTANCES: usize = 1;
+
+const ENTRIES: usize = 65;
 
 const MOST: u64 = 2048;
 
@@ -44,7 +46,7 @@ pub fn opened(o: &[u64], i: u64) -> Instance
     requires { ⌜ (length (now o) ≡ ordersWords) × (i < 64) ⌝ }
     ensures { λ r. ⌜ (openedOf r ≡ ordersOf (now (o .entry)) .opened i) × (r .template < 16) ⌝ }
 {
-    let w = o[1 + i as usize];
+    let w = o[INSTANCES + i as usize];
     Instance {
         open: w / 16 % 2 == 1,
         template: w % 16,
@@ -55,7 +57,7 @@ fn set_instance(o: &mut [u64], i: u64, w: u64)
     requires { ⌜ (length (now o) ≡ ordersWords) × (i < 64) ⌝ }
     ensures { λ _. ⌜ ordersOf (now (o .exit)) ≡ withInstance (ordersOf (now (o .entry))) i (templateOf w) ⌝ }
 {
-    o[1 + i as usize] = w;
+    o[INSTANCES + i as usize] = w;
 }
 
 pub fn set_opened(o: &mut [u64], i: u64, j: u64)
@@ -69,7 +71,7 @@ pub fn in_use(o: &[u64]) -> usize
     requires { ⌜ length (now o) ≡ ordersWords ⌝ }
     ensures { λ r. ⌜ (r ≡ many (ordersOf (now (o .entry)) .entries)) × (r ≤ 2048) ⌝ }
 {
-    let n = o[0];
+    let n = o[IN_USE];
     if n < MOST { n as usize } else { MOST as usize }
 }
 
@@ -77,15 +79,15 @@ pub fn in_use(o: &[u64]) -> usize
 
 fn word_fits(o: &[u64], k: usize, mask: u64, key: u64) -> bool
     requires { ⌜ (length (now o) ≡ ordersWords) × (k < 2048) ⌝ }
-    ensures { λ r. ⌜ r ≡ fits mask key (getD (now (o .entry)) (65 + k) 0) ⌝ }
+    ensures { λ r. ⌜ r ≡ fits mask key (wordAt (now (o .entry)) k) ⌝ }
 {
-    o[FIRST + k] & mask == key
+    o[ENTRIES + k] & mask == key
 }
 
 // Whether one of eight entries fits: eight compares without a branch.
 fn eight_fit(o: &[u64], k: usize, mask: u64, key: u64) -> bool
     requires { ⌜ (length (now o) ≡ ordersWords) × (k + 8 ≤ 2048) ⌝ }
-    ensures { λ r. ⌜ r ≡ someBelow 8 (λ j. fits mask key (getD (now (o .entry)) (65 + (k + j)) 0)) ⌝ }
+    ensures { λ r. ⌜ r ≡ someBelow 8 (λ j. fits mask key (wordAt (now (o .entry)) (k + j))) ⌝ }
 {
     word_fits(o, k + 7, mask, key)
         | (word_fits(o, k + 6, mask, key)
@@ -138,11 +140,11 @@ fn any_entry(o: &[u64], mask: u64, key: u64) -> bool
 // ---- What a claim asks.
 
 // The tasks of one instance with an entry of the user, with a done entry, with an entry of another user; the entries of one task, and 1 where one of
-// them is held. All are u64: the padding of a bool would go through memory at each turn.
+// them is held: the padding of a bool would go through memory at each turn.
 pub struct Gathered {
-    pub mine: u64,
-    pub done: u64,
-    pub others: u64,
+    pub mine: Set,
+    pub done: Set,
+    pub others: Set,
     pub times: u64,
     pub held: u64,
 }
@@ -160,12 +162,14 @@ fn more_if(c: bool, n: u64) -> u64
     if c { n + 1 } else { n }
 }
 
-fn with_if(c: bool, tasks: u64, t: u64) -> u64
+fn with_if(c: bool, tasks: Set, t: u64) -> Set
     requires { ⌜ t < 64 ⌝ }
-    ensures { λ r. ⌜ r ≡ cond c (plus tasks t) tasks ⌝ }
+    ensures { λ r. ⌜ r .bits ≡ cond c (plus (tasks .bits) t) (tasks .bits) ⌝ }
 {
-    let more = set_of(tasks).with(t);
-    pick(c, more.bits, tasks)
+    let more = tasks.with(t);
+    Set {
+        bits: pick(c, more.bits, tasks.bits),
+    }
 }
 
 // One entry more of the instance, without a branch.
@@ -198,15 +202,15 @@ pub fn gather(o: &[u64], i: u64, u: u64, t: u64) -> Gathered
 {
     let n = in_use(o);
     let mut g = Gathered {
-        mine: 0,
-        done: 0,
-        others: 0,
+        mine: Set::EMPTY,
+        done: Set::EMPTY,
+        others: Set::EMPTY,
         times: 0,
         held: 0,
     };
     let mut k = next_entry(o, 0, ORDER, i);
     while k < n {
-        let w = o[FIRST + k];
+        let w = o[ENTRIES + k];
         g = take_in(g, w, u, t);
         k = next_entry(o, k + 1, ORDER, i);
     }
@@ -215,7 +219,7 @@ pub fn gather(o: &[u64], i: u64, u: u64, t: u64) -> Gathered
 
 // The part of an entry's word below its user: task t of instance i, held by subject a.
 fn key_of(i: u64, t: u64, a: u64) -> u64
-    requires { ⌜ (i < 64) × ((t < 64) × (a < 128)) ⌝ }
+    requires { ⌜ InLimits i t a ⌝ }
     ensures { λ r. ⌜ r ≡ keyOf i t a ⌝ }
 {
     i + 128 * t + 8192 * a
@@ -223,36 +227,36 @@ fn key_of(i: u64, t: u64, a: u64) -> u64
 
 // Subject a, of user u, takes task t of instance i: the entry takes the next word.
 pub fn enter(o: &mut [u64], i: u64, u: u64, t: u64, a: u64)
-    requires { ⌜ (length (now o) ≡ ordersWords) × ((many (ordersOf (now o) .entries) < 2048) × ((u < 1024) × ((i < 64) × ((t < 64) × (a < 128))))) ⌝ }
-    ensures { λ _. ⌜ ordersOf (now (o .exit)) ≡ withLedger (ordersOf (now (o .entry))) (entry i u t (held a) ∷ ordersOf (now (o .entry)) .entries) ⌝ }
+    requires { ⌜ (length (now o) ≡ ordersWords) × ((many (ordersOf (now o) .entries) < 2048) × ((u < 1024) × InLimits i t a)) ⌝ }
+    ensures { λ _. ⌜ ordersOf (now (o .exit)) ≡ afterEnter (ordersOf (now (o .entry))) i u t a ⌝ }
 {
     let n = in_use(o);
     let key = key_of(i, t, a);
-    o[FIRST + n] = key + 1048576 * u;
-    o[0] = n as u64 + 1;
+    o[ENTRIES + n] = key + 1048576 * u;
+    o[IN_USE] = n as u64 + 1;
 }
 
 // Removes each entry whose word, cut by the mask, is the key; the others keep their order, and those before the first such stay where they are. Each
 // word behind it is stored, and where it is not to stay it is stored over: a branch would be hard to foretell.
 fn remove(o: &mut [u64], mask: u64, key: u64)
     requires { ⌜ length (now o) ≡ ordersWords ⌝ }
-    ensures { λ _. ⌜ ordersOf (now (o .exit)) ≡ withLedger (ordersOf (now (o .entry))) (each entryOf (keep (stays mask key) (wordsOf (now (o .entry))))) ⌝ }
+    ensures { λ _. ⌜ ordersOf (now (o .exit)) ≡ afterRemove mask key (now (o .entry)) ⌝ }
 {
     let n = in_use(o);
     let mut k = next_entry(o, 0, mask, key);
     let mut to = k as u64;
     while k < n {
-        let w = o[FIRST + k];
-        o[FIRST + to as usize] = w;
+        let w = o[ENTRIES + k];
+        o[ENTRIES + to as usize] = w;
         to = more_if(w & mask != key, to);
         k += 1;
     }
-    o[0] = to;
+    o[IN_USE] = to;
 }
 
 pub fn release(o: &mut [u64], i: u64, t: u64, a: u64)
-    requires { ⌜ (length (now o) ≡ ordersWords) × ((i < 64) × ((t < 64) × (a < 128))) ⌝ }
-    ensures { λ _. ⌜ ordersOf (now (o .exit)) ≡ withLedger (ordersOf (now (o .entry))) (keep (λ e. not (heldBy i t a e)) (ordersOf (now (o .entry)) .entries)) ⌝ }
+    requires { ⌜ (length (now o) ≡ ordersWords) × InLimits i t a ⌝ }
+    ensures { λ _. ⌜ ordersOf (now (o .exit)) ≡ afterRelease (ordersOf (now (o .entry))) i t a ⌝ }
 {
     let key = key_of(i, t, a);
     remove(o, HELD_BY, key);
@@ -261,7 +265,7 @@ pub fn release(o: &mut [u64], i: u64, t: u64, a: u64)
 // The instance is closed, and its entries go.
 pub fn end_order(o: &mut [u64], i: u64)
     requires { ⌜ (length (now o) ≡ ordersWords) × (i < 64) ⌝ }
-    ensures { λ _. ⌜ ordersOf (now (o .exit)) ≡ withInstance (withLedger (ordersOf (now (o .entry))) (keep (λ e. not (inOrder i e)) (ordersOf (now (o .entry)) .entries))) i none ⌝ }
+    ensures { λ _. ⌜ ordersOf (now (o .exit)) ≡ afterEnd (ordersOf (now (o .entry))) i ⌝ }
 {
     remove(o, ORDER, i);
     set_instance(o, i, 0);
@@ -275,21 +279,21 @@ fn turn(w: u64, key: u64) -> u64
 }
 
 pub fn finish(o: &mut [u64], i: u64, t: u64, a: u64)
-    requires { ⌜ (length (now o) ≡ ordersWords) × ((i < 64) × ((t < 64) × (a < 128))) ⌝ }
-    ensures { λ _. ⌜ ordersOf (now (o .exit)) ≡ withLedger (ordersOf (now (o .entry))) (each (turned i t a) (ordersOf (now (o .entry)) .entries)) ⌝ }
+    requires { ⌜ (length (now o) ≡ ordersWords) × InLimits i t a ⌝ }
+    ensures { λ _. ⌜ ordersOf (now (o .exit)) ≡ afterFinish (ordersOf (now (o .entry))) i t a ⌝ }
 {
     let n = in_use(o);
     let key = key_of(i, t, a);
     let mut k = 0;
     while k < n {
-        let w = o[FIRST + k];
-        o[FIRST + k] = turn(w, key);
+        let w = o[ENTRIES + k];
+        o[ENTRIES + k] = turn(w, key);
         k += 1;
     }
 }
 
 pub fn holds_task(o: &[u64], i: u64, t: u64, a: u64) -> bool
-    requires { ⌜ (length (now o) ≡ ordersWords) × ((i < 64) × ((t < 64) × (a < 128))) ⌝ }
+    requires { ⌜ (length (now o) ≡ ordersWords) × InLimits i t a ⌝ }
     ensures { λ r. ⌜ r ≡ some (heldBy i t a) (ordersOf (now (o .entry)) .entries) ⌝ }
 {
     let key = key_of(i, t, a);
@@ -319,7 +323,7 @@ pub fn in_open_order(o: &[u64], u: u64) -> bool
     let n = in_use(o);
     let mut k = next_entry(o, 0, USER, 1048576 * u);
     while k < n {
-        let w = o[FIRST + k];
+        let w = o[ENTRIES + k];
         let x = opened(o, w % 64);
         if x.open {
             return true;
@@ -334,7 +338,7 @@ pub fn clear(o: &mut [u64])
     ensures { λ _. ⌜ Cleared (now (o .exit)) ⌝ }
 {
     let mut k = 0;
-    while k < WORDS {
+    while k < ORDERS_WORDS {
         o[k] = 0;
         k += 1;
     }

@@ -14,6 +14,7 @@ ghost use Rattle.records.specs.Limits.{Limits};
 ghost use Rattle.policy.specs.Layout.{policyWords};
 ghost use Rattle.policy.specs.Reading.{policyOf};
 ghost use Rattle.loading.specs.LoadDone.{LoadDone, leaves};
+use policy::POLICY_WORDS;
 use records::Call;
 use records::Record;
 use replies::Reply;
@@ -102,7 +103,7 @@ fn run(bytes: &[u8], p: &mut [u64]) -> Loaded
 pub fn load(bytes: &[u8], p: &mut [u64]) -> Loaded
     ensures { λ x. ⌜ LoadDone (now (bytes .entry)) (now (p .entry)) (now (p .exit)) (x .reply) (x .place) ⌝ }
 {
-    if p.len() != 4504 {
+    if p.len() != POLICY_WORDS {
         return Loaded {
             reply: Reply::Room,
             place: 0,

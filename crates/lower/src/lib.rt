@@ -14,9 +14,11 @@ ghost use Rattle.lower.specs.Stepped.{Stepped};
 ghost use Rattle.lower.specs.Answers.{Requested, Loads};
 ghost use Rattle.lower.specs.Exports.{LoadExported, RequestExported, wordsOf};
 use loading::Loaded;
+use policy::POLICY_WORDS;
 use records::Call;
 use records::Record;
 use replies::Reply;
+use sessions::SESSIONS_WORDS;
 use sets::Set;
 
 // A request that SHAPE and RANGE let pass.
@@ -45,7 +47,7 @@ pub fn step(r: Record, p: &mut [u64], s: &mut [u64]) -> Reply
 pub fn request(bytes: &[u8], p: &mut [u64], s: &mut [u64]) -> Reply
     ensures { λ r. ⌜ Requested (now (bytes .entry)) (now (p .entry)) (now (s .entry)) (now (p .exit)) (now (s .exit)) r ⌝ }
 {
-    if (p.len() != 4504) | (s.len() != 256) {
+    if (p.len() != POLICY_WORDS) | (s.len() != SESSIONS_WORDS) {
         return Reply::Room;
     }
     let r = records::judge(Call::Lower, bytes);
@@ -59,7 +61,7 @@ pub fn request(bytes: &[u8], p: &mut [u64], s: &mut [u64]) -> Reply
 pub fn load(bytes: &[u8], p: &mut [u64], s: &mut [u64]) -> Loaded
     ensures { λ x. ⌜ Loads (now (bytes .entry)) (now (p .entry)) (now (s .entry)) (now (p .exit)) (now (s .exit)) (x .reply) (x .place) ⌝ }
 {
-    if (p.len() != 4504) | (s.len() != 256) {
+    if (p.len() != POLICY_WORDS) | (s.len() != SESSIONS_WORDS) {
         return Loaded {
             reply: Reply::Room,
             place: 0,
@@ -102,10 +104,10 @@ pub extern "C" fn mishantral_lower_words(group: u64) -> u64
     ensures { λ n. ⌜ n ≡ wordsOf group ⌝ }
 {
     if group == 0 {
-        return 4504;
+        return POLICY_WORDS as u64;
     }
     if group == 1 {
-        return 256;
+        return SESSIONS_WORDS as u64;
     }
     0
 }

@@ -13,10 +13,9 @@
 ghost use Prim.Native.Nat.{_<_, _≤_};
 ghost use lib.ListN.{length};
 use loading::Loaded;
+use policy::POLICY_WORDS;
 use replies::Reply;
 use scripts::Fields;
-
-const POLICY: usize = 4504;
 
 const SESSIONS: usize = 256;
 
@@ -101,7 +100,7 @@ fn ask_record(line: &[u8], r: Fields, p: &mut [u64], pn: usize, s: &mut [u64], s
 fn ask_cut(line: &[u8], room: &mut [u8], n: usize, p: &mut [u64], s: &mut [u64]) {
     scripts::put(room, 0, scripts::record_of(line, 2));
     if n <= room.len() {
-        ask(line, &room[0..n], p, POLICY, s, SESSIONS);
+        ask(line, &room[0..n], p, POLICY_WORDS, s, SESSIONS);
     }
 }
 
@@ -113,7 +112,7 @@ fn cut(line: &[u8], n: usize, p: &mut [u64], s: &mut [u64]) {
 // A request to words that mean nothing.
 fn attempt(line: &[u8], r: Fields, p: &mut [u64], s: &mut [u64]) {
     let bytes = scripts::bytes(r);
-    let a = answered(&bytes, p, POLICY, s, SESSIONS);
+    let a = answered(&bytes, p, POLICY_WORDS, s, SESSIONS);
     say(line);
     say_if(a.reply <= 20, b": answered");
     say_if((a.reply != 0) & !a.kept, b", and words changed");
@@ -167,7 +166,7 @@ fn load(line: &[u8], bytes: &[u8], p: &mut [u64], pn: usize, s: &mut [u64], sn: 
 // Loads the first n bytes.
 fn load_front(line: &[u8], bytes: &[u8], n: usize, p: &mut [u64], s: &mut [u64]) {
     if n <= bytes.len() {
-        load(line, &bytes[0..n], p, POLICY, s, SESSIONS);
+        load(line, &bytes[0..n], p, POLICY_WORDS, s, SESSIONS);
     }
 }
 
@@ -198,7 +197,14 @@ fn run_load(letter: u8, line: &[u8], policy: &[u8], len: usize, p: &mut [u64], s
 // A line that asks; whether it was one.
 fn run_ask(letter: u8, line: &[u8], p: &mut [u64], s: &mut [u64]) -> bool {
     if letter == b'a' {
-        ask_record(line, scripts::record_of(line, 1), p, POLICY, s, SESSIONS);
+        ask_record(
+            line,
+            scripts::record_of(line, 1),
+            p,
+            POLICY_WORDS,
+            s,
+            SESSIONS,
+        );
         return true;
     }
     if letter == b't' {

@@ -1,11 +1,16 @@
 -- Cases of the lower part alone, one table and one statement. 01's own cases, those marked P, stand with the whole engine.
-use Prim.Native.Nat.{_+_, _^_}
-use mathlib.Core.Bool.{true}
+use Prim.Native.Nat.{ℕ, zero, suc, _+_, _^_}
+use mathlib.Core.Bool.{true, false, cond}
 use mathlib.Core.Path.{_≡_, refl}
 use mathlib.Core.List.{List, [], _∷_}
-use Rattle.paper_lower.specs.Lists.{every}
-use Rattle.paper_lower.specs.Checks.{GRANTED, SHAPE, RANGE, UNKNOWN, TAKEN, IN-USE, RULE, NOT-ASSIGNED, STATIC, DYNAMIC, DENIED}
-use Rattle.paper_lower.specs.Words.{Case, refuses, accepts, _⇒_, comesOut, wordsOpen, user, role, permission, userHas, roleHas, task, staticSet, dynamicSet, taskSet, block, ban, atMost, bound, isBefore, addUser, join, deleteUser, assign, takeBack, give, withdraw, create, destroy, activate, deactivate, openOrder, check}
+use lib.Dec.{ltb}
+use Rattle.paper_lower.specs.Sets.{empty}
+use Rattle.paper_lower.specs.Lists.{every, each}
+use Rattle.paper_lower.specs.Lists.Maybe.{none, just}
+use Rattle.paper_lower.specs.Checks.{GRANTED, SHAPE, RANGE, UNKNOWN, TAKEN, IN-USE, RULE, NOT-ASSIGNED, STATIC, DYNAMIC, DENIED, FULL}
+use Rattle.paper_lower.specs.Words.{Case, refuses, accepts, _⇒_, comesOut, wordsOpen, record-of, user, role, permission, userHas, roleHas, task, openTo, carries, staticSet, dynamicSet, taskSet, block, ban, atMost, bound, isBefore, addUser, join, deleteUser, assign, takeBack, give, withdraw, create, destroy, activate, deactivate, openOrder, check}
+use Rattle.paper_lower.specs.Tables.{Policy, noPolicy}
+use Rattle.paper_lower.specs.Load.{policyAnswer}
 use Rattle.paper_lower.specs.Sessions.{lowerRequest, lowerOf, lowerOpen}
 
 unfoldable pub samples : List Case
@@ -43,6 +48,74 @@ samples =
     ∷ accepts (task 0 0 ∷ task 1 0 ∷ isBefore 0 1 ∷ isBefore 1 0 ∷ []) []
     ∷ []
 
+-- ---- Policies that wrong definitions would take otherwise. A refusal at a place says that all records before it were accepted.
+unfoldable pub policies : List Case
+policies =
+    -- TAKEN: the number of 2, 6, 13 and 14, whatever the other fields; of 3 the number or the pair; else all fields, n among them
+    refuses (role 0 ∷ role 0 ∷ []) TAKEN 2
+    ∷ refuses (task 0 0 ∷ task 0 1 ∷ []) TAKEN 2
+    ∷ refuses (permission 0 1 2 ∷ permission 0 3 4 ∷ []) TAKEN 2
+    ∷ refuses (task 0 0 ∷ ban 0 ∷ ban 0 ∷ []) TAKEN 3
+    ∷ refuses (task 0 0 ∷ atMost 255 0 ∷ atMost 0 0 ∷ []) TAKEN 3
+    ∷ refuses (role 0 ∷ permission 0 1 2 ∷ roleHas 0 0 ∷ roleHas 0 0 ∷ []) TAKEN 4
+    ∷ refuses (role 0 ∷ task 0 0 ∷ openTo 0 0 ∷ openTo 0 0 ∷ []) TAKEN 4
+    ∷ refuses (permission 0 1 2 ∷ task 0 0 ∷ carries 0 0 ∷ carries 0 0 ∷ []) TAKEN 4
+    ∷ refuses (task 0 0 ∷ task 1 0 ∷ isBefore 0 1 ∷ isBefore 0 1 ∷ []) TAKEN 4
+    ∷ accepts (role 0 ∷ role 1 ∷ role 2 ∷ task 0 0 ∷ task 1 0 ∷ task 2 0 ∷ staticSet 1 7 ∷ staticSet 2 7 ∷ dynamicSet 1 7 ∷ dynamicSet 2 7 ∷ taskSet 1 7 ∷ taskSet 2 7 ∷ []) []
+    -- the same block is TAKEN before it is RULE, and another partitioning's where it is of that
+    ∷ refuses (task 0 0 ∷ task 1 0 ∷ block 0 1 ∷ block 1 1 ∷ block 0 1 ∷ []) TAKEN 5
+    -- UNKNOWN: a role or task in m that is not declared
+    ∷ refuses (role 0 ∷ staticSet 1 3 ∷ []) UNKNOWN 2
+    ∷ refuses (role 0 ∷ dynamicSet 1 3 ∷ []) UNKNOWN 2
+    ∷ refuses (task 0 0 ∷ taskSet 1 3 ∷ []) UNKNOWN 2
+    ∷ refuses (task 0 0 ∷ block 0 2 ∷ []) UNKNOWN 2
+    -- RULE: a task with itself; of two templates
+    ∷ refuses (task 0 0 ∷ bound 0 0 ∷ []) RULE 2
+    ∷ refuses (task 0 0 ∷ isBefore 0 0 ∷ []) RULE 2
+    ∷ refuses (task 0 0 ∷ task 1 1 ∷ bound 0 1 ∷ []) RULE 3
+    ∷ refuses (task 0 0 ∷ task 1 1 ∷ block 0 3 ∷ []) RULE 3
+    -- SHAPE: a field that the kind has not
+    ∷ refuses (record-of 8 0 0 0 1 0 ∷ []) SHAPE 1
+    ∷ []
+
 pub all-come-out : every (comesOut lowerRequest lowerOf) samples ≡ true
 unfolding lowerOpen wordsOpen samples
 all-come-out = refl
+
+pub policies-come-out : every (comesOut lowerRequest lowerOf) policies ≡ true
+unfolding lowerOpen wordsOpen policies
+policies-come-out = refl
+
+-- ---- "Rules per policy: 32 of each of kinds 9, 10, 11; 64 blocks; 64 bindings; 64 prerequisites."
+unfoldable pub copies : {A : Type 0} → ℕ → A → List A
+copies zero x = []
+copies (suc k) x = x ∷ copies k x
+
+-- roles 0 and 1 and tasks 0 and 1 are declared, and so many other rules of each kind stand, the blocks in another partitioning
+unfoldable pub standing : ℕ → Policy
+standing k = record {
+  people = record { users = λ _. false; roles = 3; assigned = λ _. empty };
+  permissions = noPolicy .permissions;
+  tasks = record { template = λ t. cond (ltb t 2) (just 0) none; openTo = λ _. empty; banned = λ _. false; most = λ _. none };
+  rules = record {
+    statics = copies k (record { n = 1; members = 12 });
+    dynamics = copies k (record { n = 1; members = 12 });
+    taskSets = copies k (record { n = 1; members = 12 });
+    blocks = copies k (record { partitioning = 1; tasks = 4 });
+    bindings = copies k (record { a = 2; b = 3 });
+    befores = copies k (record { a = 2; b = 3 });
+  };
+}
+
+-- the replies to one more of each kind
+unfoldable pub oneMore : ℕ → List ℕ
+oneMore k = each (λ s. policyAnswer (standing k) s .reply) (staticSet 1 3 ∷ dynamicSet 1 3 ∷ taskSet 1 3 ∷ block 0 1 ∷ bound 0 1 ∷ isBefore 0 1 ∷ [])
+
+pub rules-per-policy : each oneMore (31 ∷ 32 ∷ 63 ∷ 64 ∷ []) ≡
+    (GRANTED ∷ GRANTED ∷ GRANTED ∷ GRANTED ∷ GRANTED ∷ GRANTED ∷ [])
+    ∷ (FULL ∷ FULL ∷ FULL ∷ GRANTED ∷ GRANTED ∷ GRANTED ∷ [])
+    ∷ (FULL ∷ FULL ∷ FULL ∷ GRANTED ∷ GRANTED ∷ GRANTED ∷ [])
+    ∷ (FULL ∷ FULL ∷ FULL ∷ FULL ∷ FULL ∷ FULL ∷ [])
+    ∷ []
+unfolding lowerOpen copies standing oneMore
+rules-per-policy = refl

@@ -8,7 +8,7 @@ use Rattle.paper_lower.specs.Lists.{every}
 use Rattle.paper_lower.specs.Records.{Bytes}
 use Rattle.paper_lower.specs.Kinds.{Said}
 use Rattle.paper_lower.specs.Checks.{GRANTED, SHAPE, RANGE, UNKNOWN, TAKEN, IN-USE, RULE, NOT-ASSIGNED, STATIC, DYNAMIC, NO-ROLE, NOT-YOURS, DENIED, BEFORE, SEPARATION, BLOCK, ALONE, BOUND, COUNT}
-use Rattle.paper_lower.specs.Words.{Case, refuses, accepts, _⇒_, comesOut, wordsOpen, user, role, permission, userHas, roleHas, task, openTo, carries, staticSet, dynamicSet, taskSet, block, ban, atMost, bound, isBefore, addUser, deleteUser, assign, takeBack, give, withdraw, create, destroy, activate, deactivate, openOrder, endOrder, claim, release, done, check, taskCheck}
+use Rattle.paper_lower.specs.Words.{Case, refuses, accepts, _⇒_, comesOut, wordsOpen, record-of, user, role, permission, userHas, roleHas, task, openTo, carries, staticSet, dynamicSet, taskSet, block, ban, atMost, bound, isBefore, addUser, deleteUser, assign, takeBack, give, withdraw, create, destroy, activate, deactivate, openOrder, endOrder, claim, release, done, check, taskCheck}
 use Rattle.paper_upper.specs.Engine.{request, engineOf, engineOpen}
 
 -- ---- What many rows begin with.
@@ -171,7 +171,34 @@ cases =
     ++ setsOfTwo staticSet ++ setsOfTwo dynamicSet ++ setsOfTwo taskSet
     ++ differentPeople 44 300 ++ differentPeople 300 44 ++ differentPeople 255 256 ++ differentPeople 256 255
 
+-- ---- More of these, a table of their own: one statement of both would be too long a computation.
+unfoldable pub further : List Case
+further =
+    -- seventeen bytes; a field that the kind has not; a task and an instance out of range
+    accepts [] ((addUser 3 ++ (0 ∷ [])) ⇒ SHAPE ∷ record-of 56 0 0 0 0 1 ⇒ SHAPE ∷ claim 0 0 64 ⇒ RANGE ∷ claim 0 64 0 ⇒ RANGE ∷ [])
+    -- a role active in another subject of the user is not active here; a subject that holds nothing goes, though its user's other holds
+    ∷ accepts (clerks 300 301)
+    (desks 300 301 ++ (create 7 300 0 ⇒ GRANTED ∷ claim 7 0 0 ⇒ NO-ROLE ∷ activate 7 0 ⇒ GRANTED ∷ activate 7 0 ⇒ TAKEN ∷ claim 5 0 0 ⇒ GRANTED ∷ destroy 7 ⇒ GRANTED ∷ create 7 301 0 ⇒ GRANTED ∷ claim 7 0 0 ⇒ TAKEN ∷ create 8 301 2 ⇒ UNKNOWN ∷ []))
+    -- a template without a task, and that before an open instance; a task of another template; an instance that is not open
+    ∷ accepts (clerks 300 301 ++ (task 2 1 ∷ openTo 2 0 ∷ []))
+    (desks 300 301 ++ (openOrder 1 2 ⇒ UNKNOWN ∷ openOrder 0 2 ⇒ UNKNOWN ∷ openOrder 0 1 ⇒ TAKEN ∷ claim 5 0 2 ⇒ UNKNOWN ∷ release 5 0 2 ⇒ UNKNOWN ∷ done 5 0 2 ⇒ UNKNOWN ∷ taskCheck 5 0 2 1 1 ⇒ UNKNOWN ∷ claim 5 1 2 ⇒ UNKNOWN ∷ openOrder 1 1 ⇒ GRANTED ∷ claim 5 1 2 ⇒ GRANTED ∷ []))
+    -- two orders do not meet: held, and counted
+    ∷ accepts (clerks 300 301 ++ (atMost 1 0 ∷ []))
+    (desks 300 301 ++ (openOrder 1 0 ⇒ GRANTED ∷ claim 5 0 0 ⇒ GRANTED ∷ claim 6 1 0 ⇒ GRANTED ∷ done 5 0 0 ⇒ GRANTED ∷ endOrder 0 ⇒ GRANTED ∷ endOrder 1 ⇒ IN-USE ∷ []))
+    -- an object past a byte
+    ∷ accepts (clerks 300 301 ++ (permission 8 40 307 ∷ carries 0 8 ∷ []))
+    (desks 300 301 ++ (claim 5 0 0 ⇒ GRANTED ∷ taskCheck 5 0 0 40 307 ⇒ GRANTED ∷ taskCheck 5 0 0 40 51 ⇒ DENIED ∷ []))
+    -- the last partitioning; ALONE before BOUND
+    ∷ accepts (clerks 300 301 ++ (block 15 1 ∷ block 15 2 ∷ [])) (desks 300 301 ++ (claim 5 0 0 ⇒ GRANTED ∷ claim 5 0 1 ⇒ BLOCK ∷ []))
+    ∷ accepts (clerks 300 301 ++ (ban 0 ∷ bound 0 1 ∷ []))
+    (desks 300 301 ++ (claim 6 0 0 ⇒ GRANTED ∷ done 6 0 0 ⇒ GRANTED ∷ claim 5 0 0 ⇒ GRANTED ∷ claim 5 0 1 ⇒ ALONE ∷ []))
+    ∷ []
+
 -- Every row comes out as it stands above.
 pub all-come-out : every (comesOut request engineOf) cases ≡ true
 unfolding engineOpen wordsOpen clerks desks listing lastUser differentPeople setsOfTwo fourTasks blocksAndBindings countLimit twoSubjects beside cases
 all-come-out = refl
+
+pub further-come-out : every (comesOut request engineOf) further ≡ true
+unfolding engineOpen wordsOpen clerks desks further
+further-come-out = refl

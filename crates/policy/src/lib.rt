@@ -9,6 +9,9 @@ ghost use Rattle.policy.specs.Layout.{policyWords, flagOf, permissionOf,
 ghost use Rattle.policy.specs.Reading.{policyOf, Cleared, Ready, rolesAnew, userAnew, assignedAnew, permissionAnew, holdersAnew, carriersAnew, templateAnew, openToAnew, bannedAnew, mostAnew, limitAdded, blockAdded, pairAdded};
 use sets::Set;
 
+// The length of the buffer.
+pub const POLICY_WORDS: usize = 4504;
+
 // ---- People.
 
 pub fn declared_roles(p: &[u64]) -> Set
@@ -365,7 +368,7 @@ pub fn clear(p: &mut [u64])
     ensures { λ _. ⌜ Cleared (now (p .exit)) ⌝ }
 {
     let mut i = 0;
-    while i < 4504 {
+    while i < POLICY_WORDS {
         p[i] = 0;
         i += 1;
     }

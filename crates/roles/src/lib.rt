@@ -1,16 +1,13 @@
 // Requests 32, 33, 35 and 37: a user added with roles, a user deleted, a role and a permission taken back. Each is judged over what is only
-// read, and then done. (34 and 36 are the policy's kinds 4 and 5 after the load.)
+// read, and then done; specs/Promises says what each promises. (34 and 36 are the policy's kinds 4 and 5 after the load.)
 ghost use mathlib.Core.Path.{_≡_};
 ghost use Prim.Native.Nat.{_<_};
 ghost use lib.ListN.{length};
-ghost use Rattle.paper_lower.specs.Checks.{first};
-ghost use Rattle.paper_lower.specs.Roles.{joinChecks, joinNext, deleteChecks, deleteNext, takeBackChecks, takeBackNext, withdrawChecks, withdrawNext};
-ghost use Rattle.replies.specs.Replies.{numberOf};
-ghost use Rattle.replies.specs.Done.{Done};
+ghost use Rattle.paper_lower.specs.Roles.{deleteNext};
 ghost use Rattle.policy.specs.Layout.{policyWords};
 ghost use Rattle.policy.specs.Reading.{policyOf};
 ghost use Rattle.sessions.specs.Reading.{sessionsWords};
-ghost use Rattle.sessions.specs.Lower.{lowerTables};
+ghost use Rattle.roles.specs.Promises.{JoinJudged, Joined, DeleteJudged, Deleted, TakeBackJudged, TakenBack, WithdrawJudged, Withdrawn};
 use replies::Reply;
 use replies::accepted;
 use sets::Set;
@@ -20,9 +17,9 @@ const STATIC: usize = 0;
 
 // ---- 32: add user a with roles m.
 
-pub fn join_reply(p: &[u64], a: u64, m: Set) -> Reply
+fn join_reply(p: &[u64], a: u64, m: Set) -> Reply
     requires { ⌜ (length (now p) ≡ policyWords) × (a < 1024) ⌝ }
-    ensures { λ r. ⌜ numberOf r ≡ first (joinChecks (policyOf (now (p .entry))) a (m .bits)) ⌝ }
+    ensures { λ r. ⌜ JoinJudged (now (p .entry)) a (m .bits) r ⌝ }
 {
     if !m.within(policy::declared_roles(p)) {
         return Reply::Unknown;
@@ -38,7 +35,7 @@ pub fn join_reply(p: &[u64], a: u64, m: Set) -> Reply
 
 pub fn join(p: &mut [u64], a: u64, m: Set) -> Reply
     requires { ⌜ (length (now p) ≡ policyWords) × (a < 1024) ⌝ }
-    ensures { λ r. ⌜ Done policyOf (first (joinChecks (policyOf (now (p .entry))) a (m .bits))) (joinNext (policyOf (now (p .entry))) a (m .bits)) (now (p .entry)) (now (p .exit)) r ⌝ }
+    ensures { λ r. ⌜ Joined (now (p .entry)) (now (p .exit)) a (m .bits) r ⌝ }
 {
     let r = join_reply(p, a, m);
     if !accepted(r) {
@@ -52,15 +49,13 @@ pub fn join(p: &mut [u64], a: u64, m: Set) -> Reply
 
 pub fn delete_reply(p: &[u64], s: &[u64], a: u64) -> Reply
     requires { ⌜ (length (now p) ≡ policyWords) × ((length (now s) ≡ sessionsWords) × (a < 1024)) ⌝ }
-    ensures { λ r. ⌜ numberOf r ≡ first (deleteChecks (lowerTables (now (p .entry)) (now (s .entry))) a) ⌝ }
+    ensures { λ r. ⌜ DeleteJudged (now (p .entry)) (now (s .entry)) a r ⌝ }
 {
     if !policy::user_declared(p, a as usize) {
         return Reply::Unknown;
     }
-    if sessions::has_subject(s, a) {
-        return Reply::InUse;
-    }
-    Reply::Granted
+    let used = sessions::has_subject(s, a);
+    if used { Reply::InUse } else { Reply::Granted }
 }
 
 // The user is no longer one, and has no roles: for those who have judged.
@@ -73,7 +68,7 @@ pub fn remove(p: &mut [u64], a: u64)
 
 pub fn delete(p: &mut [u64], s: &[u64], a: u64) -> Reply
     requires { ⌜ (length (now p) ≡ policyWords) × ((length (now s) ≡ sessionsWords) × (a < 1024)) ⌝ }
-    ensures { λ r. ⌜ Done policyOf (first (deleteChecks (lowerTables (now (p .entry)) (now (s .entry))) a)) (deleteNext (policyOf (now (p .entry))) a) (now (p .entry)) (now (p .exit)) r ⌝ }
+    ensures { λ r. ⌜ Deleted (now (p .entry)) (now (p .exit)) (now (s .entry)) a r ⌝ }
 {
     let r = delete_reply(p, s, a);
     if !accepted(r) {
@@ -85,9 +80,9 @@ pub fn delete(p: &mut [u64], s: &[u64], a: u64) -> Reply
 
 // ---- 35: take role b back from user a.
 
-pub fn take_back_reply(p: &[u64], s: &[u64], a: u64, b: u64) -> Reply
+fn take_back_reply(p: &[u64], s: &[u64], a: u64, b: u64) -> Reply
     requires { ⌜ (length (now p) ≡ policyWords) × ((length (now s) ≡ sessionsWords) × ((a < 1024) × (b < 64))) ⌝ }
-    ensures { λ r. ⌜ numberOf r ≡ first (takeBackChecks (lowerTables (now (p .entry)) (now (s .entry))) a b) ⌝ }
+    ensures { λ r. ⌜ TakeBackJudged (now (p .entry)) (now (s .entry)) a b r ⌝ }
 {
     if !policy::user_declared(p, a as usize)
         | !policy::declared_roles(p).has(b)
@@ -95,16 +90,13 @@ pub fn take_back_reply(p: &[u64], s: &[u64], a: u64, b: u64) -> Reply
     {
         return Reply::Unknown;
     }
-    let active = sessions::active_of(s, a);
-    if active.has(b) {
-        return Reply::InUse;
-    }
-    Reply::Granted
+    let active = sessions::active_of(s, a).has(b);
+    if active { Reply::InUse } else { Reply::Granted }
 }
 
 pub fn take_back(p: &mut [u64], s: &[u64], a: u64, b: u64) -> Reply
     requires { ⌜ (length (now p) ≡ policyWords) × ((length (now s) ≡ sessionsWords) × ((a < 1024) × (b < 64))) ⌝ }
-    ensures { λ r. ⌜ Done policyOf (first (takeBackChecks (lowerTables (now (p .entry)) (now (s .entry))) a b)) (takeBackNext (policyOf (now (p .entry))) a b) (now (p .entry)) (now (p .exit)) r ⌝ }
+    ensures { λ r. ⌜ TakenBack (now (p .entry)) (now (p .exit)) (now (s .entry)) a b r ⌝ }
 {
     let r = take_back_reply(p, s, a, b);
     if !accepted(r) {
@@ -117,9 +109,9 @@ pub fn take_back(p: &mut [u64], s: &[u64], a: u64, b: u64) -> Reply
 
 // ---- 37: take permission b back from role a.
 
-pub fn withdraw_reply(p: &[u64], a: u64, b: u64) -> Reply
+fn withdraw_reply(p: &[u64], a: u64, b: u64) -> Reply
     requires { ⌜ (length (now p) ≡ policyWords) × ((a < 64) × (b < 256)) ⌝ }
-    ensures { λ r. ⌜ numberOf r ≡ first (withdrawChecks (policyOf (now (p .entry))) a b) ⌝ }
+    ensures { λ r. ⌜ WithdrawJudged (now (p .entry)) a b r ⌝ }
 {
     if !policy::declared_roles(p).has(a)
         | !policy::permission_declared(p, b as usize)
@@ -132,7 +124,7 @@ pub fn withdraw_reply(p: &[u64], a: u64, b: u64) -> Reply
 
 pub fn withdraw(p: &mut [u64], a: u64, b: u64) -> Reply
     requires { ⌜ (length (now p) ≡ policyWords) × ((a < 64) × (b < 256)) ⌝ }
-    ensures { λ r. ⌜ Done policyOf (first (withdrawChecks (policyOf (now (p .entry))) a b)) (withdrawNext (policyOf (now (p .entry))) a b) (now (p .entry)) (now (p .exit)) r ⌝ }
+    ensures { λ r. ⌜ Withdrawn (now (p .entry)) (now (p .exit)) a b r ⌝ }
 {
     let r = withdraw_reply(p, a, b);
     if !accepted(r) {

@@ -25,7 +25,7 @@ fn is_missing(p: &[u64], k: usize, finished: Set, t: u64) -> bool
     (b == t) & !finished.has(a)
 }
 
-pub fn before(p: &[u64], finished: Set, t: u64) -> u64
+fn before(p: &[u64], finished: Set, t: u64) -> u64
     requires { ⌜ length (now p) ≡ policyWords ⌝ }
     ensures { λ r. ⌜ r ≡ before (policyOf (now (p .entry)) .rules) (finished .bits) t ⌝ }
 {
@@ -53,7 +53,7 @@ fn is_crowded(p: &[u64], k: usize, d: Set, t: u64) -> bool
     members.has(t) & (n <= members.overlap(others))
 }
 
-pub fn separation(p: &[u64], d: Set, t: u64) -> u64
+fn separation(p: &[u64], d: Set, t: u64) -> u64
     requires { ⌜ (length (now p) ≡ policyWords) × (t < 64) ⌝ }
     ensures { λ r. ⌜ r ≡ separation (policyOf (now (p .entry)) .rules) (d .bits) t ⌝ }
 {
@@ -130,7 +130,7 @@ fn has_apart(p: &[u64], d: Set, t: u64) -> bool
 }
 
 // The search ends at the first strange block of the first partitioning that has one beside a block of t.
-pub fn block(p: &[u64], d: Set, t: u64) -> u64
+fn block(p: &[u64], d: Set, t: u64) -> u64
     requires { ⌜ (length (now p) ≡ policyWords) × (t < 64) ⌝ }
     ensures { λ r. ⌜ r ≡ block (policyOf (now (p .entry)) .rules) (d .bits) t ⌝ }
 {
@@ -159,7 +159,7 @@ pub fn block(p: &[u64], d: Set, t: u64) -> u64
 
 // ---- ALONE.
 
-pub fn alone(p: &[u64], template: u64, d: Set, t: u64) -> bool
+fn alone(p: &[u64], template: u64, d: Set, t: u64) -> bool
     requires { ⌜ (length (now p) ≡ policyWords) × ((template < 16) × (t < 64)) ⌝ }
     ensures { λ r. ⌜ r ≡ alone (policyOf (now (p .entry)) .tasks) (just template) (d .bits) t ⌝ }
 {
@@ -184,7 +184,7 @@ fn is_tied(p: &[u64], k: usize, others: Set, t: u64) -> bool
     ((a == t) & others.has(b)) | ((b == t) & others.has(a))
 }
 
-pub fn bound(p: &[u64], others: Set, t: u64) -> u64
+fn bound(p: &[u64], others: Set, t: u64) -> u64
     requires { ⌜ length (now p) ≡ policyWords ⌝ }
     ensures { λ r. ⌜ r ≡ bound (policyOf (now (p .entry)) .rules) (others .bits) t ⌝ }
 {

@@ -1,14 +1,13 @@
 -- What the words of the sessions buffer say of the sessions, for every content.
 use Prim.Native.Nat.{ℕ, _+_, _<_, _/_, _%_}
-use mathlib.Core.Bool.{Bool, true, false, cond}
+use mathlib.Core.Bool.{false}
 use mathlib.Core.List.{List}
 use mathlib.Core.Path.{_≡_, _∙_}
 use native.Mathlib.Nat.{zero-add}
 use native.Mathlib.Omega.{arith}
-use lib.Dec.{eqb, ltb}
+use lib.Dec.{eqb}
 use lib.ListN.{getD}
 use Rattle.paper_lower.specs.Roles.{subjectOf}
-use Rattle.replies.specs.Cells.{column}
 use Rattle.replies.proofs.CellLaws.{column-at, two-parts}
 use Rattle.sessions.specs.Reading.{sessionsOf, liveIn, userIn, same}
 
@@ -30,12 +29,3 @@ module _ (l : List ℕ) (a : ℕ) (h : a < 128) where
   of-user-at u k =
       let w = getD l a 0 in
       two-parts (w % 2048) (1024 + u) (w / 1024 % 2) 1 (w % 1024) u (omega arith) (omega arith) ∙ rw (live-at, user-at)
-
--- a subject's user is one of the 1,024
-pub user-below : (l : List ℕ) (a : ℕ) → sessionsOf l .user a < 1024
-unfolding sessionsOf column
-user-below l a = at (ltb a 128)
-  where
-    at : (t : Bool) → cond t (userIn (getD l (0 + a) 0)) 0 < 1024
-    at true = omega arith
-    at false = omega arith

@@ -11,6 +11,13 @@ ghost use Rattle.paper_lower.specs.Sessions.{createNext, destroyNext};
 ghost use Rattle.sessions.specs.Reading.{sessionsWords, sessionsOf, Cleared};
 use sets::Set;
 
+// The length of the buffer in words. Its subjects have a word each from the start on: live, and the user. Their active roles stand from ACTIVE on.
+pub const SESSIONS_WORDS: usize = 256;
+
+const SUBJECTS: usize = 128;
+
+const ACTIVE: usize = 128;
+
 pub fn live(s: &[u64], a: usize) -> bool
     requires { ⌜ (length (now s) ≡ sessionsWords) × (a < 128) ⌝ }
     ensures { λ r. ⌜ r ≡ sessionsOf (now (s .entry)) .live a ⌝ }
@@ -29,11 +36,13 @@ pub fn active(s: &[u64], a: usize) -> Set
     requires { ⌜ (length (now s) ≡ sessionsWords) × (a < 128) ⌝ }
     ensures { λ r. ⌜ r .bits ≡ sessionsOf (now (s .entry)) .active a ⌝ }
 {
-    Set { bits: s[128 + a] }
+    Set {
+        bits: s[ACTIVE + a],
+    }
 }
 
 // Whether subject a is a live one of user u: one compare of the word.
-pub fn of_user(s: &[u64], u: u64, a: usize) -> bool
+fn of_user(s: &[u64], u: u64, a: usize) -> bool
     requires { ⌜ (length (now s) ≡ sessionsWords) × ((u < 1024) × (a < 128)) ⌝ }
     ensures { λ r. ⌜ r ≡ subjectOf (sessionsOf (now (s .entry))) u a ⌝ }
 {
@@ -45,7 +54,7 @@ pub fn create(s: &mut [u64], a: usize, u: u64, roles: Set)
     ensures { λ _. ⌜ sessionsOf (now (s .exit)) ≡ createNext (sessionsOf (now (s .entry))) a u (roles .bits) ⌝ }
 {
     s[a] = 1024 + u;
-    s[128 + a] = roles.bits;
+    s[ACTIVE + a] = roles.bits;
 }
 
 pub fn destroy(s: &mut [u64], a: usize)
@@ -53,14 +62,14 @@ pub fn destroy(s: &mut [u64], a: usize)
     ensures { λ _. ⌜ sessionsOf (now (s .exit)) ≡ destroyNext (sessionsOf (now (s .entry))) a ⌝ }
 {
     s[a] = 0;
-    s[128 + a] = 0;
+    s[ACTIVE + a] = 0;
 }
 
 pub fn set_active(s: &mut [u64], a: usize, roles: Set)
     requires { ⌜ (length (now s) ≡ sessionsWords) × (a < 128) ⌝ }
     ensures { λ _. ⌜ sessionsOf (now (s .exit)) ≡ withActive (sessionsOf (now (s .entry))) (upd (sessionsOf (now (s .entry)) .active) a (roles .bits)) ⌝ }
 {
-    s[128 + a] = roles.bits;
+    s[ACTIVE + a] = roles.bits;
 }
 
 // Whether user u has a live subject.
@@ -69,7 +78,7 @@ pub fn has_subject(s: &[u64], u: u64) -> bool
     ensures { λ r. ⌜ r ≡ someBelow 128 (subjectOf (sessionsOf (now (s .entry))) u) ⌝ }
 {
     let mut a = 0;
-    while a < 128 {
+    while a < SUBJECTS {
         if of_user(s, u, a) {
             return true;
         }
@@ -94,7 +103,7 @@ pub fn active_of(s: &[u64], u: u64) -> Set
 {
     let mut all = Set::EMPTY;
     let mut a = 0;
-    while a < 128 {
+    while a < SUBJECTS {
         let roles = roles_in(s, u, a);
         all = all.union(roles);
         a += 1;
@@ -107,7 +116,7 @@ pub fn clear(s: &mut [u64])
     ensures { λ _. ⌜ Cleared (now (s .exit)) ⌝ }
 {
     let mut i = 0;
-    while i < 256 {
+    while i < SESSIONS_WORDS {
         s[i] = 0;
         i += 1;
     }

@@ -1,15 +1,11 @@
-// Requests 40 to 43 and 56: subjects, their active roles, and the check. Each is judged over what is only read, and then done.
+// Requests 40 to 43 and 56: subjects, their active roles, and the check. Each is judged over what is only read, and then done; specs/Promises says
+// what each promises.
 ghost use mathlib.Core.Path.{_≡_};
 ghost use Prim.Native.Nat.{_<_};
 ghost use lib.ListN.{length};
-ghost use Rattle.paper_lower.specs.Checks.{first};
-ghost use Rattle.paper_lower.specs.Tables.{Policy};
-ghost use Rattle.paper_lower.specs.Sessions.{createChecks, createNext, destroyChecks, destroyNext, activateChecks, activateNext, deactivateChecks, deactivateNext, checkChecks};
-ghost use Rattle.replies.specs.Replies.{numberOf};
-ghost use Rattle.replies.specs.Done.{Done};
 ghost use Rattle.policy.specs.Layout.{policyWords};
-ghost use Rattle.sessions.specs.Reading.{sessionsWords, sessionsOf};
-ghost use Rattle.sessions.specs.Lower.{lowerTables};
+ghost use Rattle.sessions.specs.Reading.{sessionsWords};
+ghost use Rattle.subjects.specs.Promises.{CreateJudged, Created, DestroyJudged, Destroyed, ActivateJudged, Activated, DeactivateJudged, Deactivated, CheckJudged};
 use replies::Reply;
 use replies::accepted;
 use sets::Set;
@@ -19,9 +15,9 @@ const DYNAMIC: usize = 1;
 
 // ---- 40: create subject a for user b with active roles m.
 
-pub fn create_reply(p: &[u64], s: &[u64], a: u64, b: u64, m: Set) -> Reply
+fn create_reply(p: &[u64], s: &[u64], a: u64, b: u64, m: Set) -> Reply
     requires { ⌜ (length (now p) ≡ policyWords) × ((length (now s) ≡ sessionsWords) × ((a < 128) × (b < 1024))) ⌝ }
-    ensures { λ r. ⌜ numberOf r ≡ first (createChecks (lowerTables (now (p .entry)) (now (s .entry))) a b (m .bits)) ⌝ }
+    ensures { λ r. ⌜ CreateJudged (now (p .entry)) (now (s .entry)) a b (m .bits) r ⌝ }
 {
     if !policy::user_declared(p, b as usize) | !m.within(policy::declared_roles(p)) {
         return Reply::Unknown;
@@ -41,7 +37,7 @@ pub fn create_reply(p: &[u64], s: &[u64], a: u64, b: u64, m: Set) -> Reply
 
 pub fn create(p: &[u64], s: &mut [u64], a: u64, b: u64, m: Set) -> Reply
     requires { ⌜ (length (now p) ≡ policyWords) × ((length (now s) ≡ sessionsWords) × ((a < 128) × (b < 1024))) ⌝ }
-    ensures { λ r. ⌜ Done sessionsOf (first (createChecks (lowerTables (now (p .entry)) (now (s .entry))) a b (m .bits))) (createNext (sessionsOf (now (s .entry))) a b (m .bits)) (now (s .entry)) (now (s .exit)) r ⌝ }
+    ensures { λ r. ⌜ Created (now (p .entry)) (now (s .entry)) (now (s .exit)) a b (m .bits) r ⌝ }
 {
     let r = create_reply(p, s, a, b, m);
     if !accepted(r) {
@@ -55,7 +51,7 @@ pub fn create(p: &[u64], s: &mut [u64], a: u64, b: u64, m: Set) -> Reply
 
 pub fn destroy_reply(s: &[u64], a: u64) -> Reply
     requires { ⌜ (length (now s) ≡ sessionsWords) × (a < 128) ⌝ }
-    ensures { λ r. ⌜ ((t : Policy) → numberOf r ≡ first (destroyChecks (record { policy = t; sessions = sessionsOf (now (s .entry)) }) a)) ⌝ }
+    ensures { λ r. ⌜ DestroyJudged (now (s .entry)) a r ⌝ }
 {
     if !sessions::live(s, a as usize) {
         return Reply::Unknown;
@@ -65,7 +61,7 @@ pub fn destroy_reply(s: &[u64], a: u64) -> Reply
 
 pub fn destroy(s: &mut [u64], a: u64) -> Reply
     requires { ⌜ (length (now s) ≡ sessionsWords) × (a < 128) ⌝ }
-    ensures { λ r. ⌜ ((t : Policy) → Done sessionsOf (first (destroyChecks (record { policy = t; sessions = sessionsOf (now (s .entry)) }) a)) (destroyNext (sessionsOf (now (s .entry))) a) (now (s .entry)) (now (s .exit)) r) ⌝ }
+    ensures { λ r. ⌜ Destroyed (now (s .entry)) (now (s .exit)) a r ⌝ }
 {
     let r = destroy_reply(s, a);
     if !accepted(r) {
@@ -77,9 +73,9 @@ pub fn destroy(s: &mut [u64], a: u64) -> Reply
 
 // ---- 42: activate role b in subject a.
 
-pub fn activate_reply(p: &[u64], s: &[u64], a: u64, b: u64) -> Reply
+fn activate_reply(p: &[u64], s: &[u64], a: u64, b: u64) -> Reply
     requires { ⌜ (length (now p) ≡ policyWords) × ((length (now s) ≡ sessionsWords) × ((a < 128) × (b < 64))) ⌝ }
-    ensures { λ r. ⌜ numberOf r ≡ first (activateChecks (lowerTables (now (p .entry)) (now (s .entry))) a b) ⌝ }
+    ensures { λ r. ⌜ ActivateJudged (now (p .entry)) (now (s .entry)) a b r ⌝ }
 {
     if !sessions::live(s, a as usize) | !policy::declared_roles(p).has(b) {
         return Reply::Unknown;
@@ -101,7 +97,7 @@ pub fn activate_reply(p: &[u64], s: &[u64], a: u64, b: u64) -> Reply
 
 pub fn activate(p: &[u64], s: &mut [u64], a: u64, b: u64) -> Reply
     requires { ⌜ (length (now p) ≡ policyWords) × ((length (now s) ≡ sessionsWords) × ((a < 128) × (b < 64))) ⌝ }
-    ensures { λ r. ⌜ Done sessionsOf (first (activateChecks (lowerTables (now (p .entry)) (now (s .entry))) a b)) (activateNext (sessionsOf (now (s .entry))) a b) (now (s .entry)) (now (s .exit)) r ⌝ }
+    ensures { λ r. ⌜ Activated (now (p .entry)) (now (s .entry)) (now (s .exit)) a b r ⌝ }
 {
     let r = activate_reply(p, s, a, b);
     if !accepted(r) {
@@ -114,9 +110,9 @@ pub fn activate(p: &[u64], s: &mut [u64], a: u64, b: u64) -> Reply
 
 // ---- 43: deactivate it.
 
-pub fn deactivate_reply(p: &[u64], s: &[u64], a: u64, b: u64) -> Reply
+fn deactivate_reply(p: &[u64], s: &[u64], a: u64, b: u64) -> Reply
     requires { ⌜ (length (now p) ≡ policyWords) × ((length (now s) ≡ sessionsWords) × ((a < 128) × (b < 64))) ⌝ }
-    ensures { λ r. ⌜ numberOf r ≡ first (deactivateChecks (lowerTables (now (p .entry)) (now (s .entry))) a b) ⌝ }
+    ensures { λ r. ⌜ DeactivateJudged (now (p .entry)) (now (s .entry)) a b r ⌝ }
 {
     if !sessions::live(s, a as usize)
         | !policy::declared_roles(p).has(b)
@@ -129,7 +125,7 @@ pub fn deactivate_reply(p: &[u64], s: &[u64], a: u64, b: u64) -> Reply
 
 pub fn deactivate(p: &[u64], s: &mut [u64], a: u64, b: u64) -> Reply
     requires { ⌜ (length (now p) ≡ policyWords) × ((length (now s) ≡ sessionsWords) × ((a < 128) × (b < 64))) ⌝ }
-    ensures { λ r. ⌜ Done sessionsOf (first (deactivateChecks (lowerTables (now (p .entry)) (now (s .entry))) a b)) (deactivateNext (sessionsOf (now (s .entry))) a b) (now (s .entry)) (now (s .exit)) r ⌝ }
+    ensures { λ r. ⌜ Deactivated (now (p .entry)) (now (s .entry)) (now (s .exit)) a b r ⌝ }
 {
     let r = deactivate_reply(p, s, a, b);
     if !accepted(r) {
@@ -144,7 +140,7 @@ pub fn deactivate(p: &[u64], s: &mut [u64], a: u64, b: u64) -> Reply
 
 pub fn check_reply(p: &[u64], s: &[u64], a: u64, operation: u64, object: u64) -> Reply
     requires { ⌜ (length (now p) ≡ policyWords) × ((length (now s) ≡ sessionsWords) × ((a < 128) × ((operation < 65536) × (object < 65536)))) ⌝ }
-    ensures { λ r. ⌜ numberOf r ≡ first (checkChecks (lowerTables (now (p .entry)) (now (s .entry))) a operation object) ⌝ }
+    ensures { λ r. ⌜ CheckJudged (now (p .entry)) (now (s .entry)) a operation object r ⌝ }
 {
     if !sessions::live(s, a as usize) {
         return Reply::Unknown;

@@ -8,7 +8,6 @@ use Rattle.paper_lower.specs.Checks.{granted}
 use Rattle.paper_lower.specs.Records.{Bytes, Record, decode}
 use Rattle.paper_lower.specs.Forms.{Form, lowerForms, upperForms, requestForms, formOf, outOfRange, formChecks}
 use Rattle.paper_lower.specs.Kinds.{Kind, chosen, replyTo, answer, run, after}
-use Rattle.paper_lower.specs.Tables.{Lower}
 use Rattle.paper_lower.specs.Roles.{roleKinds}
 use Rattle.paper_lower.specs.Sessions.{sessionKinds, lowerKinds}
 use Rattle.paper_lower.proofs.CheckLaws.{Passed}

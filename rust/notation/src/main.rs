@@ -7,7 +7,9 @@ use std::process::ExitCode;
 const HELP: &str = "\
 Records as lines of words (docs/RULES.md), and back.
 
-  mishantral-notation records [--either] [FILE]   text to records; --either: records pass as they are
+  mishantral-notation records [--either] [--name NAME] [FILE]
+                                                  text to records; --either: records pass as they are;
+                                                  --name: what an error calls the file
   mishantral-notation words [FILE]                records to text
   mishantral-notation explain [--policy FILE] REQUESTS
                                                   a desk program's listing, from standard input, with
@@ -56,6 +58,14 @@ fn one_file<'a>(files: &[&'a str]) -> Result<&'a str, Stop> {
     }
 }
 
+/// What a file is to be called, where that is said, and the other arguments.
+fn named<'a, 'b>(arguments: &'b [&'a str]) -> (Option<&'a str>, &'b [&'a str]) {
+    match arguments {
+        ["--name", name, rest @ ..] => (Some(*name), rest),
+        rest => (None, rest),
+    }
+}
+
 fn within(file: &str, errors: Vec<notation::Error>) -> Stop {
     let name = if file == "-" { "standard input" } else { file };
     let told = errors.iter().map(|error| format!("{name}: {error}"));
@@ -63,16 +73,17 @@ fn within(file: &str, errors: Vec<notation::Error>) -> Stop {
 }
 
 fn records(arguments: &[&str]) -> Made {
-    let (either, files) = match arguments {
-        ["--either", files @ ..] => (true, files),
-        files => (false, files),
+    let (either, rest) = match arguments {
+        ["--either", rest @ ..] => (true, rest),
+        rest => (false, rest),
     };
+    let (name, files) = named(rest);
     let file = one_file(files)?;
     let bytes = input(file)?;
     if either && !notation::is_text(&bytes) {
         return Ok(bytes);
     }
-    notation::read(&bytes).map_err(|errors| within(file, errors))
+    notation::read(&bytes).map_err(|errors| within(name.unwrap_or(file), errors))
 }
 
 fn explain(arguments: &[&str]) -> Made {
@@ -96,10 +107,7 @@ fn explain(arguments: &[&str]) -> Made {
 }
 
 fn refused(arguments: &[&str]) -> Made {
-    let (name, rest) = match arguments {
-        ["--name", name, rest @ ..] => (Some(*name), rest),
-        rest => (None, rest),
-    };
+    let (name, rest) = named(arguments);
     let [file, reply, place] = rest else {
         return Err(usage(
             "refused takes a policy, a reply's number and a place",

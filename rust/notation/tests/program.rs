@@ -43,6 +43,11 @@ fn a_wrong_text_writes_nothing_and_says_where() {
 fn every_error_of_a_text_has_its_line() {
     let (_, said, status) = run(&["records"], b"user x\nuser 3\nuser y\n");
     assert_eq!((said.lines().count(), status), (2, 1));
+    let (_, said, _) = run(&["records", "--either", "--name", "mine", "-"], b"user x\n");
+    assert!(
+        said.starts_with("mishantral-notation: mine: line 1, column 6"),
+        "{said}"
+    );
 }
 
 #[test]

@@ -2,7 +2,7 @@
 use borrow.Author.Needs.{needs}
 use Rattle.paper_upper.specs.Requests.{claimNext}
 use Rattle.replies.proofs.DoneLaws.{refused, done}
-use Rattle.claims.specs.Tables.{engineTables}
+use Rattle.orders.specs.Tables.{engineTables}
 use Rattle.claims.proofs.ClaimLaws.{room}
 use Rattle.claims.proofs.claim.Statement.{statement}
 use Rattle.claims.proofs.claim.Tie as tie

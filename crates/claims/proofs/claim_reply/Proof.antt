@@ -6,7 +6,7 @@ use borrow.Author.Tests.{eq-eqb, ne-eqb, le-leb, lt-leb}
 use Rattle.paper_lower.specs.Checks.{first}
 use Rattle.paper_upper.specs.Requests.{claimChecks}
 use Rattle.replies.specs.Replies.{numberOf}
-use Rattle.claims.specs.Tables.{engineTables}
+use Rattle.orders.specs.Tables.{engineTables}
 use Rattle.claims.proofs.ClaimLaws.{rulesOf, fullOf, template-known, rules-next, held-is, by-entries, by-rule, by-room}
 use Rattle.claims.proofs.claim_reply.Statement.{statement}
 use Rattle.claims.proofs.claim_reply.Tie as tie

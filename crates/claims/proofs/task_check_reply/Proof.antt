@@ -1,12 +1,12 @@
 -- The checks of a holder, and then DENIED.
-use mathlib.Core.Bool.{not}
-use mathlib.Core.Path.{sym}
+use mathlib.Core.Bool.{not, cond}
+use mathlib.Core.Path.{_≡_, refl}
 use borrow.Author.Needs.{needs}
-use Rattle.paper_lower.specs.Checks.{DENIED}
+use Rattle.paper_lower.specs.Checks.{first, DENIED}
 use Rattle.paper_upper.specs.Requests.{holdChecks, carried, taskCheckChecks}
 use Rattle.replies.proofs.DoneLaws.{stops}
-use Rattle.claims.specs.Tables.{engineTables}
-use Rattle.claims.proofs.Layers.{one-more}
+use Rattle.orders.specs.Tables.{engineTables}
+use Rattle.orders.proofs.Layers.{one-more}
 use Rattle.claims.proofs.task_check_reply.Statement.{statement}
 use Rattle.claims.proofs.task_check_reply.Tie as tie
 
@@ -28,23 +28,23 @@ returns c =
 carried-requires : tie.Need-carried-requires
 carried-requires c κs = search needs
 
-returns-2 : tie.Need-returns-2
+-- the subject holds the task
+holder : (c : tie.After-carried) →
+    let z = c .before .before .before .before .before .before .before .args in
+    first (taskCheckChecks (engineTables (z .p .now) (z .s .now) (z .o .now)) (z .a) (z .b) (z .c) (z .m)) ≡ cond (not (c .carried .result)) DENIED 0
 unfolding taskCheckChecks carried
-returns-2 c =
-    let z = c .before .before .before .before .before .before .before .before .args in
+holder c =
+    let z = c .before .before .before .before .before .before .before .args in
     let t = engineTables (z .p .now) (z .s .now) (z .o .now) in
-    sym (one-more (holdChecks t (z .a) (z .b) (z .c)) DENIED not (unfold holdChecks in (tt, (tt, tt)))
-    (c .before .before .before .before .hold-reply .result) (c .before .before .before .before .hold-reply .ensures)
-    (c .before .before .before .accepted .ensures) (c .before .before .if1 .left) (c .before .carried .ensures) (c .if2 .taken))
+    one-more (holdChecks t (z .a) (z .b) (z .c)) DENIED not (unfold holdChecks in (tt, (tt, tt)))
+    (c .before .before .before .hold-reply .result) (c .before .before .before .hold-reply .ensures)
+    (c .before .before .accepted .ensures) (c .before .if1 .left) (c .carried .ensures) refl
+
+returns-2 : tie.Need-returns-2
+returns-2 c = rw (holder (c .before), c .if2 .taken)
 
 returns-3 : tie.Need-returns-3
-unfolding taskCheckChecks carried
-returns-3 c =
-    let z = c .before .before .before .before .before .before .before .before .args in
-    let t = engineTables (z .p .now) (z .s .now) (z .o .now) in
-    sym (one-more (holdChecks t (z .a) (z .b) (z .c)) DENIED not (unfold holdChecks in (tt, (tt, tt)))
-    (c .before .before .before .before .hold-reply .result) (c .before .before .before .before .hold-reply .ensures)
-    (c .before .before .before .accepted .ensures) (c .before .before .if1 .left) (c .before .carried .ensures) (c .if2 .left))
+returns-3 c = rw (holder (c .before), c .if2 .left)
 
 pub task-check-reply-spec : {M : Type 1} → statement M
 task-check-reply-spec =

@@ -1,4 +1,4 @@
--- Each turn adds 256 to the place, up to the bound and one block beyond it.
+-- Each turn that goes on has seen at least one byte more and at most 4,096, up to the bound and one buffer beyond it.
 use borrow.Author.Needs.{needs}
 use Prim.Native.Nat.{_≤_, _-_}
 use mathlib.Core.Path.{_≡_}
@@ -7,25 +7,16 @@ use Rattle.desk.proofs.serve.Statement.{statement}
 use Rattle.desk.proofs.serve.Tie as tie
 
 abbrev Inv-loop : tie.InvT-loop
-Inv-loop policy₀ sessions₀ orders₀ first₀ policy sessions orders first = (first ≤ 1152921504606847232) × ((length policy ≡ length policy₀) × ((length sessions ≡ length sessions₀) × (length orders ≡ length orders₀)))
+Inv-loop policy₀ sessions₀ orders₀ buffer₀ seen₀ policy sessions orders buffer seen = (seen ≤ 1152921504606851072) × ((length policy ≡ length policy₀) × ((length sessions ≡ length sessions₀) × (length orders ≡ length orders₀)))
 
 abbrev μ-loop : tie.MeasureT-loop
-μ-loop policy₀ sessions₀ orders₀ first₀ policy sessions orders first = 1152921504606847232 - first
+μ-loop policy₀ sessions₀ orders₀ buffer₀ seen₀ policy sessions orders buffer seen = 1152921504606851072 - seen
 
 loop-holds : tie.Need-loop-holds Inv-loop μ-loop
 loop-holds c = search needs
 
-serve-block-requires : tie.Need-serve-block-requires Inv-loop μ-loop
-serve-block-requires c κs = search needs
-
-add-first : tie.Need-add-first Inv-loop μ-loop
-add-first c = search needs
-
-loop-less : tie.Need-loop-less Inv-loop μ-loop
-loop-less c = search needs
-
-loop-again : tie.Need-loop-again Inv-loop μ-loop
-loop-again c = search needs
+serve-some-requires : tie.Need-serve-some-requires Inv-loop μ-loop
+serve-some-requires c κs = search needs
 
 same-length : tie.Need-same-length Inv-loop μ-loop
 same-length c = search needs
@@ -38,6 +29,12 @@ same-length-3 c = search needs
 
 returns : tie.Need-returns Inv-loop μ-loop
 returns c = search needs
+
+loop-less : tie.Need-loop-less Inv-loop μ-loop
+loop-less c = search needs
+
+loop-again : tie.Need-loop-again Inv-loop μ-loop
+loop-again c = search needs
 
 same-length-4 : tie.Need-same-length-4 Inv-loop μ-loop
 same-length-4 c = search needs
@@ -58,14 +55,13 @@ serve-spec =
     Inv-loop
     μ-loop
     loop-holds
-    serve-block-requires
-    add-first
-    loop-less
-    loop-again
+    serve-some-requires
     same-length
     same-length-2
     same-length-3
     returns
+    loop-less
+    loop-again
     same-length-4
     same-length-5
     same-length-6

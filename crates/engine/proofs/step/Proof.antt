@@ -41,7 +41,7 @@ finish-requires c κs = (c .before .before .before .before .before .before .befo
 
 task-check-reply-requires : tie.Need-task-check-reply-requires
 unfolding limitsOpen
-task-check-reply-requires c κs = (c .before .before .before .before .before .before .before .pre .0 .0, (c .before .before .before .before .before .before .before .pre .0 .1 .0, (c .before .before .before .before .before .before .before .pre .0 .1 .1, (below (limitA requestForms) (c .before .before .before .before .before .before .before .pre .1 .a) (c .before .before .before .match .keys8) 128 tt, (below (limitB requestForms) (c .before .before .before .before .before .before .before .pre .1 .b) (c .before .before .before .match .keys8) 64 tt, (below (limitC requestForms) (c .before .before .before .before .before .before .before .pre .1 .c) (c .before .before .before .match .keys8) 64 tt, below (limitM requestForms) (c .before .before .before .before .before .before .before .pre .1 .m) (c .before .before .before .match .keys8) 4294967296 tt))))))
+task-check-reply-requires c κs = ((c .before .before .before .before .before .before .before .pre .0 .0, (c .before .before .before .before .before .before .before .pre .0 .1 .0, (c .before .before .before .before .before .before .before .pre .0 .1 .1, (below (limitA requestForms) (c .before .before .before .before .before .before .before .pre .1 .a) (c .before .before .before .match .keys8) 128 tt, (below (limitB requestForms) (c .before .before .before .before .before .before .before .pre .1 .b) (c .before .before .before .match .keys8) 64 tt, below (limitC requestForms) (c .before .before .before .before .before .before .before .pre .1 .c) (c .before .before .before .match .keys8) 64 tt))))), below (limitM requestForms) (c .before .before .before .before .before .before .before .pre .1 .m) (c .before .before .before .match .keys8) 4294967296 tt)
 
 step-requires : tie.Need-step-requires
 step-requires c κs = (c .before .before .before .before .before .before .pre .0 .0, (c .before .before .before .before .before .before .pre .0 .1 .0, lower-limits (c .before .before .match .rest) (c .before .before .before .before .before .before .pre .1)))

@@ -11,7 +11,7 @@ use Rattle.ledger.specs.Reading.{openedOf, inOpenOrder, entryOf, inUse, 
 use Rattle.ledger.specs.declared.Instance.{Instance}
 use Rattle.ledger.proofs.WordLaws.{fits-user}
 use Rattle.ledger.proofs.OrdersLaws.{many-entries, some-entries, none-yet, none-here, none-on, found-here}
-use Rattle.ledger.proofs.TableLaws.{there-opened}
+use Rattle.ledger.proofs.TableLaws.{open-there}
 use Rattle.ledger.proofs.in_open_order.Statement.{statement}
 use Rattle.ledger.proofs.in_open_order.Tie as tie
 
@@ -29,7 +29,7 @@ others l u k r h far = none-on l _ k r (far .0) h (λ j a b. rw (sym (fits-user 
 -- an entry of the user, whose instance the code has looked at
 own-open : (l : List ℕ) (u k : ℕ) → fits 1072693248 (1048576 * u) (getD l (65 + k) 0) ≡ true → (x : Instance) → openedOf x ≡ ordersOf l .opened (getD l (65 + k) 0 % 64) → inOpenOrder (ordersOf l) u (entryOf (getD l (65 + k) 0)) ≡ x .open
 unfolding entryOf
-own-open l u k own x e = rw (sym (fits-user (getD l (65 + k) 0) u) ∙ own, ← e, there-opened x)
+own-open l u k own x e = rw (sym (fits-user (getD l (65 + k) 0) u) ∙ own, open-there x e)
 
 in-use-requires : tie.Need-in-use-requires Inv-loop μ-loop
 in-use-requires c κs = search needs

@@ -1,6 +1,6 @@
 -- Field by field what one entry more adds.
 use borrow.Author.Needs.{needs}
-use Rattle.ledger.specs.Gathering.{takenIn}
+use Rattle.ledger.specs.Gathering.{setOf, takenIn}
 use Rattle.ledger.proofs.take_in.Statement.{statement}
 use Rattle.ledger.proofs.take_in.Tie as tie
 
@@ -22,9 +22,9 @@ pick-requires c κs = search needs
 returns : tie.Need-returns
 unfolding takenIn
 returns c = λ x. record {
-  mine = c .before .before .before .before .with-if .ensures x;
-  done = c .before .before .before .with-if2 .ensures x;
-  others = c .before .before .with-if3 .ensures x;
+  mine = setOf (c .before .before .before .before .with-if .ensures x);
+  done = setOf (c .before .before .before .with-if2 .ensures x);
+  others = setOf (c .before .before .with-if3 .ensures x);
   times = c .before .more-if .ensures x;
   held = c .pick .ensures x;
 }

@@ -3,12 +3,8 @@ use Prim.Native.Nat.{ℕ}
 use mathlib.Core.Bool.{cond}
 use mathlib.Core.Path.{ap, _∙_}
 use borrow.Author.Needs.{needs}
-use Rattle.paper_lower.specs.Sets.{plus}
 use Rattle.ledger.proofs.with_if.Statement.{statement}
 use Rattle.ledger.proofs.with_if.Tie as tie
-
-set-of-requires : tie.Need-set-of-requires
-set-of-requires c κs = search needs
 
 with-requires : tie.Need-with-requires
 with-requires c κs = search needs
@@ -18,8 +14,8 @@ pick-requires c κs = search needs
 
 returns : tie.Need-returns
 returns c =
-    let a = c .before .before .before .args in
-    c .pick .ensures ∙ ap (λ (m : ℕ). cond (a .c) m (a .tasks)) (c .before .with .ensures ∙ ap (λ (m : ℕ). plus m (a .t)) (c .before .before .set-of .ensures))
+    let a = c .before .before .args in
+    c .pick .ensures ∙ ap (λ (m : ℕ). cond (a .c) m (a .tasks .bits)) (c .before .with .ensures)
 
 pub with-if-spec : {M : Type 1} → statement M
-with-if-spec = tie.close (tie.spec set-of-requires with-requires pick-requires returns)
+with-if-spec = tie.close (tie.spec with-requires pick-requires returns)

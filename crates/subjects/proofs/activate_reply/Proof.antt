@@ -1,6 +1,10 @@
 -- Each way out is the first check of the definition that applies.
+use mathlib.Core.Bool.{cond}
+use mathlib.Core.Path.{_≡_}
 use borrow.Author.Needs.{needs}
+use Rattle.paper_lower.specs.Checks.{first, DYNAMIC}
 use Rattle.paper_lower.specs.Sessions.{activateChecks}
+use Rattle.sessions.specs.Lower.{lowerTables}
 use Rattle.subjects.proofs.activate_reply.Statement.{statement}
 use Rattle.subjects.proofs.activate_reply.Tie as tie
 
@@ -49,13 +53,32 @@ with-requires c κs = search needs
 broken-requires : tie.Need-broken-requires
 broken-requires c κs = search needs
 
-returns-4 : tie.Need-returns-4
+-- the checks before DYNAMIC have passed
+last : (c : tie.After-broken) → let z = c .before .before .before .before .before .before .before .before .before .before .before .before .before .before .before .before .args in first (activateChecks (lowerTables (z .p .now) (z .s .now)) (z .a) (z .b)) ≡ cond (c .broken .result) DYNAMIC 0
 unfolding activateChecks
-returns-4 c = simp (← c .before .before .before .before .before .before .before .before .before .before .before .before .before .before .live .ensures, ← c .before .before .before .before .before .before .before .before .before .before .before .before .before .declared-roles .ensures, ← c .before .before .before .before .before .before .before .before .before .before .before .before .has .ensures, c .before .before .before .before .before .before .before .before .before .before .before .if1 .left, ← c .before .before .before .before .before .before .before .before .before .before .active .ensures, ← c .before .before .before .before .before .before .before .before .before .has2 .ensures, c .before .before .before .before .before .before .before .before .if2 .left, ← c .before .before .before .before .before .before .before .user .ensures .0, ← c .before .before .before .before .before .before .assigned .ensures, ← c .before .before .before .before .before .has3 .ensures, c .before .before .before .before .if3 .left, ← c .before .before .before .active-of .ensures, ← c .before .before .with .ensures, ← c .before .broken .ensures, c .if4 .taken)
+last c =
+    simp (
+      ← c .before .before .before .before .before .before .before .before .before .before .before .before .before .live .ensures,
+      ← c .before .before .before .before .before .before .before .before .before .before .before .before .declared-roles .ensures,
+      ← c .before .before .before .before .before .before .before .before .before .before .before .has .ensures,
+      c .before .before .before .before .before .before .before .before .before .before .if1 .left,
+      ← c .before .before .before .before .before .before .before .before .before .active .ensures,
+      ← c .before .before .before .before .before .before .before .before .has2 .ensures,
+      c .before .before .before .before .before .before .before .if2 .left,
+      ← c .before .before .before .before .before .before .user .ensures .0,
+      ← c .before .before .before .before .before .assigned .ensures,
+      ← c .before .before .before .before .has3 .ensures,
+      c .before .before .before .if3 .left,
+      ← c .before .before .active-of .ensures,
+      ← c .before .with .ensures,
+      ← c .broken .ensures,
+    )
+
+returns-4 : tie.Need-returns-4
+returns-4 c = rw (last (c .before), c .if4 .taken)
 
 returns-5 : tie.Need-returns-5
-unfolding activateChecks
-returns-5 c = simp (← c .before .before .before .before .before .before .before .before .before .before .before .before .before .before .live .ensures, ← c .before .before .before .before .before .before .before .before .before .before .before .before .before .declared-roles .ensures, ← c .before .before .before .before .before .before .before .before .before .before .before .before .has .ensures, c .before .before .before .before .before .before .before .before .before .before .before .if1 .left, ← c .before .before .before .before .before .before .before .before .before .before .active .ensures, ← c .before .before .before .before .before .before .before .before .before .has2 .ensures, c .before .before .before .before .before .before .before .before .if2 .left, ← c .before .before .before .before .before .before .before .user .ensures .0, ← c .before .before .before .before .before .before .assigned .ensures, ← c .before .before .before .before .before .has3 .ensures, c .before .before .before .before .if3 .left, ← c .before .before .before .active-of .ensures, ← c .before .before .with .ensures, ← c .before .broken .ensures, c .if4 .left)
+returns-5 c = rw (last (c .before), c .if4 .left)
 
 pub activate-reply-spec : {M : Type 1} → statement M
 activate-reply-spec =

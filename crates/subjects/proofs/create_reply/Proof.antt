@@ -1,6 +1,10 @@
 -- Each way out is the first check of the definition that applies.
+use mathlib.Core.Bool.{cond}
+use mathlib.Core.Path.{_≡_}
 use borrow.Author.Needs.{needs}
+use Rattle.paper_lower.specs.Checks.{first, DYNAMIC}
 use Rattle.paper_lower.specs.Sessions.{createChecks}
+use Rattle.sessions.specs.Lower.{lowerTables}
 use Rattle.subjects.proofs.create_reply.Statement.{statement}
 use Rattle.subjects.proofs.create_reply.Tie as tie
 
@@ -43,13 +47,30 @@ union-requires c κs = search needs
 broken-requires : tie.Need-broken-requires
 broken-requires c κs = search needs
 
-returns-4 : tie.Need-returns-4
+-- the checks before DYNAMIC have passed
+last : (c : tie.After-broken) → let z = c .before .before .before .before .before .before .before .before .before .before .before .before .before .before .args in first (createChecks (lowerTables (z .p .now) (z .s .now)) (z .a) (z .b) (z .m .bits)) ≡ cond (c .broken .result) DYNAMIC 0
 unfolding createChecks
-returns-4 c = simp (← c .before .before .before .before .before .before .before .before .before .before .before .before .user-declared .ensures, ← c .before .before .before .before .before .before .before .before .before .before .before .declared-roles .ensures, ← c .before .before .before .before .before .before .before .before .before .before .within .ensures, c .before .before .before .before .before .before .before .before .before .if1 .left, ← c .before .before .before .before .before .before .before .before .live .ensures, c .before .before .before .before .before .before .before .if2 .left, ← c .before .before .before .before .before .before .assigned .ensures, ← c .before .before .before .before .before .within2 .ensures, c .before .before .before .before .if3 .left, ← c .before .before .before .active-of .ensures, ← c .before .before .union .ensures, ← c .before .broken .ensures, c .if4 .taken)
+last c =
+    simp (
+      ← c .before .before .before .before .before .before .before .before .before .before .before .user-declared .ensures,
+      ← c .before .before .before .before .before .before .before .before .before .before .declared-roles .ensures,
+      ← c .before .before .before .before .before .before .before .before .before .within .ensures,
+      c .before .before .before .before .before .before .before .before .if1 .left,
+      ← c .before .before .before .before .before .before .before .live .ensures,
+      c .before .before .before .before .before .before .if2 .left,
+      ← c .before .before .before .before .before .assigned .ensures,
+      ← c .before .before .before .before .within2 .ensures,
+      c .before .before .before .if3 .left,
+      ← c .before .before .active-of .ensures,
+      ← c .before .union .ensures,
+      ← c .broken .ensures,
+    )
+
+returns-4 : tie.Need-returns-4
+returns-4 c = rw (last (c .before), c .if4 .taken)
 
 returns-5 : tie.Need-returns-5
-unfolding createChecks
-returns-5 c = simp (← c .before .before .before .before .before .before .before .before .before .before .before .before .user-declared .ensures, ← c .before .before .before .before .before .before .before .before .before .before .before .declared-roles .ensures, ← c .before .before .before .before .before .before .before .before .before .before .within .ensures, c .before .before .before .before .before .before .before .before .before .if1 .left, ← c .before .before .before .before .before .before .before .before .live .ensures, c .before .before .before .before .before .before .before .if2 .left, ← c .before .before .before .before .before .before .assigned .ensures, ← c .before .before .before .before .before .within2 .ensures, c .before .before .before .before .if3 .left, ← c .before .before .before .active-of .ensures, ← c .before .before .union .ensures, ← c .before .broken .ensures, c .if4 .left)
+returns-5 c = rw (last (c .before), c .if4 .left)
 
 pub create-reply-spec : {M : Type 1} → statement M
 create-reply-spec =

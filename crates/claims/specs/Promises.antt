@@ -1,0 +1,55 @@
+-- What requests 50 to 52 and 57 promise of the buffers p (policy), s (sessions) and o (orders): a judge the reply of the definition's checks, an act
+-- that reply and the tables afterwards, with not one word changed where it refuses.
+use Prim.Native.Nat.{ℕ, _<_}
+use mathlib.Core.List.{List}
+use mathlib.Core.Path.{_≡_}
+use lib.ListN.{length}
+use Rattle.paper_lower.specs.Lists.Maybe.{just}
+use Rattle.paper_lower.specs.Checks.{first}
+use Rattle.paper_upper.specs.Requests.{claimChecks, claimNext, holdChecks, releaseNext, doneNext, taskCheckChecks}
+use Rattle.replies.specs.Replies.{numberOf}
+use Rattle.replies.specs.Done.{Done}
+use Rattle.replies.specs.declared.Reply.{Reply}
+use Rattle.policy.specs.Layout.{policyWords}
+use Rattle.policy.specs.Reading.{policyOf}
+use Rattle.sessions.specs.Reading.{sessionsWords}
+use Rattle.ledger.specs.Reading.{ordersWords}
+use Rattle.ledger.specs.declared.Gathered.{Gathered}
+use Rattle.rules.specs.Judging.{gatheredChecks}
+use Rattle.orders.specs.Tables.{engineTables}
+
+-- each buffer has its length, and subject a, instance b and task c are within their limits
+abbrev pub InLimits : List ℕ → List ℕ → List ℕ → ℕ → ℕ → ℕ → Type 0
+InLimits p s o a b c =
+    (length p ≡ policyWords)
+    × ((length s ≡ sessionsWords) × ((length o ≡ ordersWords) × ((a < 128) × ((b < 64) × (c < 64)))))
+
+-- the claim rules for task t of an instance of the template, over what was gathered of its entries
+abbrev pub RulesJudged : List ℕ → ℕ → Gathered → ℕ → Reply → Type 0
+RulesJudged p template g t r =
+    numberOf r
+    ≡ first (gatheredChecks (policyOf p .tasks) (policyOf p .rules) (just template) (g .mine .bits) (g .done .bits) (g .others .bits) (g .times) t)
+
+-- ---- 50
+abbrev pub ClaimJudged : List ℕ → List ℕ → List ℕ → ℕ → ℕ → ℕ → Reply → Type 0
+ClaimJudged p s o a b c r = numberOf r ≡ first (claimChecks (engineTables p s o) a b c)
+
+abbrev pub Claimed : List ℕ → List ℕ → List ℕ → List ℕ → ℕ → ℕ → ℕ → Reply → Type 0
+Claimed p s o o′ a b c r =
+    Done (engineTables p s) (first (claimChecks (engineTables p s o) a b c)) (claimNext (engineTables p s o) a b c) o o′ r
+
+-- ---- 51 and 52
+abbrev pub HoldJudged : List ℕ → List ℕ → List ℕ → ℕ → ℕ → ℕ → Reply → Type 0
+HoldJudged p s o a b c r = numberOf r ≡ first (holdChecks (engineTables p s o) a b c)
+
+abbrev pub Released : List ℕ → List ℕ → List ℕ → List ℕ → ℕ → ℕ → ℕ → Reply → Type 0
+Released p s o o′ a b c r =
+    Done (engineTables p s) (first (holdChecks (engineTables p s o) a b c)) (releaseNext (engineTables p s o) a b c) o o′ r
+
+abbrev pub Finished : List ℕ → List ℕ → List ℕ → List ℕ → ℕ → ℕ → ℕ → Reply → Type 0
+Finished p s o o′ a b c r =
+    Done (engineTables p s) (first (holdChecks (engineTables p s o) a b c)) (doneNext (engineTables p s o) a b c) o o′ r
+
+-- ---- 57
+abbrev pub TaskCheckJudged : List ℕ → List ℕ → List ℕ → ℕ → ℕ → ℕ → ℕ → Reply → Type 0
+TaskCheckJudged p s o a b c m r = numberOf r ≡ first (taskCheckChecks (engineTables p s o) a b c m)

@@ -1,0 +1,44 @@
+-- Judged, and then the subject destroyed.
+use mathlib.Core.Path.{ap}
+use borrow.Author.Needs.{needs}
+use Rattle.replies.proofs.DoneLaws.{refused, done}
+use Rattle.policy.specs.Reading.{policyOf}
+use Rattle.ledger.specs.Reading.{ordersOf}
+use Rattle.orders.proofs.destroy.Statement.{statement}
+use Rattle.orders.proofs.destroy.Tie as tie
+
+destroy-reply-requires : tie.Need-destroy-reply-requires
+destroy-reply-requires c κs = search needs
+
+accepted-requires : tie.Need-accepted-requires
+accepted-requires c κs = search needs
+
+same-length : tie.Need-same-length
+same-length c = search needs
+
+returns : tie.Need-returns
+returns c = λ p. refused (c .before .before .destroy-reply .ensures p) (c .before .accepted .ensures) (c .if1 .taken)
+
+destroy-requires : tie.Need-destroy-requires
+destroy-requires c κs = search needs
+
+same-length-2 : tie.Need-same-length-2
+same-length-2 c = search needs
+
+returns-2 : tie.Need-returns-2
+returns-2 c =
+    let z = c .before .before .before .before .before .before .before .before .before .before .args in
+    λ p. done (c .before .before .before .before .before .before .destroy-reply .ensures p) (c .before .before .before .before .before .accepted .ensures) (c .before .before .before .before .if1 .left)
+    (ap (λ x. record { lower = record { policy = policyOf p; sessions = x }; orders = ordersOf (z .o .now) }) (c .before .before .destroy .ensures))
+
+pub destroy-spec : {M : Type 1} → statement M
+destroy-spec =
+    tie.close
+    (tie.spec
+    destroy-reply-requires
+    accepted-requires
+    same-length
+    returns
+    destroy-requires
+    same-length-2
+    returns-2)

@@ -1,0 +1,42 @@
+-- Judged, and then the instance and its entries are gone.
+use borrow.Author.Needs.{needs}
+use Rattle.paper_upper.specs.Requests.{endNext}
+use Rattle.replies.proofs.DoneLaws.{refused, done}
+use Rattle.orders.proofs.end_order.Statement.{statement}
+use Rattle.orders.proofs.end_order.Tie as tie
+
+end-reply-requires : tie.Need-end-reply-requires
+end-reply-requires c κs = search needs
+
+accepted-requires : tie.Need-accepted-requires
+accepted-requires c κs = search needs
+
+same-length : tie.Need-same-length
+same-length c = search needs
+
+returns : tie.Need-returns
+returns c = λ p s. refused (c .before .before .end-reply .ensures p s) (c .before .accepted .ensures) (c .if1 .taken)
+
+end-order-requires : tie.Need-end-order-requires
+end-order-requires c κs = search needs
+
+same-length-2 : tie.Need-same-length-2
+same-length-2 c = search needs
+
+returns-2 : tie.Need-returns-2
+unfolding endNext
+returns-2 c =
+    λ p s. done (c .before .before .before .before .before .before .end-reply .ensures p s) (c .before .before .before .before .before .accepted .ensures) (c .before .before .before .before .if1 .left)
+    (rw (c .before .before .end-order .ensures))
+
+pub end-order-spec : {M : Type 1} → statement M
+end-order-spec =
+    tie.close
+    (tie.spec
+    end-reply-requires
+    accepted-requires
+    same-length
+    returns
+    end-order-requires
+    same-length-2
+    returns-2)

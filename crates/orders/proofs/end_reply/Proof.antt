@@ -1,0 +1,50 @@
+-- Each way out is the first check of the definition that applies.
+use borrow.Author.Needs.{needs}
+use Rattle.paper_upper.specs.Requests.{endChecks}
+use Rattle.ledger.proofs.TableLaws.{open-there}
+use Rattle.orders.proofs.end_reply.Statement.{statement}
+use Rattle.orders.proofs.end_reply.Tie as tie
+
+opened-requires : tie.Need-opened-requires
+opened-requires c κs = search needs
+
+returns : tie.Need-returns
+unfolding endChecks
+returns c =
+    λ p s. simp (
+      open-there (c .before .before .opened .result) (c .before .before .opened .ensures .0),
+      c .if1 .taken,
+    )
+
+order-held-requires : tie.Need-order-held-requires
+order-held-requires c κs = search needs
+
+returns-2 : tie.Need-returns-2
+unfolding endChecks
+returns-2 c =
+    λ p s. simp (
+      open-there (c .before .before .before .before .opened .result) (c .before .before .before .before .opened .ensures .0),
+      c .before .before .if1 .left,
+      ← c .before .order-held .ensures,
+      c .if2 .taken,
+    )
+
+returns-3 : tie.Need-returns-3
+unfolding endChecks
+returns-3 c =
+    λ p s. simp (
+      open-there (c .before .before .before .before .opened .result) (c .before .before .before .before .opened .ensures .0),
+      c .before .before .if1 .left,
+      ← c .before .order-held .ensures,
+      c .if2 .left,
+    )
+
+pub end-reply-spec : {M : Type 1} → statement M
+end-reply-spec =
+    tie.close
+    (tie.spec
+    opened-requires
+    returns
+    order-held-requires
+    returns-2
+    returns-3)

@@ -1,0 +1,43 @@
+-- What requests 33, 41, 48 and 49 promise of the buffers p (policy), s (sessions) and o (orders): a judge the reply of the definition's checks, an act
+-- that reply and the tables afterwards, with not one word changed where it refuses. Where a kind does not look at a buffer, its content is whatever it may be.
+use Prim.Native.Nat.{ℕ}
+use mathlib.Core.List.{List}
+use mathlib.Core.Path.{_≡_}
+use Rattle.paper_lower.specs.Checks.{first}
+use Rattle.paper_upper.specs.Requests.{openChecks, openNext, endChecks, endNext}
+use Rattle.replies.specs.Replies.{numberOf}
+use Rattle.replies.specs.Done.{Done}
+use Rattle.replies.specs.declared.Reply.{Reply}
+use Rattle.orders.specs.Tables.{engineTables, deleteWhole, deleteWholeNext, destroyWhole, destroyWholeNext}
+
+-- ---- 33
+abbrev pub DeleteJudged : List ℕ → List ℕ → List ℕ → ℕ → Reply → Type 0
+DeleteJudged p s o a r = numberOf r ≡ first (deleteWhole (engineTables p s o) a)
+
+abbrev pub Deleted : List ℕ → List ℕ → List ℕ → List ℕ → ℕ → Reply → Type 0
+Deleted p p′ s o a r =
+    Done (λ l. engineTables l s o) (first (deleteWhole (engineTables p s o) a)) (deleteWholeNext (engineTables p s o) a) p p′ r
+
+-- ---- 41, whatever the policy is
+abbrev pub DestroyJudged : List ℕ → List ℕ → ℕ → Reply → Type 0
+DestroyJudged s o a r = (p : List ℕ) → numberOf r ≡ first (destroyWhole (engineTables p s o) a)
+
+abbrev pub Destroyed : List ℕ → List ℕ → List ℕ → ℕ → Reply → Type 0
+Destroyed s s′ o a r =
+    (p : List ℕ) → Done (λ l. engineTables p l o) (first (destroyWhole (engineTables p s o) a)) (destroyWholeNext (engineTables p s o) a) s s′ r
+
+-- ---- 48, whatever the sessions are
+abbrev pub OpenJudged : List ℕ → List ℕ → ℕ → ℕ → Reply → Type 0
+OpenJudged p o a b r = (s : List ℕ) → numberOf r ≡ first (openChecks (engineTables p s o) a b)
+
+abbrev pub Opened : List ℕ → List ℕ → List ℕ → ℕ → ℕ → Reply → Type 0
+Opened p o o′ a b r =
+    (s : List ℕ) → Done (engineTables p s) (first (openChecks (engineTables p s o) a b)) (openNext (engineTables p s o) a b) o o′ r
+
+-- ---- 49, whatever the policy and the sessions are
+abbrev pub EndJudged : List ℕ → ℕ → Reply → Type 0
+EndJudged o a r = (p s : List ℕ) → numberOf r ≡ first (endChecks (engineTables p s o) a)
+
+abbrev pub Ended : List ℕ → List ℕ → ℕ → Reply → Type 0
+Ended o o′ a r =
+    (p s : List ℕ) → Done (engineTables p s) (first (endChecks (engineTables p s o) a)) (endNext (engineTables p s o) a) o o′ r

@@ -1,0 +1,48 @@
+-- What requests 40 to 43 and 56 promise of the policy buffer p and the sessions buffer s: a judge the reply of the definition's checks, an act that
+-- reply and the sessions afterwards, with not one word changed where it refuses.
+use Prim.Native.Nat.{ℕ}
+use mathlib.Core.List.{List}
+use mathlib.Core.Path.{_≡_}
+use Rattle.paper_lower.specs.Checks.{first}
+use Rattle.paper_lower.specs.Tables.{Policy, Lower}
+use Rattle.paper_lower.specs.Sessions.{createChecks, createNext, destroyChecks, destroyNext, activateChecks, activateNext, deactivateChecks, deactivateNext, checkChecks}
+use Rattle.replies.specs.Replies.{numberOf}
+use Rattle.replies.specs.Done.{Done}
+use Rattle.replies.specs.declared.Reply.{Reply}
+use Rattle.sessions.specs.Reading.{sessionsOf}
+use Rattle.sessions.specs.Lower.{lowerTables}
+
+-- ---- 40
+abbrev pub CreateJudged : List ℕ → List ℕ → ℕ → ℕ → ℕ → Reply → Type 0
+CreateJudged p s a b m r = numberOf r ≡ first (createChecks (lowerTables p s) a b m)
+
+abbrev pub Created : List ℕ → List ℕ → List ℕ → ℕ → ℕ → ℕ → Reply → Type 0
+Created p s s′ a b m r = Done sessionsOf (first (createChecks (lowerTables p s) a b m)) (createNext (sessionsOf s) a b m) s s′ r
+
+-- ---- 41, whatever the policy is
+abbrev pub under : Policy → List ℕ → Lower
+under t s = record { policy = t; sessions = sessionsOf s }
+
+abbrev pub DestroyJudged : List ℕ → ℕ → Reply → Type 0
+DestroyJudged s a r = (t : Policy) → numberOf r ≡ first (destroyChecks (under t s) a)
+
+abbrev pub Destroyed : List ℕ → List ℕ → ℕ → Reply → Type 0
+Destroyed s s′ a r = (t : Policy) → Done sessionsOf (first (destroyChecks (under t s) a)) (destroyNext (sessionsOf s) a) s s′ r
+
+-- ---- 42
+abbrev pub ActivateJudged : List ℕ → List ℕ → ℕ → ℕ → Reply → Type 0
+ActivateJudged p s a b r = numberOf r ≡ first (activateChecks (lowerTables p s) a b)
+
+abbrev pub Activated : List ℕ → List ℕ → List ℕ → ℕ → ℕ → Reply → Type 0
+Activated p s s′ a b r = Done sessionsOf (first (activateChecks (lowerTables p s) a b)) (activateNext (sessionsOf s) a b) s s′ r
+
+-- ---- 43
+abbrev pub DeactivateJudged : List ℕ → List ℕ → ℕ → ℕ → Reply → Type 0
+DeactivateJudged p s a b r = numberOf r ≡ first (deactivateChecks (lowerTables p s) a b)
+
+abbrev pub Deactivated : List ℕ → List ℕ → List ℕ → ℕ → ℕ → Reply → Type 0
+Deactivated p s s′ a b r = Done sessionsOf (first (deactivateChecks (lowerTables p s) a b)) (deactivateNext (sessionsOf s) a b) s s′ r
+
+-- ---- 56
+abbrev pub CheckJudged : List ℕ → List ℕ → ℕ → ℕ → ℕ → Reply → Type 0
+CheckJudged p s a operation object r = numberOf r ≡ first (checkChecks (lowerTables p s) a operation object)
