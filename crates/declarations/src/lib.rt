@@ -63,7 +63,7 @@ fn permission_reply(p: &[u64], a: u64, b: u64, c: u64) -> Reply
     requires { ⌜ (length (now p) ≡ policyWords) × ((a < 256) × ((b < 65536) × (c < 65536))) ⌝ }
     ensures { λ r. ⌜ Judged (λ t. permissionChecks t a b c) (now (p .entry)) r ⌝ }
 {
-    if policy::permission_declared(p, a as usize) | questions::pair_declared(p, b, c) {
+    if policy::permission_declared(p, a as usize) | permissions::pair_declared(p, b, c) {
         return Reply::Taken;
     }
     Reply::Granted
