@@ -1,15 +1,29 @@
 // Kinds 9 to 16, the rules of a policy: each judged, then done.
 // It rests on the policy's getters and setters and on what is asked of it.
 ghost use mathlib.Core.Path.{_≡_};
+ghost use mathlib.Core.Bool.{cond};
 ghost use Prim.Native.Nat.{_<_};
+ghost use lib.Dec.{leb};
 ghost use lib.ListN.{length};
+ghost use Rattle.paper_lower.specs.Checks.{FULL, GRANTED};
 ghost use Rattle.paper_lower.specs.Policy.{illMade, staticChecks, staticNext, dynamicChecks, dynamicNext, taskSetChecks, taskSetNext, blockChecks, blockNext, banChecks, banNext, mostChecks, mostNext, bindChecks, bindNext, beforeChecks, beforeNext};
+ghost use Rattle.replies.specs.Replies.{numberOf};
 ghost use Rattle.policy.specs.Layout.{policyWords};
 ghost use Rattle.policy.specs.Promises.{Judged, Recorded};
 ghost use Rattle.policy.specs.Reading.{limitAdded, pairAdded};
 ghost use Rattle.rule_records.specs.Shared.{limitChecks, pairChecks};
 use replies::Reply;
 use sets::Set;
+
+// The last check of a rule: whether its kind has as many as it may have.
+fn full_at(most: usize, kept: usize) -> Reply
+    ensures { λ r. ⌜ numberOf r ≡ cond (leb most kept) FULL GRANTED ⌝ }
+{
+    if most <= kept {
+        return Reply::Full;
+    }
+    Reply::Granted
+}
 
 // ---- Limits: static sets 0, dynamic sets 1, task sets 2.
 
@@ -36,10 +50,7 @@ fn limit_reply(p: &[u64], which: usize, known: Set, ill: bool, over: bool, n: u6
     if over {
         return Reply::Static;
     }
-    if 32 <= policy::limit_count(p, which) {
-        return Reply::Full;
-    }
-    Reply::Granted
+    full_at(32, policy::limit_count(p, which))
 }
 
 fn limit(p: &mut [u64], which: usize, known: Set, ill: bool, over: bool, n: u64, m: Set) -> Reply
@@ -104,10 +115,7 @@ fn block_reply(p: &[u64], a: u64, m: Set) -> Reply
     if m.is_empty() | !questions::one_template(p, m.union(earlier)) | m.meets(earlier) {
         return Reply::Rule;
     }
-    if 64 <= policy::block_count(p) {
-        return Reply::Full;
-    }
-    Reply::Granted
+    full_at(64, policy::block_count(p))
 }
 
 pub fn block(p: &mut [u64], a: u64, m: Set) -> Reply
@@ -194,10 +202,7 @@ fn pair_reply(p: &[u64], which: usize, repeated: bool, a: u64, b: u64) -> Reply
     if (a == b) | !policy::same_template(p, a as usize, b as usize) {
         return Reply::Rule;
     }
-    if 64 <= policy::pair_count(p, which) {
-        return Reply::Full;
-    }
-    Reply::Granted
+    full_at(64, policy::pair_count(p, which))
 }
 
 fn pair(p: &mut [u64], which: usize, repeated: bool, a: u64, b: u64) -> Reply
