@@ -136,7 +136,7 @@ pub fn task_check_reply(p: &[u64], s: &[u64], o: &[u64], a: u64, b: u64, c: u64,
     if !accepted(r) {
         return r;
     }
-    if !questions::carried(p, c, m % 65536, m / 65536) {
+    if !permissions::carried(p, c, m % 65536, m / 65536) {
         return Reply::Denied;
     }
     Reply::Granted

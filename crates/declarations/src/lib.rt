@@ -3,20 +3,17 @@
 ghost use mathlib.Core.Path.{_≡_};
 ghost use Prim.Native.Nat.{_<_};
 ghost use lib.ListN.{length};
-ghost use Rattle.paper_lower.specs.Checks.{first};
 ghost use Rattle.paper_lower.specs.Policy.{userChecks, userNext, roleChecks, roleNext, permissionChecks, permissionNext, assignChecks, assignNext, giveChecks, giveNext, taskChecks, taskNext, openToChecks, openToNext, carriesChecks, carriesNext};
-ghost use Rattle.replies.specs.Replies.{numberOf};
-ghost use Rattle.replies.specs.Done.{Done};
 ghost use Rattle.policy.specs.Layout.{policyWords};
-ghost use Rattle.policy.specs.Reading.{policyOf};
+ghost use Rattle.policy.specs.Promises.{Judged, Recorded};
 use replies::Reply;
 use sets::Set;
 
 // ---- "1 user a."
 
-pub fn user_reply(p: &[u64], a: u64) -> Reply
+fn user_reply(p: &[u64], a: u64) -> Reply
     requires { ⌜ (length (now p) ≡ policyWords) × (a < 1024) ⌝ }
-    ensures { λ r. ⌜ numberOf r ≡ first (userChecks (policyOf (now (p .entry))) a) ⌝ }
+    ensures { λ r. ⌜ Judged (λ t. userChecks t a) (now (p .entry)) r ⌝ }
 {
     if policy::user_declared(p, a as usize) {
         return Reply::Taken;
@@ -26,7 +23,7 @@ pub fn user_reply(p: &[u64], a: u64) -> Reply
 
 pub fn user(p: &mut [u64], a: u64) -> Reply
     requires { ⌜ (length (now p) ≡ policyWords) × (a < 1024) ⌝ }
-    ensures { λ r. ⌜ Done policyOf (first (userChecks (policyOf (now (p .entry))) a)) (userNext (policyOf (now (p .entry))) a) (now (p .entry)) (now (p .exit)) r ⌝ }
+    ensures { λ r. ⌜ Recorded (λ t. userChecks t a) (λ t. userNext t a) (now (p .entry)) (now (p .exit)) r ⌝ }
 {
     let r = user_reply(p, a);
     if !replies::accepted(r) {
@@ -38,9 +35,9 @@ pub fn user(p: &mut [u64], a: u64) -> Reply
 
 // ---- "2 role a."
 
-pub fn role_reply(p: &[u64], a: u64) -> Reply
+fn role_reply(p: &[u64], a: u64) -> Reply
     requires { ⌜ (length (now p) ≡ policyWords) × (a < 64) ⌝ }
-    ensures { λ r. ⌜ numberOf r ≡ first (roleChecks (policyOf (now (p .entry))) a) ⌝ }
+    ensures { λ r. ⌜ Judged (λ t. roleChecks t a) (now (p .entry)) r ⌝ }
 {
     if policy::declared_roles(p).has(a) {
         return Reply::Taken;
@@ -50,7 +47,7 @@ pub fn role_reply(p: &[u64], a: u64) -> Reply
 
 pub fn role(p: &mut [u64], a: u64) -> Reply
     requires { ⌜ (length (now p) ≡ policyWords) × (a < 64) ⌝ }
-    ensures { λ r. ⌜ Done policyOf (first (roleChecks (policyOf (now (p .entry))) a)) (roleNext (policyOf (now (p .entry))) a) (now (p .entry)) (now (p .exit)) r ⌝ }
+    ensures { λ r. ⌜ Recorded (λ t. roleChecks t a) (λ t. roleNext t a) (now (p .entry)) (now (p .exit)) r ⌝ }
 {
     let r = role_reply(p, a);
     if !replies::accepted(r) {
@@ -63,11 +60,11 @@ pub fn role(p: &mut [u64], a: u64) -> Reply
 
 // ---- "3 permission a = operation b on object c."
 
-pub fn permission_reply(p: &[u64], a: u64, b: u64, c: u64) -> Reply
+fn permission_reply(p: &[u64], a: u64, b: u64, c: u64) -> Reply
     requires { ⌜ (length (now p) ≡ policyWords) × ((a < 256) × ((b < 65536) × (c < 65536))) ⌝ }
-    ensures { λ r. ⌜ numberOf r ≡ first (permissionChecks (policyOf (now (p .entry))) a b c) ⌝ }
+    ensures { λ r. ⌜ Judged (λ t. permissionChecks t a b c) (now (p .entry)) r ⌝ }
 {
-    if policy::permission_declared(p, a as usize) | questions::pair_declared(p, b, c) {
+    if policy::permission_declared(p, a as usize) | permissions::pair_declared(p, b, c) {
         return Reply::Taken;
     }
     Reply::Granted
@@ -75,7 +72,7 @@ pub fn permission_reply(p: &[u64], a: u64, b: u64, c: u64) -> Reply
 
 pub fn permission(p: &mut [u64], a: u64, b: u64, c: u64) -> Reply
     requires { ⌜ (length (now p) ≡ policyWords) × ((a < 256) × ((b < 65536) × (c < 65536))) ⌝ }
-    ensures { λ r. ⌜ Done policyOf (first (permissionChecks (policyOf (now (p .entry))) a b c)) (permissionNext (policyOf (now (p .entry))) a b c) (now (p .entry)) (now (p .exit)) r ⌝ }
+    ensures { λ r. ⌜ Recorded (λ t. permissionChecks t a b c) (λ t. permissionNext t a b c) (now (p .entry)) (now (p .exit)) r ⌝ }
 {
     let r = permission_reply(p, a, b, c);
     if !replies::accepted(r) {
@@ -87,9 +84,9 @@ pub fn permission(p: &mut [u64], a: u64, b: u64, c: u64) -> Reply
 
 // ---- "4 user a has role b."
 
-pub fn assign_reply(p: &[u64], a: u64, b: u64) -> Reply
+fn assign_reply(p: &[u64], a: u64, b: u64) -> Reply
     requires { ⌜ (length (now p) ≡ policyWords) × ((a < 1024) × (b < 64)) ⌝ }
-    ensures { λ r. ⌜ numberOf r ≡ first (assignChecks (policyOf (now (p .entry))) a b) ⌝ }
+    ensures { λ r. ⌜ Judged (λ t. assignChecks t a b) (now (p .entry)) r ⌝ }
 {
     if !policy::user_declared(p, a as usize) | !policy::declared_roles(p).has(b) {
         return Reply::Unknown;
@@ -107,7 +104,7 @@ pub fn assign_reply(p: &[u64], a: u64, b: u64) -> Reply
 
 pub fn assign(p: &mut [u64], a: u64, b: u64) -> Reply
     requires { ⌜ (length (now p) ≡ policyWords) × ((a < 1024) × (b < 64)) ⌝ }
-    ensures { λ r. ⌜ Done policyOf (first (assignChecks (policyOf (now (p .entry))) a b)) (assignNext (policyOf (now (p .entry))) a b) (now (p .entry)) (now (p .exit)) r ⌝ }
+    ensures { λ r. ⌜ Recorded (λ t. assignChecks t a b) (λ t. assignNext t a b) (now (p .entry)) (now (p .exit)) r ⌝ }
 {
     let r = assign_reply(p, a, b);
     if !replies::accepted(r) {
@@ -120,9 +117,9 @@ pub fn assign(p: &mut [u64], a: u64, b: u64) -> Reply
 
 // ---- "5 role a has permission b."
 
-pub fn give_reply(p: &[u64], a: u64, b: u64) -> Reply
+fn give_reply(p: &[u64], a: u64, b: u64) -> Reply
     requires { ⌜ (length (now p) ≡ policyWords) × ((a < 64) × (b < 256)) ⌝ }
-    ensures { λ r. ⌜ numberOf r ≡ first (giveChecks (policyOf (now (p .entry))) a b) ⌝ }
+    ensures { λ r. ⌜ Judged (λ t. giveChecks t a b) (now (p .entry)) r ⌝ }
 {
     if !policy::declared_roles(p).has(a) | !policy::permission_declared(p, b as usize) {
         return Reply::Unknown;
@@ -135,7 +132,7 @@ pub fn give_reply(p: &[u64], a: u64, b: u64) -> Reply
 
 pub fn give(p: &mut [u64], a: u64, b: u64) -> Reply
     requires { ⌜ (length (now p) ≡ policyWords) × ((a < 64) × (b < 256)) ⌝ }
-    ensures { λ r. ⌜ Done policyOf (first (giveChecks (policyOf (now (p .entry))) a b)) (giveNext (policyOf (now (p .entry))) a b) (now (p .entry)) (now (p .exit)) r ⌝ }
+    ensures { λ r. ⌜ Recorded (λ t. giveChecks t a b) (λ t. giveNext t a b) (now (p .entry)) (now (p .exit)) r ⌝ }
 {
     let r = give_reply(p, a, b);
     if !replies::accepted(r) {
@@ -148,9 +145,9 @@ pub fn give(p: &mut [u64], a: u64, b: u64) -> Reply
 
 // ---- "6 task a of template b."
 
-pub fn task_reply(p: &[u64], a: u64) -> Reply
+fn task_reply(p: &[u64], a: u64) -> Reply
     requires { ⌜ (length (now p) ≡ policyWords) × (a < 64) ⌝ }
-    ensures { λ r. ⌜ numberOf r ≡ first (taskChecks (policyOf (now (p .entry))) a) ⌝ }
+    ensures { λ r. ⌜ Judged (λ t. taskChecks t a) (now (p .entry)) r ⌝ }
 {
     if policy::task_declared(p, a as usize) {
         return Reply::Taken;
@@ -160,7 +157,7 @@ pub fn task_reply(p: &[u64], a: u64) -> Reply
 
 pub fn task(p: &mut [u64], a: u64, b: u64) -> Reply
     requires { ⌜ (length (now p) ≡ policyWords) × ((a < 64) × (b < 16)) ⌝ }
-    ensures { λ r. ⌜ Done policyOf (first (taskChecks (policyOf (now (p .entry))) a)) (taskNext (policyOf (now (p .entry))) a b) (now (p .entry)) (now (p .exit)) r ⌝ }
+    ensures { λ r. ⌜ Recorded (λ t. taskChecks t a) (λ t. taskNext t a b) (now (p .entry)) (now (p .exit)) r ⌝ }
 {
     let r = task_reply(p, a);
     if !replies::accepted(r) {
@@ -172,9 +169,9 @@ pub fn task(p: &mut [u64], a: u64, b: u64) -> Reply
 
 // ---- "7 task a open to role b."
 
-pub fn open_to_reply(p: &[u64], a: u64, b: u64) -> Reply
+fn open_to_reply(p: &[u64], a: u64, b: u64) -> Reply
     requires { ⌜ (length (now p) ≡ policyWords) × ((a < 64) × (b < 64)) ⌝ }
-    ensures { λ r. ⌜ numberOf r ≡ first (openToChecks (policyOf (now (p .entry))) a b) ⌝ }
+    ensures { λ r. ⌜ Judged (λ t. openToChecks t a b) (now (p .entry)) r ⌝ }
 {
     if !policy::task_declared(p, a as usize) | !policy::declared_roles(p).has(b) {
         return Reply::Unknown;
@@ -187,7 +184,7 @@ pub fn open_to_reply(p: &[u64], a: u64, b: u64) -> Reply
 
 pub fn open_to(p: &mut [u64], a: u64, b: u64) -> Reply
     requires { ⌜ (length (now p) ≡ policyWords) × ((a < 64) × (b < 64)) ⌝ }
-    ensures { λ r. ⌜ Done policyOf (first (openToChecks (policyOf (now (p .entry))) a b)) (openToNext (policyOf (now (p .entry))) a b) (now (p .entry)) (now (p .exit)) r ⌝ }
+    ensures { λ r. ⌜ Recorded (λ t. openToChecks t a b) (λ t. openToNext t a b) (now (p .entry)) (now (p .exit)) r ⌝ }
 {
     let r = open_to_reply(p, a, b);
     if !replies::accepted(r) {
@@ -200,9 +197,9 @@ pub fn open_to(p: &mut [u64], a: u64, b: u64) -> Reply
 
 // ---- "8 task a carries permission b."
 
-pub fn carries_reply(p: &[u64], a: u64, b: u64) -> Reply
+fn carries_reply(p: &[u64], a: u64, b: u64) -> Reply
     requires { ⌜ (length (now p) ≡ policyWords) × ((a < 64) × (b < 256)) ⌝ }
-    ensures { λ r. ⌜ numberOf r ≡ first (carriesChecks (policyOf (now (p .entry))) a b) ⌝ }
+    ensures { λ r. ⌜ Judged (λ t. carriesChecks t a b) (now (p .entry)) r ⌝ }
 {
     if !policy::task_declared(p, a as usize) | !policy::permission_declared(p, b as usize) {
         return Reply::Unknown;
@@ -215,7 +212,7 @@ pub fn carries_reply(p: &[u64], a: u64, b: u64) -> Reply
 
 pub fn carries(p: &mut [u64], a: u64, b: u64) -> Reply
     requires { ⌜ (length (now p) ≡ policyWords) × ((a < 64) × (b < 256)) ⌝ }
-    ensures { λ r. ⌜ Done policyOf (first (carriesChecks (policyOf (now (p .entry))) a b)) (carriesNext (policyOf (now (p .entry))) a b) (now (p .entry)) (now (p .exit)) r ⌝ }
+    ensures { λ r. ⌜ Recorded (λ t. carriesChecks t a b) (λ t. carriesNext t a b) (now (p .entry)) (now (p .exit)) r ⌝ }
 {
     let r = carries_reply(p, a, b);
     if !replies::accepted(r) {

@@ -3,7 +3,6 @@
 ghost use mathlib.Core.Path.{_≡_};
 ghost use Prim.Native.Nat.{_/_};
 ghost use lib.ListN.{length};
-ghost use Rattle.paper_lower.specs.Checks.{first};
 ghost use Rattle.paper_lower.specs.Forms.{policyForms};
 ghost use Rattle.paper_lower.specs.Kinds.{chosen};
 ghost use Rattle.paper_lower.specs.Policy.{policyKinds};
@@ -12,6 +11,7 @@ ghost use Rattle.replies.specs.Done.{Done};
 ghost use Rattle.records.specs.Reading.{paperOf};
 ghost use Rattle.records.specs.Limits.{Limits};
 ghost use Rattle.policy.specs.Layout.{policyWords};
+ghost use Rattle.policy.specs.Promises.{Recorded};
 ghost use Rattle.policy.specs.Reading.{policyOf};
 ghost use Rattle.loading.specs.LoadDone.{LoadDone, leaves};
 use policy::POLICY_WORDS;
@@ -26,9 +26,9 @@ pub struct Loaded {
 }
 
 // One record that its form lets pass.
-pub fn step(r: Record, p: &mut [u64]) -> Reply
+fn step(r: Record, p: &mut [u64]) -> Reply
     requires { ⌜ (length (now p) ≡ policyWords) × Limits policyForms r ⌝ }
-    ensures { λ x. ⌜ Done policyOf (first (chosen policyKinds (r .kind) .checks (policyOf (now (p .entry))) (paperOf r))) (chosen policyKinds (r .kind) .next (policyOf (now (p .entry))) (paperOf r)) (now (p .entry)) (now (p .exit)) x ⌝ }
+    ensures { λ x. ⌜ Recorded (λ t. chosen policyKinds (r .kind) .checks t (paperOf r)) (λ t. chosen policyKinds (r .kind) .next t (paperOf r)) (now (p .entry)) (now (p .exit)) x ⌝ }
 {
     let kind = r.kind;
     let n = r.n;
@@ -58,7 +58,7 @@ pub fn step(r: Record, p: &mut [u64]) -> Reply
 }
 
 // One record of a policy, whatever its bytes.
-pub fn record(bytes: &[u8], p: &mut [u64]) -> Reply
+fn record(bytes: &[u8], p: &mut [u64]) -> Reply
     requires { ⌜ length (now p) ≡ policyWords ⌝ }
     ensures { λ x. ⌜ Done policyOf (policyAnswer (policyOf (now (p .entry))) (now (bytes .entry)) .reply) (policyAnswer (policyOf (now (p .entry))) (now (bytes .entry)) .tables) (now (p .entry)) (now (p .exit)) x ⌝ }
 {

@@ -13,9 +13,9 @@ use Rattle.paper_lower.specs.Tables.{Limit, Block, Pair, withRules}
 use Rattle.paper_lower.proofs.ListLaws.{upd-same, upd-other}
 use Rattle.replies.specs.Cells.{rows}
 use Rattle.replies.proofs.RowLaws.{rows-same, rows-more}
-use Rattle.policy.specs.Layout.{policyWords, Table, tableIn, limitTable, memberTable, limitCount, limitAt, limitsIn, partitioningTable, blockTable, blockCount, blockAt, blocksIn, pairTable, pairCount, pairAt, pairsIn}
+use Rattle.policy.specs.Layout.{policyWords, same, Table, behind, tableIn, limitsKept, blocksKept, pairsKept, limitTable, memberTable, limitCount, limitAt, limitsIn, partitioningTable, blockTable, blockCount, blockAt, blocksIn, pairTable, pairCount, pairAt, pairsIn}
 use Rattle.policy.specs.Reading.{rulesIn, policyOf, withLimits, withPairs, limitAdded, blockAdded, pairAdded}
-use Rattle.policy.proofs.TableLaws.{Outside, table-same, table-off, limits-off, blocks-off, pairs-off, in-rules}
+use Rattle.policy.proofs.TableLaws.{InRules, table-same, table-off, limits-off, blocks-off, pairs-off, in-rules}
 use Rattle.policy.proofs.RuleLaws.{limits-are, pairs-are}
 
 -- ---- Several stores, first to last: each at a word, of a value.
@@ -28,7 +28,7 @@ keeps : {A : Type 0} {read : List ℕ → A} {Off : ℕ → Type 0} → ((l : Li
 keeps law [] h l = refl
 keeps law (w ∷ ws) h l = keeps law ws (h .1) (set l (w .0) (w .1)) ∙ law l (w .0) (w .1) (h .0)
 
-only-rules : (ws : List (ℕ × ℕ)) → Every (λ w. (0 < w .0) × (Outside 7 3032 (w .0) × (w .0 < 3480))) ws → (l : List ℕ) → policyOf (stores ws l) ≡ withRules (policyOf l) (rulesIn (stores ws l))
+only-rules : (ws : List (ℕ × ℕ)) → Every (λ w. InRules (w .0)) ws → (l : List ℕ) → policyOf (stores ws l) ≡ withRules (policyOf l) (rulesIn (stores ws l))
 unfolding policyOf
 only-rules [] h l = refl
 only-rules (w ∷ ws) h l =
@@ -36,7 +36,7 @@ only-rules (w ∷ ws) h l =
     ∙ ap (λ t. withRules t (rulesIn (stores ws (set l (w .0) (w .1))))) (in-rules l (w .0) (w .1) (h .0))
 
 -- the rules after them, kind by kind
-rules-are : (ws : List (ℕ × ℕ)) → Every (λ w. (0 < w .0) × (Outside 7 3032 (w .0) × (w .0 < 3480))) ws → (l : List ℕ) (limits : ℕ → List Limit) (blocks : List Block) (pairs : ℕ → List Pair)
+rules-are : (ws : List (ℕ × ℕ)) → Every (λ w. InRules (w .0)) ws → (l : List ℕ) (limits : ℕ → List Limit) (blocks : List Block) (pairs : ℕ → List Pair)
     → ((w : ℕ) → w < 3 → limitsIn w (stores ws l) ≡ limits w) → blocksIn (stores ws l) ≡ blocks → ((w : ℕ) → w < 2 → pairsIn w (stores ws l) ≡ pairs w)
     → policyOf (stores ws l) ≡ withRules (policyOf l) (record { statics = limits 0; dynamics = limits 1; taskSets = limits 2; blocks = blocks; bindings = pairs 0; befores = pairs 1 })
 unfolding rulesIn
@@ -79,14 +79,14 @@ one-more make s t c most l next k u v free kept p q up =
 abbrev twoWords : Table ℕ → Table ℕ → ℕ → ℕ → ℕ → ℕ → List (ℕ × ℕ)
 twoWords s t c k u v = (s .first + k, u) ∷ (t .first + k, v) ∷ (c, k + 1) ∷ []
 
-record Behind (c : ℕ) (s t : Table ℕ) (k : ℕ) : Type 0 where
+record Following (c : ℕ) (s t : Table ℕ) (k : ℕ) : Type 0 where
   row : k < s .height
   again : k < t .height
   first : c < s .first
-  next : s .first + s .height ≤ t .first
-  last : t .first + t .height ≤ policyWords
+  next : behind s ≤ t .first
+  last : behind t ≤ policyWords
 
-two-more : {A : Type 0} (make : ℕ → ℕ → A) (s t : Table ℕ) (c most : ℕ) (l : List ℕ) → length l ≡ policyWords → (k u v : ℕ) → k < most → k ≡ min (getD l c 0) most → Behind c s t k
+two-more : {A : Type 0} (make : ℕ → ℕ → A) (s t : Table ℕ) (c most : ℕ) (l : List ℕ) → length l ≡ policyWords → (k u v : ℕ) → k < most → k ≡ min (getD l c 0) most → Following c s t k
     → rows (λ i. make (tableIn s (stores (twoWords s t c k u v) l) i) (tableIn t (stores (twoWords s t c k u v) l) i)) (min (getD (stores (twoWords s t c k u v) l) c 0) most) ≡ add (rows (λ i. make (tableIn s l i) (tableIn t l i)) (min (getD l c 0) most)) (make (s .read u) (t .read v))
 two-more make s t c most l room k u v free kept h =
     let l₁ = set l (s .first + k) u in
@@ -100,12 +100,12 @@ two-more make s t c most l room k u v free kept h =
 
 -- ---- Limits.
 abbrev limitWords : ℕ → ℕ → ℕ → ℕ → List (ℕ × ℕ)
-limitWords which = twoWords (limitTable which) (memberTable which) (1 + which)
+limitWords which = twoWords (limitTable which) (memberTable which) (limitsKept which)
 
 module _ (l : List ℕ) (room : length l ≡ policyWords) (which k n m : ℕ) (small : which < 3) (free : k < 32) (kept : k ≡ limitCount which l) where
   limits-more : limitsIn which (stores (limitWords which k n m) l) ≡ add (limitsIn which l) (record { n = n; members = m })
   unfolding limitAt limitCount
-  limits-more = two-more (λ n m. record { n = n; members = m }) (limitTable which) (memberTable which) (1 + which) 32 l room k n m free kept (omega arith)
+  limits-more = two-more (λ n m. record { n = n; members = m }) (limitTable which) (memberTable which) (limitsKept which) 32 l room k n m free kept (omega arith)
 
   pub limit-added : policyOf (stores (limitWords which k n m) l) ≡ limitAdded (policyOf l) which n m
   unfolding policyOf rulesIn
@@ -118,14 +118,14 @@ module _ (l : List ℕ) (room : length l ≡ policyWords) (which k n m : ℕ) (s
 
 -- ---- Blocks.
 abbrev blockWords : ℕ → ℕ → ℕ → List (ℕ × ℕ)
-blockWords = twoWords partitioningTable blockTable 4
+blockWords = twoWords partitioningTable blockTable blocksKept
 
 module _ (l : List ℕ) (room : length l ≡ policyWords) (k a m : ℕ) (small : a < 16) (free : k < 64) (kept : k ≡ blockCount l) where
   blocks-more : blocksIn (stores (blockWords k a m) l) ≡ add (blocksIn l) (record { partitioning = a; tasks = m })
   unfolding blockAt blockCount
   blocks-more =
       let low : a % 16 ≡ a = omega arith in
-      two-more (λ a m. record { partitioning = a; tasks = m }) partitioningTable blockTable 4 64 l room k a m free kept (omega arith)
+      two-more (λ a m. record { partitioning = a; tasks = m }) partitioningTable blockTable blocksKept 64 l room k a m free kept (omega arith)
       ∙ ap (λ a. add (blocksIn l) (record { partitioning = a; tasks = m })) low
 
   pub block-added : policyOf (stores (blockWords k a m) l) ≡ blockAdded (policyOf l) a m
@@ -138,23 +138,23 @@ module _ (l : List ℕ) (room : length l ≡ policyWords) (k a m : ℕ) (small :
 
 -- ---- Pairs: both tasks in one word.
 abbrev pairWords : ℕ → ℕ → ℕ → ℕ → List (ℕ × ℕ)
-pairWords which k a b = (3352 + 64 * which + k, a + 64 * b) ∷ (5 + which, k + 1) ∷ []
+pairWords which k a b = (pairTable which same .first + k, a + 64 * b) ∷ (pairsKept which, k + 1) ∷ []
 
 module _ (l : List ℕ) (room : length l ≡ policyWords) (which k a b : ℕ) (small : which < 2) (first : a < 64) (second : b < 64) (free : k < 64) (kept : k ≡ pairCount which l) where
   pair-row : (read : ℕ → ℕ) (x : ℕ) → read (a + 64 * b) ≡ x → tableIn (pairTable which read) (stores (pairWords which k a b) l) ≡ upd (tableIn (pairTable which read) l) k x
   pair-row read x e =
-      table-off (pairTable which read) (set l (3352 + 64 * which + k) (a + 64 * b)) (5 + which) (k + 1) (omega arith)
+      table-off (pairTable which read) (set l (pairTable which same .first + k) (a + 64 * b)) (pairsKept which) (k + 1) (omega arith)
       ∙ table-same (pairTable which read) l k (a + 64 * b) free (omega arith)
       ∙ ap (upd (tableIn (pairTable which read) l) k) e
 
   pairs-more : pairsIn which (stores (pairWords which k a b) l) ≡ add (pairsIn which l) (record { a = a; b = b })
   unfolding pairAt pairCount
   pairs-more =
-      let room₁ : length (set l (3352 + 64 * which + k) (a + 64 * b)) ≡ policyWords = rw length-set room in
-      one-more (λ a b. record { a = a; b = b }) (pairTable which (λ w. w % 64)) (pairTable which (λ w. w / 64 % 64)) (5 + which) 64 l (stores (pairWords which k a b) l) k a b free kept
+      let room₁ : length (set l (pairTable which same .first + k) (a + 64 * b)) ≡ policyWords = rw length-set room in
+      one-more (λ a b. record { a = a; b = b }) (pairTable which (λ w. w % 64)) (pairTable which (λ w. w / 64 % 64)) (pairsKept which) 64 l (stores (pairWords which k a b) l) k a b free kept
       (pair-row (λ w. w % 64) a (omega arith))
       (pair-row (λ w. w / 64 % 64) b (omega arith))
-      (getD-set-same (set l (3352 + 64 * which + k) (a + 64 * b)) (5 + which) (k + 1) 0 (omega arith))
+      (getD-set-same (set l (pairTable which same .first + k) (a + 64 * b)) (pairsKept which) (k + 1) 0 (omega arith))
 
   pub pair-added : policyOf (stores (pairWords which k a b) l) ≡ pairAdded (policyOf l) which a b
   unfolding policyOf rulesIn

@@ -72,17 +72,17 @@ unfolding lists
 lists-bit buckets h b p q r = r ∙ (λ z. has (q z) (b / 4)) ∙ (λ z. has (buckets (p z)) (b / 4))
 
 module _ (l : List ℕ) (b : ℕ) (room : b < 256) where
-  pub declared-there : {t : Bool} → t ≡ lists (tableIn bucketTable l) (bucketOf (getD l (2056 + b) 0 % 65536) (getD l (2056 + b) 0 / 65536 % 65536)) b
-      → eqb (getD l (2056 + b) 0 / 4294967296 % 2) 1 && t ≡ there (permissionsIn l .declared b)
+  pub declared-there : {t : Bool} → t ≡ lists (tableIn bucketTable l) (bucketOf (getD l (permissionTable .first + b) 0 % 65536) (getD l (permissionTable .first + b) 0 / 65536 % 65536)) b
+      → eqb (getD l (permissionTable .first + b) 0 / 4294967296 % 2) 1 && t ≡ there (permissionsIn l .declared b)
   unfolding permissionsIn
   declared-there e =
-      ap (_&&_ (eqb (getD l (2056 + b) 0 / 4294967296 % 2) 1)) e
-      ∙ permission-holds (getD l (2056 + b) 0) (λ x. lists (tableIn bucketTable l) (its x) b)
-      ∙ sym (listed-there (tableIn permissionTable l) (tableIn bucketTable l) b ∙ ap (holds (λ x. lists (tableIn bucketTable l) (its x) b)) (column-at permissionOf none 2056 256 l b room))
+      ap (_&&_ (eqb (getD l (permissionTable .first + b) 0 / 4294967296 % 2) 1)) e
+      ∙ permission-holds (getD l (permissionTable .first + b) 0) (λ x. lists (tableIn bucketTable l) (its x) b)
+      ∙ sym (listed-there (tableIn permissionTable l) (tableIn bucketTable l) b ∙ ap (holds (λ x. lists (tableIn bucketTable l) (its x) b)) (column-at permissionOf none (permissionTable .first) 256 l b room))
 
-  pub row-word : (operation object : ℕ) → operation < 65536 → object < 65536 → eqb (getD l (2056 + b) 0 % 8589934592) (4294967296 + operation + 65536 * object) ≡ rowIs l operation object b
+  pub row-word : (operation object : ℕ) → operation < 65536 → object < 65536 → eqb (getD l (permissionTable .first + b) 0 % 8589934592) (4294967296 + operation + 65536 * object) ≡ rowIs l operation object b
   unfolding rowIs
-  row-word operation object h k = permission-is (getD l (2056 + b) 0) operation object h k ∙ sym (ap (holds (isFor operation object)) (column-at permissionOf none 2056 256 l b room))
+  row-word operation object h k = permission-is (getD l (permissionTable .first + b) 0) operation object h k ∙ sym (ap (holds (isFor operation object)) (column-at permissionOf none (permissionTable .first) 256 l b room))
 
 -- ---- A row emptied.
 module _ (h : ℕ) where

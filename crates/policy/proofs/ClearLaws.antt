@@ -10,7 +10,7 @@ use Rattle.paper_lower.specs.Tables.{noPolicy}
 use Rattle.replies.specs.Cells.{rows}
 use Rattle.replies.proofs.CellLaws.{column-zeros, zeros-at}
 use Rattle.replies.proofs.RowLaws.{rows-end}
-use Rattle.policy.specs.Layout.{policyWords, permissionOf, templateOf, mostOf, Table, tableIn, userTable, assignedTable, permissionTable, holderTable, carrierTable, templateTable, openToTable, mostTable, bannedTable, bucketTable, listed, limitCount, limitsIn, blockCount, blocksIn, pairCount, pairsIn}
+use Rattle.policy.specs.Layout.{policyWords, permissionOf, templateOf, mostOf, Table, tableIn, rolesWord, limitsKept, blocksKept, pairsKept, userTable, assignedTable, permissionTable, holderTable, carrierTable, templateTable, openToTable, mostTable, bannedTable, bucketTable, listed, limitCount, limitsIn, blockCount, blocksIn, pairCount, pairsIn}
 use Rattle.policy.specs.Reading.{peopleIn, permissionsIn, tasksIn, rulesIn, policyOf, Cleared}
 
 table-zeros : {A : Type 0} (t : Table A) (n : ℕ) → t .read 0 ≡ t .past → tableIn t (replicate n 0) ≡ (λ i. t .past)
@@ -22,15 +22,15 @@ rows-none f n e = rw e (rows-end f 0 0 (omega arith))
 module _ (n : ℕ) where
   limits-zeros : (which : ℕ) → limitsIn which (replicate n 0) ≡ []
   unfolding limitCount
-  limits-zeros which = rows-none _ _ (omega (arith, zeros-at n (1 + which)))
+  limits-zeros which = rows-none _ _ (omega (arith, zeros-at n (limitsKept which)))
 
   blocks-zeros : blocksIn (replicate n 0) ≡ []
   unfolding blockCount
-  blocks-zeros = rows-none _ _ (omega (arith, zeros-at n 4))
+  blocks-zeros = rows-none _ _ (omega (arith, zeros-at n blocksKept))
 
   pairs-zeros : (which : ℕ) → pairsIn which (replicate n 0) ≡ []
   unfolding pairCount
-  pairs-zeros which = rows-none _ _ (omega (arith, zeros-at n (5 + which)))
+  pairs-zeros which = rows-none _ _ (omega (arith, zeros-at n (pairsKept which)))
 
   listed-zeros : permissionsIn (replicate n 0) .declared ≡ (λ b. none)
   unfolding permissionsIn permissionOf
@@ -40,7 +40,7 @@ module _ (n : ℕ) where
   unfolding policyOf peopleIn permissionsIn tasksIn rulesIn permissionOf templateOf mostOf noPolicy
   policy-zeros = λ x.
       record {
-        people = record { users = table-zeros userTable n refl x; roles = zeros-at n 0 x; assigned = table-zeros assignedTable n refl x };
+        people = record { users = table-zeros userTable n refl x; roles = zeros-at n rolesWord x; assigned = table-zeros assignedTable n refl x };
         permissions =
             record {
               declared = listed-zeros x;

@@ -1,11 +1,10 @@
--- The rules of the policy as the kept rows of the buffer, for the loops above: their lists, their numbers, and what every content keeps.
-use Prim.Native.Nat.{ℕ, zero, suc, _≤_, _<_}
+-- The rules of the policy as the kept rows of the buffer, for the loops above: their lists and their numbers.
+use Prim.Native.Nat.{ℕ, zero, suc, _<_}
 use mathlib.Core.List.{List}
 use mathlib.Core.Path.{_≡_, refl, ap, _∙_}
 use native.Mathlib.Omega.{arith}
 use Rattle.paper_lower.specs.Lists.{many}
 use Rattle.replies.specs.Cells.{rows}
-use Rattle.replies.proofs.CellLaws.{column-at}
 use Rattle.replies.proofs.RowLaws.{many-rows}
 use Rattle.policy.specs.Layout.{limitCount, limitAt, blockCount, blockAt, pairCount, pairAt}
 use Rattle.policy.specs.Reading.{rulesIn, policyOf, limitsOf, pairsOf}
@@ -38,28 +37,3 @@ module _ (l : List ℕ) where
 
   pub pairs-many : (which : ℕ) → which < 2 → many (pairsOf (policyOf l .rules) which) ≡ pairCount which l
   pairs-many which h = ap many (pairs-are which h) ∙ many-rows (pairAt which l) 0 (pairCount which l)
-
-  -- ---- Whatever stands in the buffer.
-  pub limits-most : (which : ℕ) → limitCount which l ≤ 32
-  unfolding limitCount
-  limits-most which = omega arith
-
-  pub blocks-most : blockCount l ≤ 64
-  unfolding blockCount
-  blocks-most = omega arith
-
-  pub pairs-most : (which : ℕ) → pairCount which l ≤ 64
-  unfolding pairCount
-  pairs-most which = omega arith
-
-  pub partitioning-small : (k : ℕ) → k < 64 → blockAt l k .partitioning < 16
-  unfolding blockAt
-  partitioning-small k h = rw column-at (omega arith)
-
-  pub pair-a-small : (which k : ℕ) → k < 64 → pairAt which l k .a < 64
-  unfolding pairAt
-  pair-a-small which k h = rw column-at (omega arith)
-
-  pub pair-b-small : (which k : ℕ) → k < 64 → pairAt which l k .b < 64
-  unfolding pairAt
-  pair-b-small which k h = rw column-at (omega arith)

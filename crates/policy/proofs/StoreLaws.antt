@@ -14,7 +14,7 @@ use Rattle.paper_lower.specs.Lists.Maybe.{none, just}
 use Rattle.paper_lower.specs.Tables.{Permission, Policy, withPermissions}
 use Rattle.paper_lower.proofs.ListLaws.{upd-same, upd-other}
 use Rattle.replies.proofs.CellLaws.{column-at}
-use Rattle.policy.specs.Layout.{policyWords, flagOf, Table, tableIn, userTable, assignedTable, permissionTable, holderTable, carrierTable, templateTable, openToTable, mostTable, bannedTable, bucketTable, permissionOf, bucketOf, listed, inBucket, unlessIn}
+use Rattle.policy.specs.Layout.{policyWords, flagOf, Table, behind, tableIn, rolesWord, userTable, assignedTable, permissionTable, holderTable, carrierTable, templateTable, openToTable, mostTable, bannedTable, bucketTable, permissionOf, bucketOf, listed, inBucket, unlessIn}
 use Rattle.policy.specs.Reading.{peopleIn, permissionsIn, tasksIn, policyOf, Ready, rolesAnew, userAnew, assignedAnew, permissionAnew, holdersAnew, carriersAnew, templateAnew, openToAnew, bannedAnew, mostAnew}
 use Rattle.policy.proofs.WordLaws.{permission-word, template-word, most-word}
 use Rattle.policy.proofs.BucketLaws.{emptied-out, listed-emptied, listing, listed-set, bucket-small}
@@ -22,15 +22,15 @@ use Rattle.policy.proofs.TableLaws.{Outside, narrow, table-same, table-
 
 -- the word b + i is the table's row i if the table starts at b, and else none of its words
 abbrev Beside : {A : Type 0} → Table A → ℕ → ℕ → Type 0
-Beside t b i = (t .first ≡ b → i < t .height) × ((t .first ≡ b → ⊥) → Outside (t .first) (t .first + t .height) (b + i))
+Beside t b i = (t .first ≡ b → i < t .height) × ((t .first ≡ b → ⊥) → Outside (t .first) (behind t) (b + i))
 
 -- the word b + i is row i of one of the tables, and not of the permissions
 record RowOf (b i : ℕ) : Type 0 where
-  first : 8 ≤ b
-  last : b + i < 3032
+  first : userTable .first ≤ b
+  last : b + i < behind bannedTable
   users : Beside userTable b i
   assigned : Beside assignedTable b i
-  declared : Outside 2056 2312 (b + i)
+  declared : Outside (permissionTable .first) (behind permissionTable) (b + i)
   holders : Beside holderTable b i
   carriers : Beside carrierTable b i
   template : Beside templateTable b i
@@ -68,7 +68,7 @@ rowAnew b i v t =
     }
 
 module _ (l : List ℕ) (room : length l ≡ policyWords) where
-  table-after : {A : Type 0} (t : Table A) (b i v : ℕ) → Beside t b i → t .first + t .height ≤ policyWords → tableIn t (set l (b + i) v) ≡ rowIf t b (tableIn t l) i v
+  table-after : {A : Type 0} (t : Table A) (b i v : ℕ) → Beside t b i → behind t ≤ policyWords → tableIn t (set l (b + i) v) ≡ rowIf t b (tableIn t l) i v
   table-after t b i v h fits = at (eqb (t .first) b) refl
     where
       at : (here : Bool) → eqb (t .first) b ≡ here → tableIn t (set l (b + i) v) ≡ cond here (upd (tableIn t l) i (t .read v)) (tableIn t l)
@@ -84,7 +84,7 @@ module _ (l : List ℕ) (room : length l ≡ policyWords) where
         people =
             record {
               users = table-after userTable b i v (h .users) (omega arith) x;
-              roles = getD-set-other l (b + i) 0 v 0 (omega arith) x;
+              roles = getD-set-other l (b + i) rolesWord v 0 (omega arith) x;
               assigned = table-after assignedTable b i v (h .assigned) (omega arith) x;
             };
         permissions =
@@ -103,53 +103,53 @@ module _ (l : List ℕ) (room : length l ≡ policyWords) where
         rules = rules-off l (b + i) v (omega (arith, h .first, h .last)) x;
       }
 
-  pub roles-set : (v : ℕ) → policyOf (set l 0 v) ≡ rolesAnew (policyOf l) v
+  pub roles-set : (v : ℕ) → policyOf (set l rolesWord v) ≡ rolesAnew (policyOf l) v
   unfolding policyOf peopleIn
   roles-set v = λ x.
       record {
         people =
             record {
-              users = table-off userTable l 0 v (omega arith) x;
-              roles = getD-set-same l 0 v 0 (omega arith) x;
-              assigned = table-off assignedTable l 0 v (omega arith) x;
+              users = table-off userTable l rolesWord v (omega arith) x;
+              roles = getD-set-same l rolesWord v 0 (omega arith) x;
+              assigned = table-off assignedTable l rolesWord v (omega arith) x;
             };
-        permissions = permissions-off l 0 v (omega arith) x;
-        tasks = tasks-off l 0 v (omega arith) x;
-        rules = rules-off l 0 v (omega arith) x;
+        permissions = permissions-off l rolesWord v (omega arith) x;
+        tasks = tasks-off l rolesWord v (omega arith) x;
+        rules = rules-off l rolesWord v (omega arith) x;
       }
 
   module _ (i : ℕ) where
-    pub assigned-set : (v : ℕ) → i < 1024 → policyOf (set l (1032 + i) v) ≡ assignedAnew (policyOf l) i v
-    assigned-set v h = row-set 1032 i v (omega arith)
+    pub assigned-set : (v : ℕ) → i < 1024 → policyOf (set l (assignedTable .first + i) v) ≡ assignedAnew (policyOf l) i v
+    assigned-set v h = row-set (assignedTable .first) i v (omega arith)
 
-    pub holders-set : (v : ℕ) → i < 256 → policyOf (set l (2312 + i) v) ≡ holdersAnew (policyOf l) i v
-    holders-set v h = row-set 2312 i v (omega arith)
+    pub holders-set : (v : ℕ) → i < 256 → policyOf (set l (holderTable .first + i) v) ≡ holdersAnew (policyOf l) i v
+    holders-set v h = row-set (holderTable .first) i v (omega arith)
 
-    pub carriers-set : (v : ℕ) → i < 256 → policyOf (set l (2568 + i) v) ≡ carriersAnew (policyOf l) i v
-    carriers-set v h = row-set 2568 i v (omega arith)
+    pub carriers-set : (v : ℕ) → i < 256 → policyOf (set l (carrierTable .first + i) v) ≡ carriersAnew (policyOf l) i v
+    carriers-set v h = row-set (carrierTable .first) i v (omega arith)
 
-    pub open-to-set : (v : ℕ) → i < 64 → policyOf (set l (2888 + i) v) ≡ openToAnew (policyOf l) i v
-    open-to-set v h = row-set 2888 i v (omega arith)
+    pub open-to-set : (v : ℕ) → i < 64 → policyOf (set l (openToTable .first + i) v) ≡ openToAnew (policyOf l) i v
+    open-to-set v h = row-set (openToTable .first) i v (omega arith)
 
-    pub banned-set : i < 16 → policyOf (set l (3016 + i) 1) ≡ bannedAnew (policyOf l) i
-    banned-set h = row-set 3016 i 1 (omega arith)
+    pub banned-set : i < 16 → policyOf (set l (bannedTable .first + i) 1) ≡ bannedAnew (policyOf l) i
+    banned-set h = row-set (bannedTable .first) i 1 (omega arith)
 
-    pub template-set : (j : ℕ) → i < 64 → j < 16 → policyOf (set l (2824 + i) (16 + j)) ≡ templateAnew (policyOf l) i j
-    template-set j h p = row-set 2824 i (16 + j) (omega arith) ∙ rw (template-word j p)
+    pub template-set : (j : ℕ) → i < 64 → j < 16 → policyOf (set l (templateTable .first + i) (16 + j)) ≡ templateAnew (policyOf l) i j
+    template-set j h p = row-set (templateTable .first) i (16 + j) (omega arith) ∙ rw (template-word j p)
 
-    pub most-set : (n : ℕ) → i < 64 → 0 < n → n < 256 → policyOf (set l (2952 + i) n) ≡ mostAnew (policyOf l) i n
-    most-set n h p q = row-set 2952 i n (omega arith) ∙ rw (most-word n p q)
+    pub most-set : (n : ℕ) → i < 64 → 0 < n → n < 256 → policyOf (set l (mostTable .first + i) n) ≡ mostAnew (policyOf l) i n
+    most-set n h p q = row-set (mostTable .first) i n (omega arith) ∙ rw (most-word n p q)
 
-pub user-set : (l : List ℕ) → length l ≡ policyWords → (i v m : ℕ) → i < 1024 → policyOf (set (set l (8 + i) v) (1032 + i) m) ≡ userAnew (policyOf l) i (flagOf v) m
+pub user-set : (l : List ℕ) → length l ≡ policyWords → (i v m : ℕ) → i < 1024 → policyOf (set (set l (userTable .first + i) v) (assignedTable .first + i) m) ≡ userAnew (policyOf l) i (flagOf v) m
 user-set l room i v m h =
-    let next : length (set l (8 + i) v) ≡ policyWords = rw length-set room in
-    assigned-set (set l (8 + i) v) next i m h ∙ ap (λ t. assignedAnew t i m) (row-set l room 8 i v (omega arith))
+    let next : length (set l (userTable .first + i) v) ≡ policyWords = rw length-set room in
+    assigned-set (set l (userTable .first + i) v) next i m h ∙ ap (λ t. assignedAnew t i m) (row-set l room (userTable .first) i v (omega arith))
 
 -- ---- The permissions: a store in their rows or buckets.
 abbrev declaredAnew : Policy → (ℕ → Maybe Permission) → Policy
 declaredAnew t f = withPermissions t (record { declared = f; holders = t .permissions .holders; carriers = t .permissions .carriers })
 
-in-declared : (l : List ℕ) (j v : ℕ) → (2056 ≤ j) × Outside 2312 3480 j → policyOf (set l j v) ≡ declaredAnew (policyOf l) (permissionsIn (set l j v) .declared)
+in-declared : (l : List ℕ) (j v : ℕ) → (permissionTable .first ≤ j) × Outside (behind permissionTable) (bucketTable .first) j → policyOf (set l j v) ≡ declaredAnew (policyOf l) (permissionsIn (set l j v) .declared)
 unfolding policyOf permissionsIn
 in-declared l j v h = λ x.
     record {
@@ -182,20 +182,20 @@ module _ (l : List ℕ) (t h : ℕ) where
     pub ready-all : ReadyTo l t h b p → 4 * t + 4 ≤ b → Ready l t h p
     ready-all r end = record { tables = r .tables; buckets = r .buckets; strays = λ out k is. r .strays k (omega arith) (omega arith) }
 
-    module _ (v : ℕ) (high : b < 256) (is : permissionOf v ≡ unlessIn h (permissionOf (getD p (2056 + b) 0))) (room : length p ≡ policyWords) where
-      emptied : tableIn permissionTable (set p (2056 + b) v) ≡ upd (tableIn permissionTable p) b (unlessIn h (tableIn permissionTable p b))
+    module _ (v : ℕ) (high : b < 256) (is : permissionOf v ≡ unlessIn h (permissionOf (getD p (permissionTable .first + b) 0))) (room : length p ≡ policyWords) where
+      emptied : tableIn permissionTable (set p (permissionTable .first + b) v) ≡ upd (tableIn permissionTable p) b (unlessIn h (tableIn permissionTable p b))
       emptied =
           table-same permissionTable p b v high (omega arith)
-          ∙ ap (upd (tableIn permissionTable p) b) (is ∙ ap (unlessIn h) (sym (column-at permissionOf none 2056 256 p b high)))
+          ∙ ap (upd (tableIn permissionTable p) b) (is ∙ ap (unlessIn h) (sym (column-at permissionOf none (permissionTable .first) 256 p b high)))
 
-      kept : has (tableIn bucketTable p h) (b / 4) ≡ false → policyOf (set p (2056 + b) v) ≡ policyOf p
+      kept : has (tableIn bucketTable p h) (b / 4) ≡ false → policyOf (set p (permissionTable .first + b) v) ≡ policyOf p
       unfolding policyOf permissionsIn
       kept out =
-          in-declared p (2056 + b) v (omega arith)
+          in-declared p (permissionTable .first + b) v (omega arith)
           ∙ ap (declaredAnew (policyOf p))
-          ((λ x. listed (emptied x) (table-off bucketTable p (2056 + b) v (omega arith) x)) ∙ listed-emptied h (tableIn permissionTable p) (tableIn bucketTable p) b out)
+          ((λ x. listed (emptied x) (table-off bucketTable p (permissionTable .first + b) v (omega arith) x)) ∙ listed-emptied h (tableIn permissionTable p) (tableIn bucketTable p) b out)
 
-      stray : (k : ℕ) → 4 * t ≤ k → k < b + 1 → ((k : ℕ) → 4 * t ≤ k → k < b → inBucket h (tableIn permissionTable p k) ≡ false) → inBucket h (tableIn permissionTable (set p (2056 + b) v) k) ≡ false
+      stray : (k : ℕ) → 4 * t ≤ k → k < b + 1 → ((k : ℕ) → 4 * t ≤ k → k < b → inBucket h (tableIn permissionTable p k) ≡ false) → inBucket h (tableIn permissionTable (set p (permissionTable .first + b) v) k) ≡ false
       stray k a z below = ap (λ f. inBucket h (f k)) emptied ∙ at (eqb k b) refl
         where
           at : (here : Bool) → eqb k b ≡ here → inBucket h (upd (tableIn permissionTable p) b (unlessIn h (tableIn permissionTable p b)) k) ≡ false
@@ -204,42 +204,42 @@ module _ (l : List ℕ) (t h : ℕ) where
               let other = eqb-false k b e in
               ap (inBucket h) (upd-other (tableIn permissionTable p) b k (unlessIn h (tableIn permissionTable p b)) other) ∙ below k a (omega arith)
 
-    pub ready-more : (v : ℕ) → ReadyTo l t h b p → has (tableIn bucketTable l h) t ≡ false → t < 64 → 4 * t ≤ b → b < 4 * t + 4 → permissionOf v ≡ unlessIn h (permissionOf (getD p (2056 + b) 0)) → ReadyTo l t h (b + 1) (set p (2056 + b) v)
+    pub ready-more : (v : ℕ) → ReadyTo l t h b p → has (tableIn bucketTable l h) t ≡ false → t < 64 → 4 * t ≤ b → b < 4 * t + 4 → permissionOf v ≡ unlessIn h (permissionOf (getD p (permissionTable .first + b) 0)) → ReadyTo l t h (b + 1) (set p (permissionTable .first + b) v)
     ready-more v r out room low high is =
         let four : b / 4 ≡ t = omega arith in
         record {
           words = rw length-set (r .words);
           tables = kept v (omega arith) is (r .words) (rw (four, r .buckets) out) ∙ r .tables;
-          buckets = table-off bucketTable p (2056 + b) v (omega arith) ∙ r .buckets;
+          buckets = table-off bucketTable p (permissionTable .first + b) v (omega arith) ∙ r .buckets;
           strays = λ k a z. stray v (omega arith) is (r .words) k a z (r .strays);
         }
 
 -- A permission: its row, and its four in the bucket of its pair.
 module _ (l after : List ℕ) (room : length after ≡ policyWords) (i operation object v : ℕ) (h : i < 256) (small : operation < 65536) (too : object < 65536) (ready : Ready l (i / 4) (bucketOf operation object) after) (more : v ≡ plus (tableIn bucketTable after (bucketOf operation object)) (i / 4)) where
-  declared-set : permissionsIn (set (set after (2056 + i) (4294967296 + operation + 65536 * object)) (3480 + bucketOf operation object) v) .declared ≡ upd (permissionsIn after .declared) i (just (record { operation = operation; object = object }))
+  declared-set : permissionsIn (set (set after (permissionTable .first + i) (4294967296 + operation + 65536 * object)) (bucketTable .first + bucketOf operation object) v) .declared ≡ upd (permissionsIn after .declared) i (just (record { operation = operation; object = object }))
   unfolding permissionsIn
   declared-set =
       let bucket = bucketOf operation object in
       let w = 4294967296 + operation + 65536 * object in
       let low = bucket-small operation object in
-      let room₁ : length (set after (2056 + i) w) ≡ policyWords = rw length-set room in
-      let rows : tableIn permissionTable (set (set after (2056 + i) w) (3480 + bucket) v) ≡ upd (tableIn permissionTable after) i (just (record { operation = operation; object = object })) =
-      table-off permissionTable (set after (2056 + i) w) (3480 + bucket) v (omega arith)
+      let room₁ : length (set after (permissionTable .first + i) w) ≡ policyWords = rw length-set room in
+      let rows : tableIn permissionTable (set (set after (permissionTable .first + i) w) (bucketTable .first + bucket) v) ≡ upd (tableIn permissionTable after) i (just (record { operation = operation; object = object })) =
+      table-off permissionTable (set after (permissionTable .first + i) w) (bucketTable .first + bucket) v (omega arith)
       ∙ table-same permissionTable after i w h (omega arith)
       ∙ ap (upd (tableIn permissionTable after) i) (permission-word operation object small too) in
-      let buckets : tableIn bucketTable (set (set after (2056 + i) w) (3480 + bucket) v) ≡ listing (tableIn bucketTable after) (record { operation = operation; object = object }) i =
-      table-same bucketTable (set after (2056 + i) w) bucket v (omega arith) (omega arith)
-      ∙ (λ x. upd (table-off bucketTable after (2056 + i) w (omega arith) x) bucket (more x)) in
+      let buckets : tableIn bucketTable (set (set after (permissionTable .first + i) w) (bucketTable .first + bucket) v) ≡ listing (tableIn bucketTable after) (record { operation = operation; object = object }) i =
+      table-same bucketTable (set after (permissionTable .first + i) w) bucket v (omega arith) (omega arith)
+      ∙ (λ x. upd (table-off bucketTable after (permissionTable .first + i) w (omega arith) x) bucket (more x)) in
       (λ x. listed (rows x) (buckets x))
       ∙ listed-set (tableIn permissionTable after) (tableIn bucketTable after) (record { operation = operation; object = object }) i (λ out. ready .strays (ap (λ f. has (f bucket) (i / 4)) (sym (ready .buckets)) ∙ out))
 
-  pub permission-set : policyOf (set (set after (2056 + i) (4294967296 + operation + 65536 * object)) (3480 + bucketOf operation object) v) ≡ permissionAnew (policyOf l) i operation object
+  pub permission-set : policyOf (set (set after (permissionTable .first + i) (4294967296 + operation + 65536 * object)) (bucketTable .first + bucketOf operation object) v) ≡ permissionAnew (policyOf l) i operation object
   unfolding policyOf
   permission-set =
       let w = 4294967296 + operation + 65536 * object in
-      let l₁ = set after (2056 + i) w in
-      let l₂ = set l₁ (3480 + bucketOf operation object) v in
-      in-declared l₁ (3480 + bucketOf operation object) v (omega arith)
-      ∙ ap (λ t. declaredAnew t (permissionsIn l₂ .declared)) (in-declared after (2056 + i) w (omega arith))
+      let l₁ = set after (permissionTable .first + i) w in
+      let l₂ = set l₁ (bucketTable .first + bucketOf operation object) v in
+      in-declared l₁ (bucketTable .first + bucketOf operation object) v (omega arith)
+      ∙ ap (λ t. declaredAnew t (permissionsIn l₂ .declared)) (in-declared after (permissionTable .first + i) w (omega arith))
       ∙ ap (declaredAnew (policyOf after)) declared-set
       ∙ ap (λ t. permissionAnew t i operation object) (ready .tables)

@@ -1,5 +1,5 @@
 -- A store at one word: a row anew of the table that it is in; each other table, group of tables and kind of rules is kept.
-use Prim.Native.Nat.{ℕ, _+_, _*_, _≤_, _<_, _/_, _%_, min}
+use Prim.Native.Nat.{ℕ, _+_, _≤_, _<_, _/_, _%_, min}
 use mathlib.Core.Bool.{Bool, true, false}
 use mathlib.Core.List.{List}
 use mathlib.Core.Path.{_≡_, refl}
@@ -12,7 +12,7 @@ use Rattle.paper_lower.specs.Lists.{upd}
 use Rattle.paper_lower.specs.Tables.{withRules}
 use Rattle.replies.specs.Cells.{rows}
 use Rattle.replies.proofs.CellLaws.{column-same, column-below, column-above}
-use Rattle.policy.specs.Layout.{Table, tableIn, userTable, assignedTable, permissionTable, holderTable, carrierTable, templateTable, openToTable, mostTable, bannedTable, bucketTable, listed, limitTable, memberTable, limitCount, limitAt, limitsIn, partitioningTable, blockTable, blockCount, blockAt, blocksIn, pairTable, pairCount, pairAt, pairsIn}
+use Rattle.policy.specs.Layout.{same, Table, behind, tableIn, rolesWord, limitsKept, blocksKept, pairsKept, userTable, assignedTable, permissionTable, holderTable, carrierTable, templateTable, openToTable, mostTable, bannedTable, bucketTable, listed, limitTable, memberTable, limitCount, limitAt, limitsIn, partitioningTable, blockTable, blockCount, blockAt, blocksIn, pairTable, pairCount, pairAt, pairsIn}
 use Rattle.policy.specs.Reading.{peopleIn, permissionsIn, tasksIn, rulesIn, policyOf}
 
 -- not one of the words from first to before last
@@ -33,7 +33,7 @@ table-off t l j v far = at (leb (t .first) j) refl
     at false e = column-below (t .read) (t .past) (t .first) (t .height) l j v (leb-false (t .first) j e)
 
 -- ---- The kinds of rules.
-pub limits-off : (which : ℕ) (l : List ℕ) (j v : ℕ) → Outside (1 + which) (2 + which) j × Outside (3032 + 64 * which) (3096 + 64 * which) j → limitsIn which (set l j v) ≡ limitsIn which l
+pub limits-off : (which : ℕ) (l : List ℕ) (j v : ℕ) → Outside (limitsKept which) (limitsKept which + 1) j × Outside (limitTable which .first) (behind (memberTable which)) j → limitsIn which (set l j v) ≡ limitsIn which l
 unfolding limitAt limitCount
 limits-off which l j v h = λ x.
     rows
@@ -42,9 +42,9 @@ limits-off which l j v h = λ x.
       n = table-off (limitTable which) l j v (narrow (h .1) (omega arith)) x k;
       members = table-off (memberTable which) l j v (narrow (h .1) (omega arith)) x k;
     })
-    (min (getD-set-other l j (1 + which) v 0 (λ e. omega (arith, h .0 (omega arith))) x) 32)
+    (min (getD-set-other l j (limitsKept which) v 0 (λ e. omega (arith, h .0 (omega arith))) x) 32)
 
-pub blocks-off : (l : List ℕ) (j v : ℕ) → Outside 4 5 j × Outside 3224 3352 j → blocksIn (set l j v) ≡ blocksIn l
+pub blocks-off : (l : List ℕ) (j v : ℕ) → Outside blocksKept (blocksKept + 1) j × Outside (partitioningTable .first) (behind blockTable) j → blocksIn (set l j v) ≡ blocksIn l
 unfolding blockAt blockCount
 blocks-off l j v h = λ x.
     rows
@@ -53,9 +53,9 @@ blocks-off l j v h = λ x.
       partitioning = table-off partitioningTable l j v (narrow (h .1) (omega arith)) x k;
       tasks = table-off blockTable l j v (narrow (h .1) (omega arith)) x k;
     })
-    (min (getD-set-other l j 4 v 0 (λ e. omega (arith, h .0 (omega arith))) x) 64)
+    (min (getD-set-other l j blocksKept v 0 (λ e. omega (arith, h .0 (omega arith))) x) 64)
 
-pub pairs-off : (which : ℕ) (l : List ℕ) (j v : ℕ) → Outside (5 + which) (6 + which) j × Outside (3352 + 64 * which) (3416 + 64 * which) j → pairsIn which (set l j v) ≡ pairsIn which l
+pub pairs-off : (which : ℕ) (l : List ℕ) (j v : ℕ) → Outside (pairsKept which) (pairsKept which + 1) j × Outside (pairTable which same .first) (behind (pairTable which same)) j → pairsIn which (set l j v) ≡ pairsIn which l
 unfolding pairAt pairCount
 pairs-off which l j v h = λ x.
     rows
@@ -64,24 +64,28 @@ pairs-off which l j v h = λ x.
       a = table-off (pairTable which (λ w. w % 64)) l j v (narrow (h .1) (omega arith)) x k;
       b = table-off (pairTable which (λ w. w / 64 % 64)) l j v (narrow (h .1) (omega arith)) x k;
     })
-    (min (getD-set-other l j (5 + which) v 0 (λ e. omega (arith, h .0 (omega arith))) x) 64)
+    (min (getD-set-other l j (pairsKept which) v 0 (λ e. omega (arith, h .0 (omega arith))) x) 64)
+
+-- in the rules, if in a table at all
+abbrev pub InRules : ℕ → Type 0
+InRules j = (rolesWord < j) × (Outside (userTable .first) (behind bannedTable) j × Outside (bucketTable .first) (behind bucketTable) j)
 
 -- ---- The groups of tables.
 module _ (l : List ℕ) (j v : ℕ) where
-  pub people-off : (0 < j) × Outside 8 2056 j → peopleIn (set l j v) ≡ peopleIn l
+  pub people-off : (rolesWord < j) × Outside (userTable .first) (behind assignedTable) j → peopleIn (set l j v) ≡ peopleIn l
   unfolding peopleIn
   people-off h = λ x.
       record {
         users = table-off userTable l j v (narrow (h .1) (omega arith)) x;
-        roles = getD-set-other l j 0 v 0 (omega arith) x;
+        roles = getD-set-other l j rolesWord v 0 (omega arith) x;
         assigned = table-off assignedTable l j v (narrow (h .1) (omega arith)) x;
       }
 
-  pub declared-off : Outside 2056 2312 j × (j < 3480) → permissionsIn (set l j v) .declared ≡ permissionsIn l .declared
+  pub declared-off : Outside (permissionTable .first) (behind permissionTable) j × Outside (bucketTable .first) (behind bucketTable) j → permissionsIn (set l j v) .declared ≡ permissionsIn l .declared
   unfolding permissionsIn
-  declared-off h = λ x. listed (table-off permissionTable l j v (h .0) x) (table-off bucketTable l j v (omega arith) x)
+  declared-off h = λ x. listed (table-off permissionTable l j v (h .0) x) (table-off bucketTable l j v (h .1) x)
 
-  pub permissions-off : Outside 2056 2824 j × (j < 3480) → permissionsIn (set l j v) ≡ permissionsIn l
+  pub permissions-off : Outside (permissionTable .first) (behind carrierTable) j × Outside (bucketTable .first) (behind bucketTable) j → permissionsIn (set l j v) ≡ permissionsIn l
   unfolding permissionsIn
   permissions-off h = λ x.
       record {
@@ -90,7 +94,7 @@ module _ (l : List ℕ) (j v : ℕ) where
         carriers = table-off carrierTable l j v (narrow (h .0) (omega arith)) x;
       }
 
-  pub tasks-off : Outside 2824 3032 j → tasksIn (set l j v) ≡ tasksIn l
+  pub tasks-off : Outside (templateTable .first) (behind bannedTable) j → tasksIn (set l j v) ≡ tasksIn l
   unfolding tasksIn
   tasks-off h = λ x.
       record {
@@ -100,7 +104,7 @@ module _ (l : List ℕ) (j v : ℕ) where
         most = table-off mostTable l j v (narrow h (omega arith)) x;
       }
 
-  pub rules-off : Outside 1 7 j × Outside 3032 3480 j → rulesIn (set l j v) ≡ rulesIn l
+  pub rules-off : Outside (limitsKept 0) (pairsKept 2) j × Outside (limitTable 0 .first) (behind (pairTable 1 same)) j → rulesIn (set l j v) ≡ rulesIn l
   unfolding rulesIn
   rules-off h = λ x.
       record {
@@ -112,8 +116,7 @@ module _ (l : List ℕ) (j v : ℕ) where
         befores = pairs-off 1 l j v (narrow (h .0) (omega arith), narrow (h .1) (omega arith)) x;
       }
 
-  -- ---- A store in the rules.
-  pub in-rules : (0 < j) × (Outside 7 3032 j × (j < 3480)) → policyOf (set l j v) ≡ withRules (policyOf l) (rulesIn (set l j v))
+  pub in-rules : InRules j → policyOf (set l j v) ≡ withRules (policyOf l) (rulesIn (set l j v))
   unfolding policyOf
   in-rules h = λ x.
       record {

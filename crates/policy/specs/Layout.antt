@@ -11,9 +11,6 @@ use Rattle.paper_lower.specs.Tables.{Permission, Limit, Block, Pair}
 use Rattle.paper_lower.specs.Policy.{isFor}
 use Rattle.replies.specs.Cells.{column, rows}
 
-abbrev pub policyWords : ℕ
-policyWords = 4504
-
 -- ---- How a word reads.
 abbrev pub same : ℕ → ℕ
 same w = w
@@ -40,40 +37,104 @@ pub record Table (A : Type 0) : Type 0 where
   pub read : ℕ → A
   pub past : A
 
+-- the first word behind it, where the next table starts
+abbrev pub behind : {A : Type 0} → Table A → ℕ
+behind t = t .first + t .height
+
 abbrev pub tableIn : {A : Type 0} → Table A → List ℕ → ℕ → A
 tableIn t l = column (t .read) (t .past) (t .first) (t .height) l
 
--- ---- The tables. The declared roles are word 0.
+-- ---- Words of their own: the declared roles, and the numbers of kept rules of each kind. Word 7 is free.
+abbrev pub rolesWord : ℕ
+rolesWord = 0
+
+abbrev pub limitsKept : ℕ → ℕ
+limitsKept which = 1 + which
+
+abbrev pub blocksKept : ℕ
+blocksKept = 4
+
+abbrev pub pairsKept : ℕ → ℕ
+pairsKept which = 5 + which
+
+-- ---- The tables, each behind the one before. A new one goes to the end, so that it moves no other.
 abbrev pub userTable : Table Bool
 userTable = record { first = 8; height = 1024; read = flagOf; past = false }
 
 abbrev pub assignedTable : Table Set
-assignedTable = record { first = 1032; height = 1024; read = same; past = empty }
+assignedTable = record { first = behind userTable; height = 1024; read = same; past = empty }
 
 abbrev pub permissionTable : Table (Maybe Permission)
-permissionTable = record { first = 2056; height = 256; read = permissionOf; past = none }
+permissionTable = record { first = behind assignedTable; height = 256; read = permissionOf; past = none }
 
 abbrev pub holderTable : Table Set
-holderTable = record { first = 2312; height = 256; read = same; past = empty }
+holderTable = record { first = behind permissionTable; height = 256; read = same; past = empty }
 
 abbrev pub carrierTable : Table Set
-carrierTable = record { first = 2568; height = 256; read = same; past = empty }
+carrierTable = record { first = behind holderTable; height = 256; read = same; past = empty }
 
 abbrev pub templateTable : Table (Maybe ℕ)
-templateTable = record { first = 2824; height = 64; read = templateOf; past = none }
+templateTable = record { first = behind carrierTable; height = 64; read = templateOf; past = none }
 
 abbrev pub openToTable : Table Set
-openToTable = record { first = 2888; height = 64; read = same; past = empty }
+openToTable = record { first = behind templateTable; height = 64; read = same; past = empty }
 
 abbrev pub mostTable : Table (Maybe ℕ)
-mostTable = record { first = 2952; height = 64; read = mostOf; past = none }
+mostTable = record { first = behind openToTable; height = 64; read = mostOf; past = none }
 
 abbrev pub bannedTable : Table Bool
-bannedTable = record { first = 3016; height = 16; read = flagOf; past = false }
+bannedTable = record { first = behind mostTable; height = 16; read = flagOf; past = false }
+
+-- ---- The rules: of each kind a kept number, cut at the limit, and the rows.
+
+-- limits by kind: static sets 0, dynamic sets 1, task sets 2
+abbrev pub limitTable : ℕ → Table ℕ
+limitTable which = record { first = behind bannedTable + 64 * which; height = 32; read = same; past = 0 }
+
+abbrev pub memberTable : ℕ → Table Set
+memberTable which = record { first = behind (limitTable 0) + 64 * which; height = 32; read = same; past = empty }
+
+unfoldable pub limitCount : ℕ → List ℕ → ℕ
+limitCount which l = min (getD l (limitsKept which) 0) 32
+
+unfoldable pub limitAt : ℕ → List ℕ → ℕ → Limit
+limitAt which l k = record { n = tableIn (limitTable which) l k; members = tableIn (memberTable which) l k }
+
+abbrev pub partitioningTable : Table ℕ
+partitioningTable = record { first = behind (memberTable 2); height = 64; read = λ w. w % 16; past = 0 }
+
+abbrev pub blockTable : Table Set
+blockTable = record { first = behind partitioningTable; height = 64; read = same; past = empty }
+
+unfoldable pub blockCount : List ℕ → ℕ
+blockCount l = min (getD l blocksKept 0) 64
+
+unfoldable pub blockAt : List ℕ → ℕ → Block
+blockAt l k = record { partitioning = tableIn partitioningTable l k; tasks = tableIn blockTable l k }
+
+-- pairs by kind: bindings 0, prerequisites 1; both tasks in one word, the second in bits 6 to 11
+abbrev pub pairTable : ℕ → (ℕ → ℕ) → Table ℕ
+pairTable which read = record { first = behind blockTable + 64 * which; height = 64; read = read; past = 0 }
+
+unfoldable pub pairCount : ℕ → List ℕ → ℕ
+pairCount which l = min (getD l (pairsKept which) 0) 64
+
+unfoldable pub pairAt : ℕ → List ℕ → ℕ → Pair
+pairAt which l k = record { a = tableIn (pairTable which (λ w. w % 64)) l k; b = tableIn (pairTable which (λ w. w / 64 % 64)) l k }
+
+-- ---- The kept rows, in policy order.
+abbrev pub limitsIn : ℕ → List ℕ → List Limit
+limitsIn which l = rows (limitAt which l) (limitCount which l)
+
+abbrev pub blocksIn : List ℕ → List Block
+blocksIn l = rows (blockAt l) (blockCount l)
+
+abbrev pub pairsIn : ℕ → List ℕ → List Pair
+pairsIn which l = rows (pairAt which l) (pairCount which l)
 
 -- ---- Permissions by their pair. Four t is the permissions 4 t to 4 t + 3. Each pair has one of 1024 buckets; a bucket is a set of fours.
 abbrev pub bucketTable : Table Set
-bucketTable = record { first = 3480; height = 1024; read = same; past = empty }
+bucketTable = record { first = behind (pairTable 1 same); height = 1024; read = same; past = empty }
 
 -- the factor spreads near pairs over all buckets
 unfoldable pub bucketOf : ℕ → ℕ → ℕ
@@ -101,49 +162,6 @@ inBucket h r = holds (λ x. eqb (bucketOf (x .operation) (x .object)) h) r
 unfoldable pub unlessIn : ℕ → Maybe Permission → Maybe Permission
 unlessIn h r = cond (inBucket h r) none r
 
--- ---- The rules: of each kind a kept number, cut at the limit, and the rows.
-
--- limits by kind: static sets 0, dynamic sets 1, task sets 2
-abbrev pub limitTable : ℕ → Table ℕ
-limitTable which = record { first = 3032 + 64 * which; height = 32; read = same; past = 0 }
-
-abbrev pub memberTable : ℕ → Table Set
-memberTable which = record { first = 3064 + 64 * which; height = 32; read = same; past = empty }
-
-unfoldable pub limitCount : ℕ → List ℕ → ℕ
-limitCount which l = min (getD l (1 + which) 0) 32
-
-unfoldable pub limitAt : ℕ → List ℕ → ℕ → Limit
-limitAt which l k = record { n = tableIn (limitTable which) l k; members = tableIn (memberTable which) l k }
-
-abbrev pub partitioningTable : Table ℕ
-partitioningTable = record { first = 3224; height = 64; read = λ w. w % 16; past = 0 }
-
-abbrev pub blockTable : Table Set
-blockTable = record { first = 3288; height = 64; read = same; past = empty }
-
-unfoldable pub blockCount : List ℕ → ℕ
-blockCount l = min (getD l 4 0) 64
-
-unfoldable pub blockAt : List ℕ → ℕ → Block
-blockAt l k = record { partitioning = tableIn partitioningTable l k; tasks = tableIn blockTable l k }
-
--- pairs by kind: bindings 0, prerequisites 1; both tasks in one word, the second in bits 6 to 11
-abbrev pub pairTable : ℕ → (ℕ → ℕ) → Table ℕ
-pairTable which read = record { first = 3352 + 64 * which; height = 64; read = read; past = 0 }
-
-unfoldable pub pairCount : ℕ → List ℕ → ℕ
-pairCount which l = min (getD l (5 + which) 0) 64
-
-unfoldable pub pairAt : ℕ → List ℕ → ℕ → Pair
-pairAt which l k = record { a = tableIn (pairTable which (λ w. w % 64)) l k; b = tableIn (pairTable which (λ w. w / 64 % 64)) l k }
-
--- ---- The kept rows, in policy order.
-abbrev pub limitsIn : ℕ → List ℕ → List Limit
-limitsIn which l = rows (limitAt which l) (limitCount which l)
-
-abbrev pub blocksIn : List ℕ → List Block
-blocksIn l = rows (blockAt l) (blockCount l)
-
-abbrev pub pairsIn : ℕ → List ℕ → List Pair
-pairsIn which l = rows (pairAt which l) (pairCount which l)
+-- ---- The length of the buffer: behind the last table.
+abbrev pub policyWords : ℕ
+policyWords = behind bucketTable

@@ -9,10 +9,10 @@ use Rattle.paper_lower.specs.Sets.{Set, empty, has}
 use Rattle.paper_lower.specs.Lists.{upd, add}
 use Rattle.paper_lower.specs.Lists.Maybe.{just}
 use Rattle.paper_lower.specs.Tables.{People, Permissions, Tasks, Limit, Pair, Rules, Policy, noPolicy, withPeople, withPermissions, withTasks, withRules, withAssigned, withHolders, withBlocks}
-use Rattle.policy.specs.Layout.{policyWords, tableIn, userTable, assignedTable, permissionTable, holderTable, carrierTable, templateTable, openToTable, mostTable, bannedTable, bucketTable, listed, inBucket, limitsIn, blocksIn, pairsIn}
+use Rattle.policy.specs.Layout.{policyWords, rolesWord, tableIn, userTable, assignedTable, permissionTable, holderTable, carrierTable, templateTable, openToTable, mostTable, bannedTable, bucketTable, listed, inBucket, limitsIn, blocksIn, pairsIn}
 
 unfoldable pub peopleIn : List ℕ → People
-peopleIn l = record { users = tableIn userTable l; roles = getD l 0 0; assigned = tableIn assignedTable l }
+peopleIn l = record { users = tableIn userTable l; roles = getD l rolesWord 0; assigned = tableIn assignedTable l }
 
 unfoldable pub permissionsIn : List ℕ → Permissions
 permissionsIn l = record { declared = listed (tableIn permissionTable l) (tableIn bucketTable l); holders = tableIn holderTable l; carriers = tableIn carrierTable l }

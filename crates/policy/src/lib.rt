@@ -9,8 +9,47 @@ ghost use Rattle.policy.specs.Layout.{policyWords, flagOf, permissionOf,
 ghost use Rattle.policy.specs.Reading.{policyOf, Cleared, Ready, rolesAnew, userAnew, assignedAnew, permissionAnew, holdersAnew, carriersAnew, templateAnew, openToAnew, bannedAnew, mostAnew, limitAdded, blockAdded, pairAdded};
 use sets::Set;
 
-// The length of the buffer.
-pub const POLICY_WORDS: usize = 4504;
+// ---- Where each table starts: word 0 has the declared roles, the next ones the numbers of kept rules; then one table behind the other.
+const ROLES: usize = 0;
+
+const LIMIT_COUNTS: usize = 1;
+
+const BLOCK_COUNT: usize = 4;
+
+const PAIR_COUNTS: usize = 5;
+
+const USERS: usize = 8;
+
+const ASSIGNED: usize = USERS + 1024;
+
+const PERMISSIONS: usize = ASSIGNED + 1024;
+
+const HOLDERS: usize = PERMISSIONS + 256;
+
+const CARRIERS: usize = HOLDERS + 256;
+
+const TEMPLATES: usize = CARRIERS + 256;
+
+const OPEN_TO: usize = TEMPLATES + 64;
+
+const MOST: usize = OPEN_TO + 64;
+
+const BANNED: usize = MOST + 64;
+// of each of three kinds, 32 words for the n and 32 for the members
+const LIMITS: usize = BANNED + 16;
+
+const MEMBERS: usize = LIMITS + 32;
+
+const PARTITIONINGS: usize = LIMITS + 192;
+
+const BLOCKS: usize = PARTITIONINGS + 64;
+// of each of two kinds, 64 words
+const PAIRS: usize = BLOCKS + 64;
+
+const BUCKETS: usize = PAIRS + 128;
+
+// The length of the buffer. A new table stands here, and moves no other.
+pub const POLICY_WORDS: usize = BUCKETS + 1024;
 
 // ---- People.
 
@@ -18,44 +57,46 @@ pub fn declared_roles(p: &[u64]) -> Set
     requires { ⌜ length (now p) ≡ policyWords ⌝ }
     ensures { λ r. ⌜ r .bits ≡ policyOf (now (p .entry)) .people .roles ⌝ }
 {
-    Set { bits: p[0] }
+    Set { bits: p[ROLES] }
 }
 
 pub fn set_declared_roles(p: &mut [u64], roles: Set)
     requires { ⌜ length (now p) ≡ policyWords ⌝ }
     ensures { λ _. ⌜ policyOf (now (p .exit)) ≡ rolesAnew (policyOf (now (p .entry))) (roles .bits) ⌝ }
 {
-    p[0] = roles.bits;
+    p[ROLES] = roles.bits;
 }
 
 pub fn user_declared(p: &[u64], a: usize) -> bool
     requires { ⌜ (length (now p) ≡ policyWords) × (a < 1024) ⌝ }
     ensures { λ r. ⌜ r ≡ policyOf (now (p .entry)) .people .users a ⌝ }
 {
-    p[8 + a] % 2 == 1
+    p[USERS + a] % 2 == 1
 }
 
-// A user declared (1) or no longer (0), with no roles.
+// A user declared (1) or no longer (0), and the roles that the user has then.
 pub fn set_user(p: &mut [u64], a: usize, declared: u64, roles: Set)
     requires { ⌜ (length (now p) ≡ policyWords) × (a < 1024) ⌝ }
     ensures { λ _. ⌜ policyOf (now (p .exit)) ≡ userAnew (policyOf (now (p .entry))) a (flagOf declared) (roles .bits) ⌝ }
 {
-    p[8 + a] = declared;
-    p[1032 + a] = roles.bits;
+    p[USERS + a] = declared;
+    p[ASSIGNED + a] = roles.bits;
 }
 
 pub fn assigned(p: &[u64], a: usize) -> Set
     requires { ⌜ (length (now p) ≡ policyWords) × (a < 1024) ⌝ }
     ensures { λ r. ⌜ r .bits ≡ policyOf (now (p .entry)) .people .assigned a ⌝ }
 {
-    Set { bits: p[1032 + a] }
+    Set {
+        bits: p[ASSIGNED + a],
+    }
 }
 
 pub fn set_assigned(p: &mut [u64], a: usize, roles: Set)
     requires { ⌜ (length (now p) ≡ policyWords) × (a < 1024) ⌝ }
     ensures { λ _. ⌜ policyOf (now (p .exit)) ≡ assignedAnew (policyOf (now (p .entry))) a (roles .bits) ⌝ }
 {
-    p[1032 + a] = roles.bits;
+    p[ASSIGNED + a] = roles.bits;
 }
 
 // ---- Permissions.
@@ -73,7 +114,7 @@ fn fours_in(p: &[u64], bucket: usize) -> Set
     ensures { λ r. ⌜ r .bits ≡ tableIn bucketTable (now (p .entry)) bucket ⌝ }
 {
     Set {
-        bits: p[3480 + bucket],
+        bits: p[BUCKETS + bucket],
     }
 }
 
@@ -81,7 +122,7 @@ pub fn permission_declared(p: &[u64], b: usize) -> bool
     requires { ⌜ (length (now p) ≡ policyWords) × (b < 256) ⌝ }
     ensures { λ r. ⌜ r ≡ there (policyOf (now (p .entry)) .permissions .declared b) ⌝ }
 {
-    let word = p[2056 + b];
+    let word = p[PERMISSIONS + b];
     let bucket = bucket_of(word % 65536, word / 65536 % 65536);
     let listed = fours_in(p, bucket).has((b / 4) as u64);
     (word / 4294967296 % 2 == 1) & listed
@@ -100,7 +141,7 @@ pub fn row_is(p: &[u64], b: usize, operation: u64, object: u64) -> bool
     requires { ⌜ (length (now p) ≡ policyWords) × ((b < 256) × ((operation < 65536) × (object < 65536))) ⌝ }
     ensures { λ r. ⌜ r ≡ rowIs (now (p .entry)) operation object b ⌝ }
 {
-    p[2056 + b] % 8589934592 == 4294967296 + operation + 65536 * object
+    p[PERMISSIONS + b] % 8589934592 == 4294967296 + operation + 65536 * object
 }
 
 // A row's word, or 0 if its pair has this bucket.
@@ -125,7 +166,7 @@ fn empty_strays(p: &mut [u64], four: usize, bucket: usize)
     }
     let mut b = 4 * four;
     while b < 4 * four + 4 {
-        p[2056 + b] = unless_in(p[2056 + b], bucket);
+        p[PERMISSIONS + b] = unless_in(p[PERMISSIONS + b], bucket);
         b += 1;
     }
 }
@@ -138,36 +179,40 @@ pub fn set_permission(p: &mut [u64], a: usize, operation: u64, object: u64)
     let bucket = bucket_of(operation, object);
     empty_strays(p, a / 4, bucket);
     let fours = fours_in(p, bucket).with((a / 4) as u64);
-    p[2056 + a] = 4294967296 + operation + 65536 * object;
-    p[3480 + bucket] = fours.bits;
+    p[PERMISSIONS + a] = 4294967296 + operation + 65536 * object;
+    p[BUCKETS + bucket] = fours.bits;
 }
 
 pub fn holders(p: &[u64], b: usize) -> Set
     requires { ⌜ (length (now p) ≡ policyWords) × (b < 256) ⌝ }
     ensures { λ r. ⌜ r .bits ≡ policyOf (now (p .entry)) .permissions .holders b ⌝ }
 {
-    Set { bits: p[2312 + b] }
+    Set {
+        bits: p[HOLDERS + b],
+    }
 }
 
 pub fn set_holders(p: &mut [u64], b: usize, roles: Set)
     requires { ⌜ (length (now p) ≡ policyWords) × (b < 256) ⌝ }
     ensures { λ _. ⌜ policyOf (now (p .exit)) ≡ holdersAnew (policyOf (now (p .entry))) b (roles .bits) ⌝ }
 {
-    p[2312 + b] = roles.bits;
+    p[HOLDERS + b] = roles.bits;
 }
 
 pub fn carriers(p: &[u64], b: usize) -> Set
     requires { ⌜ (length (now p) ≡ policyWords) × (b < 256) ⌝ }
     ensures { λ r. ⌜ r .bits ≡ policyOf (now (p .entry)) .permissions .carriers b ⌝ }
 {
-    Set { bits: p[2568 + b] }
+    Set {
+        bits: p[CARRIERS + b],
+    }
 }
 
 pub fn set_carriers(p: &mut [u64], b: usize, tasks: Set)
     requires { ⌜ (length (now p) ≡ policyWords) × (b < 256) ⌝ }
     ensures { λ _. ⌜ policyOf (now (p .exit)) ≡ carriersAnew (policyOf (now (p .entry))) b (tasks .bits) ⌝ }
 {
-    p[2568 + b] = tasks.bits;
+    p[CARRIERS + b] = tasks.bits;
 }
 
 // ---- Tasks.
@@ -176,7 +221,7 @@ pub fn task_declared(p: &[u64], t: usize) -> bool
     requires { ⌜ (length (now p) ≡ policyWords) × (t < 64) ⌝ }
     ensures { λ r. ⌜ r ≡ there (policyOf (now (p .entry)) .tasks .template t) ⌝ }
 {
-    p[2824 + t] / 16 % 2 == 1
+    p[TEMPLATES + t] / 16 % 2 == 1
 }
 
 // Whether task t is declared, and of template j.
@@ -184,7 +229,7 @@ pub fn task_is_of(p: &[u64], t: usize, j: u64) -> bool
     requires { ⌜ (length (now p) ≡ policyWords) × ((t < 64) × (j < 16)) ⌝ }
     ensures { λ r. ⌜ r ≡ is j (policyOf (now (p .entry)) .tasks .template t) ⌝ }
 {
-    p[2824 + t] % 32 == 16 + j
+    p[TEMPLATES + t] % 32 == 16 + j
 }
 
 // Whether tasks a and b are declared, and of one template.
@@ -192,50 +237,52 @@ pub fn same_template(p: &[u64], a: usize, b: usize) -> bool
     requires { ⌜ (length (now p) ≡ policyWords) × ((a < 64) × (b < 64)) ⌝ }
     ensures { λ r. ⌜ r ≡ together (policyOf (now (p .entry)) .tasks) a b ⌝ }
 {
-    let word = p[2824 + a];
-    (word / 16 % 2 == 1) & (p[2824 + b] % 32 == word % 32)
+    let word = p[TEMPLATES + a];
+    (word / 16 % 2 == 1) & (p[TEMPLATES + b] % 32 == word % 32)
 }
 
 pub fn set_template(p: &mut [u64], t: usize, j: u64)
     requires { ⌜ (length (now p) ≡ policyWords) × ((t < 64) × (j < 16)) ⌝ }
     ensures { λ _. ⌜ policyOf (now (p .exit)) ≡ templateAnew (policyOf (now (p .entry))) t j ⌝ }
 {
-    p[2824 + t] = 16 + j;
+    p[TEMPLATES + t] = 16 + j;
 }
 
 pub fn open_to(p: &[u64], t: usize) -> Set
     requires { ⌜ (length (now p) ≡ policyWords) × (t < 64) ⌝ }
     ensures { λ r. ⌜ r .bits ≡ policyOf (now (p .entry)) .tasks .openTo t ⌝ }
 {
-    Set { bits: p[2888 + t] }
+    Set {
+        bits: p[OPEN_TO + t],
+    }
 }
 
 pub fn set_open_to(p: &mut [u64], t: usize, roles: Set)
     requires { ⌜ (length (now p) ≡ policyWords) × (t < 64) ⌝ }
     ensures { λ _. ⌜ policyOf (now (p .exit)) ≡ openToAnew (policyOf (now (p .entry))) t (roles .bits) ⌝ }
 {
-    p[2888 + t] = roles.bits;
+    p[OPEN_TO + t] = roles.bits;
 }
 
 pub fn banned(p: &[u64], j: usize) -> bool
     requires { ⌜ (length (now p) ≡ policyWords) × (j < 16) ⌝ }
     ensures { λ r. ⌜ r ≡ policyOf (now (p .entry)) .tasks .banned j ⌝ }
 {
-    p[3016 + j] % 2 == 1
+    p[BANNED + j] % 2 == 1
 }
 
 pub fn set_banned(p: &mut [u64], j: usize)
     requires { ⌜ (length (now p) ≡ policyWords) × (j < 16) ⌝ }
     ensures { λ _. ⌜ policyOf (now (p .exit)) ≡ bannedAnew (policyOf (now (p .entry))) j ⌝ }
 {
-    p[3016 + j] = 1;
+    p[BANNED + j] = 1;
 }
 
 pub fn task_limited(p: &[u64], t: usize) -> bool
     requires { ⌜ (length (now p) ≡ policyWords) × (t < 64) ⌝ }
     ensures { λ r. ⌜ r ≡ there (policyOf (now (p .entry)) .tasks .most t) ⌝ }
 {
-    p[2952 + t] % 256 != 0
+    p[MOST + t] % 256 != 0
 }
 
 // Whether task t has a limit, and `times` reaches it.
@@ -243,7 +290,7 @@ pub fn limit_reached(p: &[u64], t: usize, times: u64) -> bool
     requires { ⌜ (length (now p) ≡ policyWords) × (t < 64) ⌝ }
     ensures { λ r. ⌜ r ≡ holds (λ n. leb n times) (policyOf (now (p .entry)) .tasks .most t) ⌝ }
 {
-    let most = p[2952 + t] % 256;
+    let most = p[MOST + t] % 256;
     (most != 0) & (most <= times)
 }
 
@@ -251,7 +298,7 @@ pub fn set_most(p: &mut [u64], t: usize, n: u64)
     requires { ⌜ (length (now p) ≡ policyWords) × ((t < 64) × ((0 < n) × (n < 256))) ⌝ }
     ensures { λ _. ⌜ policyOf (now (p .exit)) ≡ mostAnew (policyOf (now (p .entry))) t n ⌝ }
 {
-    p[2952 + t] = n;
+    p[MOST + t] = n;
 }
 
 // ---- Rules: limits (static sets 0, dynamic sets 1, task sets 2), blocks, pairs (bindings 0, prerequisites 1).
@@ -260,7 +307,7 @@ pub fn limit_count(p: &[u64], which: usize) -> usize
     requires { ⌜ (length (now p) ≡ policyWords) × (which < 3) ⌝ }
     ensures { λ r. ⌜ (r ≡ limitCount which (now (p .entry))) × (r ≤ 32) ⌝ }
 {
-    cut(p[1 + which], 32)
+    cut(p[LIMIT_COUNTS + which], 32)
 }
 
 // A kept number of rows, cut at its limit.
@@ -279,7 +326,7 @@ pub fn limit_n(p: &[u64], which: usize, k: usize) -> u64
     requires { ⌜ (length (now p) ≡ policyWords) × ((which < 3) × (k < 32)) ⌝ }
     ensures { λ r. ⌜ r ≡ limitAt which (now (p .entry)) k .n ⌝ }
 {
-    p[3032 + 64 * which + k]
+    p[LIMITS + 64 * which + k]
 }
 
 pub fn limit_members(p: &[u64], which: usize, k: usize) -> Set
@@ -287,7 +334,7 @@ pub fn limit_members(p: &[u64], which: usize, k: usize) -> Set
     ensures { λ r. ⌜ r .bits ≡ limitAt which (now (p .entry)) k .members ⌝ }
 {
     Set {
-        bits: p[3064 + 64 * which + k],
+        bits: p[MEMBERS + 64 * which + k],
     }
 }
 
@@ -296,30 +343,32 @@ pub fn add_limit(p: &mut [u64], which: usize, n: u64, members: Set)
     ensures { λ _. ⌜ policyOf (now (p .exit)) ≡ limitAdded (policyOf (now (p .entry))) which n (members .bits) ⌝ }
 {
     let k = limit_count(p, which);
-    p[3032 + 64 * which + k] = n;
-    p[3064 + 64 * which + k] = members.bits;
-    p[1 + which] = k as u64 + 1;
+    p[LIMITS + 64 * which + k] = n;
+    p[MEMBERS + 64 * which + k] = members.bits;
+    p[LIMIT_COUNTS + which] = k as u64 + 1;
 }
 
 pub fn block_count(p: &[u64]) -> usize
     requires { ⌜ length (now p) ≡ policyWords ⌝ }
     ensures { λ r. ⌜ (r ≡ blockCount (now (p .entry))) × (r ≤ 64) ⌝ }
 {
-    cut(p[4], 64)
+    cut(p[BLOCK_COUNT], 64)
 }
 
 pub fn block_partitioning(p: &[u64], k: usize) -> u64
     requires { ⌜ (length (now p) ≡ policyWords) × (k < 64) ⌝ }
     ensures { λ r. ⌜ r ≡ blockAt (now (p .entry)) k .partitioning ⌝ }
 {
-    p[3224 + k] % 16
+    p[PARTITIONINGS + k] % 16
 }
 
 pub fn block_tasks(p: &[u64], k: usize) -> Set
     requires { ⌜ (length (now p) ≡ policyWords) × (k < 64) ⌝ }
     ensures { λ r. ⌜ r .bits ≡ blockAt (now (p .entry)) k .tasks ⌝ }
 {
-    Set { bits: p[3288 + k] }
+    Set {
+        bits: p[BLOCKS + k],
+    }
 }
 
 pub fn add_block(p: &mut [u64], partitioning: u64, tasks: Set)
@@ -327,30 +376,30 @@ pub fn add_block(p: &mut [u64], partitioning: u64, tasks: Set)
     ensures { λ _. ⌜ policyOf (now (p .exit)) ≡ blockAdded (policyOf (now (p .entry))) partitioning (tasks .bits) ⌝ }
 {
     let k = block_count(p);
-    p[3224 + k] = partitioning;
-    p[3288 + k] = tasks.bits;
-    p[4] = k as u64 + 1;
+    p[PARTITIONINGS + k] = partitioning;
+    p[BLOCKS + k] = tasks.bits;
+    p[BLOCK_COUNT] = k as u64 + 1;
 }
 
 pub fn pair_count(p: &[u64], which: usize) -> usize
     requires { ⌜ (length (now p) ≡ policyWords) × (which < 2) ⌝ }
     ensures { λ r. ⌜ (r ≡ pairCount which (now (p .entry))) × (r ≤ 64) ⌝ }
 {
-    cut(p[5 + which], 64)
+    cut(p[PAIR_COUNTS + which], 64)
 }
 
 pub fn pair_a(p: &[u64], which: usize, k: usize) -> u64
     requires { ⌜ (length (now p) ≡ policyWords) × ((which < 2) × (k < 64)) ⌝ }
     ensures { λ r. ⌜ (r ≡ pairAt which (now (p .entry)) k .a) × (r < 64) ⌝ }
 {
-    p[3352 + 64 * which + k] % 64
+    p[PAIRS + 64 * which + k] % 64
 }
 
 pub fn pair_b(p: &[u64], which: usize, k: usize) -> u64
     requires { ⌜ (length (now p) ≡ policyWords) × ((which < 2) × (k < 64)) ⌝ }
     ensures { λ r. ⌜ (r ≡ pairAt which (now (p .entry)) k .b) × (r < 64) ⌝ }
 {
-    p[3352 + 64 * which + k] / 64 % 64
+    p[PAIRS + 64 * which + k] / 64 % 64
 }
 
 pub fn add_pair(p: &mut [u64], which: usize, a: u64, b: u64)
@@ -358,8 +407,8 @@ pub fn add_pair(p: &mut [u64], which: usize, a: u64, b: u64)
     ensures { λ _. ⌜ policyOf (now (p .exit)) ≡ pairAdded (policyOf (now (p .entry))) which a b ⌝ }
 {
     let k = pair_count(p, which);
-    p[3352 + 64 * which + k] = a + 64 * b;
-    p[5 + which] = k as u64 + 1;
+    p[PAIRS + 64 * which + k] = a + 64 * b;
+    p[PAIR_COUNTS + which] = k as u64 + 1;
 }
 
 // ---- The empty policy: every word 0.

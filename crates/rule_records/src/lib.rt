@@ -1,17 +1,29 @@
 // Kinds 9 to 16, the rules of a policy: each judged, then done.
 // It rests on the policy's getters and setters and on what is asked of it.
 ghost use mathlib.Core.Path.{_≡_};
+ghost use mathlib.Core.Bool.{cond};
 ghost use Prim.Native.Nat.{_<_};
+ghost use lib.Dec.{leb};
 ghost use lib.ListN.{length};
-ghost use Rattle.paper_lower.specs.Checks.{first};
+ghost use Rattle.paper_lower.specs.Checks.{FULL, GRANTED};
 ghost use Rattle.paper_lower.specs.Policy.{illMade, staticChecks, staticNext, dynamicChecks, dynamicNext, taskSetChecks, taskSetNext, blockChecks, blockNext, banChecks, banNext, mostChecks, mostNext, bindChecks, bindNext, beforeChecks, beforeNext};
 ghost use Rattle.replies.specs.Replies.{numberOf};
-ghost use Rattle.replies.specs.Done.{Done};
 ghost use Rattle.policy.specs.Layout.{policyWords};
-ghost use Rattle.policy.specs.Reading.{policyOf, limitAdded, pairAdded};
+ghost use Rattle.policy.specs.Promises.{Judged, Recorded};
+ghost use Rattle.policy.specs.Reading.{limitAdded, pairAdded};
 ghost use Rattle.rule_records.specs.Shared.{limitChecks, pairChecks};
 use replies::Reply;
 use sets::Set;
+
+// The last check of a rule: whether its kind has as many as it may have.
+fn full_at(most: usize, kept: usize) -> Reply
+    ensures { λ r. ⌜ numberOf r ≡ cond (leb most kept) FULL GRANTED ⌝ }
+{
+    if most <= kept {
+        return Reply::Full;
+    }
+    Reply::Granted
+}
 
 // ---- Limits: static sets 0, dynamic sets 1, task sets 2.
 
@@ -24,7 +36,7 @@ fn ill_made(n: u64, m: Set) -> bool
 // Where the members must be among those known; ill: the rule is ill made; over: a user has more than n of them already.
 fn limit_reply(p: &[u64], which: usize, known: Set, ill: bool, over: bool, n: u64, m: Set) -> Reply
     requires { ⌜ (length (now p) ≡ policyWords) × (which < 3) ⌝ }
-    ensures { λ r. ⌜ numberOf r ≡ first (limitChecks (policyOf (now (p .entry))) which (known .bits) ill over n (m .bits)) ⌝ }
+    ensures { λ r. ⌜ Judged (λ t. limitChecks t which (known .bits) ill over n (m .bits)) (now (p .entry)) r ⌝ }
 {
     if !m.within(known) {
         return Reply::Unknown;
@@ -38,15 +50,12 @@ fn limit_reply(p: &[u64], which: usize, known: Set, ill: bool, over: bool, n: u6
     if over {
         return Reply::Static;
     }
-    if 32 <= policy::limit_count(p, which) {
-        return Reply::Full;
-    }
-    Reply::Granted
+    full_at(32, policy::limit_count(p, which))
 }
 
 fn limit(p: &mut [u64], which: usize, known: Set, ill: bool, over: bool, n: u64, m: Set) -> Reply
     requires { ⌜ (length (now p) ≡ policyWords) × (which < 3) ⌝ }
-    ensures { λ r. ⌜ Done policyOf (first (limitChecks (policyOf (now (p .entry))) which (known .bits) ill over n (m .bits))) (limitAdded (policyOf (now (p .entry))) which n (m .bits)) (now (p .entry)) (now (p .exit)) r ⌝ }
+    ensures { λ r. ⌜ Recorded (λ t. limitChecks t which (known .bits) ill over n (m .bits)) (λ t. limitAdded t which n (m .bits)) (now (p .entry)) (now (p .exit)) r ⌝ }
 {
     let r = limit_reply(p, which, known, ill, over, n, m);
     if !replies::accepted(r) {
@@ -60,7 +69,7 @@ fn limit(p: &mut [u64], which: usize, known: Set, ill: bool, over: bool, n: u64,
 
 pub fn static_set(p: &mut [u64], n: u64, m: Set) -> Reply
     requires { ⌜ length (now p) ≡ policyWords ⌝ }
-    ensures { λ r. ⌜ Done policyOf (first (staticChecks (policyOf (now (p .entry))) n (m .bits))) (staticNext (policyOf (now (p .entry))) n (m .bits)) (now (p .entry)) (now (p .exit)) r ⌝ }
+    ensures { λ r. ⌜ Recorded (λ t. staticChecks t n (m .bits)) (λ t. staticNext t n (m .bits)) (now (p .entry)) (now (p .exit)) r ⌝ }
 {
     let roles = policy::declared_roles(p);
     let ill = ill_made(n, m);
@@ -72,7 +81,7 @@ pub fn static_set(p: &mut [u64], n: u64, m: Set) -> Reply
 
 pub fn dynamic_set(p: &mut [u64], n: u64, m: Set) -> Reply
     requires { ⌜ length (now p) ≡ policyWords ⌝ }
-    ensures { λ r. ⌜ Done policyOf (first (dynamicChecks (policyOf (now (p .entry))) n (m .bits))) (dynamicNext (policyOf (now (p .entry))) n (m .bits)) (now (p .entry)) (now (p .exit)) r ⌝ }
+    ensures { λ r. ⌜ Recorded (λ t. dynamicChecks t n (m .bits)) (λ t. dynamicNext t n (m .bits)) (now (p .entry)) (now (p .exit)) r ⌝ }
 {
     let roles = policy::declared_roles(p);
     let ill = ill_made(n, m);
@@ -83,7 +92,7 @@ pub fn dynamic_set(p: &mut [u64], n: u64, m: Set) -> Reply
 
 pub fn task_set(p: &mut [u64], n: u64, m: Set) -> Reply
     requires { ⌜ length (now p) ≡ policyWords ⌝ }
-    ensures { λ r. ⌜ Done policyOf (first (taskSetChecks (policyOf (now (p .entry))) n (m .bits))) (taskSetNext (policyOf (now (p .entry))) n (m .bits)) (now (p .entry)) (now (p .exit)) r ⌝ }
+    ensures { λ r. ⌜ Recorded (λ t. taskSetChecks t n (m .bits)) (λ t. taskSetNext t n (m .bits)) (now (p .entry)) (now (p .exit)) r ⌝ }
 {
     let tasks = questions::declared_tasks(p);
     let ill = ill_made(n, m) | !questions::one_template(p, m);
@@ -92,9 +101,9 @@ pub fn task_set(p: &mut [u64], n: u64, m: Set) -> Reply
 
 // ---- "12 block of partitioning a, tasks m."
 
-pub fn block_reply(p: &[u64], a: u64, m: Set) -> Reply
+fn block_reply(p: &[u64], a: u64, m: Set) -> Reply
     requires { ⌜ length (now p) ≡ policyWords ⌝ }
-    ensures { λ r. ⌜ numberOf r ≡ first (blockChecks (policyOf (now (p .entry))) a (m .bits)) ⌝ }
+    ensures { λ r. ⌜ Judged (λ t. blockChecks t a (m .bits)) (now (p .entry)) r ⌝ }
 {
     if !m.within(questions::declared_tasks(p)) {
         return Reply::Unknown;
@@ -106,15 +115,12 @@ pub fn block_reply(p: &[u64], a: u64, m: Set) -> Reply
     if m.is_empty() | !questions::one_template(p, m.union(earlier)) | m.meets(earlier) {
         return Reply::Rule;
     }
-    if 64 <= policy::block_count(p) {
-        return Reply::Full;
-    }
-    Reply::Granted
+    full_at(64, policy::block_count(p))
 }
 
 pub fn block(p: &mut [u64], a: u64, m: Set) -> Reply
     requires { ⌜ (length (now p) ≡ policyWords) × (a < 16) ⌝ }
-    ensures { λ r. ⌜ Done policyOf (first (blockChecks (policyOf (now (p .entry))) a (m .bits))) (blockNext (policyOf (now (p .entry))) a (m .bits)) (now (p .entry)) (now (p .exit)) r ⌝ }
+    ensures { λ r. ⌜ Recorded (λ t. blockChecks t a (m .bits)) (λ t. blockNext t a (m .bits)) (now (p .entry)) (now (p .exit)) r ⌝ }
 {
     let r = block_reply(p, a, m);
     if !replies::accepted(r) {
@@ -126,9 +132,9 @@ pub fn block(p: &mut [u64], a: u64, m: Set) -> Reply
 
 // ---- "13 lone-worker ban on template a."
 
-pub fn ban_reply(p: &[u64], a: u64) -> Reply
+fn ban_reply(p: &[u64], a: u64) -> Reply
     requires { ⌜ (length (now p) ≡ policyWords) × (a < 16) ⌝ }
-    ensures { λ r. ⌜ numberOf r ≡ first (banChecks (policyOf (now (p .entry))) a) ⌝ }
+    ensures { λ r. ⌜ Judged (λ t. banChecks t a) (now (p .entry)) r ⌝ }
 {
     if !questions::has_task(p, a) {
         return Reply::Unknown;
@@ -141,7 +147,7 @@ pub fn ban_reply(p: &[u64], a: u64) -> Reply
 
 pub fn ban(p: &mut [u64], a: u64) -> Reply
     requires { ⌜ (length (now p) ≡ policyWords) × (a < 16) ⌝ }
-    ensures { λ r. ⌜ Done policyOf (first (banChecks (policyOf (now (p .entry))) a)) (banNext (policyOf (now (p .entry))) a) (now (p .entry)) (now (p .exit)) r ⌝ }
+    ensures { λ r. ⌜ Recorded (λ t. banChecks t a) (λ t. banNext t a) (now (p .entry)) (now (p .exit)) r ⌝ }
 {
     let r = ban_reply(p, a);
     if !replies::accepted(r) {
@@ -153,9 +159,9 @@ pub fn ban(p: &mut [u64], a: u64) -> Reply
 
 // ---- "14 task a at most n times."
 
-pub fn most_reply(p: &[u64], n: u64, a: u64) -> Reply
+fn most_reply(p: &[u64], n: u64, a: u64) -> Reply
     requires { ⌜ (length (now p) ≡ policyWords) × (a < 64) ⌝ }
-    ensures { λ r. ⌜ numberOf r ≡ first (mostChecks (policyOf (now (p .entry))) n a) ⌝ }
+    ensures { λ r. ⌜ Judged (λ t. mostChecks t n a) (now (p .entry)) r ⌝ }
 {
     if !policy::task_declared(p, a as usize) {
         return Reply::Unknown;
@@ -171,7 +177,7 @@ pub fn most_reply(p: &[u64], n: u64, a: u64) -> Reply
 
 pub fn most(p: &mut [u64], n: u64, a: u64) -> Reply
     requires { ⌜ (length (now p) ≡ policyWords) × ((a < 64) × (n < 256)) ⌝ }
-    ensures { λ r. ⌜ Done policyOf (first (mostChecks (policyOf (now (p .entry))) n a)) (mostNext (policyOf (now (p .entry))) n a) (now (p .entry)) (now (p .exit)) r ⌝ }
+    ensures { λ r. ⌜ Recorded (λ t. mostChecks t n a) (λ t. mostNext t n a) (now (p .entry)) (now (p .exit)) r ⌝ }
 {
     let r = most_reply(p, n, a);
     if !replies::accepted(r) {
@@ -185,7 +191,7 @@ pub fn most(p: &mut [u64], n: u64, a: u64) -> Reply
 
 fn pair_reply(p: &[u64], which: usize, repeated: bool, a: u64, b: u64) -> Reply
     requires { ⌜ (length (now p) ≡ policyWords) × ((which < 2) × ((a < 64) × (b < 64))) ⌝ }
-    ensures { λ r. ⌜ numberOf r ≡ first (pairChecks (policyOf (now (p .entry))) which repeated a b) ⌝ }
+    ensures { λ r. ⌜ Judged (λ t. pairChecks t which repeated a b) (now (p .entry)) r ⌝ }
 {
     if !policy::task_declared(p, a as usize) | !policy::task_declared(p, b as usize) {
         return Reply::Unknown;
@@ -196,15 +202,12 @@ fn pair_reply(p: &[u64], which: usize, repeated: bool, a: u64, b: u64) -> Reply
     if (a == b) | !policy::same_template(p, a as usize, b as usize) {
         return Reply::Rule;
     }
-    if 64 <= policy::pair_count(p, which) {
-        return Reply::Full;
-    }
-    Reply::Granted
+    full_at(64, policy::pair_count(p, which))
 }
 
 fn pair(p: &mut [u64], which: usize, repeated: bool, a: u64, b: u64) -> Reply
     requires { ⌜ (length (now p) ≡ policyWords) × ((which < 2) × ((a < 64) × (b < 64))) ⌝ }
-    ensures { λ r. ⌜ Done policyOf (first (pairChecks (policyOf (now (p .entry))) which repeated a b)) (pairAdded (policyOf (now (p .entry))) which a b) (now (p .entry)) (now (p .exit)) r ⌝ }
+    ensures { λ r. ⌜ Recorded (λ t. pairChecks t which repeated a b) (λ t. pairAdded t which a b) (now (p .entry)) (now (p .exit)) r ⌝ }
 {
     let r = pair_reply(p, which, repeated, a, b);
     if !replies::accepted(r) {
@@ -218,7 +221,7 @@ fn pair(p: &mut [u64], which: usize, repeated: bool, a: u64, b: u64) -> Reply
 
 pub fn bind(p: &mut [u64], a: u64, b: u64) -> Reply
     requires { ⌜ (length (now p) ≡ policyWords) × ((a < 64) × (b < 64)) ⌝ }
-    ensures { λ r. ⌜ Done policyOf (first (bindChecks (policyOf (now (p .entry))) a b)) (bindNext (policyOf (now (p .entry))) a b) (now (p .entry)) (now (p .exit)) r ⌝ }
+    ensures { λ r. ⌜ Recorded (λ t. bindChecks t a b) (λ t. bindNext t a b) (now (p .entry)) (now (p .exit)) r ⌝ }
 {
     let repeated = questions::pair_repeated(p, 0, a, b) | questions::pair_repeated(p, 0, b, a);
     pair(p, 0, repeated, a, b)
@@ -228,7 +231,7 @@ pub fn bind(p: &mut [u64], a: u64, b: u64) -> Reply
 
 pub fn before(p: &mut [u64], a: u64, b: u64) -> Reply
     requires { ⌜ (length (now p) ≡ policyWords) × ((a < 64) × (b < 64)) ⌝ }
-    ensures { λ r. ⌜ Done policyOf (first (beforeChecks (policyOf (now (p .entry))) a b)) (beforeNext (policyOf (now (p .entry))) a b) (now (p .entry)) (now (p .exit)) r ⌝ }
+    ensures { λ r. ⌜ Recorded (λ t. beforeChecks t a b) (λ t. beforeNext t a b) (now (p .entry)) (now (p .exit)) r ⌝ }
 {
     let repeated = questions::pair_repeated(p, 1, a, b);
     pair(p, 1, repeated, a, b)

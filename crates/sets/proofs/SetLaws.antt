@@ -2,15 +2,15 @@
 use mathlib.Core.Path.{_≡_, refl, sym, ap, ap₂, _∙_}
 use mathlib.Core.Bool.{Bool, true, false, not, cond, _&&_, _||_, or-true, or-false, true≢false}
 use mathlib.Core.Logic.{_⊎_, inl, inr, ⊎-elim}
-use Prim.Native.Nat.{ℕ, zero, suc, _+_, _-_, _/_, _%_, _^_, _<_, _≤_, min, max}
+use Prim.Native.Nat.{ℕ, zero, suc, _+_, _-_, _/_, _%_, _^_, _<_, _≤_, max}
 use native.Mathlib.Omega.{arith}
 use native.Mathlib.Nat.{le-refl, not-suc-le-zero}
 use borrow.Author.Tests.{eq-eqb, ne-eqb, eqb-true, eqb-false, ltb-true, ltb-false, not-true, not-false}
 use lib.Arith.{half-le}
 use lib.Dec.{eqb, ltb}
 use lib.Pow.{pow-lt, pow-pos}
-use lib.Bits.{bitAnd, bitOr, bitXor, differ, and-zero-r, and-comm, or-comm, and-lt, or-lt}
-use lib.Count.{ones, ones-step, ones-le}
+use lib.Bits.{bitAnd, bitOr, bitXor, differ, and-zero-r, or-lt}
+use lib.Count.{ones, ones-step}
 use Rattle.paper_lower.specs.Lists.{someBelow}
 use Rattle.paper_lower.specs.Sets.{Set, empty, has, plus, minus, union, cut, onesIn, size, overlap, meets, within, collect, unionBelow}
 use Rattle.paper_lower.proofs.ListLaws.{none-below, below-none}
@@ -134,12 +134,6 @@ max-digit true false = refl
 max-digit false true = refl
 max-digit false false = refl
 
-min-digit : (p q : Bool) → min (digit p) (digit q) ≡ digit (p && q)
-min-digit true true = refl
-min-digit true false = refl
-min-digit false true = refl
-min-digit false false = refl
-
 and-true : (b : Bool) → (b && true) ≡ b
 and-true true = refl
 and-true false = refl
@@ -154,10 +148,6 @@ has-empty x = bit-hasnt empty x (bit-zero x)
 pub has-union : (a b : Set) (x : ℕ) → has (union a b) x ≡ (has a x || has b x)
 unfolding union
 has-union a b x = has-digit _ x _ (bit-or x a b ∙ ap₂ max (digit-has a x) (digit-has b x) ∙ max-digit (has a x) (has b x))
-
-pub has-cut : (a b : Set) (x : ℕ) → has (cut a b) x ≡ (has a x && has b x)
-unfolding cut
-has-cut a b x = has-digit _ x _ (bit-and x a b ∙ ap₂ min (digit-has a x) (digit-has b x) ∙ min-digit (has a x) (has b x))
 
 has-pow : (t x : ℕ) → has (2 ^ t) x ≡ eqb x t
 has-pow t x =
@@ -191,10 +181,6 @@ has-other d c x n = has-plus d c x ∙ ap (λ b. has d x || b) (ne-eqb x c n) �
 -- a member of one more is the new one or an old one
 pub plus-member : (d : Set) (c x : ℕ) → has (plus d c) x ≡ true → (x ≡ c) ⊎ (has d x ≡ true)
 plus-member d c x h = ⊎-elim (λ e. inl e) (λ n. inr (sym (has-other d c x n) ∙ h)) (same-or-other x c)
-
-pub plus-old : (d : Set) (c : ℕ) → has d c ≡ true → plus d c ≡ d
-plus-old d c h =
-    same-members (plus d c) d (λ x. ⊎-elim (λ (e : x ≡ c). rw e (has-new d c ∙ sym h)) (λ n. has-other d c x n) (same-or-other x c))
 
 pub has-gone : (d : Set) (c : ℕ) → has (minus d c) c ≡ false
 has-gone d c = bit-hasnt (minus d c) c (minus-same d c)
@@ -253,21 +239,6 @@ collect-same zero f g h = refl
 collect-same (suc n) f g h =
     ap₂ (λ (b : Bool) (m : Set). cond b (plus m n) m) (h n (omega arith)) (collect-same n f g (λ x l. h x (omega arith)))
 
--- one number more that has the property
-pub collect-plus : (n : ℕ) (f g : ℕ → Bool) (t : ℕ) → t < n → g t ≡ true → ((x : ℕ) → (x ≡ t → ⊥) → g x ≡ f x)
-    → collect n g ≡ plus (collect n f) t
-collect-plus n f g t l new old =
-    same-members (collect n g) (plus (collect n f) t) (λ x. go x (same-or-other x t) (ltb x n) refl)
-  where
-    go : (x : ℕ) → (x ≡ t) ⊎ (x ≡ t → ⊥) → (b : Bool) → ltb x n ≡ b → has (collect n g) x ≡ has (plus (collect n f) t) x
-    go x (inl e) b o = rw e (collect-below n g t l ∙ new ∙ sym (has-new (collect n f) t))
-    go x (inr e) false o =
-        let above = ltb-false x n o in
-        collect-above n g x above ∙ sym (has-other (collect n f) t x e ∙ collect-above n f x above)
-    go x (inr e) true o =
-        let below = ltb-true x n o in
-        collect-below n g x below ∙ old x e ∙ sym (has-other (collect n f) t x e ∙ collect-below n f x below)
-
 -- a set below 2 ^ n has members below n alone, and a set of such members is below 2 ^ n
 pub has-above : (n : ℕ) (m : Set) (i : ℕ) → m < 2 ^ n → n ≤ i → has m i ≡ false
 has-above n m i h l = bit-hasnt m i (bit-above n i m h l)
@@ -290,10 +261,6 @@ pub union-lt : (n : ℕ) (a b : Set) → a < 2 ^ n → b < 2 ^ n → union a b <
 unfolding union
 union-lt = or-lt
 
-pub cut-lt : (n : ℕ) (a b : Set) → a < 2 ^ n → b < 2 ^ n → cut a b < 2 ^ n
-unfolding cut
-cut-lt = and-lt
-
 pub collect-lt : (n : ℕ) (f : ℕ → Bool) → collect n f < 2 ^ n
 collect-lt n f = below-members n (collect n f) (collect-above n f)
 
@@ -308,10 +275,6 @@ part-refl a i = le-refl (bit i a)
 pub part-trans : (a b c : Set) → Part a b → Part b c → Part a c
 unfolding Part
 part-trans a b c p q i = let y = p i in let w = q i in omega arith
-
-pub part-same : (a b : Set) → Part a b → Part b a → a ≡ b
-unfolding Part
-part-same a b p q = ext-bits a b (λ i. let y = p i in let w = q i in omega arith)
 
 pub part-empty : (a : Set) → Part empty a
 unfolding Part
@@ -430,9 +393,6 @@ pub size-ones : (m : Set) → size m ≡ ones m
 unfolding size
 size-ones m = onesIn-ones m m (le-refl m)
 
-pub size-le : (n : ℕ) (m : Set) → m < 2 ^ n → size m ≤ n
-size-le n m h = let e = size-ones m in let l = ones-le n m h in omega arith
-
 pub size-part : (a b : Set) → Part a b → size a ≤ size b
 unfolding Part
 size-part a b h = let x = size-ones a in let y = size-ones b in let l = ones-bits a b h in omega arith
@@ -441,14 +401,6 @@ size-part a b h = let x = size-ones a in let y = size-ones b in let l = ones-bit
 pub overlap-ones : (m d : Set) → overlap m d ≡ ones (bitAnd m d)
 unfolding overlap cut
 overlap-ones m d = size-ones (bitAnd m d)
-
-pub overlap-comm : (m d : Set) → overlap m d ≡ overlap d m
-unfolding overlap cut
-overlap-comm m d = ap size (and-comm m d)
-
-pub overlap-le : (n : ℕ) (m d : Set) → m < 2 ^ n → d < 2 ^ n → overlap m d ≤ n
-unfolding overlap
-overlap-le n m d h k = size-le n (cut m d) (cut-lt n m d h k)
 
 pub overlap-in : (m d : Set) (t : ℕ) → has m t ≡ true → overlap m (plus d t) ≡ overlap m (minus d t) + 1
 unfolding plus
@@ -481,10 +433,6 @@ overlap-part m a b h =
     omega arith)
 
 -- ---- sets that meet
-pub meets-comm : (m k : Set) → meets m k ≡ meets k m
-unfolding meets cut
-meets-comm m k = ap (λ (x : ℕ). not (eqb x 0)) (and-comm m k)
-
 pub meets-empty : (m : Set) → meets m empty ≡ false
 unfolding meets cut
 meets-empty m = ap (λ (x : ℕ). not (eqb x 0)) (and-zero-r m)
@@ -531,10 +479,6 @@ pub meets-new : (m d : Set) (c : ℕ) → has m c ≡ true → meets m (plus d c
 meets-new m d c h = common-meets m (plus d c) c h (has-new d c)
 
 -- ---- unions
-pub union-comm : (a b : Set) → union a b ≡ union b a
-unfolding union
-union-comm = or-comm
-
 pub part-left : (a b : Set) → Part a (union a b)
 unfolding Part union
 part-left a b i = let x = bit-or i a b in omega arith

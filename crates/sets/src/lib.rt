@@ -46,7 +46,7 @@ impl Set {
         }
     }
 
-    pub fn meet(self, other: Set) -> Set
+    fn meet(self, other: Set) -> Set
         ensures { λ r. ⌜ r .bits ≡ cut (self .bits) (other .bits) ⌝ }
     {
         Set {

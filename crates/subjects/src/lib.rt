@@ -145,7 +145,7 @@ pub fn check_reply(p: &[u64], s: &[u64], a: u64, operation: u64, object: u64) ->
     if !sessions::live(s, a as usize) {
         return Reply::Unknown;
     }
-    if !questions::allowed(p, sessions::active(s, a as usize), operation, object) {
+    if !permissions::allowed(p, sessions::active(s, a as usize), operation, object) {
         return Reply::Denied;
     }
     Reply::Granted

@@ -1,5 +1,4 @@
 -- Each test of the code is the check of its place.
-use borrow.Author.Tests.{le-leb, lt-leb}
 use borrow.Author.Needs.{needs}
 use Rattle.paper_lower.specs.Policy.{blockChecks}
 use Rattle.policy.proofs.RuleLaws.{blocks-many}
@@ -45,13 +44,12 @@ returns-3 c = simp (← c .before .before .before .before .before .before .befor
 block-count-requires : tie.Need-block-count-requires
 block-count-requires c κs = search needs
 
+full-at-requires : tie.Need-full-at-requires
+full-at-requires c κs = search needs
+
 returns-4 : tie.Need-returns-4
 unfolding blockChecks
-returns-4 c = simp (← c .before .before .before .before .before .before .before .before .before .before .before .before .declared-tasks .ensures, ← c .before .before .before .before .before .before .before .before .before .before .before .within .ensures, c .before .before .before .before .before .before .before .before .before .before .if1 .left, ← c .before .before .before .before .before .before .before .before .before .block-repeated .ensures, c .before .before .before .before .before .before .before .before .if2 .left, ← c .before .before .before .before .before .before .is-empty .ensures, ← c .before .before .before .before .before .before .before .partitioned .ensures, ← c .before .before .before .before .before .union .ensures, ← c .before .before .before .before .one-template .ensures, ← c .before .before .before .meets .ensures, c .before .before .if3 .left, blocks-many (c .before .before .before .before .before .before .before .before .before .before .before .before .before .before .args .p .now), ← c .before .block-count .ensures .0, le-leb _ _ (c .if4 .taken))
-
-returns-5 : tie.Need-returns-5
-unfolding blockChecks
-returns-5 c = simp (← c .before .before .before .before .before .before .before .before .before .before .before .before .declared-tasks .ensures, ← c .before .before .before .before .before .before .before .before .before .before .before .within .ensures, c .before .before .before .before .before .before .before .before .before .before .if1 .left, ← c .before .before .before .before .before .before .before .before .before .block-repeated .ensures, c .before .before .before .before .before .before .before .before .if2 .left, ← c .before .before .before .before .before .before .is-empty .ensures, ← c .before .before .before .before .before .before .before .partitioned .ensures, ← c .before .before .before .before .before .union .ensures, ← c .before .before .before .before .one-template .ensures, ← c .before .before .before .meets .ensures, c .before .before .if3 .left, blocks-many (c .before .before .before .before .before .before .before .before .before .before .before .before .before .before .args .p .now), ← c .before .block-count .ensures .0, lt-leb _ _ (c .if4 .left))
+returns-4 c = simp (← c .before .before .before .before .before .before .before .before .before .before .before .before .declared-tasks .ensures, ← c .before .before .before .before .before .before .before .before .before .before .before .within .ensures, c .before .before .before .before .before .before .before .before .before .before .if1 .left, ← c .before .before .before .before .before .before .before .before .before .block-repeated .ensures, c .before .before .before .before .before .before .before .before .if2 .left, ← c .before .before .before .before .before .before .is-empty .ensures, ← c .before .before .before .before .before .before .before .partitioned .ensures, ← c .before .before .before .before .before .union .ensures, ← c .before .before .before .before .one-template .ensures, ← c .before .before .before .meets .ensures, c .before .before .if3 .left, blocks-many (c .before .before .before .before .before .before .before .before .before .before .before .before .before .before .args .p .now), ← c .before .block-count .ensures .0, c .full-at .ensures)
 
 pub block-reply-spec : {M : Type 1} → statement M
 block-reply-spec =
@@ -69,5 +67,5 @@ block-reply-spec =
     meets-requires
     returns-3
     block-count-requires
-    returns-4
-    returns-5)
+    full-at-requires
+    returns-4)

@@ -1,5 +1,4 @@
 -- Each test of the code is the check of its place.
-use borrow.Author.Tests.{le-leb, lt-leb}
 use borrow.Author.Needs.{needs}
 use Rattle.policy.proofs.RuleLaws.{limits-many}
 use Rattle.rule_records.specs.Shared.{limitChecks}
@@ -31,13 +30,12 @@ returns-4 c = simp (← c .before .before .before .before .before .within .ensur
 limit-count-requires : tie.Need-limit-count-requires
 limit-count-requires c κs = search needs
 
+full-at-requires : tie.Need-full-at-requires
+full-at-requires c κs = search needs
+
 returns-5 : tie.Need-returns-5
 unfolding limitChecks
-returns-5 c = simp (← c .before .before .before .before .before .before .before .within .ensures, c .before .before .before .before .before .before .if1 .left, ← c .before .before .before .before .before .limit-repeated .ensures, c .before .before .before .before .if2 .left, c .before .before .before .if3 .left, c .before .before .if4 .left, limits-many (c .before .before .before .before .before .before .before .before .before .args .p .now) (c .before .before .before .before .before .before .before .before .before .args .which) (c .before .before .before .before .before .before .before .before .before .pre .1), ← c .before .limit-count .ensures .0, le-leb _ _ (c .if5 .taken))
-
-returns-6 : tie.Need-returns-6
-unfolding limitChecks
-returns-6 c = simp (← c .before .before .before .before .before .before .before .within .ensures, c .before .before .before .before .before .before .if1 .left, ← c .before .before .before .before .before .limit-repeated .ensures, c .before .before .before .before .if2 .left, c .before .before .before .if3 .left, c .before .before .if4 .left, limits-many (c .before .before .before .before .before .before .before .before .before .args .p .now) (c .before .before .before .before .before .before .before .before .before .args .which) (c .before .before .before .before .before .before .before .before .before .pre .1), ← c .before .limit-count .ensures .0, lt-leb _ _ (c .if5 .left))
+returns-5 c = simp (← c .before .before .before .before .before .before .before .within .ensures, c .before .before .before .before .before .before .if1 .left, ← c .before .before .before .before .before .limit-repeated .ensures, c .before .before .before .before .if2 .left, c .before .before .before .if3 .left, c .before .before .if4 .left, limits-many (c .before .before .before .before .before .before .before .before .before .args .p .now) (c .before .before .before .before .before .before .before .before .before .args .which) (c .before .before .before .before .before .before .before .before .before .pre .1), ← c .before .limit-count .ensures .0, c .full-at .ensures)
 
 pub limit-reply-spec : {M : Type 1} → statement M
 limit-reply-spec =
@@ -50,5 +48,5 @@ limit-reply-spec =
     returns-3
     returns-4
     limit-count-requires
-    returns-5
-    returns-6)
+    full-at-requires
+    returns-5)

@@ -1,5 +1,4 @@
 -- Each test of the code is the check of its place.
-use borrow.Author.Tests.{le-leb, lt-leb}
 use borrow.Author.Needs.{needs}
 use Rattle.policy.proofs.RuleLaws.{pairs-many}
 use Rattle.rule_records.specs.Shared.{pairChecks}
@@ -30,13 +29,12 @@ returns-3 c = simp (← c .before .before .before .before .before .task-declared
 pair-count-requires : tie.Need-pair-count-requires
 pair-count-requires c κs = search needs
 
+full-at-requires : tie.Need-full-at-requires
+full-at-requires c κs = search needs
+
 returns-4 : tie.Need-returns-4
 unfolding pairChecks
-returns-4 c = simp (← c .before .before .before .before .before .before .before .task-declared .ensures, ← c .before .before .before .before .before .before .task-declared2 .ensures, c .before .before .before .before .before .if1 .left, c .before .before .before .before .if2 .left, ← c .before .before .before .same-template .ensures, c .before .before .if3 .left, pairs-many (c .before .before .before .before .before .before .before .before .before .args .p .now) (c .before .before .before .before .before .before .before .before .before .args .which) (c .before .before .before .before .before .before .before .before .before .pre .1 .0), ← c .before .pair-count .ensures .0, le-leb _ _ (c .if4 .taken))
-
-returns-5 : tie.Need-returns-5
-unfolding pairChecks
-returns-5 c = simp (← c .before .before .before .before .before .before .before .task-declared .ensures, ← c .before .before .before .before .before .before .task-declared2 .ensures, c .before .before .before .before .before .if1 .left, c .before .before .before .before .if2 .left, ← c .before .before .before .same-template .ensures, c .before .before .if3 .left, pairs-many (c .before .before .before .before .before .before .before .before .before .args .p .now) (c .before .before .before .before .before .before .before .before .before .args .which) (c .before .before .before .before .before .before .before .before .before .pre .1 .0), ← c .before .pair-count .ensures .0, lt-leb _ _ (c .if4 .left))
+returns-4 c = simp (← c .before .before .before .before .before .before .before .task-declared .ensures, ← c .before .before .before .before .before .before .task-declared2 .ensures, c .before .before .before .before .before .if1 .left, c .before .before .before .before .if2 .left, ← c .before .before .before .same-template .ensures, c .before .before .if3 .left, pairs-many (c .before .before .before .before .before .before .before .before .before .args .p .now) (c .before .before .before .before .before .before .before .before .before .args .which) (c .before .before .before .before .before .before .before .before .before .pre .1 .0), ← c .before .pair-count .ensures .0, c .full-at .ensures)
 
 pub pair-reply-spec : {M : Type 1} → statement M
 pair-reply-spec =
@@ -49,5 +47,5 @@ pair-reply-spec =
     same-template-requires
     returns-3
     pair-count-requires
-    returns-4
-    returns-5)
+    full-at-requires
+    returns-4)

@@ -7,11 +7,11 @@ use Rattle.paper_lower.specs.Sets.{has}
 use Rattle.paper_lower.specs.Lists.{someBelow, holds}
 use Rattle.paper_lower.specs.Policy.{isFor}
 use Rattle.policy.specs.Reading.{policyOf}
-use Rattle.questions.specs.Rows.{bears}
-use Rattle.questions.proofs.Walks.{inFours, four-found, four-past, no-fours, more-by-fours}
+use Rattle.permissions.specs.Rows.{bears}
+use Rattle.permissions.proofs.Fours.{inFours, four-found, four-past, no-fours, more-by-fours}
 use Rattle.sets.proofs.SetLaws.{minus-less}
-use Rattle.questions.proofs.carried.Statement.{statement}
-use Rattle.questions.proofs.carried.Tie as tie
+use Rattle.permissions.proofs.carried.Statement.{statement}
+use Rattle.permissions.proofs.carried.Tie as tie
 
 abbrev Inv-loop : tie.InvT-loop
 Inv-loop p t operation object left₀ left = someBelow 256 (λ i. holds (isFor operation object) (policyOf p .permissions .declared i) && has (policyOf p .permissions .carriers i) t) ≡ inFours (left .bits) (bears p t operation object)

@@ -1,8 +1,8 @@
 -- Four rows, joined.
-use Rattle.questions.proofs.Walks.{in-four}
+use Rattle.permissions.proofs.Fours.{in-four}
 use borrow.Author.Needs.{needs}
-use Rattle.questions.proofs.four_opens.Statement.{statement}
-use Rattle.questions.proofs.four_opens.Tie as tie
+use Rattle.permissions.proofs.four_opens.Statement.{statement}
+use Rattle.permissions.proofs.four_opens.Tie as tie
 
 mul-b : tie.Need-mul-b
 mul-b c = search needs

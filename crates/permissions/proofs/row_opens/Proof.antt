@@ -3,8 +3,8 @@ use mathlib.Core.Bool.{_&&_}
 use mathlib.Core.Path.{ap, _∙_}
 use Rattle.paper_lower.specs.Sets.{meets}
 use borrow.Author.Needs.{needs}
-use Rattle.questions.proofs.row_opens.Statement.{statement}
-use Rattle.questions.proofs.row_opens.Tie as tie
+use Rattle.permissions.proofs.row_opens.Statement.{statement}
+use Rattle.permissions.proofs.row_opens.Tie as tie
 
 row-is-requires : tie.Need-row-is-requires
 row-is-requires c κs = search needs

@@ -6,10 +6,10 @@ use Rattle.paper_lower.specs.Lists.{someBelow, holds}
 use Rattle.paper_lower.specs.Policy.{isFor}
 use Rattle.policy.specs.Layout.{rowIs}
 use Rattle.policy.specs.Reading.{policyOf}
-use Rattle.questions.proofs.Walks.{inFours, four-found, four-past, no-fours, suits-by-fours}
+use Rattle.permissions.proofs.Fours.{inFours, four-found, four-past, no-fours, suits-by-fours}
 use Rattle.sets.proofs.SetLaws.{minus-less}
-use Rattle.questions.proofs.pair_declared.Statement.{statement}
-use Rattle.questions.proofs.pair_declared.Tie as tie
+use Rattle.permissions.proofs.pair_declared.Statement.{statement}
+use Rattle.permissions.proofs.pair_declared.Tie as tie
 
 abbrev Inv-loop : tie.InvT-loop
 Inv-loop p operation object left₀ left = someBelow 256 (λ i. holds (isFor operation object) (policyOf p .permissions .declared i)) ≡ inFours (left .bits) (rowIs p operation object)

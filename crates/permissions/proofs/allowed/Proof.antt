@@ -5,11 +5,11 @@ use native.Mathlib.Omega.{arith}
 use Rattle.paper_lower.specs.Sets.{meets}
 use Rattle.paper_lower.specs.Sessions.{allowed}
 use Rattle.policy.specs.Reading.{policyOf}
-use Rattle.questions.specs.Rows.{opens}
-use Rattle.questions.proofs.Walks.{inFours, four-found, four-past, no-fours, more-by-fours}
+use Rattle.permissions.specs.Rows.{opens}
+use Rattle.permissions.proofs.Fours.{inFours, four-found, four-past, no-fours, more-by-fours}
 use Rattle.sets.proofs.SetLaws.{minus-less}
-use Rattle.questions.proofs.allowed.Statement.{statement}
-use Rattle.questions.proofs.allowed.Tie as tie
+use Rattle.permissions.proofs.allowed.Statement.{statement}
+use Rattle.permissions.proofs.allowed.Tie as tie
 
 abbrev Inv-loop : tie.InvT-loop
 Inv-loop p m operation object left₀ left = allowed (policyOf p .permissions) (m .bits) operation object ≡ inFours (left .bits) (opens p (m .bits) operation object)
