@@ -149,7 +149,7 @@ enum mishantral_kind {
     MISHANTRAL_BOUND_TO = 15,           /* task a bound to task b */
     MISHANTRAL_BEFORE_TASK = 16,        /* task a before task b */
     /* Requests. */
-    MISHANTRAL_ADD_USER = 32,
+    MISHANTRAL_ADD_USER = 32,        /* add user a with roles m, all of it or nothing */
     MISHANTRAL_DELETE_USER = 33,
     MISHANTRAL_ASSIGN_ROLE = 34,     /* assign role b to user a */
     MISHANTRAL_TAKE_ROLE = 35,       /* take role b from user a */
