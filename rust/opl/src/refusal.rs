@@ -220,6 +220,8 @@ fn found(text: &[u8], place: usize) -> String {
         [b'<', ..] if run(1) > 1 => format!("{}>", shown(&rest[..run(1)])),
         [byte, ..] if is_name(byte) => format!("\"{}\"", shown(&rest[..run(0)])),
         [b'\n', ..] => "the end of the line".to_string(),
+        [b'\r', ..] => "a carriage return".to_string(),
+        [b'\t', ..] => "a tab".to_string(),
         [b' ', ..] => "a space".to_string(),
         [byte @ (..=0x1f | 0x7f), ..] => format!("the byte 0x{byte:02x}"),
         [b'"', ..] => "a double quote".to_string(),

@@ -276,4 +276,22 @@ fn refusals_in_words() {
         let refusal = read(text.as_bytes(), b"").unwrap_err();
         assert_eq!(refusal.message(text.as_bytes()), message);
     }
+    let policy = policy("<module_sep_duty_policy/>");
+    for (lines, message) in [
+        (
+            "a b\r\n",
+            "line 1, column 4: TEXT: expected the end of the line, found a carriage return",
+        ),
+        (
+            "a b\n\n",
+            "line 2, column 1: TEXT: expected a task name, found the end of the line",
+        ),
+        (
+            "a\tb\n",
+            "line 1, column 2: TEXT: expected a space and a template name, found a tab",
+        ),
+    ] {
+        let refusal = read(policy.as_bytes(), lines.as_bytes()).unwrap_err();
+        assert_eq!(refusal.message(lines.as_bytes()), message);
+    }
 }
