@@ -13,14 +13,12 @@
 //   try KIND N A B C M         a request to such buffers: whether it kept to the rule above; the reply is no matter of 01
 ghost use Prim.Native.Nat.{_<_, _≤_};
 ghost use lib.ListN.{length};
+use ledger::ORDERS_WORDS;
 use loading::Loaded;
 use policy::POLICY_WORDS;
 use replies::Reply;
 use scripts::Fields;
-
-const SESSIONS: usize = 256;
-
-const ORDERS: usize = 2113;
+use sessions::SESSIONS_WORDS;
 
 // What a call came to: the number of its reply, a load's place, and whether every word is as before.
 struct Answer {
@@ -107,9 +105,9 @@ fn answered(
     o: &mut [u64],
     on: usize,
 ) -> Answer {
-    let mut p0 = [0u64; 4505];
-    let mut s0 = [0u64; 257];
-    let mut o0 = [0u64; 2114];
+    let mut p0 = [0u64; POLICY_WORDS + 1];
+    let mut s0 = [0u64; SESSIONS_WORDS + 1];
+    let mut o0 = [0u64; ORDERS_WORDS + 1];
     scripts::copy(p, &mut p0);
     scripts::copy(s, &mut s0);
     scripts::copy(o, &mut o0);
@@ -156,7 +154,16 @@ fn ask_record(
 fn ask_cut(line: &[u8], room: &mut [u8], n: usize, p: &mut [u64], s: &mut [u64], o: &mut [u64]) {
     scripts::put(room, 0, scripts::record_of(line, 2));
     if n <= room.len() {
-        ask(line, &room[0..n], p, POLICY_WORDS, s, SESSIONS, o, ORDERS);
+        ask(
+            line,
+            &room[0..n],
+            p,
+            POLICY_WORDS,
+            s,
+            SESSIONS_WORDS,
+            o,
+            ORDERS_WORDS,
+        );
     }
 }
 
@@ -168,7 +175,7 @@ fn cut(line: &[u8], n: usize, p: &mut [u64], s: &mut [u64], o: &mut [u64]) {
 // A request to words that mean nothing.
 fn attempt(line: &[u8], r: Fields, p: &mut [u64], s: &mut [u64], o: &mut [u64]) {
     let bytes = scripts::bytes(r);
-    let a = answered(&bytes, p, POLICY_WORDS, s, SESSIONS, o, ORDERS);
+    let a = answered(&bytes, p, POLICY_WORDS, s, SESSIONS_WORDS, o, ORDERS_WORDS);
     say(line);
     say_if(a.reply <= 20, b": answered");
     say_if((a.reply != 0) & !a.kept, b", and words changed");
@@ -195,8 +202,16 @@ fn claimed(a: u64, b: u64, c: u64, p: &mut [u64], s: &mut [u64], o: &mut [u64]) 
         c: c,
         m: 0,
     });
-    let first = replies::number(request_in(&claim, p, POLICY_WORDS, s, SESSIONS, o, ORDERS));
-    request_in(&done, p, POLICY_WORDS, s, SESSIONS, o, ORDERS);
+    let first = replies::number(request_in(
+        &claim,
+        p,
+        POLICY_WORDS,
+        s,
+        SESSIONS_WORDS,
+        o,
+        ORDERS_WORDS,
+    ));
+    request_in(&done, p, POLICY_WORDS, s, SESSIONS_WORDS, o, ORDERS_WORDS);
     one_if(first == 0)
 }
 
@@ -248,9 +263,9 @@ fn loaded(
     o: &mut [u64],
     on: usize,
 ) -> Answer {
-    let mut p0 = [0u64; 4505];
-    let mut s0 = [0u64; 257];
-    let mut o0 = [0u64; 2114];
+    let mut p0 = [0u64; POLICY_WORDS + 1];
+    let mut s0 = [0u64; SESSIONS_WORDS + 1];
+    let mut o0 = [0u64; ORDERS_WORDS + 1];
     scripts::copy(p, &mut p0);
     scripts::copy(s, &mut s0);
     scripts::copy(o, &mut o0);
@@ -293,7 +308,16 @@ fn load(
 // Loads the first n bytes.
 fn load_front(line: &[u8], bytes: &[u8], n: usize, p: &mut [u64], s: &mut [u64], o: &mut [u64]) {
     if n <= bytes.len() {
-        load(line, &bytes[0..n], p, POLICY_WORDS, s, SESSIONS, o, ORDERS);
+        load(
+            line,
+            &bytes[0..n],
+            p,
+            POLICY_WORDS,
+            s,
+            SESSIONS_WORDS,
+            o,
+            ORDERS_WORDS,
+        );
     }
 }
 
@@ -340,9 +364,9 @@ fn run_ask(letter: u8, line: &[u8], p: &mut [u64], s: &mut [u64], o: &mut [u64])
             p,
             POLICY_WORDS,
             s,
-            SESSIONS,
+            SESSIONS_WORDS,
             o,
-            ORDERS,
+            ORDERS_WORDS,
         );
         return true;
     }
@@ -431,8 +455,8 @@ fn main() {
     let mut text = [0u8; 65536];
     let n = io::read_full(0, &mut text);
     let mut policy = [0u8; 4096];
-    let mut p = [0u64; 4505];
-    let mut s = [0u64; 257];
-    let mut o = [0u64; 2114];
+    let mut p = [0u64; POLICY_WORDS + 1];
+    let mut s = [0u64; SESSIONS_WORDS + 1];
+    let mut o = [0u64; ORDERS_WORDS + 1];
     run_front(&text, n, &mut policy, &mut p, &mut s, &mut o);
 }

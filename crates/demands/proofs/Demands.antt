@@ -6,10 +6,11 @@ use mathlib.Core.Path.{_≡_, refl, sym, ap, subst, _∙_}
 use native.Mathlib.Omega.{arith}
 use Rattle.paper_lower.specs.Checks.{GRANTED, ROOM, BEFORE}
 use Rattle.paper_lower.specs.Records.{Bytes}
+use Rattle.paper_lower.specs.Forms.{requestForms}
 use Rattle.paper_lower.specs.Kinds.{Said}
 use Rattle.paper_lower.specs.Load.{load}
 use Rattle.paper_upper.specs.Orders.{Engine, SameTables}
-use Rattle.paper_upper.specs.Engine.{request, engineOf}
+use Rattle.paper_upper.specs.Engine.{requestKinds, request, engineOf}
 use Rattle.replies.specs.declared.Reply.{Reply}
 use Rattle.replies.proofs.ReplyLaws.{one-reply}
 use Rattle.lower.specs.Exports.{inOne}
@@ -18,6 +19,7 @@ use Rattle.engine.specs.Answers.{loadAnswer, LoadDone}
 use Rattle.engine.specs.Exports.{LoadExported}
 use Rattle.engine.proofs.SameLaws.{tables-refl, tables-sym, tables-then}
 use Rattle.engine.proofs.RespectLaws.{respects}
+use Rattle.theorems.specs.Replies.{FirstRefusal, checksOf}
 use Rattle.theorems.specs.Outside.{hear, outside}
 use Rattle.theorems.specs.Theorems.{tablesAfter, saidAfter, replyAfter, Reaches}
 use Rattle.theorems.proofs.Replies.{checks-in-order, refused-loads-are-empty}
@@ -44,6 +46,14 @@ module _ {bytes : Bytes} {x y : Buffers} {reply : ℕ} (l : Load bytes x y reply
       go true e = refl
       go false e = let m = misfits e .0 in absurd (omega arith)
 
+no-place : {bytes : Bytes} {x y : Buffers} {r : Reply} {place : ℕ} → fit x ≡ false → LoadDone bytes x y r place → place ≡ 0
+unfolding loadAnswer
+no-place f d = d .places ∙ rw f
+
+no-number : {bytes : Bytes} {x y : Buffers} {n : ℕ} → fit x ≡ false → LoadExported bytes x y n → n ≡ inOne ROOM 0
+unfolding loadAnswer
+no-number f d = d .answers ∙ rw f
+
 pub demand-one : DemandOne
 demand-one = record {
   request-answers = λ {bytes} {x} r. rw (as-number r .answers) (request-listed bytes x);
@@ -55,6 +65,8 @@ demand-one = record {
   );
   misfit-request = λ f r. no-room r f;
   misfit-load = λ f l. misfits l f;
+  misfit-place = no-place;
+  misfit-number = no-number;
 }
 
 place-of : {bytes : Bytes} {x y : Buffers} {r : Reply} {place : ℕ} → fit x ≡ true → LoadDone bytes x y r place → place ≡ load bytes .place
@@ -74,6 +86,12 @@ runs : {policy : Bytes} {x y z : Buffers} {reply : ℕ} {said : List Said} → f
 runs {policy} f l c =
     chain-run Request fit tablesOf request SameTables reading c (fit-kept (as-load l .1 .lengths) ∙ f) (engineOf (load policy .tables)) (start f l)
 
+refusal : {bytes : Bytes} {x y : Buffers} {reply : ℕ} → fit x ≡ true → Request bytes x y reply
+    → FirstRefusal (checksOf requestForms requestKinds (tablesOf x) bytes) reply
+unfolding request
+refusal {bytes} {x} f r =
+    subst (FirstRefusal (checksOf requestForms requestKinds (tablesOf x) bytes)) (sym (answers r f .0)) (checks-in-order .engine .1 (tablesOf x) bytes)
+
 pub demand-two : DemandTwo
 demand-two = record {
   requests = λ f r. answers r f;
@@ -81,6 +99,7 @@ demand-two = record {
   places = place-of;
   numbers = number-of;
   runs = λ f l c. let a = runs f l c in (a .0, a .1);
+  first-refusal = λ f r. refusal f r;
   order = checks-in-order;
 }
 

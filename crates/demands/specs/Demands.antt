@@ -6,18 +6,19 @@ use mathlib.Core.Path.{_≡_}
 use Rattle.paper_lower.specs.Lists.{Every}
 use Rattle.paper_lower.specs.Checks.{GRANTED, ROOM, BEFORE, FULL}
 use Rattle.paper_lower.specs.Records.{Bytes, decode}
+use Rattle.paper_lower.specs.Forms.{requestForms}
 use Rattle.paper_lower.specs.Kinds.{Said}
 use Rattle.paper_lower.specs.Tables.{noPolicy}
 use Rattle.paper_lower.specs.Load.{load, recordsOf}
 use Rattle.paper_upper.specs.Orders.{SameTables}
-use Rattle.paper_upper.specs.Engine.{request, engineOf}
+use Rattle.paper_upper.specs.Engine.{requestKinds, request, engineOf}
 use Rattle.replies.specs.Replies.{numberOf}
 use Rattle.replies.specs.declared.Reply.{Reply}
 use Rattle.lower.specs.Exports.{inOne}
 use Rattle.engine.specs.Buffers.{Buffers, tablesOf, fit}
 use Rattle.engine.specs.Answers.{LoadDone, Zeros}
 use Rattle.engine.specs.Exports.{LoadExported}
-use Rattle.theorems.specs.Replies.{ChecksInOrder}
+use Rattle.theorems.specs.Replies.{FirstRefusal, checksOf, ChecksInOrder}
 use Rattle.theorems.specs.Outside.{hear, outside}
 use Rattle.theorems.specs.OverEntries.{claimRules, RoleLimits}
 use Rattle.theorems.specs.Theorems.{tablesAfter, saidAfter, Reaches, FirstBroken}
@@ -37,6 +38,9 @@ pub record DemandOne : Type 0 where
   -- "Buffers of the wrong length are refused and not written."
   pub misfit-request : {bytes : Bytes} {x y : Buffers} {reply : ℕ} → fit x ≡ false → Request bytes x y reply → (reply ≡ ROOM) × (y ≡ x)
   pub misfit-load : {bytes : Bytes} {x y : Buffers} {reply : ℕ} → fit x ≡ false → Load bytes x y reply → (reply ≡ ROOM) × (y ≡ x)
+  -- "place 0"
+  pub misfit-place : {bytes : Bytes} {x y : Buffers} {r : Reply} {place : ℕ} → fit x ≡ false → LoadDone bytes x y r place → place ≡ 0
+  pub misfit-number : {bytes : Bytes} {x y : Buffers} {number : ℕ} → fit x ≡ false → LoadExported bytes x y number → number ≡ inOne ROOM 0
 
 -- ---- Demand 2
 
@@ -54,7 +58,10 @@ pub record DemandTwo : Type 0 where
   -- one after the other, from a load of buffers of any content on
   pub runs : {policy : Bytes} {x y z : Buffers} {reply : ℕ} {said : List Said} → fit x ≡ true → Load policy x y reply → Requests y said z
       → (fitting said ≡ saidAfter policy (asked (fitting said))) × SameTables (tablesOf z) (tablesAfter policy (asked (fitting said)))
-  -- "Checks run in the order of their numbers"
+  -- the first refusal is the lowest number of the checks that apply, and none applies to what is granted
+  pub first-refusal : {bytes : Bytes} {x y : Buffers} {reply : ℕ} → fit x ≡ true → Request bytes x y reply
+      → FirstRefusal (checksOf requestForms requestKinds (tablesOf x) bytes) reply
+  -- "Checks run in the order of their numbers", those of a policy's records too
   pub order : ChecksInOrder
 
 -- "A proof shows that no second answer fits": from the bytes and the tables that were read, whatever the words, by whichever function

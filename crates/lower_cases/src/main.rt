@@ -16,8 +16,7 @@ use loading::Loaded;
 use policy::POLICY_WORDS;
 use replies::Reply;
 use scripts::Fields;
-
-const SESSIONS: usize = 256;
+use sessions::SESSIONS_WORDS;
 
 // What a call came to: the number of its reply, a load's place, and whether every word is as before.
 struct Answer {
@@ -71,8 +70,8 @@ fn load_in(bytes: &[u8], p: &mut [u64], pn: usize, s: &mut [u64], sn: usize) -> 
 }
 
 fn answered(bytes: &[u8], p: &mut [u64], pn: usize, s: &mut [u64], sn: usize) -> Answer {
-    let mut p0 = [0u64; 4505];
-    let mut s0 = [0u64; 257];
+    let mut p0 = [0u64; POLICY_WORDS + 1];
+    let mut s0 = [0u64; SESSIONS_WORDS + 1];
     scripts::copy(p, &mut p0);
     scripts::copy(s, &mut s0);
     let reply = replies::number(request_in(bytes, p, pn, s, sn));
@@ -100,7 +99,7 @@ fn ask_record(line: &[u8], r: Fields, p: &mut [u64], pn: usize, s: &mut [u64], s
 fn ask_cut(line: &[u8], room: &mut [u8], n: usize, p: &mut [u64], s: &mut [u64]) {
     scripts::put(room, 0, scripts::record_of(line, 2));
     if n <= room.len() {
-        ask(line, &room[0..n], p, POLICY_WORDS, s, SESSIONS);
+        ask(line, &room[0..n], p, POLICY_WORDS, s, SESSIONS_WORDS);
     }
 }
 
@@ -112,7 +111,7 @@ fn cut(line: &[u8], n: usize, p: &mut [u64], s: &mut [u64]) {
 // A request to words that mean nothing.
 fn attempt(line: &[u8], r: Fields, p: &mut [u64], s: &mut [u64]) {
     let bytes = scripts::bytes(r);
-    let a = answered(&bytes, p, POLICY_WORDS, s, SESSIONS);
+    let a = answered(&bytes, p, POLICY_WORDS, s, SESSIONS_WORDS);
     say(line);
     say_if(a.reply <= 20, b": answered");
     say_if((a.reply != 0) & !a.kept, b", and words changed");
@@ -133,8 +132,8 @@ fn zeros_in(x: &[u64], n: usize) -> bool {
 }
 
 fn loaded(bytes: &[u8], p: &mut [u64], pn: usize, s: &mut [u64], sn: usize) -> Answer {
-    let mut p0 = [0u64; 4505];
-    let mut s0 = [0u64; 257];
+    let mut p0 = [0u64; POLICY_WORDS + 1];
+    let mut s0 = [0u64; SESSIONS_WORDS + 1];
     scripts::copy(p, &mut p0);
     scripts::copy(s, &mut s0);
     let l = load_in(bytes, p, pn, s, sn);
@@ -166,7 +165,7 @@ fn load(line: &[u8], bytes: &[u8], p: &mut [u64], pn: usize, s: &mut [u64], sn: 
 // Loads the first n bytes.
 fn load_front(line: &[u8], bytes: &[u8], n: usize, p: &mut [u64], s: &mut [u64]) {
     if n <= bytes.len() {
-        load(line, &bytes[0..n], p, POLICY_WORDS, s, SESSIONS);
+        load(line, &bytes[0..n], p, POLICY_WORDS, s, SESSIONS_WORDS);
     }
 }
 
@@ -203,7 +202,7 @@ fn run_ask(letter: u8, line: &[u8], p: &mut [u64], s: &mut [u64]) -> bool {
             p,
             POLICY_WORDS,
             s,
-            SESSIONS,
+            SESSIONS_WORDS,
         );
         return true;
     }
@@ -273,7 +272,7 @@ fn main() {
     let mut text = [0u8; 65536];
     let n = io::read_full(0, &mut text);
     let mut policy = [0u8; 4096];
-    let mut p = [0u64; 4505];
-    let mut s = [0u64; 257];
+    let mut p = [0u64; POLICY_WORDS + 1];
+    let mut s = [0u64; SESSIONS_WORDS + 1];
     run_front(&text, n, &mut policy, &mut p, &mut s);
 }

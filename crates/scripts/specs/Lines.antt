@@ -1,10 +1,18 @@
--- A line of a script: its numbers, its record; where a record is put; and words that mean nothing.
-use Prim.Native.Nat.{ℕ, zero, suc, _+_, _-_, _*_, _%_}
+-- A line of a script: where it ends, its numbers, its record; the bytes of a record, and where it is put; and words that mean nothing.
+use Prim.Native.Nat.{ℕ, zero, suc, _+_, _-_, _*_, _/_, _%_, _≤_, _<_}
 use mathlib.Core.Bool.{not, cond}
-use mathlib.Core.List.{List}
+use mathlib.Core.List.{List, [], _∷_}
+use mathlib.Core.Path.{_≡_}
 use lib.Dec.{eqb, ltb}
 use lib.ListN.{getD, length}
 use Rattle.scripts.specs.declared.Fields.{Fields}
+
+-- the line that begins at a place ends at the first newline from there on, or with the text
+pub record LineEnd (text : List ℕ) (at end : ℕ) : Type 0 where
+  pub begins : at ≤ end
+  pub within : end ≤ length text
+  pub inside : (k : ℕ) → at ≤ k → k < end → getD text k 0 ≡ 10 → ⊥
+  pub newline : end < length text → getD text end 0 ≡ 10
 
 -- one digit more, where the byte is one and the number has room for it
 unfoldable pub digitMore : ℕ → ℕ → ℕ
@@ -37,9 +45,36 @@ recordOf line k =
       m = numberOf line (k + 5);
     }
 
+-- the sixteen bytes of a record; of a, b and c the low sixteen bits
+abbrev pub bytesOf : Fields → List ℕ
+bytesOf r =
+    r .kind
+    ∷ r .n
+    ∷ r .a % 256
+    ∷ r .a / 256 % 256
+    ∷ r .b % 256
+    ∷ r .b / 256 % 256
+    ∷ r .c % 256
+    ∷ r .c / 256 % 256
+    ∷ r .m % 256
+    ∷ r .m / 256 % 256
+    ∷ r .m / 65536 % 256
+    ∷ r .m / 16777216 % 256
+    ∷ r .m / 4294967296 % 256
+    ∷ r .m / 1099511627776 % 256
+    ∷ r .m / 281474976710656 % 256
+    ∷ r .m / 72057594037927936 % 256
+    ∷ []
+
 -- where the next record goes, in so many bytes
 abbrev pub behind : ℕ → ℕ → ℕ
 behind at bytes = cond (ltb 65520 at) at (cond (ltb bytes (at + 16)) at (at + 16))
+
+-- a record put behind the first `at` bytes: what lies from there to the end is its bytes, and all else is as before
+pub record Put (at : ℕ) (r : Fields) (l l′ : List ℕ) (end : ℕ) : Type 0 where
+  pub ends : end ≡ behind at (length l)
+  pub written : (k : ℕ) → at + k < end → getD l′ (at + k) 0 ≡ getD (bytesOf r) k 0
+  pub others : (k : ℕ) → (at ≤ k → k < end → ⊥) → getD l′ k 0 ≡ getD l k 0
 
 -- numbers drawn one after the other, and the word of one
 unfoldable pub drawn : ℕ → ℕ → ℕ

@@ -3,8 +3,9 @@
 ghost use Prim.Native.Nat.{ℕ, _+_, _%_, _<_, _≤_};
 ghost use mathlib.Core.Bool.{true, cond};
 ghost use mathlib.Core.Path.{_≡_};
+ghost use lib.Dec.{eqb};
 ghost use lib.ListN.{length, getD};
-ghost use Rattle.scripts.specs.Lines.{digitMore, spaceMore, numberOf, recordOf, behind, drawn, garbled};
+ghost use Rattle.scripts.specs.Lines.{LineEnd, digitMore, spaceMore, numberOf, bytesOf, recordOf, Put, drawn, garbled};
 
 pub struct Fields {
     pub kind: u8,
@@ -23,7 +24,7 @@ fn low(x: u64) -> u8
 
 // The sixteen bytes of a record; of a, b and c the low sixteen bits.
 pub fn bytes(r: Fields) -> [u8; 16]
-    ensures { λ x. ⌜ 16 ≡ length x ⌝ }
+    ensures { λ x. ⌜ x ≡ bytesOf r ⌝ }
 {
     let a = r.a;
     let b = r.b;
@@ -33,25 +34,25 @@ pub fn bytes(r: Fields) -> [u8; 16]
         r.kind,
         r.n,
         low(a),
-        low(a >> 8),
+        low(a / 256),
         low(b),
-        low(b >> 8),
+        low(b / 256),
         low(c),
-        low(c >> 8),
+        low(c / 256),
         low(m),
-        low(m >> 8),
-        low(m >> 16),
-        low(m >> 24),
-        low(m >> 32),
-        low(m >> 40),
-        low(m >> 48),
-        low(m >> 56),
+        low(m / 256),
+        low(m / 65536),
+        low(m / 16777216),
+        low(m / 4294967296),
+        low(m / 1099511627776),
+        low(m / 281474976710656),
+        low(m / 72057594037927936),
     ]
 }
 
 // Writes a record behind the first `at` bytes, where there is room, and answers where the next one goes.
 pub fn put(to: &mut [u8], at: usize, r: Fields) -> usize
-    ensures { λ end. ⌜ end ≡ behind at (length (now (to .entry))) ⌝ }
+    ensures { λ end. ⌜ Put at r (now (to .entry)) (now (to .exit)) end ⌝ }
 {
     if at > 65520 {
         return at;
@@ -72,7 +73,7 @@ pub fn put(to: &mut [u8], at: usize, r: Fields) -> usize
 // Where the line ends that begins at `at`: at its newline, or with the text.
 pub fn line_end(text: &[u8], at: usize) -> usize
     requires { ⌜ at ≤ length (now text) ⌝ }
-    ensures { λ r. ⌜ (at ≤ r) × (r ≤ length (now (text .entry))) ⌝ }
+    ensures { λ r. ⌜ LineEnd (now (text .entry)) at r ⌝ }
 {
     let mut i = at;
     while i < text.len() {
@@ -155,9 +156,9 @@ pub fn record_of(line: &[u8], k: u64) -> Fields
     }
 }
 
-// Copies the words, where both are equally many.
+// Copies the words, where both are equally many, and else none.
 pub fn copy(from: &[u64], to: &mut [u64])
-    ensures { λ _. ⌜ (length (now (from .entry)) ≡ length (now (to .entry)) → now (to .exit) ≡ now (from .entry)) ⌝ }
+    ensures { λ _. ⌜ now (to .exit) ≡ cond (eqb (length (now (from .entry))) (length (now (to .entry)))) (now (from .entry)) (now (to .entry)) ⌝ }
 {
     if from.len() != to.len() {
         return;

@@ -276,6 +276,10 @@ pub part-trans : (a b c : Set) → Part a b → Part b c → Part a c
 unfolding Part
 part-trans a b c p q i = let y = p i in let w = q i in omega arith
 
+pub part-same : (a b : Set) → Part a b → Part b a → a ≡ b
+unfolding Part
+part-same a b p q = ext-bits a b (λ i. let y = p i in let w = q i in omega arith)
+
 pub part-empty : (a : Set) → Part empty a
 unfolding Part
 part-empty a i = rw (bit-zero i) (omega arith)

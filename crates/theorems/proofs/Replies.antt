@@ -1,16 +1,17 @@
 -- The checks of every kind have rising numbers; so the first that applies is the lowest, and no reply is outside the table.
 use Prim.Native.Nat.{ℕ, zero, suc, _≤_, _/_}
-use mathlib.Core.Path.{_≡_, refl}
-use mathlib.Core.Bool.{Bool, true, false, cond, _&&_, false≢true}
+use mathlib.Core.Path.{_≡_, refl, sym, ap, _∙_}
+use mathlib.Core.Bool.{Bool, true, false, not, cond, _&&_, _||_, true≢false, false≢true, or-true}
 use mathlib.Core.List.{List, [], _∷_, _++_}
 use native.Mathlib.Omega.{arith}
-use borrow.Author.Tests.{ne-eqb, leb-true, le-leb}
+use borrow.Author.Tests.{eqb-true, eq-eqb, ne-eqb, leb-true, le-leb}
 use lib.Dec.{eqb, leb}
 use lib.ListN.{length, take, drop}
-use Rattle.paper_lower.specs.Lists.{each, Every}
+use Rattle.paper_lower.specs.Lists.{some, keep, each, Every}
+use Rattle.paper_lower.specs.Lists.Maybe.{none, just}
 use Rattle.paper_lower.specs.Checks.{Check, first, granted, SHAPE, RANGE, UNKNOWN, FULL}
 use Rattle.paper_lower.specs.Records.{Bytes, Record, decode}
-use Rattle.paper_lower.specs.Forms.{Form, policyForms, lowerForms, requestForms, formChecks}
+use Rattle.paper_lower.specs.Forms.{Form, policyForms, lowerForms, upperForms, requestForms, formOf, misshapen, formChecks}
 use Rattle.paper_lower.specs.Kinds.{Kind, chosen, replyTo, answer}
 use Rattle.paper_lower.specs.Tables.{Policy, noPolicy}
 use Rattle.paper_lower.specs.Policy.{userChecks, roleChecks, permissionChecks, assignChecks, giveChecks, taskChecks, openToChecks, carriesChecks, staticChecks, dynamicChecks, taskSetChecks, blockChecks, banChecks, mostChecks, bindChecks, beforeChecks, policyKinds}
@@ -24,7 +25,7 @@ use Rattle.paper_upper.specs.Rules.{ruleChecks}
 use Rattle.paper_upper.specs.Requests.{deleteAbove, destroyAbove, openChecks, endChecks, claimChecks, holdChecks, taskCheckChecks, upperKinds}
 use Rattle.paper_upper.specs.Orders.{Engine}
 use Rattle.paper_upper.specs.Engine.{raised, sharedKinds, requestKinds, request}
-use Rattle.theorems.specs.Replies.{rising, InOrder, FirstRefusals, ChecksInOrder, Listed, RepliesAreListed, RefusedLoadsAreEmpty}
+use Rattle.theorems.specs.Replies.{rising, InOrder, FirstRefusal, checksOf, ChecksInOrder, Listed, RepliesAreListed, RefusedLoadsAreEmpty}
 
 -- ---- what holds of the upper part's kinds, and of the lower part's over the whole engine, holds of all
 pub of-both : (P : Kind Engine → Type 0) → Every P upperKinds → Every (λ k. P (raised k)) lowerKinds → Every P requestKinds
@@ -76,6 +77,15 @@ numbered ks order =
     every-map (k .checks t r) (λ x w. rw (ne-eqb (x .1) 0 (λ e. absurd (omega arith))) tt)
     (all-within UNKNOWN UNKNOWN (k .checks t r) (omega arith) (h t r))) order
 
+-- every check that a record meets has a number of the table
+all-listed : {A : Type 0} (fs : List Form) (ks : List (Kind A)) → InOrder ks → (t : A) (s : Bytes) → Every (Within SHAPE) (checksOf fs ks t s)
+unfolding chosen formChecks Within
+all-listed fs ks order t s =
+    let w = of-chosen (λ n k. (t : _) (r : Record) → Every (Within SHAPE) (k .checks t r)) ks
+    (every-map ks (λ k h t r. all-within SHAPE UNKNOWN (k .checks t r) (omega arith) (h t r)) order)
+    (λ n t r. ((omega arith, omega arith), tt)) (decode s .kind) t (decode s) in
+    ((omega arith, omega arith), ((omega arith, omega arith), w))
+
 -- ---- the lowest number of those that apply
 lowest : (k : ℕ) (xs : List Check) → 1 ≤ k → rising k xs ≡ true → Every (λ x. x .0 ≡ true → (first xs ≡ 0 → ⊥) × (first xs ≤ x .1)) xs
 unfolding rising Within
@@ -101,18 +111,80 @@ from-range (x ∷ xs) h =
     let m = leb-true UNKNOWN (x .1) (b .0) in
     rw (le-leb RANGE (x .1) (omega arith), b .1) (a .1)
 
-first-refusals : {A : Type 0} (fs : List Form) (ks : List (Kind A)) → InOrder ks → FirstRefusals fs ks
-unfolding formChecks rising
-first-refusals fs ks order = every-map ks (λ k h t s. record {
-  grants = none-applies (formChecks fs s ++ k .checks t (decode s));
-  refuses = lowest SHAPE (formChecks fs s ++ k .checks t (decode s)) (omega arith) (from-range (k .checks t (decode s)) (h t (decode s)));
-}) order
+given : (xs : List Check) → (first xs ≡ 0 → ⊥) → some (λ x. x .0 && eqb (x .1) (first xs)) xs ≡ true
+unfolding some
+given [] n = absurd (n refl)
+given (x ∷ xs) n = go (x .0) refl (given xs)
+  where
+    go : (b : Bool) → x .0 ≡ b → ((first xs ≡ 0 → ⊥) → some (λ x. x .0 && eqb (x .1) (first xs)) xs ≡ true)
+        → b && eqb (x .1) (cond b (x .1) (first xs)) || some (λ y. y .0 && eqb (y .1) (cond b (x .1) (first xs))) xs ≡ true
+    go true e rest = rw (eq-eqb (x .1) (x .1) refl)
+    go false e rest = rest (λ z. n (rw e z))
+
+-- ---- kinds that the call takes, and those that it does not: their form is none, and they are SHAPE
+abbrev takes : {A : Type 0} → List (Kind A) → ℕ → Bool
+takes ks n = some (λ k. eqb (k .kind) n) ks
+
+taken : {A : Type 0} (P : Kind A → Type 0) (ks : List (Kind A)) (n : ℕ) → Every P ks → takes ks n ≡ true → P (chosen ks n)
+unfolding some chosen
+taken P [] n h e = absurd (false≢true e)
+taken P (k ∷ ks) n h e = go (eqb (k .kind) n) e (taken P ks n (h .1))
+  where
+    go : (b : Bool) → b || takes ks n ≡ true → (takes ks n ≡ true → P (chosen ks n)) → P (cond b k (chosen ks n))
+    go true e rest = h .0
+    go false e rest = rest e
+
+no-form : {A : Type 0} (ks : List (Kind A)) (fs : List Form) (n : ℕ) → Every (λ f. takes ks (f .kind) ≡ true) fs → takes ks n ≡ false → formOf fs n ≡ none
+unfolding formOf
+no-form ks [] n h e = refl
+no-form ks (f ∷ fs) n h e = go (eqb (f .kind) n) refl (no-form ks fs n (h .1) e)
+  where
+    go : (b : Bool) → eqb (f .kind) n ≡ b → formOf fs n ≡ none → cond b (just f) (formOf fs n) ≡ none
+    go true q rest = absurd (true≢false (sym (h .0) ∙ ap (takes ks) (eqb-true _ _ q) ∙ e))
+    go false q rest = rest
+
+module _ {A : Type 0} (fs : List Form) (ks : List (Kind A)) (order : InOrder ks) (forms : Every (λ f. takes ks (f .kind) ≡ true) fs) (t : A) (s : Bytes) where
+  rises : takes ks (decode s .kind) ≡ true → rising SHAPE (checksOf fs ks t s) ≡ true
+  unfolding formChecks rising
+  rises e = from-range (chosen ks (decode s .kind) .checks t (decode s)) (taken (λ k. (t : A) (r : Record) → rising UNKNOWN (k .checks t r) ≡ true) ks (decode s .kind) order e t (decode s))
+
+  misshapes : takes ks (decode s .kind) ≡ false → first (checksOf fs ks t s) ≡ SHAPE
+  unfolding formChecks misshapen
+  misshapes e = rw (no-form ks fs (decode s .kind) forms e, or-true (not (eqb (length s) 16)))
+
+  lowest-of : (b : Bool) → takes ks (decode s .kind) ≡ b
+      → Every (λ x. x .0 ≡ true → (first (checksOf fs ks t s) ≡ 0 → ⊥) × (first (checksOf fs ks t s) ≤ x .1)) (checksOf fs ks t s)
+  unfolding Within
+  lowest-of true e = lowest SHAPE (checksOf fs ks t s) (omega arith) (rises e)
+  lowest-of false e =
+      let m = misshapes e in
+      every-map (checksOf fs ks t s) (λ x w _. (λ z. omega arith, omega arith)) (all-listed fs ks order t s)
+
+  first-refusal : FirstRefusal (checksOf fs ks t s) (answer fs ks t s .reply)
+  unfolding answer replyTo
+  first-refusal = record {
+    grants = none-applies (checksOf fs ks t s);
+    refuses = lowest-of (takes ks (decode s .kind)) refl;
+    given = given (checksOf fs ks t s);
+  }
+
+policy-forms : Every (λ f. takes policyKinds (f .kind) ≡ true) policyForms
+unfolding some policyForms policyKinds
+policy-forms = refl ⨾ refl ⨾ refl ⨾ refl ⨾ refl ⨾ refl ⨾ refl ⨾ refl ⨾ refl ⨾ refl ⨾ refl ⨾ refl ⨾ refl ⨾ refl ⨾ refl ⨾ refl ⨾ tt
+
+lower-forms : Every (λ f. takes lowerKinds (f .kind) ≡ true) lowerForms
+unfolding some lowerForms lowerKinds roleKinds sessionKinds
+lower-forms = refl ⨾ refl ⨾ refl ⨾ refl ⨾ refl ⨾ refl ⨾ refl ⨾ refl ⨾ refl ⨾ refl ⨾ refl ⨾ tt
+
+request-forms : Every (λ f. takes requestKinds (f .kind) ≡ true) requestForms
+unfolding some requestForms lowerForms upperForms requestKinds upperKinds sharedKinds lowerKinds roleKinds sessionKinds keep each raised
+request-forms = refl ⨾ refl ⨾ refl ⨾ refl ⨾ refl ⨾ refl ⨾ refl ⨾ refl ⨾ refl ⨾ refl ⨾ refl ⨾ refl ⨾ refl ⨾ refl ⨾ refl ⨾ refl ⨾ refl ⨾ tt
 
 pub checks-in-order : ChecksInOrder
 checks-in-order = record {
-  policy = (policy-order, first-refusals policyForms policyKinds policy-order);
-  lower = (lower-order, first-refusals lowerForms lowerKinds lower-order);
-  engine = (engine-order, first-refusals requestForms requestKinds engine-order);
+  policy = (policy-order, first-refusal policyForms policyKinds policy-order policy-forms);
+  lower = (lower-order, first-refusal lowerForms lowerKinds lower-order lower-forms);
+  engine = (engine-order, first-refusal requestForms requestKinds engine-order request-forms);
 }
 
 -- ---- replies of the table
@@ -126,12 +198,8 @@ first-listed (x ∷ xs) h = go (x .0) (first-listed xs (h .1))
     go false rest = rest
 
 answer-listed : {A : Type 0} (fs : List Form) (ks : List (Kind A)) → InOrder ks → (t : A) (s : Bytes) → Listed (answer fs ks t s .reply)
-unfolding answer replyTo chosen formChecks Within
-answer-listed fs ks order t s =
-    let w = of-chosen (λ n k. (t : _) (r : Record) → Every (Within SHAPE) (k .checks t r)) ks
-    (every-map ks (λ k h t r. all-within SHAPE UNKNOWN (k .checks t r) (omega arith) (h t r)) order)
-    (λ n t r. ((omega arith, omega arith), tt)) (decode s .kind) t (decode s) in
-    first-listed (formChecks fs s ++ chosen ks (decode s .kind) .checks t (decode s)) ((omega arith, omega arith), ((omega arith, omega arith), w))
+unfolding answer replyTo
+answer-listed fs ks order t s = first-listed (checksOf fs ks t s) (all-listed fs ks order t s)
 
 -- ---- the load
 record Outcome (x : Loaded) : Type 0 where

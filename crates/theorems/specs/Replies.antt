@@ -3,12 +3,12 @@ use Prim.Native.Nat.{ℕ, _≤_}
 use mathlib.Core.Path.{_≡_}
 use mathlib.Core.Bool.{Bool, true, false, _&&_}
 use mathlib.Core.List.{List, [], _∷_, _++_}
-use lib.Dec.{leb}
-use Rattle.paper_lower.specs.Lists.{Every}
-use Rattle.paper_lower.specs.Checks.{Check, first, GRANTED, SHAPE, UNKNOWN, FULL}
+use lib.Dec.{eqb, leb}
+use Rattle.paper_lower.specs.Lists.{some, Every}
+use Rattle.paper_lower.specs.Checks.{Check, GRANTED, SHAPE, UNKNOWN, FULL}
 use Rattle.paper_lower.specs.Records.{Bytes, Record, decode}
 use Rattle.paper_lower.specs.Forms.{Form, policyForms, lowerForms, requestForms, formChecks}
-use Rattle.paper_lower.specs.Kinds.{Kind}
+use Rattle.paper_lower.specs.Kinds.{Kind, chosen, answer}
 use Rattle.paper_lower.specs.Tables.{Lower, noPolicy}
 use Rattle.paper_lower.specs.Policy.{policyKinds}
 use Rattle.paper_lower.specs.Load.{load}
@@ -27,13 +27,18 @@ rising k (x ∷ xs) = leb k (x .1) && leb (x .1) FULL && rising (x .1) xs
 abbrev pub InOrder : {T : Type 0} → List (Kind T) → Type 0
 InOrder {T} ks = Every (λ k. (t : T) (r : Record) → rising UNKNOWN (k .checks t r) ≡ true) ks
 
--- "the first that applies is given, and none is given otherwise": the lowest number of those that apply
-pub record FirstRefusal (checks : List Check) : Type 0 where
-  pub grants : Every (λ x. x .0 ≡ false) checks → first checks ≡ GRANTED
-  pub refuses : Every (λ x. x .0 ≡ true → (first checks ≡ GRANTED → ⊥) × (first checks ≤ x .1)) checks
+-- "the first that applies is given, and none is given otherwise": it is the lowest number of those that apply
+pub record FirstRefusal (checks : List Check) (reply : ℕ) : Type 0 where
+  pub grants : Every (λ x. x .0 ≡ false) checks → reply ≡ GRANTED
+  pub refuses : Every (λ x. x .0 ≡ true → (reply ≡ GRANTED → ⊥) × (reply ≤ x .1)) checks
+  pub given : (reply ≡ GRANTED → ⊥) → some (λ x. x .0 && eqb (x .1) reply) checks ≡ true
+
+-- the checks that a record meets
+abbrev pub checksOf : {T : Type 0} → List Form → List (Kind T) → T → Bytes → List Check
+checksOf fs ks t s = formChecks fs s ++ chosen ks (decode s .kind) .checks t (decode s)
 
 abbrev pub FirstRefusals : {T : Type 0} → List Form → List (Kind T) → Type 0
-FirstRefusals {T} fs ks = Every (λ k. (t : T) (s : Bytes) → FirstRefusal (formChecks fs s ++ k .checks t (decode s))) ks
+FirstRefusals {T} fs ks = (t : T) (s : Bytes) → FirstRefusal (checksOf fs ks t s) (answer fs ks t s .reply)
 
 pub record ChecksInOrder : Type 0 where
   pub policy : InOrder policyKinds × FirstRefusals policyForms policyKinds

@@ -2,7 +2,7 @@
 
 use crate::slow::Slow;
 use plain::{Engine, FlatLedger, Ledger, OrderLists};
-use records::{Record, Reply};
+use records::Record;
 
 /// A reply's number, and a place.
 pub type Answer = (u8, usize);
@@ -101,8 +101,10 @@ proved_desk!(mishantral::Engine);
 proved_desk!(mishantral::lower::Engine);
 
 /// What the lower part of an engine answers: the kinds that are about orders are none of its kinds.
+#[cfg(mishantral_lower)]
 struct Lowered(Box<dyn Desk>);
 
+#[cfg(mishantral_lower)]
 impl Desk for Lowered {
     fn name(&self) -> &'static str {
         self.0.name()
@@ -114,7 +116,7 @@ impl Desk for Lowered {
 
     fn request(&mut self, record: &[u8]) -> u8 {
         match record.first() {
-            Some(48..=52 | 57) => Reply::Shape.number(),
+            Some(48..=52 | 57) => records::Reply::Shape.number(),
             _ => self.0.request(record),
         }
     }
@@ -130,6 +132,7 @@ pub fn proved() -> Option<Box<dyn Desk>> {
     Some(Box::new(mishantral::Engine::new()))
 }
 
+/// The proved engine, where the library is linked.
 #[cfg(not(mishantral_engine))]
 pub fn proved() -> Option<Box<dyn Desk>> {
     None

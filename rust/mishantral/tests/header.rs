@@ -25,6 +25,7 @@ fn defined(name: &str) -> &'static str {
         .unwrap_or_else(|| panic!("{name} is not there"))
 }
 
+#[cfg(any(mishantral_engine, mishantral_lower))]
 fn number(name: &str) -> usize {
     defined(name).parse().unwrap()
 }

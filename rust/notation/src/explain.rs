@@ -1,8 +1,9 @@
 //! A desk program's bare listing, with each request in words and each reply by its name.
 
 use crate::is_text;
+use crate::names::Names;
 use crate::read::{read_lines, tokens, Error, Token, END};
-use crate::write::line;
+use crate::write::{line, line_named};
 use records::{Reply, LENGTH};
 
 /// A line of the listing, of which each word is asked for in turn.
@@ -55,7 +56,11 @@ impl<'a> Listed<'a> {
     }
 }
 
-fn load_line(mut listed: Listed, policy: Option<&[u8]>) -> Result<(Reply, String), Error> {
+fn load_line(
+    mut listed: Listed,
+    policy: Option<&[u8]>,
+    names: &Names,
+) -> Result<(Reply, String), Error> {
     listed.word("load")?;
     let reply = listed.reply()?;
     let place = listed.next("the place of a record", |t| {
@@ -69,29 +74,46 @@ fn load_line(mut listed: Listed, policy: Option<&[u8]>) -> Result<(Reply, String
     let refused = place
         .checked_sub(1)
         .and_then(|before| policy?.chunks(LENGTH).nth(before))
-        .map_or(String::new(), |record| format!(": {}", line(record)));
+        .map_or(String::new(), |record| {
+            format!(": {}", line_named(record, names))
+        });
     Ok((reply, format!("load {reply}{at}{refused}\n")))
 }
 
-fn request_line(mut listed: Listed, place: usize, record: &[u8]) -> Result<String, Error> {
+fn request_line(
+    mut listed: Listed,
+    place: usize,
+    record: &[u8],
+    names: &Names,
+) -> Result<String, Error> {
     listed.word(&place.to_string())?;
     let reply = listed.reply()?;
     listed.end()?;
     let (number, name) = (reply.number(), reply.name());
-    let words = line(record);
+    let words = line_named(record, names);
     Ok(format!("{place:>5}  {number:>2} {name:<12}  {words}\n"))
 }
 
 /// Joins request records and the listing that a desk program wrote for them. With the policy's
 /// records, a refused one is shown in words too.
 pub fn explain(policy: Option<&[u8]>, requests: &[u8], listing: &str) -> Result<String, Error> {
+    explain_named(policy, requests, listing, &Names::default())
+}
+
+/// The same with the names of numbers that have one.
+pub fn explain_named(
+    policy: Option<&[u8]>,
+    requests: &[u8],
+    listing: &str,
+    names: &Names,
+) -> Result<String, Error> {
     let mut lines = listing.lines().enumerate();
     let (_, first) = lines.next().unwrap_or((0, ""));
-    let (reply, mut text) = load_line(Listed::new(0, first), policy)?;
+    let (reply, mut text) = load_line(Listed::new(0, first), policy, names)?;
     let judged = if reply.is_granted() { requests } else { &[] };
     for (before, record) in judged.chunks(LENGTH).enumerate() {
         let (at, listed) = lines.next().unwrap_or((before + 1, ""));
-        text += &request_line(Listed::new(at, listed), before + 1, record)?;
+        text += &request_line(Listed::new(at, listed), before + 1, record, names)?;
     }
     match lines.next() {
         None => Ok(text),

@@ -10,16 +10,28 @@
 //! let message = "line 2, column 14: expected \"role\", found \"rolle\"";
 //! assert_eq!(errors[0].to_string(), message);
 //! ```
+//!
+//! Where numbers have [`Names`], a line may have a name between quotes in a number's place:
+//!
+//! ```
+//! let mut names = notation::Names::default();
+//! names.give("task", 1, b"task:sign");
+//! let records = notation::read_named(b"claim 5 0 \"task:sign\"", &names).unwrap();
+//! assert_eq!(notation::write(&records), "claim 5 0 1\n");
+//! assert_eq!(notation::write_named(&records, &names), "claim 5 0 \"task:sign\"\n");
+//! ```
 
 mod explain;
+mod names;
 mod read;
 mod write;
 
-pub use explain::{explain, refused};
-pub use read::{read, read_lines, Error};
+pub use explain::{explain, explain_named, refused};
+pub use names::{quoted, Names};
+pub use read::{read, read_lines, read_named, Error};
 use records::forms::{parts, FORMS};
 pub use records::Reply;
-pub use write::{line, write};
+pub use write::{line, line_named, write, write_named};
 
 /// Every line that the notation has, one for each kind and two for any bytes.
 pub fn forms() -> String {

@@ -1,5 +1,8 @@
 //! The notation's program: text to records, records to text, and a listing with its requests in words.
 
+mod dealer;
+
+use std::fmt;
 use std::fs;
 use std::io::{self, Read, Write};
 use std::process::ExitCode;
@@ -7,11 +10,15 @@ use std::process::ExitCode;
 const HELP: &str = "\
 Records as lines of words (docs/RULES.md), and back.
 
-  mishantral-notation records [--either] [--name NAME] [FILE]
+  mishantral-notation records [--either] [--dealer POLICY TASKS] [--name NAME] [FILE]
                                                   text to records; --either: records pass as they are;
                                                   --name: what an error calls the file
-  mishantral-notation words [FILE]                records to text
-  mishantral-notation explain [--policy FILE] REQUESTS
+  mishantral-notation words [--dealer POLICY TASKS] [FILE]
+                                                  records to text
+  mishantral-notation opl [--words | --names] POLICY [TASKS]
+                                                  a dealer's OPL/XML and its task lines to records;
+                                                  --words: to text; --names: its names by number
+  mishantral-notation explain [--dealer POLICY TASKS] [--policy FILE] REQUESTS
                                                   a desk program's listing, from standard input, with
                                                   the records of REQUESTS in words and replies by name;
                                                   --policy: the policy's records, to show a refused one
@@ -24,6 +31,9 @@ Records as lines of words (docs/RULES.md), and back.
 Without FILE, or where it is -, standard input is read. What is made goes to standard output.
 One line a record; # begins a comment. A number is decimal, or hexadecimal after 0x. All that is wrong in a
 text is told, and then nothing is made. Whoever stops reading what is made ends the program quietly.
+
+A line of TASKS is a task's name, one space and its template's name; without TASKS there are no tasks. With
+--dealer, text has the dealer's names between double quotes in the place of numbers: claim 5 0 \"task:sign\".
 
 Exit status: 0 done; 1 the input is not as it must be, the messages say where; 2 wrong use, or a file
 that cannot be read or written.
@@ -66,7 +76,7 @@ fn named<'a, 'b>(arguments: &'b [&'a str]) -> (Option<&'a str>, &'b [&'a str]) {
     }
 }
 
-fn within(file: &str, errors: Vec<notation::Error>) -> Stop {
+fn within(file: &str, errors: Vec<impl fmt::Display>) -> Stop {
     let name = if file == "-" { "standard input" } else { file };
     let told = errors.iter().map(|error| format!("{name}: {error}"));
     Stop(told.collect(), 1)
@@ -77,16 +87,24 @@ fn records(arguments: &[&str]) -> Made {
         ["--either", rest @ ..] => (true, rest),
         rest => (false, rest),
     };
+    let (names, rest) = dealer::names_of(rest)?;
     let (name, files) = named(rest);
     let file = one_file(files)?;
     let bytes = input(file)?;
     if either && !notation::is_text(&bytes) {
         return Ok(bytes);
     }
-    notation::read(&bytes).map_err(|errors| within(name.unwrap_or(file), errors))
+    notation::read_named(&bytes, &names).map_err(|errors| within(name.unwrap_or(file), errors))
+}
+
+fn words(arguments: &[&str]) -> Made {
+    let (names, files) = dealer::names_of(arguments)?;
+    let records = input(one_file(files)?)?;
+    Ok(notation::write_named(&records, &names).into_bytes())
 }
 
 fn explain(arguments: &[&str]) -> Made {
+    let (names, arguments) = dealer::names_of(arguments)?;
     let (policy, files) = match arguments {
         ["--policy", file, files @ ..] => (Some(input(file)?), files),
         files => (None, files),
@@ -101,7 +119,7 @@ fn explain(arguments: &[&str]) -> Made {
             1,
         )
     })?;
-    notation::explain(policy.as_deref(), &requests, &listing)
+    notation::explain_named(policy.as_deref(), &requests, &listing, &names)
         .map(String::into_bytes)
         .map_err(|error| within("-", vec![error]))
 }
@@ -129,7 +147,8 @@ fn replies() -> String {
 fn made(arguments: &[&str]) -> Made {
     match arguments {
         ["records", rest @ ..] => records(rest),
-        ["words", rest @ ..] => Ok(notation::write(&input(one_file(rest)?)?).into_bytes()),
+        ["words", rest @ ..] => words(rest),
+        ["opl", rest @ ..] => dealer::opl(rest),
         ["explain", rest @ ..] => explain(rest),
         ["refused", rest @ ..] => refused(rest),
         ["forms"] => Ok(notation::forms().into_bytes()),

@@ -1,5 +1,6 @@
 //! Text to records: all patterns are followed at once, so that an error can say all that was expected.
 
+use crate::names::{sort_of, unquoted, Names};
 use records::forms::{parts, Field, Part, FORMS};
 use records::{Record, Set, LENGTH};
 use std::fmt;
@@ -33,7 +34,7 @@ impl std::error::Error for Error {}
 
 pub(crate) const END: &str = "the end of the line";
 
-/// A word, number, colon or comma, with its column from 1.
+/// A word, number, colon, comma or quoted name, with its column from 1.
 #[derive(Clone, Copy)]
 pub(crate) struct Token<'a> {
     pub text: &'a str,
@@ -51,20 +52,18 @@ impl Token<'_> {
         }
     }
 
-    fn number_up_to(self, last: u64) -> Option<u64> {
-        self.number().filter(|&number| number <= last)
-    }
-
     fn byte(self) -> Option<u8> {
         let hex = self.text.len() == 2 && self.text.bytes().all(|b| b.is_ascii_hexdigit());
         hex.then(|| u8::from_str_radix(self.text, 16).ok())?
     }
 }
 
-/// The tokens of a line before its comment.
+/// The tokens of a line before its comment. A name between quotes is one token.
 pub(crate) fn tokens(line: &str) -> Vec<Token<'_>> {
     let mut tokens = Vec::new();
     let mut start: Option<(usize, usize)> = None;
+    // Within a quoted name, and whether a backslash stands before.
+    let mut quoted: Option<bool> = None;
     let mut push = |from: Option<(usize, usize)>, to: usize| {
         tokens.extend(from.map(|(at, column)| Token {
             text: &line[at..to],
@@ -73,7 +72,18 @@ pub(crate) fn tokens(line: &str) -> Vec<Token<'_>> {
     };
     for (index, (at, character)) in line.char_indices().enumerate() {
         let column = index + 1;
+        if let Some(escaped) = quoted {
+            quoted = (character != '"' || escaped).then_some(character == '\\' && !escaped);
+            if quoted.is_none() {
+                push(start.take(), at + 1);
+            }
+            continue;
+        }
         match character {
+            '"' if start.is_none() => {
+                start = Some((at, column));
+                quoted = Some(false);
+            }
             '#' => {
                 push(start.take(), at);
                 return tokens;
@@ -93,8 +103,9 @@ pub(crate) fn tokens(line: &str) -> Vec<Token<'_>> {
 /// One pattern, followed as far as the line has been read.
 #[derive(Clone)]
 struct Attempt {
-    /// The pattern from its next part on.
+    /// The pattern from its next part on, and the part before that.
     rest: &'static str,
+    before: &'static str,
     record: Record,
     bytes: Vec<u8>,
     /// Whether a set's last token is a comma, so that a member must follow.
@@ -105,6 +116,7 @@ impl Attempt {
     fn new((kind, pattern): (u8, &'static str)) -> Attempt {
         Attempt {
             rest: pattern,
+            before: "",
             record: Record::new(kind, 0, 0, 0, 0, 0),
             bytes: Vec::new(),
             comma: false,
@@ -116,17 +128,29 @@ impl Attempt {
     }
 
     fn next(mut self) -> Option<Attempt> {
-        self.rest = self.rest.split_once(' ').map_or("", |(_, rest)| rest);
+        (self.before, self.rest) = self.rest.split_once(' ').unwrap_or((self.rest, ""));
         Some(self)
     }
 
+    /// What the next number is the number of, where that has names.
+    fn sort(&self) -> Option<&'static str> {
+        sort_of(self.part()?, self.record.kind(), self.before)
+    }
+
+    /// A token's number, or that of its name.
+    fn number(&self, token: Token, last: u64, names: &Names) -> Option<u64> {
+        let named = || names.number(self.sort()?, unquoted(token.text)?);
+        let number = token.number().or_else(|| named().map(u64::from))?;
+        (number <= last).then_some(number)
+    }
+
     /// The attempt with one token more, if its pattern goes on so.
-    fn step(mut self, token: Token) -> Option<Attempt> {
+    fn step(mut self, token: Token, names: &Names) -> Option<Attempt> {
         match self.part()? {
             Part::Word("times") if token.text == "time" => self.next(),
             Part::Word(word) => (word == token.text).then(|| self.next())?,
             Part::Number(field, _) => {
-                let number = token.number_up_to(field.last())?;
+                let number = self.number(token, field.last(), names)?;
                 self.record = field.put(self.record, number);
                 self.next()
             }
@@ -136,7 +160,7 @@ impl Attempt {
                 Some(self)
             }
             Part::Set => {
-                let member = token.number_up_to(63)? as u8;
+                let member = self.number(token, 63, names)? as u8;
                 let m = Set(self.record.m());
                 (!m.has(member)).then_some(())?;
                 self.record = Field::M.put(self.record, Set::EMPTY.with(member).0);
@@ -161,8 +185,8 @@ impl Attempt {
         }
     }
 
-    /// What may stand next.
-    fn expected(&self) -> Vec<String> {
+    /// What may stand next; a name too where there are names.
+    fn expected(&self, names: &Names) -> Vec<String> {
         let further = match self.part() {
             None => vec![],
             Some(Part::Word(word)) => vec![format!("\"{word}\"")],
@@ -177,8 +201,10 @@ impl Attempt {
             Some(Part::Bytes) if self.bytes.len() == LENGTH => vec![],
             Some(Part::Bytes) => vec!["a byte as two hexadecimal digits".to_string()],
         };
+        let sort = self.sort().filter(|_| !names.is_empty());
+        let name = sort.map(|sort| format!("the name of a known {sort} in quotes"));
         let end = self.complete().then(|| END.to_string());
-        further.into_iter().chain(end).collect()
+        further.into_iter().chain(name).chain(end).collect()
     }
 
     fn finish(self) -> Vec<u8> {
@@ -190,9 +216,9 @@ impl Attempt {
 }
 
 /// `a, b or c`, each once.
-fn either(attempts: &[Attempt]) -> String {
+fn either(attempts: &[Attempt], names: &Names) -> String {
     let mut all: Vec<String> = Vec::new();
-    for expected in attempts.iter().flat_map(Attempt::expected) {
+    for expected in attempts.iter().flat_map(|attempt| attempt.expected(names)) {
         if !all.contains(&expected) {
             all.push(expected);
         }
@@ -205,7 +231,7 @@ fn either(attempts: &[Attempt]) -> String {
 }
 
 /// One line's record, whole or cut; none for a line without words.
-fn read_line(number: usize, line: &str) -> Result<Option<Vec<u8>>, Error> {
+fn read_line(number: usize, line: &str, names: &Names) -> Result<Option<Vec<u8>>, Error> {
     let tokens = tokens(line);
     let Some(last) = tokens.last() else {
         return Ok(None);
@@ -213,12 +239,13 @@ fn read_line(number: usize, line: &str) -> Result<Option<Vec<u8>>, Error> {
     let error = |open: &[Attempt], column, found| Error {
         line: number,
         column,
-        expected: either(open),
+        expected: either(open, names),
         found,
     };
     let mut open: Vec<Attempt> = FORMS.into_iter().map(Attempt::new).collect();
     for &token in &tokens {
-        let on: Vec<Attempt> = open.iter().cloned().filter_map(|a| a.step(token)).collect();
+        let steps = open.iter().cloned().filter_map(|a| a.step(token, names));
+        let on: Vec<Attempt> = steps.collect();
         if on.is_empty() {
             let found = format!("\"{}\"", token.text);
             return Err(error(&open, token.column, found));
@@ -257,12 +284,17 @@ fn behind_a_cut_one(number: usize, line: &str) -> Error {
 /// The records of a text, each with the number of its line, from 1; or all that is wrong in the text. A byte order mark at its
 /// beginning is skipped. A cut record may only be the last.
 pub fn read_lines(text: &[u8]) -> Result<Vec<(usize, Vec<u8>)>, Vec<Error>> {
+    read_lines_named(text, &Names::default())
+}
+
+fn read_lines_named(text: &[u8], names: &Names) -> Result<Vec<(usize, Vec<u8>)>, Vec<Error>> {
     let text = text.strip_prefix(b"\xef\xbb\xbf").unwrap_or(text);
     let (mut records, mut errors) = (Vec::new(), Vec::new());
     let mut cut = false;
     for (before, line) in text.split(|&byte| byte == b'\n').enumerate() {
         let number = before + 1;
-        let read = decode(number, line).and_then(|line| Ok((line, read_line(number, line)?)));
+        let read =
+            decode(number, line).and_then(|line| Ok((line, read_line(number, line, names)?)));
         match read {
             Ok((_, None)) => {}
             Ok((line, Some(_))) if cut => {
@@ -285,6 +317,11 @@ pub fn read_lines(text: &[u8]) -> Result<Vec<(usize, Vec<u8>)>, Vec<Error>> {
 
 /// The bytes of a text's records, one line a record; or all that is wrong in the text.
 pub fn read(text: &[u8]) -> Result<Vec<u8>, Vec<Error>> {
-    let records = read_lines(text)?;
+    read_named(text, &Names::default())
+}
+
+/// The same where lines may have names.
+pub fn read_named(text: &[u8], names: &Names) -> Result<Vec<u8>, Vec<Error>> {
+    let records = read_lines_named(text, names)?;
     Ok(records.into_iter().flat_map(|(_, record)| record).collect())
 }

@@ -7,6 +7,7 @@ use lib.ListN.{length, getD, set}
 use lib.Seq.{ext-getD, getD-set-same, getD-set-other}
 use borrow.Author.Count.{below-none, below-more}
 use borrow.Author.Needs.{needs}
+use borrow.Author.Tests.{eq-eqb, ne-eqb}
 use Rattle.scripts.proofs.copy.Statement.{statement}
 use Rattle.scripts.proofs.copy.Tie as tie
 
@@ -26,7 +27,7 @@ one-more from to i l h =
     (getD-set-same to i (getD from i 0) 0 l)
 
 returns : tie.Need-returns Inv-loop μ-loop
-returns c = λ e. absurd (c .if1 .taken e)
+returns c = rw (ne-eqb _ _ (c .if1 .taken))
 
 loop-holds : tie.Need-loop-holds Inv-loop μ-loop
 loop-holds c = (search needs, (search needs, (search needs, below-none _)))
@@ -56,7 +57,7 @@ same-length : tie.Need-same-length Inv-loop μ-loop
 same-length c = search needs
 
 returns-2 : tie.Need-returns-2 Inv-loop μ-loop
-returns-2 c = λ _. ext-getD 0 _ _ (omega arith) (λ k l. c .before .loop .inv .1 .1 .1 k (omega arith))
+returns-2 c = rw (eq-eqb _ _ (c .before .before .if1 .left)) (ext-getD 0 _ _ (omega arith) (λ k l. c .before .loop .inv .1 .1 .1 k (omega arith)))
 
 pub copy-spec : {M : Type 1} → statement M
 copy-spec =

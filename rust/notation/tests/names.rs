@@ -1,0 +1,140 @@
+//! Names in the place of numbers: where they may stand, and how a wrong one is told.
+
+use notation::{explain_named, line_named, read_named, write_named, Names};
+use random::Random;
+use records::Record;
+use std::collections::BTreeSet;
+
+const SORTS: [&str; 7] = [
+    "user",
+    "role",
+    "permission",
+    "operation",
+    "object",
+    "task",
+    "template",
+];
+
+/// Each number up to 63 of each sort has a name, some of them awkward.
+fn names() -> Names {
+    let mut names = Names::default();
+    for sort in SORTS {
+        for number in 0..64 {
+            let name = match number % 4 {
+                0 => format!("{sort}:{number}"),
+                1 => format!("{sort} # : {number}"),
+                2 => format!("C:\\{sort}\"{number}\""),
+                _ => format!("{number}"),
+            };
+            names.give(sort, number, name.as_bytes());
+        }
+    }
+    names
+}
+
+#[test]
+fn every_kind_is_read_back_with_its_names() {
+    let (names, mut random) = (names(), Random::new(3));
+    let mut named = BTreeSet::new();
+    for _ in 0..20_000 {
+        let kind = random.below(60) as u8;
+        let n = random.pick(&[0, 0, 1, 255]);
+        let [a, b, c] = [0; 3].map(|_| random.pick(&[0, 0, 0, 0, 0, 0, 1, 2, 3, 5, 63, 64, 700]));
+        let m = random.pick(&[0, 0, 0, 0, 1, 6, 0x2_0003, 1 << 63, u64::MAX]);
+        let record = Record::new(kind, n, a, b, c, m);
+        let text = write_named(&record.0, &names);
+        assert_eq!(
+            read_named(text.as_bytes(), &names).unwrap(),
+            record.0,
+            "{text}"
+        );
+        if text.contains('"') {
+            named.insert(kind);
+        }
+    }
+    let with_names = [1..=16, 32..=37, 40..=40, 42..=43, 48..=48, 50..=52, 56..=57];
+    assert_eq!(named, with_names.into_iter().flatten().collect());
+}
+
+#[test]
+fn a_name_stands_where_its_sort_is_meant() {
+    let names = names();
+    for (line, numbers) in [
+        ("user \"user:4\" has role \"3\"", "user 4 has role 3"),
+        ("task set 1 of \"task:4\" 7 \"3\"", "task set 1 of 3 4 7"),
+        (
+            "block of partitioning 0: \"task:4\"",
+            "block of partitioning 0: 4",
+        ),
+        (
+            "static set 1 of \"role:0\" \"role:8\"",
+            "static set 1 of 0 8",
+        ),
+        (
+            "create subject 5 for user \"user # : 1\" with roles \"role:4\"",
+            "create subject 5 for user 1 with roles 4",
+        ),
+        (
+            "task check 1 2 \"task:8\" operation \"operation:0\" object \"C:\\\\object\\\"2\\\"\"",
+            "task check 1 2 8 operation 0 object 2",
+        ),
+        (
+            "open order 0 of template \"template:8\" # \"",
+            "open order 0 of template 8",
+        ),
+    ] {
+        let record = read_named(line.as_bytes(), &names).unwrap();
+        assert_eq!(
+            record,
+            notation::read(numbers.as_bytes()).unwrap(),
+            "{line}"
+        );
+    }
+}
+
+#[test]
+fn a_wrong_name_is_told() {
+    let names = names();
+    for (line, message) in [
+        (
+            "claim 5 0 \"role:4\"",
+            "line 1, column 11: expected the task, a number up to 65535 or the name of a known task in quotes, \
+             found \"\"role:4\"\"",
+        ),
+        (
+            "claim \"user:4\" 0 1",
+            "line 1, column 7: expected the subject, a number up to 65535, found \"\"user:4\"\"",
+        ),
+        (
+            "user \"user:4",
+            "line 1, column 6: expected a number up to 65535 or the name of a known user in quotes, found \"\"user:4\"",
+        ),
+        (
+            "user é \"user:4\"",
+            "line 1, column 6: expected a number up to 65535 or the name of a known user in quotes, found \"é\"",
+        ),
+        (
+            "static set 1 of \"role:4\" 4",
+            "line 1, column 26: expected a number up to 63 not named before, the name of a known role in quotes \
+             or the end of the line, found \"4\"",
+        ),
+    ] {
+        let errors = read_named(line.as_bytes(), &names).unwrap_err();
+        assert_eq!(errors[0].to_string(), message);
+    }
+    let errors = notation::read(b"user \"user:4\"").unwrap_err();
+    let message = "line 1, column 6: expected a number up to 65535, found \"\"user:4\"\"";
+    assert_eq!(errors[0].to_string(), message);
+}
+
+#[test]
+fn a_listing_shows_names() {
+    let names = names();
+    let policy = Record::user_has_role(4, 0);
+    let said = explain_named(Some(&policy.0), &[], "load 4 1\n", &names).unwrap();
+    assert_eq!(
+        said,
+        "load 4 UNKNOWN at record 1: user \"user:4\" has role \"role:0\"\n"
+    );
+    assert_eq!(line_named(&Record::user(700).0, &names), "user 700");
+}
