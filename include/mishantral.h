@@ -33,7 +33,7 @@ extern "C" {
 /* How many 64-bit words each buffer has, where a constant is wanted: uint64_t policy[MISHANTRAL_POLICY_WORDS]. The
  * library that is linked tells its own by mishantral_words; with another length than that it answers ROOM. */
 #define MISHANTRAL_POLICY_WORDS 4504
-#define MISHANTRAL_SESSIONS_WORDS 256
+#define MISHANTRAL_SESSIONS_WORDS 384
 #define MISHANTRAL_ORDERS_WORDS 2113
 
 /* The last number of each thing: users are 0 to MISHANTRAL_LAST_USER, and so on. */

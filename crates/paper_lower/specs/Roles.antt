@@ -14,9 +14,18 @@ use Rattle.paper_lower.specs.Policy.{breaks, assignChecks, assignNext, g
 unfoldable pub subjectOf : Sessions → ℕ → ℕ → Bool
 subjectOf s u k = s .live k && eqb (s .user k) u
 
--- "active at a time, over all the user's subjects together"
+-- the roles that a column has for the live subjects of user u, together
+unfoldable pub ofSubjects : Sessions → (ℕ → Set) → ℕ → Set
+ofSubjects s roles u = unionBelow 128 (λ k. cond (subjectOf s u k) (roles k) empty)
+
+-- the roles that are active in a subject of the user
 unfoldable pub activeOf : Sessions → ℕ → Set
-activeOf s u = unionBelow 128 (λ k. cond (subjectOf s u k) (s .active k) empty)
+activeOf s u = ofSubjects s (s .active) u
+
+-- What a dynamic set counts: "active at a time, over all the user's subjects together". Amended by 02, Ask 5: "Each subject's record keeps every
+-- role it has had active; a dynamic set counts the union over the user's live subjects."
+unfoldable pub countedOf : Sessions → ℕ → Set
+countedOf s u = ofSubjects s (s .had) u
 
 -- ---- "32 add user a." Amended by 02, Ask 1: "kind 32 now takes roles in m, and all of it happens or nothing. m = 0 does what it did."
 -- "UNKNOWN for an undeclared role in m, STATIC for the whole set, in the old order."
@@ -73,5 +82,5 @@ roleKinds =
 
 -- What this page defines, opened together where a case is computed.
 unfoldable pub rolesOpen : Unit {0}
-unfolding subjectOf activeOf joinChecks joinNext deleteChecks deleteNext takeBackChecks takeBackNext withdrawChecks withdrawNext roleKinds
+unfolding subjectOf ofSubjects activeOf countedOf joinChecks joinNext deleteChecks deleteNext takeBackChecks takeBackNext withdrawChecks withdrawNext roleKinds
 rolesOpen = tt

@@ -26,7 +26,10 @@ samples =
     ∷ refuses (user 300 ∷ role 0 ∷ role 1 ∷ userHas 300 0 ∷ userHas 300 1 ∷ staticSet 1 3 ∷ []) STATIC 6
     -- a dynamic set counts the union over the user's subjects
     ∷ accepts (user 300 ∷ user 44 ∷ role 0 ∷ role 63 ∷ userHas 300 0 ∷ userHas 300 63 ∷ userHas 44 63 ∷ dynamicSet 1 (1 + 2 ^ 63) ∷ [])
-    (create 5 300 1 ⇒ GRANTED ∷ create 6 44 (2 ^ 63) ⇒ GRANTED ∷ create 7 300 (2 ^ 63) ⇒ DYNAMIC ∷ create 7 300 1 ⇒ GRANTED ∷ activate 7 63 ⇒ DYNAMIC ∷ takeBack 300 0 ⇒ IN-USE ∷ deactivate 5 0 ⇒ GRANTED ∷ destroy 7 ⇒ GRANTED ∷ takeBack 300 0 ⇒ GRANTED ∷ activate 5 63 ⇒ GRANTED ∷ [])
+    (create 5 300 1 ⇒ GRANTED ∷ create 6 44 (2 ^ 63) ⇒ GRANTED ∷ create 7 300 (2 ^ 63) ⇒ DYNAMIC ∷ create 7 300 1 ⇒ GRANTED ∷ activate 7 63 ⇒ DYNAMIC ∷ takeBack 300 0 ⇒ IN-USE ∷ deactivate 5 0 ⇒ GRANTED ∷ destroy 7 ⇒ GRANTED ∷ takeBack 300 0 ⇒ GRANTED ∷ activate 5 63 ⇒ DYNAMIC ∷ destroy 5 ⇒ GRANTED ∷ create 5 300 (2 ^ 63) ⇒ GRANTED ∷ [])
+    -- one after the other in one session, and over two of one clerk: what a subject has had counts until it is destroyed
+    ∷ accepts (user 300 ∷ role 0 ∷ role 1 ∷ userHas 300 0 ∷ userHas 300 1 ∷ dynamicSet 1 3 ∷ [])
+    (create 5 300 1 ⇒ GRANTED ∷ deactivate 5 0 ⇒ GRANTED ∷ deactivate 5 0 ⇒ UNKNOWN ∷ activate 5 1 ⇒ DYNAMIC ∷ create 6 300 0 ⇒ GRANTED ∷ activate 6 1 ⇒ DYNAMIC ∷ create 7 300 2 ⇒ DYNAMIC ∷ activate 5 0 ⇒ GRANTED ∷ activate 5 0 ⇒ TAKEN ∷ deactivate 5 0 ⇒ GRANTED ∷ takeBack 300 0 ⇒ GRANTED ∷ activate 6 1 ⇒ DYNAMIC ∷ destroy 5 ⇒ GRANTED ∷ activate 6 1 ⇒ GRANTED ∷ [])
     -- the first refusal in the order of the numbers
     ∷ accepts (user 300 ∷ role 0 ∷ role 1 ∷ userHas 300 0 ∷ [])
     (create 5 300 1 ⇒ GRANTED ∷ create 5 300 4 ⇒ UNKNOWN ∷ create 5 300 2 ⇒ TAKEN ∷ create 6 300 2 ⇒ NOT-ASSIGNED ∷ activate 5 0 ⇒ TAKEN ∷ activate 5 1 ⇒ NOT-ASSIGNED ∷ deactivate 5 1 ⇒ UNKNOWN ∷ deleteUser 300 ⇒ IN-USE ∷ destroy 5 ⇒ GRANTED ∷ destroy 5 ⇒ UNKNOWN ∷ deleteUser 300 ⇒ GRANTED ∷ addUser 300 ⇒ GRANTED ∷ create 5 300 1 ⇒ NOT-ASSIGNED ∷ [])

@@ -8,10 +8,10 @@ use Rattle.paper_lower.specs.Checks.{Check, UNKNOWN, TAKEN, NOT-ASSIGNED
 use Rattle.paper_lower.specs.Records.{Bytes, recordsOpen}
 use Rattle.paper_lower.specs.Forms.{lowerForms, formsOpen}
 use Rattle.paper_lower.specs.Kinds.{Kind, on, Answer, answer, kindsOpen}
-use Rattle.paper_lower.specs.Tables.{Permissions, Policy, Sessions, Lower, noSessions, withSessions, withActive}
+use Rattle.paper_lower.specs.Tables.{Permissions, Policy, Sessions, Lower, noSessions, withSessions, withActive, withHad}
 use Rattle.paper_lower.specs.Policy.{breaks, isFor, policyOpen}
 use Rattle.paper_lower.specs.Load.{loadOpen}
-use Rattle.paper_lower.specs.Roles.{activeOf, roleKinds, rolesOpen}
+use Rattle.paper_lower.specs.Roles.{countedOf, roleKinds, rolesOpen}
 
 -- ---- "40 create subject a for user b with active roles m."
 unfoldable pub createChecks : Lower → ℕ → ℕ → Set → List Check
@@ -19,18 +19,19 @@ createChecks t a b m =
     (not (t .policy .people .users b) || not (within m (t .policy .people .roles)), UNKNOWN)
     ∷ (t .sessions .live a, TAKEN)
     ∷ (not (within m (t .policy .people .assigned b)), NOT-ASSIGNED)
-    ∷ (some (breaks (union (activeOf (t .sessions) b) m)) (t .policy .rules .dynamics), DYNAMIC)
+    ∷ (some (breaks (union (countedOf (t .sessions) b) m)) (t .policy .rules .dynamics), DYNAMIC)
     ∷ []
 
 unfoldable pub createNext : Sessions → ℕ → ℕ → Set → Sessions
-createNext s a b m = record { live = upd (s .live) a true; user = upd (s .user) a b; active = upd (s .active) a m }
+createNext s a b m = record { live = upd (s .live) a true; user = upd (s .user) a b; active = upd (s .active) a m; had = upd (s .had) a m }
 
 -- ---- "41 destroy subject a." (IN USE, while it holds a task, is judged above.)
 unfoldable pub destroyChecks : Lower → ℕ → List Check
 destroyChecks t a = (not (t .sessions .live a), UNKNOWN) ∷ []
 
 unfoldable pub destroyNext : Sessions → ℕ → Sessions
-destroyNext s a = record { live = upd (s .live) a false; user = upd (s .user) a 0; active = upd (s .active) a empty }
+destroyNext s a =
+    record { live = upd (s .live) a false; user = upd (s .user) a 0; active = upd (s .active) a empty; had = upd (s .had) a empty }
 
 -- ---- "42 activate role b in subject a."
 unfoldable pub activateChecks : Lower → ℕ → ℕ → List Check
@@ -38,13 +39,13 @@ activateChecks t a b =
     (not (t .sessions .live a) || not (has (t .policy .people .roles) b), UNKNOWN)
     ∷ (has (t .sessions .active a) b, TAKEN)
     ∷ (not (has (t .policy .people .assigned (t .sessions .user a)) b), NOT-ASSIGNED)
-    ∷ (some (breaks (plus (activeOf (t .sessions) (t .sessions .user a)) b)) (t .policy .rules .dynamics), DYNAMIC)
+    ∷ (some (breaks (plus (countedOf (t .sessions) (t .sessions .user a)) b)) (t .policy .rules .dynamics), DYNAMIC)
     ∷ []
 
 unfoldable pub activateNext : Sessions → ℕ → ℕ → Sessions
-activateNext s a b = withActive s (upd (s .active) a (plus (s .active a) b))
+activateNext s a b = withHad (withActive s (upd (s .active) a (plus (s .active a) b))) (upd (s .had) a (plus (s .had a) b))
 
--- ---- "43 deactivate it."
+-- ---- "43 deactivate it." "Deactivating no longer helps": what the subject has had stays.
 unfoldable pub deactivateChecks : Lower → ℕ → ℕ → List Check
 deactivateChecks t a b =
     (not (t .sessions .live a) || not (has (t .policy .people .roles) b) || not (has (t .sessions .active a) b), UNKNOWN)

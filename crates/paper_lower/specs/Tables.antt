@@ -61,11 +61,12 @@ pub record Policy : Type 0 where
   pub tasks : Tasks
   pub rules : Rules
 
--- ---- Sessions: the live subjects, the user of each, and its active roles.
+-- ---- Sessions: the live subjects, the user of each, its active roles, and every role that it has had active (02, Ask 5).
 pub record Sessions : Type 0 where
   pub live : ℕ → Bool
   pub user : ℕ → ℕ
   pub active : ℕ → Set
+  pub had : ℕ → Set
 
 pub record Lower : Type 0 where
   pub policy : Policy
@@ -82,7 +83,7 @@ noPolicy =
     }
 
 unfoldable pub noSessions : Sessions
-noSessions = record { live = λ _. false; user = λ _. 0; active = λ _. empty }
+noSessions = record { live = λ _. false; user = λ _. 0; active = λ _. empty; had = λ _. empty }
 
 -- ---- The tables with one of them anew.
 abbrev pub withPeople : Policy → People → Policy
@@ -110,7 +111,10 @@ abbrev pub withHolders : Permissions → (ℕ → Set) → Permissions
 withHolders p x = record { declared = p .declared; holders = x; carriers = p .carriers }
 
 abbrev pub withActive : Sessions → (ℕ → Set) → Sessions
-withActive s x = record { live = s .live; user = s .user; active = x }
+withActive s x = record { live = s .live; user = s .user; active = x; had = s .had }
+
+abbrev pub withHad : Sessions → (ℕ → Set) → Sessions
+withHad s x = record { live = s .live; user = s .user; active = s .active; had = x }
 
 abbrev pub withStatics : Rules → List Limit → Rules
 withStatics k x = record { statics = x; dynamics = k .dynamics; taskSets = k .taskSets; blocks = k .blocks; bindings = k .bindings; befores = k .befores }

@@ -124,7 +124,7 @@ countLimit =
 unfoldable pub twoSubjects : Case
 twoSubjects =
     accepts (user 300 ∷ role 0 ∷ role 1 ∷ role 63 ∷ userHas 300 0 ∷ userHas 300 1 ∷ userHas 300 63 ∷ dynamicSet 1 (1 + 2 ^ 63) ∷ [])
-    (create 5 300 1 ⇒ GRANTED ∷ create 6 300 (2 ^ 63) ⇒ DYNAMIC ∷ create 6 300 3 ⇒ GRANTED ∷ activate 6 63 ⇒ DYNAMIC ∷ deactivate 5 0 ⇒ GRANTED ∷ activate 6 63 ⇒ DYNAMIC ∷ deactivate 6 0 ⇒ GRANTED ∷ activate 6 63 ⇒ GRANTED ∷ [])
+    (create 5 300 1 ⇒ GRANTED ∷ create 6 300 (2 ^ 63) ⇒ DYNAMIC ∷ create 6 300 3 ⇒ GRANTED ∷ activate 6 63 ⇒ DYNAMIC ∷ deactivate 5 0 ⇒ GRANTED ∷ activate 6 63 ⇒ DYNAMIC ∷ deactivate 6 0 ⇒ GRANTED ∷ activate 6 63 ⇒ DYNAMIC ∷ destroy 5 ⇒ GRANTED ∷ activate 6 63 ⇒ DYNAMIC ∷ destroy 6 ⇒ GRANTED ∷ create 6 300 (2 ^ 63) ⇒ GRANTED ∷ [])
 
 -- ---- Beside the P cases: what wrong definitions would let pass.
 unfoldable pub beside : List Case

@@ -1,2 +1,2 @@
 pub mod SessionLaws
-mod StoreLaws
+pub mod StoreLaws

@@ -2,11 +2,12 @@
 use Prim.Native.Nat.{ℕ, _+_, _<_, _/_, _%_}
 use mathlib.Core.Bool.{false}
 use mathlib.Core.List.{List}
-use mathlib.Core.Path.{_≡_, _∙_}
+use mathlib.Core.Path.{_≡_, ap₂, _∙_}
 use native.Mathlib.Nat.{zero-add}
 use native.Mathlib.Omega.{arith}
 use lib.Dec.{eqb}
 use lib.ListN.{getD}
+use Rattle.paper_lower.specs.Sets.{union}
 use Rattle.paper_lower.specs.Roles.{subjectOf}
 use Rattle.replies.proofs.CellLaws.{column-at, two-parts}
 use Rattle.sessions.specs.Reading.{sessionsOf, liveIn, userIn, same}
@@ -23,6 +24,10 @@ module _ (l : List ℕ) (a : ℕ) (h : a < 128) where
   pub active-at : sessionsOf l .active a ≡ getD l (128 + a) 0
   unfolding sessionsOf
   active-at = column-at same 0 128 128 l a h
+
+  pub had-at : sessionsOf l .had a ≡ union (getD l (256 + a) 0) (getD l (128 + a) 0)
+  unfolding sessionsOf
+  had-at = ap₂ union (column-at same 0 256 128 l a h) (column-at same 0 128 128 l a h)
 
   pub of-user-at : (u : ℕ) → u < 1024 → eqb (getD l a 0 % 2048) (1024 + u) ≡ subjectOf (sessionsOf l) u a
   unfolding subjectOf

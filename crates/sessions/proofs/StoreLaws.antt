@@ -1,65 +1,138 @@
 -- What a store to the sessions buffer does to the sessions, and the buffer of zeros.
 use Prim.Native.Nat.{ℕ, _+_, _<_, _≤_, _/_, _%_}
-use mathlib.Core.Bool.{false}
+use mathlib.Core.Bool.{Bool, true, false, cond}
 use mathlib.Core.List.{List, _++_, append-nil}
-use mathlib.Core.Path.{_≡_, ap, _∙_}
+use mathlib.Core.Path.{_≡_, refl, sym, ap, ap₂, _∙_}
 use native.Mathlib.Nat.{zero-add}
 use native.Mathlib.Omega.{arith}
+use borrow.Author.Tests.{eqb-true}
+use lib.Dec.{eqb}
 use lib.ListN.{length, set, replicate, drop, length-set, drop-of-length-le}
+use Rattle.paper_lower.specs.Sets.{Set, plus, minus, union}
 use Rattle.paper_lower.specs.Lists.{upd}
-use Rattle.paper_lower.specs.Tables.{Sessions, noSessions, withActive}
-use Rattle.paper_lower.specs.Sessions.{createNext, destroyNext}
+use Rattle.paper_lower.specs.Tables.{Sessions, noSessions, withActive, withHad}
+use Rattle.paper_lower.specs.Sessions.{createNext, destroyNext, activateNext, deactivateNext}
+use Rattle.replies.specs.Cells.{column}
 use Rattle.replies.proofs.CellLaws.{column-same, column-below, column-above, column-zeros, zeros-at}
-use Rattle.sessions.specs.Reading.{sessionsWords, sessionsOf, liveIn, userIn, same, Cleared}
+use Rattle.sets.proofs.SetLaws.{Part, part-refl, part-trans, part-same, part-plus, part-minus, part-left, part-right, part-union}
+use Rattle.sessions.specs.Reading.{sessionsWords, sessionsOf, rolesAnew, liveIn, userIn, same, Cleared}
 
+-- ---- sets and rows
+absorbs : (h m : Set) → Part m h → union h m ≡ h
+absorbs h m p = part-same _ _ (part-union h m h (part-refl h) p) (part-left h m)
+
+-- the union of two columns; and of two with a row anew each
+abbrev together : (ℕ → Set) → (ℕ → Set) → ℕ → Set
+together f g k = union (f k) (g k)
+
+both-rows : (f g : ℕ → Set) (a x y : ℕ) → together (upd f a x) (upd g a y) ≡ upd (together f g) a (union x y)
+unfolding upd
+both-rows f g a x y = λ i k. go k (eqb k a) i
+  where
+    go : (k : ℕ) (b : Bool) → union (cond b x (f k)) (cond b y (g k)) ≡ cond b (union x y) (union (f k) (g k))
+    go k true = refl
+    go k false = refl
+
+row-kept : (f : ℕ → Set) (a : ℕ) → upd f a (f a) ≡ f
+unfolding upd
+row-kept f a = λ i k. go k (eqb k a) refl i
+  where
+    go : (k : ℕ) (b : Bool) → eqb k a ≡ b → cond b (f a) (f k) ≡ f k
+    go k true e = ap f (sym (eqb-true k a e))
+    go k false e = refl
+
+-- ---- stores
 -- the sessions with subject a's row anew
-abbrev rowAnew : Sessions → ℕ → ℕ → ℕ → Sessions
-rowAnew s a w m = record { live = upd (s .live) a (liveIn w); user = upd (s .user) a (userIn w); active = upd (s .active) a m }
+abbrev rowAnew : Sessions → ℕ → ℕ → ℕ → ℕ → Sessions
+rowAnew s a w m h =
+    record { live = upd (s .live) a (liveIn w); user = upd (s .user) a (userIn w); active = upd (s .active) a m; had = upd (s .had) a (union h m) }
 
-module _ (l : List ℕ) (room : length l ≡ sessionsWords) (a : ℕ) (h : a < 128) where
-  pub active-set : (m : ℕ) → sessionsOf (set l (128 + a) m) ≡ withActive (sessionsOf l) (upd (sessionsOf l .active) a m)
+module _ (l : List ℕ) (room : length l ≡ sessionsWords) (a : ℕ) (b : a < 128) where
+  pub roles-set : (m h : ℕ) → sessionsOf (set (set l (128 + a) m) (256 + a) h) ≡ rolesAnew (sessionsOf l) a m h
   unfolding sessionsOf
-  active-set m = λ x. record {
-    live = column-above liveIn false 0 128 l (128 + a) m (omega arith) x;
-    user = column-above userIn 0 0 128 l (128 + a) m (omega arith) x;
-    active = column-same same 0 128 128 l a m h (omega arith) x;
-  }
+  roles-set m h =
+      let l₁ = set l (128 + a) m in
+      let next : length l₁ ≡ sessionsWords = rw length-set room in
+      let active = column-above same 0 128 128 l₁ (256 + a) h (omega arith) ∙ column-same same 0 128 128 l a m b (omega arith) in
+      let had =
+      column-same same 0 256 128 l₁ a h b (omega arith)
+      ∙ ap (λ (f : ℕ → ℕ). upd f a h) (column-below same 0 256 128 l (128 + a) m (omega arith)) in
+      λ x. record {
+        live = (column-above liveIn false 0 128 l₁ (256 + a) h (omega arith) ∙ column-above liveIn false 0 128 l (128 + a) m (omega arith)) x;
+        user = (column-above userIn 0 0 128 l₁ (256 + a) h (omega arith) ∙ column-above userIn 0 0 128 l (128 + a) m (omega arith)) x;
+        active = active x;
+        had = (ap₂ together had active ∙ both-rows (column same 0 256 128 l) (column same 0 128 128 l) a h m) x;
+      }
 
-  subject-set : (w : ℕ) → sessionsOf (set l (0 + a) w) ≡ record { live = upd (sessionsOf l .live) a (liveIn w); user = upd (sessionsOf l .user) a (userIn w); active = sessionsOf l .active }
+  subject-set : (w : ℕ) → sessionsOf (set l (0 + a) w)
+      ≡ record { live = upd (sessionsOf l .live) a (liveIn w); user = upd (sessionsOf l .user) a (userIn w); active = sessionsOf l .active; had = sessionsOf l .had }
   unfolding sessionsOf
-  subject-set w = λ x. record {
-    live = column-same liveIn false 0 128 l a w h (omega arith) x;
-    user = column-same userIn 0 0 128 l a w h (omega arith) x;
-    active = column-below same 0 128 128 l (0 + a) w (omega arith) x;
-  }
+  subject-set w =
+      let active = column-below same 0 128 128 l (0 + a) w (omega arith) in
+      let had = column-below same 0 256 128 l (0 + a) w (omega arith) in
+      λ x. record {
+        live = column-same liveIn false 0 128 l a w b (omega arith) x;
+        user = column-same userIn 0 0 128 l a w b (omega arith) x;
+        active = active x;
+        had = ap₂ together had active x;
+      }
 
-pub row-set : (l : List ℕ) → length l ≡ sessionsWords → (a : ℕ) → a < 128 → (w m : ℕ) → sessionsOf (set (set l a w) (128 + a) m) ≡ rowAnew (sessionsOf l) a w m
-row-set l room a h w m =
+row-set : (l : List ℕ) → length l ≡ sessionsWords → (a : ℕ) → a < 128 → (w m h : ℕ)
+    → sessionsOf (set (set (set l a w) (128 + a) m) (256 + a) h) ≡ rowAnew (sessionsOf l) a w m h
+row-set l room a b w m h =
     let next : length (set l a w) ≡ sessionsWords = rw length-set room in
-    let stored = rw zero-add at (subject-set l room a h w) in
-    active-set (set l a w) next a h m ∙ ap (λ s. withActive s (upd (s .active) a m)) stored
+    let stored = rw zero-add at (subject-set l room a b w) in
+    roles-set (set l a w) next a b m h ∙ ap (λ s. rolesAnew s a m h) stored
 
-pub create-set : (l : List ℕ) → length l ≡ sessionsWords → (a : ℕ) → a < 128 → (u m : ℕ) → u < 1024 → sessionsOf (set (set l a (1024 + u)) (128 + a) m) ≡ createNext (sessionsOf l) a u m
+pub create-set : (l : List ℕ) → length l ≡ sessionsWords → (a : ℕ) → a < 128 → (u m : ℕ) → u < 1024
+    → sessionsOf (set (set (set l a (1024 + u)) (128 + a) m) (256 + a) m) ≡ createNext (sessionsOf l) a u m
 unfolding createNext
-create-set l room a h u m k =
+create-set l room a b u m k =
     let bit : (1024 + u) / 1024 ≡ 1 = omega arith in
     let low : (1024 + u) % 1024 ≡ u = omega arith in
-    row-set l room a h (1024 + u) m ∙ simp (bit, low)
+    row-set l room a b (1024 + u) m m ∙ simp (bit, low, absorbs m m (part-refl m))
 
-pub destroy-set : (l : List ℕ) → length l ≡ sessionsWords → (a : ℕ) → a < 128 → sessionsOf (set (set l a 0) (128 + a) 0) ≡ destroyNext (sessionsOf l) a
+pub destroy-set : (l : List ℕ) → length l ≡ sessionsWords → (a : ℕ) → a < 128
+    → sessionsOf (set (set (set l a 0) (128 + a) 0) (256 + a) 0) ≡ destroyNext (sessionsOf l) a
 unfolding destroyNext
-destroy-set l room a h = row-set l room a h 0 0
+destroy-set l room a b = row-set l room a b 0 0 0 ∙ simp (absorbs 0 0 (part-refl 0))
 
--- zeros stored from the front, past the last word
+-- ---- one role more, one role less: what is active belongs to what the subject has had
+had-more : (l : List ℕ) (a : ℕ) → Part (sessionsOf l .active a) (sessionsOf l .had a)
+unfolding sessionsOf
+had-more l a = part-right _ _
+
+pub activated : (l : List ℕ) (a r : ℕ)
+    → rolesAnew (sessionsOf l) a (plus (sessionsOf l .active a) r) (plus (sessionsOf l .had a) r) ≡ activateNext (sessionsOf l) a r
+unfolding activateNext
+activated l a r =
+    ap (λ (m : Set). withHad (withActive (sessionsOf l) (upd (sessionsOf l .active) a (plus (sessionsOf l .active a) r))) (upd (sessionsOf l .had) a m))
+    (absorbs _ _ (part-plus _ _ r (had-more l a)))
+
+pub deactivated : (l : List ℕ) (a r : ℕ)
+    → rolesAnew (sessionsOf l) a (minus (sessionsOf l .active a) r) (sessionsOf l .had a) ≡ deactivateNext (sessionsOf l) a r
+unfolding deactivateNext
+deactivated l a r =
+    ap (λ (f : ℕ → Set). withHad (withActive (sessionsOf l) (upd (sessionsOf l .active) a (minus (sessionsOf l .active a) r))) f)
+    (ap (λ (m : Set). upd (sessionsOf l .had) a m) (absorbs _ _ (part-trans _ _ _ (part-minus (sessionsOf l .active a) r) (had-more l a)))
+    ∙ row-kept (sessionsOf l .had) a)
+
+abbrev everywhere : Set → ℕ → Set
+everywhere m k = m
+
+-- ---- zeros stored from the front, past the last word
 pub filled : (l l₀ : List ℕ) (n : ℕ) → length l₀ ≤ n → length l ≡ sessionsWords → l ≡ replicate n 0 ++ drop n l₀ → Cleared l
 unfolding sessionsOf noSessions
 filled l l₀ n h room e =
     let z : l ≡ replicate n 0 = e ∙ rw (drop-of-length-le l₀ h) (append-nil (replicate n 0)) in
+    let active = column-zeros same 128 128 n in
+    let had = column-zeros same 256 128 n in
     record {
       tables = rw z (λ x. record {
         live = column-zeros liveIn 0 128 n x;
         user = column-zeros userIn 0 128 n x;
-        active = column-zeros same 128 128 n x;
+        active = active x;
+        had = (ap₂ together had active ∙ ap everywhere (absorbs 0 0 (part-refl 0))) x;
       });
       words = room;
       zeros = λ i. rw z (zeros-at n i);

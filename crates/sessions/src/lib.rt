@@ -1,22 +1,24 @@
-// The sessions buffer: each subject's user and active roles, and what a user has active over all subjects.
+// The sessions buffer: each subject's user, active roles and all roles that it has had active, and what a user has over all subjects.
 ghost use mathlib.Core.Path.{_≡_};
 ghost use mathlib.Core.Bool.{cond};
 ghost use Prim.Native.Nat.{_<_};
 ghost use lib.ListN.{length};
 ghost use Rattle.paper_lower.specs.Sets.{empty};
-ghost use Rattle.paper_lower.specs.Lists.{someBelow, upd};
-ghost use Rattle.paper_lower.specs.Tables.{withActive};
-ghost use Rattle.paper_lower.specs.Roles.{subjectOf, activeOf};
+ghost use Rattle.paper_lower.specs.Lists.{someBelow};
+ghost use Rattle.paper_lower.specs.Roles.{subjectOf, activeOf, countedOf};
 ghost use Rattle.paper_lower.specs.Sessions.{createNext, destroyNext};
-ghost use Rattle.sessions.specs.Reading.{sessionsWords, sessionsOf, Cleared};
+ghost use Rattle.sessions.specs.Reading.{sessionsWords, sessionsOf, rolesAnew, Cleared};
 use sets::Set;
 
-// The length of the buffer in words. Its subjects have a word each from the start on: live, and the user. Their active roles stand from ACTIVE on.
-pub const SESSIONS_WORDS: usize = 256;
+// The length of the buffer in words. Its subjects have a word each from the start on: live, and the user. Their active roles stand from
+// ACTIVE on, the roles that they have had active from HAD on.
+pub const SESSIONS_WORDS: usize = 384;
 
 const SUBJECTS: usize = 128;
 
 const ACTIVE: usize = 128;
+
+const HAD: usize = 256;
 
 pub fn live(s: &[u64], a: usize) -> bool
     requires { ⌜ (length (now s) ≡ sessionsWords) × (a < 128) ⌝ }
@@ -41,6 +43,15 @@ pub fn active(s: &[u64], a: usize) -> Set
     }
 }
 
+// The roles that subject a has had active. Those that are active belong to them, whatever the word says.
+pub fn had(s: &[u64], a: usize) -> Set
+    requires { ⌜ (length (now s) ≡ sessionsWords) × (a < 128) ⌝ }
+    ensures { λ r. ⌜ r .bits ≡ sessionsOf (now (s .entry)) .had a ⌝ }
+{
+    let word = Set { bits: s[HAD + a] };
+    word.union(active(s, a))
+}
+
 // Whether subject a is a live one of user u: one compare of the word.
 fn of_user(s: &[u64], u: u64, a: usize) -> bool
     requires { ⌜ (length (now s) ≡ sessionsWords) × ((u < 1024) × (a < 128)) ⌝ }
@@ -55,6 +66,7 @@ pub fn create(s: &mut [u64], a: usize, u: u64, roles: Set)
 {
     s[a] = 1024 + u;
     s[ACTIVE + a] = roles.bits;
+    s[HAD + a] = roles.bits;
 }
 
 pub fn destroy(s: &mut [u64], a: usize)
@@ -63,13 +75,16 @@ pub fn destroy(s: &mut [u64], a: usize)
 {
     s[a] = 0;
     s[ACTIVE + a] = 0;
+    s[HAD + a] = 0;
 }
 
-pub fn set_active(s: &mut [u64], a: usize, roles: Set)
+// The subject's active roles, and those that it has had.
+pub fn set_roles(s: &mut [u64], a: usize, active: Set, had: Set)
     requires { ⌜ (length (now s) ≡ sessionsWords) × (a < 128) ⌝ }
-    ensures { λ _. ⌜ sessionsOf (now (s .exit)) ≡ withActive (sessionsOf (now (s .entry))) (upd (sessionsOf (now (s .entry)) .active) a (roles .bits)) ⌝ }
+    ensures { λ _. ⌜ sessionsOf (now (s .exit)) ≡ rolesAnew (sessionsOf (now (s .entry))) a (active .bits) (had .bits) ⌝ }
 {
-    s[ACTIVE + a] = roles.bits;
+    s[ACTIVE + a] = active.bits;
+    s[HAD + a] = had.bits;
 }
 
 // Whether user u has a live subject.
@@ -87,8 +102,8 @@ pub fn has_subject(s: &[u64], u: u64) -> bool
     false
 }
 
-// The roles of subject a where it is a live one of user u, else none: both words are read before the choice.
-fn roles_in(s: &[u64], u: u64, a: usize) -> Set
+// The active roles of subject a where it is a live one of user u, else none: both words are read before the choice.
+fn active_in(s: &[u64], u: u64, a: usize) -> Set
     requires { ⌜ (length (now s) ≡ sessionsWords) × ((u < 1024) × (a < 128)) ⌝ }
     ensures { λ r. ⌜ r .bits ≡ cond (subjectOf (sessionsOf (now (s .entry))) u a) (sessionsOf (now (s .entry)) .active a) empty ⌝ }
 {
@@ -104,7 +119,31 @@ pub fn active_of(s: &[u64], u: u64) -> Set
     let mut all = Set::EMPTY;
     let mut a = 0;
     while a < SUBJECTS {
-        let roles = roles_in(s, u, a);
+        let roles = active_in(s, u, a);
+        all = all.union(roles);
+        a += 1;
+    }
+    all
+}
+
+// The roles that subject a has had where it is a live one of user u, else none.
+fn had_in(s: &[u64], u: u64, a: usize) -> Set
+    requires { ⌜ (length (now s) ≡ sessionsWords) × ((u < 1024) × (a < 128)) ⌝ }
+    ensures { λ r. ⌜ r .bits ≡ cond (subjectOf (sessionsOf (now (s .entry))) u a) (sessionsOf (now (s .entry)) .had a) empty ⌝ }
+{
+    let roles = had(s, a);
+    if of_user(s, u, a) { roles } else { Set::EMPTY }
+}
+
+// The roles that a user's subjects have had active, which is what a dynamic set counts.
+pub fn counted_of(s: &[u64], u: u64) -> Set
+    requires { ⌜ (length (now s) ≡ sessionsWords) × (u < 1024) ⌝ }
+    ensures { λ r. ⌜ r .bits ≡ countedOf (sessionsOf (now (s .entry))) u ⌝ }
+{
+    let mut all = Set::EMPTY;
+    let mut a = 0;
+    while a < SUBJECTS {
+        let roles = had_in(s, u, a);
         all = all.union(roles);
         a += 1;
     }

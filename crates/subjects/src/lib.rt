@@ -28,7 +28,7 @@ fn create_reply(p: &[u64], s: &[u64], a: u64, b: u64, m: Set) -> Reply
     if !m.within(policy::assigned(p, b as usize)) {
         return Reply::NotAssigned;
     }
-    let all = sessions::active_of(s, b);
+    let all = sessions::counted_of(s, b);
     if questions::broken(p, DYNAMIC, all.union(m)) {
         return Reply::Dynamic;
     }
@@ -88,7 +88,7 @@ fn activate_reply(p: &[u64], s: &[u64], a: u64, b: u64) -> Reply
     if !policy::assigned(p, user as usize).has(b) {
         return Reply::NotAssigned;
     }
-    let all = sessions::active_of(s, user);
+    let all = sessions::counted_of(s, user);
     if questions::broken(p, DYNAMIC, all.with(b)) {
         return Reply::Dynamic;
     }
@@ -104,7 +104,8 @@ pub fn activate(p: &[u64], s: &mut [u64], a: u64, b: u64) -> Reply
         return r;
     }
     let roles = sessions::active(s, a as usize).with(b);
-    sessions::set_active(s, a as usize, roles);
+    let had = sessions::had(s, a as usize).with(b);
+    sessions::set_roles(s, a as usize, roles, had);
     r
 }
 
@@ -132,7 +133,8 @@ pub fn deactivate(p: &[u64], s: &mut [u64], a: u64, b: u64) -> Reply
         return r;
     }
     let roles = sessions::active(s, a as usize).without(b);
-    sessions::set_active(s, a as usize, roles);
+    let had = sessions::had(s, a as usize);
+    sessions::set_roles(s, a as usize, roles, had);
     r
 }
 

@@ -19,7 +19,7 @@ use Rattle.sets.proofs.SetLaws.{overlap-empty}
 use Rattle.theorems.proofs.Rows.{Rows}
 use Rattle.theorems.proofs.Loads.{load-keeps, load-accepted}
 use Rattle.theorems.proofs.WellMade.{a-within}
-use Rattle.theorems.proofs.Roles.{Within, within-none, not-broken, Limited, none-active}
+use Rattle.theorems.proofs.Roles.{Within, within-none, not-broken, Limited, none-counted}
 
 record Assigned (users : ℕ → Bool) (assigned : ℕ → Set) (statics : List Limit) : Type 0 where
   -- who is not declared has no roles
@@ -81,7 +81,7 @@ loaded-limited policy h =
     (record { bare = λ u e. refl; small = λ u e. absurd (false≢true e); hold = λ u. tt }) in
     record {
       statics = rw (x .1) (y .hold);
-      dynamics = λ u. none-active (load policy .tables .rules .dynamics) u;
+      dynamics = λ u. none-counted (load policy .tables .rules .dynamics) u;
       small = λ k l. absurd (false≢true l);
       known = λ k l. absurd (false≢true l);
       active = λ k l. absurd (false≢true l);

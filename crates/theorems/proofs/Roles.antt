@@ -9,9 +9,9 @@ use borrow.Author.Tests.{eqb-true, eq-eqb, ltb-false}
 use lib.Dec.{eqb}
 use Rattle.paper_lower.specs.Sets.{Set, empty, has, plus, minus, union, overlap, within}
 use Rattle.paper_lower.specs.Lists.{upd, someBelow, some, Every}
-use Rattle.paper_lower.specs.Tables.{Limit, Rules, People, Sessions, noSessions, withAssigned, withActive}
+use Rattle.paper_lower.specs.Tables.{Limit, Rules, People, Sessions, noSessions, withAssigned}
 use Rattle.paper_lower.specs.Policy.{breaks}
-use Rattle.paper_lower.specs.Roles.{subjectOf, activeOf}
+use Rattle.paper_lower.specs.Roles.{subjectOf, ofSubjects, activeOf, countedOf}
 use Rattle.paper_lower.specs.Sessions.{createNext, destroyNext, activateNext, deactivateNext}
 use Rattle.paper_lower.proofs.ListLaws.{both, upd-same, upd-other, none-below, every-map, every-all, some-none}
 use Rattle.sets.proofs.Bits.{same-or-other}
@@ -34,31 +34,39 @@ not-broken ls m h = every-map ls (λ l x. ltb-false (l .n) (overlap (l .members)
 
 pub record Limited (p : People) (s : Sessions) (ru : Rules) : Type 0 where
   pub statics : (u : ℕ) → Within (ru .statics) (p .assigned u)
-  pub dynamics : (u : ℕ) → Within (ru .dynamics) (activeOf s u)
+  pub dynamics : (u : ℕ) → Within (ru .dynamics) (countedOf s u)
   pub small : (k : ℕ) → s .live k ≡ true → k < 128
   pub known : (k : ℕ) → s .live k ≡ true → p .users (s .user k) ≡ true
   pub active : (k : ℕ) → s .live k ≡ true → within (s .active k) (p .assigned (s .user k)) ≡ true
 
--- ---- the active roles of a user
+-- ---- the roles of a user's subjects, by some column
 of-user : (s : Sessions) (u k : ℕ) → s .live k ≡ true → s .user k ≡ u → subjectOf s u k ≡ true
 unfolding subjectOf
 of-user s u k l e = rw (l, eq-eqb (s .user k) u e)
 
+own-roles : (s : Sessions) (roles : ℕ → Set) (u k : ℕ) → k < 128 → s .live k ≡ true → s .user k ≡ u → Part (roles k) (ofSubjects s roles u)
+unfolding ofSubjects
+own-roles s roles u k b l e = rw (of-user s u k l e) at (union-ge 128 (λ k. cond (subjectOf s u k) (roles k) empty) k b)
+
 own-active : (s : Sessions) (u k : ℕ) → k < 128 → s .live k ≡ true → s .user k ≡ u → Part (s .active k) (activeOf s u)
 unfolding activeOf
-own-active s u k b l e = rw (of-user s u k l e) at (union-ge 128 (λ k. cond (subjectOf s u k) (s .active k) empty) k b)
+own-active s u k b l e = own-roles s (s .active) u k b l e
 
-active-le : (s : Sessions) (u : ℕ) (z : Set) → ((k : ℕ) → k < 128 → s .live k ≡ true → s .user k ≡ u → Part (s .active k) z) → Part (activeOf s u) z
-unfolding activeOf subjectOf
-active-le s u z h = union-le 128 (λ k. cond (subjectOf s u k) (s .active k) empty) z (λ k l. go k l (subjectOf s u k) refl)
+own-had : (s : Sessions) (u k : ℕ) → k < 128 → s .live k ≡ true → s .user k ≡ u → Part (s .had k) (countedOf s u)
+unfolding countedOf
+own-had s u k b l e = own-roles s (s .had) u k b l e
+
+counted-le : (s : Sessions) (u : ℕ) (z : Set) → ((k : ℕ) → k < 128 → s .live k ≡ true → s .user k ≡ u → Part (s .had k) z) → Part (countedOf s u) z
+unfolding countedOf ofSubjects subjectOf
+counted-le s u z h = union-le 128 (λ k. cond (subjectOf s u k) (s .had k) empty) z (λ k l. go k l (subjectOf s u k) refl)
   where
-    go : (k : ℕ) → k < 128 → (b : Bool) → s .live k && eqb (s .user k) u ≡ b → Part (cond b (s .active k) empty) z
+    go : (k : ℕ) → k < 128 → (b : Bool) → s .live k && eqb (s .user k) u ≡ b → Part (cond b (s .had k) empty) z
     go k l true e = let x = both (s .live k) (eqb (s .user k) u) e in h k l (x .0) (eqb-true _ _ (x .1))
     go k l false e = part-empty z
 
-pub none-active : (ls : List Limit) (u : ℕ) → Within ls (activeOf noSessions u)
+pub none-counted : (ls : List Limit) (u : ℕ) → Within ls (countedOf noSessions u)
 unfolding noSessions
-none-active ls u = within-less ls _ empty (active-le noSessions u empty (λ k b l e. absurd (false≢true l))) (within-none ls)
+none-counted ls u = within-less ls _ empty (counted-le noSessions u empty (λ k b l e. absurd (false≢true l))) (within-none ls)
 
 -- ---- people: one user's roles anew
 module _ (p : People) (s : Sessions) (ru : Rules) (h : Limited p s ru) where
@@ -110,18 +118,19 @@ record Elsewhere (a : ℕ) (s z : Sessions) : Type 0 where
   live : (k : ℕ) → (k ≡ a → ⊥) → z .live k ≡ s .live k
   user : (k : ℕ) → (k ≡ a → ⊥) → z .user k ≡ s .user k
   active : (k : ℕ) → (k ≡ a → ⊥) → z .active k ≡ s .active k
+  had : (k : ℕ) → (k ≡ a → ⊥) → z .had k ≡ s .had k
 
-seated-part : (a : ℕ) (s z : Sessions) → Elsewhere a s z → (u : ℕ) (m : Set) → Part (activeOf s u) m
-    → (z .live a ≡ true → z .user a ≡ u → Part (z .active a) m) → Part (activeOf z u) m
-seated-part a s z same u m h own = active-le z u m (λ k b l e. ⊎-elim
+seated-part : (a : ℕ) (s z : Sessions) → Elsewhere a s z → (u : ℕ) (m : Set) → Part (countedOf s u) m
+    → (z .live a ≡ true → z .user a ≡ u → Part (z .had a) m) → Part (countedOf z u) m
+seated-part a s z same u m h own = counted-le z u m (λ k b l e. ⊎-elim
     (λ (q : k ≡ a). rw q (own (rw q at l) (rw q at e)))
-    (λ n. rw (same .active k n) (part-trans _ _ _ (own-active s u k b (sym (same .live k n) ∙ l) (sym (same .user k n) ∙ e)) h)) (same-or-other k a))
+    (λ n. rw (same .had k n) (part-trans _ _ _ (own-had s u k b (sym (same .live k n) ∙ l) (sym (same .user k n) ∙ e)) h)) (same-or-other k a))
 
 module _ (p : People) (s : Sessions) (ru : Rules) (h : Limited p s ru) (a : ℕ) where
   -- the set z was checked for the subject's user; everybody else's roles are no more than before
   seated : (z : Sessions) → Elsewhere a s z
       → (z .live a ≡ true → (a < 128) × (p .users (z .user a) ≡ true) × (within (z .active a) (p .assigned (z .user a)) ≡ true))
-      → (m : Set) → (z .live a ≡ true → Within (ru .dynamics) m × Part (activeOf s (z .user a)) m × Part (z .active a) m) → Limited p z ru
+      → (m : Set) → (z .live a ≡ true → Within (ru .dynamics) m × Part (countedOf s (z .user a)) m × Part (z .had a) m) → Limited p z ru
   seated z same row m checked = record {
     statics = h .statics;
     dynamics = λ u. go u (z .live a) refl;
@@ -132,49 +141,73 @@ module _ (p : People) (s : Sessions) (ru : Rules) (h : Limited p s ru) (a : ℕ)
         (same-or-other k a);
   }
     where
-      others : (u : ℕ) → (z .live a ≡ true → z .user a ≡ u → ⊥) → Within (ru .dynamics) (activeOf z u)
-      others u n = within-less (ru .dynamics) _ _ (seated-part a s z same u (activeOf s u) (part-refl _) (λ l e. absurd (n l e))) (h .dynamics u)
+      others : (u : ℕ) → (z .live a ≡ true → z .user a ≡ u → ⊥) → Within (ru .dynamics) (countedOf z u)
+      others u n = within-less (ru .dynamics) _ _ (seated-part a s z same u (countedOf s u) (part-refl _) (λ l e. absurd (n l e))) (h .dynamics u)
 
-      go : (u : ℕ) (b : Bool) → z .live a ≡ b → Within (ru .dynamics) (activeOf z u)
+      go : (u : ℕ) (b : Bool) → z .live a ≡ b → Within (ru .dynamics) (countedOf z u)
       go u true l = ⊎-elim
           (λ (e : z .user a ≡ u). let c = checked l in within-less (ru .dynamics) _ m (seated-part a s z same u m (rw e at (c .1)) (λ _ _. c .2)) (c .0))
           (λ n. others u (λ _ e. n e)) (same-or-other (z .user a) u)
       go u false l = others u (λ i e. true≢false (sym i ∙ l))
 
   pub creates : (b : ℕ) (m : Set) → a < 128 → p .users b ≡ true → within m (p .assigned b) ≡ true
-      → some (breaks (union (activeOf s b) m)) (ru .dynamics) ≡ false → Limited p (createNext s a b m) ru
+      → some (breaks (union (countedOf s b) m)) (ru .dynamics) ≡ false → Limited p (createNext s a b m) ru
   unfolding createNext
   creates b m small user mine c =
-      seated _ (record { live = λ k. upd-other (s .live) a k true; user = λ k. upd-other (s .user) a k b; active = λ k. upd-other (s .active) a k m })
+      seated _
+      (record {
+        live = λ k. upd-other (s .live) a k true;
+        user = λ k. upd-other (s .user) a k b;
+        active = λ k. upd-other (s .active) a k m;
+        had = λ k. upd-other (s .had) a k m;
+      })
       (λ l. (small, rw (upd-same (s .user) a a b refl) user, rw (upd-same (s .user) a a b refl, upd-same (s .active) a a m refl) mine))
-      (union (activeOf s b) m)
-      (λ l. (not-broken (ru .dynamics) _ c, rw (upd-same (s .user) a a b refl) (part-left _ _), rw (upd-same (s .active) a a m refl) (part-right _ _)))
+      (union (countedOf s b) m)
+      (λ l. (not-broken (ru .dynamics) _ c, rw (upd-same (s .user) a a b refl) (part-left _ _), rw (upd-same (s .had) a a m refl) (part-right _ _)))
 
   pub destroys : Limited p (destroyNext s a) ru
   unfolding destroyNext
   destroys =
-      seated _ (record { live = λ k. upd-other (s .live) a k false; user = λ k. upd-other (s .user) a k 0; active = λ k. upd-other (s .active) a k empty })
+      seated _
+      (record {
+        live = λ k. upd-other (s .live) a k false;
+        user = λ k. upd-other (s .user) a k 0;
+        active = λ k. upd-other (s .active) a k empty;
+        had = λ k. upd-other (s .had) a k empty;
+      })
       (λ l. absurd (gone l)) empty (λ l. absurd (gone l))
     where
       gone : upd (s .live) a false a ≡ true → ⊥
       gone l = false≢true (sym (upd-same (s .live) a a false refl) ∙ l)
 
-  anew : (m z : Set) → s .live a ≡ true → within m (p .assigned (s .user a)) ≡ true → Within (ru .dynamics) z → Part (activeOf s (s .user a)) z
-      → Part m z → Limited p (withActive s (upd (s .active) a m)) ru
-  anew m z live mine w q r =
-      seated _ (record { live = λ k n. refl; user = λ k n. refl; active = λ k. upd-other (s .active) a k m })
-      (λ l. (h .small a live, h .known a live, rw (upd-same (s .active) a a m refl) mine)) z (λ l. (w, q, rw (upd-same (s .active) a a m refl) r))
-
   pub activates : (b : ℕ) → s .live a ≡ true → has (p .assigned (s .user a)) b ≡ true
-      → some (breaks (plus (activeOf s (s .user a)) b)) (ru .dynamics) ≡ false → Limited p (activateNext s a b) ru
+      → some (breaks (plus (countedOf s (s .user a)) b)) (ru .dynamics) ≡ false → Limited p (activateNext s a b) ru
   unfolding activateNext
   activates b live mine c =
-      anew (plus (s .active a) b) (plus (activeOf s (s .user a)) b) live
-      (has-within _ _ (λ t x. ⊎-elim (λ (e : t ≡ b). rw e mine) (λ y. within-has _ _ t (h .active a live) y) (plus-member (s .active a) b t x)))
-      (not-broken (ru .dynamics) _ c) (part-more _ _ b (part-refl _)) (part-plus _ _ b (own-active s (s .user a) a (h .small a live) live refl))
+      seated _
+      (record { live = λ k n. refl; user = λ k n. refl; active = λ k. upd-other (s .active) a k (plus (s .active a) b); had = λ k. upd-other (s .had) a k (plus (s .had a) b) })
+      (λ l. (
+        h .small a live,
+        h .known a live,
+        rw (upd-same (s .active) a a (plus (s .active a) b) refl)
+            (has-within _ _ (λ t x. ⊎-elim (λ (e : t ≡ b). rw e mine) (λ y. within-has _ _ t (h .active a live) y) (plus-member (s .active a) b t x))),
+      ))
+      (plus (countedOf s (s .user a)) b)
+      (λ l. (
+        not-broken (ru .dynamics) _ c,
+        part-more _ _ b (part-refl _),
+        rw (upd-same (s .had) a a (plus (s .had a) b) refl)
+            (part-plus _ _ b (own-had s (s .user a) a (h .small a live) live refl)),
+      ))
 
   pub deactivates : (b : ℕ) → s .live a ≡ true → Limited p (deactivateNext s a b) ru
   unfolding deactivateNext
   deactivates b live =
-      anew (minus (s .active a) b) (activeOf s (s .user a)) live (within-trans _ (s .active a) _ (within-minus (s .active a) b) (h .active a live))
-      (h .dynamics (s .user a)) (part-refl _) (part-trans _ _ _ (part-minus (s .active a) b) (own-active s (s .user a) a (h .small a live) live refl))
+      seated _ (record { live = λ k n. refl; user = λ k n. refl; active = λ k. upd-other (s .active) a k (minus (s .active a) b); had = λ k n. refl })
+      (λ l. (
+        h .small a live,
+        h .known a live,
+        rw (upd-same (s .active) a a (minus (s .active a) b) refl)
+            (within-trans _ (s .active a) _ (within-minus (s .active a) b) (h .active a live)),
+      ))
+      (countedOf s (s .user a)) (λ l. (h .dynamics (s .user a), part-refl _, own-had s (s .user a) a (h .small a live) live refl))

@@ -14,7 +14,7 @@ use Rattle.paper_lower.specs.Forms.{requestForms}
 use Rattle.paper_lower.specs.Tables.{Lower}
 use Rattle.paper_lower.specs.Policy.{assignNext, giveNext}
 use Rattle.paper_lower.specs.Load.{recordsOf}
-use Rattle.paper_lower.specs.Roles.{activeOf, joinNext, deleteNext, takeBackNext, withdrawNext, roleKinds}
+use Rattle.paper_lower.specs.Roles.{countedOf, joinNext, deleteNext, takeBackNext, withdrawNext, roleKinds}
 use Rattle.paper_lower.specs.Sessions.{sessionKinds, lowerKinds}
 use Rattle.paper_lower.proofs.ListLaws.{every-map, _⨾_}
 use Rattle.paper_upper.specs.Orders.{Orders}
@@ -42,7 +42,7 @@ role-limits policy o t k =
     record {
       statics = λ u. of-each (λ l. overlap (l .members) (t .policy .people .assigned u) ≤ l .n) aLimit (ofKind 9 policy)
           (rw (k .0 .made .statics) at (k .1 .statics u));
-      dynamics = λ u. of-each (λ l. overlap (l .members) (activeOf (t .sessions) u) ≤ l .n) aLimit (ofKind 10 policy)
+      dynamics = λ u. of-each (λ l. overlap (l .members) (countedOf (t .sessions) u) ≤ l .n) aLimit (ofKind 10 policy)
           (rw (k .0 .made .dynamics) at (k .1 .dynamics u));
       active = k .1 .active;
     }

@@ -14,7 +14,7 @@ use Rattle.paper_upper.specs.Orders.{Entry, entry, Orders, noOrders, inOrder, h
 use Rattle.paper_upper.specs.Orders.Standing.{held}
 use Rattle.paper_upper.specs.Requests.{turned}
 
--- the users' assigned roles; each live subject's user and active roles; the open orders, each with its template, and their entries
+-- the users' assigned roles; each live subject's user, its active roles and all that it has had active; the open orders, each with its template, and their entries
 pub record Told : Type 0 where
   pub assigned : ℕ → Set
   pub sessions : Sessions
@@ -31,13 +31,17 @@ abbrev pub toldSessions : Told → Sessions → Told
 toldSessions x s = record { assigned = x .assigned; sessions = s; orders = x .orders }
 
 abbrev pub toldSubject : Told → ℕ → Bool → ℕ → Set → Told
-toldSubject x s live user active =
+toldSubject x s live user roles =
     toldSessions x
-    (record { live = upd (x .sessions .live) s live; user = upd (x .sessions .user) s user; active = upd (x .sessions .active) s active })
+    (record {
+      live = upd (x .sessions .live) s live;
+      user = upd (x .sessions .user) s user;
+      active = upd (x .sessions .active) s roles;
+      had = upd (x .sessions .had) s roles;
+    })
 
-abbrev pub toldActive : Told → ℕ → Set → Told
-toldActive x s m =
-    toldSessions x (record { live = x .sessions .live; user = x .sessions .user; active = upd (x .sessions .active) s m })
+abbrev pub toldActive : Told → (ℕ → Set) → (ℕ → Set) → Told
+toldActive x active had = toldSessions x (record { live = x .sessions .live; user = x .sessions .user; active = active; had = had })
 
 abbrev pub toldOrders : Told → (ℕ → Maybe ℕ) → List Entry → Told
 toldOrders x f es = record { assigned = x .assigned; sessions = x .sessions; orders = record { opened = f; entries = es } }
@@ -62,8 +66,11 @@ telling =
     -- "40 create subject a for user b with active roles m. 41 destroy subject a. 42 activate role b in subject a. 43 deactivate it."
     ∷ tells 40 (λ x r. toldSubject x (r .a) true (r .b) (r .m))
     ∷ tells 41 (λ x r. toldSubject x (r .a) false 0 empty)
-    ∷ tells 42 (λ x r. toldActive x (r .a) (plus (x .sessions .active (r .a)) (r .b)))
-    ∷ tells 43 (λ x r. toldActive x (r .a) (minus (x .sessions .active (r .a)) (r .b)))
+    -- "Each subject's record keeps every role it has had active"
+    ∷ tells 42 (λ x r.
+    toldActive x (upd (x .sessions .active) (r .a) (plus (x .sessions .active (r .a)) (r .b)))
+    (upd (x .sessions .had) (r .a) (plus (x .sessions .had (r .a)) (r .b))))
+    ∷ tells 43 (λ x r. toldActive x (upd (x .sessions .active) (r .a) (minus (x .sessions .active (r .a)) (r .b))) (x .sessions .had))
     -- "48 open instance a of template b. 49 end instance a.": "ending the instance removes all its entries"
     ∷ tells 48 (λ x r. toldOrders x (upd (x .orders .opened) (r .a) (just (r .b))) (x .orders .entries))
     ∷ tells 49 (λ x r. toldOrders x (upd (x .orders .opened) (r .a) none) (keep (λ e. not (inOrder (r .a) e)) (x .orders .entries)))

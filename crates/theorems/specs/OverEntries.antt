@@ -9,7 +9,7 @@ use Rattle.paper_lower.specs.Lists.{Maybe, many, keep, Every}
 use Rattle.paper_lower.specs.Lists.Maybe.{just}
 use Rattle.paper_lower.specs.Checks.{BEFORE, SEPARATION, BLOCK, ALONE, BOUND, COUNT}
 use Rattle.paper_lower.specs.Records.{Record}
-use Rattle.paper_lower.specs.Roles.{activeOf}
+use Rattle.paper_lower.specs.Roles.{countedOf}
 use Rattle.paper_upper.specs.Orders.{Entry, Orders, ofTask, tasksBy, tasksDone}
 use Rattle.theorems.specs.Outside.{Told}
 
@@ -100,7 +100,8 @@ claimRules =
 pub record RoleLimits (policy : List Record) (x : Told) : Type 0 where
   -- "A static set allows a user at most n of its roles among those assigned."
   pub statics : (u : ℕ) → Every (λ r. Allows r (x .assigned u)) (ofKind 9 policy)
-  -- "A dynamic set allows a user at most n of its roles active at a time, over all the user's subjects together."
-  pub dynamics : (u : ℕ) → Every (λ r. Allows r (activeOf (x .sessions) u)) (ofKind 10 policy)
+  -- "A dynamic set allows a user at most n of its roles active at a time, over all the user's subjects together." Amended by 02, Ask 5: "a dynamic
+  -- set counts the union over the user's live subjects" of "every role it has had active"
+  pub dynamics : (u : ℕ) → Every (λ r. Allows r (countedOf (x .sessions) u)) (ofKind 10 policy)
   -- "Active roles are always assigned ones."
   pub active : (s : ℕ) → x .sessions .live s ≡ true → within (x .sessions .active s) (x .assigned (x .sessions .user s)) ≡ true

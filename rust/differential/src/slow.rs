@@ -36,6 +36,8 @@ pub struct Slow {
     bindings: Vec<(u16, u16)>,
     prerequisites: Vec<(u16, u16)>,
     subjects: BTreeMap<u16, (u16, Numbers)>,
+    /// Every role that a live subject has had active.
+    had: BTreeMap<u16, Numbers>,
     instances: BTreeMap<u16, u16>,
     entries: Vec<Entry>,
 }
@@ -141,6 +143,12 @@ impl Slow {
     fn active_of(&self, user: u16) -> Numbers {
         let of_user = self.subjects.values().filter(|(u, _)| *u == user);
         of_user.flat_map(|(_, roles)| roles.clone()).collect()
+    }
+
+    /// What a dynamic set counts: the roles that the user's live subjects have had active.
+    fn had_by(&self, user: u16) -> Numbers {
+        let of_user = self.subjects.iter().filter(|(_, (u, _))| *u == user);
+        of_user.flat_map(|(s, _)| self.had[s].clone()).collect()
     }
 
     fn with(mut roles: Numbers, role: u16) -> Numbers {
@@ -366,7 +374,7 @@ impl Slow {
 
     /// NOT ASSIGNED and DYNAMIC, for roles that a user's subject would have active as well.
     fn judge_active(&self, user: u16, roles: &Numbers) -> [(Reply, bool); 2] {
-        let then = self.active_of(user).union(roles).copied().collect();
+        let then = self.had_by(user).union(roles).copied().collect();
         [
             (NotAssigned, !roles.is_subset(&self.roles_of(user))),
             (Dynamic, broken(&self.dynamic_sets, &then)),
@@ -530,9 +538,18 @@ impl Slow {
             35 => self.user_roles.retain(|pair| *pair != (a, b)),
             36 => self.role_permissions.extend([(a, b)]),
             37 => self.role_permissions.retain(|pair| *pair != (a, b)),
-            40 => self.subjects.extend([(a, (b, numbers(r.m())))]),
-            41 => self.subjects.retain(|subject, _| *subject != a),
-            42 => self.active(a).extend([b]),
+            40 => {
+                self.subjects.extend([(a, (b, numbers(r.m())))]);
+                self.had.extend([(a, numbers(r.m()))]);
+            }
+            41 => {
+                self.subjects.retain(|subject, _| *subject != a);
+                self.had.retain(|subject, _| *subject != a);
+            }
+            42 => {
+                self.active(a).extend([b]);
+                self.had.entry(a).or_default().extend([b]);
+            }
             43 => self.active(a).retain(|role| *role != b),
             48 => self.instances.extend([(a, b)]),
             49 => {

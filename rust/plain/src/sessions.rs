@@ -12,12 +12,15 @@ pub(crate) struct Sessions {
     user: [u16; 128],
     /// Nothing for a number that is no live subject.
     active: [u64; 128],
+    /// Every role that the subject has had active.
+    had: [u64; 128],
 }
 
 impl Sessions {
     pub const EMPTY: Sessions = Sessions {
         user: [NOBODY; 128],
         active: [0; 128],
+        had: [0; 128],
     };
 
     /// The user of a live subject.
@@ -31,9 +34,9 @@ impl Sessions {
         self.active[subject]
     }
 
-    /// The roles active over all subjects of the user together.
-    fn active_of(&self, user: u16) -> u64 {
-        let subjects = self.user.iter().zip(&self.active);
+    /// The roles that a column has for the user's subjects, together.
+    fn over(&self, roles: &[u64; 128], user: u16) -> u64 {
+        let subjects = self.user.iter().zip(roles);
         subjects.fold(0, |all, (&u, &roles)| {
             all | if u == user { roles } else { 0 }
         })
@@ -49,7 +52,7 @@ impl Sessions {
     pub fn take_role(&self, policy: &mut Policy, user: u16, role: usize) -> Outcome {
         let assigned = &mut policy.assigned[usize::from(user)];
         refuse(Reply::Unknown, *assigned & bit(role) == 0)?;
-        refuse(Reply::InUse, self.active_of(user) & bit(role) != 0)?;
+        refuse(Reply::InUse, self.over(&self.active, user) & bit(role) != 0)?;
         *assigned &= !bit(role);
         Ok(())
     }
@@ -62,6 +65,7 @@ impl Sessions {
         self.may_act(policy, user, roles)?;
         self.user[subject] = user;
         self.active[subject] = roles;
+        self.had[subject] = roles;
         Ok(())
     }
 
@@ -69,6 +73,7 @@ impl Sessions {
     pub fn destroy(&mut self, subject: usize) {
         self.user[subject] = NOBODY;
         self.active[subject] = 0;
+        self.had[subject] = 0;
     }
 
     /// Kind 42.
@@ -78,6 +83,7 @@ impl Sessions {
         refuse(Reply::Taken, self.active[subject] & bit(role) != 0)?;
         self.may_act(policy, user, bit(role))?;
         self.active[subject] |= bit(role);
+        self.had[subject] |= bit(role);
         Ok(())
     }
 
@@ -93,7 +99,7 @@ impl Sessions {
     fn may_act(&self, policy: &Policy, user: u16, roles: u64) -> Outcome {
         let assigned = policy.assigned[usize::from(user)];
         refuse(Reply::NotAssigned, roles & !assigned != 0)?;
-        let then = self.active_of(user) | roles;
+        let then = self.over(&self.had, user) | roles;
         refuse(Reply::Dynamic, policy.breaks_dynamic(then))
     }
 

@@ -221,7 +221,11 @@ fn a_dynamic_set_counts_over_all_subjects_of_a_user() {
             (deactivate(5, 0), Granted),
             (activate(7, 1), Dynamic),
             (deactivate(7, 0), Granted),
-            (activate(7, 1), Granted),
+            (activate(7, 1), Dynamic),
+            (destroy(5), Granted),
+            (activate(7, 1), Dynamic),
+            (destroy(7), Granted),
+            (create(7, 300, &[1]), Granted),
         ],
     );
 }

@@ -4,7 +4,7 @@ use mathlib.Core.Bool.{cond}
 use mathlib.Core.Path.{_≡_, refl, sym, ap₂, _∙_}
 use native.Mathlib.Omega.{arith}
 use borrow.Author.Needs.{needs}
-use Rattle.paper_lower.specs.Roles.{subjectOf, activeOf}
+use Rattle.paper_lower.specs.Roles.{subjectOf, ofSubjects, activeOf}
 use Rattle.paper_lower.specs.Sets.{empty, union, unionBelow}
 use Rattle.replies.proofs.SearchLaws.{union-more}
 use Rattle.sessions.specs.Reading.{sessionsOf}
@@ -21,8 +21,8 @@ loop-holds : tie.Need-loop-holds Inv-loop μ-loop
 unfolding unionBelow
 loop-holds c = (search needs, refl)
 
-roles-in-requires : tie.Need-roles-in-requires Inv-loop μ-loop
-roles-in-requires c κs = search needs
+active-in-requires : tie.Need-active-in-requires Inv-loop μ-loop
+active-in-requires c κs = search needs
 
 union-requires : tie.Need-union-requires Inv-loop μ-loop
 union-requires c κs = search needs
@@ -34,10 +34,10 @@ loop-less : tie.Need-loop-less Inv-loop μ-loop
 loop-less c = search needs
 
 loop-again : tie.Need-loop-again Inv-loop μ-loop
-loop-again c = (search needs, c .union .ensures ∙ ap₂ union (c .before .before .before .loop .inv .1) (c .before .roles-in .ensures) ∙ sym (union-more _ _))
+loop-again c = (search needs, c .union .ensures ∙ ap₂ union (c .before .before .before .loop .inv .1) (c .before .active-in .ensures) ∙ sym (union-more _ _))
 
 returns : tie.Need-returns Inv-loop μ-loop
-unfolding activeOf
+unfolding activeOf ofSubjects
 returns c = let e : 128 ≡ c .before .loop .a = omega arith in rw e (c .before .loop .inv .1)
 
 pub active-of-spec : {M : Type 1} → statement M
@@ -47,7 +47,7 @@ active-of-spec =
     Inv-loop
     μ-loop
     loop-holds
-    roles-in-requires
+    active-in-requires
     union-requires
     add-a
     loop-less

@@ -1,4 +1,4 @@
--- Two stores are the subject's row anew.
+-- Three stores are the subject's row anew.
 use native.Mathlib.Omega.{arith}
 use borrow.Author.Needs.{needs}
 use lib.ListN.{length-set}
@@ -24,6 +24,15 @@ mul-s-2 c = search needs
 slice-write-s-2 : tie.Need-slice-write-s-2
 slice-write-s-2 c = simp length-set (omega arith)
 
+add-s-3 : tie.Need-add-s-3
+add-s-3 c = search needs
+
+mul-s-3 : tie.Need-mul-s-3
+mul-s-3 c = search needs
+
+slice-write-s-3 : tie.Need-slice-write-s-3
+slice-write-s-3 c = simp length-set (omega arith)
+
 same-length : tie.Need-same-length
 same-length c = search needs
 
@@ -33,4 +42,15 @@ returns c = create-set (c .args .s .now) (c .pre .0) (c .args .a) (c .pre .1 .0)
 pub create-spec : {M : Type 1} → statement M
 create-spec =
     tie.close
-    (tie.spec add-s mul-s slice-write-s add-s-2 mul-s-2 slice-write-s-2 same-length returns)
+    (tie.spec
+    add-s
+    mul-s
+    slice-write-s
+    add-s-2
+    mul-s-2
+    slice-write-s-2
+    add-s-3
+    mul-s-3
+    slice-write-s-3
+    same-length
+    returns)

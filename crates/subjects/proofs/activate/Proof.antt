@@ -1,8 +1,9 @@
--- Judged, and then the subject's roles with one more.
+-- Written from Proof.tmpl by 'prove expand': edit that file.
+-- Judged, and then the subject's roles, and those that it has had, with one more.
 use mathlib.Core.Path.{_∙_}
 use borrow.Author.Needs.{needs}
-use Rattle.paper_lower.specs.Sessions.{activateNext}
 use Rattle.replies.proofs.DoneLaws.{refused, done}
+use Rattle.sessions.proofs.StoreLaws.{activated}
 use Rattle.subjects.proofs.activate.Statement.{statement}
 use Rattle.subjects.proofs.activate.Tie as tie
 
@@ -24,15 +25,20 @@ active-requires c κs = search needs
 with-requires : tie.Need-with-requires
 with-requires c κs = search needs
 
-set-active-requires : tie.Need-set-active-requires
-set-active-requires c κs = search needs
+had-requires : tie.Need-had-requires
+had-requires c κs = search needs
+
+with-requires-2 : tie.Need-with-requires-2
+with-requires-2 c κs = search needs
+
+set-roles-requires : tie.Need-set-roles-requires
+set-roles-requires c κs = search needs
 
 same-length-2 : tie.Need-same-length-2
 same-length-2 c = search needs
 
 returns-2 : tie.Need-returns-2
-unfolding activateNext
-returns-2 c = done (c .before .before .before .before .before .before .before .before .before .activate-reply .ensures) (c .before .before .before .before .before .before .before .before .accepted .ensures) (c .before .before .before .before .before .before .before .if1 .left) (c .before .before .set-active .ensures ∙ simp (c .before .before .before .before .with .ensures, c .before .before .before .before .before .active .ensures))
+returns-2 c = done (c .before .before .before .before .before .before .before .before .before .before .before .before .activate-reply .ensures) (c .before .before .before .before .before .before .before .before .before .before .before .accepted .ensures) (c .before .before .before .before .before .before .before .before .before .before .if1 .left) (c .before .before .set-roles .ensures ∙ rw (c .before .before .before .before .before .before .before .with .ensures, c .before .before .before .before .before .before .before .before .active .ensures, c .before .before .before .before .with2 .ensures, c .before .before .before .before .before .had .ensures) (activated (c .before .before .before .before .before .before .before .before .before .before .before .before .before .before .before .before .args .s .now) (c .before .before .before .before .before .before .before .before .before .before .before .before .before .before .before .before .args .a) (c .before .before .before .before .before .before .before .before .before .before .before .before .before .before .before .before .args .b)))
 
 pub activate-spec : {M : Type 1} → statement M
 activate-spec =
@@ -44,6 +50,8 @@ activate-spec =
     returns
     active-requires
     with-requires
-    set-active-requires
+    had-requires
+    with-requires-2
+    set-roles-requires
     same-length-2
     returns-2)

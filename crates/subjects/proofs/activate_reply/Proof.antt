@@ -44,8 +44,8 @@ returns-3 : tie.Need-returns-3
 unfolding activateChecks
 returns-3 c = simp (← c .before .before .before .before .before .before .before .before .before .before .live .ensures, ← c .before .before .before .before .before .before .before .before .before .declared-roles .ensures, ← c .before .before .before .before .before .before .before .before .has .ensures, c .before .before .before .before .before .before .before .if1 .left, ← c .before .before .before .before .before .before .active .ensures, ← c .before .before .before .before .before .has2 .ensures, c .before .before .before .before .if2 .left, ← c .before .before .before .user .ensures .0, ← c .before .before .assigned .ensures, ← c .before .has3 .ensures, c .if3 .taken)
 
-active-of-requires : tie.Need-active-of-requires
-active-of-requires c κs = search needs
+counted-of-requires : tie.Need-counted-of-requires
+counted-of-requires c κs = search needs
 
 with-requires : tie.Need-with-requires
 with-requires c κs = search needs
@@ -69,7 +69,7 @@ last c =
       ← c .before .before .before .before .before .assigned .ensures,
       ← c .before .before .before .before .has3 .ensures,
       c .before .before .before .if3 .left,
-      ← c .before .before .active-of .ensures,
+      ← c .before .before .counted-of .ensures,
       ← c .before .with .ensures,
       ← c .broken .ensures,
     )
@@ -95,7 +95,7 @@ activate-reply-spec =
     assigned-requires
     has-requires-3
     returns-3
-    active-of-requires
+    counted-of-requires
     with-requires
     broken-requires
     returns-4

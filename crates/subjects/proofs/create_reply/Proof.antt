@@ -38,8 +38,8 @@ returns-3 : tie.Need-returns-3
 unfolding createChecks
 returns-3 c = simp (← c .before .before .before .before .before .before .before .before .user-declared .ensures, ← c .before .before .before .before .before .before .before .declared-roles .ensures, ← c .before .before .before .before .before .before .within .ensures, c .before .before .before .before .before .if1 .left, ← c .before .before .before .before .live .ensures, c .before .before .before .if2 .left, ← c .before .before .assigned .ensures, ← c .before .within2 .ensures, c .if3 .taken)
 
-active-of-requires : tie.Need-active-of-requires
-active-of-requires c κs = search needs
+counted-of-requires : tie.Need-counted-of-requires
+counted-of-requires c κs = search needs
 
 union-requires : tie.Need-union-requires
 union-requires c κs = search needs
@@ -61,7 +61,7 @@ last c =
       ← c .before .before .before .before .before .assigned .ensures,
       ← c .before .before .before .before .within2 .ensures,
       c .before .before .before .if3 .left,
-      ← c .before .before .active-of .ensures,
+      ← c .before .before .counted-of .ensures,
       ← c .before .union .ensures,
       ← c .broken .ensures,
     )
@@ -85,7 +85,7 @@ create-reply-spec =
     assigned-requires
     within-requires-2
     returns-3
-    active-of-requires
+    counted-of-requires
     union-requires
     broken-requires
     returns-4

@@ -1,8 +1,9 @@
--- Judged, and then the subject's roles with one less.
+-- Written from Proof.tmpl by 'prove expand': edit that file.
+-- Judged, and then the subject's roles with one less; those that it has had stay.
 use mathlib.Core.Path.{_∙_}
 use borrow.Author.Needs.{needs}
-use Rattle.paper_lower.specs.Sessions.{deactivateNext}
 use Rattle.replies.proofs.DoneLaws.{refused, done}
+use Rattle.sessions.proofs.StoreLaws.{deactivated}
 use Rattle.subjects.proofs.deactivate.Statement.{statement}
 use Rattle.subjects.proofs.deactivate.Tie as tie
 
@@ -24,15 +25,17 @@ active-requires c κs = search needs
 without-requires : tie.Need-without-requires
 without-requires c κs = search needs
 
-set-active-requires : tie.Need-set-active-requires
-set-active-requires c κs = search needs
+had-requires : tie.Need-had-requires
+had-requires c κs = search needs
+
+set-roles-requires : tie.Need-set-roles-requires
+set-roles-requires c κs = search needs
 
 same-length-2 : tie.Need-same-length-2
 same-length-2 c = search needs
 
 returns-2 : tie.Need-returns-2
-unfolding deactivateNext
-returns-2 c = done (c .before .before .before .before .before .before .before .before .before .deactivate-reply .ensures) (c .before .before .before .before .before .before .before .before .accepted .ensures) (c .before .before .before .before .before .before .before .if1 .left) (c .before .before .set-active .ensures ∙ simp (c .before .before .before .before .without .ensures, c .before .before .before .before .before .active .ensures))
+returns-2 c = done (c .before .before .before .before .before .before .before .before .before .before .before .deactivate-reply .ensures) (c .before .before .before .before .before .before .before .before .before .before .accepted .ensures) (c .before .before .before .before .before .before .before .before .before .if1 .left) (c .before .before .set-roles .ensures ∙ rw (c .before .before .before .before .before .before .without .ensures, c .before .before .before .before .before .before .before .active .ensures, c .before .before .before .before .had .ensures) (deactivated (c .before .before .before .before .before .before .before .before .before .before .before .before .before .before .before .args .s .now) (c .before .before .before .before .before .before .before .before .before .before .before .before .before .before .before .args .a) (c .before .before .before .before .before .before .before .before .before .before .before .before .before .before .before .args .b)))
 
 pub deactivate-spec : {M : Type 1} → statement M
 deactivate-spec =
@@ -44,6 +47,7 @@ deactivate-spec =
     returns
     active-requires
     without-requires
-    set-active-requires
+    had-requires
+    set-roles-requires
     same-length-2
     returns-2)

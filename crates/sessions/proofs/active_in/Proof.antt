@@ -1,8 +1,8 @@
 -- The choice is the definition's.
 use mathlib.Core.Path.{sym, _∙_}
 use borrow.Author.Needs.{needs}
-use Rattle.sessions.proofs.roles_in.Statement.{statement}
-use Rattle.sessions.proofs.roles_in.Tie as tie
+use Rattle.sessions.proofs.active_in.Statement.{statement}
+use Rattle.sessions.proofs.active_in.Tie as tie
 
 active-requires : tie.Need-active-requires
 active-requires c κs = search needs
@@ -16,5 +16,5 @@ returns c = rw (sym (c .before .of-user .ensures) ∙ c .if1 .taken) (c .before 
 returns-2 : tie.Need-returns-2
 returns-2 c = rw (sym (c .before .of-user .ensures) ∙ c .if1 .left)
 
-pub roles-in-spec : {M : Type 1} → statement M
-roles-in-spec = tie.close (tie.spec active-requires of-user-requires returns returns-2)
+pub active-in-spec : {M : Type 1} → statement M
+active-in-spec = tie.close (tie.spec active-requires of-user-requires returns returns-2)
