@@ -1,0 +1,122 @@
+/* The stack that each exported call uses: the call runs on a stack of its own that is painted, and the deepest byte is sought that was
+ * painted over. Built and run by tools/stack, with LOWER for the lower part alone. */
+#include <mishantral.h>
+#include <stdio.h>
+#include <string.h>
+#include <ucontext.h>
+
+#define STACK (64 * 1024)
+#define PAINT 0x5a
+
+static unsigned char stack[STACK] __attribute__((aligned(64)));
+static uint64_t policy[MISHANTRAL_POLICY_WORDS], sessions[MISHANTRAL_SESSIONS_WORDS];
+#ifndef LOWER
+static uint64_t orders[MISHANTRAL_ORDERS_WORDS];
+#endif
+static ucontext_t here, there;
+static const unsigned char *bytes;
+static size_t length;
+static uint64_t answer;
+static void (*call)(void);
+
+static void nothing(void) {}
+
+static void load(void) {
+#ifdef LOWER
+    answer = mishantral_lower_load(bytes, length, policy, MISHANTRAL_POLICY_WORDS, sessions, MISHANTRAL_SESSIONS_WORDS);
+#else
+    answer = mishantral_load(bytes, length, policy, MISHANTRAL_POLICY_WORDS, sessions, MISHANTRAL_SESSIONS_WORDS, orders, MISHANTRAL_ORDERS_WORDS);
+#endif
+}
+
+static void request(void) {
+#ifdef LOWER
+    answer = mishantral_lower_request(bytes, length, policy, MISHANTRAL_POLICY_WORDS, sessions, MISHANTRAL_SESSIONS_WORDS);
+#else
+    answer = mishantral_request(bytes, length, policy, MISHANTRAL_POLICY_WORDS, sessions, MISHANTRAL_SESSIONS_WORDS, orders, MISHANTRAL_ORDERS_WORDS);
+#endif
+}
+
+static void words(void) {
+#ifdef LOWER
+    answer = mishantral_lower_words(1);
+#else
+    answer = mishantral_words(1);
+#endif
+}
+
+static void entry(void) { call(); }
+
+static size_t used_by(void (*function)(void)) {
+    memset(stack, PAINT, STACK);
+    getcontext(&there);
+    there.uc_stack.ss_sp = stack;
+    there.uc_stack.ss_size = STACK;
+    there.uc_link = &here;
+    call = function;
+    makecontext(&there, entry, 0);
+    swapcontext(&here, &there);
+    size_t at = 0;
+    while (at < STACK && stack[at] == PAINT) at++;
+    return STACK - at;
+}
+
+static uint64_t seed = 20240607;
+static unsigned below(unsigned n) {
+    seed = seed * 6364136223846793005u + 1442695040888963407u;
+    return (unsigned)(seed >> 33) % n;
+}
+
+static size_t put(unsigned char *to, unsigned kind, unsigned n, unsigned a, unsigned b, unsigned c, uint64_t m) {
+    unsigned fields[] = {a, b, c};
+    to[0] = (unsigned char)kind;
+    to[1] = (unsigned char)n;
+    for (int i = 0; i < 3; i++) to[2 + 2 * i] = (unsigned char)fields[i], to[3 + 2 * i] = (unsigned char)(fields[i] >> 8);
+    for (int i = 0; i < 8; i++) to[8 + i] = (unsigned char)(m >> 8 * i);
+    return 16;
+}
+
+/* A policy with every kind in it: eight clerks, eight roles, sixteen tasks of four templates, rules of each sort. */
+static size_t some_policy(unsigned char *to) {
+    size_t n = 0;
+    for (unsigned i = 0; i < 8; i++) n += put(to + n, 1, 0, i, 0, 0, 0), n += put(to + n, 2, 0, i, 0, 0, 0);
+    for (unsigned i = 0; i < 8; i++) n += put(to + n, 3, 0, i, i, i, 0), n += put(to + n, 5, 0, i, i, 0, 0);
+    for (unsigned i = 0; i < 8; i++) n += put(to + n, 4, 0, i, i, 0, 0), n += put(to + n, 4, 0, i, (i + 1) % 8, 0, 0);
+    for (unsigned t = 0; t < 16; t++) n += put(to + n, 6, 0, t, t / 4, 0, 0), n += put(to + n, 7, 0, t, t % 8, 0, 0), n += put(to + n, 8, 0, t, t % 8, 0, 0);
+    for (unsigned j = 0; j < 3; j++) {
+        n += put(to + n, 9, 2, 0, 0, 0, 7u << j), n += put(to + n, 10, 2, 0, 0, 0, 7u << j);
+        n += put(to + n, 11, 2, 0, 0, 0, 7u << 4 * j), n += put(to + n, 12, 0, j, 0, 0, 3u << 4 * j), n += put(to + n, 12, 0, j, 0, 0, 4u << 4 * j);
+        n += put(to + n, 13, 0, j, 0, 0, 0), n += put(to + n, 14, 2, 4 * j, 0, 0, 0);
+        n += put(to + n, 15, 0, 4 * j, 4 * j + 3, 0, 0), n += put(to + n, 16, 0, 4 * j, 4 * j + 1, 0, 0);
+    }
+    return n;
+}
+
+int main(void) {
+    static const unsigned kinds[] = {32, 33, 34, 35, 36, 37, 40, 41, 42, 43, 48, 49, 50, 51, 52, 56, 57};
+    static unsigned char text[16 * 256];
+    size_t deepest[64] = {0}, own = used_by(nothing), deepest_load = 0;
+    for (unsigned round = 0; round < 40; round++) {
+        length = some_policy(text);
+        if (round % 2) length -= 1 + below(40);
+        bytes = text;
+        size_t n = used_by(load);
+        if (n > deepest_load) deepest_load = n;
+        if (round % 2 == 0 && answer != 0) return printf("the policy is refused: %llu\n", (unsigned long long)answer), 1;
+        for (unsigned i = 0; i < 2000; i++) {
+            unsigned char record[16];
+            unsigned kind = kinds[below(sizeof kinds / sizeof *kinds)];
+            uint64_t m = kind == 57 ? below(8) * 65537u : kind == 40 || kind == 32 ? 1u << below(8) : 0;
+            int three = kind >= 50, two = three || kind == 34 || kind == 35 || kind == 36 || kind == 37 || kind == 40 || kind == 42 || kind == 43 || kind == 48;
+            put(record, kind, 0, below(8), two ? below(kind == 48 ? 4 : 8) : 0, three ? below(16) : 0, m);
+            bytes = record, length = 16;
+            n = used_by(request);
+            if (n > deepest[kind]) deepest[kind] = n;
+        }
+    }
+    printf("load %zu", deepest_load - own);
+    for (unsigned i = 0; i < sizeof kinds / sizeof *kinds; i++)
+        if (deepest[kinds[i]]) printf(", %u: %zu", kinds[i], deepest[kinds[i]] - own);
+    printf(", words %zu\n", used_by(words) - own);
+    return 0;
+}
