@@ -1,7 +1,8 @@
 -- The statements of specs/Promises, each proved.
-use Rattle.paper_opl.specs.Promises.{AcceptedYields, RefusalsWriteNothing, ReadExactly, DepthNeverBites, NumbersInOrder, NumbersDiffer}
+use Rattle.paper_opl.specs.Promises.{AcceptedYields, RefusalsWriteNothing, ReadExactly, LinesReadExactly, DepthNeverBites, NumbersInOrder, NumbersDiffer}
 use Rattle.paper_opl.proofs.Accepted.{accepted, refusal-writes-nothing}
 use Rattle.paper_opl.proofs.DocumentLaid.{exactly}
+use Rattle.paper_opl.proofs.LinesBack.{lines-exactly}
 use Rattle.paper_opl.proofs.Depth.{depth-never-bites}
 use Rattle.paper_opl.proofs.Numbers.{first-declared, numbers-differ}
 
@@ -13,6 +14,9 @@ refusals-write-nothing = refusal-writes-nothing
 
 pub read-exactly : ReadExactly
 read-exactly = exactly
+
+pub lines-read-exactly : LinesReadExactly
+lines-read-exactly = lines-exactly
 
 pub deep-enough : DepthNeverBites
 deep-enough = depth-never-bites

@@ -16,7 +16,7 @@ use Rattle.paper_opl.specs.Elements.{elements, one}
 use Rattle.paper_opl.specs.Tree.{Elements, opening, element, prolog, DEPTH, document}
 use Rattle.paper_opl.specs.Tree.Elements.{nothing, node}
 use Rattle.paper_opl.specs.Naming.{Line, lines, Space, distinct, placeOf, numberIn, recordsOf, written, translate}
-use Rattle.paper_opl.specs.Layout.{WrittenFrom}
+use Rattle.paper_opl.specs.Layout.{WrittenFrom, LinesFrom}
 
 -- ---- "Accepted text always yields a policy of well-shaped records that says what the elements say".
 
@@ -67,6 +67,10 @@ RefusalsWriteNothing = (s t : Text) (out : Bytes) → (translate s t out .reply 
 -- and they are read as that tree.
 abbrev pub ReadExactly : Type 0
 ReadExactly = (s : Text) (es : Elements) → document s ≡ got es [] ↔ WrittenFrom es s
+
+-- The same of the task lines: "lines of task name, one space and template name".
+abbrev pub LinesReadExactly : Type 0
+LinesReadExactly = (t : Text) (ls : List Line) → lines (length t) t ≡ got ls [] ↔ LinesFrom ls t
 
 -- "down to depth 8": no text is refused, or read otherwise, for that limit
 abbrev pub DepthNeverBites : Type 0
