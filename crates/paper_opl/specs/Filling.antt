@@ -4,7 +4,9 @@ use mathlib.Core.Bool.{cond}
 use mathlib.Core.List.{List, [], _∷_, _++_}
 use lib.Dec.{eqb}
 use lib.ListN.{take, drop}
+use Rattle.paper_lower.specs.Sets.{Set, plus}
 use Rattle.paper_lower.specs.Lists.{Maybe, upd, many, keep}
+use Rattle.paper_lower.specs.Lists.Maybe.{none, just}
 use Rattle.paper_lower.specs.Records.{Bytes, Record, encode}
 use Rattle.paper_opl.specs.Tree.{Tag, if-found}
 use Rattle.paper_opl.specs.Naming.{Line, Names, taskRecord}
@@ -39,3 +41,8 @@ unfoldable pub startOf : List Saying → List Line → ℕ → ℕ
 startOf xs ls zero = 0
 startOf xs ls (suc zero) = 0
 startOf xs ls (suc (suc k)) = startOf xs ls (suc k) + countOf xs ls (suc k)
+
+-- the set of what elements say, from left to right, behind the set m
+unfoldable pub setFrom : Set → List (Maybe ℕ) → Maybe Set
+setFrom m [] = just m
+setFrom m (k ∷ ks) = if-found k none (λ i. setFrom (plus m i) ks)
