@@ -46,3 +46,8 @@ startOf xs ls (suc (suc k)) = startOf xs ls (suc k) + countOf xs ls (suc k)
 unfoldable pub setFrom : Set → List (Maybe ℕ) → Maybe Set
 setFrom m [] = just m
 setFrom m (k ∷ ks) = if-found k none (λ i. setFrom (plus m i) ks)
+
+-- how many records of each kind tags say, behind those counted in f
+unfoldable pub tally : Context → (ℕ → ℕ) → List Tag → ℕ → ℕ
+tally c f [] = f
+tally c f (t ∷ ts) = cond (eqb (kindAt c t) 0) (tally (turn c t) f ts) (tally (turn c t) (upd f (kindAt c t) (suc (f (kindAt c t)))) ts)
