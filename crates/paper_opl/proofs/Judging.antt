@@ -18,12 +18,12 @@ use Rattle.paper_opl.proofs.KindByKind.{each-append, Sets, turn-sets}
 
 -- ---- Every one of a list.
 
-every-append : {A : Type 0} (p : A → Bool) (xs ys : List A) → every p (xs ++ ys) ≡ every p xs && every p ys
+pub every-append : {A : Type 0} (p : A → Bool) (xs ys : List A) → every p (xs ++ ys) ≡ every p xs && every p ys
 unfolding every
 every-append p [] ys = refl
 every-append p (x ∷ xs) ys = on-test (p x) (λ q. rw q (every-append p xs ys)) (λ q. rw q)
 
-every-of : {A B : Type 0} (p : B → Bool) (f : A → B) (xs : List A) → every p (each f xs) ≡ every (λ x. p (f x)) xs
+pub every-of : {A B : Type 0} (p : B → Bool) (f : A → B) (xs : List A) → every p (each f xs) ≡ every (λ x. p (f x)) xs
 unfolding every each
 every-of p f [] = refl
 every-of p f (x ∷ xs) = ap (λ (b : Bool). p (f x) && b) (every-of p f xs)
@@ -117,7 +117,7 @@ said-range c h (t ∷ ts) =
 
 -- ---- All of them.
 
-all-there : (xs : List (Maybe Record)) → there (allOf xs) ≡ every there xs
+pub all-there : (xs : List (Maybe Record)) → there (allOf xs) ≡ every there xs
 unfolding allOf every holds
 all-there [] = refl
 all-there (none ∷ xs) = refl

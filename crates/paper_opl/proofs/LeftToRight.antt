@@ -38,7 +38,7 @@ module _ {A : Type 0} (w : Text) (g : List Given → A) where
       ∙ each-append (λ t. g (t .given)) (keep (λ t. same (t .name) w) (tagsOf i)) (keep (λ t. same (t .name) w) (tagsOf b))) in
       on-test (same v w) (λ q. rw q (ap (λ (l : List A). g gs ∷ l) o)) (λ q. rw q o)
 
-declared-are : (e w : String) (es : Elements) → declaredBy e w es ≡ declaredIn e w (tagsOf es)
+pub declared-are : (e w : String) (es : Elements) → declaredBy e w es ≡ declaredIn e w (tagsOf es)
 declared-are e w es = by-name (text e) (valueOf (text w)) 0 es
 
 pub names-are : (es : Elements) (ls : List Line) → namesOf es ls ≡ namesIn (tagsOf es) ls
