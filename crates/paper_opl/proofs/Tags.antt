@@ -20,7 +20,7 @@ use Rattle.paper_opl.proofs.Counts.{below, below-le, below-cond, below-
 
 -- ---- A tag takes a byte at least, so any count from the length on does.
 
-plain-below : (s : Text) → below (length s) (plain s)
+pub plain-below : (s : Text) → below (length s) (plain s)
 unfolding plain
 plain-below s =
     below-after (name s) (λ w r. after (equals r) (λ _ u. after (value u) (λ v z. got (record { name = w; value = v }) z))) (length s) (length s) (word-strict inName s) (λ w r l.
