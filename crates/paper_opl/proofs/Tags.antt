@@ -152,7 +152,7 @@ pub record Begun (s : Text) (w u : Text) : Type 0 where
   pub named : name behind ≡ got w u
   pub no-comment : starts (text "<!") s ≡ false
 
-begun : (left : List Child) (s : Text) (c : Opened) (u : Text) → opening left s ≡ got c u → Begun s (c .name) u
+pub begun : (left : List Child) (s : Text) (c : Opened) (u : Text) → opening left s ≡ got c u → Begun s (c .name) u
 unfolding opening
 begun left s c u e =
     on-test (starts (text "<!") s || starts (text "<?") s) (λ q. absurd (bad≢got (rw q at e)))
