@@ -1,19 +1,18 @@
 -- What was read of bytes, as a layout: white space, comments, names and values.
 use mathlib.Core.Path.{_≡_, refl, sym, ap, _∙_}
-use mathlib.Core.List.{List, [], _∷_, _++_}
-use mathlib.Core.Bool.{Bool, true, false, not, cond, _&&_, _||_, false≢true, true≢false}
+use mathlib.Core.List.{[], _∷_, _++_}
+use mathlib.Core.Bool.{Bool, true, false, _&&_, _||_, false≢true, true≢false}
 use Prim.Native.Nat.{ℕ, zero, suc}
 use lib.Dec.{eqb}
 use lib.ListN.{length, drop}
 use borrow.Author.Tests.{eqb-true}
 use Rattle.paper_lower.specs.Lists.{every}
 use Rattle.paper_lower.proofs.ListLaws.{both}
-use Rattle.paper_opl.specs.Reading.{Text, Read, after, text, same, run, behind, word, starts, expect, white, control, skip, space, name, inName, inValue, upTo, value, equals, closing, comment, misc}
-use Rattle.paper_opl.specs.Reading.Read.{got, bad}
+use Rattle.paper_opl.specs.Reading.{Text, text, same, run, behind, word, starts, expect, white, control, skip, space, inValue, upTo, value, equals, closing, comment, misc}
+use Rattle.paper_opl.specs.Reading.Read.{got}
 use Rattle.paper_opl.specs.Layout.{blank, someBlank, calm, Gap, gap, gapFits, Value, quoted, quoteFits, valueText, valueFits}
 use Rattle.paper_opl.specs.Layout.Gap.{space as only-space, comment as with-comment}
 use Rattle.paper_opl.proofs.Inversion.{on, on-test, bad≢got, got-rest, got-value}
-use Rattle.paper_opl.proofs.Conforms.{same-true}
 
 -- ---- Words.
 
@@ -142,7 +141,7 @@ comment-laid (b ∷ s) r e =
     (λ c.
     let x = comment-laid s r (rw (q, c) at e) in
     let y : eqb 45 b && (same (x .0) [] || starts (text "-") (x .0)) ≡ false
-        = on-test (eqb 45 b) (λ h. rw (h, hyphen-back (x .0) r (ap (starts (text "-")) (sym (x .2)) ∙ (rw h at q)))) (λ h. rw h) in
+    = on-test (eqb 45 b) (λ h. rw (h, hyphen-back (x .0) r (ap (starts (text "-")) (sym (x .2)) ∙ (rw h at q)))) (λ h. rw h) in
     (b ∷ x .0, calm-more b (x .0) c y (x .1), ap (λ (z : Text). b ∷ z) (x .2))))
 
 pub gap-laid : (n : ℕ) (s r : Text) → misc n s ≡ got tt r → (g : Gap) × (gapFits g ≡ true) × (s ≡ gap g r)
@@ -154,8 +153,10 @@ gap-laid (suc n) s r e =
     (λ q. on (comment (drop 4 (skip s)))
     (λ _ u c.
     let x = comment-laid (drop 4 (skip s)) u c in
-    let y = gap-laid n u r (rw (q, c) at e) in
-    (with-comment (run white s) (x .0) (y .0), rw (w .0, x .1, y .1),
-    w .1 ∙ ap (λ (z : Text). run white s ++ z) (opens (skip s) q ∙ ap (λ (z : Text). text "<!--" ++ z) (x .2 ∙ ap (λ (z : Text). x .0 ++ (text "-->" ++ z)) (y .2)))))
+    let y = gap-laid n u r (rw (q, c) at e) in (
+      with-comment (run white s) (x .0) (y .0),
+      rw (w .0, x .1, y .1),
+      w .1 ∙ ap (λ (z : Text). run white s ++ z) (opens (skip s) q ∙ ap (λ (z : Text). text "<!--" ++ z) (x .2 ∙ ap (λ (z : Text). x .0 ++ (text "-->" ++ z)) (y .2))),
+    ))
     (λ u c. absurd (bad≢got (rw (q, c) at e))))
     (λ q. (only-space (run white s), w .0, w .1 ∙ ap (λ (z : Text). run white s ++ z) (got-rest (rw q at e))))

@@ -1,20 +1,20 @@
 -- In an accepted text every cardinality is a number up to 255.
-use mathlib.Core.Path.{_≡_, refl, sym, ap, _∙_}
-use mathlib.Core.List.{List, [], _∷_, _++_}
-use mathlib.Core.Bool.{Bool, true, false, not, cond, _&&_, _||_, false≢true, true≢false}
-use Prim.Native.Nat.{ℕ, zero, suc, _<_, _≤_}
+use mathlib.Core.Path.{_≡_, refl, sym}
+use mathlib.Core.List.{List, [], _∷_}
+use mathlib.Core.Bool.{Bool, true, false, not, _&&_, _||_, false≢true}
+use Prim.Native.Nat.{ℕ, zero, suc, _≤_}
 use native.Mathlib.Omega.{arith}
-use lib.Dec.{eqb, leb}
+use lib.Dec.{leb}
 use lib.ListN.{length, drop}
-use borrow.Author.Tests.{leb-true, not-true}
-use Rattle.paper_lower.specs.Lists.{Maybe, some, every, keep, Every, listsOpen}
-use Rattle.paper_lower.specs.Lists.Maybe.{none, just}
+use borrow.Author.Tests.{leb-true}
+use Rattle.paper_lower.specs.Lists.{some, every, keep, Every, listsOpen}
+use Rattle.paper_lower.specs.Lists.Maybe.{just}
 use Rattle.paper_lower.proofs.ListLaws.{both, every-append}
-use Rattle.paper_opl.specs.Reading.{Text, Read, after, text, same, starts, expect, skip, space, name, value, equals, misc, readingOpen}
-use Rattle.paper_opl.specs.Reading.Read.{got, bad}
-use Rattle.paper_opl.specs.Elements.{Class, Attribute, Child, Element, elements, rowIn, mayEnd, elementsOpen}
+use Rattle.paper_opl.specs.Reading.{Text, Read, text, same, starts, expect, skip, space, name, value, equals, misc, readingOpen}
+use Rattle.paper_opl.specs.Reading.Read.{got}
+use Rattle.paper_opl.specs.Elements.{Class, Attribute, Child, elements, rowIn, mayEnd, elementsOpen}
 use Rattle.paper_opl.specs.Elements.Class.{names, number, any, spare}
-use Rattle.paper_opl.specs.Tree.{Given, Elements, Tag, tagsOf, if-found, digit, decimal, fits, required, find, without, attribute, attributes, Opened, opening, ending, Inside, content, element, prolog, DEPTH, document}
+use Rattle.paper_opl.specs.Tree.{Given, Elements, digit, decimal, fits, required, find, without, attribute, attributes, opening, ending, Inside, content, element, prolog, DEPTH, document}
 use Rattle.paper_opl.specs.Tree.Elements.{nothing, node}
 use Rattle.paper_opl.specs.Naming.{Found, those, insides, inAll, inEach, valueOf}
 use Rattle.paper_opl.proofs.Inversion.{on, on-test, on-found, bad≢got, got-value, none≢just, just-value}

@@ -1,20 +1,20 @@
 -- What an accepted text's elements keep of the table: each stands in an element whose row has it as a child. What holds of every row, by
 -- one computed test, so holds of every element and what stands in it.
-use mathlib.Core.Path.{_≡_, refl, sym, ap, _∙_}
-use mathlib.Core.List.{List, [], _∷_, _++_}
-use mathlib.Core.Bool.{Bool, true, false, not, cond, _&&_, _||_, false≢true, true≢false}
-use Prim.Native.Nat.{ℕ, zero, suc, _+_}
+use mathlib.Core.Path.{_≡_, refl, sym, ap}
+use mathlib.Core.List.{List, [], _∷_}
+use mathlib.Core.Bool.{Bool, true, _&&_, _||_, false≢true}
+use Prim.Native.Nat.{ℕ, zero, suc}
 use lib.Dec.{eqb}
 use lib.ListN.{length, drop}
 use borrow.Author.Tests.{eqb-true}
-use Rattle.paper_lower.specs.Lists.{Maybe, some, every}
-use Rattle.paper_lower.specs.Lists.Maybe.{none, just}
+use Rattle.paper_lower.specs.Lists.{some, every}
+use Rattle.paper_lower.specs.Lists.Maybe.{just}
 use Rattle.paper_lower.proofs.ListLaws.{both, or-true}
-use Rattle.paper_opl.specs.Reading.{Text, Read, after, text, same, starts, expect, skip, name, misc}
-use Rattle.paper_opl.specs.Reading.Read.{got, bad}
+use Rattle.paper_opl.specs.Reading.{Text, Read, text, same, starts, expect, skip, name, misc}
+use Rattle.paper_opl.specs.Reading.Read.{got}
 use Rattle.paper_opl.specs.Elements.{Times, Child, Element, elements, rowIn, one, needed, follow, next, mayEnd}
 use Rattle.paper_opl.specs.Elements.Times.{once, perhaps, often, least}
-use Rattle.paper_opl.specs.Tree.{Given, Elements, if-found, attributes, Opened, opening, ending, Inside, content, element, prolog, DEPTH, document}
+use Rattle.paper_opl.specs.Tree.{Elements, attributes, Opened, opening, ending, Inside, content, element, prolog, DEPTH, document}
 use Rattle.paper_opl.specs.Tree.Elements.{nothing, node}
 use Rattle.paper_opl.proofs.Inversion.{on, on-test, on-found, bad≢got, got-value, none≢just, just-value}
 
@@ -50,9 +50,6 @@ child-has q [] w h e = absurd (false≢true e)
 child-has q (c ∷ cs) w h e =
     let b = both (every q (c .names)) (forNames q cs) h in
     on-test (some (same w) (c .names)) (λ s. name-has q (c .names) w (b .0) s) (λ s. child-has q cs w (b .1) (rw s at e))
-
-or-left : (a b : Bool) → a ≡ true → a || b ≡ true
-or-left a b e = rw e
 
 -- what may follow was among the children before
 follow-among : (t : Times) (vs : List Text) (cs : List Child) (v : Text) → among (follow t vs cs) v ≡ true → some (same v) vs || among cs v ≡ true

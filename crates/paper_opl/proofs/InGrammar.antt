@@ -1,17 +1,16 @@
 -- What is read is a tree of the grammar: an accepted text has no attribute or element too many, misplaced or missing.
-use mathlib.Core.Path.{_≡_, refl, sym, ap, _∙_}
-use mathlib.Core.List.{List, [], _∷_, _++_}
-use mathlib.Core.Bool.{Bool, true, false, not, cond, _&&_, _||_, false≢true, true≢false}
+use mathlib.Core.Path.{_≡_, sym}
+use mathlib.Core.List.{List, [], _∷_}
+use mathlib.Core.Bool.{true, _&&_, _||_}
 use Prim.Native.Nat.{ℕ, zero, suc}
 use lib.ListN.{length, drop}
-use Rattle.paper_lower.specs.Lists.{Maybe, some, every}
-use Rattle.paper_lower.specs.Lists.Maybe.{none, just}
+use Rattle.paper_lower.specs.Lists.{some, every}
+use Rattle.paper_lower.specs.Lists.Maybe.{just}
 use Rattle.paper_lower.proofs.ListLaws.{both}
-use Rattle.paper_opl.specs.Reading.{Text, Read, after, text, same, starts, expect, skip, space, name, value, equals, misc}
-use Rattle.paper_opl.specs.Reading.Read.{got, bad}
+use Rattle.paper_opl.specs.Reading.{Text, Read, text, same, starts, expect, skip, space, name, value, equals, misc}
+use Rattle.paper_opl.specs.Reading.Read.{got}
 use Rattle.paper_opl.specs.Elements.{Attribute, Child, elements, rowIn, next, mayEnd}
-use Rattle.paper_opl.specs.Tree.{Given, Elements, if-found, fits, required, find, without, attribute, attributes, opening, ending, Inside, content, element, prolog, DEPTH, document}
-use Rattle.paper_opl.specs.Tree.Elements.{nothing, node}
+use Rattle.paper_opl.specs.Tree.{Given, Elements, fits, required, find, without, attribute, attributes, opening, ending, Inside, content, element, prolog, DEPTH, document}
 use Rattle.paper_opl.specs.Layout.{attributesFit, elementsFit, inGrammar}
 use Rattle.paper_opl.proofs.Inversion.{on, on-test, on-found, bad≢got, got-value, none≢just, just-value}
 use Rattle.paper_opl.proofs.Conforms.{opened-fits, root}

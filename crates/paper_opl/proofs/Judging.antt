@@ -1,20 +1,20 @@
 -- NAMES from left to right: the records are there exactly when each tag's is, in whatever order they are looked at; and which they are.
 use mathlib.Core.Path.{_≡_, refl, sym, ap, _∙_}
 use mathlib.Core.List.{List, [], _∷_, _++_}
-use mathlib.Core.Bool.{Bool, true, false, not, cond, _&&_, _||_, false≢true, true≢false}
+use mathlib.Core.Bool.{Bool, true, false, not, _&&_, _||_, true≢false}
 use Prim.Native.Nat.{ℕ, zero, suc}
 use lib.Dec.{eqb, leb}
 use borrow.Author.Tests.{eqb-true}
-use Rattle.paper_lower.specs.Lists.{Maybe, holds, there, some, every, many, keep, each, listsOpen}
+use Rattle.paper_lower.specs.Lists.{Maybe, holds, there, every, many, keep, each, listsOpen}
 use Rattle.paper_lower.specs.Lists.Maybe.{none, just}
 use Rattle.paper_lower.specs.Records.{Record}
 use Rattle.paper_lower.proofs.ListLaws.{both}
 use Rattle.paper_opl.specs.Reading.{Text, text, same}
-use Rattle.paper_opl.specs.Tree.{Tag, if-found}
+use Rattle.paper_opl.specs.Tree.{Tag}
 use Rattle.paper_opl.specs.Naming.{Line, Names, taskRecord, allOf}
-use Rattle.paper_opl.specs.Walk.{called, namesIn, Context, start, turn, kinds, kindIn, kindAt, leading, Saying, saying, sayings, recordSaid, rising, recordsIn}
+use Rattle.paper_opl.specs.Walk.{called, namesIn, Context, start, turn, kinds, kindIn, kindAt, Saying, sayings, recordSaid, rising, recordsIn}
 use Rattle.paper_opl.proofs.Inversion.{on-test, on-found, none≢just, just-value}
-use Rattle.paper_opl.proofs.KindByKind.{each-append, Sets, turn-sets}
+use Rattle.paper_opl.proofs.KindByKind.{Sets, turn-sets}
 
 -- ---- Every one of a list.
 

@@ -1,26 +1,26 @@
 -- The walk from left to right gives the names and the records that the elements of an accepted text say.
 use mathlib.Core.Path.{_≡_, refl, sym, ap, _∙_}
-use mathlib.Core.List.{List, [], _∷_, _++_, append-assoc, append-nil}
-use mathlib.Core.Bool.{Bool, true, false, not, cond, _&&_, _||_, false≢true, true≢false}
-use Prim.Native.Nat.{ℕ, zero, suc, _+_, _-_}
+use mathlib.Core.List.{List, [], _∷_, _++_, append-nil}
+use mathlib.Core.Bool.{true, not}
+use Prim.Native.Nat.{ℕ, suc}
 use Prim.Native.String.{String}
-use lib.Dec.{eqb, leb}
+use lib.Dec.{eqb}
 use borrow.Author.Tests.{eqb-true}
-use Rattle.paper_lower.specs.Lists.{Maybe, some, every, many, keep, each, Every, listsOpen}
-use Rattle.paper_lower.specs.Lists.Maybe.{none, just}
+use Rattle.paper_lower.specs.Lists.{Maybe, many, keep, each, listsOpen}
+use Rattle.paper_lower.specs.Lists.Maybe.{just}
 use Rattle.paper_lower.specs.Records.{Record}
 use Rattle.paper_lower.proofs.ListLaws.{or-none}
-use Rattle.paper_opl.specs.Reading.{Text, text, Read, same, readingOpen}
-use Rattle.paper_opl.specs.Reading.Read.{got, bad}
+use Rattle.paper_opl.specs.Reading.{Text, text, same, readingOpen}
+use Rattle.paper_opl.specs.Reading.Read.{got}
 use Rattle.paper_opl.specs.Elements.{elements, elementsOpen}
-use Rattle.paper_opl.specs.Tree.{Given, Elements, Tag, tagsOf, if-found, document}
+use Rattle.paper_opl.specs.Tree.{Given, Elements, tagsOf, document}
 use Rattle.paper_opl.specs.Tree.Elements.{nothing, node}
-use Rattle.paper_opl.specs.Naming.{Line, Found, those, insides, inAll, inEach, valueOf, declaredBy, Names, spaceOf, namesOf, Row, firstRows, lastRows, recordBy, taskRecord, recordsBy, allOf, recordsOf}
-use Rattle.paper_opl.specs.Walk.{called, declaredIn, namesIn, Context, start, turn, kinds, kindIn, innerNames, leading, Saying, sayings, rowOf, recordSaid, rising, recordsIn, tags}
+use Rattle.paper_opl.specs.Naming.{Line, those, insides, inAll, inEach, valueOf, declaredBy, Names, spaceOf, namesOf, Row, firstRows, lastRows, recordBy, recordsBy, recordsOf}
+use Rattle.paper_opl.specs.Walk.{called, declaredIn, namesIn, start, turn, kinds, kindIn, innerNames, leading, Saying, sayings, rowOf, recordSaid, rising, recordsIn, tags}
 use Rattle.paper_opl.proofs.Inversion.{on-test}
 use Rattle.paper_opl.proofs.Conforms.{same-true, forNames, Fits, root, document-fits}
 use Rattle.paper_opl.proofs.Groups.{innerName, told, told-is}
-use Rattle.paper_opl.proofs.KindByKind.{keep-append, each-append, ofKind, simpleTest, simple, static, dynamic, separation, inSeparation, inSeparationNames, role-sets, inPartitioning, partitions}
+use Rattle.paper_opl.proofs.KindByKind.{keep-append, each-append, ofKind, simpleTest, simple, static, dynamic, inSeparationNames, role-sets, partitions}
 use Rattle.paper_opl.proofs.Tags.{tags-are}
 
 -- ---- Names.

@@ -1,26 +1,25 @@
 -- Where no name is refused, every declared name has at most 64 bytes.
 use mathlib.Core.Path.{_≡_, refl, sym, ap, _∙_}
 use mathlib.Core.List.{List, [], _∷_, _++_}
-use mathlib.Core.Bool.{Bool, true, false, not, cond, _&&_, _||_, false≢true, true≢false}
-use Prim.Native.Nat.{ℕ, zero, suc}
+use mathlib.Core.Bool.{Bool, true, false, not, _&&_, _||_, false≢true, true≢false}
 use Prim.Native.String.{String}
-use lib.Dec.{eqb, ltb, leb}
+use lib.Dec.{ltb, leb}
 use lib.ListN.{length}
 use borrow.Author.Tests.{not-true}
-use Rattle.paper_lower.specs.Lists.{Maybe, holds, there, some, every, many, keep, each, listsOpen}
-use Rattle.paper_lower.specs.Lists.Maybe.{none, just}
+use Rattle.paper_lower.specs.Lists.{holds, there, some, every, many, keep, each, listsOpen}
+use Rattle.paper_lower.specs.Lists.Maybe.{just}
 use Rattle.paper_lower.specs.Records.{Record}
 use Rattle.paper_lower.proofs.ListLaws.{both}
-use Rattle.paper_opl.specs.Reading.{Text, text, Read, same, readingOpen}
-use Rattle.paper_opl.specs.Reading.Read.{got, bad}
+use Rattle.paper_opl.specs.Reading.{Text, text, same, readingOpen}
+use Rattle.paper_opl.specs.Reading.Read.{got}
 use Rattle.paper_opl.specs.Elements.{Child, elements, rowIn, one, next, elementsOpen}
-use Rattle.paper_opl.specs.Tree.{Given, Elements, Tag, tagsOf, if-found, document}
+use Rattle.paper_opl.specs.Tree.{Given, Elements, Tag, tagsOf, document}
 use Rattle.paper_opl.specs.Tree.Elements.{nothing, node}
 use Rattle.paper_opl.specs.Layout.{elementsFit, inGrammar, attributesFit}
-use Rattle.paper_opl.specs.Naming.{Line, Found, those, valueOf, Space, placeOf, numberIn, Names, namesOf, declaredBy, Field, the, its, members, ofFirst, Row, firstRows, lastRows, recordBy, taskRecord, recordsBy, allOf, recordsOf, row, all, ·, user, role, permission as permission-field, operation as operation-field, object as object-field}
+use Rattle.paper_opl.specs.Naming.{Line, Found, those, valueOf, Space, placeOf, numberIn, Names, namesOf, Field, the, its, Row, firstRows, lastRows, recordBy, taskRecord, recordsBy, allOf, recordsOf, row, all, ·, user, role, permission as permission-field, operation as operation-field, object as object-field}
 use Rattle.paper_opl.specs.Walk.{declaredIn, recordsIn, tags}
 use Rattle.paper_opl.proofs.Inversion.{on-test, on-found, none≢just, just-value}
-use Rattle.paper_opl.proofs.Conforms.{same-true, among, forNames, child-has, next-among, root}
+use Rattle.paper_opl.proofs.Conforms.{same-true, among, child-has, next-among, root}
 use Rattle.paper_opl.proofs.Groups.{groupTest, stands-out}
 use Rattle.paper_opl.proofs.KindByKind.{each-append}
 use Rattle.paper_opl.proofs.Judging.{every-append, every-of, all-there}

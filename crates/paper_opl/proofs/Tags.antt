@@ -1,22 +1,22 @@
 -- The walk from tag to tag meets the elements of an accepted text, each once, in text order.
 use mathlib.Core.Path.{_≡_, refl, sym, ap, _∙_}
 use mathlib.Core.List.{List, [], _∷_, _++_, append-assoc}
-use mathlib.Core.Bool.{Bool, true, false, not, cond, _&&_, _||_, false≢true, true≢false}
-use Prim.Native.Nat.{ℕ, zero, suc, _+_, _<_, _≤_}
+use mathlib.Core.Bool.{true, false, cond, _&&_, _||_, false≢true, true≢false}
+use Prim.Native.Nat.{ℕ, zero, suc, _<_, _≤_}
 use native.Mathlib.Omega.{arith}
 use lib.Dec.{eqb}
 use lib.ListN.{length, drop}
 use borrow.Author.Tests.{eqb-true}
 use Rattle.paper_lower.specs.Lists.{some}
 use Rattle.paper_lower.proofs.ListLaws.{or-none}
-use Rattle.paper_opl.specs.Reading.{Text, Read, after, text, same, run, behind, word, starts, expect, white, skip, space, inName, name, value, equals, misc}
+use Rattle.paper_opl.specs.Reading.{Text, Read, after, text, same, behind, word, starts, expect, white, skip, space, inName, name, value, equals, misc}
 use Rattle.paper_opl.specs.Reading.Read.{got, bad}
 use Rattle.paper_opl.specs.Elements.{Attribute, Child, Element, elements, rowIn, one, next, mayEnd}
-use Rattle.paper_opl.specs.Tree.{Given, Elements, Tag, tagsOf, if-found, fits, required, find, without, attribute, attributes, Opened, opening, ending, Inside, content, element, prolog, DEPTH, document}
-use Rattle.paper_opl.specs.Tree.Elements.{nothing, node}
-use Rattle.paper_opl.specs.Walk.{plain, givens, closed, startTag, endTag, tag, onward, tagsFrom, tags}
+use Rattle.paper_opl.specs.Tree.{Given, Elements, Tag, tagsOf, fits, required, find, without, attribute, attributes, Opened, opening, ending, Inside, content, element, prolog, DEPTH, document}
+use Rattle.paper_opl.specs.Tree.Elements.{nothing}
+use Rattle.paper_opl.specs.Walk.{plain, givens, closed, startTag, endTag, tag, tagsFrom, tags}
 use Rattle.paper_opl.proofs.Inversion.{on, on-test, on-found, bad≢got, got-rest, got-value}
-use Rattle.paper_opl.proofs.Counts.{below, below-le, below-cond, below-after, below-of, behind-le, drop-le, word-strict, expect-below, one-below, space-strict, misc-below, value-below, equals-below, starts-le}
+use Rattle.paper_opl.proofs.Counts.{below, below-le, below-cond, below-after, below-of, behind-le, drop-le, word-strict, expect-below, space-strict, misc-below, value-below, equals-below}
 
 -- ---- A tag takes a byte at least, so any count from the length on does.
 

@@ -1,24 +1,22 @@
 -- An accepted text is a writing of its tree: nothing stands in it that the layout of a tree does not have.
-use mathlib.Core.Path.{_≡_, refl, sym, ap, _∙_, subst}
+use mathlib.Core.Path.{_≡_, refl, sym, ap, _∙_}
 use mathlib.Core.List.{List, [], _∷_, _++_}
-use mathlib.Core.Bool.{Bool, true, false, not, cond, _&&_, _||_, false≢true, true≢false}
+use mathlib.Core.Bool.{true, false, _&&_, _||_}
 use Prim.Native.Nat.{ℕ, zero, suc}
-use lib.Dec.{eqb}
 use lib.ListN.{length, drop}
-use Rattle.paper_lower.specs.Lists.{Maybe, some, every, each}
-use Rattle.paper_lower.specs.Lists.Maybe.{none, just}
+use Rattle.paper_lower.specs.Lists.{some, every, each}
 use Rattle.paper_lower.proofs.ListLaws.{both}
-use Rattle.paper_opl.specs.Reading.{Text, Read, after, text, same, run, starts, expect, white, skip, space, name, inName, value, equals, misc}
-use Rattle.paper_opl.specs.Reading.Read.{got, bad}
+use Rattle.paper_opl.specs.Reading.{Text, Read, text, same, run, starts, expect, white, skip, space, name, inName, value, equals, misc}
+use Rattle.paper_opl.specs.Reading.Read.{got}
 use Rattle.paper_opl.specs.Elements.{Attribute, Child, Element, elements, rowIn, mayEnd}
-use Rattle.paper_opl.specs.Tree.{Given, Elements, if-found, fits, required, find, without, attribute, attributes, opening, ending, Inside, content, element}
+use Rattle.paper_opl.specs.Tree.{Given, Elements, fits, required, find, without, attribute, attributes, opening, ending, Inside, content, element}
 use Rattle.paper_opl.specs.Tree.Elements.{nothing, node}
-use Rattle.paper_opl.specs.Layout.{blank, someBlank, Gap, gap, gapFits, Value, valueText, valueFits, Attributed, attributesText, attributesLaid, givenBy, Layout, layoutText, layoutFits, treeOf}
+use Rattle.paper_opl.specs.Layout.{blank, Gap, gap, gapFits, Value, valueText, valueFits, Attributed, attributesText, attributesLaid, givenBy, Layout, layoutText, layoutFits, treeOf}
 use Rattle.paper_opl.specs.Layout.Layout.{last, short, long}
 use Rattle.paper_opl.proofs.Inversion.{on, on-test, on-found, bad≢got, got-rest, got-value}
 use Rattle.paper_opl.proofs.Conforms.{same-true, row-name}
 use Rattle.paper_opl.proofs.Tags.{Begun, begun}
-use Rattle.paper_opl.proofs.BytesLaid.{Word, word-laid, expect-laid, starts-laid, skip-laid, space-laid, Laid, equals-laid, gap-laid}
+use Rattle.paper_opl.proofs.BytesLaid.{word-laid, expect-laid, starts-laid, skip-laid, space-laid, equals-laid, gap-laid}
 
 -- ---- Attributes.
 
@@ -91,7 +89,7 @@ pub record Content (w s : Text) (es : Elements) (r : Text) : Type 0 where
   pub blank-is : blank last ≡ true
   pub text-is : s ≡ layoutText layout (text "</" ++ (w ++ (last ++ (text ">" ++ r))))
 
-node-same : {v : Text} {gs hs : List Given} {a b c d : Elements} → gs ≡ hs → a ≡ b → c ≡ d → node v gs a c ≡ node v hs b d
+pub node-same : {v : Text} {gs hs : List Given} {a b c d : Elements} → gs ≡ hs → a ≡ b → c ≡ d → node v gs a c ≡ node v hs b d
 node-same {v} p q r = λ i. node v (p i) (q i) (r i)
 
 -- one element more
@@ -135,7 +133,7 @@ the-end w s u v z y g f p c n k x =
 abbrev LaidBy : (Text → Text → Read Inside) → Type 0
 LaidBy inner = (v u : Text) (i : Inside) (z : Text) → inner v u ≡ got i z → ElementLaid v u i z
 
-started : (u : Text) (left : List Child) (v z : Text) → Begun u v z → u ≡ text "<" ++ (v ++ z)
+pub started : (u : Text) (left : List Child) (v z : Text) → Begun u v z → u ≡ text "<" ++ (v ++ z)
 started u left v z b = expect-laid (text "<") u (b .behind) (b .sign) ∙ ap (λ (t : Text). text "<" ++ t) (word-laid inName (b .behind) v z (b .named) .text-is)
 
 content-laid : (inner : Text → Text → Read Inside) → LaidBy inner → (n : ℕ) (w : Text) (left : List Child) (s : Text) (es : Elements) (r : Text) → content inner n w left s ≡ got es r → Content w s es r

@@ -1,6 +1,7 @@
 -- Trees of the grammar, and how a tree may be written: white space, comments, quotes, the two forms of an empty element, a declaration
 -- and a DOCTYPE. A reader that refuses what it should read, or reads it otherwise, is shut out by what is proved of these.
 use Prim.Native.Nat.{ℕ}
+use mathlib.Core.Path.{_≡_}
 use mathlib.Core.Bool.{Bool, true, false, not, _&&_, _||_}
 use mathlib.Core.List.{List, [], _∷_, _++_}
 use lib.Dec.{eqb}
@@ -168,6 +169,14 @@ documentText x = declarationText (x .declaration) (doctypeText (x .doctype) (lay
 
 abbrev pub documentFits : Document → Bool
 documentFits x = declarationFits (x .declaration) && (doctypeFits (x .doctype) && layoutFits (x .root))
+
+-- the text is written from this tree of the grammar
+pub record WrittenFrom (es : Elements) (s : Text) : Type 0 where
+  pub layout : Document
+  pub fits : documentFits layout ≡ true
+  pub tree-is : treeOf (layout .root) ≡ es
+  pub in-grammar : inGrammar es ≡ true
+  pub text-is : s ≡ documentText layout
 
 -- What this page defines, opened together where a case is computed.
 unfoldable pub layoutOpen : Unit {0}
