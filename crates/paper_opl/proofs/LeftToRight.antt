@@ -18,7 +18,8 @@ use Rattle.paper_opl.specs.Tree.Elements.{nothing, node}
 use Rattle.paper_opl.specs.Naming.{Line, those, insides, inAll, inEach, valueOf, declaredBy, Names, spaceOf, namesOf, Row, firstRows, lastRows, recordBy, recordsBy, recordsOf}
 use Rattle.paper_opl.specs.Walk.{called, declaredIn, namesIn, start, turn, kinds, kindIn, innerNames, leading, Saying, sayings, rowOf, recordSaid, rising, recordsIn, tags}
 use Rattle.paper_opl.proofs.Inversion.{on-test}
-use Rattle.paper_opl.proofs.Conforms.{same-true, forNames, Fits, root, document-fits}
+use Rattle.paper_opl.proofs.Conforms.{same-true, forNames, Fits, root}
+use Rattle.paper_opl.proofs.InGrammar.{document-fits}
 use Rattle.paper_opl.proofs.Groups.{innerName, told, told-is}
 use Rattle.paper_opl.proofs.KindByKind.{keep-append, each-append, ofKind, simpleTest, simple, static, dynamic, inSeparationNames, role-sets, partitions}
 use Rattle.paper_opl.proofs.Tags.{tags-are}
