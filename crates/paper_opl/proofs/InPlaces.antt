@@ -187,3 +187,93 @@ filled (y ∷ ys) next d l rest room h =
     ∙ filled ys (upd next (y .0) (suc (next (y .0)))) (done next (y .0) (y .1) ys d l room (h .0 .0) (h .0 .1)) (left next (y .0) (y .1) ys d l room (h .0 .0) (h .0 .1)) rest
     (room-left next (y .0) (y .1) ys d l room (h .0 .0) (h .0 .1)) (h .1)
     ∙ body-same 1 16 _ (λ k. d k ++ written (picked k (y ∷ ys))) (λ k. []) (λ k. []) rest (λ k i j. (pick-same next (y .0) (y .1) ys d l room (h .0 .0) (h .0 .1) k, refl))
+
+-- ---- The output before: a block for each kind.
+
+gather : ℕ → ℕ → List Kinded → List Record
+gather a zero ys = []
+gather a (suc n) ys = picked a ys ++ gather (suc a) n ys
+
+written-append : (rs us : List Record) → written (rs ++ us) ≡ written rs ++ written us
+unfolding written
+written-append [] us = refl
+written-append (r ∷ rs) us = ap (λ (x : Bytes). encode r ++ x) (written-append rs us) ∙ sym (append-assoc (encode r) (written rs) (written us))
+
+body-gathers : (n a : ℕ) (ys : List Kinded) (rest : Bytes) → body a n (λ k. written (picked k ys)) (λ k. []) rest ≡ written (gather a n ys) ++ rest
+unfolding body gather written
+body-gathers zero a ys rest = refl
+body-gathers (suc n) a ys rest =
+    ap (λ (x : Bytes). written (picked a ys) ++ x) (body-gathers n (suc a) ys rest) ∙ sym (append-assoc (written (picked a ys)) (written (gather (suc a) n ys)) rest)
+    ∙ ap (λ (x : Bytes). x ++ rest) (sym (written-append (picked a ys) (gather (suc a) n ys)))
+
+many-more : {A : Type 0} (xs ys : List A) → many (xs ++ ys) ≡ many xs + many ys
+unfolding many
+many-more [] ys = let z : 0 + many ys ≡ many ys = omega arith in sym z
+many-more (x ∷ xs) ys = let h = many-more xs ys in omega arith
+
+module _ (out : Bytes) (s c : ℕ → ℕ) (steps : (k : ℕ) → 1 ≤ k → s (suc k) ≡ s k + c k) where
+  segment : ℕ → Bytes
+  segment k = take (16 * c k) (drop (16 * s k) out)
+
+  rising-starts : (n a : ℕ) → 1 ≤ a → s a ≤ s (a + n)
+  rising-starts zero a h = let z : a + 0 ≡ a = omega arith in rw z (omega arith)
+  rising-starts (suc n) a h =
+      let z : a + suc n ≡ suc a + n = omega arith in
+      let x = rising-starts n (suc a) (omega arith) in
+      let y = steps a h in
+      rw z (omega arith)
+
+  split-out : (n a : ℕ) → 1 ≤ a → drop (16 * s a) out ≡ body a n (λ k. []) segment (drop (16 * s (a + n)) out)
+  unfolding body segment
+  split-out zero a h = let z : a + 0 ≡ a = omega arith in rw z
+  split-out (suc n) a h =
+      let y = steps a h in
+      let z : a + suc n ≡ suc a + n = omega arith in
+      let w : 16 * s a + 16 * c a ≡ 16 * s (suc a) = omega arith in
+      sym (take-append-drop (16 * c a) (drop (16 * s a) out))
+      ∙ ap (λ (x : Bytes). take (16 * c a) (drop (16 * s a) out) ++ x) (drop-drop (16 * c a) (16 * s a) out ∙ ap (λ (m : ℕ). drop m out) w ∙ split-out n (suc a) (omega arith) ∙ ap (λ (m : ℕ). body (suc a) n (λ k. []) segment (drop (16 * s m) out)) (sym z))
+
+  module _ (fits : 16 * s 17 ≤ length out) where
+    segment-length : (k : ℕ) → 1 ≤ k → k < 17 → length (segment k) ≡ 16 * c k
+    unfolding segment
+    segment-length k h l =
+        let x = rising-starts (16 - k) (suc k) (omega arith) in
+        let z : suc k + (16 - k) ≡ 17 = omega arith in
+        let y = steps k h in
+        let x2 : s (suc k) ≤ s 17 = subst (λ (m : ℕ). s (suc k) ≤ s m) z x in
+        let w = length-drop (16 * s k) out in
+        length-take-le (16 * c k) (drop (16 * s k) out) (omega arith)
+
+    before-segments : (j a : ℕ) → 1 ≤ a → a + j < 17 → 16 * s a + before a j (λ k. []) segment ≡ 16 * s (a + j)
+    unfolding before
+    before-segments zero a h l = let z : a + 0 ≡ a = omega arith in rw z (omega arith)
+    before-segments (suc j) a h l =
+        let z : a + suc j ≡ suc a + j = omega arith in
+        let x = before-segments j (suc a) (omega arith) (omega arith) in
+        let y = steps a h in
+        let w = segment-length a h (omega arith) in
+        rw z (omega arith)
+
+    places : (ys : List Kinded) → s 1 ≡ 0 → ((k : ℕ) → 1 ≤ k → k < 17 → c k ≡ many (picked k ys)) → Every InKinds ys → fillAll s ys out ≡ written (gather 1 16 ys) ++ drop (16 * s 17) out
+    unfolding body
+    places ys zero-start counts h =
+        let room : Room s ys (λ k. []) segment
+            = λ j k i e.
+            let x = before-segments j 1 (omega arith) (omega arith) in
+            let y = segment-length k (omega arith) (omega arith) in
+            let z = counts k (omega arith) (omega arith) in
+            let w : 16 * s (1 + j) ≡ 16 * s k = ap (λ (m : ℕ). 16 * s m) (sym e) in
+            (omega arith, omega arith) in
+        let o : out ≡ body 1 16 (λ k. []) segment (drop (16 * s 17) out) = ap (λ (m : ℕ). drop (16 * m) out) (sym zero-start) ∙ split-out 16 1 (omega arith) in
+        ap (fillAll s ys) o ∙ filled ys s (λ k. []) segment (drop (16 * s 17) out) room h ∙ body-gathers 16 1 ys (drop (16 * s 17) out)
+
+    starts-count : (ys : List Kinded) → ((k : ℕ) → 1 ≤ k → k < 17 → c k ≡ many (picked k ys)) → (n a : ℕ) → 1 ≤ a → a + n ≤ 17 → s a + many (gather a n ys) ≡ s (a + n)
+    unfolding gather many
+    starts-count ys counts zero a h l = let z : a + 0 ≡ a = omega arith in rw z (omega arith)
+    starts-count ys counts (suc n) a h l =
+        let z : a + suc n ≡ suc a + n = omega arith in
+        let x = starts-count ys counts n (suc a) (omega arith) (omega arith) in
+        let y = steps a h in
+        let w = counts a h (omega arith) in
+        let m = many-more (picked a ys) (gather (suc a) n ys) in
+        rw z (omega arith)
