@@ -1,15 +1,14 @@
 -- Records that are written where they belong, in whatever order, come out with kinds rising.
 use mathlib.Core.Path.{_≡_, refl, sym, ap, _∙_, subst}
 use mathlib.Core.List.{List, [], _∷_, _++_, append-assoc, append-nil}
-use mathlib.Core.Bool.{Bool, true, false, not, cond, _&&_, _||_, false≢true, true≢false}
+use mathlib.Core.Bool.{Bool, cond}
 use Prim.Native.Nat.{ℕ, zero, suc, _+_, _*_, _-_, _<_, _≤_}
 use native.Mathlib.Omega.{arith}
-use lib.Dec.{eqb, leb}
-use lib.ListN.{length, take, drop, length-append, length-take, length-drop, take-append-drop}
-use lib.Seq.{take-at, drop-at, drop-append-le, drop-drop, take-add, length-take-le}
-use borrow.Author.Tests.{eqb-true, eqb-false, eq-eqb, ne-eqb, leb-true}
-use Rattle.paper_lower.specs.Lists.{Maybe, upd, many, keep, each, Every}
-use Rattle.paper_lower.specs.Lists.Maybe.{none, just}
+use lib.Dec.{eqb}
+use lib.ListN.{length, take, drop, length-append, length-drop, take-append-drop}
+use lib.Seq.{take-at, drop-at, drop-append-le, drop-drop, length-take-le}
+use borrow.Author.Tests.{eqb-true, eqb-false, eq-eqb, ne-eqb}
+use Rattle.paper_lower.specs.Lists.{upd, many, Every}
 use Rattle.paper_lower.specs.Records.{Bytes, Record, bytes, encode}
 use Rattle.paper_lower.proofs.ListLaws.{upd-same, upd-other}
 use Rattle.paper_opl.specs.Naming.{written}
@@ -87,7 +86,6 @@ put-body (suc n) (suc j) a k p d l rest q r i z e h =
     let v = put-body n j (suc a) k (p ++ (d a ++ l a)) d l rest q r (omega arith) (omega arith) (omega arith) h in
     later n a k p d l (d k ++ encode r) (drop 16 (l k)) rest q r (λ w. omega arith) v
 
-
 before-same : (j a : ℕ) (d l e m : ℕ → Bytes) → ((k : ℕ) → length (d k) + length (l k) ≡ length (e k) + length (m k)) → before a j d l ≡ before a j e m
 unfolding before
 before-same zero a d l e m h = refl
@@ -95,14 +93,14 @@ before-same (suc j) a d l e m h = let x = h a in let y = before-same j (suc a) d
 
 -- ---- Records with their kinds, each put at the next place of its kind.
 
-abbrev Kinded : Type 0
+abbrev pub Kinded : Type 0
 Kinded = ℕ × Record
 
-fillAll : (ℕ → ℕ) → List Kinded → Bytes → Bytes
+unfoldable pub fillAll : (ℕ → ℕ) → List Kinded → Bytes → Bytes
 fillAll next [] out = out
 fillAll next (y ∷ ys) out = fillAll (upd next (y .0) (suc (next (y .0)))) ys (putAt out (next (y .0)) (y .1))
 
-picked : ℕ → List Kinded → List Record
+unfoldable pub picked : ℕ → List Kinded → List Record
 picked k [] = []
 picked k (y ∷ ys) = cond (eqb (y .0) k) (y .1 ∷ picked k ys) (picked k ys)
 
@@ -110,7 +108,7 @@ picked k (y ∷ ys) = cond (eqb (y .0) k) (y .1 ∷ picked k ys) (picked k ys)
 abbrev Room : (ℕ → ℕ) → List Kinded → (ℕ → Bytes) → (ℕ → Bytes) → Type 0
 Room next ys d l = (j k : ℕ) → j < 16 → k ≡ 1 + j → (16 * next k ≡ before 1 j d l + length (d k)) × (length (l k) ≡ 16 * many (picked k ys))
 
-abbrev InKinds : Kinded → Type 0
+abbrev pub InKinds : Kinded → Type 0
 InKinds y = (1 ≤ y .0) × (y .0 < 17)
 
 no-bytes : (s : Bytes) → length s ≡ 0 → s ≡ []
@@ -190,11 +188,11 @@ filled (y ∷ ys) next d l rest room h =
 
 -- ---- The output before: a block for each kind.
 
-gather : ℕ → ℕ → List Kinded → List Record
+unfoldable pub gather : ℕ → ℕ → List Kinded → List Record
 gather a zero ys = []
 gather a (suc n) ys = picked a ys ++ gather (suc a) n ys
 
-written-append : (rs us : List Record) → written (rs ++ us) ≡ written rs ++ written us
+pub written-append : (rs us : List Record) → written (rs ++ us) ≡ written rs ++ written us
 unfolding written
 written-append [] us = refl
 written-append (r ∷ rs) us = ap (λ (x : Bytes). encode r ++ x) (written-append rs us) ∙ sym (append-assoc (encode r) (written rs) (written us))
@@ -206,7 +204,7 @@ body-gathers (suc n) a ys rest =
     ap (λ (x : Bytes). written (picked a ys) ++ x) (body-gathers n (suc a) ys rest) ∙ sym (append-assoc (written (picked a ys)) (written (gather (suc a) n ys)) rest)
     ∙ ap (λ (x : Bytes). x ++ rest) (sym (written-append (picked a ys) (gather (suc a) n ys)))
 
-many-more : {A : Type 0} (xs ys : List A) → many (xs ++ ys) ≡ many xs + many ys
+pub many-more : {A : Type 0} (xs ys : List A) → many (xs ++ ys) ≡ many xs + many ys
 unfolding many
 many-more [] ys = let z : 0 + many ys ≡ many ys = omega arith in sym z
 many-more (x ∷ xs) ys = let h = many-more xs ys in omega arith
@@ -233,6 +231,17 @@ module _ (out : Bytes) (s c : ℕ → ℕ) (steps : (k : ℕ) → 1 ≤ k → s 
       sym (take-append-drop (16 * c a) (drop (16 * s a) out))
       ∙ ap (λ (x : Bytes). take (16 * c a) (drop (16 * s a) out) ++ x) (drop-drop (16 * c a) (16 * s a) out ∙ ap (λ (m : ℕ). drop m out) w ∙ split-out n (suc a) (omega arith) ∙ ap (λ (m : ℕ). body (suc a) n (λ k. []) segment (drop (16 * s m) out)) (sym z))
 
+  pub starts-count : (ys : List Kinded) → ((k : ℕ) → 1 ≤ k → k < 17 → c k ≡ many (picked k ys)) → (n a : ℕ) → 1 ≤ a → a + n ≤ 17 → s a + many (gather a n ys) ≡ s (a + n)
+  unfolding gather many
+  starts-count ys counts zero a h l = let z : a + 0 ≡ a = omega arith in rw z (omega arith)
+  starts-count ys counts (suc n) a h l =
+      let z : a + suc n ≡ suc a + n = omega arith in
+      let x = starts-count ys counts n (suc a) (omega arith) (omega arith) in
+      let y = steps a h in
+      let w = counts a h (omega arith) in
+      let m = many-more (picked a ys) (gather (suc a) n ys) in
+      rw z (omega arith)
+
   module _ (fits : 16 * s 17 ≤ length out) where
     segment-length : (k : ℕ) → 1 ≤ k → k < 17 → length (segment k) ≡ 16 * c k
     unfolding segment
@@ -254,26 +263,15 @@ module _ (out : Bytes) (s c : ℕ → ℕ) (steps : (k : ℕ) → 1 ≤ k → s 
         let w = segment-length a h (omega arith) in
         rw z (omega arith)
 
-    places : (ys : List Kinded) → s 1 ≡ 0 → ((k : ℕ) → 1 ≤ k → k < 17 → c k ≡ many (picked k ys)) → Every InKinds ys → fillAll s ys out ≡ written (gather 1 16 ys) ++ drop (16 * s 17) out
+    pub places : (ys : List Kinded) → s 1 ≡ 0 → ((k : ℕ) → 1 ≤ k → k < 17 → c k ≡ many (picked k ys)) → Every InKinds ys → fillAll s ys out ≡ written (gather 1 16 ys) ++ drop (16 * s 17) out
     unfolding body
     places ys zero-start counts h =
         let room : Room s ys (λ k. []) segment
-            = λ j k i e.
-            let x = before-segments j 1 (omega arith) (omega arith) in
-            let y = segment-length k (omega arith) (omega arith) in
-            let z = counts k (omega arith) (omega arith) in
-            let w : 16 * s (1 + j) ≡ 16 * s k = ap (λ (m : ℕ). 16 * s m) (sym e) in
-            (omega arith, omega arith) in
+        = λ j k i e.
+        let x = before-segments j 1 (omega arith) (omega arith) in
+        let y = segment-length k (omega arith) (omega arith) in
+        let z = counts k (omega arith) (omega arith) in
+        let w : 16 * s (1 + j) ≡ 16 * s k = ap (λ (m : ℕ). 16 * s m) (sym e) in
+        (omega arith, omega arith) in
         let o : out ≡ body 1 16 (λ k. []) segment (drop (16 * s 17) out) = ap (λ (m : ℕ). drop (16 * m) out) (sym zero-start) ∙ split-out 16 1 (omega arith) in
         ap (fillAll s ys) o ∙ filled ys s (λ k. []) segment (drop (16 * s 17) out) room h ∙ body-gathers 16 1 ys (drop (16 * s 17) out)
-
-    starts-count : (ys : List Kinded) → ((k : ℕ) → 1 ≤ k → k < 17 → c k ≡ many (picked k ys)) → (n a : ℕ) → 1 ≤ a → a + n ≤ 17 → s a + many (gather a n ys) ≡ s (a + n)
-    unfolding gather many
-    starts-count ys counts zero a h l = let z : a + 0 ≡ a = omega arith in rw z (omega arith)
-    starts-count ys counts (suc n) a h l =
-        let z : a + suc n ≡ suc a + n = omega arith in
-        let x = starts-count ys counts n (suc a) (omega arith) (omega arith) in
-        let y = steps a h in
-        let w = counts a h (omega arith) in
-        let m = many-more (picked a ys) (gather (suc a) n ys) in
-        rw z (omega arith)

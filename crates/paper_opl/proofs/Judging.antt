@@ -58,11 +58,11 @@ every-given g p (x ∷ xs) h = let b = both (g x) (every g xs) h in rw (b .0, ev
 -- ---- Kinds.
 
 -- one of so many kinds from k on
-oneOf : ℕ → ℕ → ℕ → Bool
+unfoldable pub oneOf : ℕ → ℕ → ℕ → Bool
 oneOf k zero j = false
 oneOf k (suc n) j = eqb j k || oneOf (suc k) n j
 
-abbrev ofTags : ℕ → Bool
+abbrev pub ofTags : ℕ → Bool
 ofTags j = oneOf 1 5 j || oneOf 7 10 j
 
 either : (a b t : Bool) → (not a || t) && (not b || t) ≡ not (a || b) || t
@@ -105,7 +105,7 @@ unfolding oneOf
 sets-range c h = on-test (eqb (c .sets) 9) (λ q. rw (eqb-true (c .sets) 9 q)) (λ q. rw (eqb-true (c .sets) 10 (rw q at h)))
 
 -- each tag says one of them
-said-range : (c : Context) → Sets c → (ts : List Tag) → every (λ x. ofTags (x .kind)) (sayings c ts) ≡ true
+pub said-range : (c : Context) → Sets c → (ts : List Tag) → every (λ x. ofTags (x .kind)) (sayings c ts) ≡ true
 unfolding sayings every
 said-range c h [] = refl
 said-range c h (t ∷ ts) =
