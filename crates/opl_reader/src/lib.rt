@@ -73,7 +73,7 @@ fn of_class(class: u64, v: &[u8]) -> bool
 }
 
 // White space, at least one byte of it.
-fn space(s: &[u8], at: usize) -> Step
+pub fn space(s: &[u8], at: usize) -> Step
     requires { ⌜ at ≤ length (now s) ⌝ }
     ensures { λ r. ⌜ Reads (now (s .entry)) (stepOf (now (s .entry))) (spaceOf (drop at (now (s .entry)))) r ⌝ }
 {
@@ -85,7 +85,7 @@ fn space(s: &[u8], at: usize) -> Step
 }
 
 // White space, "=", white space.
-fn equals(s: &[u8], at: usize) -> Step
+pub fn equals(s: &[u8], at: usize) -> Step
     requires { ⌜ at ≤ length (now s) ⌝ }
     ensures { λ r. ⌜ Reads (now (s .entry)) (stepOf (now (s .entry))) (equalsOf (drop at (now (s .entry)))) r ⌝ }
 {
@@ -413,11 +413,16 @@ pub fn prolog(s: &[u8]) -> Step
     typed(s, u)
 }
 
-// The policy object, from behind its name, with nothing behind it.
+// The policy object, from behind its name, with nothing behind it. Its tag is judged here first: called from two places, the attributes' reader stays a
+// function of its own when compiled, and its locals do not stand in every frame of the two readers that call each other.
 fn root(s: &[u8], at: usize, id: u64) -> Step
     requires { ⌜ at ≤ length (now s) ⌝ }
     ensures { λ r. ⌜ Reads (now (s .entry)) (stepOf (now (s .entry))) (rootRead id (drop at (now (s .entry)))) r ⌝ }
 {
+    let t = tag_end(s, at, id);
+    let Step::Next(_) = t else {
+        return t;
+    };
     let e = element(s, at, 8, id);
     let Step::Next(i) = e else {
         return e;
