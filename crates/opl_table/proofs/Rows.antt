@@ -9,7 +9,7 @@ use lib.Dec.{eqb, eqb·suc-zero}
 use lib.ListN.{length, getD, List·getD-eq-default}
 use Rattle.paper_lower.specs.Lists.{some, every, each}
 use Rattle.paper_opl.specs.Reading.{Text, text, same}
-use Rattle.paper_opl.specs.Elements.{elements, rowIn, mayEnd}
+use Rattle.paper_opl.specs.Elements.{elements, rowIn, one, mayEnd}
 use Rattle.paper_opl.specs.Tree.{required}
 use Rattle.opl_table.specs.Numbers.{names, nameOf, stages, joined, lefts, leftOf, lists, listOf, firstState, firstList, packed, wordAt, numberAt}
 use Rattle.opl_table.proofs.Cases.{AllTo, at, everywhere, past, lefts-length, lists-length, names-length}
@@ -718,3 +718,8 @@ missing-past list h =
     let n : length lists ≤ list = omega (arith, lists-length) in
     let e : getD lists list [] ≡ [] = List·getD-eq-default lists [] n in
     rw e
+
+-- before its element the document has number 1
+pub document-left : leftOf 1 ≡ one "policy_object" ∷ []
+unfolding leftOf lefts
+document-left = refl

@@ -221,6 +221,14 @@ pub fn starts_with(s: &[u8], at: usize, w: &[u8]) -> bool
     }
 }
 
+// The part of the text from `at` up to `end`.
+pub fn part(s: &[u8], at: usize, end: usize) -> &[u8]
+    requires { ⌜ (at ≤ end) × (end ≤ length (now s)) ⌝ }
+    ensures { λ r. ⌜ now r ≡ take (end - at) (drop at (now (s .entry))) ⌝ }
+{
+    &s[at..end]
+}
+
 // The value whose opening quote stands at `at` and whose closing one at `end`: the part of the text between them.
 pub fn quoted(s: &[u8], at: usize, end: usize) -> &[u8]
     requires { ⌜ (at + 1 ≤ end) × (end ≤ length (now s)) ⌝ }

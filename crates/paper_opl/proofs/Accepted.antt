@@ -1,22 +1,22 @@
 -- What an accepted call yields.
-use mathlib.Core.Path.{_≡_, refl, sym, ap, _∙_, subst}
-use mathlib.Core.List.{List, [], _∷_, _++_}
-use mathlib.Core.Bool.{Bool, true, false, cond, false≢true}
-use Prim.Native.Nat.{ℕ, zero, suc, _+_, _*_, _≤_}
+use mathlib.Core.Path.{_≡_, refl, sym, _∙_, subst}
+use mathlib.Core.List.{List, [], _∷_}
+use mathlib.Core.Bool.{cond}
+use Prim.Native.Nat.{ℕ, zero, suc, _*_}
 use native.Mathlib.Omega.{arith}
-use lib.Dec.{eqb, leb}
-use lib.ListN.{length, drop, length-append}
-use Rattle.paper_lower.specs.Lists.{Maybe, many, keep, each, Every}
-use Rattle.paper_lower.specs.Lists.Maybe.{none, just}
-use Rattle.paper_lower.specs.Checks.{GRANTED, ROOM}
+use lib.Dec.{leb}
+use lib.ListN.{length, length-append}
+use Rattle.paper_lower.specs.Lists.{Maybe, many, each, Every}
+use Rattle.paper_lower.specs.Lists.Maybe.{just}
+use Rattle.paper_lower.specs.Checks.{GRANTED}
 use Rattle.paper_lower.specs.Records.{Bytes, Record, encode}
-use Rattle.paper_opl.specs.Reading.{Text, text, Read, after, same, expect, word, misc}
-use Rattle.paper_opl.specs.Reading.Read.{got, bad}
+use Rattle.paper_opl.specs.Reading.{Text, text, same, expect, word, misc}
+use Rattle.paper_opl.specs.Reading.Read.{got}
 use Rattle.paper_opl.specs.Elements.{elements}
-use Rattle.paper_opl.specs.Tree.{Elements, if-found, opening, element, prolog, DEPTH, document}
-use Rattle.paper_opl.specs.Naming.{Line, inLine, lines, those, firstRows, lastRows, taskRecord, recordsBy, namesOf, allOf, recordsOf, TEXT, NAMES, Answer, refused, placeIn, written, writes, judged, translate}
+use Rattle.paper_opl.specs.Tree.{Elements, opening, element, prolog, DEPTH, document}
+use Rattle.paper_opl.specs.Naming.{Line, inLine, lines, those, recordsOf, written, translate}
 use Rattle.paper_opl.specs.Promises.{WellShaped, RisingFrom, Yield}
-use Rattle.paper_opl.proofs.Inversion.{on, on-test, on-found, bad≢got, got-rest, got-value, none≢just, just-value}
+use Rattle.paper_opl.proofs.Inversion.{on, on-test, on-found, bad≢got, got-rest, none≢just}
 use Rattle.paper_opl.proofs.Conforms.{root}
 use Rattle.paper_opl.proofs.Tags.{same-end}
 use Rattle.paper_opl.proofs.Judging.{all-are}

@@ -1,17 +1,17 @@
 -- White space, comments, names and values as they are written are read back.
-use mathlib.Core.Path.{_≡_, refl, sym, ap, _∙_}
-use mathlib.Core.List.{List, [], _∷_, _++_}
-use mathlib.Core.Bool.{Bool, true, false, not, cond, _&&_, _||_, false≢true, true≢false}
-use Prim.Native.Nat.{ℕ, zero, suc, _<_, _≤_}
+use mathlib.Core.Path.{_≡_, refl, ap, _∙_}
+use mathlib.Core.List.{[], _∷_, _++_}
+use mathlib.Core.Bool.{Bool, true, false, not, _&&_, _||_, true≢false}
+use Prim.Native.Nat.{ℕ, suc, _≤_}
 use native.Mathlib.Omega.{arith}
-use lib.Dec.{eqb, ltb, leb}
-use lib.ListN.{length, drop}
-use borrow.Author.Tests.{eqb-true, eq-eqb, not-true, not-false}
+use lib.Dec.{eqb}
+use lib.ListN.{length}
+use borrow.Author.Tests.{eqb-true, eq-eqb, not-true}
 use Rattle.paper_lower.specs.Lists.{every}
-use Rattle.paper_lower.proofs.ListLaws.{both, or-none}
-use Rattle.paper_opl.specs.Reading.{Text, Read, after, text, same, run, behind, word, starts, expect, white, control, skip, space, inName, name, inValue, upTo, value, equals, closing, comment, misc}
-use Rattle.paper_opl.specs.Reading.Read.{got, bad}
-use Rattle.paper_opl.specs.Layout.{blank, someBlank, calm, Gap, gap, gapFits, quoted, quoteFits, Value, valueText, valueFits}
+use Rattle.paper_lower.proofs.ListLaws.{both}
+use Rattle.paper_opl.specs.Reading.{Text, text, same, run, behind, word, starts, expect, white, control, space, inValue, upTo, value, equals, comment, misc}
+use Rattle.paper_opl.specs.Reading.Read.{got}
+use Rattle.paper_opl.specs.Layout.{blank, someBlank, calm, Gap, gap, gapFits, quoted, quoteFits}
 use Rattle.paper_opl.specs.Layout.Gap.{space as only-space, comment as with-comment}
 use Rattle.paper_opl.proofs.Inversion.{on-test}
 use Rattle.paper_opl.proofs.Counts.{below-of, behind-le, comment-below, misc-enough}

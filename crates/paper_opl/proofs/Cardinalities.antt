@@ -1,23 +1,24 @@
 -- In an accepted text every cardinality is a number up to 255.
-use mathlib.Core.Path.{_≡_, refl, sym, ap, _∙_}
-use mathlib.Core.List.{List, [], _∷_, _++_}
-use mathlib.Core.Bool.{Bool, true, false, not, cond, _&&_, _||_, false≢true, true≢false}
-use Prim.Native.Nat.{ℕ, zero, suc, _<_, _≤_}
+use mathlib.Core.Path.{_≡_, refl, sym}
+use mathlib.Core.List.{List, [], _∷_}
+use mathlib.Core.Bool.{Bool, true, false, not, _&&_, _||_, false≢true}
+use Prim.Native.Nat.{ℕ, suc, _≤_}
 use native.Mathlib.Omega.{arith}
-use lib.Dec.{eqb, leb}
-use lib.ListN.{length, drop}
-use borrow.Author.Tests.{leb-true, not-true}
-use Rattle.paper_lower.specs.Lists.{Maybe, some, every, keep, Every, listsOpen}
-use Rattle.paper_lower.specs.Lists.Maybe.{none, just}
+use lib.Dec.{leb}
+use borrow.Author.Tests.{leb-true}
+use Rattle.paper_lower.specs.Lists.{every, keep, Every, listsOpen}
+use Rattle.paper_lower.specs.Lists.Maybe.{just}
 use Rattle.paper_lower.proofs.ListLaws.{both, every-append}
-use Rattle.paper_opl.specs.Reading.{Text, Read, after, text, same, starts, expect, skip, space, name, value, equals, misc, readingOpen}
-use Rattle.paper_opl.specs.Reading.Read.{got, bad}
-use Rattle.paper_opl.specs.Elements.{Class, Attribute, Child, Element, elements, rowIn, mayEnd, elementsOpen}
+use Rattle.paper_opl.specs.Reading.{Text, text, same, name, value, readingOpen}
+use Rattle.paper_opl.specs.Reading.Read.{got}
+use Rattle.paper_opl.specs.Elements.{next, Class, Attribute, Child, elements, rowIn, elementsOpen}
 use Rattle.paper_opl.specs.Elements.Class.{names, number, any, spare}
-use Rattle.paper_opl.specs.Tree.{Given, Elements, Tag, tagsOf, if-found, digit, decimal, fits, required, find, without, attribute, attributes, Opened, opening, ending, Inside, content, element, prolog, DEPTH, document}
+use Rattle.paper_opl.specs.Tree.{Given, Elements, digit, decimal, fits, find, without, attributes, document}
 use Rattle.paper_opl.specs.Tree.Elements.{nothing, node}
+use Rattle.paper_opl.specs.Layout.{attributesFit, elementsFit}
 use Rattle.paper_opl.specs.Naming.{Found, those, insides, inAll, inEach, valueOf}
-use Rattle.paper_opl.proofs.Inversion.{on, on-test, on-found, bad≢got, got-value, none≢just, just-value}
+use Rattle.paper_opl.proofs.Inversion.{on-test, on-found, none≢just, just-value}
+use Rattle.paper_opl.proofs.InGrammar.{document-in-grammar}
 use Rattle.paper_opl.proofs.Conforms.{same-true, root, row-has}
 
 abbrev card : Text
@@ -59,26 +60,16 @@ kept-passes q p (x ∷ xs) h =
     let s = both (q x) (every q xs) h in
     on-test (p x) (λ c. rw (c, s .0) (kept-passes q p xs (s .1))) (λ c. rw c (kept-passes q p xs (s .1)))
 
-attribute-small : (left : List Attribute) (s : Text) (g : Given) (r : Text) → every numberTest left ≡ true → attribute left s ≡ got g r → Small g
-unfolding attribute
-attribute-small left s g r h e =
-    on (name s) (λ w x p. on-found (find left w) (λ a o. on (equals x) (λ _ u q. on (value u) (λ v z t. on-test (fits (a .class) v)
-    (λ c.
-    let k = found-passes numberTest left w a h o in
-    rw (sym (got-value (rw (p, o, q, t, c) at e))) (λ n. fits-small (a .class) v (rw (n) at (rw (k .1) at (k .0))) c))
-    (λ c. absurd (bad≢got (rw (p, o, q, t, c) at e))))
-    (λ z t. absurd (bad≢got (rw (p, o, q, t) at e)))) (λ u q. absurd (bad≢got (rw (p, o, q) at e)))) (λ o. absurd (bad≢got (rw (p, o) at e)))) (λ x p. absurd (bad≢got (rw p at e)))
-
-attributes-small : (n : ℕ) (left : List Attribute) (s : Text) (gs : List Given) (r : Text) → every numberTest left ≡ true → attributes n left s ≡ got gs r → Every Small gs
-unfolding attributes
-attributes-small zero left s gs r h e = absurd (bad≢got e)
-attributes-small (suc n) left s gs r h e =
-    on-test (starts (text ">") (skip s) || starts (text "/") (skip s))
-    (λ c. on-test (some (λ a. required (a .class)) left) (λ d. absurd (bad≢got (rw (c, d) at e))) (λ d. rw (sym (got-value (rw (c, d) at e))) tt))
-    (λ c. on (space s) (λ _ u p. on (attribute left u) (λ g z q. on (attributes n (without (g .name) left) z)
-    (λ hs y o. rw (sym (got-value (rw (c, p, q, o) at e)))
-    (attribute-small left u g z h q, attributes-small n (without (g .name) left) z hs y (kept-passes numberTest (λ a. not (same (a .name) (g .name))) left h) o))
-    (λ y o. absurd (bad≢got (rw (c, p, q, o) at e)))) (λ z q. absurd (bad≢got (rw (c, p, q) at e)))) (λ u p. absurd (bad≢got (rw (c, p) at e))))
+attributes-small : (left : List Attribute) (gs : List Given) → every numberTest left ≡ true → attributesFit left gs ≡ true → Every Small gs
+unfolding attributesFit
+attributes-small left [] h f = tt
+attributes-small left (g ∷ gs) h f =
+    on-found (find left (g .name))
+    (λ a o.
+    let k = found-passes numberTest left (g .name) a h o in
+    let m = both (fits (a .class) (g .value)) (attributesFit (without (g .name) left) gs) (rw o at f) in
+    (λ n. fits-small (a .class) (g .value) (rw n at (rw (k .1) at (k .0))) (m .0), attributes-small (without (g .name) left) gs (kept-passes numberTest (λ a. not (same (a .name) (g .name))) left h) (m .1)))
+    (λ o. absurd (false≢true (rw o at f)))
 
 -- ---- Elements.
 
@@ -94,47 +85,19 @@ table-small : (w : Text) → every numberTest (rowIn elements w .attributes) ≡
 unfolding every
 table-small w = row-has (λ e. every numberTest (e .attributes)) elements w (λ v. refl) table-tested
 
--- a reader of elements that keeps so
-abbrev Keeps : (Text → Text → Read Inside) → Type 0
-Keeps inner = (w s : Text) (e : Inside) (r : Text) → inner w s ≡ got e r → Every Small (e .given) × AllSmall (e .elements)
-
-content-small : (inner : Text → Text → Read Inside) → Keeps inner → (n : ℕ) (w : Text) (left : List Child) (s : Text) (es : Elements) (r : Text)
-    → content inner n w left s ≡ got es r → AllSmall es
-unfolding content ending AllSmall
-content-small inner keeps zero w left s es r e = absurd (bad≢got e)
-content-small inner keeps (suc n) w left s es r e =
-    on (misc (length s) s) (λ _ u m. on-test (starts (text "</") u)
-    (λ c. on (name (drop 2 u)) (λ v z o. on-test (same v w && mayEnd left) (λ f. on (expect (text ">") (skip z))
-    (λ _ y p. rw (sym (got-value (rw (m, c, o, f, p) at e))) tt)
-    (λ y p. absurd (bad≢got (rw (m, c, o, f, p) at e)))) (λ f. absurd (bad≢got (rw (m, c, o, f) at e)))) (λ z o. absurd (bad≢got (rw (m, c, o) at e))))
-    (λ c. on (opening left u) (λ k z o. on (inner (k .name) z) (λ i y p. on (content inner n w (k .left) y)
-    (λ fs x q.
-    let h = keeps (k .name) z i y p in
-    rw (sym (got-value (rw (m, c, o, p, q) at e))) (h .0, h .1, content-small inner keeps n w (k .left) y fs x q))
-    (λ x q. absurd (bad≢got (rw (m, c, o, p, q) at e)))) (λ y p. absurd (bad≢got (rw (m, c, o, p) at e)))) (λ z o. absurd (bad≢got (rw (m, c, o) at e)))))
-    (λ u m. absurd (bad≢got (rw m at e)))
-
-element-small : (d : ℕ) → Keeps (element elements d)
-unfolding element AllSmall
-element-small zero w s e r h = absurd (bad≢got h)
-element-small (suc d) w s e r h =
-    on (attributes (length s) (rowIn elements w .attributes) s) (λ gs z a.
-    let g = attributes-small (length s) (rowIn elements w .attributes) s gs z (table-small w) a in
-    on-test (starts (text ">") z)
-    (λ c. on (content (element elements d) (length z) (rowIn elements w .name) (rowIn elements w .children) (drop 1 z))
-    (λ es u q. rw (sym (got-value (rw (a, c, q) at h))) (g, content-small (element elements d) (element-small d) (length z) (rowIn elements w .name) (rowIn elements w .children) (drop 1 z) es u q))
-    (λ u q. absurd (bad≢got (rw (a, c, q) at h))))
-    (λ c. on (expect (text ">") (drop 1 z)) (λ _ u q. on-test (mayEnd (rowIn elements w .children))
-    (λ f. rw (sym (got-value (rw (a, c, q, f) at h))) (g, tt))
-    (λ f. absurd (bad≢got (rw (a, c, q, f) at h)))) (λ u q. absurd (bad≢got (rw (a, c, q) at h)))))
-    (λ z a. absurd (bad≢got (rw a at h)))
+all-small : (left : List Child) (es : Elements) → elementsFit left es ≡ true → AllSmall es
+unfolding elementsFit AllSmall
+all-small left nothing h = tt
+all-small left (node w gs i b) h =
+    on-found (next left w)
+    (λ cs q.
+    let m = both (attributesFit (rowIn elements w .attributes) gs && elementsFit (rowIn elements w .children) i) (elementsFit cs b) (rw q at h) in
+    let k = both (attributesFit (rowIn elements w .attributes) gs) (elementsFit (rowIn elements w .children) i) (m .0) in
+    (attributes-small (rowIn elements w .attributes) gs (table-small w) (k .0), all-small (rowIn elements w .children) i (k .1), all-small cs b (m .1)))
+    (λ q. absurd (false≢true (rw q at h)))
 
 pub document-small : (s : Text) (es : Elements) (r : Text) → document s ≡ got es r → AllSmall es
-unfolding document AllSmall
-document-small s es r e =
-    on (prolog s) (λ _ u p. on (opening root u) (λ c z o. on (element elements DEPTH (c .name) z) (λ i y h. on (misc (length y) y) (λ _ x m. on-test (same x [])
-    (λ f. let k = element-small DEPTH (c .name) z i y h in rw (sym (got-value (rw (p, o, h, m, f) at e))) (k .0, k .1, tt))
-    (λ f. absurd (bad≢got (rw (p, o, h, m, f) at e)))) (λ x m. absurd (bad≢got (rw (p, o, h, m) at e)))) (λ y h. absurd (bad≢got (rw (p, o, h) at e)))) (λ z o. absurd (bad≢got (rw (p, o) at e)))) (λ u p. absurd (bad≢got (rw p at e)))
+document-small s es r e = all-small root es (document-in-grammar s es r e)
 
 -- ---- What is found.
 

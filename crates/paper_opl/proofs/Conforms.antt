@@ -1,20 +1,18 @@
 -- What an accepted text's elements keep of the table: each stands in an element whose row has it as a child. What holds of every row, by
 -- one computed test, so holds of every element and what stands in it.
-use mathlib.Core.Path.{_≡_, refl, sym, ap, _∙_}
-use mathlib.Core.List.{List, [], _∷_, _++_}
-use mathlib.Core.Bool.{Bool, true, false, not, cond, _&&_, _||_, false≢true, true≢false}
-use Prim.Native.Nat.{ℕ, zero, suc, _+_}
+use mathlib.Core.Path.{_≡_, refl, sym, ap}
+use mathlib.Core.List.{List, [], _∷_}
+use mathlib.Core.Bool.{Bool, true, _||_, false≢true}
 use lib.Dec.{eqb}
-use lib.ListN.{length, drop}
 use borrow.Author.Tests.{eqb-true}
-use Rattle.paper_lower.specs.Lists.{Maybe, some, every}
-use Rattle.paper_lower.specs.Lists.Maybe.{none, just}
+use Rattle.paper_lower.specs.Lists.{some, every}
+use Rattle.paper_lower.specs.Lists.Maybe.{just}
 use Rattle.paper_lower.proofs.ListLaws.{both, or-true}
-use Rattle.paper_opl.specs.Reading.{Text, Read, after, text, same, starts, expect, skip, name, misc}
-use Rattle.paper_opl.specs.Reading.Read.{got, bad}
-use Rattle.paper_opl.specs.Elements.{Times, Child, Element, elements, rowIn, one, needed, follow, next, mayEnd}
+use Rattle.paper_opl.specs.Reading.{Text, text, same, starts, expect, name}
+use Rattle.paper_opl.specs.Reading.Read.{got}
+use Rattle.paper_opl.specs.Elements.{Times, Child, Element, elements, rowIn, one, needed, follow, next}
 use Rattle.paper_opl.specs.Elements.Times.{once, perhaps, often, least}
-use Rattle.paper_opl.specs.Tree.{Given, Elements, if-found, attributes, Opened, opening, ending, Inside, content, element, prolog, DEPTH, document}
+use Rattle.paper_opl.specs.Tree.{Elements, attributes, Opened, opening}
 use Rattle.paper_opl.specs.Tree.Elements.{nothing, node}
 use Rattle.paper_opl.proofs.Inversion.{on, on-test, on-found, bad≢got, got-value, none≢just, just-value}
 
@@ -51,9 +49,6 @@ child-has q (c ∷ cs) w h e =
     let b = both (every q (c .names)) (forNames q cs) h in
     on-test (some (same w) (c .names)) (λ s. name-has q (c .names) w (b .0) s) (λ s. child-has q cs w (b .1) (rw s at e))
 
-or-left : (a b : Bool) → a ≡ true → a || b ≡ true
-or-left a b e = rw e
-
 -- what may follow was among the children before
 follow-among : (t : Times) (vs : List Text) (cs : List Child) (v : Text) → among (follow t vs cs) v ≡ true → some (same v) vs || among cs v ≡ true
 unfolding some
@@ -78,11 +73,7 @@ unfoldable pub Fits : List Child → Elements → Type 0
 Fits cs nothing = Unit {0}
 Fits cs (node w gs inside behind) = (among cs w ≡ true) × Fits (rowIn elements w .children) inside × Fits cs behind
 
--- a reader of elements that keeps the table
-abbrev Keeps : (Text → Text → Read Inside) → Type 0
-Keeps inner = (w s : Text) (e : Inside) (r : Text) → inner w s ≡ got e r → Fits (rowIn elements w .children) (e .elements)
-
-fits-more : (ds cs : List Child) (es : Elements) → ((v : Text) → among ds v ≡ true → among cs v ≡ true) → Fits ds es → Fits cs es
+pub fits-more : (ds cs : List Child) (es : Elements) → ((v : Text) → among ds v ≡ true → among cs v ≡ true) → Fits ds es → Fits cs es
 unfolding Fits
 fits-more ds cs nothing f h = tt
 fits-more ds cs (node w gs inside behind) f h = (f w (h .0), h .1, fits-more ds cs behind f (h .2))
@@ -95,48 +86,9 @@ opened-fits left s c u e =
     (λ cs f. let k = got-value (rw (q, p, o, f) at e) in rw (sym (ap (λ x. x .name) k), sym (ap (λ x. x .left) k)) f)
     (λ f. absurd (bad≢got (rw (q, p, o, f) at e)))) (λ z o. absurd (bad≢got (rw (q, p, o) at e)))) (λ r p. absurd (bad≢got (rw (q, p) at e))))
 
-content-fits : (inner : Text → Text → Read Inside) → Keeps inner → (n : ℕ) (w : Text) (left : List Child) (s : Text) (es : Elements) (r : Text)
-    → content inner n w left s ≡ got es r → Fits left es
-unfolding content ending Fits
-content-fits inner keeps zero w left s es r e = absurd (bad≢got e)
-content-fits inner keeps (suc n) w left s es r e =
-    on (misc (length s) s) (λ _ u m. on-test (starts (text "</") u)
-    (λ c. on (name (drop 2 u)) (λ v z o. on-test (same v w && mayEnd left) (λ f. on (expect (text ">") (skip z))
-    (λ _ y p. rw (sym (got-value (rw (m, c, o, f, p) at e))) tt)
-    (λ y p. absurd (bad≢got (rw (m, c, o, f, p) at e)))) (λ f. absurd (bad≢got (rw (m, c, o, f) at e)))) (λ z o. absurd (bad≢got (rw (m, c, o) at e))))
-    (λ c. on (opening left u) (λ k z o. on (inner (k .name) z) (λ i y p. on (content inner n w (k .left) y)
-    (λ fs x q.
-    let h = next-among left (k .left) (k .name) (opened-fits left u k z o) in
-    rw (sym (got-value (rw (m, c, o, p, q) at e)))
-    (h .0, keeps (k .name) z i y p, fits-more (k .left) left fs (h .1) (content-fits inner keeps n w (k .left) y fs x q)))
-    (λ x q. absurd (bad≢got (rw (m, c, o, p, q) at e)))) (λ y p. absurd (bad≢got (rw (m, c, o, p) at e)))) (λ z o. absurd (bad≢got (rw (m, c, o) at e)))))
-    (λ u m. absurd (bad≢got (rw m at e)))
-
-element-fits : (d : ℕ) → Keeps (element elements d)
-unfolding element Fits
-element-fits zero w s e r h = absurd (bad≢got h)
-element-fits (suc d) w s e r h =
-    on (attributes (length s) (rowIn elements w .attributes) s) (λ gs z a. on-test (starts (text ">") z)
-    (λ c. on (content (element elements d) (length z) (rowIn elements w .name) (rowIn elements w .children) (drop 1 z))
-    (λ es u q.
-    rw (sym (got-value (rw (a, c, q) at h)))
-    (content-fits (element elements d) (element-fits d) (length z) (rowIn elements w .name) (rowIn elements w .children) (drop 1 z) es u q))
-    (λ u q. absurd (bad≢got (rw (a, c, q) at h))))
-    (λ c. on (expect (text ">") (drop 1 z)) (λ _ u q. on-test (mayEnd (rowIn elements w .children))
-    (λ f. rw (sym (got-value (rw (a, c, q, f) at h))) tt)
-    (λ f. absurd (bad≢got (rw (a, c, q, f) at h)))) (λ u q. absurd (bad≢got (rw (a, c, q) at h)))))
-    (λ z a. absurd (bad≢got (rw a at h)))
-
 -- the policy object stands alone
 abbrev pub root : List Child
 root = one "policy_object" ∷ []
-
-pub document-fits : (s : Text) (es : Elements) (r : Text) → document s ≡ got es r → Fits root es
-unfolding document Fits
-document-fits s es r e =
-    on (prolog s) (λ _ u p. on (opening root u) (λ c z o. on (element elements DEPTH (c .name) z) (λ i y h. on (misc (length y) y) (λ _ x m. on-test (same x [])
-    (λ f. rw (sym (got-value (rw (p, o, h, m, f) at e))) (next-among root (c .left) (c .name) (opened-fits root u c z o) .0, element-fits DEPTH (c .name) z i y h, tt))
-    (λ f. absurd (bad≢got (rw (p, o, h, m, f) at e)))) (λ x m. absurd (bad≢got (rw (p, o, h, m) at e)))) (λ y h. absurd (bad≢got (rw (p, o, h) at e)))) (λ z o. absurd (bad≢got (rw (p, o) at e)))) (λ u p. absurd (bad≢got (rw p at e)))
 
 -- ---- One test for all rows.
 

@@ -1,17 +1,16 @@
 -- Depth 8 refuses nothing that the table allows: a larger limit reads every text the same.
-use mathlib.Core.Path.{_≡_, refl, sym, ap, _∙_}
+use mathlib.Core.Path.{_≡_, refl}
 use mathlib.Core.List.{List, [], _∷_}
-use mathlib.Core.Bool.{Bool, true, false, not, cond, _&&_, _||_}
+use mathlib.Core.Bool.{true}
 use Prim.Native.Nat.{ℕ, zero, suc, _<_, _≤_, max}
 use native.Mathlib.Omega.{arith}
 use lib.Dec.{ltb}
 use lib.ListN.{length, drop}
 use borrow.Author.Tests.{ltb-true}
 use Rattle.paper_lower.specs.Lists.{every, listsOpen}
-use Rattle.paper_opl.specs.Reading.{Text, Read, after, text, starts, expect, misc, readingOpen}
-use Rattle.paper_opl.specs.Reading.Read.{got, bad}
-use Rattle.paper_opl.specs.Elements.{Child, elements, rowIn, mayEnd, elementsOpen}
-use Rattle.paper_opl.specs.Tree.{Opened, opening, ending, content, element, prolog, DEPTH, document, attributes}
+use Rattle.paper_opl.specs.Reading.{Text, text, starts, misc, readingOpen}
+use Rattle.paper_opl.specs.Elements.{Child, elements, rowIn, elementsOpen}
+use Rattle.paper_opl.specs.Tree.{opening, content, element, prolog, DEPTH, document, attributes}
 use Rattle.paper_opl.specs.Promises.{documentTo}
 use Rattle.paper_opl.proofs.Inversion.{on, on-test}
 use Rattle.paper_opl.proofs.Conforms.{among, forNames, child-has, next-among, opened-fits, root, row-has, row-name}

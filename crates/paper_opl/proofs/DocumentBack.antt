@@ -1,8 +1,8 @@
 -- A text that is written from a tree of the grammar is read back as that tree.
 use mathlib.Core.Path.{_≡_, refl, sym, ap, _∙_}
 use mathlib.Core.List.{List, [], _∷_, _++_}
-use mathlib.Core.Bool.{Bool, true, false, not, cond, _&&_, _||_, false≢true, true≢false}
-use Prim.Native.Nat.{ℕ, zero, suc, _+_, _<_, _≤_}
+use mathlib.Core.Bool.{true, false, not, cond, _&&_, _||_, false≢true, true≢false}
+use Prim.Native.Nat.{ℕ, suc, _<_, _≤_}
 use native.Mathlib.Omega.{arith}
 use lib.Dec.{eqb, ltb}
 use lib.ListN.{length, drop, length-append}
@@ -10,17 +10,17 @@ use borrow.Author.Tests.{eqb-true, eq-eqb, ltb-true, not-true}
 use Rattle.paper_lower.specs.Lists.{Maybe, some, every, listsOpen}
 use Rattle.paper_lower.specs.Lists.Maybe.{none, just}
 use Rattle.paper_lower.proofs.ListLaws.{both}
-use Rattle.paper_opl.specs.Reading.{Text, Read, after, text, same, starts, expect, white, skip, space, inName, value, equals, misc, readingOpen}
-use Rattle.paper_opl.specs.Reading.Read.{got, bad}
-use Rattle.paper_opl.specs.Elements.{Child, elements, elementsOpen, next, mayEnd, rowIn}
-use Rattle.paper_opl.specs.Tree.{Elements, Inside, element, content, DEPTH, if-found, pseudo, declaration, doctype, prolog, document}
+use Rattle.paper_opl.specs.Reading.{Text, after, text, same, starts, expect, white, skip, inName, value, misc, readingOpen}
+use Rattle.paper_opl.specs.Reading.Read.{got}
+use Rattle.paper_opl.specs.Elements.{Child, elements, next, mayEnd, rowIn}
+use Rattle.paper_opl.specs.Tree.{Elements, Inside, element, DEPTH, pseudo, declaration, doctype, prolog, document}
 use Rattle.paper_opl.specs.Tree.Elements.{nothing, node}
-use Rattle.paper_opl.specs.Layout.{attributesFit, elementsFit, inGrammar, Attributed, attributesText, attributesLaid, givenBy, Layout, layoutText, layoutFits, treeOf, Document, documentText, documentFits, blank, someBlank, calm, Gap, gap, gapFits, Value, quoted, quoteFits, valueText, valueFits, encodingText, encodingFits, Declaration, declarationText, declarationFits, Doctype, doctypeText, doctypeFits}
+use Rattle.paper_opl.specs.Layout.{attributesFit, elementsFit, inGrammar, attributesText, attributesLaid, givenBy, Layout, layoutText, layoutFits, treeOf, Document, documentText, documentFits, blank, someBlank, calm, Gap, gap, gapFits, Value, quoted, quoteFits, valueText, valueFits, encodingText, encodingFits, Declaration, declarationText, declarationFits, Doctype, doctypeText, doctypeFits}
 use Rattle.paper_opl.specs.Layout.Layout.{last, short, long}
 use Rattle.paper_opl.specs.Layout.Gap.{space as only-space, comment as with-comment}
 use Rattle.paper_opl.proofs.Inversion.{on-test, on-found, none≢just, just-value}
 use Rattle.paper_opl.proofs.Conforms.{same-true, among, forNames, child-has, next-among, root}
-use Rattle.paper_opl.proofs.Depth.{rank, some-height, child-lower, root-rank}
+use Rattle.paper_opl.proofs.Depth.{rank, child-lower, root-rank}
 use Rattle.paper_opl.proofs.Tags.{starts-more}
 use Rattle.paper_opl.proofs.BytesBack.{stops, behind-all, space-back, value-back, quote-clear, equals-back, gap-back}
 use Rattle.paper_opl.proofs.TreeBack.{aName, not-first, opening-back, attributes-stop, slash-stops, angle-stops, element-short, element-long, content-back, children-named}

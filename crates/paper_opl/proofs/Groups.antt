@@ -1,19 +1,18 @@
 -- The tags that stand in an element that says a record come right behind its own; so what tags say in their order is what elements say.
 use mathlib.Core.Path.{_≡_, refl, sym, ap, _∙_}
 use mathlib.Core.List.{List, [], _∷_, _++_, append-assoc, append-nil}
-use mathlib.Core.Bool.{Bool, true, false, not, cond, _&&_, _||_, false≢true, true≢false}
-use Prim.Native.Nat.{ℕ, zero, suc, _+_, _-_}
+use mathlib.Core.Bool.{Bool, true, false, not, cond, _||_}
 use lib.Dec.{eqb}
 use borrow.Author.Tests.{eqb-true, not-true, not-false}
 use Rattle.paper_lower.specs.Lists.{some, every, listsOpen}
-use Rattle.paper_lower.proofs.ListLaws.{both, or-none}
+use Rattle.paper_lower.proofs.ListLaws.{or-none}
 use Rattle.paper_opl.specs.Reading.{Text, text, same, readingOpen}
 use Rattle.paper_opl.specs.Elements.{Child, Element, elements, rowIn, elementsOpen}
-use Rattle.paper_opl.specs.Tree.{Given, Elements, Tag, tagsOf}
+use Rattle.paper_opl.specs.Tree.{Elements, Tag, tagsOf}
 use Rattle.paper_opl.specs.Tree.Elements.{nothing, node}
-use Rattle.paper_opl.specs.Walk.{Context, turn, kinds, kindIn, kindAt, innerNames, inner, leading, Saying, saying, sayings}
+use Rattle.paper_opl.specs.Walk.{Context, turn, kinds, kindIn, kindAt, innerNames, leading, Saying, saying, sayings}
 use Rattle.paper_opl.proofs.Inversion.{on-test}
-use Rattle.paper_opl.proofs.Conforms.{among, forNames, name-has, child-has, Fits, root, row-has, row-name}
+use Rattle.paper_opl.proofs.Conforms.{forNames, name-has, child-has, Fits, row-has, row-name}
 
 -- ---- Heads, and what stands in them: by one test over the table.
 

@@ -1,20 +1,20 @@
 -- What is read is a tree of the grammar: an accepted text has no attribute or element too many, misplaced or missing.
-use mathlib.Core.Path.{_≡_, refl, sym, ap, _∙_}
-use mathlib.Core.List.{List, [], _∷_, _++_}
-use mathlib.Core.Bool.{Bool, true, false, not, cond, _&&_, _||_, false≢true, true≢false}
+use mathlib.Core.Path.{_≡_, sym}
+use mathlib.Core.List.{List, [], _∷_}
+use mathlib.Core.Bool.{true, _&&_, _||_, false≢true}
 use Prim.Native.Nat.{ℕ, zero, suc}
 use lib.ListN.{length, drop}
-use Rattle.paper_lower.specs.Lists.{Maybe, some, every}
-use Rattle.paper_lower.specs.Lists.Maybe.{none, just}
+use Rattle.paper_lower.specs.Lists.{some, every}
+use Rattle.paper_lower.specs.Lists.Maybe.{just}
 use Rattle.paper_lower.proofs.ListLaws.{both}
-use Rattle.paper_opl.specs.Reading.{Text, Read, after, text, same, starts, expect, skip, space, name, value, equals, misc}
-use Rattle.paper_opl.specs.Reading.Read.{got, bad}
+use Rattle.paper_opl.specs.Reading.{Text, Read, text, same, starts, expect, skip, space, name, value, equals, misc}
+use Rattle.paper_opl.specs.Reading.Read.{got}
 use Rattle.paper_opl.specs.Elements.{Attribute, Child, elements, rowIn, next, mayEnd}
-use Rattle.paper_opl.specs.Tree.{Given, Elements, if-found, fits, required, find, without, attribute, attributes, opening, ending, Inside, content, element, prolog, DEPTH, document}
+use Rattle.paper_opl.specs.Tree.{Given, Elements, fits, required, find, without, attribute, attributes, opening, ending, Inside, content, element, prolog, DEPTH, document}
 use Rattle.paper_opl.specs.Tree.Elements.{nothing, node}
 use Rattle.paper_opl.specs.Layout.{attributesFit, elementsFit, inGrammar}
 use Rattle.paper_opl.proofs.Inversion.{on, on-test, on-found, bad≢got, got-value, none≢just, just-value}
-use Rattle.paper_opl.proofs.Conforms.{opened-fits, root}
+use Rattle.paper_opl.proofs.Conforms.{next-among, Fits, fits-more, opened-fits, root}
 
 -- an attribute that was read is one that may be given
 pub record Allowed (left : List Attribute) (g : Given) : Type 0 where
@@ -90,3 +90,19 @@ document-in-grammar s es r e =
     let n = opened-fits root u c z o in
     rw (sym (got-value (rw (p, o, h, m, f) at e)), n, k .0, k .1) (root-ends (c .name) (c .left) n))
     (λ f. absurd (bad≢got (rw (p, o, h, m, f) at e)))) (λ x m. absurd (bad≢got (rw (p, o, h, m) at e)))) (λ y h. absurd (bad≢got (rw (p, o, h) at e)))) (λ z o. absurd (bad≢got (rw (p, o) at e)))) (λ u p. absurd (bad≢got (rw p at e)))
+
+-- ---- What a tree of the grammar keeps of the table.
+
+fits-in : (left : List Child) (es : Elements) → elementsFit left es ≡ true → Fits left es
+unfolding elementsFit Fits
+fits-in left nothing h = tt
+fits-in left (node w gs i b) h =
+    on-found (next left w)
+    (λ cs q.
+    let t = next-among left cs w q in
+    let m = both (attributesFit (rowIn elements w .attributes) gs && elementsFit (rowIn elements w .children) i) (elementsFit cs b) (rw q at h) in
+    (t .0, fits-in (rowIn elements w .children) i (both (attributesFit (rowIn elements w .attributes) gs) (elementsFit (rowIn elements w .children) i) (m .0) .1), fits-more cs left b (t .1) (fits-in cs b (m .1))))
+    (λ q. absurd (false≢true (rw q at h)))
+
+pub document-fits : (s : Text) (es : Elements) (r : Text) → document s ≡ got es r → Fits root es
+document-fits s es r e = fits-in root es (document-in-grammar s es r e)

@@ -1,29 +1,29 @@
 -- NAMES from left to right: the records are there exactly when each tag's is, in whatever order they are looked at; and which they are.
 use mathlib.Core.Path.{_≡_, refl, sym, ap, _∙_}
 use mathlib.Core.List.{List, [], _∷_, _++_}
-use mathlib.Core.Bool.{Bool, true, false, not, cond, _&&_, _||_, false≢true, true≢false}
+use mathlib.Core.Bool.{Bool, true, false, not, _&&_, _||_, true≢false}
 use Prim.Native.Nat.{ℕ, zero, suc}
 use lib.Dec.{eqb, leb}
 use borrow.Author.Tests.{eqb-true}
-use Rattle.paper_lower.specs.Lists.{Maybe, holds, there, some, every, many, keep, each, listsOpen}
+use Rattle.paper_lower.specs.Lists.{Maybe, holds, there, every, many, keep, each, listsOpen}
 use Rattle.paper_lower.specs.Lists.Maybe.{none, just}
 use Rattle.paper_lower.specs.Records.{Record}
 use Rattle.paper_lower.proofs.ListLaws.{both}
 use Rattle.paper_opl.specs.Reading.{Text, text, same}
-use Rattle.paper_opl.specs.Tree.{Tag, if-found}
+use Rattle.paper_opl.specs.Tree.{Tag}
 use Rattle.paper_opl.specs.Naming.{Line, Names, taskRecord, allOf}
-use Rattle.paper_opl.specs.Walk.{called, namesIn, Context, start, turn, kinds, kindIn, kindAt, leading, Saying, saying, sayings, recordSaid, rising, recordsIn}
+use Rattle.paper_opl.specs.Walk.{called, namesIn, Context, start, turn, kinds, kindIn, kindAt, Saying, sayings, recordSaid, rising, recordsIn}
 use Rattle.paper_opl.proofs.Inversion.{on-test, on-found, none≢just, just-value}
-use Rattle.paper_opl.proofs.KindByKind.{each-append, Sets, turn-sets}
+use Rattle.paper_opl.proofs.KindByKind.{Sets, turn-sets}
 
 -- ---- Every one of a list.
 
-every-append : {A : Type 0} (p : A → Bool) (xs ys : List A) → every p (xs ++ ys) ≡ every p xs && every p ys
+pub every-append : {A : Type 0} (p : A → Bool) (xs ys : List A) → every p (xs ++ ys) ≡ every p xs && every p ys
 unfolding every
 every-append p [] ys = refl
 every-append p (x ∷ xs) ys = on-test (p x) (λ q. rw q (every-append p xs ys)) (λ q. rw q)
 
-every-of : {A B : Type 0} (p : B → Bool) (f : A → B) (xs : List A) → every p (each f xs) ≡ every (λ x. p (f x)) xs
+pub every-of : {A B : Type 0} (p : B → Bool) (f : A → B) (xs : List A) → every p (each f xs) ≡ every (λ x. p (f x)) xs
 unfolding every each
 every-of p f [] = refl
 every-of p f (x ∷ xs) = ap (λ (b : Bool). p (f x) && b) (every-of p f xs)
@@ -58,11 +58,11 @@ every-given g p (x ∷ xs) h = let b = both (g x) (every g xs) h in rw (b .0, ev
 -- ---- Kinds.
 
 -- one of so many kinds from k on
-oneOf : ℕ → ℕ → ℕ → Bool
+unfoldable pub oneOf : ℕ → ℕ → ℕ → Bool
 oneOf k zero j = false
 oneOf k (suc n) j = eqb j k || oneOf (suc k) n j
 
-abbrev ofTags : ℕ → Bool
+abbrev pub ofTags : ℕ → Bool
 ofTags j = oneOf 1 5 j || oneOf 7 10 j
 
 either : (a b t : Bool) → (not a || t) && (not b || t) ≡ not (a || b) || t
@@ -105,7 +105,7 @@ unfolding oneOf
 sets-range c h = on-test (eqb (c .sets) 9) (λ q. rw (eqb-true (c .sets) 9 q)) (λ q. rw (eqb-true (c .sets) 10 (rw q at h)))
 
 -- each tag says one of them
-said-range : (c : Context) → Sets c → (ts : List Tag) → every (λ x. ofTags (x .kind)) (sayings c ts) ≡ true
+pub said-range : (c : Context) → Sets c → (ts : List Tag) → every (λ x. ofTags (x .kind)) (sayings c ts) ≡ true
 unfolding sayings every
 said-range c h [] = refl
 said-range c h (t ∷ ts) =
@@ -117,7 +117,7 @@ said-range c h (t ∷ ts) =
 
 -- ---- All of them.
 
-all-there : (xs : List (Maybe Record)) → there (allOf xs) ≡ every there xs
+pub all-there : (xs : List (Maybe Record)) → there (allOf xs) ≡ every there xs
 unfolding allOf every holds
 all-there [] = refl
 all-there (none ∷ xs) = refl

@@ -1,21 +1,21 @@
 -- Kind by kind: the elements that say a record, as the rows look for them, are those that the walk meets.
 use mathlib.Core.Path.{_≡_, refl, sym, ap, _∙_}
-use mathlib.Core.List.{List, [], _∷_, _++_, append-assoc, append-nil}
+use mathlib.Core.List.{List, [], _∷_, _++_, append-assoc}
 use mathlib.Core.Bool.{Bool, true, false, not, cond, _&&_, _||_, false≢true, true≢false}
-use Prim.Native.Nat.{ℕ, zero, suc, _+_, _-_}
+use Prim.Native.Nat.{ℕ, suc, _+_, _-_}
 use native.Mathlib.Omega.{arith}
 use lib.Dec.{eqb}
-use borrow.Author.Tests.{eqb-true, eq-eqb, not-true, not-false}
+use borrow.Author.Tests.{eqb-true, eq-eqb, not-true}
 use Rattle.paper_lower.specs.Lists.{some, every, many, keep, each, listsOpen}
 use Rattle.paper_lower.proofs.ListLaws.{both, or-none}
 use Rattle.paper_opl.specs.Reading.{Text, text, same, readingOpen}
-use Rattle.paper_opl.specs.Elements.{Child, Element, elements, rowIn, elementsOpen}
+use Rattle.paper_opl.specs.Elements.{Child, elements, rowIn, elementsOpen}
 use Rattle.paper_opl.specs.Tree.{Given, Elements, Tag, tagsOf}
 use Rattle.paper_opl.specs.Tree.Elements.{nothing, node}
 use Rattle.paper_opl.specs.Naming.{Found, those, insides, inAll, inEach}
-use Rattle.paper_opl.specs.Walk.{Context, start, turn, kinds, kindIn, kindAt, Saying, saying}
+use Rattle.paper_opl.specs.Walk.{Context, turn, kinds, kindIn, kindAt, Saying, saying}
 use Rattle.paper_opl.proofs.Inversion.{on-test}
-use Rattle.paper_opl.proofs.Conforms.{same-true, among, forNames, name-has, child-has, Fits, root}
+use Rattle.paper_opl.proofs.Conforms.{same-true, forNames, name-has, child-has, Fits}
 use Rattle.paper_opl.proofs.Groups.{groupTest, stands-in, stands-out, turning, still, turns, turns-append, told}
 
 -- ---- Lists.

@@ -1,27 +1,29 @@
 -- The walk from left to right gives the names and the records that the elements of an accepted text say.
 use mathlib.Core.Path.{_≡_, refl, sym, ap, _∙_}
-use mathlib.Core.List.{List, [], _∷_, _++_, append-assoc, append-nil}
-use mathlib.Core.Bool.{Bool, true, false, not, cond, _&&_, _||_, false≢true, true≢false}
-use Prim.Native.Nat.{ℕ, zero, suc, _+_, _-_}
+use mathlib.Core.List.{List, [], _∷_, _++_, append-nil}
+use mathlib.Core.Bool.{true, not, cond}
+use Prim.Native.Nat.{ℕ, suc}
 use Prim.Native.String.{String}
-use lib.Dec.{eqb, leb}
+use lib.Dec.{eqb}
+use lib.ListN.{length}
 use borrow.Author.Tests.{eqb-true}
-use Rattle.paper_lower.specs.Lists.{Maybe, some, every, many, keep, each, Every, listsOpen}
-use Rattle.paper_lower.specs.Lists.Maybe.{none, just}
-use Rattle.paper_lower.specs.Records.{Record}
+use Rattle.paper_lower.specs.Lists.{Maybe, many, keep, each, listsOpen}
+use Rattle.paper_lower.specs.Lists.Maybe.{just}
+use Rattle.paper_lower.specs.Records.{Bytes, Record}
 use Rattle.paper_lower.proofs.ListLaws.{or-none}
-use Rattle.paper_opl.specs.Reading.{Text, text, Read, same, readingOpen}
-use Rattle.paper_opl.specs.Reading.Read.{got, bad}
+use Rattle.paper_opl.specs.Reading.{Text, text, same, readingOpen}
+use Rattle.paper_opl.specs.Reading.Read.{got}
 use Rattle.paper_opl.specs.Elements.{elements, elementsOpen}
-use Rattle.paper_opl.specs.Tree.{Given, Elements, Tag, tagsOf, if-found, document}
+use Rattle.paper_opl.specs.Tree.{Given, Tag, Elements, tagsOf, document}
 use Rattle.paper_opl.specs.Tree.Elements.{nothing, node}
-use Rattle.paper_opl.specs.Naming.{Line, Found, those, insides, inAll, inEach, valueOf, declaredBy, Names, spaceOf, namesOf, Row, firstRows, lastRows, recordBy, taskRecord, recordsBy, allOf, recordsOf}
-use Rattle.paper_opl.specs.Walk.{called, declaredIn, namesIn, Context, start, turn, kinds, kindIn, innerNames, leading, Saying, sayings, rowOf, recordSaid, rising, recordsIn, tags}
-use Rattle.paper_opl.proofs.Inversion.{on-test}
-use Rattle.paper_opl.proofs.Conforms.{same-true, forNames, Fits, root, document-fits}
+use Rattle.paper_opl.specs.Naming.{Line, those, insides, inAll, inEach, valueOf, declaredBy, Names, spaceOf, namesOf, Row, firstRows, lastRows, recordBy, recordsBy, recordsOf, lines, translate}
+use Rattle.paper_opl.specs.Walk.{called, declaredIn, namesIn, start, turn, kinds, kindIn, innerNames, leading, Saying, sayings, rowOf, recordSaid, rising, recordsIn, tags, tag, walked, kindAt, saying, inner, Context}
+use Rattle.paper_opl.proofs.Inversion.{on, on-test}
+use Rattle.paper_opl.proofs.Conforms.{same-true, forNames, Fits, root}
+use Rattle.paper_opl.proofs.InGrammar.{document-fits}
 use Rattle.paper_opl.proofs.Groups.{innerName, told, told-is}
-use Rattle.paper_opl.proofs.KindByKind.{keep-append, each-append, ofKind, simpleTest, simple, static, dynamic, separation, inSeparation, inSeparationNames, role-sets, inPartitioning, partitions}
-use Rattle.paper_opl.proofs.Tags.{tags-are}
+use Rattle.paper_opl.proofs.KindByKind.{keep-append, each-append, ofKind, simpleTest, simple, static, dynamic, inSeparationNames, role-sets, partitions}
+use Rattle.paper_opl.proofs.Tags.{walk, step, tags-are}
 
 -- ---- Names.
 
@@ -38,7 +40,7 @@ module _ {A : Type 0} (w : Text) (g : List Given → A) where
       ∙ each-append (λ t. g (t .given)) (keep (λ t. same (t .name) w) (tagsOf i)) (keep (λ t. same (t .name) w) (tagsOf b))) in
       on-test (same v w) (λ q. rw q (ap (λ (l : List A). g gs ∷ l) o)) (λ q. rw q o)
 
-declared-are : (e w : String) (es : Elements) → declaredBy e w es ≡ declaredIn e w (tagsOf es)
+pub declared-are : (e w : String) (es : Elements) → declaredBy e w es ≡ declaredIn e w (tagsOf es)
 declared-are e w es = by-name (text e) (valueOf (text w)) 0 es
 
 pub names-are : (es : Elements) (ls : List Line) → namesOf es ls ≡ namesIn (tagsOf es) ls
@@ -192,3 +194,31 @@ module _ (es : Elements) (f : Fits root es) where
 
 pub walk-gives : (s : Text) (es : Elements) (r : Text) (ls : List Line) → document s ≡ got es r → recordsOf es ls ≡ recordsIn (tags s) ls
 walk-gives s es r ls e = records-are es (document-fits s es r e) ls ∙ rw (tags-are s es r e)
+
+pub walked-is : (s t : Text) (out : Bytes) → translate s t out ≡ walked s t out
+unfolding translate walked
+walked-is s t out =
+    on (document s) (λ es r d. on (lines (length t) t) (λ ls u l. rw (d, l, walk-gives s es r ls d)) (λ u l. rw (d, l))) (λ r d. rw d)
+
+-- ---- A step of the walk, and what it says.
+
+module _ (s r : Text) where
+  pub end-step : tag s ≡ got [] r → walk s ≡ walk r
+  end-step e = step s r [] e
+
+  module _ (t : Tag) (e : tag s ≡ got (t ∷ []) r) where
+    pub say-step : (c : Context) → sayings c (walk s) ≡ cond (eqb (kindAt c t) 0) [] (saying c t (leading (walk r)) ∷ []) ++ sayings (turn c t) (walk r)
+    unfolding sayings
+    say-step c = ap (sayings c) (step s r (t ∷ []) e)
+
+    pub lead-step : leading (walk s) ≡ cond (inner t) (t ∷ leading (walk r)) []
+    unfolding leading
+    lead-step = ap leading (step s r (t ∷ []) e)
+
+    pub declare-step : (f w : String) → declaredIn f w (walk s) ≡ cond (called f t) (valueOf (text w) (t .given) ∷ declaredIn f w (walk r)) (declaredIn f w (walk r))
+    unfolding keep each
+    declare-step f w = ap (declaredIn f w) (step s r (t ∷ []) e) ∙ on-test (called f t) (λ q. rw q) (λ q. rw q)
+
+    pub count-step : (f : String) → many (keep (called f) (walk s)) ≡ cond (called f t) (suc (many (keep (called f) (walk r)))) (many (keep (called f) (walk r)))
+    unfolding keep many
+    count-step f = ap (λ (ts : List Tag). many (keep (called f) ts)) (step s r (t ∷ []) e) ∙ on-test (called f t) (λ q. rw q) (λ q. rw q)

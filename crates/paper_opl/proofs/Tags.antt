@@ -1,42 +1,44 @@
 -- The walk from tag to tag meets the elements of an accepted text, each once, in text order.
 use mathlib.Core.Path.{_≡_, refl, sym, ap, _∙_}
 use mathlib.Core.List.{List, [], _∷_, _++_, append-assoc}
-use mathlib.Core.Bool.{Bool, true, false, not, cond, _&&_, _||_, false≢true, true≢false}
-use Prim.Native.Nat.{ℕ, zero, suc, _+_, _<_, _≤_}
+use mathlib.Core.Bool.{true, false, _&&_, _||_, false≢true, true≢false}
+use Prim.Native.Nat.{ℕ, zero, suc, _<_, _≤_}
 use native.Mathlib.Omega.{arith}
 use lib.Dec.{eqb}
 use lib.ListN.{length, drop}
 use borrow.Author.Tests.{eqb-true}
 use Rattle.paper_lower.specs.Lists.{some}
 use Rattle.paper_lower.proofs.ListLaws.{or-none}
-use Rattle.paper_opl.specs.Reading.{Text, Read, after, text, same, run, behind, word, starts, expect, white, skip, space, inName, name, value, equals, misc}
+use Rattle.paper_opl.specs.Reading.{Text, Read, text, same, behind, word, starts, expect, white, skip, space, inName, name, value, equals, misc}
 use Rattle.paper_opl.specs.Reading.Read.{got, bad}
 use Rattle.paper_opl.specs.Elements.{Attribute, Child, Element, elements, rowIn, one, next, mayEnd}
-use Rattle.paper_opl.specs.Tree.{Given, Elements, Tag, tagsOf, if-found, fits, required, find, without, attribute, attributes, Opened, opening, ending, Inside, content, element, prolog, DEPTH, document}
-use Rattle.paper_opl.specs.Tree.Elements.{nothing, node}
-use Rattle.paper_opl.specs.Walk.{plain, givens, closed, startTag, endTag, tag, onward, tagsFrom, tags}
+use Rattle.paper_opl.specs.Tree.{Given, Elements, Tag, tagsOf, fits, required, find, without, attribute, attributes, Opened, opening, ending, Inside, content, element, prolog, DEPTH, document}
+use Rattle.paper_opl.specs.Tree.Elements.{nothing}
+use Rattle.paper_opl.specs.Walk.{plain, givens, closed, startTag, endTag, tag, tagsFrom, tags}
 use Rattle.paper_opl.proofs.Inversion.{on, on-test, on-found, bad≢got, got-rest, got-value}
-use Rattle.paper_opl.proofs.Counts.{below, below-le, below-cond, below-after, below-of, behind-le, drop-le, word-strict, expect-below, one-below, space-strict, misc-below, value-below, equals-below, starts-le}
+use Rattle.paper_opl.proofs.Counts.{below, below-le, below-cond, below-of, behind-le, drop-le, word-strict, expect-below, space-strict, misc-below, value-below, equals-below}
 
 -- ---- A tag takes a byte at least, so any count from the length on does.
 
-plain-below : (s : Text) → below (length s) (plain s)
+pub plain-below : (s : Text) → below (length s) (plain s)
 unfolding plain
 plain-below s =
-    below-after (name s) (λ w r. after (equals r) (λ _ u. after (value u) (λ v z. got (record { name = w; value = v }) z))) (length s) (length s) (word-strict inName s) (λ w r l.
-    below-after (equals r) (λ _ u. after (value u) (λ v z. got (record { name = w; value = v }) z)) (suc (length r)) (length s) (equals-below r) (λ _ u k.
-    below-after (value u) (λ v z. got (record { name = w; value = v }) z) (suc (length u)) (length s) (value-below u) (λ v z j. omega arith)))
+    on (name s) (λ w r p. on (equals r) (λ _ u q. on (value u) (λ v z t.
+    let i = below-of p (word-strict inName s) in
+    let j = below-of q (equals-below r) in
+    let k = below-of t (value-below u) in
+    rw (p, q, t) (omega arith)) (λ z t. rw (p, q, t) tt)) (λ u q. rw (p, q) tt)) (λ r p. rw p tt)
 
 pub givens-below : (n : ℕ) (s : Text) → below (suc (length s)) (givens n s)
 unfolding givens
 givens-below zero s = tt
 givens-below (suc n) s =
-    let h = behind-le white s in
-    below-cond (starts (text ">") (skip s) || starts (text "/") (skip s)) (got [] (skip s)) (after (space s) (λ _ r. after (plain r) (λ g u. after (givens n u) (λ gs z. got (g ∷ gs) z)))) (suc (length s))
-    (omega arith)
-    (below-after (space s) (λ _ r. after (plain r) (λ g u. after (givens n u) (λ gs z. got (g ∷ gs) z))) (length s) (suc (length s)) (space-strict s) (λ _ r l.
-    below-after (plain r) (λ g u. after (givens n u) (λ gs z. got (g ∷ gs) z)) (length r) (suc (length s)) (plain-below r) (λ g u k.
-    below-after (givens n u) (λ gs z. got (g ∷ gs) z) (suc (length u)) (suc (length s)) (givens-below n u) (λ gs z j. omega arith))))
+    on-test (starts (text ">") (skip s) || starts (text "/") (skip s)) (λ c. let h = behind-le white s in rw c (omega arith))
+    (λ c. on (space s) (λ _ r p. on (plain r) (λ g u q. on (givens n u) (λ gs z t.
+    let i = below-of p (space-strict s) in
+    let j = below-of q (plain-below r) in
+    let k = below-of t (givens-below n u) in
+    rw (c, p, q, t) (omega arith)) (λ z t. rw (c, p, q, t) tt)) (λ u q. rw (c, p, q) tt)) (λ r p. rw (c, p) tt))
 
 pub givens-enough : (n m : ℕ) (s : Text) → length s ≤ n → length s ≤ m → givens n s ≡ givens m s
 unfolding givens word behind starts text
@@ -60,26 +62,31 @@ closed-below s =
 endTag-below : (s : Text) → below (length s) (endTag s)
 unfolding endTag
 endTag-below s =
+    on (name (drop 2 s)) (λ v r p. on (expect (text ">") (skip r)) (λ _ u q.
     let d = drop-le 2 s in
-    below-after (name (drop 2 s)) (λ v r. after (expect (text ">") (skip r)) (λ _ u. got [] u)) (length (drop 2 s)) (length s) (word-strict inName (drop 2 s)) (λ v r l.
     let b = behind-le white r in
-    below-after (expect (text ">") (skip r)) (λ _ u. got [] u) (suc (length (skip r))) (length s) (expect-below (text ">") (skip r)) (λ _ u k. omega arith))
+    let i = below-of p (word-strict inName (drop 2 s)) in
+    let j = below-of q (expect-below (text ">") (skip r)) in
+    rw (p, q) (omega arith)) (λ u q. rw (p, q) tt)) (λ r p. rw p tt)
 
 startTag-below : (s : Text) → below (length s) (startTag s)
 unfolding startTag
 startTag-below s =
-    below-after (expect (text "<") s) (λ _ r. after (name r) (λ w u. after (givens (length u) u) (λ gs z. after (closed z) (λ _ y. got (record { name = w; given = gs } ∷ []) y)))) (suc (length s)) (length s) (expect-below (text "<") s) (λ _ r l.
-    below-after (name r) (λ w u. after (givens (length u) u) (λ gs z. after (closed z) (λ _ y. got (record { name = w; given = gs } ∷ []) y))) (length r) (length s) (word-strict inName r) (λ w u k.
-    below-after (givens (length u) u) (λ gs z. after (closed z) (λ _ y. got (record { name = w; given = gs } ∷ []) y)) (suc (length u)) (length s) (givens-below (length u) u) (λ gs z j.
-    below-after (closed z) (λ _ y. got (record { name = w; given = gs } ∷ []) y) (suc (length z)) (length s) (closed-below z) (λ _ y i. omega arith))))
+    on (expect (text "<") s) (λ _ r p. on (name r) (λ w u q. on (givens (length u) u) (λ gs z t. on (closed z) (λ _ y o.
+    let i = below-of p (expect-below (text "<") s) in
+    let j = below-of q (word-strict inName r) in
+    let k = below-of t (givens-below (length u) u) in
+    let l = below-of o (closed-below z) in
+    rw (p, q, t, o) (omega arith)) (λ y o. rw (p, q, t, o) tt)) (λ z t. rw (p, q, t) tt)) (λ u q. rw (p, q) tt)) (λ r p. rw p tt)
 
 pub tag-below : (s : Text) → below (length s) (tag s)
 unfolding tag
 tag-below s =
-    below-after (misc (length s) s) (λ _ r. cond (starts (text "</") r) (endTag r) (startTag r)) (suc (length s)) (length s) (misc-below (length s) s) (λ _ r l.
-    below-cond (starts (text "</") r) (endTag r) (startTag r) (length s)
-    (below-le (endTag r) (length r) (length s) (omega arith) (endTag-below r))
-    (below-le (startTag r) (length r) (length s) (omega arith) (startTag-below r)))
+    on (misc (length s) s) (λ _ r p.
+    let h = below-of p (misc-below (length s) s) in
+    on-test (starts (text "</") r)
+    (λ c. rw (p, c) (below-le (endTag r) (length r) (length s) (omega arith) (endTag-below r)))
+    (λ c. rw (p, c) (below-le (startTag r) (length r) (length s) (omega arith) (startTag-below r)))) (λ r p. rw p tt)
 
 none-at-end : tag [] ≡ bad []
 unfolding tag misc starts text startTag expect
@@ -152,7 +159,7 @@ pub record Begun (s : Text) (w u : Text) : Type 0 where
   pub named : name behind ≡ got w u
   pub no-comment : starts (text "<!") s ≡ false
 
-begun : (left : List Child) (s : Text) (c : Opened) (u : Text) → opening left s ≡ got c u → Begun s (c .name) u
+pub begun : (left : List Child) (s : Text) (c : Opened) (u : Text) → opening left s ≡ got c u → Begun s (c .name) u
 unfolding opening
 begun left s c u e =
     on-test (starts (text "<!") s || starts (text "<?") s) (λ q. absurd (bad≢got (rw q at e)))

@@ -1,27 +1,27 @@
 -- A tree of the grammar, however it is written, is read back.
 use mathlib.Core.Path.{_≡_, refl, sym, ap, _∙_}
 use mathlib.Core.List.{List, [], _∷_, _++_}
-use mathlib.Core.Bool.{Bool, true, false, not, cond, _&&_, _||_, false≢true, true≢false}
+use mathlib.Core.Bool.{Bool, true, false, not, _&&_, _||_, false≢true, true≢false}
 use Prim.Native.Nat.{ℕ, zero, suc, _<_, _≤_}
 use native.Mathlib.Omega.{arith}
-use lib.Dec.{eqb, ltb, leb}
-use lib.ListN.{length, drop}
-use borrow.Author.Tests.{eqb-true, eq-eqb, not-true, not-false}
-use Rattle.paper_lower.specs.Lists.{Maybe, some, every, each, keep, listsOpen}
-use Rattle.paper_lower.specs.Lists.Maybe.{none, just}
-use Rattle.paper_lower.proofs.ListLaws.{both, or-none}
-use Rattle.paper_opl.specs.Reading.{Text, Read, after, text, same, behind, word, starts, expect, white, skip, space, inName, name, value, equals, misc, readingOpen}
-use Rattle.paper_opl.specs.Reading.Read.{got, bad}
-use Rattle.paper_opl.specs.Elements.{Attribute, Child, Element, elements, rowIn, one, next, mayEnd, elementsOpen}
-use Rattle.paper_opl.specs.Tree.{Given, Elements, if-found, fits, required, find, without, attribute, attributes, Opened, opening, ending, Inside, content, element, DEPTH}
+use lib.Dec.{eqb}
+use lib.ListN.{length}
+use borrow.Author.Tests.{eqb-true, eq-eqb, not-true}
+use Rattle.paper_lower.specs.Lists.{some, every, each, listsOpen}
+use Rattle.paper_lower.specs.Lists.Maybe.{just}
+use Rattle.paper_lower.proofs.ListLaws.{both}
+use Rattle.paper_opl.specs.Reading.{Text, text, same, behind, starts, expect, white, inName, name, value, readingOpen}
+use Rattle.paper_opl.specs.Reading.Read.{got}
+use Rattle.paper_opl.specs.Elements.{Attribute, Child, elements, rowIn, next, mayEnd, elementsOpen}
+use Rattle.paper_opl.specs.Tree.{Elements, fits, required, find, without, attribute, attributes, opening, ending, Inside, content, element}
 use Rattle.paper_opl.specs.Tree.Elements.{nothing, node}
 use Rattle.paper_opl.specs.Layout.{attributesFit, elementsFit, blank, someBlank, Gap, gap, gapFits, Value, quoted, quoteFits, valueText, valueFits, Attributed, attributesText, attributesLaid, givenBy, Layout, layoutText, layoutFits, treeOf}
 use Rattle.paper_opl.specs.Layout.Layout.{last, short, long}
-use Rattle.paper_opl.proofs.Inversion.{on, on-test, on-found, none≢just, just-value}
+use Rattle.paper_opl.proofs.Inversion.{on-test, on-found}
 use Rattle.paper_opl.proofs.Counts.{below-of, space-strict, attribute-below, attributes-enough, misc-below, opening-below, element-below}
 use Rattle.paper_opl.proofs.Tags.{starts-more}
-use Rattle.paper_opl.proofs.Depth.{rank, some-height, child-lower, root-rank}
-use Rattle.paper_opl.proofs.Conforms.{same-true, among, forNames, child-has, next-among, root, row-has, row-name}
+use Rattle.paper_opl.proofs.Depth.{rank, some-height, child-lower}
+use Rattle.paper_opl.proofs.Conforms.{among, forNames, child-has, next-among, row-has, row-name}
 use Rattle.paper_opl.proofs.Cardinalities.{found-passes, kept-passes}
 use Rattle.paper_opl.proofs.BytesBack.{stops, behind-all, word-back, space-back, value-back, quote-clear, equals-back, gap-back}
 
@@ -135,7 +135,7 @@ child-names : every (λ e. forNames aName (e .children)) elements ≡ true
 unfolding listsOpen readingOpen elementsOpen
 child-names = refl
 
-same-self : (w : Text) → same w w ≡ true
+pub same-self : (w : Text) → same w w ≡ true
 unfolding same
 same-self [] = refl
 same-self (b ∷ w) = rw (eq-eqb b b refl, same-self w)

@@ -1,29 +1,28 @@
 -- "Accepted text always yields a policy of well-shaped records".
-use mathlib.Core.Path.{_≡_, refl, sym, ap, _∙_, subst}
+use mathlib.Core.Path.{_≡_, refl, sym, subst}
 use mathlib.Core.List.{List, [], _∷_, _++_, append-assoc, append-nil}
-use mathlib.Core.Bool.{Bool, true, false, not, cond, _&&_, _||_, false≢true, true≢false}
-use Prim.Native.Nat.{ℕ, zero, suc, _+_, _*_, _/_, _%_, _^_, _<_, _≤_}
+use mathlib.Core.Bool.{false, _&&_}
+use Prim.Native.Nat.{ℕ, zero, suc, _+_, _/_, _^_, _<_, _≤_}
 use Prim.Native.String.{String}
 use native.Mathlib.Omega.{arith}
-use lib.Dec.{eqb, ltb, leb}
+use lib.Dec.{ltb, leb}
 use lib.ListN.{length}
 use borrow.Author.Tests.{ltb-true, le-ltb}
-use Rattle.paper_lower.specs.Lists.{Maybe, every, many, keep, each, Every, listsOpen}
+use Rattle.paper_lower.specs.Lists.{Maybe, many, each, Every}
 use Rattle.paper_lower.specs.Lists.Maybe.{none, just}
-use Rattle.paper_lower.specs.Sets.{Set, empty, plus}
-use Rattle.paper_lower.specs.Checks.{GRANTED, SHAPE, RANGE, first}
-use Rattle.paper_lower.specs.Records.{Bytes, Record, bytes, encode, decode}
+use Rattle.paper_lower.specs.Sets.{Set}
+use Rattle.paper_lower.specs.Records.{Record, bytes, encode}
 use Rattle.paper_lower.specs.Forms.{Field as FormField, Form, policyForms, formOf, misplaced, above, misshapen, outOfRange, formChecks}
-use Rattle.paper_lower.specs.Forms.Field.{· as zero-only, to, any, pair}
+use Rattle.paper_lower.specs.Forms.Field.{· as zero-only, to, any}
 use Rattle.paper_lower.proofs.ListLaws.{_⨾_, both, every-all, every-each, every-append}
 use Rattle.paper_lower.proofs.ReadBack.{read-back}
 use Rattle.sets.proofs.SetLaws.{plus-lt}
 use Rattle.paper_opl.specs.Reading.{Text, text}
-use Rattle.paper_opl.specs.Tree.{Given, Elements, Tag, if-found, decimal, document}
-use Rattle.paper_opl.specs.Naming.{Line, Found, valueOf, Space, numberIn, placeOf, Names, namesOf, Field, ·, the, members, ofFirst, its, cardinality, setOf, set, partitioning, Row, recordBy, recordsBy, taskRecord, firstRows, lastRows, those, allOf, recordsOf, lines, written, Answer, translate, judged, writes, refused}
-use Rattle.paper_opl.specs.Promises.{WellShaped, RisingFrom}
+use Rattle.paper_opl.specs.Tree.{Elements}
+use Rattle.paper_opl.specs.Naming.{Line, Found, valueOf, Space, numberIn, placeOf, Names, namesOf, Field, ·, the, members, ofFirst, its, cardinality, setOf, set, partitioning, Row, recordBy, recordsBy, taskRecord, firstRows, lastRows, those}
+use Rattle.paper_opl.specs.Promises.{WellShaped}
 use Rattle.paper_opl.proofs.Inversion.{on-test, on-found, none≢just, just-value}
-use Rattle.paper_opl.proofs.Cardinalities.{Small, AllSmall, Proper, those-proper, within-proper, numbered-proper, value-small, document-small}
+use Rattle.paper_opl.proofs.Cardinalities.{AllSmall, Proper, those-proper, within-proper, numbered-proper, value-small}
 
 -- ---- One field.
 

@@ -1,7 +1,8 @@
 -- Trees of the grammar, and how a tree may be written: white space, comments, quotes, the two forms of an empty element, a declaration
 -- and a DOCTYPE. A reader that refuses what it should read, or reads it otherwise, is shut out by what is proved of these.
 use Prim.Native.Nat.{ℕ}
-use mathlib.Core.Bool.{Bool, true, false, not, _&&_, _||_}
+use mathlib.Core.Path.{_≡_}
+use mathlib.Core.Bool.{Bool, true, false, not, _&&_, _||_, cond}
 use mathlib.Core.List.{List, [], _∷_, _++_}
 use lib.Dec.{eqb}
 use Rattle.paper_lower.specs.Lists.{Maybe, some, every, each}
@@ -10,6 +11,7 @@ use Rattle.paper_opl.specs.Reading.{Text, text, same, starts, white, con
 use Rattle.paper_opl.specs.Elements.{Attribute, Child, elements, rowIn, one, next, mayEnd}
 use Rattle.paper_opl.specs.Tree.{Given, Elements, if-found, fits, required, find, without}
 use Rattle.paper_opl.specs.Tree.Elements.{nothing, node}
+use Rattle.paper_opl.specs.Naming.{Line, inLine}
 
 -- ---- Trees of the grammar.
 
@@ -169,7 +171,35 @@ documentText x = declarationText (x .declaration) (doctypeText (x .doctype) (lay
 abbrev pub documentFits : Document → Bool
 documentFits x = declarationFits (x .declaration) && (doctypeFits (x .doctype) && layoutFits (x .root))
 
+-- the text is written from this tree of the grammar
+pub record WrittenFrom (es : Elements) (s : Text) : Type 0 where
+  pub layout : Document
+  pub fits : documentFits layout ≡ true
+  pub tree-is : treeOf (layout .root) ≡ es
+  pub in-grammar : inGrammar es ≡ true
+  pub text-is : s ≡ documentText layout
+
+-- ---- The task lines: a line feed between them, and behind the last or not.
+
+-- what stands behind a line: nothing, or a line feed and more lines
+unfoldable pub linesText : Bool → List Line → Text
+linesText feed [] = cond feed (text "\n") []
+linesText feed (l ∷ ls) = text "\n" ++ (l .task ++ (text " " ++ (l .template ++ linesText feed ls)))
+
+unfoldable pub tasksText : Bool → List Line → Text
+tasksText feed [] = []
+tasksText feed (l ∷ ls) = l .task ++ (text " " ++ (l .template ++ linesText feed ls))
+
+abbrev pub lineFits : Line → Bool
+lineFits l = every inLine (l .task) && (not (same (l .task) []) && (every inLine (l .template) && not (same (l .template) [])))
+
+-- the text is written from these lines
+pub record LinesFrom (ls : List Line) (t : Text) : Type 0 where
+  pub feed : Bool
+  pub fit : every lineFits ls ≡ true
+  pub text-is : t ≡ tasksText feed ls
+
 -- What this page defines, opened together where a case is computed.
 unfoldable pub layoutOpen : Unit {0}
-unfolding attributesFit elementsFit calm gap gapFits attributesText layoutText layoutFits treeOf encodingText declarationText doctypeText documentText
+unfolding attributesFit elementsFit calm gap gapFits attributesText layoutText layoutFits treeOf encodingText declarationText doctypeText documentText linesText tasksText
 layoutOpen = tt

@@ -1,10 +1,11 @@
 -- What is promised of the records that an accepted text yields, and of the texts that are accepted.
 use Prim.Native.Nat.{ℕ, _<_, _≤_, _*_}
 use mathlib.Core.Path.{_≡_}
-use mathlib.Core.Bool.{cond}
+use mathlib.Core.Logic.{_↔_}
+use mathlib.Core.Bool.{false, cond}
 use mathlib.Core.List.{List, [], _∷_, _++_}
 use lib.ListN.{length, drop}
-use Rattle.paper_lower.specs.Lists.{many, Every}
+use Rattle.paper_lower.specs.Lists.{some, many, Every}
 use Rattle.paper_lower.specs.Lists.Maybe.{just}
 use Rattle.paper_lower.specs.Checks.{GRANTED, first}
 use Rattle.paper_lower.specs.Records.{Bytes, Record, encode}
@@ -12,9 +13,10 @@ use Rattle.paper_lower.specs.Forms.{policyForms, formChecks}
 use Rattle.paper_opl.specs.Reading.{Text, Read, after, same, misc}
 use Rattle.paper_opl.specs.Reading.Read.{got, bad}
 use Rattle.paper_opl.specs.Elements.{elements, one}
-use Rattle.paper_opl.specs.Tree.{Elements, opening, element, prolog, document}
+use Rattle.paper_opl.specs.Tree.{Elements, opening, element, prolog, DEPTH, document}
 use Rattle.paper_opl.specs.Tree.Elements.{nothing, node}
-use Rattle.paper_opl.specs.Naming.{Line, lines, recordsOf, written, translate}
+use Rattle.paper_opl.specs.Naming.{Line, lines, Space, distinct, placeOf, numberIn, recordsOf, written, translate}
+use Rattle.paper_opl.specs.Layout.{WrittenFrom, LinesFrom}
 
 -- ---- "Accepted text always yields a policy of well-shaped records that says what the elements say".
 
@@ -50,3 +52,34 @@ unfoldable pub documentTo : ℕ → Text → Read Elements
 documentTo depth s =
     after (prolog s) (λ _ r. after (opening (one "policy_object" ∷ []) r) (λ c u. after (element elements depth (c .name) u) (λ e z.
     after (misc (length z) z) (λ _ y. cond (same y []) (got (node (c .name) (e .given) (e .elements) nothing) y) (bad y)))))
+
+-- ---- The statements.
+
+-- "Accepted text always yields a policy of well-shaped records that says what the elements say"
+abbrev pub AcceptedYields : Type 0
+AcceptedYields = (s t : Text) (out : Bytes) → translate s t out .reply ≡ GRANTED → Yield s t out
+
+-- "Refusals, nothing written"
+abbrev pub RefusalsWriteNothing : Type 0
+RefusalsWriteNothing = (s t : Text) (out : Bytes) → (translate s t out .reply ≡ GRANTED → ⊥) → translate s t out .output ≡ out
+
+-- Accepted are exactly the texts that are written from a tree of the grammar, with any white space and comments where they may stand,
+-- and they are read as that tree.
+abbrev pub ReadExactly : Type 0
+ReadExactly = (s : Text) (es : Elements) → document s ≡ got es [] ↔ WrittenFrom es s
+
+-- The same of the task lines: "lines of task name, one space and template name".
+abbrev pub LinesReadExactly : Type 0
+LinesReadExactly = (t : Text) (ls : List Line) → lines (length t) t ≡ got ls [] ↔ LinesFrom ls t
+
+-- "down to depth 8": no text is refused, or read otherwise, for that limit
+abbrev pub DepthNeverBites : Type 0
+DepthNeverBites = (d : ℕ) (s : Text) → DEPTH ≤ d → documentTo d s ≡ document s
+
+-- "Names up to 64 bytes get numbers in order of first declaration": how many different names were declared before it
+abbrev pub NumbersInOrder : Type 0
+NumbersInOrder = (w : Text) (us vs : List Text) → some (same w) us ≡ false → placeOf 0 w (distinct [] (us ++ (w ∷ vs))) ≡ just (many (distinct [] us))
+
+-- and two names never have the same
+abbrev pub NumbersDiffer : Type 0
+NumbersDiffer = (sp : Space) (v w : Text) (k : ℕ) → numberIn sp v ≡ just k → numberIn sp w ≡ just k → v ≡ w

@@ -2,17 +2,17 @@
 -- crate show that nothing else comes out.
 use Prim.Native.Nat.{ℕ, zero, suc, _-_}
 use Prim.Native.String.{String}
-use mathlib.Core.Bool.{Bool, true, false, cond, _&&_, _||_}
+use mathlib.Core.Bool.{Bool, cond, _||_}
 use mathlib.Core.List.{List, [], _∷_, _++_}
 use lib.Dec.{eqb, leb}
 use lib.ListN.{length, drop}
 use Rattle.paper_lower.specs.Lists.{Maybe, some, many, keep, each}
 use Rattle.paper_lower.specs.Lists.Maybe.{none, just}
-use Rattle.paper_lower.specs.Records.{Record}
+use Rattle.paper_lower.specs.Records.{Bytes, Record}
 use Rattle.paper_opl.specs.Reading.{Text, text, Read, after, same, starts, expect, skip, space, misc, name, value, equals}
 use Rattle.paper_opl.specs.Reading.Read.{got, bad}
-use Rattle.paper_opl.specs.Tree.{Given, Tag, if-found, prolog}
-use Rattle.paper_opl.specs.Naming.{Line, Found, valueOf, Names, spaceOf, Row, firstRows, lastRows, recordBy, taskRecord, allOf, translateOpen}
+use Rattle.paper_opl.specs.Tree.{Given, Tag, if-found, prolog, document}
+use Rattle.paper_opl.specs.Naming.{Line, Found, valueOf, Names, spaceOf, Row, firstRows, lastRows, recordBy, taskRecord, allOf, NAMES, Answer, lines, refused, writes, judged, translateOpen}
 
 -- ---- Tags.
 
@@ -172,7 +172,13 @@ recordsIn ts ls =
     (allOf (rising (namesIn ts ls) 1 5 (sayings start ts) ++ each (taskRecord (namesIn ts ls)) ls ++ rising (namesIn ts ls) 7 10 (sayings start ts)))
     none
 
+-- the call, by the walk
+unfoldable pub walked : Text → Text → Bytes → Answer
+walked s t out =
+    judged 1 s (document s) out (λ _. judged 2 t (lines (length t) t) out (λ ls.
+    if-found (recordsIn (tags s) ls) (refused NAMES 0 0 out) (λ rs. writes rs out)))
+
 -- What this page defines, and those before it, opened together where a case is computed.
 unfoldable pub walkOpen : Unit {0}
-unfolding translateOpen plain givens startTag endTag tag tagsFrom tags namesIn turn kinds kindIn innerNames leading sayings rowOf recordSaid rising recordsIn
+unfolding translateOpen plain givens startTag endTag tag tagsFrom tags namesIn turn kinds kindIn innerNames leading sayings rowOf recordSaid rising recordsIn walked
 walkOpen = tt

@@ -1,0 +1,6 @@
+pub mod Chain
+pub mod Numbers
+pub mod Attributes
+pub mod Tags
+pub mod Cycle
+pub mod Prologue

@@ -1,0 +1,331 @@
+-- What stands before the policy object, the policy object, and what stands behind it: readers one behind the other.
+use mathlib.Core.Path.{_≡_, refl, sym, _∙_, subst}
+use mathlib.Core.List.{[], _∷_}
+use mathlib.Core.Bool.{Bool, true, false, not, cond, _&&_}
+use Prim.Native.Nat.{ℕ, _+_, _-_, _<_, _≤_}
+use native.Mathlib.Omega.{arith}
+use lib.Dec.{eqb}
+use lib.ListN.{length, take, drop, length-drop, drop-of-length-le}
+use lib.Seq.{drop-drop}
+use borrow.Author.Tests.{not-true, not-false, eqb-true, eqb-false, eq-eqb, ne-eqb}
+use Rattle.paper_opl.specs.Reading.{Text, Read, after, text, same, starts, expect, white, behind, skip, space, misc, equals, value}
+use Rattle.paper_opl.specs.Reading.Read.{got, bad}
+use Rattle.paper_opl.specs.Elements.{elements as table, one}
+use Rattle.paper_opl.specs.Tree.{Opened, Inside, opening, element, pseudo, declaration, doctype, prolog, document}
+use Rattle.paper_opl.specs.Tree.Elements.{nothing, node}
+use Rattle.paper_opl.proofs.Counts.{starts-le}
+use Rattle.opl_text.specs.declared.Step.{Step}
+use Rattle.opl_text.specs.declared.Step.the-variants.{Next, Bad}
+use Rattle.opl_text.specs.Steps.{Reads, stepOf, valueOf}
+use Rattle.opl_text.proofs.Same.{other-length, same-self}
+use Rattle.opl_table.specs.Numbers.{leftOf}
+use Rattle.opl_table.proofs.Rows.{document-left}
+use Rattle.opl_reader.specs.declared.Start.{Start}
+use Rattle.opl_reader.specs.declared.Start.the-variants.{Inner, Stop}
+use Rattle.opl_reader.specs.Grammar.{forget, startAt, Opens, elementRead, spacedRead, declaredRead, typedRead, rootRead}
+use Rattle.opl_reader.proofs.Chain.{moved, goes-on, halted, after-after, after-each}
+
+-- ---- A literal, "=", and this value.
+
+module _ (s : Text) (at : ℕ) (w v : Text) (x : Step) (a : Reads s (stepOf s) (expect w (drop at s)) x) where
+  this : Text → Read (Unit {0})
+  this u = after (value u) (λ m z. cond (same m v) (got tt z) (bad (drop 1 u)))
+
+  pub pseudo-word : (p : ℕ) → x ≡ Bad p → Reads s (stepOf s) (pseudo w v (drop at s)) x
+  unfolding this
+  pseudo-word p e = halted s (stepOf s) (expect w (drop at s)) x a p e refl (λ _ r. after (equals r) (λ _ u. this u))
+
+  module _ (i : ℕ) (e : x ≡ Next i) (y : Step) (b : Reads s (stepOf s) (equals (drop i s)) y) where
+    to-equals : pseudo w v (drop at s) ≡ after (equals (drop i s)) (λ _ u. this u)
+    unfolding this
+    to-equals = goes-on s (stepOf s) (expect w (drop at s)) x a (Next i) e (λ _ r. after (equals r) (λ _ u. this u))
+
+    pub pseudo-equals : (p : ℕ) → y ≡ Bad p → Reads s (stepOf s) (pseudo w v (drop at s)) y
+    pseudo-equals p f = moved to-equals (halted s (stepOf s) (equals (drop i s)) y b p f refl (λ _ u. this u))
+
+    module _ (u : ℕ) (f : y ≡ Next u) (z : Step) (c : Reads s (valueOf s (u + 1)) (value (drop u s)) z) where
+      to-value : pseudo w v (drop at s) ≡ this (drop u s)
+      to-value = to-equals ∙ goes-on s (stepOf s) (equals (drop i s)) y b (Next u) f (λ _ u. this u)
+
+      pub pseudo-value : (p : ℕ) → z ≡ Bad p → Reads s (stepOf s) (pseudo w v (drop at s)) z
+      unfolding this
+      pseudo-value p g = moved to-value (halted s (valueOf s (u + 1)) (value (drop u s)) z c p g refl (λ m r. cond (same m v) (got tt r) (bad (drop 1 (drop u s)))))
+
+      module _ (end : ℕ) (g : z ≡ Next end) (m : Text) (t : m ≡ take (end - (u + 1)) (drop (u + 1) s)) (d : Bool) (q : d ≡ same m v) where
+        judged : pseudo w v (drop at s) ≡ cond d (got tt (drop (end + 1) s)) (bad (drop (u + 1) s))
+        unfolding this
+        judged =
+            to-value
+            ∙ goes-on s (valueOf s (u + 1)) (value (drop u s)) z c (Next end) g (λ m r. cond (same m v) (got tt r) (bad (drop 1 (drop u s))))
+            ∙ rw (sym t, sym q, drop-drop 1 u s)
+
+        pub pseudo-not : not d ≡ true → bad (drop (u + 1) s) ≡ pseudo w v (drop at s)
+        pseudo-not n = sym (judged ∙ rw (not-true d n))
+
+        pub pseudo-yes : not d ≡ false → got tt (drop (end + 1) s) ≡ pseudo w v (drop at s)
+        pseudo-yes n = sym (judged ∙ rw (not-false d n))
+
+-- ---- The XML declaration.
+
+-- no white space stands where skipping it goes nowhere
+same-place : (s : Text) (u j : ℕ) → u ≤ length s → drop j s ≡ behind white (drop u s) → j ≤ length s → same (drop u s) (behind white (drop u s)) ≡ eqb j u
+same-place s u j h from inside = rw (sym from) (go (eqb j u) refl)
+  where
+    go : (b : Bool) → eqb j u ≡ b → same (drop u s) (drop j s) ≡ b
+    go true e = rw (eqb-true j u e) (same-self (drop u s))
+    go false e =
+        let n = eqb-false j u e in
+        let a = length-drop u s in
+        let b = length-drop j s in
+        sym (other-length (drop u s) (drop j s) (λ (z : length (drop u s) ≡ length (drop j s)). n (omega arith)))
+
+module _ (s : Text) (at : ℕ) (x : Step) (a : Reads s (stepOf s) (space (drop at s)) x) where
+  encoded : Text → Read (Unit {0})
+  encoded u = after (pseudo (text "encoding") (text "UTF-8") u) (λ _ z. expect (text "?>") (skip z))
+
+  closed : Text → Read (Unit {0})
+  closed u = cond (starts (text "e") (skip u) && not (same u (skip u))) (encoded (skip u)) (expect (text "?>") (skip u))
+
+  pub declaration-space : (p : ℕ) → x ≡ Bad p → Reads s (stepOf s) (declaration (drop at s)) x
+  unfolding declaration encoded closed
+  declaration-space p e = halted s (stepOf s) (space (drop at s)) x a p e refl (λ _ r. after (pseudo (text "version") (text "1.0") r) (λ _ u. closed u))
+
+  module _ (i : ℕ) (e : x ≡ Next i) (y : Step) (b : Reads s (stepOf s) (pseudo (text "version") (text "1.0") (drop i s)) y) where
+    to-version : declaration (drop at s) ≡ after (pseudo (text "version") (text "1.0") (drop i s)) (λ _ u. closed u)
+    unfolding declaration encoded closed
+    to-version = goes-on s (stepOf s) (space (drop at s)) x a (Next i) e (λ _ r. after (pseudo (text "version") (text "1.0") r) (λ _ u. closed u))
+
+    pub declaration-version : (p : ℕ) → y ≡ Bad p → Reads s (stepOf s) (declaration (drop at s)) y
+    declaration-version p f = moved to-version (halted s (stepOf s) (pseudo (text "version") (text "1.0") (drop i s)) y b p f refl (λ _ u. closed u))
+
+    module _ (u : ℕ) (f : y ≡ Next u) (h : u ≤ length s) (j : ℕ) (from : drop j s ≡ behind white (drop u s)) (inside : j ≤ length s) (d : Bool) (q : d ≡ starts (101 ∷ []) (drop j s)) where
+      to-closed : declaration (drop at s) ≡ cond (d && not (eqb j u)) (encoded (drop j s)) (expect (text "?>") (drop j s))
+      unfolding closed text
+      to-closed =
+          to-version
+          ∙ goes-on s (stepOf s) (pseudo (text "version") (text "1.0") (drop i s)) y b (Next u) f (λ _ u. closed u)
+          ∙ rw (same-place s u j h from inside, sym from, sym q)
+
+      pub declaration-short : not (d && not (eqb j u)) ≡ true → (r : Step) → Reads s (stepOf s) (expect (text "?>") (drop j s)) r → Reads s (stepOf s) (declaration (drop at s)) r
+      declaration-short n r c = moved (to-closed ∙ rw (not-true (d && not (eqb j u)) n)) c
+
+      module _ (n : not (d && not (eqb j u)) ≡ false) (z : Step) (c : Reads s (stepOf s) (pseudo (text "encoding") (text "UTF-8") (drop j s)) z) where
+        to-encoding : declaration (drop at s) ≡ after (pseudo (text "encoding") (text "UTF-8") (drop j s)) (λ _ z. expect (text "?>") (skip z))
+        unfolding encoded
+        to-encoding = to-closed ∙ rw (not-false (d && not (eqb j u)) n)
+
+        pub declaration-encoding : (p : ℕ) → z ≡ Bad p → Reads s (stepOf s) (declaration (drop at s)) z
+        declaration-encoding p g = moved to-encoding (halted s (stepOf s) (pseudo (text "encoding") (text "UTF-8") (drop j s)) z c p g refl (λ _ z. expect (text "?>") (skip z)))
+
+        pub declaration-long : (k : ℕ) → z ≡ Next k → (end : ℕ) → drop end s ≡ behind white (drop k s) → (r : Step) → Reads s (stepOf s) (expect (text "?>") (drop end s)) r
+            → Reads s (stepOf s) (declaration (drop at s)) r
+        declaration-long k g end l r o =
+            moved (to-encoding ∙ goes-on s (stepOf s) (pseudo (text "encoding") (text "UTF-8") (drop j s)) z c (Next k) g (λ _ z. expect (text "?>") (skip z)) ∙ rw (sym l)) o
+
+-- ---- The DOCTYPE.
+
+module _ (s : Text) (at : ℕ) (w : Text) (x : Step) (a : Reads s (stepOf s) (space (drop at s)) x) where
+  pub spaced-not : (p : ℕ) → x ≡ Bad p → Reads s (stepOf s) (spacedRead w (drop at s)) x
+  unfolding spacedRead
+  spaced-not p e = halted s (stepOf s) (space (drop at s)) x a p e refl (λ _ r. expect w r)
+
+  pub spaced-on : (i : ℕ) → x ≡ Next i → (r : Step) → Reads s (stepOf s) (expect w (drop i s)) r → Reads s (stepOf s) (spacedRead w (drop at s)) r
+  unfolding spacedRead
+  spaced-on i e r b = moved (goes-on s (stepOf s) (space (drop at s)) x a (Next i) e (λ _ r. expect w r)) b
+
+literal : Text → Read (Unit {0})
+literal y = after (space y) (λ _ x. after (value x) (λ _ v. expect (text ">") (skip v)))
+
+system : Text → Read (Unit {0})
+system u = after (spacedRead (text "SYSTEM") u) (λ _ y. literal y)
+
+doctype-is : (t : Text) → doctype t ≡ after (spacedRead (text "policy_object") t) (λ _ u. system u)
+unfolding doctype spacedRead system literal
+doctype-is t =
+    after-each (space t)
+    (λ _ r. after (expect (text "policy_object") r) (λ _ u. after (space u) (λ _ z. after (expect (text "SYSTEM") z) (λ _ y. literal y))))
+    (λ _ r. after (expect (text "policy_object") r) (λ _ u. system u))
+    (λ _ r. after-each (expect (text "policy_object") r) (λ _ u. after (space u) (λ _ z. after (expect (text "SYSTEM") z) (λ _ y. literal y))) (λ _ u. system u)
+    (λ _ u. sym (after-after (space u) (λ _ z. expect (text "SYSTEM") z) (λ _ y. literal y))))
+    ∙ sym (after-after (space t) (λ _ r. expect (text "policy_object") r) (λ _ u. system u))
+
+module _ (s : Text) (at : ℕ) (x : Step) (a : Reads s (stepOf s) (spacedRead (text "policy_object") (drop at s)) x) where
+  pub doctype-root : (p : ℕ) → x ≡ Bad p → Reads s (stepOf s) (doctype (drop at s)) x
+  doctype-root p e = moved (doctype-is (drop at s)) (halted s (stepOf s) (spacedRead (text "policy_object") (drop at s)) x a p e refl (λ _ u. system u))
+
+  module _ (i : ℕ) (e : x ≡ Next i) (y : Step) (b : Reads s (stepOf s) (spacedRead (text "SYSTEM") (drop i s)) y) where
+    to-system : doctype (drop at s) ≡ after (spacedRead (text "SYSTEM") (drop i s)) (λ _ y. literal y)
+    unfolding system
+    to-system = doctype-is (drop at s) ∙ goes-on s (stepOf s) (spacedRead (text "policy_object") (drop at s)) x a (Next i) e (λ _ u. system u)
+
+    pub doctype-system : (p : ℕ) → y ≡ Bad p → Reads s (stepOf s) (doctype (drop at s)) y
+    doctype-system p f = moved to-system (halted s (stepOf s) (spacedRead (text "SYSTEM") (drop i s)) y b p f refl (λ _ y. literal y))
+
+    module _ (j : ℕ) (f : y ≡ Next j) (z : Step) (c : Reads s (stepOf s) (space (drop j s)) z) where
+      to-space : doctype (drop at s) ≡ after (space (drop j s)) (λ _ x. after (value x) (λ _ v. expect (text ">") (skip v)))
+      unfolding literal
+      to-space = to-system ∙ goes-on s (stepOf s) (spacedRead (text "SYSTEM") (drop i s)) y b (Next j) f (λ _ y. literal y)
+
+      pub doctype-space : (p : ℕ) → z ≡ Bad p → Reads s (stepOf s) (doctype (drop at s)) z
+      doctype-space p g = moved to-space (halted s (stepOf s) (space (drop j s)) z c p g refl (λ _ x. after (value x) (λ _ v. expect (text ">") (skip v))))
+
+      module _ (u : ℕ) (g : z ≡ Next u) (m : Step) (d : Reads s (valueOf s (u + 1)) (value (drop u s)) m) where
+        to-literal : doctype (drop at s) ≡ after (value (drop u s)) (λ _ v. expect (text ">") (skip v))
+        to-literal = to-space ∙ goes-on s (stepOf s) (space (drop j s)) z c (Next u) g (λ _ x. after (value x) (λ _ v. expect (text ">") (skip v)))
+
+        pub doctype-value : (p : ℕ) → m ≡ Bad p → Reads s (stepOf s) (doctype (drop at s)) m
+        doctype-value p l = moved to-literal (halted s (valueOf s (u + 1)) (value (drop u s)) m d p l refl (λ _ v. expect (text ">") (skip v)))
+
+        pub doctype-end : (end : ℕ) → m ≡ Next end → (k : ℕ) → drop k s ≡ behind white (drop (end + 1) s) → (r : Step) → Reads s (stepOf s) (expect (text ">") (drop k s)) r
+            → Reads s (stepOf s) (doctype (drop at s)) r
+        doctype-end end l k o r q =
+            moved (to-literal ∙ goes-on s (valueOf s (u + 1)) (value (drop u s)) m d (Next end) l (λ _ v. expect (text ">") (skip v)) ∙ rw (sym o)) q
+
+-- ---- The two at their places.
+
+module _ (s : Text) (b : Bool) (q : b ≡ starts (text "<?xml") s) where
+  pub undeclared : not b ≡ true → got tt s ≡ declaredRead s
+  unfolding declaredRead
+  undeclared n = rw (sym q, not-true b n)
+
+  pub declared-room : not b ≡ false → 5 ≤ length s
+  unfolding text
+  declared-room n = starts-le (60 ∷ 63 ∷ 120 ∷ 109 ∷ 108 ∷ []) s (sym q ∙ not-false b n)
+
+  module _ (n : not b ≡ false) (i : ℕ) (from : drop i s ≡ behind white (drop 5 s)) (inside : i ≤ length s) where
+    pub declared-other : i ≡ 5 → got tt s ≡ declaredRead s
+    unfolding declaredRead
+    declared-other e = rw (sym q, not-false b n, same-place s 5 i (declared-room n) from inside, eq-eqb i 5 e)
+
+    pub declared-on : (i ≡ 5 → ⊥) → (r : Step) → Reads s (stepOf s) (declaration (drop 5 s)) r → Reads s (stepOf s) (declaredRead s) r
+    unfolding declaredRead
+    declared-on e r a = moved (rw (sym q, not-false b n, same-place s 5 i (declared-room n) from inside, ne-eqb i 5 e)) a
+
+module _ (s : Text) (at : ℕ) (b : Bool) (q : b ≡ starts (text "<!DOCTYPE") (drop at s)) where
+  pub untyped : not b ≡ true → got tt (drop at s) ≡ typedRead (drop at s)
+  unfolding typedRead
+  untyped n = rw (sym q, not-true b n)
+
+  pub typed-room : not b ≡ false → at + 9 ≤ length s
+  unfolding text
+  typed-room n = let h = starts-le (60 ∷ 33 ∷ 68 ∷ 79 ∷ 67 ∷ 84 ∷ 89 ∷ 80 ∷ 69 ∷ []) (drop at s) (sym q ∙ not-false b n) in let l = length-drop at s in omega arith
+
+  module _ (n : not b ≡ false) (x : Step) (a : Reads s (stepOf s) (doctype (drop (at + 9) s)) x) where
+    here : typedRead (drop at s) ≡ after (doctype (drop (at + 9) s)) (λ _ r. misc (length r) r)
+    unfolding typedRead
+    here = rw (sym q, not-false b n, drop-drop 9 at s)
+
+    pub typed-not : (p : ℕ) → x ≡ Bad p → Reads s (stepOf s) (typedRead (drop at s)) x
+    typed-not p e = moved here (halted s (stepOf s) (doctype (drop (at + 9) s)) x a p e refl (λ _ r. misc (length r) r))
+
+    pub typed-on : (i : ℕ) → x ≡ Next i → (r : Step) → Reads s (stepOf s) (misc (length (drop i s)) (drop i s)) r → Reads s (stepOf s) (typedRead (drop at s)) r
+    typed-on i e r c = moved (here ∙ goes-on s (stepOf s) (doctype (drop (at + 9) s)) x a (Next i) e (λ _ r. misc (length r) r)) c
+
+module _ (s : Text) (x : Step) (a : Reads s (stepOf s) (declaredRead s) x) where
+  prolog-is : prolog s ≡ after (declaredRead s) (λ _ r. after (misc (length r) r) (λ _ u. typedRead u))
+  unfolding prolog declaredRead typedRead
+  prolog-is = refl
+
+  pub prolog-declared : (p : ℕ) → x ≡ Bad p → Reads s (stepOf s) (prolog s) x
+  prolog-declared p e = moved prolog-is (halted s (stepOf s) (declaredRead s) x a p e refl (λ _ r. after (misc (length r) r) (λ _ u. typedRead u)))
+
+  module _ (i : ℕ) (e : x ≡ Next i) (y : Step) (b : Reads s (stepOf s) (misc (length (drop i s)) (drop i s)) y) where
+    to-misc : prolog s ≡ after (misc (length (drop i s)) (drop i s)) (λ _ u. typedRead u)
+    to-misc = prolog-is ∙ goes-on s (stepOf s) (declaredRead s) x a (Next i) e (λ _ r. after (misc (length r) r) (λ _ u. typedRead u))
+
+    pub prolog-misc : (p : ℕ) → y ≡ Bad p → Reads s (stepOf s) (prolog s) y
+    prolog-misc p f = moved to-misc (halted s (stepOf s) (misc (length (drop i s)) (drop i s)) y b p f refl (λ _ u. typedRead u))
+
+    pub prolog-typed : (u : ℕ) → y ≡ Next u → (r : Step) → Reads s (stepOf s) (typedRead (drop u s)) r → Reads s (stepOf s) (prolog s) r
+    prolog-typed u f r c = moved (to-misc ∙ goes-on s (stepOf s) (misc (length (drop i s)) (drop i s)) y b (Next u) f (λ _ u. typedRead u)) c
+
+-- ---- The policy object, and nothing behind it.
+
+last : Text → Read (Unit {0})
+last u = cond (same u []) (got tt u) (bad u)
+
+rest : Text → Read (Unit {0})
+rest r = after (misc (length r) r) (λ _ u. last u)
+
+module _ (s : Text) (at id : ℕ) (x : Step) (a : Reads s (stepOf s) (elementRead 8 id (drop at s)) x) where
+  root-is : rootRead id (drop at s) ≡ after (elementRead 8 id (drop at s)) (λ _ r. rest r)
+  unfolding rootRead rest last
+  root-is = refl
+
+  pub root-element : (p : ℕ) → x ≡ Bad p → Reads s (stepOf s) (rootRead id (drop at s)) x
+  root-element p e = moved root-is (halted s (stepOf s) (elementRead 8 id (drop at s)) x a p e refl (λ _ r. rest r))
+
+  module _ (i : ℕ) (e : x ≡ Next i) (y : Step) (b : Reads s (stepOf s) (misc (length (drop i s)) (drop i s)) y) where
+    to-rest : rootRead id (drop at s) ≡ after (misc (length (drop i s)) (drop i s)) (λ _ u. last u)
+    unfolding rest
+    to-rest = root-is ∙ goes-on s (stepOf s) (elementRead 8 id (drop at s)) x a (Next i) e (λ _ r. rest r)
+
+    pub root-misc : (p : ℕ) → y ≡ Bad p → Reads s (stepOf s) (rootRead id (drop at s)) y
+    root-misc p f = moved to-rest (halted s (stepOf s) (misc (length (drop i s)) (drop i s)) y b p f refl (λ _ u. last u))
+
+    module _ (j : ℕ) (f : y ≡ Next j) where
+      to-last : rootRead id (drop at s) ≡ last (drop j s)
+      to-last = to-rest ∙ goes-on s (stepOf s) (misc (length (drop i s)) (drop i s)) y b (Next j) f (λ _ u. last u)
+
+      pub root-more : j < length s → bad (drop j s) ≡ rootRead id (drop at s)
+      unfolding last
+      root-more h =
+          let l = length-drop j s in
+          let n : false ≡ same (drop j s) [] = other-length (drop j s) [] (λ (z : length (drop j s) ≡ 0). omega arith) in
+          sym (to-last ∙ rw (sym n))
+
+      pub root-done : length s ≤ j → got tt (drop j s) ≡ rootRead id (drop at s)
+      unfolding last same
+      root-done h = let e : drop j s ≡ [] = drop-of-length-le s h in sym (to-last ∙ rw e)
+
+-- the whole document, forgetting what it says
+whole : Opened → Text → Read (Unit {0})
+whole c u = after (forget (element table 8 (c .name) u)) (λ _ r. rest r)
+
+forgets : (w : Text) (e : Inside) (u : Text) (x : Read (Unit {0})) → forget (after x (λ _ y. cond (same y []) (got (node w (e .given) (e .elements) nothing) y) (bad y))) ≡ after x (λ _ y. last y)
+unfolding last
+forgets w e u (got v y) = go (same y [])
+  where
+    go : (b : Bool) → forget (cond b (got (node w (e .given) (e .elements) nothing) y) (bad y)) ≡ cond b (got tt y) (bad y)
+    go true = refl
+    go false = refl
+forgets w e u (bad y) = refl
+
+document-is : (s : Text) → forget (document s) ≡ after (prolog s) (λ _ r. after (opening (leftOf 1) r) (λ c u. whole c u))
+unfolding document whole rest
+document-is s = rw document-left (go (prolog s))
+  where
+    inner : (c : Opened) (x : Read Inside) → forget (after x (λ e z. after (misc (length z) z) (λ _ y. cond (same y []) (got (node (c .name) (e .given) (e .elements) nothing) y) (bad y)))) ≡ after (forget x) (λ _ r. after (misc (length r) r) (λ _ u. last u))
+    inner c (got e z) = forgets (c .name) e z (misc (length z) z)
+    inner c (bad z) = refl
+
+    outer : (x : Read Opened) → forget (after x (λ c u. after (element table 8 (c .name) u) (λ e z. after (misc (length z) z) (λ _ y. cond (same y []) (got (node (c .name) (e .given) (e .elements) nothing) y) (bad y)))))
+        ≡ after x (λ c u. after (forget (element table 8 (c .name) u)) (λ _ r. after (misc (length r) r) (λ _ u. last u)))
+    outer (got c u) = inner c (element table 8 (c .name) u)
+    outer (bad u) = refl
+
+    go : (x : Read (Unit {0})) → forget (after x (λ _ r. after (opening (one "policy_object" ∷ []) r) (λ c u. after (element table 8 (c .name) u) (λ e z. after (misc (length z) z) (λ _ y. cond (same y []) (got (node (c .name) (e .given) (e .elements) nothing) y) (bad y))))))
+        ≡ after x (λ _ r. after (opening (one "policy_object" ∷ []) r) (λ c u. after (forget (element table 8 (c .name) u)) (λ _ r. after (misc (length r) r) (λ _ u. last u))))
+    go (got v r) = outer (opening (one "policy_object" ∷ []) r)
+    go (bad r) = refl
+
+module _ (s : Text) (x : Step) (a : Reads s (stepOf s) (prolog s) x) where
+  pub document-prolog : (p : ℕ) → x ≡ Bad p → Reads s (stepOf s) (forget (document s)) x
+  document-prolog p e = moved (document-is s) (halted s (stepOf s) (prolog s) x a p e refl (λ _ r. after (opening (leftOf 1) r) (λ c u. whole c u)))
+
+  module _ (i : ℕ) (e : x ≡ Next i) (o : Start) (b : Opens s (opening (leftOf 1) (drop i s)) o) where
+    to-opening : forget (document s) ≡ after (opening (leftOf 1) (drop i s)) (λ c u. whole c u)
+    to-opening = document-is s ∙ goes-on s (stepOf s) (prolog s) x a (Next i) e (λ _ r. after (opening (leftOf 1) r) (λ c u. whole c u))
+
+    pub document-stop : (p : ℕ) → o ≡ Stop p → Reads s (stepOf s) (forget (document s)) (Bad p)
+    document-stop p f = record {
+      read-is = sym (to-opening ∙ rw (sym (b .read-is), f));
+      inside = subst (λ (k : Start). startAt k ≤ length s) f (b .inside);
+    }
+
+    pub document-inside : (k id more : ℕ) → o ≡ Inner k id more → k ≤ length s
+    document-inside k id more f = subst (λ (k : Start). startAt k ≤ length s) f (b .inside)
+
+    pub document-root : (k id more : ℕ) → o ≡ Inner k id more → (r : Step) → Reads s (stepOf s) (rootRead id (drop k s)) r → Reads s (stepOf s) (forget (document s)) r
+    unfolding whole rootRead elementRead rest last
+    document-root k id more f r c = moved (to-opening ∙ rw (sym (b .read-is), f)) c

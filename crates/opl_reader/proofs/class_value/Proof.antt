@@ -1,0 +1,55 @@
+-- The value between its quotes, judged by its class.
+use denote.Ref.{now}
+use native.Mathlib.Omega.{arith}
+use Prim.Native.Nat.{_-_}
+use Rattle.paper_opl.specs.Reading.{value}
+use Rattle.opl_text.proofs.Literals.{value-room}
+use Rattle.opl_reader.proofs.Attributes.{class-bad, class-not, class-yes}
+use borrow.Author.Needs.{needs}
+use Rattle.opl_reader.proofs.class_value.Statement.{statement}
+use Rattle.opl_reader.proofs.class_value.Tie as tie
+
+read-value-requires : tie.Need-read-value-requires
+read-value-requires c κs = search needs
+
+enum-known-e : tie.Need-enum-known-e
+enum-known-e c = search needs
+
+enum-known-e-2 : tie.Need-enum-known-e-2
+enum-known-e-2 c = search needs
+
+quoted-requires : tie.Need-quoted-requires
+quoted-requires c κs = (value-room (now (c .before .before .before .before .before .args .s)) (c .before .before .before .before .before .args .at) (c .before .before .before .read-value .result) (c .before .before .before .read-value .ensures) (c .before .e2 .given .0 .0) (c .before .e2 .given .1) (c .before .before .before .before .before .pre) .0, let h = value-room (now (c .before .before .before .before .before .args .s)) (c .before .before .before .before .before .args .at) (c .before .before .before .read-value .result) (c .before .before .before .read-value .ensures) (c .before .e2 .given .0 .0) (c .before .e2 .given .1) (c .before .before .before .before .before .pre) .1 in omega arith)
+
+of-class-requires : tie.Need-of-class-requires
+of-class-requires c κs = search needs
+
+add-t12 : tie.Need-add-t12
+add-t12 c = search needs
+
+returns : tie.Need-returns
+returns c = class-not (now (c .before .before .before .before .before .before .before .before .args .s)) (c .before .before .before .before .before .before .before .before .args .at) (c .before .before .before .before .before .before .before .before .args .class) (c .before .before .before .before .before .before .before .before .args .more) (c .before .before .before .before .before .before .before .before .pre) (c .before .before .before .before .before .before .read-value .result) (c .before .before .before .before .before .before .read-value .ensures) (c .before .before .before .before .e2 .given .0 .0) (c .before .before .before .before .e2 .given .1) (now (c .before .before .quoted .result)) (c .before .before .quoted .ensures) (c .before .of-class .result) (c .before .of-class .ensures) (c .if1 .taken)
+
+add-t13 : tie.Need-add-t13
+add-t13 c = let h = value-room (now (c .before .before .before .before .before .before .before .before .args .s)) (c .before .before .before .before .before .before .before .before .args .at) (c .before .before .before .before .before .before .read-value .result) (c .before .before .before .before .before .before .read-value .ensures) (c .before .before .before .before .e2 .given .0 .0) (c .before .before .before .before .e2 .given .1) (c .before .before .before .before .before .before .before .before .pre) in search needs
+
+returns-2 : tie.Need-returns-2
+returns-2 c = class-bad (now (c .before .before .before .before .before .args .s)) (c .before .before .before .before .before .args .at) (c .before .before .before .before .before .args .class) (c .before .before .before .before .before .args .more) (c .before .before .before .before .before .pre) (c .before .before .before .read-value .result) (c .before .before .before .read-value .ensures) (c .before .e .given .0 .0) (c .before .e .given .1)
+
+returns-3 : tie.Need-returns-3
+returns-3 c = class-yes (now (c .before .before .before .before .before .before .before .before .args .s)) (c .before .before .before .before .before .before .before .before .args .at) (c .before .before .before .before .before .before .before .before .args .class) (c .before .before .before .before .before .before .before .before .args .more) (c .before .before .before .before .before .before .before .before .pre) (c .before .before .before .before .before .before .read-value .result) (c .before .before .before .before .before .before .read-value .ensures) (c .before .before .before .before .e2 .given .0 .0) (c .before .before .before .before .e2 .given .1) (now (c .before .before .quoted .result)) (c .before .before .quoted .ensures) (c .before .of-class .result) (c .before .of-class .ensures) (c .if1 .left)
+
+pub class-value-spec : {M : Type 1} → statement M
+class-value-spec =
+    tie.close
+    (tie.spec
+    read-value-requires
+    enum-known-e
+    enum-known-e-2
+    quoted-requires
+    of-class-requires
+    add-t12
+    returns
+    add-t13
+    returns-2
+    returns-3)

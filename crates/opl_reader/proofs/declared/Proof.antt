@@ -1,0 +1,47 @@
+-- The declaration has begun where white space stands behind "<?xml".
+use denote.Ref.{now}
+use Prim.Native.Nat.{_-_, _<_}
+use Rattle.paper_opl.specs.Reading.{text, space}
+use Rattle.paper_opl.specs.Tree.{declaration}
+use Rattle.opl_reader.proofs.Prologue.{undeclared, declared-room, declared-other, declared-on}
+use borrow.Author.Needs.{needs}
+use Rattle.opl_reader.proofs.declared.Statement.{statement}
+use Rattle.opl_reader.proofs.declared.Tie as tie
+
+slice-aggregate-starts-with : tie.Need-slice-aggregate-starts-with
+slice-aggregate-starts-with c = search needs
+
+starts-with-requires : tie.Need-starts-with-requires
+starts-with-requires c κs = search needs
+
+returns : tie.Need-returns
+unfolding text
+returns c = record { read-is = undeclared (now (c .before .before .before .before .args .s)) (c .before .starts-with .result) (c .before .starts-with .ensures) (c .if1 .taken); inside = search needs }
+
+skip-space-requires : tie.Need-skip-space-requires
+unfolding text
+skip-space-requires c κs = declared-room (now (c .before .before .before .before .args .s)) (c .before .starts-with .result) (c .before .starts-with .ensures) (c .if1 .left)
+
+returns-2 : tie.Need-returns-2
+unfolding text
+returns-2 c = record { read-is = declared-other (now (c .before .before .before .before .before .before .args .s)) (c .before .before .before .starts-with .result) (c .before .before .before .starts-with .ensures) (c .before .before .if1 .left) (c .before .skip-space .result) (c .before .skip-space .ensures .rest) (c .before .skip-space .ensures .inside) (c .if2 .taken); inside = search needs }
+
+declaration-requires : tie.Need-declaration-requires
+unfolding text
+declaration-requires c κs = declared-room (now (c .before .before .before .before .before .before .args .s)) (c .before .before .before .starts-with .result) (c .before .before .before .starts-with .ensures) (c .before .before .if1 .left)
+
+returns-3 : tie.Need-returns-3
+unfolding text
+returns-3 c = declared-on (now (c .before .before .before .before .before .before .before .args .s)) (c .before .before .before .before .starts-with .result) (c .before .before .before .before .starts-with .ensures) (c .before .before .before .if1 .left) (c .before .before .skip-space .result) (c .before .before .skip-space .ensures .rest) (c .before .before .skip-space .ensures .inside) (c .before .if2 .left) (c .declaration .result) (c .declaration .ensures)
+
+pub declared-spec : {M : Type 1} → statement M
+declared-spec =
+    tie.close
+    (tie.spec
+    slice-aggregate-starts-with
+    starts-with-requires
+    returns
+    skip-space-requires
+    returns-2
+    declaration-requires
+    returns-3)

@@ -1,0 +1,25 @@
+-- By the class.
+use denote.Ref.{now}
+use Prim.Native.Nat.{_-_}
+use mathlib.Core.Path.{ap}
+use mathlib.Core.Bool.{not}
+use Rattle.opl_table.proofs.Cases.{apart}
+use Rattle.opl_reader.proofs.Numbers.{empty-is, fits-any}
+use borrow.Author.Needs.{needs}
+use Rattle.opl_reader.proofs.of_class.Statement.{statement}
+use Rattle.opl_reader.proofs.of_class.Tie as tie
+
+is-number-requires : tie.Need-is-number-requires
+is-number-requires c κs = search needs
+
+returns : tie.Need-returns
+returns c = rw (c .match .keys1) (ap not (empty-is (now (c .before .before .args .v))))
+
+returns-2 : tie.Need-returns-2
+returns-2 c = rw (c .before .match .keys2) (c .is-number .ensures)
+
+returns-3 : tie.Need-returns-3
+returns-3 c = fits-any (c .before .before .args .class) (now (c .before .before .args .v)) (apart 2 (c .before .before .args .class) (c .match .rest))
+
+pub of-class-spec : {M : Type 1} → statement M
+of-class-spec = tie.close (tie.spec is-number-requires returns returns-2 returns-3)

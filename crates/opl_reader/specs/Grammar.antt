@@ -1,0 +1,83 @@
+-- What the readers of attributes, tags, elements and contents answer, as the definitions have it. They judge, and forget what they read.
+use Prim.Native.Nat.{ℕ, suc, _≤_}
+use mathlib.Core.Path.{_≡_}
+use mathlib.Core.Bool.{not, cond, _&&_}
+use mathlib.Core.List.{List, []}
+use lib.ListN.{length, drop}
+use Rattle.paper_opl.specs.Reading.{Text, text, Read, after, same, starts, expect, skip, space, misc, equals, value}
+use Rattle.paper_opl.specs.Reading.Read.{got, bad}
+use Rattle.paper_opl.specs.Elements.{Class, Attribute, elements}
+use Rattle.paper_opl.specs.Tree.{Opened, fits, without, attribute, attributes, content, element, declaration, doctype}
+use Rattle.opl_table.specs.Numbers.{nameOf, leftOf, listOf}
+use Rattle.opl_reader.specs.declared.Taken.{Taken}
+use Rattle.opl_reader.specs.declared.Taken.the-variants.{Behind, Refused}
+use Rattle.opl_reader.specs.declared.Start.{Start}
+use Rattle.opl_reader.specs.declared.Start.the-variants.{Inner, Stop}
+
+-- what was read, without what it says
+abbrev pub forget : {A : Type 0} → Read A → Read (Unit {0})
+forget (got x r) = got tt r
+forget (bad r) = bad r
+
+-- ---- An attribute: which may still be given behind it.
+
+unfoldable pub remaining : List Attribute → Text → Read (List Attribute)
+remaining left s = after (attribute left s) (λ g r. got (without (g .name) left) r)
+
+-- a value of the class, and "=" before it
+unfoldable pub classed : Class → List Attribute → Text → Read (List Attribute)
+classed class more s = after (value s) (λ v r. cond (fits class v) (got more r) (bad (drop 1 s)))
+
+unfoldable pub valued : Class → List Attribute → Text → Read (List Attribute)
+valued class more s = after (equals s) (λ _ r. classed class more r)
+
+unfoldable pub attributesRead : List Attribute → Text → Read (Unit {0})
+attributesRead left s = forget (attributes (length s) left s)
+
+abbrev pub takenOf : Text → Taken → Read (List Attribute)
+takenOf s (Behind i more) = got (listOf more) (drop i s)
+takenOf s (Refused i) = bad (drop i s)
+
+abbrev pub takenAt : Taken → ℕ
+takenAt (Behind i more) = i
+takenAt (Refused i) = i
+
+pub record Takes (s : Text) (read : Read (List Attribute)) (r : Taken) : Type 0 where
+  pub read-is : takenOf s r ≡ read
+  pub inside : takenAt r ≤ length s
+
+-- ---- The start of an element.
+
+abbrev pub openedOf : Text → Start → Read Opened
+openedOf s (Inner i id left) = got (record { name = nameOf id; left = leftOf left }) (drop i s)
+openedOf s (Stop i) = bad (drop i s)
+
+abbrev pub startAt : Start → ℕ
+startAt (Inner i id left) = i
+startAt (Stop i) = i
+
+pub record Opens (s : Text) (read : Read Opened) (r : Start) : Type 0 where
+  pub read-is : openedOf s r ≡ read
+  pub inside : startAt r ≤ length s
+
+-- ---- An element from behind its name on, and the content of an element.
+
+unfoldable pub elementRead : ℕ → ℕ → Text → Read (Unit {0})
+elementRead d id s = forget (element elements d (nameOf id) s)
+
+unfoldable pub contentRead : ℕ → ℕ → ℕ → Text → Read (Unit {0})
+contentRead d id left s = forget (content (element elements d) (suc (length s)) (nameOf id) (leftOf left) s)
+
+-- ---- The prolog and the document.
+
+unfoldable pub spacedRead : Text → Text → Read (Unit {0})
+spacedRead w s = after (space s) (λ _ r. expect w r)
+
+unfoldable pub declaredRead : Text → Read (Unit {0})
+declaredRead s = cond (starts (text "<?xml") s && not (same (drop 5 s) (skip (drop 5 s)))) (declaration (drop 5 s)) (got tt s)
+
+unfoldable pub typedRead : Text → Read (Unit {0})
+typedRead s = cond (starts (text "<!DOCTYPE") s) (after (doctype (drop 9 s)) (λ _ r. misc (length r) r)) (got tt s)
+
+unfoldable pub rootRead : ℕ → Text → Read (Unit {0})
+rootRead id s = after (elementRead 8 id s) (λ _ r. after (misc (length r) r) (λ _ u. cond (same u []) (got tt u) (bad u)))

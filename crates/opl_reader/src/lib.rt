@@ -1,0 +1,453 @@
+// A policy text is judged from left to right: attributes, tags, elements and their contents, prolog, document. It is accepted whole, or refused at a
+// byte. It rests on the bytes' readers and on the table of elements.
+ghost use mathlib.Core.Path.{_≡_};
+ghost use Prim.Native.Nat.{_+_, _≤_};
+ghost use lib.ListN.{length, drop};
+ghost use Rattle.paper_opl.specs.Reading.{space as spaceOf, equals as equalsOf};
+ghost use Rattle.paper_opl.specs.Elements.{elements, rowIn};
+ghost use Rattle.paper_opl.specs.Elements.Class.{number};
+ghost use Rattle.paper_opl.specs.Tree.{digit as digitOf, fits as fitsOf, opening as openingOf, ending as endingOf, pseudo as pseudoOf, declaration as declarationOf, doctype as doctypeOf, prolog as prologOf, document as documentOf};
+ghost use Rattle.opl_text.specs.Steps.{Reads, stepOf};
+ghost use Rattle.opl_table.specs.Numbers.{nameOf, leftOf, listOf, classOf};
+ghost use Rattle.opl_reader.specs.Grammar.{forget, classed, valued, remaining, attributesRead, Takes, Opens, elementRead, contentRead, spacedRead, declaredRead, typedRead, rootRead};
+use opl_table::Found;
+use opl_text::Step;
+
+// Behind an attribute, with those that may still be given; or the place of a refusal.
+pub enum Taken {
+    Behind(usize, u64),
+    Refused(usize),
+}
+
+// The start of an element: behind its name, which element it is, and what may follow it; or the place of a refusal.
+pub enum Start {
+    Inner(usize, u64, u64),
+    Stop(usize),
+}
+
+// A byte that was read, with its bound.
+fn wide(b: u8) -> u64
+    ensures { λ r. ⌜ (r ≡ b) × (r ≤ 255) ⌝ }
+{
+    b as u64
+}
+
+fn digit(b: u64) -> bool
+    ensures { λ r. ⌜ r ≡ digitOf b ⌝ }
+{
+    (48 <= b) & (b <= 57)
+}
+
+// A number up to 255.
+fn is_number(v: &[u8]) -> bool
+    ensures { λ r. ⌜ r ≡ fitsOf number (now (v .entry)) ⌝ }
+{
+    if v.len() == 0 {
+        return false;
+    }
+    let mut n: u64 = 0;
+    let mut i = 0;
+    while i < v.len() {
+        let b = wide(v[i]);
+        if !digit(b) {
+            return false;
+        }
+        n = 10 * n + (b - 48);
+        if 255 < n {
+            return false;
+        }
+        i += 1;
+    }
+    true
+}
+
+// The value is of the class.
+fn of_class(class: u64, v: &[u8]) -> bool
+    ensures { λ r. ⌜ r ≡ fitsOf (classOf class) (now (v .entry)) ⌝ }
+{
+    match class {
+        0 => v.len() != 0,
+        1 => is_number(v),
+        _ => true,
+    }
+}
+
+// White space, at least one byte of it.
+pub fn space(s: &[u8], at: usize) -> Step
+    requires { ⌜ at ≤ length (now s) ⌝ }
+    ensures { λ r. ⌜ Reads (now (s .entry)) (stepOf (now (s .entry))) (spaceOf (drop at (now (s .entry)))) r ⌝ }
+{
+    let i = opl_text::skip_space(s, at);
+    if i == at {
+        return Step::Bad(at);
+    }
+    Step::Next(i)
+}
+
+// White space, "=", white space.
+pub fn equals(s: &[u8], at: usize) -> Step
+    requires { ⌜ at ≤ length (now s) ⌝ }
+    ensures { λ r. ⌜ Reads (now (s .entry)) (stepOf (now (s .entry))) (equalsOf (drop at (now (s .entry)))) r ⌝ }
+{
+    let i = opl_text::skip_space(s, at);
+    if !opl_text::is_at(s, i, 61) {
+        return Step::Bad(i);
+    }
+    let j = opl_text::skip_space(s, i + 1);
+    Step::Next(j)
+}
+
+// A value of the class: handed back between its quotes, and judged there.
+fn class_value(s: &[u8], at: usize, class: u64, more: u64) -> Taken
+    requires { ⌜ at ≤ length (now s) ⌝ }
+    ensures { λ r. ⌜ Takes (now (s .entry)) (classed (classOf class) (listOf more) (drop at (now (s .entry)))) r ⌝ }
+{
+    let e = opl_text::read_value(s, at);
+    match e {
+        Step::Bad(p) => Taken::Refused(p),
+        Step::Next(end) => {
+            if !of_class(class, opl_text::quoted(s, at, end)) {
+                return Taken::Refused(at + 1);
+            }
+            Taken::Behind(end + 1, more)
+        }
+    }
+}
+
+fn attribute_value(s: &[u8], at: usize, class: u64, more: u64) -> Taken
+    requires { ⌜ at ≤ length (now s) ⌝ }
+    ensures { λ r. ⌜ Takes (now (s .entry)) (valued (classOf class) (listOf more) (drop at (now (s .entry)))) r ⌝ }
+{
+    let q = equals(s, at);
+    match q {
+        Step::Bad(p) => Taken::Refused(p),
+        Step::Next(u) => class_value(s, u, class, more),
+    }
+}
+
+// An attribute, where these may be given.
+pub fn attribute(s: &[u8], at: usize, list: u64) -> Taken
+    requires { ⌜ at ≤ length (now s) ⌝ }
+    ensures { λ r. ⌜ Takes (now (s .entry)) (remaining (listOf list) (drop at (now (s .entry)))) r ⌝ }
+{
+    let n = opl_text::read_name(s, at);
+    match n {
+        Step::Bad(p) => Taken::Refused(p),
+        Step::Next(e) => {
+            let found = opl_table::attribute(opl_text::part(s, at, e), list);
+            match found {
+                Found::Unknown => Taken::Refused(at),
+                Found::Known(class, more) => attribute_value(s, e, class, more),
+            }
+        }
+    }
+}
+
+// Behind the attributes, at the "/" or ">" that ends the start tag, where none may be missing.
+fn attributes_end(s: &[u8], at: usize, list: u64) -> Step
+    requires { ⌜ at ≤ length (now s) ⌝ }
+    ensures { λ r. ⌜ Reads (now (s .entry)) (stepOf (now (s .entry))) (attributesRead (listOf list) (drop at (now (s .entry)))) r ⌝ }
+{
+    let mut i = at;
+    let mut l = list;
+    while i < s.len() {
+        let j = opl_text::skip_space(s, i);
+        if opl_text::is_at(s, j, 62) | opl_text::is_at(s, j, 47) {
+            if opl_table::missing(l) {
+                return Step::Bad(j);
+            }
+            return Step::Next(j);
+        }
+        if j == i {
+            return Step::Bad(i);
+        }
+        let a = attribute(s, j, l);
+        match a {
+            Taken::Refused(p) => {
+                return Step::Bad(p);
+            }
+            Taken::Behind(k, more) => {
+                i = k;
+                l = more;
+            }
+        }
+    }
+    Step::Bad(i)
+}
+
+// Behind the attributes of an element.
+pub fn tag_end(s: &[u8], at: usize, id: u64) -> Step
+    requires { ⌜ at ≤ length (now s) ⌝ }
+    ensures { λ r. ⌜ Reads (now (s .entry)) (stepOf (now (s .entry))) (attributesRead (rowIn elements (nameOf id) .attributes) (drop at (now (s .entry)))) r ⌝ }
+{
+    attributes_end(s, at, opl_table::attributes(id))
+}
+
+// The start of an element at `at`.
+pub fn opening(s: &[u8], at: usize, left: u64) -> Start
+    requires { ⌜ at ≤ length (now s) ⌝ }
+    ensures { λ r. ⌜ Opens (now (s .entry)) (openingOf (leftOf left) (drop at (now (s .entry)))) r ⌝ }
+{
+    if !opl_text::is_at(s, at, 60) {
+        return Start::Stop(at);
+    }
+    if opl_text::is_at(s, at + 1, 33) | opl_text::is_at(s, at + 1, 63) {
+        return Start::Stop(at);
+    }
+    let n = opl_text::read_name(s, at + 1);
+    match n {
+        Step::Bad(p) => Start::Stop(p),
+        Step::Next(e) => {
+            let found = opl_table::next(opl_text::part(s, at + 1, e), left);
+            match found {
+                Found::Unknown => Start::Stop(at),
+                Found::Known(id, more) => Start::Inner(e, id, more),
+            }
+        }
+    }
+}
+
+// The end tag at `at`.
+pub fn ending(s: &[u8], at: usize, id: u64, left: u64) -> Step
+    requires { ⌜ at + 2 ≤ length (now s) ⌝ }
+    ensures { λ r. ⌜ Reads (now (s .entry)) (stepOf (now (s .entry))) (forget (endingOf (nameOf id) (leftOf left) (drop at (now (s .entry))))) r ⌝ }
+{
+    let n = opl_text::read_name(s, at + 2);
+    let Step::Next(e) = n else {
+        return n;
+    };
+    if !(opl_table::is_name(opl_text::part(s, at + 2, e), id) & opl_table::may_end(left)) {
+        return Step::Bad(at);
+    }
+    let i = opl_text::skip_space(s, e);
+    if !opl_text::is_at(s, i, 62) {
+        return Step::Bad(i);
+    }
+    Step::Next(i + 1)
+}
+
+// An element, from behind its name, at most d deep.
+pub fn element(s: &[u8], at: usize, d: usize, id: u64) -> Step
+    requires { ⌜ at ≤ length (now s) ⌝ }
+    ensures { λ r. ⌜ Reads (now (s .entry)) (stepOf (now (s .entry))) (elementRead d id (drop at (now (s .entry)))) r ⌝ }
+{
+    if d == 0 {
+        return Step::Bad(at);
+    }
+    let t = tag_end(s, at, id);
+    let Step::Next(i) = t else {
+        return t;
+    };
+    let left = opl_table::first(id);
+    if opl_text::is_at(s, i, 62) {
+        return content(s, i + 1, d - 1, id, left);
+    }
+    if !opl_text::is_at(s, i + 1, 62) {
+        return Step::Bad(i + 1);
+    }
+    if !opl_table::may_end(left) {
+        return Step::Bad(i);
+    }
+    Step::Next(i + 2)
+}
+
+// What stands in an element, up to and with its end tag: elements at most d deep.
+pub fn content(s: &[u8], at: usize, d: usize, id: u64, left: u64) -> Step
+    requires { ⌜ at ≤ length (now s) ⌝ }
+    ensures { λ r. ⌜ Reads (now (s .entry)) (stepOf (now (s .entry))) (contentRead d id left (drop at (now (s .entry)))) r ⌝ }
+{
+    let mut i = at;
+    let mut l = left;
+    while i < s.len() {
+        let m = opl_text::skip_misc(s, i);
+        let Step::Next(j) = m else {
+            return m;
+        };
+        if opl_text::is_at(s, j, 60) & opl_text::is_at(s, j + 1, 47) {
+            return ending(s, j, id, l);
+        }
+        let o = opening(s, j, l);
+        match o {
+            Start::Stop(p) => {
+                return Step::Bad(p);
+            }
+            Start::Inner(k, child, more) => {
+                let r = element(s, k, d, child);
+                let Step::Next(e) = r else {
+                    return r;
+                };
+                i = e;
+                l = more;
+            }
+        }
+    }
+    Step::Bad(i)
+}
+
+// A literal, "=", and this value.
+fn pseudo(s: &[u8], at: usize, w: &[u8], v: &[u8]) -> Step
+    requires { ⌜ at ≤ length (now s) ⌝ }
+    ensures { λ r. ⌜ Reads (now (s .entry)) (stepOf (now (s .entry))) (pseudoOf (now (w .entry)) (now (v .entry)) (drop at (now (s .entry)))) r ⌝ }
+{
+    let x = opl_text::expect(s, at, w);
+    let Step::Next(i) = x else {
+        return x;
+    };
+    let q = equals(s, i);
+    let Step::Next(u) = q else {
+        return q;
+    };
+    let e = opl_text::read_value(s, u);
+    let Step::Next(end) = e else {
+        return e;
+    };
+    if !opl_text::same_bytes(opl_text::quoted(s, u, end), v) {
+        return Step::Bad(u + 1);
+    }
+    Step::Next(end + 1)
+}
+
+// The XML declaration, from behind "<?xml".
+fn declaration(s: &[u8], at: usize) -> Step
+    requires { ⌜ at ≤ length (now s) ⌝ }
+    ensures { λ r. ⌜ Reads (now (s .entry)) (stepOf (now (s .entry))) (declarationOf (drop at (now (s .entry)))) r ⌝ }
+{
+    let b = space(s, at);
+    let Step::Next(i) = b else {
+        return b;
+    };
+    let version = pseudo(s, i, b"version", b"1.0");
+    let Step::Next(u) = version else {
+        return version;
+    };
+    let j = opl_text::skip_space(s, u);
+    if !(opl_text::is_at(s, j, 101) & (j != u)) {
+        return opl_text::expect(s, j, b"?>");
+    }
+    let encoding = pseudo(s, j, b"encoding", b"UTF-8");
+    let Step::Next(z) = encoding else {
+        return encoding;
+    };
+    let end = opl_text::skip_space(s, z);
+    opl_text::expect(s, end, b"?>")
+}
+
+// White space and a literal.
+fn spaced(s: &[u8], at: usize, w: &[u8]) -> Step
+    requires { ⌜ at ≤ length (now s) ⌝ }
+    ensures { λ r. ⌜ Reads (now (s .entry)) (stepOf (now (s .entry))) (spacedRead (now (w .entry)) (drop at (now (s .entry)))) r ⌝ }
+{
+    let b = space(s, at);
+    let Step::Next(i) = b else {
+        return b;
+    };
+    opl_text::expect(s, i, w)
+}
+
+// The DOCTYPE, from behind "<!DOCTYPE".
+fn doctype(s: &[u8], at: usize) -> Step
+    requires { ⌜ at ≤ length (now s) ⌝ }
+    ensures { λ r. ⌜ Reads (now (s .entry)) (stepOf (now (s .entry))) (doctypeOf (drop at (now (s .entry)))) r ⌝ }
+{
+    let root = spaced(s, at, b"policy_object");
+    let Step::Next(i) = root else {
+        return root;
+    };
+    let system = spaced(s, i, b"SYSTEM");
+    let Step::Next(j) = system else {
+        return system;
+    };
+    let b = space(s, j);
+    let Step::Next(u) = b else {
+        return b;
+    };
+    let e = opl_text::read_value(s, u);
+    let Step::Next(end) = e else {
+        return e;
+    };
+    let k = opl_text::skip_space(s, end + 1);
+    opl_text::expect(s, k, b">")
+}
+
+// Behind the XML declaration, which stands at the first byte or nowhere.
+fn declared(s: &[u8]) -> Step
+    ensures { λ r. ⌜ Reads (now (s .entry)) (stepOf (now (s .entry))) (declaredRead (now (s .entry))) r ⌝ }
+{
+    if !opl_text::starts_with(s, 0, b"<?xml") {
+        return Step::Next(0);
+    }
+    let i = opl_text::skip_space(s, 5);
+    if i == 5 {
+        return Step::Next(0);
+    }
+    declaration(s, 5)
+}
+
+// Behind the DOCTYPE, if it is there, and what may stand behind it.
+fn typed(s: &[u8], at: usize) -> Step
+    requires { ⌜ at ≤ length (now s) ⌝ }
+    ensures { λ r. ⌜ Reads (now (s .entry)) (stepOf (now (s .entry))) (typedRead (drop at (now (s .entry)))) r ⌝ }
+{
+    if !opl_text::starts_with(s, at, b"<!DOCTYPE") {
+        return Step::Next(at);
+    }
+    let d = doctype(s, at + 9);
+    let Step::Next(i) = d else {
+        return d;
+    };
+    opl_text::skip_misc(s, i)
+}
+
+// Behind all that stands before the policy object.
+pub fn prolog(s: &[u8]) -> Step
+    ensures { λ r. ⌜ Reads (now (s .entry)) (stepOf (now (s .entry))) (prologOf (now (s .entry))) r ⌝ }
+{
+    let d = declared(s);
+    let Step::Next(i) = d else {
+        return d;
+    };
+    let m = opl_text::skip_misc(s, i);
+    let Step::Next(u) = m else {
+        return m;
+    };
+    typed(s, u)
+}
+
+// The policy object, from behind its name, with nothing behind it. Its tag is judged here first: called from two places, the attributes' reader stays a
+// function of its own when compiled, and its locals do not stand in every frame of the two readers that call each other.
+fn root(s: &[u8], at: usize, id: u64) -> Step
+    requires { ⌜ at ≤ length (now s) ⌝ }
+    ensures { λ r. ⌜ Reads (now (s .entry)) (stepOf (now (s .entry))) (rootRead id (drop at (now (s .entry)))) r ⌝ }
+{
+    let t = tag_end(s, at, id);
+    let Step::Next(_) = t else {
+        return t;
+    };
+    let e = element(s, at, 8, id);
+    let Step::Next(i) = e else {
+        return e;
+    };
+    let m = opl_text::skip_misc(s, i);
+    let Step::Next(j) = m else {
+        return m;
+    };
+    if j < s.len() {
+        return Step::Bad(j);
+    }
+    Step::Next(j)
+}
+
+// The whole policy text: Next, with its length, where it is accepted; Bad, with the place from 0 of the byte that cannot stand.
+pub fn document(s: &[u8]) -> Step
+    ensures { λ r. ⌜ Reads (now (s .entry)) (stepOf (now (s .entry))) (forget (documentOf (now (s .entry)))) r ⌝ }
+{
+    let p = prolog(s);
+    let Step::Next(i) = p else {
+        return p;
+    };
+    let o = opening(s, i, 1);
+    match o {
+        Start::Stop(at) => Step::Bad(at),
+        Start::Inner(k, id, _) => root(s, k, id),
+    }
+}

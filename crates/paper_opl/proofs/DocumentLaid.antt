@@ -1,0 +1,212 @@
+-- An accepted text is a writing of its tree: together with the way back, texts are accepted exactly when they are written from a tree of
+-- the grammar.
+use mathlib.Core.Path.{_≡_, refl, sym, ap, _∙_}
+use mathlib.Core.Logic.{_↔_}
+use mathlib.Core.List.{[], _++_}
+use mathlib.Core.Bool.{true, false, not, cond, _&&_, true≢false}
+use lib.ListN.{length, drop}
+use borrow.Author.Tests.{not-true}
+use Rattle.paper_lower.specs.Lists.{Maybe}
+use Rattle.paper_lower.specs.Lists.Maybe.{none, just}
+use Rattle.paper_lower.proofs.ListLaws.{both}
+use Rattle.paper_opl.specs.Reading.{Text, after, text, same, run, starts, expect, white, skip, space, value, equals, misc}
+use Rattle.paper_opl.specs.Reading.Read.{got}
+use Rattle.paper_opl.specs.Elements.{elements}
+use Rattle.paper_opl.specs.Tree.{Elements, Inside, opening, element, DEPTH, pseudo, declaration, doctype, prolog, document}
+use Rattle.paper_opl.specs.Tree.Elements.{nothing, node}
+use Rattle.paper_opl.specs.Layout.{someBlank, Gap, gap, gapFits, Value, quoted, valueText, valueFits, attributesText, Layout, layoutText, layoutFits, treeOf, encodingText, Declaration, declarationText, declarationFits, Doctype, doctypeText, doctypeFits, documentText, inGrammar, WrittenFrom}
+use Rattle.paper_opl.specs.Layout.Layout.{last, short, long}
+use Rattle.paper_opl.proofs.Inversion.{on, on-test, bad≢got, got-rest, got-value}
+use Rattle.paper_opl.proofs.Conforms.{root}
+use Rattle.paper_opl.proofs.Tags.{begun, same-end}
+use Rattle.paper_opl.proofs.InGrammar.{document-in-grammar}
+use Rattle.paper_opl.proofs.TreeBack.{same-self}
+use Rattle.paper_opl.proofs.DocumentBack.{read-back}
+use Rattle.paper_opl.proofs.BytesLaid.{expect-laid, starts-laid, skip-laid, space-laid, value-laid, equals-laid, gap-laid}
+use Rattle.paper_opl.proofs.TreeLaid.{ElementLaid, element-laid, node-same, started}
+use Rattle.paper_opl.proofs.TreeLaid.ElementLaid.{one-tag, two-tags}
+
+-- ---- The declaration.
+
+pseudo-laid : (w x s r : Text) → pseudo w x s ≡ got tt r → (v : Value) × (valueFits v ≡ true) × (same (v .value) x ≡ true) × (s ≡ w ++ valueText v r)
+pseudo-laid w x s r e =
+    on (expect w s) (λ _ u p. on (equals u) (λ _ z q. on (value z) (λ v y t. on-test (same v x)
+    (λ c.
+    let k = rw (p, q, t, c) at e in
+    let l = equals-laid u z v y q t in
+    rw (sym (got-rest k)) (l .value, l .fits, ap (λ (o : Text). same o x) (l .value-is) ∙ c, expect-laid w s u p ∙ ap (λ (o : Text). w ++ o) (l .text-is)))
+    (λ c. absurd (bad≢got (rw (p, q, t, c) at e)))) (λ y t. absurd (bad≢got (rw (p, q, t) at e)))) (λ z q. absurd (bad≢got (rw (p, q) at e)))) (λ u p. absurd (bad≢got (rw p at e)))
+
+some-skipped : (u : Text) → same u (skip u) ≡ false → someBlank (run white u) ≡ true
+some-skipped u h =
+    let w = skip-laid u in
+    on-test (same (run white u) [])
+    (λ q. absurd (true≢false (sym (same-self u) ∙ ap (same u) (w .1 ∙ ap (λ (o : Text). o ++ skip u) (same-end (run white u) q)) ∙ h)))
+    (λ q. rw (w .0, q))
+
+pub record Declared (s r : Text) : Type 0 where
+  pub declaration : Declaration
+  pub fits : declarationFits (just declaration) ≡ true
+  pub text-is : s ≡ declaration .before ++ (text "version" ++ valueText (declaration .version) (encodingText (declaration .encoding) (declaration .last ++ (text "?>" ++ r))))
+
+declaration-laid : (s r : Text) → declaration s ≡ got tt r → Declared s r
+unfolding declaration encodingText
+declaration-laid s r e =
+    on (space s) (λ _ u p. on (pseudo (text "version") (text "1.0") u) (λ _ z q.
+    let a = space-laid s u p in
+    let b = pseudo-laid (text "version") (text "1.0") u z q in
+    on-test (starts (text "e") (skip z) && not (same z (skip z)))
+    (λ c. on (pseudo (text "encoding") (text "UTF-8") (skip z))
+    (λ _ y t.
+    let f = expect-laid (text "?>") (skip y) r (rw (p, q, c, t) at e) in
+    let g = pseudo-laid (text "encoding") (text "UTF-8") (skip z) y t in
+    let h = skip-laid y in
+    let w = skip-laid z in
+    record {
+      declaration = record { before = a .0; version = b .0; encoding = just (run white z, g .0); last = run white y };
+      fits = rw (a .1, b .1, b .2, some-skipped z (not-true (same z (skip z)) (both (starts (text "e") (skip z)) (not (same z (skip z))) c .1)), g .1, g .2, h .0);
+      text-is =
+          a .2 ∙ ap (λ (o : Text). a .0 ++ o) (b .3 ∙ ap (λ (o : Text). text "version" ++ valueText (b .0) o)
+          (w .1 ∙ ap (λ (o : Text). run white z ++ o) (g .3 ∙ ap (λ (o : Text). text "encoding" ++ valueText (g .0) o) (h .1 ∙ ap (λ (o : Text). run white y ++ o) f))));
+    })
+    (λ y t. absurd (bad≢got (rw (p, q, c, t) at e))))
+    (λ c.
+    let f = expect-laid (text "?>") (skip z) r (rw (p, q, c) at e) in
+    let w = skip-laid z in
+    record {
+      declaration = record { before = a .0; version = b .0; encoding = none; last = run white z };
+      fits = rw (a .1, b .1, b .2, w .0);
+      text-is = a .2 ∙ ap (λ (o : Text). a .0 ++ o) (b .3 ∙ ap (λ (o : Text). text "version" ++ valueText (b .0) o) (w .1 ∙ ap (λ (o : Text). run white z ++ o) f));
+    }))
+    (λ z q. absurd (bad≢got (rw (p, q) at e)))) (λ u p. absurd (bad≢got (rw p at e)))
+
+-- ---- The DOCTYPE.
+
+pub record Typed (g : Gap) (s r : Text) : Type 0 where
+  pub doctype : Doctype
+  pub gap-is : doctype .gap ≡ g
+  pub fits : doctypeFits (just doctype) ≡ true
+  pub text-is : s ≡ doctype .first ++ (text "policy_object" ++ (doctype .second ++ (text "SYSTEM" ++ (doctype .third ++ quoted (doctype .quote) (doctype .value) (doctype .last ++ (text ">" ++ r))))))
+
+doctype-laid : (g : Gap) (s r : Text) → gapFits g ≡ true → doctype s ≡ got tt r → Typed g s r
+unfolding doctype
+doctype-laid g s r f e =
+    on (space s) (λ _ a pa. on (expect (text "policy_object") a) (λ _ b pb. on (space b) (λ _ c pc. on (expect (text "SYSTEM") c) (λ _ d pd. on (space d) (λ _ h ph. on (value h)
+    (λ v i pi.
+    let x = space-laid s a pa in
+    let y = space-laid b c pc in
+    let z = space-laid d h ph in
+    let w = value-laid h v i pi in
+    let k = skip-laid i in
+    let l = expect-laid (text ">") (skip i) r (rw (pa, pb, pc, pd, ph, pi) at e) in
+    record {
+      doctype = record { gap = g; first = x .0; second = y .0; third = z .0; quote = w .0; value = v; last = run white i };
+      gap-is = refl;
+      fits = rw (f, x .1, y .1, z .1, w .1, k .0);
+      text-is =
+          x .2 ∙ ap (λ (o : Text). x .0 ++ o) (expect-laid (text "policy_object") a b pb ∙ ap (λ (o : Text). text "policy_object" ++ o) (y .2 ∙ ap (λ (o : Text). y .0 ++ o)
+          (expect-laid (text "SYSTEM") c d pd ∙ ap (λ (o : Text). text "SYSTEM" ++ o) (z .2 ∙ ap (λ (o : Text). z .0 ++ o) (w .2 ∙ ap (λ (o : Text). quoted (w .0) v o) (k .1 ∙ ap (λ (o : Text). run white i ++ o) l))))));
+    })
+    (λ i pi. absurd (bad≢got (rw (pa, pb, pc, pd, ph, pi) at e)))) (λ h ph. absurd (bad≢got (rw (pa, pb, pc, pd, ph) at e)))) (λ d pd. absurd (bad≢got (rw (pa, pb, pc, pd) at e)))) (λ c pc. absurd (bad≢got (rw (pa, pb, pc) at e))))
+    (λ b pb. absurd (bad≢got (rw (pa, pb) at e)))) (λ a pa. absurd (bad≢got (rw pa at e)))
+
+-- ---- The prolog.
+
+pub record Preceded (s u : Text) : Type 0 where
+  pub declaration : Maybe Declaration
+  pub doctype : Maybe Doctype
+  pub gap-before : Gap
+  pub declared : declarationFits declaration ≡ true
+  pub typed : doctypeFits doctype ≡ true
+  pub gap-fits : gapFits gap-before ≡ true
+  pub text-is : s ≡ declarationText declaration (doctypeText doctype (gap gap-before u))
+
+nine : (v : Text) → starts (text "<!DOCTYPE") v ≡ true → v ≡ text "<!DOCTYPE" ++ drop 9 v
+unfolding text
+nine v c = starts-laid (text "<!DOCTYPE") v c
+
+five : (v : Text) → starts (text "<?xml") v ≡ true → v ≡ text "<?xml" ++ drop 5 v
+unfolding text
+five v c = starts-laid (text "<?xml") v c
+
+-- behind the declaration
+typed-laid : (r u : Text)
+    → after (misc (length r) r) (λ _ v. cond (starts (text "<!DOCTYPE") v) (after (doctype (drop 9 v)) (λ _ z. misc (length z) z)) (got tt v)) ≡ got tt u
+    → (m : Maybe Doctype) × (g : Gap) × (doctypeFits m ≡ true) × (gapFits g ≡ true) × (r ≡ doctypeText m (gap g u))
+unfolding doctypeText
+typed-laid r u e =
+    on (misc (length r) r) (λ _ v p.
+    let g = gap-laid (length r) r v p in
+    on-test (starts (text "<!DOCTYPE") v)
+    (λ c. on (doctype (drop 9 v))
+    (λ _ z q.
+    let d = doctype-laid (g .0) (drop 9 v) z (g .1) q in
+    let h = gap-laid (length z) z u (rw (p, c, q) at e) in (
+      just (d .doctype),
+      h .0,
+      d .fits,
+      h .1,
+      g .2 ∙ ap (λ (o : Gap). gap o v) (sym (d .gap-is)) ∙ ap (gap (d .doctype .gap)) (nine v c ∙ ap (λ (o : Text). text "<!DOCTYPE" ++ o) (d .text-is
+          ∙ ap (λ (o : Text). d .doctype .first ++ (text "policy_object" ++ (d .doctype .second ++ (text "SYSTEM" ++ (d .doctype .third ++ quoted (d .doctype .quote) (d .doctype .value) (d .doctype .last ++ (text ">" ++ o))))))) (h .2))),
+    ))
+    (λ z q. absurd (bad≢got (rw (p, c, q) at e))))
+    (λ c. (none, g .0, refl, g .1, g .2 ∙ ap (gap (g .0)) (got-rest (rw (p, c) at e)))))
+    (λ v p. absurd (bad≢got (rw p at e)))
+
+prolog-laid : (s u : Text) → prolog s ≡ got tt u → Preceded s u
+unfolding prolog declarationText
+prolog-laid s u e =
+    on-test (starts (text "<?xml") s && not (same (drop 5 s) (skip (drop 5 s))))
+    (λ c. on (declaration (drop 5 s))
+    (λ _ r p.
+    let d = declaration-laid (drop 5 s) r p in
+    let t = typed-laid r u (rw (c, p) at e) in
+    record {
+      declaration = just (d .declaration);
+      doctype = t .0;
+      gap-before = t .1;
+      declared = d .fits;
+      typed = t .2;
+      gap-fits = t .3;
+      text-is =
+          five s (both (starts (text "<?xml") s) _ c .0) ∙ ap (λ (o : Text). text "<?xml" ++ o) (d .text-is
+          ∙ ap (λ (o : Text). d .declaration .before ++ (text "version" ++ valueText (d .declaration .version) (encodingText (d .declaration .encoding) (d .declaration .last ++ (text "?>" ++ o))))) (t .4));
+    })
+    (λ r p. absurd (bad≢got (rw (c, p) at e))))
+    (λ c. let t = typed-laid s u (rw c at e) in record { declaration = none; doctype = t .0; gap-before = t .1; declared = refl; typed = t .2; gap-fits = t .3; text-is = t .4 })
+
+-- ---- The document.
+
+root-laid : (v u z : Text) (i : Inside) (g h : Gap) → gapFits g ≡ true → gapFits h ≡ true → z ≡ gap h [] → ElementLaid v u i z
+    → (y : Layout) × (layoutFits y ≡ true) × (treeOf y ≡ node v (i .given) (i .elements) nothing) × (gap g (text "<" ++ (v ++ u)) ≡ layoutText y [])
+unfolding layoutText layoutFits treeOf
+root-laid v u z i g h f k e (one-tag xs b gs l n m t) =
+    (short g v xs b (last h), rw (f, l, n, k), node-same gs (sym m) refl, ap (λ (o : Text). gap g (text "<" ++ (v ++ o))) (t ∙ ap (λ (o : Text). attributesText xs (b ++ (text "/>" ++ o))) e))
+root-laid v u z i g h f k e (two-tags xs b y c gs l n p q m t) = (
+  long g v xs b y c (last h),
+  rw (f, l, n, p, m, k),
+  node-same gs q refl,
+  ap (λ (o : Text). gap g (text "<" ++ (v ++ o))) (t ∙ ap (λ (o : Text). attributesText xs (b ++ (text ">" ++ layoutText y (text "</" ++ (v ++ (c ++ (text ">" ++ o))))))) e),
+)
+
+-- an accepted text is written from its tree
+pub written-from : (s : Text) (es : Elements) (r : Text) → document s ≡ got es r → WrittenFrom es s
+unfolding document documentText
+written-from s es r e =
+    on (prolog s) (λ _ u p. on (opening root u) (λ c z o. on (element elements DEPTH (c .name) z) (λ i y h. on (misc (length y) y) (λ _ x m. on-test (same x [])
+    (λ f.
+    let w = prolog-laid s u p in
+    let g = gap-laid (length y) y x m in
+    let q = root-laid (c .name) z y i (w .gap-before) (g .0) (w .gap-fits) (g .1) (g .2 ∙ ap (gap (g .0)) (same-end x f)) (element-laid elements DEPTH (c .name) z i y h) in
+    record {
+      layout = record { declaration = w .declaration; doctype = w .doctype; root = q .0 };
+      fits = rw (w .declared, w .typed) (q .1);
+      tree-is = q .2 ∙ got-value (rw (p, o, h, m, f) at e);
+      in-grammar = document-in-grammar s es r e;
+      text-is = w .text-is ∙ ap (λ (n : Text). declarationText (w .declaration) (doctypeText (w .doctype) n)) (ap (gap (w .gap-before)) (started u root (c .name) z (begun root u c z o)) ∙ q .3);
+    })
+    (λ f. absurd (bad≢got (rw (p, o, h, m, f) at e)))) (λ x m. absurd (bad≢got (rw (p, o, h, m) at e)))) (λ y h. absurd (bad≢got (rw (p, o, h) at e)))) (λ z o. absurd (bad≢got (rw (p, o) at e)))) (λ u p. absurd (bad≢got (rw p at e)))
+
+-- Accepted are exactly the texts that are written from a tree of the grammar, and they are read as that tree.
+pub exactly : (s : Text) (es : Elements) → document s ≡ got es [] ↔ WrittenFrom es s
+exactly s es = (written-from s es [], λ w. ap document (w .text-is) ∙ read-back (w .layout) (w .fits) (ap inGrammar (w .tree-is) ∙ w .in-grammar) ∙ ap (λ (x : Elements). got x []) (w .tree-is))
