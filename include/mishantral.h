@@ -90,8 +90,9 @@ uint64_t mishantral_request(const uint8_t *record, size_t length,
                             uint64_t *orders, size_t orders_words);
 
 /* The lower part alone, for dealers: policy, roles and sessions, without orders. It is a library of its own,
- * libmishantral_lower.a, with these three functions and two buffers. They answer as those above do; kinds 48 to 52
- * and 57 are no kinds of the lower part, and are answered with SHAPE. */
+ * libmishantral_lower.a, with these three functions and two buffers, of MISHANTRAL_POLICY_WORDS and
+ * MISHANTRAL_SESSIONS_WORDS words. They answer as those above do; kinds 48 to 52 and 57 are no kinds of the lower
+ * part, and are answered with SHAPE. */
 uint64_t mishantral_lower_words(uint64_t group);
 
 uint64_t mishantral_lower_load(const uint8_t *bytes, size_t length,

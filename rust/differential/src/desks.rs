@@ -2,7 +2,7 @@
 
 use crate::slow::Slow;
 use plain::{Engine, FlatLedger, Ledger, OrderLists};
-use records::Record;
+use records::{Record, Reply};
 
 /// A reply's number, and a place.
 pub type Answer = (u8, usize);
@@ -101,10 +101,8 @@ proved_desk!(mishantral::Engine);
 proved_desk!(mishantral::lower::Engine);
 
 /// What the lower part of an engine answers: the kinds that are about orders are none of its kinds.
-#[cfg(mishantral_lower)]
 struct Lowered(Box<dyn Desk>);
 
-#[cfg(mishantral_lower)]
 impl Desk for Lowered {
     fn name(&self) -> &'static str {
         self.0.name()
@@ -116,7 +114,7 @@ impl Desk for Lowered {
 
     fn request(&mut self, record: &[u8]) -> u8 {
         match record.first() {
-            Some(48..=52 | 57) => records::Reply::Shape.number(),
+            Some(48..=52 | 57) => Reply::Shape.number(),
             _ => self.0.request(record),
         }
     }
@@ -132,9 +130,19 @@ pub fn proved() -> Option<Box<dyn Desk>> {
     Some(Box::new(mishantral::Engine::new()))
 }
 
-/// The proved engine, where the library is linked.
+/// The proved engine, where the library is linked: it is not.
 #[cfg(not(mishantral_engine))]
 pub fn proved() -> Option<Box<dyn Desk>> {
+    None
+}
+
+#[cfg(mishantral_lower)]
+fn proved_lower() -> Option<Box<dyn Desk>> {
+    Some(Box::new(mishantral::lower::Engine::new()))
+}
+
+#[cfg(not(mishantral_lower))]
+fn proved_lower() -> Option<Box<dyn Desk>> {
     None
 }
 
@@ -162,21 +170,13 @@ impl Panel {
         Panel(desks)
     }
 
-    /// The lower part alone, where its library is linked: the others answer as their lower part would.
-    #[cfg(mishantral_lower)]
-    pub fn lower() -> Option<Panel> {
+    /// The lower part alone: the engines that have orders answer as their lower part would.
+    pub fn lower() -> Panel {
         let lists = plain("lists", Engine::<OrderLists>::new());
-        Some(Panel(vec![
-            Box::new(Lowered(lists)),
-            Box::new(mishantral::lower::Engine::new()),
-            Box::new(Lowered(Box::new(Slow::default()))),
-        ]))
-    }
-
-    /// The lower part alone, where its library is linked: it is not.
-    #[cfg(not(mishantral_lower))]
-    pub fn lower() -> Option<Panel> {
-        None
+        let mut desks: Vec<Box<dyn Desk>> = vec![Box::new(Lowered(lists))];
+        desks.extend(proved_lower());
+        desks.push(Box::new(Lowered(Box::new(Slow::default()))));
+        Panel(desks)
     }
 
     /// These engines.

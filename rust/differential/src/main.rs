@@ -6,8 +6,8 @@ use std::process::ExitCode;
 const HELP: &str = "\
 Compares engines over random policies and requests: the plain engine with two ledgers, a slow one, and the
 proved library where its archive was found at build time (MISHANTRAL_ARCHIVE, or target/native/libmishantral.a).
-The same cases are then put to the lower part alone, where its archive was found (MISHANTRAL_LOWER_ARCHIVE, or
-target/native/libmishantral_lower.a).
+The same cases are then put to the lower part of each alone, the proved one where its archive was found
+(MISHANTRAL_LOWER_ARCHIVE, or target/native/libmishantral_lower.a).
 
   differential [--seed N] [--cases N] [--first N] [--coverage]
 
@@ -61,9 +61,7 @@ fn run(options: &Options) -> Result<Coverage, String> {
             format!("{}differs in case {number}: {again}", failure.report())
         };
         coverage.join(&compare(&panel, &case, fill).map_err(report)?);
-        if let Some(lower) = &lower {
-            compare(lower, &case, false).map_err(report)?;
-        }
+        compare(&lower, &case, false).map_err(report)?;
         garbage(options.seed, number)?;
     }
     Ok(coverage)
@@ -80,9 +78,7 @@ fn garbage(_seed: u64, _number: u64) -> Result<(), String> {
 
 fn tell(options: &Options) -> Result<(), String> {
     println!("engines: {}", Panel::all().names().join(", "));
-    if let Some(lower) = Panel::lower() {
-        println!("the lower part alone: {}", lower.names().join(", "));
-    }
+    println!("lower part alone: {}", Panel::lower().names().join(", "));
     if !PROVED {
         println!("the proved library is not linked: its archive was not found at build time");
     }

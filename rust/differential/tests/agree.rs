@@ -1,6 +1,7 @@
 //! All engines over the default cases: they agree, and every kind is answered in every way that it can be.
 
 use differential::{compare, Case, Coverage, Panel, CASES, SEED};
+use records::Reply;
 
 #[test]
 fn all_engines_agree_and_every_reply_comes_up() {
@@ -18,16 +19,13 @@ fn all_engines_agree_and_every_reply_comes_up() {
 }
 
 /// The kinds that the lower part answers.
-#[cfg(mishantral_lower)]
 fn of_the_lower_part(kind: u8) -> bool {
     kind < 48 || kind == 56
 }
 
-#[cfg(mishantral_lower)]
 #[test]
 fn the_lower_part_agrees_and_every_reply_of_it_comes_up() {
-    use records::Reply;
-    let panel = Panel::lower().expect("its library is linked");
+    let panel = Panel::lower();
     let mut coverage = Coverage::default();
     for number in 0..CASES {
         match compare(&panel, &Case::random(SEED, number), false) {
