@@ -130,15 +130,8 @@ impl<'t> Reader<'t> {
         self.text[self.at..].starts_with(with)
     }
 
-    /// Where the run of bytes of a class ends that begins here.
-    #[inline]
-    fn run(&self, from: usize, of: u8) -> usize {
-        let rest = &self.text[from..];
-        let length = rest.iter().position(|&byte| !is(byte, of));
-        from + length.unwrap_or(rest.len())
-    }
-
-    /// The same, eight bytes at a time: `stops` marks each byte that is not of the class, and perhaps others.
+    /// Where the run of bytes of a class ends that begins here, eight bytes at a time: `stops` marks each byte that is not
+    /// of the class, and perhaps others.
     #[inline]
     fn long_run(&self, from: usize, of: u8, stops: impl Fn(u64) -> u64) -> usize {
         let mut at = from;
@@ -163,6 +156,11 @@ impl<'t> Reader<'t> {
         let rest = &self.text[at..];
         let behind = rest.get(name.len());
         rest.starts_with(name.as_bytes()) && !behind.is_some_and(|&byte| is(byte, NAME))
+    }
+
+    /// Whether a name, of whatever bytes, begins at a place.
+    fn has_name(&self, at: usize) -> bool {
+        self.text.get(at).is_some_and(|&byte| is(byte, NAME))
     }
 
     /// Skips white space, and says whether there was any. A line's indent is mostly spaces.
@@ -318,7 +316,7 @@ impl Reader<'_> {
         let root = Tag::PolicyObject;
         let name = root.element().name;
         if !self.is_named(start + 1, name) {
-            return self.fault(start, Why::Markup("<policy_object>"));
+            return self.no_start_tag(Why::Markup("<policy_object>"));
         }
         self.at += 1 + name.len();
         self.element(root)?;
@@ -365,7 +363,7 @@ impl<'t> Reader<'t> {
                 [b'<', ..] => {
                     let named = |child: &Element| self.is_named(start + 1, child.name);
                     let Some(child) = progress.take(&element.content, named) else {
-                        return self.fault(start, Why::elements(element.tag, progress));
+                        return self.no_start_tag(Why::elements(element.tag, progress));
                     };
                     self.at += 1 + child.element().name.len();
                     self.element(child)?;
@@ -375,11 +373,26 @@ impl<'t> Reader<'t> {
         }
     }
 
+    /// What begins at a `<` and may not stand there. It is refused as a whole, but for a tag that has no name: that at the
+    /// byte where the name must begin.
+    #[cold]
+    fn no_start_tag(&self, why: Why) -> Read<()> {
+        let behind = self.at + 1;
+        let markup = matches!(self.text.get(behind), Some(b'!' | b'?'));
+        if markup || self.has_name(behind) {
+            return self.fault(self.at, why);
+        }
+        self.fault(behind, Why::Expected("the name of an element"))
+    }
+
     #[inline]
     fn end_tag(&mut self, element: &'static Element, progress: Progress) -> Read<()> {
         let start = self.at;
         if !self.is_named(start + 2, element.name) {
-            return self.fault(start, Why::EndTag(element.name));
+            return match self.has_name(start + 2) {
+                true => self.fault(start, Why::EndTag(element.name)),
+                false => self.fault(start + 2, Why::Expected(element.name)),
+            };
         }
         self.at += 2 + element.name.len();
         if let Some(child) = progress.missing(&element.content) {
@@ -414,19 +427,12 @@ impl<'t> Reader<'t> {
         Ok(attributes)
     }
 
-    /// One attribute, which is judged when its value has been read whole.
+    /// One attribute. Its name is judged before its value is read, its value when it has been read whole.
     #[inline]
     fn attribute(&mut self, element: &'static Element, into: &mut Attributes) -> Read<()> {
         let start = self.at;
         let mut known = element.attributes.iter();
-        let index = known.position(|a| self.is_named(start, a.name));
-        self.at = match index {
-            Some(index) => start + element.attributes[index].name.len(),
-            None => self.run(start, NAME),
-        };
-        self.equals()?;
-        let value = self.value()?;
-        let Some(index) = index else {
+        let Some(index) = known.position(|a| self.is_named(start, a.name)) else {
             let names = element.attributes.iter().map(|a| a.name).collect();
             return self.fault(start, Why::UnknownAttribute(element.name, names));
         };
@@ -434,6 +440,9 @@ impl<'t> Reader<'t> {
         if into.given >> index & 1 == 1 {
             return self.fault(start, Why::RepeatedAttribute(attribute.name));
         }
+        self.at = start + attribute.name.len();
+        self.equals()?;
+        let value = self.value()?;
         into.given |= 1 << index;
         into.values[index] = value;
         match attribute.sort {

@@ -107,7 +107,6 @@ fn the_text_ends_too_early() {
         "<module_sep_duty_policy/",
         "<module_sep_duty_policy></module_sep_duty_policy",
         "<module_rbac_core_policy><users><user user_id",
-        "<module_rbac_core_policy><users><user user_i",
         "<module_rbac_core_policy><users><user user_id=",
         "<module_rbac_core_policy><users><user user_id='",
         "<module_rbac_core_policy><users><user user_id='a",
@@ -198,12 +197,8 @@ fn prolog_pieces_that_go_wrong() {
 fn start_tags() {
     marked("|<policy_objects>");
     marked("|<module_rbac_core_policy/>");
-    marked("|</policy_object>");
-    marked("|<");
     marked("<policy_object>|<active_modules/>");
     marked("<policy_object><policy_object_attributes/>|<policy_object_attributes/>");
-    marked("<policy_object>|<");
-    marked("<policy_object>|< policy_object_attributes/>");
     marked("<policy_object>|<policy_object_att");
     module("|<module_role_hierarchy_policy/>");
     module("|<module_rbac_core_policy_/>");
@@ -222,11 +217,34 @@ fn start_tags() {
 }
 
 #[test]
+fn tags_without_a_name() {
+    marked("<|");
+    marked("<|<policy_object>");
+    marked("<|/policy_object>");
+    marked("<|>");
+    marked("<| policy_object>");
+    marked("<policy_object><|");
+    marked("<policy_object><|<policy_object_attributes/>");
+    marked("<policy_object><| policy_object_attributes/>");
+    marked("<policy_object><|&");
+    marked("<policy_object><|\u{1}");
+    marked("<policy_object></|");
+    marked("<policy_object></|>");
+    marked("<policy_object></| policy_object>");
+    marked("<policy_object></|</policy_object>");
+    marked("<policy_object></|!");
+    marked(&(with(SMALL) + "|<"));
+    marked(&(with(SMALL) + "|< x"));
+    users("<|='a'/>");
+    users("<user user_id='a'><|\n");
+    users("<user user_id='a'></|\nuser>");
+}
+
+#[test]
 fn end_tags() {
     marked("<policy_object>|</policy_objects>");
     marked("<policy_object>|</policy_object>");
-    marked("<policy_object>|</");
-    marked("<policy_object>|</ policy_object>");
+    marked("<policy_object>|</p");
     marked(&format!(
         "{HEAD}<policy_object_modules>|</policy_object_modules>"
     ));
@@ -249,10 +267,26 @@ fn attributes() {
     users("<user |>");
     users("<user|/x>");
     users("<user user_id='|'/>");
-    users("<user user_id='a' user|'b'/>");
-    users("<user id=|a/>");
-    users("<user id='|<'/>");
     marked("<policy_object |version='1'>");
+}
+
+#[test]
+fn attributes_refused_before_their_value() {
+    users("<user |id=a/>");
+    users("<user |id='<'/>");
+    users("<user |id");
+    users("<user |x y");
+    users("<user |id>");
+    users("<user |user_i\u{e9}='a'/>");
+    users("<user user_id='a' |user'b'/>");
+    users("<user user_id='a' |user_id/>");
+    users("<user user_id='a'\n|user_id=''/>");
+    cardinalities("<task_cardinality cardinality='1' |cardinality='x'/>");
+    for cut in ["<user |u", "<user |user_i", "<user user_id='a' |user_id"] {
+        marked(&format!(
+            "{HEAD}<policy_object_modules><module_rbac_core_policy><users>{cut}"
+        ));
+    }
 }
 
 #[test]

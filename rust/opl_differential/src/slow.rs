@@ -51,11 +51,20 @@ impl Grammar<'_> {
         }
     }
 
-    fn name(self, at: usize) -> (Vec<u8>, usize) {
-        let name = self.0[at..].iter().copied();
-        let name: Vec<u8> = name.take_while(|&b| is_name_byte(b)).collect();
-        let end = at + name.len();
-        (name, end)
+    /// One or more bytes of the class, as many as there are.
+    fn word(self, at: usize, class: fn(u8) -> bool) -> Step<Vec<u8>> {
+        let word = self.0[at..].iter().copied();
+        let word: Vec<u8> = word.take_while(|&b| class(b)).collect();
+        let end = at + word.len();
+        if word.is_empty() {
+            Err(at)
+        } else {
+            Ok((word, end))
+        }
+    }
+
+    fn name(self, at: usize) -> Step<Vec<u8>> {
+        self.word(at, is_name_byte)
     }
 
     fn literal(self, at: usize, literal: &str) -> Result<usize, usize> {
@@ -150,7 +159,7 @@ impl Grammar<'_> {
             at = self.misc(self.doctype(at)?)?;
         }
         let start = at;
-        let (name, at) = self.name(self.literal(at, "<")?);
+        let (name, at) = self.start_tag(at)?;
         if name != b"policy_object" {
             return Err(start);
         }
@@ -159,6 +168,14 @@ impl Grammar<'_> {
             end if end == self.0.len() => Ok(root),
             at => Err(at),
         }
+    }
+
+    /// The name of a start tag. What is other markup is refused before a name is looked for.
+    fn start_tag(self, at: usize) -> Step<Vec<u8>> {
+        if self.has(at, b"<!") || self.has(at, b"<?") {
+            return Err(at);
+        }
+        self.name(self.literal(at, "<")?)
     }
 
     /// From behind the name, which may stand where it stands.
@@ -201,13 +218,13 @@ impl Grammar<'_> {
     }
 
     fn attribute(self, node: &mut Node, start: usize) -> Result<usize, usize> {
-        let (name, at) = self.name(start);
-        let (value, at) = self.equals_value(at)?;
+        let (name, at) = self.name(start)?;
         let known = &dtd::element(&node.name).expect("an element").attributes;
         let twice = node.attributes.iter().any(|given| given.0 == name);
         if twice || !known.iter().any(|a| a.0.as_bytes() == name) {
             return Err(start);
         }
+        let (value, at) = self.equals_value(at)?;
         if name.ends_with(b"_id") && value.is_empty() {
             return Err(at - 1);
         }
@@ -223,7 +240,7 @@ impl Grammar<'_> {
         let mut model = declared.model.clone();
         let mut at = self.misc(at)?;
         while !self.has(at, b"</") {
-            let (name, behind) = self.name(self.literal(at, "<")?);
+            let (name, behind) = self.start_tag(at)?;
             model = model.after(&name);
             if model == dtd::Model::Nothing {
                 return Err(at);
@@ -232,7 +249,7 @@ impl Grammar<'_> {
             node.children.push(child);
             at = self.misc(behind)?;
         }
-        let (name, behind) = self.name(at + 2);
+        let (name, behind) = self.name(at + 2)?;
         if name != node.name || !model.may_end() {
             return Err(at);
         }
@@ -241,11 +258,12 @@ impl Grammar<'_> {
 
     /// The lines of the second text.
     fn tasks(self) -> Result<Vec<[Vec<u8>; 2]>, usize> {
+        let in_line = |byte: u8| byte > 0x20;
         let mut lines = Vec::new();
         let mut at = 0;
         while at < self.0.len() {
-            let (task, behind) = self.word(at)?;
-            let (template, behind) = self.word(self.literal(behind, " ")?)?;
+            let (task, behind) = self.word(at, in_line)?;
+            let (template, behind) = self.word(self.literal(behind, " ")?, in_line)?;
             lines.push([task, template]);
             at = match self.at(behind) {
                 None => behind,
@@ -253,17 +271,6 @@ impl Grammar<'_> {
             };
         }
         Ok(lines)
-    }
-
-    fn word(self, at: usize) -> Step<Vec<u8>> {
-        let word = self.0[at..].iter().copied();
-        let word: Vec<u8> = word.take_while(|&b| b > 0x20).collect();
-        let end = at + word.len();
-        if word.is_empty() {
-            Err(at)
-        } else {
-            Ok((word, end))
-        }
     }
 }
 

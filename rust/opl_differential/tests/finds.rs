@@ -1,11 +1,11 @@
 //! Readers with one fault each: the comparison finds every one of them.
 
-use opl::{Answer, ACCEPTED, NAMES, RECORD, ROOM, TEXT};
+use opl::{Answer, Refusal, Why, ACCEPTED, NAMES, RECORD, ROOM, TEXT};
 use opl_differential::{readers, run, Reader};
 
 /// Whether texts are found on which a reader differs from the others.
 #[track_caller]
-fn is_found(name: &'static str, translate: fn(&[u8], &[u8], &mut [u8]) -> Answer) {
+fn is_found(name: &'static str, translate: impl Fn(&[u8], &[u8], &mut [u8]) -> Answer + 'static) {
     let mut all = readers();
     all.push(Reader::new(name, translate));
     let difference = run(&all, 3, 20_000).err().unwrap_or_default();
@@ -60,6 +60,38 @@ fn output_behind_the_records_changed() {
             output[end..].fill(0);
         }
         answer
+    });
+}
+
+#[test]
+fn tags_without_a_name_refused_at_their_bracket() {
+    for (name, bracket) in [("start tags", &b"<"[..]), ("end tags", b"</")] {
+        is_found(name, move |policy, tasks, output| {
+            with(opl::translate(policy, tasks, output), |answer| {
+                let place = answer.figure as usize;
+                if answer.text == 1 && policy[..place - 1].ends_with(bracket) {
+                    answer.figure -= bracket.len() as u64;
+                }
+            })
+        });
+    }
+}
+
+#[test]
+fn attributes_judged_behind_their_equals_sign() {
+    is_found("attributes", |policy, tasks, output| {
+        let answer = opl::translate(policy, tasks, output);
+        let Err(Refusal::Text(fault)) = opl::read(policy, tasks) else {
+            return answer;
+        };
+        let why = &fault.why;
+        let by_name = matches!(why, Why::UnknownAttribute(..) | Why::RepeatedAttribute(_));
+        let ends = by_name && !policy[fault.place..].contains(&b'=');
+        with(answer, |answer| {
+            if ends {
+                answer.figure = policy.len() as u64 + 1;
+            }
+        })
     });
 }
 
