@@ -1,4 +1,4 @@
-// What the kinds ask of the policy's tasks, users and rules: searches and folds over its rows, each equal to document 01's question of the policy's tables.
+// What the kinds ask of the policy's tasks, users and rules: searches and folds over its rows, each equal to the rules' question (docs/RULES.md) of the policy's tables.
 // It rests on the getters of the policy buffer and on nothing of its layout.
 ghost use mathlib.Core.Path.{_≡_};
 ghost use mathlib.Core.Bool.{cond, _&&_};

@@ -1,4 +1,4 @@
-// The replies of document 01's table, by name and by number.
+// The replies of docs/RULES.md's table ("The replies"), by name and by number.
 ghost use mathlib.Core.Path.{_≡_};
 ghost use lib.Dec.{eqb};
 ghost use Rattle.replies.specs.Replies.{numberOf};

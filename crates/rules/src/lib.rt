@@ -1,4 +1,4 @@
-// The claim rules as questions to the policy buffer, each equal to document 01's definition of it (paper_upper, Rules).
+// The claim rules as questions to the policy buffer, each equal to its definition (docs/RULES.md, "The ledger and the claim rules"; paper_upper, Rules).
 // Those that go through a list answer the place of the first rule broken, from 1 and in policy order, or 0.
 ghost use mathlib.Core.Path.{_≡_};
 ghost use Prim.Native.Nat.{_<_};

@@ -1,5 +1,5 @@
 // Sets of roles or of tasks, one word each: bit i stands for role or task i.
-// Each operation equals document 01's definition of it (paper_lower, Sets).
+// Each operation equals its definition (paper_lower, Sets; docs/RULES.md, "Numbers").
 ghost use mathlib.Core.Path.{_≡_};
 ghost use mathlib.Core.Bool.{true};
 ghost use Prim.Native.Nat.{_<_};
