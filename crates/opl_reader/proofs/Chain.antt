@@ -79,3 +79,11 @@ forget-on (bad r) f = refl
 pub forget-after : {A B : Type 0} (x : Read A) (f : A → Text → Read B) → forget (after x f) ≡ after x (λ v r. forget (f v r))
 forget-after (got v r) f = refl
 forget-after (bad r) f = refl
+
+pub judged-bad : {A B : Type 0} (x : Read A) (r : Text) → forget x ≡ bad r → (f : A → Text → Read B) → after x f ≡ bad r
+judged-bad (got v u) r e f = absurd (bad≢got (sym e))
+judged-bad (bad u) r e f = ap bad (bad-same e)
+
+pub judged-got : {A B : Type 0} (x : Read A) (r : Text) (c : B) → forget x ≡ got tt r → after x (λ _ z. got c z) ≡ got c r
+judged-got (got v u) r c e = ap (λ (z : Text). got c z) (got-same e)
+judged-got (bad u) r c e = absurd (bad≢got e)
