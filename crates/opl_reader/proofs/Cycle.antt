@@ -12,13 +12,13 @@ use Rattle.paper_opl.specs.Reading.Read.{got, bad}
 use Rattle.paper_opl.specs.Elements.{elements as table, Child, Element, rowIn, mayEnd}
 use Rattle.paper_opl.specs.Tree.{Opened, Inside, Given, Elements, attributes, opening, ending, content, element, body}
 use Rattle.paper_opl.specs.Tree.Elements.{nothing, node}
-use Rattle.paper_opl.proofs.Inversion.{got-value}
+use Rattle.paper_opl.proofs.Inversion.{bad≢got, got-rest, got-value}
 use Rattle.paper_opl.proofs.Conforms.{row-name}
 use Rattle.paper_opl.proofs.Counts.{below, misc-below, opening-below, element-below, content-enough, ready, attributes-ready}
 use Rattle.opl_text.specs.declared.Step.{Step}
 use Rattle.opl_text.specs.declared.Step.the-variants.{Next, Bad}
 use Rattle.opl_text.specs.Steps.{Reads, stepOf, placeOf}
-use Rattle.opl_text.proofs.Laws.{bad≢got, got-same, bad-same, one-not, one-yes, starts-next}
+use Rattle.opl_text.proofs.Laws.{bad-same, one-not, one-yes, starts-next}
 use Rattle.opl_reader.specs.declared.Start.{Start}
 use Rattle.opl_reader.specs.declared.Start.the-variants.{Inner, Stop}
 use Rattle.opl_table.specs.Numbers.{nameOf, leftOf}
@@ -31,7 +31,7 @@ below-got : {A : Type 0} (x : Read A) (v : A) (r : Text) (n : ℕ) → below n x
 below-got x v r n b e = subst (λ y. below n y) e b
 
 below-forget : {A : Type 0} (x : Read A) (r : Text) (n : ℕ) → below n x → forget x ≡ got tt r → length r < n
-below-forget (got v u) r n b e = subst (λ (y : Text). length y < n) (got-same e) b
+below-forget (got v u) r n b e = subst (λ (y : Text). length y < n) (got-rest e) b
 below-forget (bad u) r n b e = absurd (bad≢got e)
 
 both : (x y : Bool) → x && y ≡ true → (x ≡ true) × (y ≡ true)
@@ -108,7 +108,7 @@ attributed d b u z c left t o e = go (attributes (length u) (rowIn table (b .nam
     go : (x : Read (List Given)) → attributes (length u) (rowIn table (b .name) .attributes) u ≡ x → after x (λ _ r. got b r) ≡ got c z → Begun (suc d) left t c z
     go (got gs r) q e =
         let p : b ≡ c = got-value e in
-        let w : r ≡ z = got-same e in
+        let w : r ≡ z = got-rest e in
         subst (λ (v : Opened). Begun (suc d) left t v z) p (subst (λ (v : Text). Begun (suc d) left t b v) w (tag-begun d left t b u r gs o q))
     go (bad r) q e = absurd (bad≢got e)
 
