@@ -3,7 +3,7 @@ use mathlib.Core.Path.{_≡_, refl, sym, ap, _∙_, subst}
 use Prim.Native.Nat.{ℕ, _-_, _<_, _≤_}
 use native.Mathlib.Omega.{arith}
 use lib.ListN.{length, take, drop, length-drop}
-use Rattle.paper_opl.specs.Reading.{Text, Read, after, inName, name, value, white, behind, space}
+use Rattle.paper_opl.specs.Reading.{Text, Read, after, inName, name, white, behind, space}
 use Rattle.paper_opl.specs.Reading.Read.{got, bad}
 use Rattle.paper_opl.proofs.Inversion.{bad≢got, got-rest}
 use Rattle.paper_opl.proofs.Counts.{below-of, word-strict}

@@ -31,6 +31,10 @@ classed class more s = after (value s) (λ v r. cond (fits class v) (got more r)
 unfoldable pub valued : Class → List Attribute → Text → Read (List Attribute)
 valued class more s = after (equals s) (λ _ r. classed class more r)
 
+-- "=" and a value behind a name that may not be given, which stands at the text t
+unfoldable pub strange : Text → Text → Read (List Attribute)
+strange t s = after (equals s) (λ _ u. after (value u) (λ _ _. bad t))
+
 unfoldable pub attributesRead : List Attribute → Text → Read (Unit {0})
 attributesRead left s = forget (attributes (length s) left s)
 

@@ -9,7 +9,7 @@ ghost use Rattle.paper_opl.specs.Elements.Class.{number};
 ghost use Rattle.paper_opl.specs.Tree.{digit as digitOf, fits as fitsOf, opening as openingOf, ending as endingOf, pseudo as pseudoOf, declaration as declarationOf, doctype as doctypeOf, prolog as prologOf, document as documentOf};
 ghost use Rattle.opl_text.specs.Steps.{Reads, stepOf};
 ghost use Rattle.opl_table.specs.Numbers.{nameOf, leftOf, listOf, classOf};
-ghost use Rattle.opl_reader.specs.Grammar.{forget, classed, valued, remaining, attributesRead, Takes, Opens, taggedRead, startRead, elementRead, contentRead, spacedRead, declaredRead, typedRead, rootRead};
+ghost use Rattle.opl_reader.specs.Grammar.{forget, classed, valued, remaining, attributesRead, Takes, Opens, taggedRead, startRead, elementRead, contentRead, spacedRead, declaredRead, typedRead, rootRead, strange};
 use opl_table::Found;
 use opl_text::Step;
 
@@ -125,6 +125,24 @@ fn attribute_value(s: &[u8], at: usize, class: u64, more: u64) -> Taken
     }
 }
 
+// An attribute that may not be given, with its name at `name`: it is refused there when its value has been read whole.
+fn strange_value(s: &[u8], at: usize, name: usize) -> Taken
+    requires { ⌜ (at ≤ length (now s)) × (name ≤ length (now s)) ⌝ }
+    ensures { λ r. ⌜ Takes (now (s .entry)) (strange (drop name (now (s .entry))) (drop at (now (s .entry)))) r ⌝ }
+{
+    let q = equals(s, at);
+    match q {
+        Step::Bad(p) => Taken::Refused(p),
+        Step::Next(u) => {
+            let v = opl_text::read_value(s, u);
+            match v {
+                Step::Bad(p) => Taken::Refused(p),
+                Step::Next(_end) => Taken::Refused(name),
+            }
+        }
+    }
+}
+
 // An attribute, where these may be given.
 pub fn attribute(s: &[u8], at: usize, list: u64) -> Taken
     requires { ⌜ at ≤ length (now s) ⌝ }
@@ -136,7 +154,7 @@ pub fn attribute(s: &[u8], at: usize, list: u64) -> Taken
         Step::Next(e) => {
             let found = opl_table::attribute(opl_text::part(s, at, e), list);
             match found {
-                Found::Unknown => Taken::Refused(at),
+                Found::Unknown => strange_value(s, e, at),
                 Found::Known(class, more) => attribute_value(s, e, class, more),
             }
         }
