@@ -7,12 +7,12 @@ use native.Mathlib.Omega.{arith}
 use lib.ListN.{length, take, drop, length-drop, drop-of-length-le}
 use lib.Seq.{drop-drop}
 use borrow.Author.Tests.{not-true, not-false}
-use Rattle.paper_lower.specs.Lists.{Maybe, some}
-use Rattle.paper_lower.specs.Lists.Maybe.{none, just}
+use Rattle.paper_lower.specs.Lists.{some}
 use Rattle.paper_opl.specs.Reading.{Text, Read, after, text, starts, white, behind, skip, space, name, equals, value}
 use Rattle.paper_opl.specs.Reading.Read.{got, bad}
-use Rattle.paper_opl.specs.Elements.{Class, Attribute}
+use Rattle.paper_opl.specs.Elements.{Attribute}
 use Rattle.paper_opl.specs.Tree.{Given, if-found, required, fits, find, without, attribute, attributes}
+use Rattle.paper_opl.proofs.Inversion.{on, on-test, on-found}
 use Rattle.paper_opl.proofs.Counts.{below, below-of, below-after, space-strict, attribute-below, attributes-enough}
 use Rattle.opl_text.specs.declared.Step.{Step}
 use Rattle.opl_text.specs.declared.Step.the-variants.{Next, Bad}
@@ -25,8 +25,8 @@ use Rattle.opl_table.specs.Numbers.{listOf, classOf}
 use Rattle.opl_table.specs.Found.{Allows}
 use Rattle.opl_reader.specs.declared.Taken.{Taken}
 use Rattle.opl_reader.specs.declared.Taken.the-variants.{Behind, Refused}
-use Rattle.opl_reader.specs.Grammar.{forget, remaining, classed, valued, attributesRead, takenOf, takenAt, Takes}
-use Rattle.opl_reader.proofs.Chain.{stopped-at, goes-on, after-after, after-each, space-not, space-yes, forget-on}
+use Rattle.opl_reader.specs.Grammar.{forget, remaining, classed, valued, strange, attributesRead, takenOf, takenAt, Takes}
+use Rattle.opl_reader.proofs.Chain.{stopped-at, goes-on, space-not, space-yes, forget-on}
 
 -- the same answer to the same reading
 pub retaken : {s : Text} {x y : Read (List Attribute)} {r : Taken} → y ≡ x → Takes s x r → Takes s y r
@@ -86,53 +86,53 @@ module _ (s : Text) (at class more : ℕ) (e : Step) (q : Reads s (stepOf s) (eq
 
 -- ---- An attribute.
 
--- what is kept of an attribute behind its name
-kept : (class : Class) (w : Text) (left : List Attribute) (t : Text)
-    → after (after (equals t) (λ _ u. after (value u) (λ v z. cond (fits class v) (got (record { name = w; value = v }) z) (bad (drop 1 u))))) (λ (g : Given) r. got (without (g .name) left) r)
-    ≡ valued class (without w left) t
-unfolding valued classed
-kept class w left t =
-    after-after (equals t) (λ _ u. after (value u) (λ v z. cond (fits class v) (got (record { name = w; value = v }) z) (bad (drop 1 u)))) (λ (g : Given) r. got (without (g .name) left) r)
-    ∙ after-each (equals t) (λ _ u. after (after (value u) (λ v z. cond (fits class v) (got (record { name = w; value = v }) z) (bad (drop 1 u)))) (λ (g : Given) r. got (without (g .name) left) r))
-    (λ _ u. after (value u) (λ v r. cond (fits class v) (got (without w left) r) (bad (drop 1 u)))) (λ _ u.
-    after-after (value u) (λ v z. cond (fits class v) (got (record { name = w; value = v }) z) (bad (drop 1 u))) (λ (g : Given) r. got (without (g .name) left) r)
-    ∙ after-each (value u) (λ v z. after (cond (fits class v) (got (record { name = w; value = v }) z) (bad (drop 1 u))) (λ (g : Given) r. got (without (g .name) left) r))
-    (λ v r. cond (fits class v) (got (without w left) r) (bad (drop 1 u))) (λ v z. either (fits class v) v z u))
-  where
-    either : (b : Bool) (v z u : Text) → after (cond b (got (record { name = w; value = v }) z) (bad (drop 1 u))) (λ (g : Given) r. got (without (g .name) left) r) ≡ cond b (got (without w left) z) (bad (drop 1 u))
-    either true v z u = refl
-    either false v z u = refl
-
-remains : (left : List Attribute) (t : Text)
-    → remaining left t ≡ after (name t) (λ w r. if-found (find left w) (bad t) (λ a. valued (a .class) (without w left) r))
-unfolding remaining attribute
+remains : (left : List Attribute) (t : Text) → remaining left t ≡ after (name t) (λ w r. if-found (find left w) (strange t r) (λ a. valued (a .class) (without w left) r))
+unfolding remaining attribute strange valued classed
 remains left t =
-    after-after (name t) (λ w r. if-found (find left w) (bad t) (λ a. after (equals r) (λ _ u. after (value u) (λ v z. cond (fits (a .class) v) (got (record { name = w; value = v }) z) (bad (drop 1 u)))))) (λ (g : Given) r. got (without (g .name) left) r)
-    ∙ after-each (name t) (λ w r. after (if-found (find left w) (bad t) (λ a. after (equals r) (λ _ u. after (value u) (λ v z. cond (fits (a .class) v) (got (record { name = w; value = v }) z) (bad (drop 1 u)))))) (λ (g : Given) r. got (without (g .name) left) r))
-    (λ w r. if-found (find left w) (bad t) (λ a. valued (a .class) (without w left) r)) (λ w r. either (find left w) w r)
-  where
-    either : (x : Maybe Attribute) (w r : Text)
-        → after (if-found x (bad t) (λ a. after (equals r) (λ _ u. after (value u) (λ v z. cond (fits (a .class) v) (got (record { name = w; value = v }) z) (bad (drop 1 u)))))) (λ (g : Given) r. got (without (g .name) left) r)
-        ≡ if-found x (bad t) (λ a. valued (a .class) (without w left) r)
-    either none w r = refl
-    either (just a) w r = kept (a .class) w left r
+    on (name t) (λ w r p. on (equals r) (λ _ u q. on (value u) (λ v z o. on-found (find left w)
+    (λ a f. on-test (fits (a .class) v) (λ c. rw (p, q, o, f, c)) (λ c. rw (p, q, o, f, c))) (λ f. rw (p, q, o, f)))
+    (λ z o. on-found (find left w) (λ a f. rw (p, q, o, f)) (λ f. rw (p, q, o, f)))) (λ u q. on-found (find left w) (λ a f. rw (p, q, f)) (λ f. rw (p, q, f)))) (λ r p. rw p)
+
+module _ (s : Text) (at n : ℕ) (h : n ≤ length s) (e : Step) (q : Reads s (stepOf s) (equals (drop at s)) e) where
+  pub strange-none : (p : ℕ) → e ≡ Bad p → Takes s (strange (drop n s) (drop at s)) (Refused p)
+  unfolding strange
+  strange-none p v = record {
+    read-is = sym (goes-on s (stepOf s) (equals (drop at s)) e q (Bad p) v (λ _ u. after (value u) (λ _ _. bad (drop n s))));
+    inside = stopped-at s (stepOf s) (equals (drop at s)) e q p v;
+  }
+
+  module _ (u : ℕ) (v : e ≡ Next u) (k : Step) (o : Reads s (valueOf s (u + 1)) (value (drop u s)) k) where
+    behind-equals : strange (drop n s) (drop at s) ≡ after (value (drop u s)) (λ _ _. bad (drop n s))
+    unfolding strange
+    behind-equals = goes-on s (stepOf s) (equals (drop at s)) e q (Next u) v (λ _ u. after (value u) (λ _ _. bad (drop n s)))
+
+    pub strange-bad : (p : ℕ) → k ≡ Bad p → Takes s (strange (drop n s) (drop at s)) (Refused p)
+    strange-bad p w = record {
+      read-is = sym (behind-equals ∙ goes-on s (valueOf s (u + 1)) (value (drop u s)) k o (Bad p) w (λ _ _. bad (drop n s)));
+      inside = stopped-at s (valueOf s (u + 1)) (value (drop u s)) k o p w;
+    }
+
+    pub strange-whole : (p : ℕ) → k ≡ Next p → Takes s (strange (drop n s) (drop at s)) (Refused n)
+    strange-whole p w = record { read-is = sym (behind-equals ∙ goes-on s (valueOf s (u + 1)) (value (drop u s)) k o (Next p) w (λ _ _. bad (drop n s))); inside = h }
 
 module _ (s : Text) (at list : ℕ) (n : Step) (q : Reads s (wordOf s at) (name (drop at s)) n) where
   pub attribute-none : (p : ℕ) → n ≡ Bad p → Takes s (remaining (listOf list) (drop at s)) (Refused p)
   attribute-none p v = record {
-    read-is = sym (remains (listOf list) (drop at s) ∙ goes-on s (wordOf s at) (name (drop at s)) n q (Bad p) v (λ w r. if-found (find (listOf list) w) (bad (drop at s)) (λ a. valued (a .class) (without w (listOf list)) r)));
+    read-is =
+        sym (remains (listOf list) (drop at s)
+        ∙ goes-on s (wordOf s at) (name (drop at s)) n q (Bad p) v (λ w r. if-found (find (listOf list) w) (strange (drop at s) r) (λ a. valued (a .class) (without w (listOf list)) r)));
     inside = stopped-at s (wordOf s at) (name (drop at s)) n q p v;
   }
 
   module _ (k : ℕ) (v : n ≡ Next k) (w : Text) (t : w ≡ take (k - at) (drop at s)) (f : Found) (a : Allows w (listOf list) f) where
-    named : remaining (listOf list) (drop at s) ≡ if-found (find (listOf list) w) (bad (drop at s)) (λ a. valued (a .class) (without w (listOf list)) (drop k s))
+    named : remaining (listOf list) (drop at s) ≡ if-found (find (listOf list) w) (strange (drop at s) (drop k s)) (λ a. valued (a .class) (without w (listOf list)) (drop k s))
     named =
         remains (listOf list) (drop at s)
-        ∙ goes-on s (wordOf s at) (name (drop at s)) n q (Next k) v (λ w r. if-found (find (listOf list) w) (bad (drop at s)) (λ a. valued (a .class) (without w (listOf list)) r))
+        ∙ goes-on s (wordOf s at) (name (drop at s)) n q (Next k) v (λ w r. if-found (find (listOf list) w) (strange (drop at s) r) (λ a. valued (a .class) (without w (listOf list)) r))
         ∙ rw (sym t)
 
-    pub attribute-unknown : at ≤ length s → f ≡ Unknown → Takes s (remaining (listOf list) (drop at s)) (Refused at)
-    attribute-unknown h e = record { read-is = sym (named ∙ rw (a .found, e)); inside = h }
+    pub attribute-unknown : f ≡ Unknown → (r : Taken) → Takes s (strange (drop at s) (drop k s)) r → Takes s (remaining (listOf list) (drop at s)) r
+    attribute-unknown e r b = retaken (named ∙ rw (a .found, e)) b
 
     pub attribute-known : (class more : ℕ) → f ≡ Known class more → (r : Taken) → Takes s (valued (classOf class) (listOf more) (drop k s)) r → Takes s (remaining (listOf list) (drop at s)) r
     attribute-known class more e r b = retaken (named ∙ rw (a .found, e, a .behind class more e)) b

@@ -3,10 +3,11 @@ use mathlib.Core.Path.{_≡_, refl, sym, ap, _∙_, subst}
 use Prim.Native.Nat.{ℕ, _-_, _<_, _≤_}
 use native.Mathlib.Omega.{arith}
 use lib.ListN.{length, take, drop, length-drop}
-use Rattle.paper_opl.specs.Reading.{Text, Read, after, inName, name, value, white, behind, space}
+use Rattle.paper_opl.specs.Reading.{Text, Read, after, inName, name, white, behind, space}
 use Rattle.paper_opl.specs.Reading.Read.{got, bad}
+use Rattle.paper_opl.proofs.Inversion.{bad≢got, got-rest}
 use Rattle.paper_opl.proofs.Counts.{below-of, word-strict}
-use Rattle.opl_text.proofs.Laws.{got-same, bad-same, bad≢got, no-word, a-word}
+use Rattle.opl_text.proofs.Laws.{bad-same, no-word, a-word}
 use Rattle.opl_text.specs.declared.Step.{Step}
 use Rattle.opl_text.specs.declared.Step.the-variants.{Next, Bad}
 use Rattle.opl_text.specs.Steps.{Reads, stepOf, wordOf, placeOf}
@@ -65,7 +66,7 @@ module _ (s : Text) (at i : ℕ) (h : at ≤ length s) (from : drop i s ≡ behi
 -- ---- What is known of a reading whose value is forgotten.
 
 pub on-got : {A B : Type 0} (x : Read A) (r : Text) → forget x ≡ got tt r → (f : A → Text → Read B) (g : Read (Unit {0})) → ((v : A) → x ≡ got v r → forget (f v r) ≡ g) → forget (after x f) ≡ g
-on-got (got v u) r e f g h = let q : u ≡ r = got-same e in ap (λ (z : Text). forget (f v z)) q ∙ h v (ap (λ (z : Text). got v z) q)
+on-got (got v u) r e f g h = let q : u ≡ r = got-rest e in ap (λ (z : Text). forget (f v z)) q ∙ h v (ap (λ (z : Text). got v z) q)
 on-got (bad u) r e f g h = absurd (bad≢got e)
 
 pub on-bad : {A B : Type 0} (x : Read A) (r : Text) → forget x ≡ bad r → (f : A → Text → Read B) → forget (after x f) ≡ bad r
@@ -79,3 +80,11 @@ forget-on (bad r) f = refl
 pub forget-after : {A B : Type 0} (x : Read A) (f : A → Text → Read B) → forget (after x f) ≡ after x (λ v r. forget (f v r))
 forget-after (got v r) f = refl
 forget-after (bad r) f = refl
+
+pub judged-bad : {A B : Type 0} (x : Read A) (r : Text) → forget x ≡ bad r → (f : A → Text → Read B) → after x f ≡ bad r
+judged-bad (got v u) r e f = absurd (bad≢got (sym e))
+judged-bad (bad u) r e f = ap bad (bad-same e)
+
+pub judged-got : {A B : Type 0} (x : Read A) (r : Text) (c : B) → forget x ≡ got tt r → after x (λ _ z. got c z) ≡ got c r
+judged-got (got v u) r c e = ap (λ (z : Text). got c z) (got-rest e)
+judged-got (bad u) r c e = absurd (bad≢got e)

@@ -9,19 +9,20 @@ use lib.Seq.{drop-drop}
 use borrow.Author.Tests.{not-true, not-false}
 use Rattle.paper_opl.specs.Reading.{Text, Read, after, text, starts, expect, misc}
 use Rattle.paper_opl.specs.Reading.Read.{got, bad}
-use Rattle.paper_opl.specs.Elements.{elements as table, rowIn, mayEnd}
-use Rattle.paper_opl.specs.Tree.{Given, Elements, attributes, opening, ending, content, element, body}
-use Rattle.paper_opl.specs.Tree.Elements.{node}
+use Rattle.paper_opl.specs.Elements.{elements as table, Child, Element, rowIn, mayEnd}
+use Rattle.paper_opl.specs.Tree.{Opened, Inside, Given, Elements, attributes, opening, ending, content, element, body}
+use Rattle.paper_opl.specs.Tree.Elements.{nothing, node}
+use Rattle.paper_opl.proofs.Inversion.{bad≢got, got-rest, got-value}
 use Rattle.paper_opl.proofs.Conforms.{row-name}
 use Rattle.paper_opl.proofs.Counts.{below, misc-below, opening-below, element-below, content-enough, ready, attributes-ready}
 use Rattle.opl_text.specs.declared.Step.{Step}
 use Rattle.opl_text.specs.declared.Step.the-variants.{Next, Bad}
 use Rattle.opl_text.specs.Steps.{Reads, stepOf, placeOf}
-use Rattle.opl_text.proofs.Laws.{bad≢got, got-same, one-not, one-yes, starts-next}
+use Rattle.opl_text.proofs.Laws.{bad-same, one-not, one-yes, starts-next}
 use Rattle.opl_reader.specs.declared.Start.{Start}
 use Rattle.opl_reader.specs.declared.Start.the-variants.{Inner, Stop}
 use Rattle.opl_table.specs.Numbers.{nameOf, leftOf}
-use Rattle.opl_reader.specs.Grammar.{forget, startAt, Opens, attributesRead, elementRead, contentRead}
+use Rattle.opl_reader.specs.Grammar.{forget, startAt, Opens, tagged, startRead, elementRead, contentRead}
 use Rattle.opl_reader.proofs.Chain.{on-got, on-bad, forget-on}
 
 -- ---- What is known of a reading whose value is forgotten.
@@ -30,16 +31,101 @@ below-got : {A : Type 0} (x : Read A) (v : A) (r : Text) (n : ℕ) → below n x
 below-got x v r n b e = subst (λ y. below n y) e b
 
 below-forget : {A : Type 0} (x : Read A) (r : Text) (n : ℕ) → below n x → forget x ≡ got tt r → length r < n
-below-forget (got v u) r n b e = subst (λ (y : Text). length y < n) (got-same e) b
+below-forget (got v u) r n b e = subst (λ (y : Text). length y < n) (got-rest e) b
 below-forget (bad u) r n b e = absurd (bad≢got e)
-
-ready-forget : {A : Type 0} (x : Read A) (r : Text) → ready x → forget x ≡ got tt r → 0 < length r
-ready-forget (got v u) r b e = subst (λ (y : Text). 0 < length y) (got-same e) b
-ready-forget (bad u) r b e = absurd (bad≢got e)
 
 both : (x y : Bool) → x && y ≡ true → (x ≡ true) × (y ≡ true)
 both true y e = (refl, e)
 both false y e = absurd (false≢true e)
+
+-- ---- A start tag and the rest of its element.
+
+-- what the attributes say is forgotten with the rest
+pub body-forgets : (inner : Text → Text → Read Inside) (row : Element) (gs : List Given) (s : Text) → forget (body inner row gs s) ≡ forget (body inner row [] s)
+body-forgets inner row gs s = go (starts (text ">") s)
+  where
+    slash : (x : Read (Unit {0})) (b : Bool) → forget {A = Inside} (after x (λ _ u. cond b (got (record { given = gs; elements = nothing }) u) (bad s))) ≡ forget {A = Inside} (after x (λ _ u. cond b (got (record { given = []; elements = nothing }) u) (bad s)))
+    slash (got v u) true = refl
+    slash (got v u) false = refl
+    slash (bad u) b = refl
+
+    go : (b : Bool) → forget {A = Inside} (cond b (after (content inner (length s) (row .name) (row .children) (drop 1 s)) (λ es u. got (record { given = gs; elements = es }) u))
+        (after (expect (text ">") (drop 1 s)) (λ _ u. cond (mayEnd (row .children)) (got (record { given = gs; elements = nothing }) u) (bad s))))
+        ≡ forget {A = Inside} (cond b (after (content inner (length s) (row .name) (row .children) (drop 1 s)) (λ es u. got (record { given = []; elements = es }) u))
+        (after (expect (text ">") (drop 1 s)) (λ _ u. cond (mayEnd (row .children)) (got (record { given = []; elements = nothing }) u) (bad s))))
+    go true =
+        forget-on (content inner (length s) (row .name) (row .children) (drop 1 s)) (λ es. record { given = gs; elements = es })
+        ∙ sym (forget-on (content inner (length s) (row .name) (row .children) (drop 1 s)) (λ es. record { given = []; elements = es }))
+    go false = slash (expect (text ">") (drop 1 s)) (mayEnd (row .children))
+
+tag-stops : (d : ℕ) (c : Opened) (u y : Text) → tagged d c u ≡ bad y → (f : Inside → Text → Read Elements) → forget (after (element table d (c .name) u) f) ≡ bad y
+unfolding tagged element
+tag-stops zero c u y e f = ap bad (bad-same e)
+tag-stops (suc d) c u y e f = go (attributes (length u) (rowIn table (c .name) .attributes) u) e
+  where
+    go : (x : Read (List Given)) → after x (λ _ r. got c r) ≡ bad y → forget (after (after x (λ gs r. body (element table d) (rowIn table (c .name)) gs r)) f) ≡ bad y
+    go (got gs r) e = absurd (bad≢got (sym e))
+    go (bad r) e = ap bad (bad-same e)
+
+start-bad : (d : ℕ) (left : List Child) (t y : Text) → startRead d left t ≡ bad y → (f : Opened → Inside → Text → Read Elements)
+    → forget (after (opening left t) (λ c u. after (element table d (c .name) u) (λ e z. f c e z))) ≡ bad y
+unfolding startRead
+start-bad d left t y e f = go (opening left t) e
+  where
+    go : (x : Read Opened) → after x (λ c r. tagged d c r) ≡ bad y → forget (after x (λ c u. after (element table d (c .name) u) (λ e z. f c e z))) ≡ bad y
+    go (got c u) e = tag-stops d c u y e (λ e z. f c e z)
+    go (bad u) e = ap bad (bad-same e)
+
+-- a start tag that was read: behind its name, how deep it may be, and what the rest of the element is
+record Begun (d : ℕ) (left : List Child) (t : Text) (c : Opened) (z : Text) : Type 0 where
+  behind : Text
+  opened-is : opening left t ≡ got c behind
+  deep : 0 < d
+  body-is : forget (element table d (c .name) behind) ≡ forget (body (element table (d - 1)) (rowIn table (c .name)) [] z)
+  ready-is : 0 < length z
+
+tag-begun : (d : ℕ) (left : List Child) (t : Text) (c : Opened) (u z : Text) (gs : List Given) → opening left t ≡ got c u
+    → attributes (length u) (rowIn table (c .name) .attributes) u ≡ got gs z → Begun (suc d) left t c z
+unfolding element
+tag-begun d left t c u z gs e q =
+    let n : suc d - 1 ≡ d = omega arith in
+    record {
+      behind = u;
+      opened-is = e;
+      deep = omega arith;
+      body-is = rw (q, n) (body-forgets (element table d) (rowIn table (c .name)) gs z);
+      ready-is = subst (λ (x : Read (List Given)). ready x) q (attributes-ready (length u) (rowIn table (c .name) .attributes) u);
+    }
+
+nothing-deep : (b : Opened) (u z : Text) (c : Opened) → tagged 0 b u ≡ got c z → ⊥
+unfolding tagged
+nothing-deep b u z c e = bad≢got e
+
+attributed : (d : ℕ) (b : Opened) (u z : Text) (c : Opened) (left : List Child) (t : Text) → opening left t ≡ got b u → tagged (suc d) b u ≡ got c z → Begun (suc d) left t c z
+unfolding tagged
+attributed d b u z c left t o e = go (attributes (length u) (rowIn table (b .name) .attributes) u) refl e
+  where
+    go : (x : Read (List Given)) → attributes (length u) (rowIn table (b .name) .attributes) u ≡ x → after x (λ _ r. got b r) ≡ got c z → Begun (suc d) left t c z
+    go (got gs r) q e =
+        let p : b ≡ c = got-value e in
+        let w : r ≡ z = got-rest e in
+        subst (λ (v : Opened). Begun (suc d) left t v z) p (subst (λ (v : Text). Begun (suc d) left t b v) w (tag-begun d left t b u r gs o q))
+    go (bad r) q e = absurd (bad≢got e)
+
+begun : (d : ℕ) (left : List Child) (t : Text) (c : Opened) (z : Text) → startRead d left t ≡ got c z → Begun d left t c z
+unfolding startRead
+begun d left t c z e = go (opening left t) refl e
+  where
+    at-once : (d : ℕ) (b : Opened) (u : Text) → opening left t ≡ got b u → tagged d b u ≡ got c z → Begun d left t c z
+    at-once zero b u o e = absurd (nothing-deep b u z c e)
+    at-once (suc d) b u o e = attributed d b u z c left t o e
+
+    go : (x : Read Opened) → opening left t ≡ x → after x (λ c r. tagged d c r) ≡ got c z → Begun d left t c z
+    go (got b u) o e = at-once d b u o e
+    go (bad u) o e = absurd (bad≢got e)
+
+pub start-ready : (d : ℕ) (left : List Child) (t : Text) (c : Opened) (z : Text) → startRead d left t ≡ got c z → 0 < length z
+start-ready d left t c z e = begun d left t c z e .ready-is
 
 -- ---- Content.
 
@@ -89,7 +175,7 @@ module _ (s : Text) (d id l i : ℕ) where
         unfolding turn
         at-end-tag e r a = record { read-is = a .read-is ∙ sym (here ∙ rw (tag, e)); inside = a .inside }
 
-        module _ (e : x && y ≡ false) (o : Start) (a : Opens s (opening (leftOf l) (drop j s)) o) where
+        module _ (e : x && y ≡ false) (o : Start) (a : Opens s (startRead d (leftOf l) (drop j s)) o) where
           opened : forget (turn d id l (length (drop i s)) (drop j s)) ≡ forget (after (opening (leftOf l) (drop j s)) (λ c u. after (element table d (c .name) u) (λ e z.
               after (content (element table d) (length (drop i s)) (nameOf id) (c .left) z) (λ es y. got (node (c .name) (e .given) (e .elements) es) y))))
           unfolding turn
@@ -97,34 +183,40 @@ module _ (s : Text) (d id l i : ℕ) where
 
           pub stopped : (k : ℕ) → o ≡ Stop k → Reads s (stepOf s) (contentRead d id l (drop i s)) (Bad k)
           stopped k z = record {
-            read-is = sym (here ∙ opened ∙ rw (sym (a .read-is), z));
+            read-is = sym (here ∙ opened ∙ start-bad d (leftOf l) (drop j s) (drop k s) (sym (a .read-is) ∙ rw z) (λ c e z.
+                after (content (element table d) (length (drop i s)) (nameOf id) (c .left) z) (λ es y. got (node (c .name) (e .given) (e .elements) es) y)));
             inside = subst (λ (k : Start). startAt k ≤ length s) z (a .inside);
           }
 
           module _ (k child more : ℕ) (z : o ≡ Inner k child more) where
-            start : opening (leftOf l) (drop j s) ≡ got (record { name = nameOf child; left = leftOf more }) (drop k s)
-            start = sym (a .read-is) ∙ rw z
+            start : Begun d (leftOf l) (drop j s) (record { name = nameOf child; left = leftOf more }) (drop k s)
+            start = begun d (leftOf l) (drop j s) (record { name = nameOf child; left = leftOf more }) (drop k s) (sym (a .read-is) ∙ rw z)
 
-            pub start-inside : k ≤ length s
-            start-inside = subst (λ (k : Start). startAt k ≤ length s) z (a .inside)
+            pub start-room : k + 1 ≤ length s
+            start-room = let h = start .ready-is in let u = length-drop k s in omega arith
 
-            inner : contentRead d id l (drop i s) ≡ forget (after (element table d (nameOf child) (drop k s)) (λ e z.
+            pub start-deep : 0 < d
+            start-deep = start .deep
+
+            inner : contentRead d id l (drop i s) ≡ forget (after (element table d (nameOf child) (start .behind)) (λ e z.
                 after (content (element table d) (length (drop i s)) (nameOf id) (leftOf more) z) (λ es y. got (node (nameOf child) (e .given) (e .elements) es) y)))
-            inner = here ∙ opened ∙ rw start
+            inner = here ∙ opened ∙ rw (start .opened-is)
 
-            module _ (r : Step) (b : Reads s (stepOf s) (elementRead d child (drop k s)) r) where
-              pub refused : (n : ℕ) → r ≡ Bad n → Reads s (stepOf s) (contentRead d id l (drop i s)) r
+            module _ (r : Step) (b : Reads s (stepOf s) (elementRead (d - 1) child (drop k s)) r) where
+              judged : forget (element table d (nameOf child) (start .behind)) ≡ stepOf s r
               unfolding elementRead
+              judged = start .body-is ∙ sym (b .read-is)
+
+              pub refused : (n : ℕ) → r ≡ Bad n → Reads s (stepOf s) (contentRead d id l (drop i s)) r
               refused n c = record {
-                read-is = ap (λ (x : Step). stepOf s x) c ∙ sym (inner ∙ on-bad (element table d (nameOf child) (drop k s)) (drop n s) (sym (b .read-is) ∙ rw c) (λ e z.
+                read-is = ap (λ (x : Step). stepOf s x) c ∙ sym (inner ∙ on-bad (element table d (nameOf child) (start .behind)) (drop n s) (judged ∙ rw c) (λ e z.
                     after (content (element table d) (length (drop i s)) (nameOf id) (leftOf more) z) (λ es y. got (node (nameOf child) (e .given) (e .elements) es) y)));
                 inside = b .inside;
               }
 
               module _ (n : ℕ) (c : r ≡ Next n) where
-                read : forget (element table d (nameOf child) (drop k s)) ≡ got tt (drop n s)
-                unfolding elementRead
-                read = sym (b .read-is) ∙ rw c
+                read : forget (element table d (nameOf child) (start .behind)) ≡ got tt (drop n s)
+                read = judged ∙ rw c
 
                 pub on-inside : n ≤ length s
                 on-inside = subst (λ (k : Step). placeOf k ≤ length s) c (b .inside)
@@ -133,8 +225,8 @@ module _ (s : Text) (d id l i : ℕ) where
                 shorter : length (drop n s) < length (drop i s)
                 shorter =
                     let f = below-got (misc (length (drop i s)) (drop i s)) tt (drop j s) (suc (length (drop i s))) (misc-below (length (drop i s)) (drop i s)) passed in
-                    let g = below-got (opening (leftOf l) (drop j s)) (record { name = nameOf child; left = leftOf more }) (drop k s) (length (drop j s)) (opening-below (leftOf l) (drop j s)) start in
-                    let h = below-forget (element table d (nameOf child) (drop k s)) (drop n s) (suc (length (drop k s))) (element-below table d (nameOf child) (drop k s)) read in
+                    let g = below-got (opening (leftOf l) (drop j s)) (record { name = nameOf child; left = leftOf more }) (start .behind) (length (drop j s)) (opening-below (leftOf l) (drop j s)) (start .opened-is) in
+                    let h = below-forget (element table d (nameOf child) (start .behind)) (drop n s) (suc (length (start .behind))) (element-below table d (nameOf child) (start .behind)) read in
                     omega arith
 
                 pub past : i < n
@@ -143,92 +235,47 @@ module _ (s : Text) (d id l i : ℕ) where
                 pub goes-on : contentRead d id l (drop i s) ≡ contentRead d id more (drop n s)
                 unfolding contentRead
                 goes-on =
-                    inner ∙ on-got (element table d (nameOf child) (drop k s)) (drop n s) read (λ e z.
+                    inner ∙ on-got (element table d (nameOf child) (start .behind)) (drop n s) read (λ e z.
                     after (content (element table d) (length (drop i s)) (nameOf id) (leftOf more) z) (λ es y. got (node (nameOf child) (e .given) (e .elements) es) y))
                     (forget (content (element table d) (suc (length (drop n s))) (nameOf id) (leftOf more) (drop n s)))
                     (λ e _. forget-on (content (element table d) (length (drop i s)) (nameOf id) (leftOf more) (drop n s)) (λ es. node (nameOf child) (e .given) (e .elements) es)
                     ∙ ap (λ x. forget x) (content-enough (element table d) (element-below table d) (length (drop i s)) (suc (length (drop n s))) (nameOf id) (leftOf more) (drop n s) shorter (omega arith)))
 
--- ---- An element.
+-- ---- An element, from the end of its start tag on.
 
-pub too-deep : (s : Text) (at d id : ℕ) → d ≡ 0 → bad (drop at s) ≡ elementRead d id (drop at s)
-unfolding elementRead element
-too-deep s at d id e = rw e
+module _ (s : Text) (at d id : ℕ) (room : at + 1 ≤ length s) (left : ℕ) (c : leftOf left ≡ rowIn table (nameOf id) .children) (x : Bool) (p : x ≡ starts (62 ∷ []) (drop at s)) where
+  opens : starts (text ">") (drop at s) ≡ x
+  unfolding text
+  opens = sym p
 
-module _ (s : Text) (at d id : ℕ) (deep : d ≡ 0 → ⊥) where
-  given : Read (List Given)
-  given = attributes (length (drop at s)) (rowIn table (nameOf id) .attributes) (drop at s)
+  pub with-content : x ≡ true → (r : Step) → Reads s (stepOf s) (contentRead d id left (drop (at + 1) s)) r → Reads s (stepOf s) (elementRead d id (drop at s)) r
+  unfolding contentRead elementRead
+  with-content e r a =
+      let l = length-drop at s in
+      let m = length-drop (at + 1) s in
+      let n : length (drop at s) ≡ suc (length (drop (at + 1) s)) = omega arith in
+      record {
+        read-is = a .read-is ∙ sym (rw (opens, e)
+            (forget-on (content (element table d) (length (drop at s)) (rowIn table (nameOf id) .name) (rowIn table (nameOf id) .children) (drop 1 (drop at s))) (λ es. record { given = []; elements = es })
+            ∙ rw (n, row-name table (nameOf id), sym c, drop-drop 1 at s)));
+        inside = a .inside;
+      }
 
-  reads : elementRead d id (drop at s) ≡ forget (after given (λ gs r. body (element table (d - 1)) (rowIn table (nameOf id)) gs r))
-  unfolding elementRead element given
-  reads = go d deep
-    where
-      go : (d : ℕ) → (d ≡ 0 → ⊥) → forget (element table d (nameOf id) (drop at s)) ≡ forget (after (attributes (length (drop at s)) (rowIn table (nameOf id) .attributes) (drop at s)) (λ gs r. body (element table (d - 1)) (rowIn table (nameOf id)) gs r))
-      go zero z = absurd (z refl)
-      go (suc d) z = let e : suc d - 1 ≡ d = omega arith in rw e
+  module _ (e : x ≡ false) (y : Bool) (w : y ≡ starts (62 ∷ []) (drop (at + 1) s)) where
+    pub slash-cut : not y ≡ true → bad (drop (at + 1) s) ≡ elementRead d id (drop at s)
+    unfolding text elementRead
+    slash-cut h = sym (rw (sym p, e, drop-drop 1 at s, one-not 62 (drop (at + 1) s) (sym w ∙ not-true y h)))
 
-  module _ (t : Step) (q : Reads s (stepOf s) (attributesRead (rowIn table (nameOf id) .attributes) (drop at s)) t) where
-    pub tag-refused : (p : ℕ) → t ≡ Bad p → Reads s (stepOf s) (elementRead d id (drop at s)) t
-    unfolding given attributesRead
-    tag-refused p v = record {
-      read-is = ap (λ (x : Step). stepOf s x) v ∙ sym (reads ∙ on-bad given (drop p s) (sym (q .read-is) ∙ rw v) (λ gs r. body (element table (d - 1)) (rowIn table (nameOf id)) gs r));
-      inside = q .inside;
-    }
+    module _ (h : not y ≡ false) (b : Bool) (z : b ≡ mayEnd (leftOf left)) where
+      pub slash-early : not b ≡ true → bad (drop at s) ≡ elementRead d id (drop at s)
+      unfolding text elementRead
+      slash-early k = sym (rw (sym p, e, drop-drop 1 at s, one-yes 62 (drop (at + 1) s) (sym w ∙ not-false y h) .0, sym c, sym z, not-true b k))
 
-    module _ (i : ℕ) (v : t ≡ Next i) where
-      pub tag-inside : i ≤ length s
-      tag-inside = subst (λ (k : Step). placeOf k ≤ length s) v (q .inside)
+      pub slash-done : not b ≡ false → got tt (drop (at + 2) s) ≡ elementRead d id (drop at s)
+      unfolding text elementRead
+      slash-done k =
+          let j : at + 1 + 1 ≡ at + 2 = omega arith in
+          sym (rw (sym p, e, drop-drop 1 at s, one-yes 62 (drop (at + 1) s) (sym w ∙ not-false y h) .0, sym c, sym z, not-false b k, drop-drop 1 (at + 1) s, j))
 
-      tagged : forget given ≡ got tt (drop i s)
-      unfolding given attributesRead
-      tagged = sym (q .read-is) ∙ rw v
-
-      pub tag-room : i + 1 ≤ length s
-      unfolding given
-      tag-room =
-          let h = ready-forget given (drop i s) (attributes-ready (length (drop at s)) (rowIn table (nameOf id) .attributes) (drop at s)) tagged in
-          let l = length-drop i s in
-          omega arith
-
-      -- all that is left is the same, whatever the attributes say
-      whole : (g : Read (Unit {0})) → ((gs : List Given) → forget (body (element table (d - 1)) (rowIn table (nameOf id)) gs (drop i s)) ≡ g) → elementRead d id (drop at s) ≡ g
-      whole g f = reads ∙ on-got given (drop i s) tagged (λ gs r. body (element table (d - 1)) (rowIn table (nameOf id)) gs r) g (λ gs _. f gs)
-
-      module _ (left : ℕ) (c : leftOf left ≡ rowIn table (nameOf id) .children) (x : Bool) (p : x ≡ starts (62 ∷ []) (drop i s)) where
-        opens : starts (text ">") (drop i s) ≡ x
-        unfolding text
-        opens = sym p
-
-        pub with-content : x ≡ true → (r : Step) → Reads s (stepOf s) (contentRead (d - 1) id left (drop (i + 1) s)) r → Reads s (stepOf s) (elementRead d id (drop at s)) r
-        unfolding contentRead
-        with-content e r a =
-            let room = tag-room in
-            let l = length-drop i s in
-            let m = length-drop (i + 1) s in
-            let n : length (drop i s) ≡ suc (length (drop (i + 1) s)) = omega arith in
-            record {
-              read-is = a .read-is ∙ sym (whole (forget (content (element table (d - 1)) (suc (length (drop (i + 1) s))) (nameOf id) (leftOf left) (drop (i + 1) s))) (λ gs.
-                  rw (opens, e)
-                  (forget-on (content (element table (d - 1)) (length (drop i s)) (rowIn table (nameOf id) .name) (rowIn table (nameOf id) .children) (drop 1 (drop i s))) (λ es. record { given = gs; elements = es })
-                  ∙ rw (n, row-name table (nameOf id), sym c, drop-drop 1 i s))));
-              inside = a .inside;
-            }
-
-        module _ (e : x ≡ false) (y : Bool) (w : y ≡ starts (62 ∷ []) (drop (i + 1) s)) where
-          pub slash-cut : not y ≡ true → bad (drop (i + 1) s) ≡ elementRead d id (drop at s)
-          unfolding text
-          slash-cut h = sym (whole (bad (drop (i + 1) s)) (λ gs. rw (sym p, e, drop-drop 1 i s, one-not 62 (drop (i + 1) s) (sym w ∙ not-true y h))))
-
-          module _ (h : not y ≡ false) (b : Bool) (z : b ≡ mayEnd (leftOf left)) where
-            pub slash-early : not b ≡ true → bad (drop i s) ≡ elementRead d id (drop at s)
-            unfolding text
-            slash-early k = sym (whole (bad (drop i s)) (λ gs. rw (sym p, e, drop-drop 1 i s, one-yes 62 (drop (i + 1) s) (sym w ∙ not-false y h) .0, sym c, sym z, not-true b k)))
-
-            pub slash-done : not b ≡ false → got tt (drop (i + 2) s) ≡ elementRead d id (drop at s)
-            unfolding text
-            slash-done k =
-                let j : i + 1 + 1 ≡ i + 2 = omega arith in
-                sym (whole (got tt (drop (i + 2) s)) (λ gs. rw (sym p, e, drop-drop 1 i s, one-yes 62 (drop (i + 1) s) (sym w ∙ not-false y h) .0, sym c, sym z, not-false b k, drop-drop 1 (i + 1) s, j)))
-
-            pub slash-room : i + 2 ≤ length s
-            slash-room = let o = one-yes 62 (drop (i + 1) s) (sym w ∙ not-false y h) .1 in let l = length-drop (i + 1) s in omega arith
+      pub slash-room : at + 2 ≤ length s
+      slash-room = let o = one-yes 62 (drop (at + 1) s) (sym w ∙ not-false y h) .1 in let l = length-drop (at + 1) s in omega arith

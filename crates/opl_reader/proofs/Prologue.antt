@@ -1,6 +1,6 @@
 -- What stands before the policy object, the policy object, and what stands behind it: readers one behind the other.
-use mathlib.Core.Path.{_≡_, refl, sym, _∙_, subst}
-use mathlib.Core.List.{[], _∷_}
+use mathlib.Core.Path.{_≡_, refl, sym, ap, _∙_, subst}
+use mathlib.Core.List.{List, [], _∷_}
 use mathlib.Core.Bool.{Bool, true, false, not, cond, _&&_}
 use Prim.Native.Nat.{ℕ, _+_, _-_, _<_, _≤_}
 use native.Mathlib.Omega.{arith}
@@ -10,19 +10,20 @@ use lib.Seq.{drop-drop}
 use borrow.Author.Tests.{not-true, not-false, eqb-true, eqb-false, eq-eqb, ne-eqb}
 use Rattle.paper_opl.specs.Reading.{Text, Read, after, text, same, starts, expect, white, behind, skip, space, misc, equals, value}
 use Rattle.paper_opl.specs.Reading.Read.{got, bad}
-use Rattle.paper_opl.specs.Elements.{elements as table, one}
-use Rattle.paper_opl.specs.Tree.{Opened, Inside, opening, element, pseudo, declaration, doctype, prolog, document}
+use Rattle.paper_opl.specs.Elements.{elements as table, rowIn, one}
+use Rattle.paper_opl.specs.Tree.{Given, Opened, Elements, Inside, attributes, opening, body, element, pseudo, declaration, doctype, prolog, document}
 use Rattle.paper_opl.specs.Tree.Elements.{nothing, node}
 use Rattle.paper_opl.proofs.Counts.{starts-le}
 use Rattle.opl_text.specs.declared.Step.{Step}
 use Rattle.opl_text.specs.declared.Step.the-variants.{Next, Bad}
 use Rattle.opl_text.specs.Steps.{Reads, stepOf, valueOf}
 use Rattle.opl_text.proofs.Same.{other-length, same-self}
-use Rattle.opl_table.specs.Numbers.{leftOf}
+use Rattle.opl_table.specs.Numbers.{nameOf, leftOf}
 use Rattle.opl_table.proofs.Rows.{document-left}
 use Rattle.opl_reader.specs.declared.Start.{Start}
 use Rattle.opl_reader.specs.declared.Start.the-variants.{Inner, Stop}
-use Rattle.opl_reader.specs.Grammar.{forget, startAt, Opens, elementRead, spacedRead, declaredRead, typedRead, rootRead}
+use Rattle.opl_reader.specs.Grammar.{forget, startAt, Opens, tagged, startRead, elementRead, spacedRead, declaredRead, typedRead, rootRead}
+use Rattle.opl_reader.proofs.Cycle.{body-forgets, start-ready}
 use Rattle.opl_reader.proofs.Chain.{moved, goes-on, halted, after-after, after-each}
 
 -- ---- A literal, "=", and this value.
@@ -247,18 +248,18 @@ last u = cond (same u []) (got tt u) (bad u)
 rest : Text → Read (Unit {0})
 rest r = after (misc (length r) r) (λ _ u. last u)
 
-module _ (s : Text) (at id : ℕ) (x : Step) (a : Reads s (stepOf s) (elementRead 8 id (drop at s)) x) where
-  root-is : rootRead id (drop at s) ≡ after (elementRead 8 id (drop at s)) (λ _ r. rest r)
+module _ (s : Text) (at id : ℕ) (x : Step) (a : Reads s (stepOf s) (elementRead 7 id (drop at s)) x) where
+  root-is : rootRead id (drop at s) ≡ after (elementRead 7 id (drop at s)) (λ _ r. rest r)
   unfolding rootRead rest last
   root-is = refl
 
   pub root-element : (p : ℕ) → x ≡ Bad p → Reads s (stepOf s) (rootRead id (drop at s)) x
-  root-element p e = moved root-is (halted s (stepOf s) (elementRead 8 id (drop at s)) x a p e refl (λ _ r. rest r))
+  root-element p e = moved root-is (halted s (stepOf s) (elementRead 7 id (drop at s)) x a p e refl (λ _ r. rest r))
 
   module _ (i : ℕ) (e : x ≡ Next i) (y : Step) (b : Reads s (stepOf s) (misc (length (drop i s)) (drop i s)) y) where
     to-rest : rootRead id (drop at s) ≡ after (misc (length (drop i s)) (drop i s)) (λ _ u. last u)
     unfolding rest
-    to-rest = root-is ∙ goes-on s (stepOf s) (elementRead 8 id (drop at s)) x a (Next i) e (λ _ r. rest r)
+    to-rest = root-is ∙ goes-on s (stepOf s) (elementRead 7 id (drop at s)) x a (Next i) e (λ _ r. rest r)
 
     pub root-misc : (p : ℕ) → y ≡ Bad p → Reads s (stepOf s) (rootRead id (drop at s)) y
     root-misc p f = moved to-rest (halted s (stepOf s) (misc (length (drop i s)) (drop i s)) y b p f refl (λ _ u. last u))
@@ -280,7 +281,7 @@ module _ (s : Text) (at id : ℕ) (x : Step) (a : Reads s (stepOf s) (elementRea
 
 -- the whole document, forgetting what it says
 whole : Opened → Text → Read (Unit {0})
-whole c u = after (forget (element table 8 (c .name) u)) (λ _ r. rest r)
+whole c u = after (forget (body (element table 7) (rowIn table (c .name)) [] u)) (λ _ r. rest r)
 
 forgets : (w : Text) (e : Inside) (u : Text) (x : Read (Unit {0})) → forget (after x (λ _ y. cond (same y []) (got (node w (e .given) (e .elements) nothing) y) (bad y))) ≡ after x (λ _ y. last y)
 unfolding last
@@ -291,31 +292,44 @@ forgets w e u (got v y) = go (same y [])
     go false = refl
 forgets w e u (bad y) = refl
 
-document-is : (s : Text) → forget (document s) ≡ after (prolog s) (λ _ r. after (opening (leftOf 1) r) (λ c u. whole c u))
-unfolding document whole rest
+module _ (c : Opened) where
+  ends : Inside → Text → Read Elements
+  ends e z = after (misc (length z) z) (λ _ y. cond (same y []) (got (node (c .name) (e .given) (e .elements) nothing) y) (bad y))
+
+  inner : (x : Read Inside) → forget (after x ends) ≡ after (forget x) (λ _ r. rest r)
+  unfolding ends rest
+  inner (got e z) = forgets (c .name) e z (misc (length z) z)
+  inner (bad z) = refl
+
+  attributed : (x : Read (List Given)) → forget (after (after x (λ gs r. body (element table 7) (rowIn table (c .name)) gs r)) ends) ≡ after (after x (λ _ r. got c r)) (λ c u. whole c u)
+  unfolding whole
+  attributed (got gs r) = inner (body (element table 7) (rowIn table (c .name)) gs r) ∙ ap (λ x. after x (λ _ r. rest r)) (body-forgets (element table 7) (rowIn table (c .name)) gs r)
+  attributed (bad r) = refl
+
+  tagged-is : (u : Text) → forget (after (element table 8 (c .name) u) ends) ≡ after (tagged 8 c u) (λ c u. whole c u)
+  unfolding element tagged
+  tagged-is u = attributed (attributes (length u) (rowIn table (c .name) .attributes) u)
+
+document-is : (s : Text) → forget (document s) ≡ after (prolog s) (λ _ r. after (startRead 8 (leftOf 1) r) (λ c u. whole c u))
+unfolding document startRead ends
 document-is s = rw document-left (go (prolog s))
   where
-    inner : (c : Opened) (x : Read Inside) → forget (after x (λ e z. after (misc (length z) z) (λ _ y. cond (same y []) (got (node (c .name) (e .given) (e .elements) nothing) y) (bad y)))) ≡ after (forget x) (λ _ r. after (misc (length r) r) (λ _ u. last u))
-    inner c (got e z) = forgets (c .name) e z (misc (length z) z)
-    inner c (bad z) = refl
-
-    outer : (x : Read Opened) → forget (after x (λ c u. after (element table 8 (c .name) u) (λ e z. after (misc (length z) z) (λ _ y. cond (same y []) (got (node (c .name) (e .given) (e .elements) nothing) y) (bad y)))))
-        ≡ after x (λ c u. after (forget (element table 8 (c .name) u)) (λ _ r. after (misc (length r) r) (λ _ u. last u)))
-    outer (got c u) = inner c (element table 8 (c .name) u)
+    outer : (x : Read Opened) → forget (after x (λ c u. after (element table 8 (c .name) u) (λ e z. ends c e z))) ≡ after (after x (λ c r. tagged 8 c r)) (λ c u. whole c u)
+    outer (got c u) = tagged-is c u
     outer (bad u) = refl
 
-    go : (x : Read (Unit {0})) → forget (after x (λ _ r. after (opening (one "policy_object" ∷ []) r) (λ c u. after (element table 8 (c .name) u) (λ e z. after (misc (length z) z) (λ _ y. cond (same y []) (got (node (c .name) (e .given) (e .elements) nothing) y) (bad y))))))
-        ≡ after x (λ _ r. after (opening (one "policy_object" ∷ []) r) (λ c u. after (forget (element table 8 (c .name) u)) (λ _ r. after (misc (length r) r) (λ _ u. last u))))
+    go : (x : Read (Unit {0})) → forget (after x (λ _ r. after (opening (one "policy_object" ∷ []) r) (λ c u. after (element table 8 (c .name) u) (λ e z. ends c e z))))
+        ≡ after x (λ _ r. after (after (opening (one "policy_object" ∷ []) r) (λ c r. tagged 8 c r)) (λ c u. whole c u))
     go (got v r) = outer (opening (one "policy_object" ∷ []) r)
     go (bad r) = refl
 
 module _ (s : Text) (x : Step) (a : Reads s (stepOf s) (prolog s) x) where
   pub document-prolog : (p : ℕ) → x ≡ Bad p → Reads s (stepOf s) (forget (document s)) x
-  document-prolog p e = moved (document-is s) (halted s (stepOf s) (prolog s) x a p e refl (λ _ r. after (opening (leftOf 1) r) (λ c u. whole c u)))
+  document-prolog p e = moved (document-is s) (halted s (stepOf s) (prolog s) x a p e refl (λ _ r. after (startRead 8 (leftOf 1) r) (λ c u. whole c u)))
 
-  module _ (i : ℕ) (e : x ≡ Next i) (o : Start) (b : Opens s (opening (leftOf 1) (drop i s)) o) where
-    to-opening : forget (document s) ≡ after (opening (leftOf 1) (drop i s)) (λ c u. whole c u)
-    to-opening = document-is s ∙ goes-on s (stepOf s) (prolog s) x a (Next i) e (λ _ r. after (opening (leftOf 1) r) (λ c u. whole c u))
+  module _ (i : ℕ) (e : x ≡ Next i) (o : Start) (b : Opens s (startRead 8 (leftOf 1) (drop i s)) o) where
+    to-opening : forget (document s) ≡ after (startRead 8 (leftOf 1) (drop i s)) (λ c u. whole c u)
+    to-opening = document-is s ∙ goes-on s (stepOf s) (prolog s) x a (Next i) e (λ _ r. after (startRead 8 (leftOf 1) r) (λ c u. whole c u))
 
     pub document-stop : (p : ℕ) → o ≡ Stop p → Reads s (stepOf s) (forget (document s)) (Bad p)
     document-stop p f = record {
@@ -323,8 +337,11 @@ module _ (s : Text) (x : Step) (a : Reads s (stepOf s) (prolog s) x) where
       inside = subst (λ (k : Start). startAt k ≤ length s) f (b .inside);
     }
 
-    pub document-inside : (k id more : ℕ) → o ≡ Inner k id more → k ≤ length s
-    document-inside k id more f = subst (λ (k : Start). startAt k ≤ length s) f (b .inside)
+    pub document-room : (k id more : ℕ) → o ≡ Inner k id more → k + 1 ≤ length s
+    document-room k id more f =
+        let h = start-ready 8 (leftOf 1) (drop i s) (record { name = nameOf id; left = leftOf more }) (drop k s) (sym (b .read-is) ∙ rw f) in
+        let l = length-drop k s in
+        omega arith
 
     pub document-root : (k id more : ℕ) → o ≡ Inner k id more → (r : Step) → Reads s (stepOf s) (rootRead id (drop k s)) r → Reads s (stepOf s) (forget (document s)) r
     unfolding whole rootRead elementRead rest last

@@ -1,13 +1,13 @@
 -- What the readers of attributes, tags, elements and contents answer, as the definitions have it. They judge, and forget what they read.
-use Prim.Native.Nat.{ℕ, suc, _≤_}
+use Prim.Native.Nat.{ℕ, zero, suc, _≤_}
 use mathlib.Core.Path.{_≡_}
 use mathlib.Core.Bool.{not, cond, _&&_}
 use mathlib.Core.List.{List, []}
 use lib.ListN.{length, drop}
 use Rattle.paper_opl.specs.Reading.{Text, text, Read, after, same, starts, expect, skip, space, misc, equals, value}
 use Rattle.paper_opl.specs.Reading.Read.{got, bad}
-use Rattle.paper_opl.specs.Elements.{Class, Attribute, elements}
-use Rattle.paper_opl.specs.Tree.{Opened, fits, without, attribute, attributes, content, element, declaration, doctype}
+use Rattle.paper_opl.specs.Elements.{Class, Attribute, Child, elements, rowIn}
+use Rattle.paper_opl.specs.Tree.{Opened, fits, without, attribute, attributes, opening, content, body, element, declaration, doctype}
 use Rattle.opl_table.specs.Numbers.{nameOf, leftOf, listOf}
 use Rattle.opl_reader.specs.declared.Taken.{Taken}
 use Rattle.opl_reader.specs.declared.Taken.the-variants.{Behind, Refused}
@@ -30,6 +30,10 @@ classed class more s = after (value s) (λ v r. cond (fits class v) (got more r)
 
 unfoldable pub valued : Class → List Attribute → Text → Read (List Attribute)
 valued class more s = after (equals s) (λ _ r. classed class more r)
+
+-- "=" and a value behind a name that may not be given, which stands at the text t
+unfoldable pub strange : Text → Text → Read (List Attribute)
+strange t s = after (equals s) (λ _ u. after (value u) (λ _ _. bad t))
 
 unfoldable pub attributesRead : List Attribute → Text → Read (Unit {0})
 attributesRead left s = forget (attributes (length s) left s)
@@ -60,10 +64,21 @@ pub record Opens (s : Text) (read : Read Opened) (r : Start) : Type 0 where
   pub read-is : openedOf s r ≡ read
   pub inside : startAt r ≤ length s
 
--- ---- An element from behind its name on, and the content of an element.
+-- the rest of a start tag, of an element that may be d deep
+unfoldable pub tagged : ℕ → Opened → Text → Read Opened
+tagged zero c s = bad s
+tagged (suc d) c s = after (attributes (length s) (rowIn elements (c .name) .attributes) s) (λ _ r. got c r)
+
+unfoldable pub taggedRead : ℕ → ℕ → ℕ → Text → Read Opened
+taggedRead d id more s = tagged d (record { name = nameOf id; left = leftOf more }) s
+
+unfoldable pub startRead : ℕ → List Child → Text → Read Opened
+startRead d left s = after (opening left s) (λ c r. tagged d c r)
+
+-- ---- An element from the end of its start tag on, and the content of an element.
 
 unfoldable pub elementRead : ℕ → ℕ → Text → Read (Unit {0})
-elementRead d id s = forget (element elements d (nameOf id) s)
+elementRead d id s = forget (body (element elements d) (rowIn elements (nameOf id)) [] s)
 
 unfoldable pub contentRead : ℕ → ℕ → ℕ → Text → Read (Unit {0})
 contentRead d id left s = forget (content (element elements d) (suc (length s)) (nameOf id) (leftOf left) s)
@@ -80,4 +95,4 @@ unfoldable pub typedRead : Text → Read (Unit {0})
 typedRead s = cond (starts (text "<!DOCTYPE") s) (after (doctype (drop 9 s)) (λ _ r. misc (length r) r)) (got tt s)
 
 unfoldable pub rootRead : ℕ → Text → Read (Unit {0})
-rootRead id s = after (elementRead 8 id s) (λ _ r. after (misc (length r) r) (λ _ u. cond (same u []) (got tt u) (bad u)))
+rootRead id s = after (elementRead 7 id s) (λ _ r. after (misc (length r) r) (λ _ u. cond (same u []) (got tt u) (bad u)))

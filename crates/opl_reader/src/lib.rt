@@ -9,7 +9,7 @@ ghost use Rattle.paper_opl.specs.Elements.Class.{number};
 ghost use Rattle.paper_opl.specs.Tree.{digit as digitOf, fits as fitsOf, opening as openingOf, ending as endingOf, pseudo as pseudoOf, declaration as declarationOf, doctype as doctypeOf, prolog as prologOf, document as documentOf};
 ghost use Rattle.opl_text.specs.Steps.{Reads, stepOf};
 ghost use Rattle.opl_table.specs.Numbers.{nameOf, leftOf, listOf, classOf};
-ghost use Rattle.opl_reader.specs.Grammar.{forget, classed, valued, remaining, attributesRead, Takes, Opens, elementRead, contentRead, spacedRead, declaredRead, typedRead, rootRead};
+ghost use Rattle.opl_reader.specs.Grammar.{forget, classed, valued, remaining, attributesRead, Takes, Opens, taggedRead, startRead, elementRead, contentRead, spacedRead, declaredRead, typedRead, rootRead, strange};
 use opl_table::Found;
 use opl_text::Step;
 
@@ -125,6 +125,24 @@ fn attribute_value(s: &[u8], at: usize, class: u64, more: u64) -> Taken
     }
 }
 
+// An attribute that may not be given, with its name at `name`: it is refused there when its value has been read whole.
+fn strange_value(s: &[u8], at: usize, name: usize) -> Taken
+    requires { ⌜ (at ≤ length (now s)) × (name ≤ length (now s)) ⌝ }
+    ensures { λ r. ⌜ Takes (now (s .entry)) (strange (drop name (now (s .entry))) (drop at (now (s .entry)))) r ⌝ }
+{
+    let q = equals(s, at);
+    match q {
+        Step::Bad(p) => Taken::Refused(p),
+        Step::Next(u) => {
+            let v = opl_text::read_value(s, u);
+            match v {
+                Step::Bad(p) => Taken::Refused(p),
+                Step::Next(_end) => Taken::Refused(name),
+            }
+        }
+    }
+}
+
 // An attribute, where these may be given.
 pub fn attribute(s: &[u8], at: usize, list: u64) -> Taken
     requires { ⌜ at ≤ length (now s) ⌝ }
@@ -136,7 +154,7 @@ pub fn attribute(s: &[u8], at: usize, list: u64) -> Taken
         Step::Next(e) => {
             let found = opl_table::attribute(opl_text::part(s, at, e), list);
             match found {
-                Found::Unknown => Taken::Refused(at),
+                Found::Unknown => strange_value(s, e, at),
                 Found::Known(class, more) => attribute_value(s, e, class, more),
             }
         }
@@ -183,8 +201,8 @@ pub fn tag_end(s: &[u8], at: usize, id: u64) -> Step
     attributes_end(s, at, opl_table::attributes(id))
 }
 
-// The start of an element at `at`.
-pub fn opening(s: &[u8], at: usize, left: u64) -> Start
+// The name at the start of an element at `at`.
+fn named(s: &[u8], at: usize, left: u64) -> Start
     requires { ⌜ at ≤ length (now s) ⌝ }
     ensures { λ r. ⌜ Opens (now (s .entry)) (openingOf (leftOf left) (drop at (now (s .entry)))) r ⌝ }
 {
@@ -207,6 +225,33 @@ pub fn opening(s: &[u8], at: usize, left: u64) -> Start
     }
 }
 
+// The rest of a start tag, from behind its name, of an element that may be d deep: up to the "/" or ">" that ends it.
+fn tagged(s: &[u8], at: usize, d: usize, id: u64, more: u64) -> Start
+    requires { ⌜ at ≤ length (now s) ⌝ }
+    ensures { λ r. ⌜ Opens (now (s .entry)) (taggedRead d id more (drop at (now (s .entry)))) r ⌝ }
+{
+    if d == 0 {
+        return Start::Stop(at);
+    }
+    let t = tag_end(s, at, id);
+    match t {
+        Step::Bad(p) => Start::Stop(p),
+        Step::Next(i) => Start::Inner(i, id, more),
+    }
+}
+
+// The start tag of an element that may be d deep.
+pub fn opening(s: &[u8], at: usize, d: usize, left: u64) -> Start
+    requires { ⌜ at ≤ length (now s) ⌝ }
+    ensures { λ r. ⌜ Opens (now (s .entry)) (startRead d (leftOf left) (drop at (now (s .entry)))) r ⌝ }
+{
+    let n = named(s, at, left);
+    match n {
+        Start::Stop(p) => Start::Stop(p),
+        Start::Inner(i, id, more) => tagged(s, i, d, id, more),
+    }
+}
+
 // The end tag at `at`.
 pub fn ending(s: &[u8], at: usize, id: u64, left: u64) -> Step
     requires { ⌜ at + 2 ≤ length (now s) ⌝ }
@@ -226,29 +271,22 @@ pub fn ending(s: &[u8], at: usize, id: u64, left: u64) -> Step
     Step::Next(i + 1)
 }
 
-// An element, from behind its name, at most d deep.
+// An element, from the "/" or ">" on that ends its start tag; elements in it at most d deep.
 pub fn element(s: &[u8], at: usize, d: usize, id: u64) -> Step
-    requires { ⌜ at ≤ length (now s) ⌝ }
+    requires { ⌜ at + 1 ≤ length (now s) ⌝ }
     ensures { λ r. ⌜ Reads (now (s .entry)) (stepOf (now (s .entry))) (elementRead d id (drop at (now (s .entry)))) r ⌝ }
 {
-    if d == 0 {
-        return Step::Bad(at);
-    }
-    let t = tag_end(s, at, id);
-    let Step::Next(i) = t else {
-        return t;
-    };
     let left = opl_table::first(id);
-    if opl_text::is_at(s, i, 62) {
-        return content(s, i + 1, d - 1, id, left);
+    if opl_text::is_at(s, at, 62) {
+        return content(s, at + 1, d, id, left);
     }
-    if !opl_text::is_at(s, i + 1, 62) {
-        return Step::Bad(i + 1);
+    if !opl_text::is_at(s, at + 1, 62) {
+        return Step::Bad(at + 1);
     }
     if !opl_table::may_end(left) {
-        return Step::Bad(i);
+        return Step::Bad(at);
     }
-    Step::Next(i + 2)
+    Step::Next(at + 2)
 }
 
 // What stands in an element, up to and with its end tag: elements at most d deep.
@@ -266,13 +304,13 @@ pub fn content(s: &[u8], at: usize, d: usize, id: u64, left: u64) -> Step
         if opl_text::is_at(s, j, 60) & opl_text::is_at(s, j + 1, 47) {
             return ending(s, j, id, l);
         }
-        let o = opening(s, j, l);
+        let o = opening(s, j, d, l);
         match o {
             Start::Stop(p) => {
                 return Step::Bad(p);
             }
             Start::Inner(k, child, more) => {
-                let r = element(s, k, d, child);
+                let r = element(s, k, d - 1, child);
                 let Step::Next(e) = r else {
                     return r;
                 };
@@ -413,17 +451,12 @@ pub fn prolog(s: &[u8]) -> Step
     typed(s, u)
 }
 
-// The policy object, from behind its name, with nothing behind it. Its tag is judged here first: called from two places, the attributes' reader stays a
-// function of its own when compiled, and its locals do not stand in every frame of the two readers that call each other.
+// The policy object, from the end of its start tag on, with nothing behind it.
 fn root(s: &[u8], at: usize, id: u64) -> Step
-    requires { ⌜ at ≤ length (now s) ⌝ }
+    requires { ⌜ at + 1 ≤ length (now s) ⌝ }
     ensures { λ r. ⌜ Reads (now (s .entry)) (stepOf (now (s .entry))) (rootRead id (drop at (now (s .entry)))) r ⌝ }
 {
-    let t = tag_end(s, at, id);
-    let Step::Next(_) = t else {
-        return t;
-    };
-    let e = element(s, at, 8, id);
+    let e = element(s, at, 7, id);
     let Step::Next(i) = e else {
         return e;
     };
@@ -445,7 +478,7 @@ pub fn document(s: &[u8]) -> Step
     let Step::Next(i) = p else {
         return p;
     };
-    let o = opening(s, i, 1);
+    let o = opening(s, i, 8, 1);
     match o {
         Start::Stop(at) => Step::Bad(at),
         Start::Inner(k, id, _) => root(s, k, id),

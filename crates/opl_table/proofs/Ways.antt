@@ -10,7 +10,8 @@ use Rattle.paper_lower.specs.Lists.Maybe.{none, just}
 use Rattle.paper_opl.specs.Reading.{Text, text, same}
 use Rattle.paper_opl.specs.Elements.{Attribute, Child, elements, needed, follow, next}
 use Rattle.paper_opl.specs.Tree.{find, without}
-use Rattle.opl_text.proofs.Same.{same-eq, same-swap}
+use Rattle.paper_opl.proofs.Conforms.{same-true}
+use Rattle.opl_text.proofs.Same.{same-swap}
 use Rattle.opl_table.specs.declared.Found.the-variants.{Known, Unknown}
 use Rattle.opl_table.specs.declared.Place.{Place}
 use Rattle.opl_table.specs.declared.Place.the-variants.{Here, Nowhere}
@@ -38,7 +39,7 @@ module _ {A : Type 0} (name : A → Text) (f : ℕ → A) (named : (k : ℕ) →
       go : (b : Bool) → same v (name (f k)) ≡ b → cond b (Here k) (placeOf v (k + 1) n) ≡ Here j
           → (placeOf v (k + 1) n ≡ Here j → (firstBy name (range f (k + 1) n) v ≡ just (f j)) × (v ≡ name (f j)))
           → (cond b (just (f k)) (firstBy name (range f (k + 1) n) v) ≡ just (f j)) × (v ≡ name (f j))
-      go true s e h = let q : k ≡ j = cc in (rw q, same-eq v (name (f k)) s ∙ rw q)
+      go true s e h = let q : k ≡ j = cc in (rw q, same-true v (name (f k)) s ∙ rw q)
       go false s e h = h e
 
   not-taken : (k n : ℕ) → placeOf v k n ≡ Nowhere → firstBy name (range f k n) v ≡ none

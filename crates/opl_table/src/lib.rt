@@ -1,7 +1,6 @@
 // The table of elements in code: which name may stand where, what may follow it, and which attributes an element has. Elements, names and what may
 // still stand are numbers, whose meaning specs/Numbers has. It rests on the paper's definitions and on the comparison of bytes.
 ghost use mathlib.Core.Path.{_≡_};
-ghost use mathlib.Core.List.{List, [], _∷_};
 ghost use Prim.Native.Nat.{_+_, _-_, _/_, _<_};
 ghost use Rattle.paper_lower.specs.Lists.{some};
 ghost use Rattle.paper_opl.specs.Reading.{same};

@@ -1,5 +1,5 @@
 -- Reading on by a byte: what the definitions read at a place is what they read a byte further on.
-use mathlib.Core.Path.{_≡_, refl, sym, ap, _∙_, subst}
+use mathlib.Core.Path.{_≡_, refl, sym, ap, _∙_}
 use mathlib.Core.List.{[], _∷_}
 use mathlib.Core.Bool.{Bool, true, false, not, cond, true≢false, false≢true, _&&_, _||_}
 use Prim.Native.Nat.{ℕ, zero, suc, _+_, _-_, _<_, _≤_}
@@ -10,32 +10,21 @@ use lib.Dec.{eqb}
 use lib.ListN.{length, getD, take, drop, drop-of-length-le, length-drop}
 use lib.Seq.{drop-cons, drop-drop}
 use borrow.Author.Tests.{eq-eqb, ne-eqb}
-use Rattle.paper_opl.specs.Reading.{Text, Read, run, behind, word, starts, expect, text, inValue, upTo, value, control, comment, closing, white, after, misc}
+use Rattle.paper_opl.specs.Reading.{Text, Read, run, behind, word, starts, expect, text, inValue, upTo, value, control, comment, closing, white, misc}
 use Rattle.paper_opl.specs.Reading.Read.{got, bad}
+use Rattle.paper_opl.proofs.Counts.{behind-le, below-of, comment-below, starts-le, misc-enough}
 
 pub drop-here : (s : Text) (i : ℕ) → i < length s → drop i s ≡ getD s i 0 ∷ drop (i + 1) s
 drop-here s i h = drop-cons s i 0 h ∙ rw add-one
 
--- what was read tells the text behind it
-isGot : {A : Type 0} → Read A → Bool
-isGot (got x s) = true
-isGot (bad s) = false
-
-rest : {A : Type 0} → Read A → Text
-rest (got x s) = s
-rest (bad s) = s
-
-pub bad≢got : {A : Type 0} {x : A} {s r : Text} → bad s ≡ got x r → ⊥
-unfolding isGot
-bad≢got e = false≢true (ap isGot e)
-
-pub got-same : {A : Type 0} {x y : A} {s r : Text} → got x s ≡ got y r → s ≡ r
-unfolding rest
-got-same e = ap rest e
+-- a refusal tells the text that it refuses
+refusedText : {A : Type 0} → Read A → Text
+refusedText (got x s) = s
+refusedText (bad s) = s
 
 pub bad-same : {A : Type 0} {s r : Text} → _≡_ {A = Read A} (bad s) (bad r) → s ≡ r
-unfolding rest
-bad-same e = ap rest e
+unfolding refusedText
+bad-same e = ap refusedText e
 
 -- ---- The bytes with a property, and the text behind them.
 
@@ -53,15 +42,6 @@ module _ (p : ℕ → Bool) (s : Text) (i : ℕ) where
   unfolding behind
   behind-more h true e n = rw (drop-here s i h, sym e)
   behind-more h false e n = absurd (true≢false n)
-
-le-either : (c : Bool) (t u : Text) (b : ℕ) → length u ≤ length t → length (cond c u (b ∷ t)) ≤ suc (length t)
-le-either true t u b h = omega arith
-le-either false t u b h = omega arith
-
-pub behind-le : (p : ℕ → Bool) (t : Text) → length (behind p t) ≤ length t
-unfolding behind
-behind-le p [] = omega arith
-behind-le p (b ∷ t) = le-either (p b) t (behind p t) b (behind-le p t)
 
 -- ---- A word: its bytes are those up to the place behind it.
 
@@ -247,34 +227,8 @@ module _ (s : Text) (i : ℕ) where
   closing-not w h n = rw (drop-here s i h, ne-eqb _ _ n)
 
 -- what is behind a comment is not longer
-closing-le : (w t r : Text) → closing w t ≡ got tt r → length r ≤ length t
-closing-le w [] r e = absurd (bad≢got e)
-closing-le w (b ∷ t) r e = go (eqb b 62) e
-  where
-    go : (c : Bool) → _≡_ {A = Read (Unit {0})} (cond c (got tt t) (bad w)) (got tt r) → length r ≤ suc (length t)
-    go true e = let k : length t ≤ suc (length t) = omega arith in subst (λ (x : Text). length x ≤ suc (length t)) (got-same e) k
-    go false e = absurd (bad≢got e)
-
 pub comment-le : (t r : Text) → comment t ≡ got tt r → length r ≤ length t
-unfolding comment
-comment-le [] r e = absurd (bad≢got e)
-comment-le (b ∷ t) r e = comment-either (starts (text "--") (b ∷ t)) (control b) b t r (comment-le t r) e
-  where
-    comment-either : (c d : Bool) (b : ℕ) (t r : Text) → (comment t ≡ got tt r → length r ≤ length t)
-        → _≡_ {A = Read (Unit {0})} (cond c (closing (b ∷ t) (drop 1 t)) (cond d (bad (b ∷ t)) (comment t))) (got tt r) → length r ≤ suc (length t)
-    comment-either true d b t r h e = let k = closing-le (b ∷ t) (drop 1 t) r e in let l = length-drop 1 t in omega arith
-    comment-either false true b t r h e = absurd (bad≢got e)
-    comment-either false false b t r h e = let k = h e in omega arith
-
-starts-le : (w t : Text) → starts w t ≡ true → length w ≤ length t
-unfolding starts
-starts-le [] t e = omega arith
-starts-le (c ∷ w) [] e = absurd (false≢true e)
-starts-le (c ∷ w) (b ∷ t) e = go (eqb c b) e (starts-le w t)
-  where
-    go : (d : Bool) → d && starts w t ≡ true → (starts w t ≡ true → length w ≤ length t) → suc (length w) ≤ suc (length t)
-    go true e h = let k = h e in omega arith
-    go false e h = absurd (false≢true e)
+comment-le t r e = let h = below-of e (comment-below t) in omega arith
 
 pub opening-le : (t : Text) → starts (text "<!--") t ≡ true → 4 ≤ length t
 unfolding text
@@ -305,31 +259,6 @@ skip-skip (b ∷ t) = go (white b) refl (skip-skip t)
     go : (c : Bool) → white b ≡ c → behind white (behind white t) ≡ behind white t → behind white (cond c (behind white t) (b ∷ t)) ≡ cond c (behind white t) (b ∷ t)
     go true e h = h
     go false e h = rw e
-
-pub misc-enough : (n m : ℕ) (t : Text) → length t ≤ n → length t ≤ m → misc n t ≡ misc m t
-unfolding misc behind starts text
-misc-enough zero zero t h l = refl
-misc-enough zero (suc m) [] h l = refl
-misc-enough zero (suc m) (b ∷ t) h l = absurd (omega arith)
-misc-enough (suc n) zero [] h l = refl
-misc-enough (suc n) zero (b ∷ t) h l = absurd (omega arith)
-misc-enough (suc n) (suc m) t h l = go (starts (text "<!--") (behind white t)) refl (λ r p q. misc-enough n m r p q)
-  where
-    past : (x : Read (Unit {0})) → ((r : Text) → x ≡ got tt r → misc n r ≡ misc m r) → after x (λ _ r. misc n r) ≡ after x (λ _ r. misc m r)
-    past (got tt r) f = f r refl
-    past (bad r) f = refl
-
-    go : (c : Bool) → starts (text "<!--") (behind white t) ≡ c → ((r : Text) → length r ≤ n → length r ≤ m → misc n r ≡ misc m r)
-        → cond c (after (comment (drop 4 (behind white t))) (λ _ r. misc n r)) (got tt (behind white t))
-        ≡ cond c (after (comment (drop 4 (behind white t))) (λ _ r. misc m r)) (got tt (behind white t))
-    go false e f = refl
-    go true e f =
-        past (comment (drop 4 (behind white t))) (λ r q.
-        let a = comment-le (drop 4 (behind white t)) r q in
-        let b = length-drop 4 (behind white t) in
-        let o = opening-le (behind white t) e in
-        let d = behind-le white t in
-        f r (omega arith) (omega arith))
 
 pub misc-skip : (n : ℕ) (t : Text) → length t ≤ n → misc n t ≡ misc n (behind white t)
 unfolding misc behind

@@ -10,10 +10,11 @@ use lib.Seq.{drop-drop}
 use borrow.Author.Tests.{not-true, not-false}
 use Rattle.paper_opl.specs.Reading.{Text, Read, after, starts, expect, inValue, run, behind, upTo, value}
 use Rattle.paper_opl.specs.Reading.Read.{got, bad}
+use Rattle.paper_opl.proofs.Inversion.{bad≢got}
 use Rattle.opl_text.specs.declared.Step.{Step}
 use Rattle.opl_text.specs.declared.Step.the-variants.{Next, Bad}
 use Rattle.opl_text.specs.Steps.{stepOf, valueOf, Reads}
-use Rattle.opl_text.proofs.Laws.{drop-here, one-not, one-yes, bad≢got}
+use Rattle.opl_text.proofs.Laws.{drop-here, one-not, one-yes}
 
 -- the first byte, and then the others
 first-then : (c : ℕ) (w t : Text) → expect (c ∷ w) t ≡ after (expect (c ∷ []) t) (λ _ r. expect w r)

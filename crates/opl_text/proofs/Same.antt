@@ -1,10 +1,9 @@
 -- Two texts compared byte by byte.
 use mathlib.Core.Path.{_≡_, refl, sym, ap, _∙_}
 use mathlib.Core.List.{[], _∷_}
-use mathlib.Core.Bool.{Bool, true, false, false≢true, _&&_}
-use Prim.Native.Nat.{ℕ, zero, suc, _+_, _-_, _<_, _≤_}
+use mathlib.Core.Bool.{Bool, true, false, _&&_}
+use Prim.Native.Nat.{ℕ, suc, _+_, _-_, _<_, _≤_}
 use native.Mathlib.Numerals.{add-one}
-use native.Mathlib.Omega.{arith}
 use lib.Dec.{eqb}
 use lib.ListN.{length, getD, drop, drop-of-length-le}
 use lib.Seq.{drop-cons}
@@ -37,19 +36,6 @@ module _ (v w : Text) (i : ℕ) (h : i < length v) (l : i < length w) where
 pub same-end : (v w : Text) (i : ℕ) → length v ≤ i → length w ≤ i → true ≡ same (drop i v) (drop i w)
 unfolding same
 same-end v w i h l = let e : drop i v ≡ [] = drop-of-length-le v h in let f : drop i w ≡ [] = drop-of-length-le w l in rw (e, f)
-
--- ---- Texts that are the same are equal.
-
-pub same-eq : (v w : Text) → same v w ≡ true → v ≡ w
-unfolding same
-same-eq [] [] e = refl
-same-eq [] (b ∷ w) e = absurd (false≢true e)
-same-eq (c ∷ v) [] e = absurd (false≢true e)
-same-eq (c ∷ v) (b ∷ w) e = go (eqb c b) refl e (same-eq v w)
-  where
-    go : (d : Bool) → eqb c b ≡ d → d && same v w ≡ true → (same v w ≡ true → v ≡ w) → c ∷ v ≡ b ∷ w
-    go true q e h = rw (eqb-true c b q, h e)
-    go false q e h = absurd (false≢true e)
 
 pub same-self : (v : Text) → same v v ≡ true
 unfolding same

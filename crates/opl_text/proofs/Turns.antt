@@ -6,10 +6,11 @@ use native.Mathlib.Omega.{arith}
 use lib.ListN.{length, drop, length-drop}
 use Rattle.paper_opl.specs.Reading.{Text, text, starts, white, behind, comment, misc}
 use Rattle.paper_opl.specs.Reading.Read.{got, bad}
+use Rattle.paper_opl.proofs.Counts.{misc-enough}
 use Rattle.opl_text.specs.declared.Step.{Step}
 use Rattle.opl_text.specs.declared.Step.the-variants.{Next, Bad}
 use Rattle.opl_text.specs.Steps.{stepOf, placeOf, Reads}
-use Rattle.opl_text.proofs.Laws.{skip-skip, misc-enough, misc-skip, misc-stop, misc-bad, misc-on, comment-le, opening-le, onward}
+use Rattle.opl_text.proofs.Laws.{skip-skip, misc-skip, misc-stop, misc-bad, misc-on, comment-le, opening-le, onward}
 
 pub next≢bad : {i p : ℕ} → Next i ≡ Bad p → ⊥
 next≢bad e = let z : _≡_ {A = ℕ} 0 1 = cc in absurd (omega arith)

@@ -128,9 +128,9 @@ stop (b ∷ s) r e = rw e
 plain-of : (left : List Attribute) (s : Text) (g : Given) (r : Text) → attribute left s ≡ got g r → plain s ≡ got g r
 unfolding attribute plain
 plain-of left s g r e =
-    on (name s) (λ w x p. on-found (find left w) (λ a o. on (equals x) (λ _ u q. on (value u) (λ v z t. on-test (fits (a .class) v)
-    (λ c. rw (p, q, t) (rw (p, o, q, t, c) at e)) (λ c. absurd (bad≢got (rw (p, o, q, t, c) at e))))
-    (λ z t. absurd (bad≢got (rw (p, o, q, t) at e)))) (λ u q. absurd (bad≢got (rw (p, o, q) at e)))) (λ o. absurd (bad≢got (rw (p, o) at e)))) (λ x p. absurd (bad≢got (rw p at e)))
+    on (name s) (λ w x p. on (equals x) (λ _ u q. on (value u) (λ v z t. on-found (find left w) (λ a o. on-test (fits (a .class) v)
+    (λ c. rw (p, q, t) (rw (p, q, t, o, c) at e)) (λ c. absurd (bad≢got (rw (p, q, t, o, c) at e))))
+    (λ o. absurd (bad≢got (rw (p, q, t, o) at e)))) (λ z t. absurd (bad≢got (rw (p, q, t) at e)))) (λ u q. absurd (bad≢got (rw (p, q) at e)))) (λ x p. absurd (bad≢got (rw p at e)))
 
 givens-of : (n : ℕ) (left : List Attribute) (s : Text) (gs : List Given) (r : Text) → attributes n left s ≡ got gs r → givens n s ≡ got gs r
 unfolding attributes givens

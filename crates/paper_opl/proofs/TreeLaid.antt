@@ -23,14 +23,14 @@ use Rattle.paper_opl.proofs.BytesLaid.{word-laid, expect-laid, starts-l
 attribute-laid : (left : List Attribute) (s : Text) (g : Given) (r : Text) → attribute left s ≡ got g r → (v : Value) × (v .value ≡ g .value) × (valueFits v ≡ true) × (s ≡ g .name ++ valueText v r)
 unfolding attribute
 attribute-laid left s g r e =
-    on (name s) (λ w x p. on-found (find left w) (λ a o. on (equals x) (λ _ u q. on (value u) (λ v z t. on-test (fits (a .class) v)
+    on (name s) (λ w x p. on (equals x) (λ _ u q. on (value u) (λ v z t. on-found (find left w) (λ a o. on-test (fits (a .class) v)
     (λ c.
-    let k = rw (p, o, q, t, c) at e in
+    let k = rw (p, q, t, o, c) at e in
     let n = word-laid inName s w x p in
     let l = equals-laid x u v z q t in
     rw (sym (got-value k), sym (got-rest k)) (l .value, l .value-is, l .fits, n .text-is ∙ ap (λ (y : Text). w ++ y) (l .text-is)))
-    (λ c. absurd (bad≢got (rw (p, o, q, t, c) at e))))
-    (λ z t. absurd (bad≢got (rw (p, o, q, t) at e)))) (λ u q. absurd (bad≢got (rw (p, o, q) at e)))) (λ o. absurd (bad≢got (rw (p, o) at e)))) (λ x p. absurd (bad≢got (rw p at e)))
+    (λ c. absurd (bad≢got (rw (p, q, t, o, c) at e))))
+    (λ o. absurd (bad≢got (rw (p, q, t, o) at e)))) (λ z t. absurd (bad≢got (rw (p, q, t) at e)))) (λ u q. absurd (bad≢got (rw (p, q) at e)))) (λ x p. absurd (bad≢got (rw p at e)))
 
 pub record Attributes (s : Text) (gs : List Given) (r : Text) : Type 0 where
   pub layout : List Attributed

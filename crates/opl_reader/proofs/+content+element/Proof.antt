@@ -1,16 +1,13 @@
 -- The two readers that call each other: the depth falls from one to the other, and the text in the loop over the content.
 use borrow.Author.Needs.{needs}
-use Prim.Native.Nat.{_+_, _*_}
-use mathlib.Core.Path.{_∙_}
+use Prim.Native.Nat.{_+_, _*_, _-_, _≤_}
+use mathlib.Core.Path.{_≡_, _∙_}
+use lib.ListN.{length, drop}
 use native.Mathlib.Omega.{arith}
 use denote.Ref.{now}
 use Rattle.opl_reader.specs.Grammar.{contentRead}
 use Rattle.opl_reader.proofs.Chain.{moved}
 use Rattle.opl_reader.proofs.Cycle as cy
-use Prim.Native.Nat.{_-_}
-use Prim.Native.Nat.{_≤_}
-use mathlib.Core.Path.{_≡_}
-use lib.ListN.{length, drop}
 use Prim.Native.Nat.{ℕ, _<_}
 use borrow.Fn.Kinds.{In}
 use borrow.Fn.PlainCycle.{Measures, is, falls, and}
@@ -21,20 +18,19 @@ use Rattle.opl_reader.proofs.element.Reads as element
 use Rattle.opl_reader.proofs.element.Kinds as element-kinds
 use Rattle.opl_reader.proofs.+content+element.Lts-element as element-lts
 use Rattle.opl_reader.proofs.ending.Reads as ending-reads
+use Rattle.opl_reader.proofs.opening.Reads as opening-reads
 use Rattle.opl_table.proofs.first.Reads as first-reads
 use Rattle.opl_table.proofs.may_end.Reads as may-end-reads
-use Rattle.opl_reader.proofs.opening.Reads as opening-reads
-use Rattle.opl_reader.proofs.tag_end.Reads as tag-end-reads
 use Rattle.opl_text.proofs.is_at.Reads as is-at-reads
 use Rattle.opl_text.proofs.skip_misc.Reads as skip-misc-reads
 use Rattle.opl_reader.proofs.+content+element.{statement}
 use Rattle.opl_reader.proofs.+content+element.Tie.{close}
 
 abbrev μ-content : Measures 1 content-kinds.ps ℕ
-μ-content κs a = 2 * a .1 .1 .0 + 1
+μ-content κs a = 2 * a .1 .1 .0
 
 abbrev μ-element : Measures 1 element-kinds.ps ℕ
-μ-element κs a = 2 * a .1 .1 .0
+μ-element κs a = 2 * a .1 .1 .0 + 1
 
 abbrev content-at : ℕ → In 1 content-kinds.ps
 content-at t = and 1 content-kinds.ps (is 1 content-kinds.ps μ-content t) content.Pre
@@ -250,6 +246,20 @@ content-enum-known-o-2 : (t : ℕ) → content-lts.Need-enum-known-o-2 (
 ) (content-at t) content.Post content-Inv-loop content-μ-loop
 content-enum-known-o-2 t c = search needs
 
+content-sub-element : (t : ℕ) → content-lts.Need-sub-element (
+  skip-misc-reads.Asked,
+  skip-misc-reads.Learnt,
+  is-at-reads.Asked,
+  is-at-reads.Learnt,
+  ending-reads.Asked,
+  ending-reads.Learnt,
+  opening-reads.Asked,
+  opening-reads.Learnt,
+  element-below t,
+  element.Post,
+) (content-at t) content.Post content-Inv-loop content-μ-loop
+content-sub-element t c = let h : 0 < c .before .before .before .before .before .before .before .before .before .before .before .before .before .before .args .d = cy.start-deep (now (c .before .before .before .before .before .before .before .before .before .before .before .before .before .before .args .s)) (c .before .before .before .before .before .before .before .before .before .before .before .before .before .before .args .d) (c .before .before .before .before .before .before .before .before .before .before .before .before .before .before .args .id) (c .before .before .before .before .before .before .before .before .before .before .before .before .loop .l) (c .before .before .before .before .before .before .before .before .before .before .before .before .loop .i) (c .before .before .before .before .before .before .before .before .before .before .skip-misc .result) (c .before .before .before .before .before .before .before .before .before .before .skip-misc .ensures) (c .before .before .before .before .before .before .before .before .m .given .0 .0) (c .before .before .before .before .before .before .before .before .m .given .1) (c .before .before .before .before .before .before .is-at .result) (c .before .before .before .before .before .is-at2 .result) (c .before .before .before .before .before .before .is-at .ensures) (c .before .before .before .before .before .is-at2 .ensures) (c .before .before .before .before .if1 .left) (c .before .before .before .opening .result) (c .before .before .before .opening .ensures) (c .before .o2 .given .0 .0) (c .before .o2 .given .0 .1 .0) (c .before .o2 .given .0 .1 .1 .0) (c .before .o2 .given .1) in search needs
+
 content-element-requires : (t : ℕ) → content-lts.Need-element-requires (
   skip-misc-reads.Asked,
   skip-misc-reads.Learnt,
@@ -262,7 +272,7 @@ content-element-requires : (t : ℕ) → content-lts.Need-element-requires (
   element-below t,
   element.Post,
 ) (content-at t) content.Post content-Inv-loop content-μ-loop
-content-element-requires t c κs = (search needs, cy.start-inside (now (c .before .before .before .before .before .before .before .before .before .before .before .before .before .before .args .s)) (c .before .before .before .before .before .before .before .before .before .before .before .before .before .before .args .d) (c .before .before .before .before .before .before .before .before .before .before .before .before .before .before .args .id) (c .before .before .before .before .before .before .before .before .before .before .before .before .loop .l) (c .before .before .before .before .before .before .before .before .before .before .before .before .loop .i) (c .before .before .before .before .before .before .before .before .before .before .skip-misc .result) (c .before .before .before .before .before .before .before .before .before .before .skip-misc .ensures) (c .before .before .before .before .before .before .before .before .m .given .0 .0) (c .before .before .before .before .before .before .before .before .m .given .1) (c .before .before .before .before .before .before .is-at .result) (c .before .before .before .before .before .is-at2 .result) (c .before .before .before .before .before .before .is-at .ensures) (c .before .before .before .before .before .is-at2 .ensures) (c .before .before .before .before .if1 .left) (c .before .before .before .opening .result) (c .before .before .before .opening .ensures) (c .before .o2 .given .0 .0) (c .before .o2 .given .0 .1 .0) (c .before .o2 .given .0 .1 .1 .0) (c .before .o2 .given .1))
+content-element-requires t c κs = (let h : 0 < c .before .before .before .before .before .before .before .before .before .before .before .before .before .before .args .d = cy.start-deep (now (c .before .before .before .before .before .before .before .before .before .before .before .before .before .before .args .s)) (c .before .before .before .before .before .before .before .before .before .before .before .before .before .before .args .d) (c .before .before .before .before .before .before .before .before .before .before .before .before .before .before .args .id) (c .before .before .before .before .before .before .before .before .before .before .before .before .loop .l) (c .before .before .before .before .before .before .before .before .before .before .before .before .loop .i) (c .before .before .before .before .before .before .before .before .before .before .skip-misc .result) (c .before .before .before .before .before .before .before .before .before .before .skip-misc .ensures) (c .before .before .before .before .before .before .before .before .m .given .0 .0) (c .before .before .before .before .before .before .before .before .m .given .1) (c .before .before .before .before .before .before .is-at .result) (c .before .before .before .before .before .is-at2 .result) (c .before .before .before .before .before .before .is-at .ensures) (c .before .before .before .before .before .is-at2 .ensures) (c .before .before .before .before .if1 .left) (c .before .before .before .opening .result) (c .before .before .before .opening .ensures) (c .before .o2 .given .0 .0) (c .before .o2 .given .0 .1 .0) (c .before .o2 .given .0 .1 .1 .0) (c .before .o2 .given .1) in search needs, cy.start-room (now (c .before .before .before .before .before .before .before .before .before .before .before .before .before .before .args .s)) (c .before .before .before .before .before .before .before .before .before .before .before .before .before .before .args .d) (c .before .before .before .before .before .before .before .before .before .before .before .before .before .before .args .id) (c .before .before .before .before .before .before .before .before .before .before .before .before .loop .l) (c .before .before .before .before .before .before .before .before .before .before .before .before .loop .i) (c .before .before .before .before .before .before .before .before .before .before .skip-misc .result) (c .before .before .before .before .before .before .before .before .before .before .skip-misc .ensures) (c .before .before .before .before .before .before .before .before .m .given .0 .0) (c .before .before .before .before .before .before .before .before .m .given .1) (c .before .before .before .before .before .before .is-at .result) (c .before .before .before .before .before .is-at2 .result) (c .before .before .before .before .before .before .is-at .ensures) (c .before .before .before .before .before .is-at2 .ensures) (c .before .before .before .before .if1 .left) (c .before .before .before .opening .result) (c .before .before .before .opening .ensures) (c .before .o2 .given .0 .0) (c .before .o2 .given .0 .1 .0) (c .before .o2 .given .0 .1 .1 .0) (c .before .o2 .given .1))
 
 content-enum-known-r : (t : ℕ) → content-lts.Need-enum-known-r (
   skip-misc-reads.Asked,
@@ -348,79 +358,7 @@ content-returns-5 : (t : ℕ) → content-lts.Need-returns-5 (
 ) (content-at t) content.Post content-Inv-loop content-μ-loop
 content-returns-5 t c = moved (c .before .loop .inv .1) (record { read-is = cy.at-end (now (c .before .before .before .args .s)) (c .before .before .before .args .d) (c .before .before .before .args .id) (c .before .loop .l) (c .before .loop .i) (c .loop-test .left); inside = c .before .loop .inv .0 })
 
-element-returns : (t : ℕ) → element-lts.Need-returns (
-  tag-end-reads.Asked,
-  tag-end-reads.Learnt,
-  first-reads.Asked,
-  first-reads.Learnt,
-  is-at-reads.Asked,
-  is-at-reads.Learnt,
-  content-below t,
-  content.Post,
-  may-end-reads.Asked,
-  may-end-reads.Learnt,
-) (element-at t) element.Post
-element-returns t c = record { read-is = cy.too-deep (now (c .before .before .args .s)) (c .before .before .args .at) (c .before .before .args .d) (c .before .before .args .id) (c .if1 .taken); inside = c .before .before .pre .1 }
-
-element-tag-end-requires : (t : ℕ) → element-lts.Need-tag-end-requires (
-  tag-end-reads.Asked,
-  tag-end-reads.Learnt,
-  first-reads.Asked,
-  first-reads.Learnt,
-  is-at-reads.Asked,
-  is-at-reads.Learnt,
-  content-below t,
-  content.Post,
-  may-end-reads.Asked,
-  may-end-reads.Learnt,
-) (element-at t) element.Post
-element-tag-end-requires t c κs = search needs
-
-element-enum-known-t : (t : ℕ) → element-lts.Need-enum-known-t (
-  tag-end-reads.Asked,
-  tag-end-reads.Learnt,
-  first-reads.Asked,
-  first-reads.Learnt,
-  is-at-reads.Asked,
-  is-at-reads.Learnt,
-  content-below t,
-  content.Post,
-  may-end-reads.Asked,
-  may-end-reads.Learnt,
-) (element-at t) element.Post
-element-enum-known-t t c = search needs
-
-element-enum-told : (t : ℕ) → element-lts.Need-enum-told (
-  tag-end-reads.Asked,
-  tag-end-reads.Learnt,
-  first-reads.Asked,
-  first-reads.Learnt,
-  is-at-reads.Asked,
-  is-at-reads.Learnt,
-  content-below t,
-  content.Post,
-  may-end-reads.Asked,
-  may-end-reads.Learnt,
-) (element-at t) element.Post
-element-enum-told t c = search needs
-
-element-returns-2 : (t : ℕ) → element-lts.Need-returns-2 (
-  tag-end-reads.Asked,
-  tag-end-reads.Learnt,
-  first-reads.Asked,
-  first-reads.Learnt,
-  is-at-reads.Asked,
-  is-at-reads.Learnt,
-  content-below t,
-  content.Post,
-  may-end-reads.Asked,
-  may-end-reads.Learnt,
-) (element-at t) element.Post
-element-returns-2 t c = cy.tag-refused (now (c .before .before .before .before .before .args .s)) (c .before .before .before .before .before .args .at) (c .before .before .before .before .before .args .d) (c .before .before .before .before .before .args .id) (c .before .before .before .if1 .left) (c .before .before .tag-end .result) (c .before .before .tag-end .ensures) _ (c .enum-told .given .1)
-
 element-first-requires : (t : ℕ) → element-lts.Need-first-requires (
-  tag-end-reads.Asked,
-  tag-end-reads.Learnt,
   first-reads.Asked,
   first-reads.Learnt,
   is-at-reads.Asked,
@@ -433,8 +371,6 @@ element-first-requires : (t : ℕ) → element-lts.Need-first-requires (
 element-first-requires t c κs = search needs
 
 element-is-at-requires : (t : ℕ) → element-lts.Need-is-at-requires (
-  tag-end-reads.Asked,
-  tag-end-reads.Learnt,
   first-reads.Asked,
   first-reads.Learnt,
   is-at-reads.Asked,
@@ -447,8 +383,6 @@ element-is-at-requires : (t : ℕ) → element-lts.Need-is-at-requires (
 element-is-at-requires t c κs = search needs
 
 element-add-content : (t : ℕ) → element-lts.Need-add-content (
-  tag-end-reads.Asked,
-  tag-end-reads.Learnt,
   first-reads.Asked,
   first-reads.Learnt,
   is-at-reads.Asked,
@@ -458,25 +392,9 @@ element-add-content : (t : ℕ) → element-lts.Need-add-content (
   may-end-reads.Asked,
   may-end-reads.Learnt,
 ) (element-at t) element.Post
-element-add-content t c = let h = cy.tag-room (now (c .before .before .before .before .before .before .before .before .before .args .s)) (c .before .before .before .before .before .before .before .before .before .args .at) (c .before .before .before .before .before .before .before .before .before .args .d) (c .before .before .before .before .before .before .before .before .before .args .id) (c .before .before .before .before .before .before .before .if1 .left) (c .before .before .before .before .before .before .tag-end .result) (c .before .before .before .before .before .before .tag-end .ensures) (c .before .before .before .before .t .given .0 .0) (c .before .before .before .before .t .given .1) in search needs
-
-element-sub-content : (t : ℕ) → element-lts.Need-sub-content (
-  tag-end-reads.Asked,
-  tag-end-reads.Learnt,
-  first-reads.Asked,
-  first-reads.Learnt,
-  is-at-reads.Asked,
-  is-at-reads.Learnt,
-  content-below t,
-  content.Post,
-  may-end-reads.Asked,
-  may-end-reads.Learnt,
-) (element-at t) element.Post
-element-sub-content t c = search needs
+element-add-content t c = let h = c .before .before .before .before .pre .1 in search needs
 
 element-content-requires : (t : ℕ) → element-lts.Need-content-requires (
-  tag-end-reads.Asked,
-  tag-end-reads.Learnt,
   first-reads.Asked,
   first-reads.Learnt,
   is-at-reads.Asked,
@@ -486,11 +404,9 @@ element-content-requires : (t : ℕ) → element-lts.Need-content-requires (
   may-end-reads.Asked,
   may-end-reads.Learnt,
 ) (element-at t) element.Post
-element-content-requires t c κs = (search needs, cy.tag-room (now (c .before .before .before .before .before .before .before .before .before .args .s)) (c .before .before .before .before .before .before .before .before .before .args .at) (c .before .before .before .before .before .before .before .before .before .args .d) (c .before .before .before .before .before .before .before .before .before .args .id) (c .before .before .before .before .before .before .before .if1 .left) (c .before .before .before .before .before .before .tag-end .result) (c .before .before .before .before .before .before .tag-end .ensures) (c .before .before .before .before .t .given .0 .0) (c .before .before .before .before .t .given .1))
+element-content-requires t c κs = (search needs, c .before .before .before .before .pre .1)
 
-element-returns-3 : (t : ℕ) → element-lts.Need-returns-3 (
-  tag-end-reads.Asked,
-  tag-end-reads.Learnt,
+element-returns : (t : ℕ) → element-lts.Need-returns (
   first-reads.Asked,
   first-reads.Learnt,
   is-at-reads.Asked,
@@ -500,11 +416,9 @@ element-returns-3 : (t : ℕ) → element-lts.Need-returns-3 (
   may-end-reads.Asked,
   may-end-reads.Learnt,
 ) (element-at t) element.Post
-element-returns-3 t c = cy.with-content (now (c .before .before .before .before .before .before .before .before .before .before .args .s)) (c .before .before .before .before .before .before .before .before .before .before .args .at) (c .before .before .before .before .before .before .before .before .before .before .args .d) (c .before .before .before .before .before .before .before .before .before .before .args .id) (c .before .before .before .before .before .before .before .before .if1 .left) (c .before .before .before .before .before .before .before .tag-end .result) (c .before .before .before .before .before .before .before .tag-end .ensures) (c .before .before .before .before .before .t .given .0 .0) (c .before .before .before .before .before .t .given .1) (c .before .before .before .first .result) (c .before .before .before .first .ensures) (c .before .before .is-at .result) (c .before .before .is-at .ensures) (c .before .if2 .taken) (c .content .result) (c .content .ensures)
+element-returns t c = cy.with-content (now (c .before .before .before .before .before .args .s)) (c .before .before .before .before .before .args .at) (c .before .before .before .before .before .args .d) (c .before .before .before .before .before .args .id) (c .before .before .before .before .before .pre .1) (c .before .before .before .first .result) (c .before .before .before .first .ensures) (c .before .before .is-at .result) (c .before .before .is-at .ensures) (c .before .if1 .taken) (c .content .result) (c .content .ensures)
 
 element-add-is-at : (t : ℕ) → element-lts.Need-add-is-at (
-  tag-end-reads.Asked,
-  tag-end-reads.Learnt,
   first-reads.Asked,
   first-reads.Learnt,
   is-at-reads.Asked,
@@ -514,11 +428,9 @@ element-add-is-at : (t : ℕ) → element-lts.Need-add-is-at (
   may-end-reads.Asked,
   may-end-reads.Learnt,
 ) (element-at t) element.Post
-element-add-is-at t c = let h = cy.tag-room (now (c .before .before .before .before .before .before .before .before .before .args .s)) (c .before .before .before .before .before .before .before .before .before .args .at) (c .before .before .before .before .before .before .before .before .before .args .d) (c .before .before .before .before .before .before .before .before .before .args .id) (c .before .before .before .before .before .before .before .if1 .left) (c .before .before .before .before .before .before .tag-end .result) (c .before .before .before .before .before .before .tag-end .ensures) (c .before .before .before .before .t .given .0 .0) (c .before .before .before .before .t .given .1) in search needs
+element-add-is-at t c = let h = c .before .before .before .before .pre .1 in search needs
 
 element-is-at-requires-2 : (t : ℕ) → element-lts.Need-is-at-requires-2 (
-  tag-end-reads.Asked,
-  tag-end-reads.Learnt,
   first-reads.Asked,
   first-reads.Learnt,
   is-at-reads.Asked,
@@ -530,9 +442,7 @@ element-is-at-requires-2 : (t : ℕ) → element-lts.Need-is-at-requires-2 (
 ) (element-at t) element.Post
 element-is-at-requires-2 t c κs = search needs
 
-element-add-t14 : (t : ℕ) → element-lts.Need-add-t14 (
-  tag-end-reads.Asked,
-  tag-end-reads.Learnt,
+element-add-t11 : (t : ℕ) → element-lts.Need-add-t11 (
   first-reads.Asked,
   first-reads.Learnt,
   is-at-reads.Asked,
@@ -542,11 +452,9 @@ element-add-t14 : (t : ℕ) → element-lts.Need-add-t14 (
   may-end-reads.Asked,
   may-end-reads.Learnt,
 ) (element-at t) element.Post
-element-add-t14 t c = let h = cy.tag-room (now (c .before .before .before .before .before .before .before .before .before .before .before .args .s)) (c .before .before .before .before .before .before .before .before .before .before .before .args .at) (c .before .before .before .before .before .before .before .before .before .before .before .args .d) (c .before .before .before .before .before .before .before .before .before .before .before .args .id) (c .before .before .before .before .before .before .before .before .before .if1 .left) (c .before .before .before .before .before .before .before .before .tag-end .result) (c .before .before .before .before .before .before .before .before .tag-end .ensures) (c .before .before .before .before .before .before .t .given .0 .0) (c .before .before .before .before .before .before .t .given .1) in search needs
+element-add-t11 t c = let h = c .before .before .before .before .before .before .pre .1 in search needs
 
-element-returns-4 : (t : ℕ) → element-lts.Need-returns-4 (
-  tag-end-reads.Asked,
-  tag-end-reads.Learnt,
+element-returns-2 : (t : ℕ) → element-lts.Need-returns-2 (
   first-reads.Asked,
   first-reads.Learnt,
   is-at-reads.Asked,
@@ -556,11 +464,9 @@ element-returns-4 : (t : ℕ) → element-lts.Need-returns-4 (
   may-end-reads.Asked,
   may-end-reads.Learnt,
 ) (element-at t) element.Post
-element-returns-4 t c = record { read-is = cy.slash-cut (now (c .before .before .before .before .before .before .before .before .before .before .before .args .s)) (c .before .before .before .before .before .before .before .before .before .before .before .args .at) (c .before .before .before .before .before .before .before .before .before .before .before .args .d) (c .before .before .before .before .before .before .before .before .before .before .before .args .id) (c .before .before .before .before .before .before .before .before .before .if1 .left) (c .before .before .before .before .before .before .before .before .tag-end .result) (c .before .before .before .before .before .before .before .before .tag-end .ensures) (c .before .before .before .before .before .before .t .given .0 .0) (c .before .before .before .before .before .before .t .given .1) (c .before .before .before .before .first .result) (c .before .before .before .before .first .ensures) (c .before .before .before .is-at .result) (c .before .before .before .is-at .ensures) (c .before .before .if2 .left) (c .before .is-at2 .result) (c .before .is-at2 .ensures) (c .if3 .taken); inside = cy.tag-room (now (c .before .before .before .before .before .before .before .before .before .before .before .args .s)) (c .before .before .before .before .before .before .before .before .before .before .before .args .at) (c .before .before .before .before .before .before .before .before .before .before .before .args .d) (c .before .before .before .before .before .before .before .before .before .before .before .args .id) (c .before .before .before .before .before .before .before .before .before .if1 .left) (c .before .before .before .before .before .before .before .before .tag-end .result) (c .before .before .before .before .before .before .before .before .tag-end .ensures) (c .before .before .before .before .before .before .t .given .0 .0) (c .before .before .before .before .before .before .t .given .1) }
+element-returns-2 t c = record { read-is = cy.slash-cut (now (c .before .before .before .before .before .before .args .s)) (c .before .before .before .before .before .before .args .at) (c .before .before .before .before .before .before .args .d) (c .before .before .before .before .before .before .args .id) (c .before .before .before .before .before .before .pre .1) (c .before .before .before .before .first .result) (c .before .before .before .before .first .ensures) (c .before .before .before .is-at .result) (c .before .before .before .is-at .ensures) (c .before .before .if1 .left) (c .before .is-at2 .result) (c .before .is-at2 .ensures) (c .if2 .taken); inside = c .before .before .before .before .before .before .pre .1 }
 
 element-may-end-requires : (t : ℕ) → element-lts.Need-may-end-requires (
-  tag-end-reads.Asked,
-  tag-end-reads.Learnt,
   first-reads.Asked,
   first-reads.Learnt,
   is-at-reads.Asked,
@@ -572,9 +478,7 @@ element-may-end-requires : (t : ℕ) → element-lts.Need-may-end-requires (
 ) (element-at t) element.Post
 element-may-end-requires t c κs = search needs
 
-element-returns-5 : (t : ℕ) → element-lts.Need-returns-5 (
-  tag-end-reads.Asked,
-  tag-end-reads.Learnt,
+element-returns-3 : (t : ℕ) → element-lts.Need-returns-3 (
   first-reads.Asked,
   first-reads.Learnt,
   is-at-reads.Asked,
@@ -584,11 +488,9 @@ element-returns-5 : (t : ℕ) → element-lts.Need-returns-5 (
   may-end-reads.Asked,
   may-end-reads.Learnt,
 ) (element-at t) element.Post
-element-returns-5 t c = record { read-is = cy.slash-early (now (c .before .before .before .before .before .before .before .before .before .before .before .before .before .args .s)) (c .before .before .before .before .before .before .before .before .before .before .before .before .before .args .at) (c .before .before .before .before .before .before .before .before .before .before .before .before .before .args .d) (c .before .before .before .before .before .before .before .before .before .before .before .before .before .args .id) (c .before .before .before .before .before .before .before .before .before .before .before .if1 .left) (c .before .before .before .before .before .before .before .before .before .before .tag-end .result) (c .before .before .before .before .before .before .before .before .before .before .tag-end .ensures) (c .before .before .before .before .before .before .before .before .t .given .0 .0) (c .before .before .before .before .before .before .before .before .t .given .1) (c .before .before .before .before .before .before .first .result) (c .before .before .before .before .before .before .first .ensures) (c .before .before .before .before .before .is-at .result) (c .before .before .before .before .before .is-at .ensures) (c .before .before .before .before .if2 .left) (c .before .before .before .is-at2 .result) (c .before .before .before .is-at2 .ensures) (c .before .before .if3 .left) (c .before .may-end .result) (c .before .may-end .ensures) (c .if4 .taken); inside = cy.tag-inside (now (c .before .before .before .before .before .before .before .before .before .before .before .before .before .args .s)) (c .before .before .before .before .before .before .before .before .before .before .before .before .before .args .at) (c .before .before .before .before .before .before .before .before .before .before .before .before .before .args .d) (c .before .before .before .before .before .before .before .before .before .before .before .before .before .args .id) (c .before .before .before .before .before .before .before .before .before .before .before .if1 .left) (c .before .before .before .before .before .before .before .before .before .before .tag-end .result) (c .before .before .before .before .before .before .before .before .before .before .tag-end .ensures) (c .before .before .before .before .before .before .before .before .t .given .0 .0) (c .before .before .before .before .before .before .before .before .t .given .1) }
+element-returns-3 t c = record { read-is = cy.slash-early (now (c .before .before .before .before .before .before .before .before .args .s)) (c .before .before .before .before .before .before .before .before .args .at) (c .before .before .before .before .before .before .before .before .args .d) (c .before .before .before .before .before .before .before .before .args .id) (c .before .before .before .before .before .before .before .before .pre .1) (c .before .before .before .before .before .before .first .result) (c .before .before .before .before .before .before .first .ensures) (c .before .before .before .before .before .is-at .result) (c .before .before .before .before .before .is-at .ensures) (c .before .before .before .before .if1 .left) (c .before .before .before .is-at2 .result) (c .before .before .before .is-at2 .ensures) (c .before .before .if2 .left) (c .before .may-end .result) (c .before .may-end .ensures) (c .if3 .taken); inside = let h = c .before .before .before .before .before .before .before .before .pre .1 in omega arith }
 
-element-add-t12 : (t : ℕ) → element-lts.Need-add-t12 (
-  tag-end-reads.Asked,
-  tag-end-reads.Learnt,
+element-add-t9 : (t : ℕ) → element-lts.Need-add-t9 (
   first-reads.Asked,
   first-reads.Learnt,
   is-at-reads.Asked,
@@ -598,11 +500,9 @@ element-add-t12 : (t : ℕ) → element-lts.Need-add-t12 (
   may-end-reads.Asked,
   may-end-reads.Learnt,
 ) (element-at t) element.Post
-element-add-t12 t c = let h = cy.slash-room (now (c .before .before .before .before .before .before .before .before .before .before .before .before .before .args .s)) (c .before .before .before .before .before .before .before .before .before .before .before .before .before .args .at) (c .before .before .before .before .before .before .before .before .before .before .before .before .before .args .d) (c .before .before .before .before .before .before .before .before .before .before .before .before .before .args .id) (c .before .before .before .before .before .before .before .before .before .before .before .if1 .left) (c .before .before .before .before .before .before .before .before .before .before .tag-end .result) (c .before .before .before .before .before .before .before .before .before .before .tag-end .ensures) (c .before .before .before .before .before .before .before .before .t .given .0 .0) (c .before .before .before .before .before .before .before .before .t .given .1) (c .before .before .before .before .before .before .first .result) (c .before .before .before .before .before .before .first .ensures) (c .before .before .before .before .before .is-at .result) (c .before .before .before .before .before .is-at .ensures) (c .before .before .before .before .if2 .left) (c .before .before .before .is-at2 .result) (c .before .before .before .is-at2 .ensures) (c .before .before .if3 .left) (c .before .may-end .result) (c .before .may-end .ensures) in search needs
+element-add-t9 t c = let h = cy.slash-room (now (c .before .before .before .before .before .before .before .before .args .s)) (c .before .before .before .before .before .before .before .before .args .at) (c .before .before .before .before .before .before .before .before .args .d) (c .before .before .before .before .before .before .before .before .args .id) (c .before .before .before .before .before .before .before .before .pre .1) (c .before .before .before .before .before .before .first .result) (c .before .before .before .before .before .before .first .ensures) (c .before .before .before .before .before .is-at .result) (c .before .before .before .before .before .is-at .ensures) (c .before .before .before .before .if1 .left) (c .before .before .before .is-at2 .result) (c .before .before .before .is-at2 .ensures) (c .before .before .if2 .left) (c .before .may-end .result) (c .before .may-end .ensures) in search needs
 
-element-returns-6 : (t : ℕ) → element-lts.Need-returns-6 (
-  tag-end-reads.Asked,
-  tag-end-reads.Learnt,
+element-returns-4 : (t : ℕ) → element-lts.Need-returns-4 (
   first-reads.Asked,
   first-reads.Learnt,
   is-at-reads.Asked,
@@ -612,7 +512,7 @@ element-returns-6 : (t : ℕ) → element-lts.Need-returns-6 (
   may-end-reads.Asked,
   may-end-reads.Learnt,
 ) (element-at t) element.Post
-element-returns-6 t c = record { read-is = cy.slash-done (now (c .before .before .before .before .before .before .before .before .before .before .before .before .before .args .s)) (c .before .before .before .before .before .before .before .before .before .before .before .before .before .args .at) (c .before .before .before .before .before .before .before .before .before .before .before .before .before .args .d) (c .before .before .before .before .before .before .before .before .before .before .before .before .before .args .id) (c .before .before .before .before .before .before .before .before .before .before .before .if1 .left) (c .before .before .before .before .before .before .before .before .before .before .tag-end .result) (c .before .before .before .before .before .before .before .before .before .before .tag-end .ensures) (c .before .before .before .before .before .before .before .before .t .given .0 .0) (c .before .before .before .before .before .before .before .before .t .given .1) (c .before .before .before .before .before .before .first .result) (c .before .before .before .before .before .before .first .ensures) (c .before .before .before .before .before .is-at .result) (c .before .before .before .before .before .is-at .ensures) (c .before .before .before .before .if2 .left) (c .before .before .before .is-at2 .result) (c .before .before .before .is-at2 .ensures) (c .before .before .if3 .left) (c .before .may-end .result) (c .before .may-end .ensures) (c .if4 .left); inside = cy.slash-room (now (c .before .before .before .before .before .before .before .before .before .before .before .before .before .args .s)) (c .before .before .before .before .before .before .before .before .before .before .before .before .before .args .at) (c .before .before .before .before .before .before .before .before .before .before .before .before .before .args .d) (c .before .before .before .before .before .before .before .before .before .before .before .before .before .args .id) (c .before .before .before .before .before .before .before .before .before .before .before .if1 .left) (c .before .before .before .before .before .before .before .before .before .before .tag-end .result) (c .before .before .before .before .before .before .before .before .before .before .tag-end .ensures) (c .before .before .before .before .before .before .before .before .t .given .0 .0) (c .before .before .before .before .before .before .before .before .t .given .1) (c .before .before .before .before .before .before .first .result) (c .before .before .before .before .before .before .first .ensures) (c .before .before .before .before .before .is-at .result) (c .before .before .before .before .before .is-at .ensures) (c .before .before .before .before .if2 .left) (c .before .before .before .is-at2 .result) (c .before .before .before .is-at2 .ensures) (c .before .before .if3 .left) (c .before .may-end .result) (c .before .may-end .ensures) }
+element-returns-4 t c = record { read-is = cy.slash-done (now (c .before .before .before .before .before .before .before .before .args .s)) (c .before .before .before .before .before .before .before .before .args .at) (c .before .before .before .before .before .before .before .before .args .d) (c .before .before .before .before .before .before .before .before .args .id) (c .before .before .before .before .before .before .before .before .pre .1) (c .before .before .before .before .before .before .first .result) (c .before .before .before .before .before .before .first .ensures) (c .before .before .before .before .before .is-at .result) (c .before .before .before .before .before .is-at .ensures) (c .before .before .before .before .if1 .left) (c .before .before .before .is-at2 .result) (c .before .before .before .is-at2 .ensures) (c .before .before .if2 .left) (c .before .may-end .result) (c .before .may-end .ensures) (c .if3 .left); inside = cy.slash-room (now (c .before .before .before .before .before .before .before .before .args .s)) (c .before .before .before .before .before .before .before .before .args .at) (c .before .before .before .before .before .before .before .before .args .d) (c .before .before .before .before .before .before .before .before .args .id) (c .before .before .before .before .before .before .before .before .pre .1) (c .before .before .before .before .before .before .first .result) (c .before .before .before .before .before .before .first .ensures) (c .before .before .before .before .before .is-at .result) (c .before .before .before .before .before .is-at .ensures) (c .before .before .before .before .if1 .left) (c .before .before .before .is-at2 .result) (c .before .before .before .is-at2 .ensures) (c .before .before .if2 .left) (c .before .may-end .result) (c .before .may-end .ensures) }
 
 pub +content+element-spec : {M : Type 1} → statement M
 +content+element-spec = close μ-content μ-element (λ t. content-lts.spec (
@@ -645,6 +545,7 @@ pub +content+element-spec : {M : Type 1} → statement M
     (content-enum-known-o t)
     (content-returns-3 t)
     (content-enum-known-o-2 t)
+    (content-sub-element t)
     (content-element-requires t)
     (content-enum-known-r t)
     (content-enum-told-2 t)
@@ -653,8 +554,6 @@ pub +content+element-spec : {M : Type 1} → statement M
     (content-loop-again t)
     (content-returns-5 t))
     λ t. element-lts.spec (
-      tag-end-reads.Asked,
-      tag-end-reads.Learnt,
       first-reads.Asked,
       first-reads.Learnt,
       is-at-reads.Asked,
@@ -666,22 +565,16 @@ pub +content+element-spec : {M : Type 1} → statement M
     )
     (element-at t)
     element.Post
-    (element-returns t)
-    (element-tag-end-requires t)
-    (element-enum-known-t t)
-    (element-enum-told t)
-    (element-returns-2 t)
     (element-first-requires t)
     (element-is-at-requires t)
     (element-add-content t)
-    (element-sub-content t)
     (element-content-requires t)
-    (element-returns-3 t)
+    (element-returns t)
     (element-add-is-at t)
     (element-is-at-requires-2 t)
-    (element-add-t14 t)
-    (element-returns-4 t)
+    (element-add-t11 t)
+    (element-returns-2 t)
     (element-may-end-requires t)
-    (element-returns-5 t)
-    (element-add-t12 t)
-    (element-returns-6 t)
+    (element-returns-3 t)
+    (element-add-t9 t)
+    (element-returns-4 t)

@@ -1,9 +1,8 @@
 -- "=", and the value behind it.
 use denote.Ref.{now}
-use Prim.Native.Nat.{_-_}
 use lib.ListN.{drop}
 use Rattle.opl_text.specs.Steps.{stepOf}
-use Rattle.paper_opl.specs.Reading.{equals, value}
+use Rattle.paper_opl.specs.Reading.{equals}
 use Rattle.opl_reader.proofs.Chain.{within}
 use Rattle.opl_reader.proofs.Attributes.{value-bad, value-on}
 use borrow.Author.Needs.{needs}

@@ -1,8 +1,6 @@
 -- The value between its quotes, judged by its class.
 use denote.Ref.{now}
 use native.Mathlib.Omega.{arith}
-use Prim.Native.Nat.{_-_}
-use Rattle.paper_opl.specs.Reading.{value}
 use Rattle.opl_text.proofs.Literals.{value-room}
 use Rattle.opl_reader.proofs.Attributes.{class-bad, class-not, class-yes}
 use borrow.Author.Needs.{needs}

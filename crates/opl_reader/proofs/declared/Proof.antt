@@ -1,7 +1,6 @@
 -- The declaration has begun where white space stands behind "<?xml".
 use denote.Ref.{now}
-use Prim.Native.Nat.{_-_, _<_}
-use Rattle.paper_opl.specs.Reading.{text, space}
+use Rattle.paper_opl.specs.Reading.{text}
 use Rattle.paper_opl.specs.Tree.{declaration}
 use Rattle.opl_reader.proofs.Prologue.{undeclared, declared-room, declared-other, declared-on}
 use borrow.Author.Needs.{needs}

@@ -1,11 +1,10 @@
 -- The prolog, the start of the policy object, and the rest.
 use borrow.Author.Needs.{needs}
 use denote.Ref.{now}
-use Prim.Native.Nat.{_-_}
 use Rattle.opl_text.specs.Steps.{stepOf}
 use Rattle.paper_opl.specs.Tree.{prolog}
 use Rattle.opl_reader.proofs.Chain.{within}
-use Rattle.opl_reader.proofs.Prologue.{document-prolog, document-stop, document-inside, document-root}
+use Rattle.opl_reader.proofs.Prologue.{document-prolog, document-stop, document-room, document-root}
 use Rattle.opl_reader.proofs.document.Statement.{statement}
 use Rattle.opl_reader.proofs.document.Tie as tie
 
@@ -31,7 +30,7 @@ enum-known-o-2 : tie.Need-enum-known-o-2
 enum-known-o-2 c = search needs
 
 root-requires : tie.Need-root-requires
-root-requires c κs = document-inside (now (c .before .before .before .before .before .before .before .before .before .args .s)) (c .before .before .before .before .before .before .before .prolog .result) (c .before .before .before .before .before .before .before .prolog .ensures) (c .before .before .before .before .before .p .given .0 .0) (c .before .before .before .before .before .p .given .1) (c .before .before .before .opening .result) (c .before .before .before .opening .ensures) _ _ _ (c .before .o2 .given .1)
+root-requires c κs = document-room (now (c .before .before .before .before .before .before .before .before .before .args .s)) (c .before .before .before .before .before .before .before .prolog .result) (c .before .before .before .before .before .before .before .prolog .ensures) (c .before .before .before .before .before .p .given .0 .0) (c .before .before .before .before .before .p .given .1) (c .before .before .before .opening .result) (c .before .before .before .opening .ensures) _ _ _ (c .before .o2 .given .1)
 
 returns-2 : tie.Need-returns-2
 returns-2 c = document-stop (now (c .before .before .before .before .before .before .before .before .before .args .s)) (c .before .before .before .before .before .before .before .prolog .result) (c .before .before .before .before .before .before .before .prolog .ensures) (c .before .before .before .before .before .p .given .0 .0) (c .before .before .before .before .before .p .given .1) (c .before .before .before .opening .result) (c .before .before .before .opening .ensures) (c .before .o .given .0 .0) (c .before .o .given .1)

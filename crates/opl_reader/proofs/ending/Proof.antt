@@ -1,7 +1,7 @@
 -- The name of the element that is open, and nothing that must stand is missing.
 use denote.Ref.{now}
 use native.Mathlib.Omega.{arith}
-use Prim.Native.Nat.{_+_, _-_}
+use Prim.Native.Nat.{_+_}
 use lib.ListN.{drop}
 use Rattle.opl_text.specs.Steps.{wordOf}
 use Rattle.paper_opl.specs.Reading.{name}

@@ -1,7 +1,5 @@
 -- White space, "=", white space.
 use denote.Ref.{now}
-use Prim.Native.Nat.{_-_}
-use Rattle.paper_opl.specs.Reading.{space}
 use Rattle.opl_reader.proofs.Attributes.{equals-not, equals-room, equals-yes}
 use borrow.Author.Needs.{needs}
 use Rattle.opl_reader.proofs.equals.Statement.{statement}

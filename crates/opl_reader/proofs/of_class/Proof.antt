@@ -1,6 +1,5 @@
 -- By the class.
 use denote.Ref.{now}
-use Prim.Native.Nat.{_-_}
 use mathlib.Core.Path.{ap}
 use mathlib.Core.Bool.{not}
 use Rattle.opl_table.proofs.Cases.{apart}

@@ -1,6 +1,5 @@
 -- One reader behind the other.
 use denote.Ref.{now}
-use Prim.Native.Nat.{_-_}
 use lib.ListN.{length, drop}
 use Rattle.opl_text.specs.Steps.{stepOf}
 use Rattle.paper_opl.specs.Reading.{misc}

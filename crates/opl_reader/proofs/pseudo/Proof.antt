@@ -1,7 +1,6 @@
 -- One reader behind the other.
 use denote.Ref.{now}
 use native.Mathlib.Omega.{arith}
-use Prim.Native.Nat.{_-_}
 use lib.ListN.{drop}
 use Rattle.opl_text.specs.Steps.{stepOf}
 use Rattle.paper_opl.specs.Reading.{equals, expect}

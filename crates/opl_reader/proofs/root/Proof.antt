@@ -1,29 +1,14 @@
 -- The element, what may stand behind it, and the end.
+use borrow.Author.Needs.{needs}
 use denote.Ref.{now}
-use native.Mathlib.Omega.{arith}
-use mathlib.Core.Path.{_≡_}
 use lib.ListN.{length, drop}
 use Rattle.opl_text.specs.Steps.{stepOf}
 use Rattle.paper_opl.specs.Reading.{misc}
 use Rattle.opl_reader.specs.Grammar.{elementRead}
 use Rattle.opl_reader.proofs.Chain.{within}
-use Rattle.opl_reader.proofs.Cycle.{tag-refused}
 use Rattle.opl_reader.proofs.Prologue.{root-element, root-misc, root-more, root-done}
-use borrow.Author.Needs.{needs}
 use Rattle.opl_reader.proofs.root.Statement.{statement}
 use Rattle.opl_reader.proofs.root.Tie as tie
-
-tag-end-requires : tie.Need-tag-end-requires
-tag-end-requires c κs = search needs
-
-enum-told : tie.Need-enum-told
-enum-told c = search needs
-
-enum-told-2 : tie.Need-enum-told-2
-enum-told-2 c = search needs
-
-returns : tie.Need-returns
-returns c = root-element (now (c .before .before .before .before .args .s)) (c .before .before .before .before .args .at) (c .before .before .before .before .args .id) (c .before .before .tag-end .result) (tag-refused (now (c .before .before .before .before .args .s)) (c .before .before .before .before .args .at) 8 (c .before .before .before .before .args .id) (λ (z : 8 ≡ 0). omega arith) (c .before .before .tag-end .result) (c .before .before .tag-end .ensures) _ (c .enum-told2 .given .1)) _ (c .enum-told2 .given .1)
 
 element-requires : tie.Need-element-requires
 element-requires c κs = search needs
@@ -31,45 +16,41 @@ element-requires c κs = search needs
 enum-known-e : tie.Need-enum-known-e
 enum-known-e c = search needs
 
-enum-told-3 : tie.Need-enum-told-3
-enum-told-3 c = search needs
+enum-told : tie.Need-enum-told
+enum-told c = search needs
 
-returns-2 : tie.Need-returns-2
-returns-2 c = root-element (now (c .before .before .before .before .before .before .before .args .s)) (c .before .before .before .before .before .before .before .args .at) (c .before .before .before .before .before .before .before .args .id) (c .before .before .element .result) (c .before .before .element .ensures) _ (c .enum-told3 .given .1)
+returns : tie.Need-returns
+returns c = root-element (now (c .before .before .before .before .args .s)) (c .before .before .before .before .args .at) (c .before .before .before .before .args .id) (c .before .before .element .result) (c .before .before .element .ensures) _ (c .enum-told .given .1)
 
 skip-misc-requires : tie.Need-skip-misc-requires
-skip-misc-requires c κs = within (now (c .before .before .before .before .before .before .before .before .args .s)) (stepOf (now (c .before .before .before .before .before .before .before .before .args .s))) (elementRead 8 (c .before .before .before .before .before .before .before .before .args .id) (drop (c .before .before .before .before .before .before .before .before .args .at) (now (c .before .before .before .before .before .before .before .before .args .s)))) (c .before .before .before .element .result) (c .before .before .before .element .ensures) (c .before .e .given .0 .0) (c .before .e .given .1)
+skip-misc-requires c κs = within (now (c .before .before .before .before .before .args .s)) (stepOf (now (c .before .before .before .before .before .args .s))) (elementRead 7 (c .before .before .before .before .before .args .id) (drop (c .before .before .before .before .before .args .at) (now (c .before .before .before .before .before .args .s)))) (c .before .before .before .element .result) (c .before .before .before .element .ensures) (c .before .e .given .0 .0) (c .before .e .given .1)
 
 enum-known-m : tie.Need-enum-known-m
 enum-known-m c = search needs
 
-enum-told-4 : tie.Need-enum-told-4
-enum-told-4 c = search needs
+enum-told-2 : tie.Need-enum-told-2
+enum-told-2 c = search needs
+
+returns-2 : tie.Need-returns-2
+returns-2 c = root-misc (now (c .before .before .before .before .before .before .before .before .args .s)) (c .before .before .before .before .before .before .before .before .args .at) (c .before .before .before .before .before .before .before .before .args .id) (c .before .before .before .before .before .before .element .result) (c .before .before .before .before .before .before .element .ensures) (c .before .before .before .before .e .given .0 .0) (c .before .before .before .before .e .given .1) (c .before .before .skip-misc .result) (c .before .before .skip-misc .ensures) _ (c .enum-told2 .given .1)
 
 returns-3 : tie.Need-returns-3
-returns-3 c = root-misc (now (c .before .before .before .before .before .before .before .before .before .before .before .args .s)) (c .before .before .before .before .before .before .before .before .before .before .before .args .at) (c .before .before .before .before .before .before .before .before .before .before .before .args .id) (c .before .before .before .before .before .before .element .result) (c .before .before .before .before .before .before .element .ensures) (c .before .before .before .before .e .given .0 .0) (c .before .before .before .before .e .given .1) (c .before .before .skip-misc .result) (c .before .before .skip-misc .ensures) _ (c .enum-told4 .given .1)
+returns-3 c = record { read-is = root-more (now (c .before .before .before .before .before .before .before .before .before .before .args .s)) (c .before .before .before .before .before .before .before .before .before .before .args .at) (c .before .before .before .before .before .before .before .before .before .before .args .id) (c .before .before .before .before .before .before .before .before .element .result) (c .before .before .before .before .before .before .before .before .element .ensures) (c .before .before .before .before .before .before .e .given .0 .0) (c .before .before .before .before .before .before .e .given .1) (c .before .before .before .before .skip-misc .result) (c .before .before .before .before .skip-misc .ensures) (c .before .before .m .given .0 .0) (c .before .before .m .given .1) (c .if1 .taken); inside = within (now (c .before .before .before .before .before .before .before .before .before .before .args .s)) (stepOf (now (c .before .before .before .before .before .before .before .before .before .before .args .s))) (misc (length (drop (c .before .before .before .before .before .before .e .given .0 .0) (now (c .before .before .before .before .before .before .before .before .before .before .args .s)))) (drop (c .before .before .before .before .before .before .e .given .0 .0) (now (c .before .before .before .before .before .before .before .before .before .before .args .s)))) (c .before .before .before .before .skip-misc .result) (c .before .before .before .before .skip-misc .ensures) (c .before .before .m .given .0 .0) (c .before .before .m .given .1) }
 
 returns-4 : tie.Need-returns-4
-returns-4 c = record { read-is = root-more (now (c .before .before .before .before .before .before .before .before .before .before .before .before .before .args .s)) (c .before .before .before .before .before .before .before .before .before .before .before .before .before .args .at) (c .before .before .before .before .before .before .before .before .before .before .before .before .before .args .id) (c .before .before .before .before .before .before .before .before .element .result) (c .before .before .before .before .before .before .before .before .element .ensures) (c .before .before .before .before .before .before .e .given .0 .0) (c .before .before .before .before .before .before .e .given .1) (c .before .before .before .before .skip-misc .result) (c .before .before .before .before .skip-misc .ensures) (c .before .before .m .given .0 .0) (c .before .before .m .given .1) (c .if1 .taken); inside = within (now (c .before .before .before .before .before .before .before .before .before .before .before .before .before .args .s)) (stepOf (now (c .before .before .before .before .before .before .before .before .before .before .before .before .before .args .s))) (misc (length (drop (c .before .before .before .before .before .before .e .given .0 .0) (now (c .before .before .before .before .before .before .before .before .before .before .before .before .before .args .s)))) (drop (c .before .before .before .before .before .before .e .given .0 .0) (now (c .before .before .before .before .before .before .before .before .before .before .before .before .before .args .s)))) (c .before .before .before .before .skip-misc .result) (c .before .before .before .before .skip-misc .ensures) (c .before .before .m .given .0 .0) (c .before .before .m .given .1) }
-
-returns-5 : tie.Need-returns-5
-returns-5 c = record { read-is = root-done (now (c .before .before .before .before .before .before .before .before .before .before .before .before .before .args .s)) (c .before .before .before .before .before .before .before .before .before .before .before .before .before .args .at) (c .before .before .before .before .before .before .before .before .before .before .before .before .before .args .id) (c .before .before .before .before .before .before .before .before .element .result) (c .before .before .before .before .before .before .before .before .element .ensures) (c .before .before .before .before .before .before .e .given .0 .0) (c .before .before .before .before .before .before .e .given .1) (c .before .before .before .before .skip-misc .result) (c .before .before .before .before .skip-misc .ensures) (c .before .before .m .given .0 .0) (c .before .before .m .given .1) (c .if1 .left); inside = within (now (c .before .before .before .before .before .before .before .before .before .before .before .before .before .args .s)) (stepOf (now (c .before .before .before .before .before .before .before .before .before .before .before .before .before .args .s))) (misc (length (drop (c .before .before .before .before .before .before .e .given .0 .0) (now (c .before .before .before .before .before .before .before .before .before .before .before .before .before .args .s)))) (drop (c .before .before .before .before .before .before .e .given .0 .0) (now (c .before .before .before .before .before .before .before .before .before .before .before .before .before .args .s)))) (c .before .before .before .before .skip-misc .result) (c .before .before .before .before .skip-misc .ensures) (c .before .before .m .given .0 .0) (c .before .before .m .given .1) }
+returns-4 c = record { read-is = root-done (now (c .before .before .before .before .before .before .before .before .before .before .args .s)) (c .before .before .before .before .before .before .before .before .before .before .args .at) (c .before .before .before .before .before .before .before .before .before .before .args .id) (c .before .before .before .before .before .before .before .before .element .result) (c .before .before .before .before .before .before .before .before .element .ensures) (c .before .before .before .before .before .before .e .given .0 .0) (c .before .before .before .before .before .before .e .given .1) (c .before .before .before .before .skip-misc .result) (c .before .before .before .before .skip-misc .ensures) (c .before .before .m .given .0 .0) (c .before .before .m .given .1) (c .if1 .left); inside = within (now (c .before .before .before .before .before .before .before .before .before .before .args .s)) (stepOf (now (c .before .before .before .before .before .before .before .before .before .before .args .s))) (misc (length (drop (c .before .before .before .before .before .before .e .given .0 .0) (now (c .before .before .before .before .before .before .before .before .before .before .args .s)))) (drop (c .before .before .before .before .before .before .e .given .0 .0) (now (c .before .before .before .before .before .before .before .before .before .before .args .s)))) (c .before .before .before .before .skip-misc .result) (c .before .before .before .before .skip-misc .ensures) (c .before .before .m .given .0 .0) (c .before .before .m .given .1) }
 
 pub root-spec : {M : Type 1} → statement M
 root-spec =
     tie.close
     (tie.spec
-    tag-end-requires
-    enum-told
-    enum-told-2
-    returns
     element-requires
     enum-known-e
-    enum-told-3
-    returns-2
+    enum-told
+    returns
     skip-misc-requires
     enum-known-m
-    enum-told-4
+    enum-told-2
+    returns-2
     returns-3
-    returns-4
-    returns-5)
+    returns-4)

@@ -1,7 +1,5 @@
 -- White space is there where skipping it goes on.
 use denote.Ref.{now}
-use Prim.Native.Nat.{_-_}
-use Rattle.paper_opl.specs.Reading.{space}
 use Rattle.opl_reader.proofs.Chain.{space-not, space-yes}
 use borrow.Author.Needs.{needs}
 use Rattle.opl_reader.proofs.space.Statement.{statement}

@@ -1,6 +1,5 @@
 -- White space, and the literal behind it.
 use denote.Ref.{now}
-use Prim.Native.Nat.{_-_}
 use lib.ListN.{drop}
 use Rattle.opl_text.specs.Steps.{stepOf}
 use Rattle.paper_opl.specs.Reading.{space}

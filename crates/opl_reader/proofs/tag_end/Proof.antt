@@ -1,7 +1,6 @@
 -- The loop, from the attributes of the element on.
 use borrow.Author.Needs.{needs}
 use mathlib.Core.Path.{sym}
-use Prim.Native.Nat.{_-_}
 use Rattle.opl_reader.proofs.tag_end.Statement.{statement}
 use Rattle.opl_reader.proofs.tag_end.Tie as tie
 

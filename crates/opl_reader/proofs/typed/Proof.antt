@@ -1,6 +1,6 @@
 -- The DOCTYPE, and what may stand behind it.
 use denote.Ref.{now}
-use Prim.Native.Nat.{_+_, _-_}
+use Prim.Native.Nat.{_+_}
 use lib.ListN.{drop}
 use Rattle.opl_text.specs.Steps.{stepOf}
 use Rattle.paper_opl.specs.Reading.{text}

@@ -1,0 +1,51 @@
+-- "=" and the value behind a name that may not be given.
+use denote.Ref.{now}
+use lib.ListN.{drop}
+use Rattle.opl_text.specs.Steps.{stepOf}
+use Rattle.paper_opl.specs.Reading.{equals}
+use Rattle.opl_reader.proofs.Chain.{within}
+use Rattle.opl_reader.proofs.Attributes.{strange-none, strange-bad, strange-whole}
+use borrow.Author.Needs.{needs}
+use Rattle.opl_reader.proofs.strange_value.Statement.{statement}
+use Rattle.opl_reader.proofs.strange_value.Tie as tie
+
+equals-requires : tie.Need-equals-requires
+equals-requires c κs = search needs
+
+enum-known-q : tie.Need-enum-known-q
+enum-known-q c = search needs
+
+enum-known-q-2 : tie.Need-enum-known-q-2
+enum-known-q-2 c = search needs
+
+read-value-requires : tie.Need-read-value-requires
+read-value-requires c κs = within (now (c .before .before .before .before .before .args .s)) (stepOf (now (c .before .before .before .before .before .args .s))) (equals (drop (c .before .before .before .before .before .args .at) (now (c .before .before .before .before .before .args .s)))) (c .before .before .before .equals .result) (c .before .before .before .equals .ensures) (c .before .q2 .given .0 .0) (c .before .q2 .given .1)
+
+enum-known-v : tie.Need-enum-known-v
+enum-known-v c = search needs
+
+enum-known-v-2 : tie.Need-enum-known-v-2
+enum-known-v-2 c = search needs
+
+returns : tie.Need-returns
+returns c = strange-none (now (c .before .before .before .before .before .args .s)) (c .before .before .before .before .before .args .at) (c .before .before .before .before .before .args .name) (c .before .before .before .before .before .pre .1) (c .before .before .before .equals .result) (c .before .before .before .equals .ensures) (c .before .q .given .0 .0) (c .before .q .given .1)
+
+returns-2 : tie.Need-returns-2
+returns-2 c = strange-bad (now (c .before .before .before .before .before .before .before .before .before .args .s)) (c .before .before .before .before .before .before .before .before .before .args .at) (c .before .before .before .before .before .before .before .before .before .args .name) (c .before .before .before .before .before .before .before .before .before .pre .1) (c .before .before .before .before .before .before .before .equals .result) (c .before .before .before .before .before .before .before .equals .ensures) (c .before .before .before .before .before .q2 .given .0 .0) (c .before .before .before .before .before .q2 .given .1) (c .before .before .before .read-value .result) (c .before .before .before .read-value .ensures) (c .before .v .given .0 .0) (c .before .v .given .1)
+
+returns-3 : tie.Need-returns-3
+returns-3 c = strange-whole (now (c .before .before .before .before .before .before .before .before .before .args .s)) (c .before .before .before .before .before .before .before .before .before .args .at) (c .before .before .before .before .before .before .before .before .before .args .name) (c .before .before .before .before .before .before .before .before .before .pre .1) (c .before .before .before .before .before .before .before .equals .result) (c .before .before .before .before .before .before .before .equals .ensures) (c .before .before .before .before .before .q2 .given .0 .0) (c .before .before .before .before .before .q2 .given .1) (c .before .before .before .read-value .result) (c .before .before .before .read-value .ensures) (c .before .v2 .given .0 .0) (c .before .v2 .given .1)
+
+pub strange-value-spec : {M : Type 1} → statement M
+strange-value-spec =
+    tie.close
+    (tie.spec
+    equals-requires
+    enum-known-q
+    enum-known-q-2
+    read-value-requires
+    enum-known-v
+    enum-known-v-2
+    returns
+    returns-2
+    returns-3)

@@ -1,0 +1,35 @@
+-- The attributes, if the element may stand so deep.
+use borrow.Author.Needs.{needs}
+use denote.Ref.{now}
+use Rattle.opl_reader.proofs.Tags.{tag-deep, tag-bad, tag-got}
+use Rattle.opl_reader.proofs.tagged.Statement.{statement}
+use Rattle.opl_reader.proofs.tagged.Tie as tie
+
+returns : tie.Need-returns
+returns c = record { read-is = tag-deep (now (c .before .before .args .s)) (c .before .before .args .at) (c .before .before .args .d) (c .before .before .args .id) (c .before .before .args .more) (c .if1 .taken); inside = c .before .before .pre }
+
+tag-end-requires : tie.Need-tag-end-requires
+tag-end-requires c κs = search needs
+
+enum-known-t : tie.Need-enum-known-t
+enum-known-t c = search needs
+
+enum-known-t-2 : tie.Need-enum-known-t-2
+enum-known-t-2 c = search needs
+
+returns-2 : tie.Need-returns-2
+returns-2 c = tag-bad (now (c .before .before .before .before .before .before .args .s)) (c .before .before .before .before .before .before .args .at) (c .before .before .before .before .before .before .args .d) (c .before .before .before .before .before .before .args .id) (c .before .before .before .before .before .before .args .more) (c .before .before .before .before .if1 .left) (c .before .before .before .tag-end .result) (c .before .before .before .tag-end .ensures) (c .before .t .given .0 .0) (c .before .t .given .1)
+
+returns-3 : tie.Need-returns-3
+returns-3 c = tag-got (now (c .before .before .before .before .before .before .args .s)) (c .before .before .before .before .before .before .args .at) (c .before .before .before .before .before .before .args .d) (c .before .before .before .before .before .before .args .id) (c .before .before .before .before .before .before .args .more) (c .before .before .before .before .if1 .left) (c .before .before .before .tag-end .result) (c .before .before .before .tag-end .ensures) (c .before .t2 .given .0 .0) (c .before .t2 .given .1)
+
+pub tagged-spec : {M : Type 1} → statement M
+tagged-spec =
+    tie.close
+    (tie.spec
+    returns
+    tag-end-requires
+    enum-known-t
+    enum-known-t-2
+    returns-2
+    returns-3)
