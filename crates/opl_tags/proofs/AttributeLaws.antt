@@ -1,7 +1,7 @@
 -- Laws of the attributes of a start tag, one by one.
 use Prim.Native.Nat.{ℕ, zero, suc, _+_, _-_, _≤_, _<_}
 use mathlib.Core.Path.{_≡_, refl, sym, ap, _∙_, subst}
-use mathlib.Core.Bool.{Bool, true, false, not, cond, _||_}
+use mathlib.Core.Bool.{Bool, true, false, not, _||_}
 use mathlib.Core.List.{List, [], _∷_}
 use native.Mathlib.Omega.{arith}
 use lib.ListN.{length, take, drop, length-drop, drop-of-length-le}
@@ -22,11 +22,9 @@ use Rattle.opl_text.specs.declared.Step.the-variants.{Next, Bad}
 use Rattle.opl_text.specs.Steps.{Reads, stepOf, wordOf, valueOf, placeOf}
 use Rattle.opl_text.proofs.Laws.{onward, no-word, a-word, one-not, one-yes}
 use Rattle.opl_text.proofs.Literals.{value-room}
-use Rattle.opl_table.specs.Numbers.{nameOf}
-use Rattle.opl_tags.specs.Tags.{placeless, given, attributeOf, Within, Stands, ReadsAttribute, collectedOn, collected, givenAt, Valued, forget}
+use Rattle.opl_tags.specs.Tags.{placeless, given, Within, Stands, ReadsAttribute, collectedOn, collected, givenAt, Valued, forget}
 use Rattle.opl_tags.specs.declared.Attribute.{Attribute}
 use Rattle.opl_tags.specs.declared.Attribute.the-variants.{Pair, Done, Stop}
-use Rattle.opl_tags.specs.declared.Part.{Part}
 
 -- ---- White space, "=", white space.
 module _ (s : Text) (i : ℕ) (b : Bool) (is : b ≡ starts (61 ∷ []) (drop i s)) (at : ℕ) (from : drop i s ≡ behind white (drop at s)) where

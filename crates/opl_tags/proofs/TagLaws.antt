@@ -1,24 +1,24 @@
 -- Laws of the tags at a place.
-use Prim.Native.Nat.{ℕ, zero, suc, _+_, _-_, _≤_, _<_}
-use mathlib.Core.Path.{_≡_, refl, sym, ap, _∙_, subst}
-use mathlib.Core.Bool.{Bool, true, false, not, cond}
+use Prim.Native.Nat.{ℕ, _+_, _-_, _≤_, _<_}
+use mathlib.Core.Path.{_≡_, refl, sym, _∙_, subst}
+use mathlib.Core.Bool.{Bool, true, false, not}
 use mathlib.Core.List.{List, [], _∷_}
 use native.Mathlib.Omega.{arith}
 use lib.ListN.{length, take, drop, length-drop, drop-of-length-le}
 use lib.Seq.{drop-drop}
 use borrow.Author.Tests.{not-true, not-false}
-use Rattle.paper_opl.specs.Reading.{Text, text, Read, after, starts, expect, white, behind, skip, misc, inName, name}
+use Rattle.paper_opl.specs.Reading.{Text, text, Read, starts, expect, white, behind, misc, name}
 use Rattle.paper_opl.specs.Reading.Read.{got, bad}
-use Rattle.paper_opl.specs.Tree.{Given, Tag as Tagged}
+use Rattle.paper_opl.specs.Tree.{Given}
 use Rattle.paper_opl.specs.Walk.{givens, startTag, endTag, tag}
-use Rattle.paper_opl.proofs.Inversion.{on, bad≢got, got-rest}
+use Rattle.paper_opl.proofs.Inversion.{bad≢got, got-rest}
 use Rattle.paper_opl.proofs.Counts.{below-of, starts-le}
 use Rattle.paper_opl.proofs.Tags.{givens-below}
 use Rattle.opl_text.specs.declared.Step.{Step}
 use Rattle.opl_text.specs.declared.Step.the-variants.{Next, Bad}
 use Rattle.opl_text.specs.Steps.{Reads, stepOf, wordOf, placeOf}
 use Rattle.opl_text.proofs.Laws.{one-not, one-yes}
-use Rattle.opl_tags.specs.Tags.{placeless, forget, givenAt, Ends, tagOf, ReadsTag}
+use Rattle.opl_tags.specs.Tags.{placeless, forget, givenAt, Ends, ReadsTag}
 use Rattle.opl_tags.specs.declared.Tag.{Tag}
 use Rattle.opl_tags.specs.declared.Tag.the-variants.{Start, End, Halt}
 use Rattle.opl_tags.proofs.AttributeLaws.{collected-is, name-past, name-inside}

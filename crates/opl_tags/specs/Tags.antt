@@ -2,7 +2,7 @@
 -- place is told: the text was judged before.
 use Prim.Native.Nat.{ℕ, zero, suc, _+_, _-_, _≤_, _<_}
 use mathlib.Core.Path.{_≡_}
-use mathlib.Core.Bool.{Bool, true, false, cond, _||_}
+use mathlib.Core.Bool.{cond, _||_}
 use mathlib.Core.List.{List, [], _∷_}
 use lib.ListN.{length, take, drop}
 use Rattle.paper_lower.specs.Lists.{Maybe}
@@ -10,8 +10,7 @@ use Rattle.paper_lower.specs.Lists.Maybe.{none, just}
 use Rattle.paper_opl.specs.Reading.{Text, text, Read, after, starts, skip, space}
 use Rattle.paper_opl.specs.Reading.Read.{got, bad}
 use Rattle.paper_opl.specs.Tree.{Given, Tag as Tagged}
-use Rattle.paper_opl.specs.Naming.{valueOf}
-use Rattle.paper_opl.specs.Walk.{plain, givens}
+use Rattle.paper_opl.specs.Walk.{plain}
 use Rattle.opl_tags.specs.declared.Attribute.{Attribute}
 use Rattle.opl_tags.specs.declared.Attribute.the-variants.{Pair, Done, Stop}
 use Rattle.opl_tags.specs.declared.Part.{Part}

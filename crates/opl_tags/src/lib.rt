@@ -1,9 +1,7 @@
 // The tags of an accepted policy text, one behind the other, and the values of their attributes. It rests on paper_opl's walk, on the readers of
 // opl_text and on the names of opl_table.
-ghost use mathlib.Core.Path.{_≡_};
-ghost use mathlib.Core.List.{[]};
 ghost use Prim.Native.Nat.{_+_, _-_, _≤_, _<_};
-ghost use lib.ListN.{length, take, drop};
+ghost use lib.ListN.{length, drop};
 ghost use Rattle.paper_lower.specs.Lists.Maybe.{just};
 ghost use Rattle.paper_opl.specs.Reading.{after, equals as equalsOf};
 ghost use Rattle.paper_opl.specs.Reading.Read.{got};
