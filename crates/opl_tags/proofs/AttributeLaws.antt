@@ -150,7 +150,7 @@ collected-enough (suc n) (suc m) s h l = go (given s) refl (collected-enough n m
     go (bad r) e rest = refl
 
 -- what is read is what the definition reads, where it reads
-placed : {A : Type 0} (x : Read A) (g : A) (r : Text) → got g r ≡ placeless x → x ≡ got g r
+pub placed : {A : Type 0} (x : Read A) (g : A) (r : Text) → got g r ≡ placeless x → x ≡ got g r
 placed (got y u) g r e = sym e
 placed (bad u) g r e = absurd (bad≢got (sym e))
 
