@@ -1,1 +1,2 @@
 pub mod DeclaredLaws
+pub mod FilledLaws
