@@ -1,2 +1,3 @@
 pub mod DeclaredLaws
 pub mod FilledLaws
+pub mod LineNames
