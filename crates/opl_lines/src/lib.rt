@@ -1,5 +1,4 @@
 // The task lines: each a task's name, one space and a template's name. It rests on paper_opl's `lines` and on the readers of opl_text.
-ghost use mathlib.Core.Path.{_≡_};
 ghost use Prim.Native.Nat.{_≤_, _<_};
 ghost use lib.ListN.{length, drop};
 ghost use Rattle.paper_opl.specs.Reading.{behind};

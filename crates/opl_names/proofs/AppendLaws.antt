@@ -1,8 +1,8 @@
 -- One name more in a table of names: it stands, and its names are those it had and this one.
-use Prim.Native.Nat.{ℕ, zero, suc, _+_, _*_, _-_, _/_, _%_, _≤_, _<_}
+use Prim.Native.Nat.{ℕ, zero, suc, _+_, _*_, _-_, _/_, _≤_, _<_}
 use mathlib.Core.Path.{_≡_, refl, sym, ap, _∙_}
 use mathlib.Core.Bool.{Bool, true, false, cond}
-use mathlib.Core.List.{List, [], _∷_}
+use mathlib.Core.List.{List}
 use native.Mathlib.Nat.{mod-lt}
 use native.Mathlib.Numerals.{add-one}
 use native.Mathlib.Omega.{arith}
@@ -11,13 +11,13 @@ use lib.ListN.{length, getD, set, take, drop, length-set}
 use lib.Seq.{getD-set-same, getD-set-other}
 use borrow.Author.Count.{below-more}
 use borrow.Author.Tests.{eqb-true, eqb-false, eq-eqb, ne-eqb, ltb-true, ltb-false, lt-ltb, le-ltb}
-use Rattle.paper_lower.specs.Lists.{Maybe, many, add}
+use Rattle.paper_lower.specs.Lists.{many, add}
 use Rattle.paper_lower.specs.Lists.Maybe.{none, just}
 use Rattle.replies.specs.Cells.{rowsFrom, rows}
 use Rattle.replies.proofs.RowLaws.{many-rows, rows-same, rows-more}
 use Rattle.paper_opl.specs.Reading.{Text}
 use Rattle.paper_opl.specs.Naming.{placeOf}
-use Rattle.opl_names.specs.Table.{markOf, bucketOf, kept, headWord, placeAt, wordAt, sizeIn, linkIn, markIn, packed, nameAt, namesIn, bucketAt, inBucket, lastBelow, startOf, Sound, foundOf, Emptied, added, Declares, withName}
+use Rattle.opl_names.specs.Table.{markOf, bucketOf, kept, headWord, placeAt, wordAt, sizeIn, linkIn, markIn, packed, nameAt, namesIn, bucketAt, inBucket, lastBelow, startOf, Sound, foundOf, Emptied, Declares, withName}
 use Rattle.opl_names.specs.declared.Found.{Found}
 use Rattle.opl_names.specs.declared.Found.the-variants.{At, Nowhere}
 use Rattle.opl_names.proofs.NameLaws.{place-kept, place-new, place-small, added-there, added-new}

@@ -1,16 +1,16 @@
 -- Laws of texts that are the same, and of the numbers of names in a list of them.
 use Prim.Native.Nat.{ℕ, zero, suc, _+_, _≤_, _<_}
 use mathlib.Core.Path.{_≡_, refl, sym, ap, _∙_}
-use mathlib.Core.Bool.{Bool, true, false, cond, _&&_, _||_, true≢false, false≢true}
+use mathlib.Core.Bool.{Bool, true, false, cond, _||_, false≢true}
 use mathlib.Core.List.{List, [], _∷_}
 use native.Mathlib.Nat.{add-zero}
 use native.Mathlib.Omega.{arith}
 use lib.Dec.{eqb}
 use borrow.Author.Tests.{eqb-true, eq-eqb}
-use Rattle.paper_lower.specs.Lists.{Maybe, there, holds, some, many, add}
+use Rattle.paper_lower.specs.Lists.{there, holds, some, many, add}
 use Rattle.paper_lower.specs.Lists.Maybe.{none, just}
 use Rattle.paper_lower.proofs.ListLaws.{both}
-use Rattle.replies.specs.Cells.{rowsFrom, rows}
+use Rattle.replies.specs.Cells.{rowsFrom}
 use Rattle.paper_opl.specs.Reading.{Text, same}
 use Rattle.paper_opl.specs.Naming.{placeOf, distinct}
 use Rattle.opl_names.specs.Table.{added}

@@ -1,19 +1,17 @@
 -- Laws of the words of a table of names: the walk of a bucket, and one name more.
-use Prim.Native.Nat.{ℕ, zero, suc, _+_, _*_, _-_, _/_, _%_, _≤_, _<_}
+use Prim.Native.Nat.{ℕ, zero, suc, _+_, _-_, _≤_, _<_}
 use mathlib.Core.Path.{_≡_, refl, sym, ap, _∙_}
-use mathlib.Core.Bool.{Bool, true, false, cond, _&&_, false≢true, true≢false}
-use mathlib.Core.List.{List, [], _∷_}
+use mathlib.Core.Bool.{Bool, true, false, cond, _&&_, false≢true}
+use mathlib.Core.List.{List, []}
 use native.Mathlib.Nat.{not-suc-le-zero}
 use native.Mathlib.Numerals.{add-one}
 use native.Mathlib.Omega.{arith}
 use lib.Dec.{eqb, ltb}
 use lib.ListN.{length, getD, take, drop, drop-of-length-le}
 use lib.Seq.{drop-cons}
-use borrow.Author.Tests.{eqb-true, eqb-false, eq-eqb, ne-eqb, ltb-true, ltb-false}
-use Rattle.paper_lower.specs.Lists.{Maybe}
+use borrow.Author.Tests.{eqb-true, eqb-false, eq-eqb, ltb-true, ltb-false}
 use Rattle.paper_lower.specs.Lists.Maybe.{none, just}
 use Rattle.paper_lower.proofs.ListLaws.{not-both, both}
-use Rattle.replies.specs.Cells.{rowsFrom, rows}
 use Rattle.paper_opl.specs.Reading.{Text, same}
 use Rattle.paper_opl.specs.Naming.{placeOf}
 use Rattle.opl_names.specs.Table.{turned, markFrom, markOf, bucketOf, kept, placeAt, wordAt, sizeIn, linkIn, markIn, nameAt, namesIn, bucketAt, inBucket, lastBelow, startOf, Sound}

@@ -7,7 +7,7 @@ ghost use lib.Dec.{eqb};
 ghost use lib.ListN.{length, take, drop};
 ghost use Rattle.paper_opl.specs.Reading.{same};
 ghost use Rattle.paper_opl.specs.Naming.{placeOf};
-ghost use Rattle.opl_names.specs.Table.{turned, markOf, bucketOf, kept, placeAt, wordAt, sizeIn, linkIn, markIn, packed, nameAt, namesIn, bucketAt, startOf, Sound, foundOf, Emptied, Declares, withName};
+ghost use Rattle.opl_names.specs.Table.{turned, markOf, bucketOf, kept, placeAt, wordAt, sizeIn, linkIn, markIn, packed, nameAt, namesIn, startOf, Sound, foundOf, Emptied, Declares, withName};
 use opl_text::same_bytes;
 
 // The number of a name, or that it has none.

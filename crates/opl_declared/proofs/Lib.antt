@@ -1,0 +1,3 @@
+pub mod DeclaredLaws
+pub mod FilledLaws
+pub mod LineNames

@@ -1,0 +1,65 @@
+// The seven tables of names in one lent scratch, by the number of a space: 0 users, 1 roles, 2 permissions, 3 operations, 4 objects, 5 tasks, 6 templates.
+// It rests on the tables of opl_names.
+ghost use mathlib.Core.Path.{_≡_};
+ghost use Prim.Native.Nat.{_+_, _*_, _≤_, _<_};
+ghost use lib.ListN.{length, take, drop};
+ghost use Rattle.opl_names.specs.Table.{Sound, foundOf};
+ghost use Rattle.opl_spaces.specs.Spaces.{limitOf, baseOf, scratchWords, tableOf, numbered, Empties, DeclaresIn};
+use opl_names::Found;
+
+// The length of the scratch, in words.
+pub const WORDS: usize = 397495;
+
+const LIMITS: [usize; 7] = [1024, 64, 256, 65536, 65536, 64, 16];
+
+const BASES: [usize; 7] = [0, 3073, 3266, 4035, 200644, 397253, 397446];
+
+fn limit(i: usize) -> usize
+    requires { ⌜ i < 7 ⌝ }
+    ensures { λ r. ⌜ r ≡ limitOf i ⌝ }
+{
+    LIMITS[i]
+}
+
+fn base(i: usize) -> usize
+    requires { ⌜ i < 7 ⌝ }
+    ensures { λ r. ⌜ r ≡ baseOf i ⌝ }
+{
+    BASES[i]
+}
+
+// No names in a space, whatever the words were.
+pub fn empty(w: &mut [u64], i: usize)
+    requires { ⌜ (length (now w) ≡ scratchWords) × (i < 7) ⌝ }
+    ensures { λ _. ⌜ Empties i (now (w .entry)) (now (w .exit)) ⌝ }
+{
+    let n = limit(i);
+    let from = base(i);
+    let to = from + 1 + 3 * n;
+    opl_names::empty(&mut w[from..to], n);
+}
+
+// A name of the text is declared in a space.
+pub fn declare(s: &[u8], w: &mut [u64], i: usize, at: usize, size: usize) -> Found
+    requires { ⌜ ((length (now w) ≡ scratchWords) × (i < 7)) × (Sound (now s) (limitOf i) (tableOf i (now w)) × ((at + size ≤ length (now s)) × (size ≤ 64))) ⌝ }
+    ensures { λ r. ⌜ DeclaresIn (now (s .entry)) i (take size (drop at (now (s .entry)))) (now (w .entry)) (now (w .exit)) r ⌝ }
+{
+    let n = limit(i);
+    let from = base(i);
+    let to = from + 1 + 3 * n;
+    opl_names::declare(s, &mut w[from..to], n, at, size)
+}
+
+// The number of a name in a space; none of one that is too long.
+pub fn number(s: &[u8], w: &[u64], i: usize, name: &[u8]) -> Found
+    requires { ⌜ ((length (now w) ≡ scratchWords) × (i < 7)) × Sound (now s) (limitOf i) (tableOf i (now w)) ⌝ }
+    ensures { λ r. ⌜ foundOf r ≡ numbered (now (s .entry)) i (now (w .entry)) (now (name .entry)) ⌝ }
+{
+    if 64 < name.len() {
+        return Found::Nowhere;
+    }
+    let n = limit(i);
+    let from = base(i);
+    let to = from + 1 + 3 * n;
+    opl_names::find(s, &w[from..to], n, name)
+}

@@ -1,0 +1,2 @@
+pub mod AttributeLaws
+pub mod TagLaws
