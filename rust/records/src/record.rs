@@ -166,6 +166,13 @@ impl Record {
     }
 
     /// Adds a user with roles: all of it happens, or nothing.
+    ///
+    /// ```
+    /// # use records::{Record, Set};
+    /// let joins = Record::add_user_with(300, Set::of(&[0, 2]));
+    /// assert_eq!(joins.to_string(), "add user 300 with roles 0 2");
+    /// assert_eq!(Record::add_user_with(300, Set::EMPTY), Record::add_user(300));
+    /// ```
     pub const fn add_user_with(user: u16, roles: Set) -> Record {
         record(32, 0, [user, 0, 0], roles.0)
     }
