@@ -130,8 +130,15 @@ impl<'t> Reader<'t> {
         self.text[self.at..].starts_with(with)
     }
 
-    /// Where the run of bytes of a class ends that begins here, eight bytes at a time: `stops` marks each byte that is not
-    /// of the class, and perhaps others.
+    /// Where the run of bytes of a class ends that begins here.
+    #[inline]
+    fn run(&self, from: usize, of: u8) -> usize {
+        let rest = &self.text[from..];
+        let length = rest.iter().position(|&byte| !is(byte, of));
+        from + length.unwrap_or(rest.len())
+    }
+
+    /// The same, eight bytes at a time: `stops` marks each byte that is not of the class, and perhaps others.
     #[inline]
     fn long_run(&self, from: usize, of: u8, stops: impl Fn(u64) -> u64) -> usize {
         let mut at = from;
@@ -427,12 +434,19 @@ impl<'t> Reader<'t> {
         Ok(attributes)
     }
 
-    /// One attribute. Its name is judged before its value is read, its value when it has been read whole.
+    /// One attribute, which is judged when its value has been read whole.
     #[inline]
     fn attribute(&mut self, element: &'static Element, into: &mut Attributes) -> Read<()> {
         let start = self.at;
         let mut known = element.attributes.iter();
-        let Some(index) = known.position(|a| self.is_named(start, a.name)) else {
+        let index = known.position(|a| self.is_named(start, a.name));
+        self.at = match index {
+            Some(index) => start + element.attributes[index].name.len(),
+            None => self.run(start, NAME),
+        };
+        self.equals()?;
+        let value = self.value()?;
+        let Some(index) = index else {
             let names = element.attributes.iter().map(|a| a.name).collect();
             return self.fault(start, Why::UnknownAttribute(element.name, names));
         };
@@ -440,9 +454,6 @@ impl<'t> Reader<'t> {
         if into.given >> index & 1 == 1 {
             return self.fault(start, Why::RepeatedAttribute(attribute.name));
         }
-        self.at = start + attribute.name.len();
-        self.equals()?;
-        let value = self.value()?;
         into.given |= 1 << index;
         into.values[index] = value;
         match attribute.sort {

@@ -219,12 +219,12 @@ impl Grammar<'_> {
 
     fn attribute(self, node: &mut Node, start: usize) -> Result<usize, usize> {
         let (name, at) = self.name(start)?;
+        let (value, at) = self.equals_value(at)?;
         let known = &dtd::element(&node.name).expect("an element").attributes;
         let twice = node.attributes.iter().any(|given| given.0 == name);
         if twice || !known.iter().any(|a| a.0.as_bytes() == name) {
             return Err(start);
         }
-        let (value, at) = self.equals_value(at)?;
         if name.ends_with(b"_id") && value.is_empty() {
             return Err(at - 1);
         }

@@ -77,22 +77,30 @@ fn tags_without_a_name_refused_at_their_bracket() {
     }
 }
 
+/// The text up to the byte that is amiss is refused at an attribute's name, once the attribute is made whole: a reader that
+/// judges the name first stops there.
 #[test]
-fn attributes_judged_behind_their_equals_sign() {
-    is_found("attributes", |policy, tasks, output| {
-        let answer = opl::translate(policy, tasks, output);
-        let Err(Refusal::Text(fault)) = opl::read(policy, tasks) else {
-            return answer;
-        };
-        let why = &fault.why;
-        let by_name = matches!(why, Why::UnknownAttribute(..) | Why::RepeatedAttribute(_));
-        let ends = by_name && !policy[fault.place..].contains(&b'=');
-        with(answer, |answer| {
-            if ends {
-                answer.figure = policy.len() as u64 + 1;
+fn attributes_judged_before_their_value() {
+    for (name, rest) in [("no sign", "=''"), ("no quote", "''"), ("no end", "'")] {
+        is_found(name, move |policy, tasks, output| {
+            let answer = opl::translate(policy, tasks, output);
+            if answer.text != 1 {
+                return answer;
             }
-        })
-    });
+            let before = &policy[..answer.figure as usize - 1];
+            let Err(Refusal::Text(fault)) = opl::read(&[before, rest.as_bytes()].concat(), tasks)
+            else {
+                return answer;
+            };
+            let why = &fault.why;
+            let by_name = matches!(why, Why::UnknownAttribute(..) | Why::RepeatedAttribute(_));
+            with(answer, |answer| {
+                if by_name {
+                    answer.figure = fault.place as u64;
+                }
+            })
+        });
+    }
 }
 
 #[test]
