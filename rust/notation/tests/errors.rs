@@ -70,7 +70,13 @@ fn a_line_that_ends_early() {
 
 #[test]
 fn a_line_that_goes_on() {
-    refused("add user 3 4", 1, 12, "the end of the line or \"with\"", "\"4\"");
+    refused(
+        "add user 3 4",
+        1,
+        12,
+        "the end of the line or \"with\"",
+        "\"4\"",
+    );
     refused("delete user 3 4", 1, 15, END, "\"4\"");
     refused("static set 1 of none 3", 1, 22, END, "\"3\"");
     let seventeen = format!("bytes{}", " 00".repeat(17));
