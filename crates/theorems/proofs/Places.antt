@@ -12,6 +12,7 @@ use Rattle.paper_lower.specs.Sets.{Set, has, meets}
 use Rattle.paper_lower.specs.Lists.{some, each, many, placeFrom, place, firstOf, Every}
 use Rattle.paper_lower.specs.Checks.{BEFORE, SEPARATION, BLOCK, BOUND}
 use Rattle.paper_lower.specs.Records.{Bytes, Record, decode}
+use Rattle.paper_lower.specs.Kinds.{Said, run}
 use Rattle.paper_lower.specs.Tables.{Rules}
 use Rattle.paper_lower.specs.Load.{recordsOf}
 use Rattle.paper_lower.proofs.ListLaws.{both, every-map, every-both, every-left, every-right, every-pull, place-none}
@@ -19,7 +20,7 @@ use Rattle.sets.proofs.Bits.{same-or-other}
 use Rattle.paper_upper.specs.Orders.{Entry, Engine, tasksBy, tasksDone, tasksOthers}
 use Rattle.paper_upper.specs.Rules.{missing, before, crowded, separation, own, strange, blockIn, block, tied, bound, found, ruleChecks, rulePlace}
 use Rattle.paper_upper.specs.Requests.{claimPlace}
-use Rattle.paper_upper.specs.Engine.{request, placeOf, placeTo}
+use Rattle.paper_upper.specs.Engine.{request, placeOf, placeTo, placedRun}
 use Rattle.theorems.specs.OverEntries.{ofKind, Allows}
 use Rattle.theorems.specs.Theorems.{tablesAfter, shown, Reaches}
 use Rattle.theorems.specs.Places.{At, PlacesExist, Prerequisite, TaskSet, Binding, FirstAt, Strange, SearchEndsAt, RuleAt, PlacesAreTrue, OthersCarryNone}
@@ -251,6 +252,12 @@ module _ (t : Engine) (s : Bytes) (e : decode s .kind ≡ 50) where
 pub places-are-true : PlacesAreTrue
 places-are-true policy accepted ss s e =
     rw (told-is-true policy accepted ss) (rule-at (tablesAfter policy ss) s e (recordsOf policy) (kept-after policy accepted ss))
+
+-- a run with places is the run, with places
+pub placed-said : (t : Engine) (ss : List Bytes) → each (λ a. a .said) (placedRun t ss) ≡ run request t ss
+unfolding each placedRun run
+placed-said t [] = refl
+placed-said t (s ∷ ss) = ap (λ (l : List Said). record { request = s; reply = request t s .reply } ∷ l) (placed-said (request t s .tables) ss)
 
 pub others-carry-none : OthersCarryNone
 unfolding placeTo placeOf claimPlace rulePlace

@@ -9,9 +9,9 @@ use Rattle.paper_lower.specs.Sets.{Set, has, meets}
 use Rattle.paper_lower.specs.Lists.{some, many, Every}
 use Rattle.paper_lower.specs.Checks.{BEFORE, SEPARATION, BLOCK, BOUND}
 use Rattle.paper_lower.specs.Records.{Bytes, Record, decode}
-use Rattle.paper_lower.specs.Load.{recordsOf}
+use Rattle.paper_lower.specs.Load.{load, recordsOf}
 use Rattle.paper_upper.specs.Orders.{Orders, Engine, tasksBy}
-use Rattle.paper_upper.specs.Engine.{request, placeTo}
+use Rattle.paper_upper.specs.Engine.{request, placeTo, Placed, placedRun, engineOf}
 use Rattle.theorems.specs.Outside.{Told, hear}
 use Rattle.theorems.specs.OverEntries.{ofKind, OfUsers, Allows, OneUser, Ready}
 use Rattle.theorems.specs.Theorems.{AfterEvery, tablesAfter, toldAfter, replyAfter}
@@ -65,7 +65,10 @@ pub record RuleAt (policy : List Record) (x : Told) (r : Record) (reply place : 
       → SearchEndsAt (ofKind 12 policy) (tasksBy (r .b) (x .sessions .user (r .a)) (x .orders .entries)) (r .c) place
   pub bindings : reply ≡ BOUND → FirstAt (Binding (hear x r .orders)) (ofKind 15 policy) place
 
--- the place of one request more
+-- the requests, each with its reply and its place; and the place of one request more
+abbrev pub placedAfter : Bytes → List Bytes → List Placed
+placedAfter policy requests = placedRun (engineOf (load policy .tables)) requests
+
 abbrev pub placeAfter : Bytes → List Bytes → Bytes → ℕ
 placeAfter policy requests s = placeTo (tablesAfter policy requests) s
 
