@@ -1,0 +1,106 @@
+-- One turn of the pile's loop: what was replied and what is left to ask make the whole.
+use Prim.Native.Nat.{ℕ, zero, suc, _+_, _-_, _*_, _/_, _≤_, _<_}
+use mathlib.Core.Bool.{true}
+use mathlib.Core.List.{List, [], _∷_, _++_, append-nil}
+use mathlib.Core.Path.{_≡_, refl, sym, ap, subst, _∙_}
+use native.Mathlib.Nat.{not-suc-le-zero}
+use native.Mathlib.Numerals.{add-one, sub-one}
+use native.Mathlib.Omega.{arith}
+use lib.ListN.{length, take, drop, set, take-append-drop}
+use lib.Seq.{drop-drop, take-suc-set, drop-set-lt, append-snoc}
+use Rattle.paper_lower.specs.Lists.{each}
+use Rattle.paper_lower.specs.Records.{Bytes}
+use Rattle.paper_lower.specs.Kinds.{Said, run, after}
+use Rattle.paper_upper.specs.Orders.{SameTables}
+use Rattle.paper_upper.specs.Engine.{request}
+use Rattle.replies.specs.Replies.{numberOf}
+use Rattle.replies.specs.declared.Reply.{Reply}
+use Rattle.engine.specs.Buffers.{Buffers, tablesOf, fit, SameLengths}
+use Rattle.engine.specs.Answers.{requestAnswer, Requested}
+use Rattle.engine.proofs.SameLaws.{tables-refl, tables-sym, tables-then}
+use Rattle.engine.proofs.RespectLaws.{runs-respect}
+use Rattle.demands.specs.Calls.Request.{within}
+use Rattle.demands.proofs.Calls.{fit-kept, request-listed, answers}
+use Rattle.pile.specs.Pile.{wholeFrom, repliesOf}
+use Rattle.pile.specs.Promises.{Answers}
+
+-- a reply is a byte
+pub small : {bytes : Bytes} {x y : Buffers} {r : Reply} → Requested bytes x y r → numberOf r ≤ 255
+small {bytes} {x} q = let e = q .replies in let l = request-listed bytes x in omega arith
+
+-- i of n requests are done, and the next record stands at a place
+pub record Left (n : ℕ) (bytes : Bytes) (x₀ x : Buffers) (i at : ℕ) (out₀ out : Bytes) : Type 0 where
+  pub replies : take i out ++ repliesOf (run request (tablesOf x) (wholeFrom (n - i) (drop at bytes))) ≡ repliesOf (run request (tablesOf x₀) (wholeFrom n bytes))
+  pub tables : SameTables (after request (tablesOf x) (wholeFrom (n - i) (drop at bytes))) (after request (tablesOf x₀) (wholeFrom n bytes))
+  pub rest : drop i out ≡ drop i out₀
+  pub lengths : SameLengths x₀ x
+  pub fits : fit x ≡ true
+
+pub begun : (n : ℕ) (bytes : Bytes) (x : Buffers) (out : Bytes) → fit x ≡ true → Left n bytes x x 0 0 out out
+begun n bytes x out f =
+    let z : n - 0 ≡ n = omega arith in
+    record {
+      replies = rw z;
+      tables = rw z (tables-refl _);
+      rest = refl;
+      lengths = record { policy = refl; sessions = refl; orders = refl };
+      fits = f;
+    }
+
+module _ (bytes : Bytes) (at : ℕ) {k : ℕ} {x y : Buffers} {r : Reply} (k16 : k ≡ 16) (q : Requested (take k (drop at bytes)) x y r) (f : fit x ≡ true) where
+  asked-one : (numberOf r ≡ request (tablesOf x) (take 16 (drop at bytes)) .reply) × SameTables (tablesOf y) (request (tablesOf x) (take 16 (drop at bytes)) .tables)
+  asked-one = rw k16 at (answers (within q) f)
+
+  next-replies : (left : ℕ) → 0 < left
+      → repliesOf (run request (tablesOf x) (wholeFrom left (drop at bytes))) ≡ numberOf r ∷ repliesOf (run request (tablesOf y) (wholeFrom (left - 1) (drop (at + 16) bytes)))
+  unfolding wholeFrom run each
+  next-replies zero l = absurd (not-suc-le-zero l)
+  next-replies (suc n) l =
+      let e = asked-one in
+      let h = runs-respect _ _ (e .1) (wholeFrom n (drop (at + 16) bytes)) in
+      rw (sub-one, drop-drop 16 at bytes, ← e .0) (ap (λ (said : List Said). numberOf r ∷ repliesOf said) (sym (h .0)))
+
+  next-tables : (left : ℕ) → 0 < left
+      → SameTables (after request (tablesOf y) (wholeFrom (left - 1) (drop (at + 16) bytes))) (after request (tablesOf x) (wholeFrom left (drop at bytes)))
+  unfolding wholeFrom after
+  next-tables zero l = absurd (not-suc-le-zero l)
+  next-tables (suc n) l = rw (sub-one, drop-drop 16 at bytes) (runs-respect _ _ (asked-one .1) (wholeFrom n (drop (at + 16) bytes)) .1)
+
+put-one : (out : Bytes) (i v : ℕ) → i < length out → (rs : Bytes) → take (i + 1) (set out i v) ++ rs ≡ take i out ++ (v ∷ rs)
+put-one out i v h rs = rw (add-one, take-suc-set out i v h) (append-snoc (take i out) v rs)
+
+untouched : (out₀ out : Bytes) (i v : ℕ) → drop i out ≡ drop i out₀ → drop (i + 1) (set out i v) ≡ drop (i + 1) out₀
+untouched out₀ out i v e =
+    let l : i < i + 1 = omega arith in
+    drop-set-lt (i + 1) out i v l ∙ sym (drop-drop 1 i out) ∙ ap (drop 1) e ∙ drop-drop 1 i out₀
+
+pub turned : {n : ℕ} {bytes : Bytes} {x₀ x y : Buffers} {i at k : ℕ} {out₀ out : Bytes} {r : Reply} {v : ℕ}
+    → Left n bytes x₀ x i at out₀ out → k ≡ 16 → Requested (take k (drop at bytes)) x y r → v ≡ numberOf r → i < n → i < length out
+    → Left n bytes x₀ y (i + 1) (at + 16) out₀ (set out i v)
+turned {n} {bytes} {x₀} {x} {y} {i} {at} {k} {out₀} {out} {r} {v} l k16 q e m h =
+    let z : n - i - 1 ≡ n - (i + 1) = omega arith in
+    let a = next-replies bytes at k16 q (l .fits) (n - i) (omega arith) in
+    let b = next-tables bytes at k16 q (l .fits) (n - i) (omega arith) in
+    record {
+      replies = put-one out i v h _ ∙ rw (e, ← z, ← a) (l .replies);
+      tables = rw (← z) (tables-then b (l .tables));
+      rest = untouched out₀ out i v (l .rest);
+      lengths = record {
+        policy = q .lengths .policy ∙ l .lengths .policy;
+        sessions = q .lengths .sessions ∙ l .lengths .sessions;
+        orders = q .lengths .orders ∙ l .lengths .orders;
+      };
+      fits = fit-kept (q .lengths) ∙ l .fits;
+    }
+
+pub ended : {n : ℕ} {bytes : Bytes} {x₀ x : Buffers} {i at : ℕ} {out₀ out : Bytes} → Left n bytes x₀ x i at out₀ out → i ≡ n → Answers n bytes x₀ x out₀ out
+unfolding wholeFrom run after each
+ended {n} {bytes} {x₀} {x} {i} {at} {out₀} {out} l e =
+    let z : n - i ≡ 0 = omega arith in
+    let w : take i out ++ [] ≡ repliesOf (run request (tablesOf x₀) (wholeFrom n bytes)) = rw z at (l .replies) in
+    let w′ : take i out ≡ repliesOf (run request (tablesOf x₀) (wholeFrom n bytes)) = sym (append-nil (take i out)) ∙ w in
+    record {
+      replies = sym (take-append-drop i out) ∙ rw (w′, l .rest, e);
+      tables = rw z at (l .tables);
+      lengths = l .lengths;
+    }
