@@ -9,10 +9,6 @@ use Rattle.engine.specs.Buffers.{buffers}
 use Rattle.pile.proofs.Turns.{Left, begun, turned, ended, small}
 use Rattle.pile.proofs.answer_all.Statement.{statement}
 use Rattle.pile.proofs.answer_all.Tie as tie
-use Rattle.pile.proofs.answer_all.Reads as reads
-use Rattle.pile.proofs.answer_all.Lts as lts
-use Rattle.engine.proofs.request.Reads as request-reads
-use Rattle.replies.proofs.number.Reads as number-reads
 
 abbrev Inv-loop : tie.InvT-loop
 Inv-loop bytes n out₀ policy₀ sessions₀ orders₀ at₀ i₀ out policy sessions orders at i = (at ≡ 16 * i) × ((i ≤ n) × ((length out ≡ length out₀) × Left n bytes (buffers policy₀ sessions₀ orders₀) (buffers policy sessions orders) i at out₀ out))
@@ -20,73 +16,56 @@ Inv-loop bytes n out₀ policy₀ sessions₀ orders₀ at₀ i₀ out policy se
 abbrev μ-loop : tie.MeasureT-loop
 μ-loop bytes n out₀ policy₀ sessions₀ orders₀ at₀ i₀ out policy sessions orders at i = n - i
 
--- src/lib.rt:33:5
 loop-holds : tie.Need-loop-holds Inv-loop μ-loop
 loop-holds c = (refl, (omega arith, (refl, begun _ _ _ _ (c .before .before .before .before .before .pre .1 .1))))
 
--- src/lib.rt:34:19
 add-end : tie.Need-add-end Inv-loop μ-loop
 add-end c = search needs
 
--- src/lib.rt:35:33
 sub-request : tie.Need-sub-request Inv-loop μ-loop
 sub-request c = search needs
 
--- src/lib.rt:35:33
 part-request-start : tie.Need-part-request-start Inv-loop μ-loop
 part-request-start c = search needs
 
--- src/lib.rt:35:33
 part-request-end : tie.Need-part-request-end Inv-loop μ-loop
 part-request-end c = search needs
 
--- src/lib.rt:35:13
 request-requires : tie.Need-request-requires Inv-loop μ-loop
 request-requires c κs = search needs
 
--- src/lib.rt:36:18
 number-requires : tie.Need-number-requires Inv-loop μ-loop
 number-requires c κs = search needs
 
--- src/lib.rt:36:18
 cast-out : tie.Need-cast-out Inv-loop μ-loop
 cast-out c = let h = small (c .before .before .before .before .before .before .before .request .ensures) in search needs
 
--- src/lib.rt:36:9
 slice-write-out : tie.Need-slice-write-out Inv-loop μ-loop
 slice-write-out c = search needs
 
--- src/lib.rt:38:9
 add-i : tie.Need-add-i Inv-loop μ-loop
 add-i c = search needs
 
--- src/lib.rt:33:5
 loop-less : tie.Need-loop-less Inv-loop μ-loop
 loop-less c = search needs
 
--- src/lib.rt:33:5
 loop-again : tie.Need-loop-again Inv-loop μ-loop
 loop-again c =
     let h : c .before .before .before .before .before .before .before .before .before .before .before .before .before .loop .at + 16 - c .before .before .before .before .before .before .before .before .before .before .before .before .before .loop .at ≡ 16 = omega arith in
     (omega arith, (omega arith, (length-set (c .before .before .before .before .before .before .before .before .before .before .before .before .before .loop .out) (c .before .before .before .before .before .before .before .before .before .before .before .before .before .loop .i) (c .number .result) ∙ c .before .before .before .before .before .before .before .before .before .before .before .before .before .loop .inv .1 .1 .0, turned (c .before .before .before .before .before .before .before .before .before .before .before .before .before .loop .inv .1 .1 .1) h (c .before .before .before .before .before .before .before .request .ensures) (c .number .ensures) (omega arith) (omega arith))))
 
--- src/lib.rt:20:1
 same-length : tie.Need-same-length Inv-loop μ-loop
 same-length c = search needs
 
--- src/lib.rt:20:1
 same-length-2 : tie.Need-same-length-2 Inv-loop μ-loop
 same-length-2 c = search needs
 
--- src/lib.rt:20:1
 same-length-3 : tie.Need-same-length-3 Inv-loop μ-loop
 same-length-3 c = search needs
 
--- src/lib.rt:20:1
 same-length-4 : tie.Need-same-length-4 Inv-loop μ-loop
 same-length-4 c = search needs
 
--- src/lib.rt:20:1
 returns : tie.Need-returns Inv-loop μ-loop
 returns c = ended (c .before .loop .inv .1 .1 .1) (omega arith)
 

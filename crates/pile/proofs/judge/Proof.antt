@@ -8,34 +8,25 @@ use Rattle.pile.proofs.Judging.{no-state, past, short, too-many, cut, t
 use borrow.Author.Needs.{needs}
 use Rattle.pile.proofs.judge.Statement.{statement}
 use Rattle.pile.proofs.judge.Tie as tie
-use Rattle.pile.proofs.judge.Reads as reads
-use Rattle.pile.proofs.judge.Lts as lts
 
--- src/lib.rt:57:9
 returns : tie.Need-returns
 returns c = no-state (now (c .before .args .bytes)) (now (c .before .args .answers)) (c .before .args .at) (buffers (now (c .before .args .policy)) (now (c .before .args .sessions)) (now (c .before .args .orders))) (c .if1 .taken)
 
--- src/lib.rt:60:9
 returns-2 : tie.Need-returns-2
 returns-2 c = past (now (c .before .before .args .bytes)) (now (c .before .before .args .answers)) (c .before .before .args .at) (buffers (now (c .before .before .args .policy)) (now (c .before .before .args .sessions)) (now (c .before .before .args .orders))) (fits (buffers (now (c .before .before .args .policy)) (now (c .before .before .args .sessions)) (now (c .before .before .args .orders))) (c .before .if1 .left)) (omega arith)
 
--- src/lib.rt:63:8
 sub-if3 : tie.Need-sub-if3
 sub-if3 c = search needs
 
--- src/lib.rt:64:9
 returns-3 : tie.Need-returns-3
 returns-3 c = short (now (c .before .before .before .args .bytes)) (now (c .before .before .before .args .answers)) (c .before .before .before .args .at) (buffers (now (c .before .before .before .args .policy)) (now (c .before .before .before .args .sessions)) (now (c .before .before .before .args .orders))) (fits (buffers (now (c .before .before .before .args .policy)) (now (c .before .before .before .args .sessions)) (now (c .before .before .before .args .orders))) (c .before .before .if1 .left)) (omega arith) (omega arith)
 
--- src/lib.rt:67:9
 returns-4 : tie.Need-returns-4
 returns-4 c = too-many (now (c .before .before .before .before .args .bytes)) (now (c .before .before .before .before .args .answers)) (c .before .before .before .before .args .at) (buffers (now (c .before .before .before .before .args .policy)) (now (c .before .before .before .before .args .sessions)) (now (c .before .before .before .before .args .orders))) (fits (buffers (now (c .before .before .before .before .args .policy)) (now (c .before .before .before .before .args .sessions)) (now (c .before .before .before .before .args .orders))) (c .before .before .before .if1 .left)) (omega arith) (omega arith) (omega arith)
 
--- src/lib.rt:70:9
 returns-5 : tie.Need-returns-5
 returns-5 c = cut (now (c .before .before .before .before .before .args .bytes)) (now (c .before .before .before .before .before .args .answers)) (c .before .before .before .before .before .args .at) (buffers (now (c .before .before .before .before .before .args .policy)) (now (c .before .before .before .before .before .args .sessions)) (now (c .before .before .before .before .before .args .orders))) (fits (buffers (now (c .before .before .before .before .before .args .policy)) (now (c .before .before .before .before .before .args .sessions)) (now (c .before .before .before .before .before .args .orders))) (c .before .before .before .before .if1 .left)) (omega arith) (omega arith) (omega arith) (λ e. omega arith)
 
--- src/lib.rt:43:1
 returns-6 : tie.Need-returns-6
 returns-6 c = taken (now (c .before .before .before .before .before .args .bytes)) (now (c .before .before .before .before .before .args .answers)) (c .before .before .before .before .before .args .at) (buffers (now (c .before .before .before .before .before .args .policy)) (now (c .before .before .before .before .before .args .sessions)) (now (c .before .before .before .before .before .args .orders))) (fits (buffers (now (c .before .before .before .before .before .args .policy)) (now (c .before .before .before .before .before .args .sessions)) (now (c .before .before .before .before .before .args .orders))) (c .before .before .before .before .if1 .left)) (omega arith) (omega arith) (omega arith) (omega arith)
 

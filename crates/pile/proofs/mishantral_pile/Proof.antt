@@ -4,36 +4,25 @@ use Rattle.pile.proofs.Ways.{as-number}
 use borrow.Author.Needs.{needs}
 use Rattle.pile.proofs.mishantral_pile.Statement.{statement}
 use Rattle.pile.proofs.mishantral_pile.Tie as tie
-use Rattle.pile.proofs.mishantral_pile.Reads as reads
-use Rattle.pile.proofs.mishantral_pile.Lts as lts
-use Rattle.pile.proofs.pile.Reads as pile-reads
-use Rattle.replies.proofs.number.Reads as number-reads
 
--- src/lib.rt:110:9
 pile-requires : tie.Need-pile-requires
 pile-requires c κs = search needs
 
--- src/lib.rt:111:5
 number-requires : tie.Need-number-requires
 number-requires c κs = search needs
 
--- src/lib.rt:99:1
 same-length : tie.Need-same-length
 same-length c = search needs
 
--- src/lib.rt:99:1
 same-length-2 : tie.Need-same-length-2
 same-length-2 c = search needs
 
--- src/lib.rt:99:1
 same-length-3 : tie.Need-same-length-3
 same-length-3 c = search needs
 
--- src/lib.rt:99:1
 same-length-4 : tie.Need-same-length-4
 same-length-4 c = search needs
 
--- src/lib.rt:99:1
 returns : tie.Need-returns
 returns c = as-number (c .before .before .before .before .before .before .before .before .before .pile .ensures) (c .number .ensures)
 

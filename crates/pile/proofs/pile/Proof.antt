@@ -8,76 +8,55 @@ use Rattle.pile.proofs.Ways.{refused, taken, done}
 use borrow.Author.Needs.{needs}
 use Rattle.pile.proofs.pile.Statement.{statement}
 use Rattle.pile.proofs.pile.Tie as tie
-use Rattle.pile.proofs.pile.Reads as reads
-use Rattle.pile.proofs.pile.Lts as lts
-use Rattle.pile.proofs.answer_all.Reads as answer-all-reads
-use Rattle.pile.proofs.judge.Reads as judge-reads
-use Rattle.replies.proofs.accepted.Reads as accepted-reads
 
--- src/lib.rt:83:9
 judge-requires : tie.Need-judge-requires
 judge-requires c κs = search needs
 
--- src/lib.rt:84:9
 accepted-requires : tie.Need-accepted-requires
 accepted-requires c κs = search needs
 
--- src/lib.rt:85:9
 same-length : tie.Need-same-length
 same-length c = search needs
 
--- src/lib.rt:85:9
 same-length-2 : tie.Need-same-length-2
 same-length-2 c = search needs
 
--- src/lib.rt:85:9
 same-length-3 : tie.Need-same-length-3
 same-length-3 c = search needs
 
--- src/lib.rt:85:9
 same-length-4 : tie.Need-same-length-4
 same-length-4 c = search needs
 
--- src/lib.rt:85:9
 returns : tie.Need-returns
 returns c = refused (now (c .before .before .before .before .before .before .before .before .before .before .before .before .args .bytes)) (now (c .before .before .before .before .before .before .before .before .before .before .before .before .args .answers)) (c .before .before .before .before .before .before .before .before .before .before .before .before .args .at) (buffers (now (c .before .before .before .before .before .before .before .before .before .before .before .before .args .policy)) (now (c .before .before .before .before .before .before .before .before .before .before .before .before .args .sessions)) (now (c .before .before .before .before .before .before .before .before .before .before .before .before .args .orders))) (c .before .before .judge .result) (c .before .before .judge .ensures) (c .before .accepted .ensures) (c .if1 .taken)
 
--- src/lib.rt:90:9
 sub-answer-all : tie.Need-sub-answer-all
 sub-answer-all c = (taken (now (c .before .before .before .before .before .before .before .before .before .before .before .before .args .bytes)) (now (c .before .before .before .before .before .before .before .before .before .before .before .before .args .answers)) (c .before .before .before .before .before .before .before .before .before .before .before .before .args .at) (buffers (now (c .before .before .before .before .before .before .before .before .before .before .before .before .args .policy)) (now (c .before .before .before .before .before .before .before .before .before .before .before .before .args .sessions)) (now (c .before .before .before .before .before .before .before .before .before .before .before .before .args .orders))) (c .before .before .judge .result) (c .before .before .judge .ensures) (c .before .accepted .ensures) (c .if1 .left)) .inside
 
--- src/lib.rt:90:9
 part-answer-all-start : tie.Need-part-answer-all-start
 part-answer-all-start c = let h = (taken (now (c .before .before .before .before .before .before .before .before .before .before .before .before .args .bytes)) (now (c .before .before .before .before .before .before .before .before .before .before .before .before .args .answers)) (c .before .before .before .before .before .before .before .before .before .before .before .before .args .at) (buffers (now (c .before .before .before .before .before .before .before .before .before .before .before .before .args .policy)) (now (c .before .before .before .before .before .before .before .before .before .before .before .before .args .sessions)) (now (c .before .before .before .before .before .before .before .before .before .before .before .before .args .orders))) (c .before .before .judge .result) (c .before .before .judge .ensures) (c .before .accepted .ensures) (c .if1 .left)) .inside in search needs
 
--- src/lib.rt:90:9
 part-answer-all-end : tie.Need-part-answer-all-end
 part-answer-all-end c = search needs
 
--- src/lib.rt:87:5
 answer-all-requires : tie.Need-answer-all-requires
 answer-all-requires c κs =
     let k = taken (now (c .before .before .before .before .before .before .before .before .before .before .before .before .before .before .before .before .args .bytes)) (now (c .before .before .before .before .before .before .before .before .before .before .before .before .before .before .before .before .args .answers)) (c .before .before .before .before .before .before .before .before .before .before .before .before .before .before .before .before .args .at) (buffers (now (c .before .before .before .before .before .before .before .before .before .before .before .before .before .before .before .before .args .policy)) (now (c .before .before .before .before .before .before .before .before .before .before .before .before .before .before .before .before .args .sessions)) (now (c .before .before .before .before .before .before .before .before .before .before .before .before .before .before .before .before .args .orders))) (c .before .before .before .before .before .before .judge .result) (c .before .before .before .before .before .before .judge .ensures) (c .before .before .before .before .before .accepted .ensures) (c .before .before .before .before .if1 .left) in
     let r = k .room in
     (omega arith, (simp (length-take, length-drop) (omega arith), k .fits))
 
--- src/lib.rt:73:1
 same-length-5 : tie.Need-same-length-5
 same-length-5 c = search needs
 
--- src/lib.rt:73:1
 same-length-6 : tie.Need-same-length-6
 same-length-6 c = search needs
 
--- src/lib.rt:73:1
 same-length-7 : tie.Need-same-length-7
 same-length-7 c = search needs
 
--- src/lib.rt:73:1
 same-length-8 : tie.Need-same-length-8
 same-length-8 c = search needs
 
--- src/lib.rt:73:1
 returns-2 : tie.Need-returns-2
 returns-2 c = done (taken (now (c .before .before .before .before .before .before .before .before .before .before .before .before .before .before .before .before .before .before .before .before .before .before .before .before .before .args .bytes)) (now (c .before .before .before .before .before .before .before .before .before .before .before .before .before .before .before .before .before .before .before .before .before .before .before .before .before .args .answers)) (c .before .before .before .before .before .before .before .before .before .before .before .before .before .before .before .before .before .before .before .before .before .before .before .before .before .args .at) (buffers (now (c .before .before .before .before .before .before .before .before .before .before .before .before .before .before .before .before .before .before .before .before .before .before .before .before .before .args .policy)) (now (c .before .before .before .before .before .before .before .before .before .before .before .before .before .before .before .before .before .before .before .before .before .before .before .before .before .args .sessions)) (now (c .before .before .before .before .before .before .before .before .before .before .before .before .before .before .before .before .before .before .before .before .before .before .before .before .before .args .orders))) (c .before .before .before .before .before .before .before .before .before .before .before .before .before .before .before .judge .result) (c .before .before .before .before .before .before .before .before .before .before .before .before .before .before .before .judge .ensures) (c .before .before .before .before .before .before .before .before .before .before .before .before .before .before .accepted .ensures) (c .before .before .before .before .before .before .before .before .before .before .before .before .before .if1 .left)) (c .before .before .before .before .before .before .before .before .answer-all .ensures)
 
