@@ -1,5 +1,5 @@
 -- A template's tasks against a set, as a search finds it: no task that one has and the other not. And how many they are.
-use Prim.Native.Nat.{ℕ, suc, _+_, _<_, _^_}
+use Prim.Native.Nat.{ℕ, zero, suc, _+_, _≤_, _<_, _^_}
 use mathlib.Core.Bool.{Bool, true, false, not, _&&_}
 use mathlib.Core.Path.{_≡_, refl, sym, ap, _∙_}
 use native.Mathlib.Nat.{le-refl}
@@ -40,3 +40,15 @@ size-in n f e = next n f ∙ rw e (size-plus (collect n f) n (collect-above n f 
 pub size-out : (n : ℕ) (f : ℕ → Bool) → f n ≡ false → size (collect (n + 1) f) ≡ size (collect n f)
 unfolding collect
 size-out n f e = next n f ∙ rw e refl
+
+-- as far as it is looked, there are not more than in all
+pub size-grows : (n m : ℕ) (f : ℕ → Bool) → size (collect n f) ≤ size (collect (n + m) f)
+size-grows n zero f = let e : n + 0 ≡ n = omega arith in rw e (le-refl _)
+size-grows n (suc m) f =
+    let e : n + suc m ≡ n + m + 1 = omega arith in
+    let h = size-grows n m f in
+    rw e (go (f (n + m)) refl h)
+  where
+    go : (b : Bool) → f (n + m) ≡ b → size (collect n f) ≤ size (collect (n + m) f) → size (collect n f) ≤ size (collect (n + m + 1) f)
+    go true q h = let s = size-in (n + m) f q in omega arith
+    go false q h = let s = size-out (n + m) f q in omega arith

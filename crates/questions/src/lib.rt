@@ -3,6 +3,7 @@
 ghost use mathlib.Core.Path.{_≡_};
 ghost use mathlib.Core.Bool.{cond, _&&_};
 ghost use Prim.Native.Nat.{_<_};
+ghost use lib.Dec.{leb};
 ghost use lib.ListN.{length};
 ghost use Rattle.paper_lower.specs.Sets.{plus, minus, size, within};
 ghost use Rattle.paper_lower.specs.Lists.{someBelow, some};
@@ -109,20 +110,24 @@ pub fn others_within(p: &[u64], j: u64, t: u64, d: Set) -> bool
     true
 }
 
-// How many tasks template j has.
-pub fn task_count(p: &[u64], j: u64) -> u64
+// Whether template j has two tasks or more. It ends at the second: a count of all 64 would be made of vectors, whose registers every request would
+// have to keep.
+pub fn two_tasks(p: &[u64], j: u64) -> bool
     requires { ⌜ (length (now p) ≡ policyWords) × (j < 16) ⌝ }
-    ensures { λ r. ⌜ r ≡ size (tasksOf (policyOf (now (p .entry)) .tasks) j) ⌝ }
+    ensures { λ r. ⌜ r ≡ leb 2 (size (tasksOf (policyOf (now (p .entry)) .tasks) j)) ⌝ }
 {
     let mut n = 0;
     let mut i = 0;
     while i < 64 {
         if policy::task_is_of(p, i, j) {
-            n += 1;
+            if n == 1 {
+                return true;
+            }
+            n = 1;
         }
         i += 1;
     }
-    n
+    false
 }
 
 // ---- Limits: static sets 0, dynamic sets 1, task sets 2.

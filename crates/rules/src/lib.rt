@@ -169,7 +169,7 @@ fn alone(p: &[u64], template: u64, d: Set, t: u64) -> bool
     if !questions::others_within(p, template, t, d) {
         return false;
     }
-    2 <= questions::task_count(p, template)
+    questions::two_tasks(p, template)
 }
 
 // ---- BOUND.

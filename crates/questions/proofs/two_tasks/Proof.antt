@@ -1,8 +1,9 @@
 -- Written from Proof.tmpl by 'prove expand': edit that file.
--- Counted upwards: each number below 64 that is a task of the template adds one.
+-- Looked for upwards: the second number below 64 that is a task of the template ends the search.
 use borrow.Author.Needs.{needs}
+use borrow.Author.Tests.{le-leb, lt-leb}
 use Prim.Native.Nat.{ℕ, _+_, _-_, _≤_}
-use mathlib.Core.Path.{_≡_, refl, sym, ap, _∙_}
+use mathlib.Core.Path.{_≡_, refl, sym, _∙_}
 use mathlib.Core.Bool.{Bool}
 use mathlib.Core.Logic.{⊎-elim}
 use native.Mathlib.Omega.{arith}
@@ -10,12 +11,12 @@ use Rattle.paper_lower.specs.Sets.{onesIn, size, collect}
 use Rattle.paper_lower.specs.Lists.{is}
 use Rattle.paper_lower.specs.Policy.{tasksOf}
 use Rattle.policy.specs.Reading.{policyOf}
-use Rattle.questions.proofs.Tasks.{size-in, size-out}
-use Rattle.questions.proofs.task_count.Statement.{statement}
-use Rattle.questions.proofs.task_count.Tie as tie
+use Rattle.questions.proofs.Tasks.{size-in, size-out, size-grows}
+use Rattle.questions.proofs.two_tasks.Statement.{statement}
+use Rattle.questions.proofs.two_tasks.Tie as tie
 
 abbrev Inv-loop : tie.InvT-loop
-Inv-loop p j n₀ i₀ n i = (i ≤ 64) × ((n ≤ i) × (n ≡ size (collect i (λ t. is j (policyOf p .tasks .template t)))))
+Inv-loop p j n₀ i₀ n i = (i ≤ 64) × ((n ≤ 1) × (n ≡ size (collect i (λ t. is j (policyOf p .tasks .template t)))))
 
 abbrev μ-loop : tie.MeasureT-loop
 μ-loop p j n₀ i₀ n i = 64 - i
@@ -27,8 +28,16 @@ loop-holds c = (search needs, (search needs, refl))
 task-is-of-requires : tie.Need-task-is-of-requires Inv-loop μ-loop
 task-is-of-requires c κs = search needs
 
-add-n : tie.Need-add-n Inv-loop μ-loop
-add-n c = search needs
+returns : tie.Need-returns Inv-loop μ-loop
+unfolding tasksOf
+returns c =
+    let f : ℕ → Bool = λ t. is (c .before .before .before .before .before .before .args .j) (policyOf (c .before .before .before .before .before .before .args .p .now) .tasks .template t) in
+    let q : c .before .before .before .before .loop .n ≡ size (collect (c .before .before .before .before .loop .i) f) = c .before .before .before .before .loop .inv .1 .1 in
+    let s = size-in (c .before .before .before .before .loop .i) f (sym (c .before .before .task-is-of .ensures) ∙ c .before .if1 .taken) in
+    let g = size-grows (c .before .before .before .before .loop .i + 1) (64 - (c .before .before .before .before .loop .i + 1)) f in
+    let e : c .before .before .before .before .loop .i + 1 + (64 - (c .before .before .before .before .loop .i + 1)) ≡ 64 = omega arith in
+    let h : size (collect (c .before .before .before .before .loop .i + 1) f) ≤ size (collect 64 f) = rw e at g in
+    sym (le-leb 2 (size (collect 64 f)) (omega arith))
 
 add-i : tie.Need-add-i Inv-loop μ-loop
 add-i c = search needs
@@ -42,27 +51,34 @@ loop-again c =
     let q : c .before .before .before .loop .n ≡ size (collect (c .before .before .before .loop .i) f) = c .before .before .before .loop .inv .1 .1 in
     ⊎-elim
     (λ w.
-    let n : c .if1 .n ≡ c .before .before .before .loop .n + 1 = omega arith in
-    (omega arith, (omega arith, n ∙ ap (λ x. x + 1) q ∙ sym (size-in (c .before .before .before .loop .i) f (sym (c .before .task-is-of .ensures) ∙ w .0 .taken)))))
+    let z : c .before .before .before .loop .n ≡ 0 = omega arith in
+    let m : c .if1 .n ≡ 1 = omega arith in
+    let s = size-in (c .before .before .before .loop .i) f (sym (c .before .task-is-of .ensures) ∙ w .0 .taken) in
+    (omega arith, (omega arith, omega arith)))
     (λ w.
     let n : c .if1 .n ≡ c .before .before .before .loop .n = omega arith in
-    (omega arith, (omega arith, n ∙ q ∙ sym (size-out (c .before .before .before .loop .i) f (sym (c .before .task-is-of .ensures) ∙ w .0 .left)))))
+    let s = size-out (c .before .before .before .loop .i) f (sym (c .before .task-is-of .ensures) ∙ w .0 .left) in
+    (omega arith, (omega arith, omega arith)))
     (c .if1 .came)
 
-returns : tie.Need-returns Inv-loop μ-loop
+returns-2 : tie.Need-returns-2 Inv-loop μ-loop
 unfolding tasksOf
-returns c = let e : c .before .loop .i ≡ 64 = omega arith in rw e at (c .before .loop .inv .1 .1)
+returns-2 c =
+    let f : ℕ → Bool = λ t. is (c .before .before .before .args .j) (policyOf (c .before .before .before .args .p .now) .tasks .template t) in
+    let e : c .before .loop .i ≡ 64 = omega arith in
+    let q : c .before .loop .n ≡ size (collect 64 f) = rw e at (c .before .loop .inv .1 .1) in
+    sym (lt-leb 2 (size (collect 64 f)) (omega arith))
 
-pub task-count-spec : {M : Type 1} → statement M
-task-count-spec =
+pub two-tasks-spec : {M : Type 1} → statement M
+two-tasks-spec =
     tie.close
     (tie.spec
     Inv-loop
     μ-loop
     loop-holds
     task-is-of-requires
-    add-n
+    returns
     add-i
     loop-less
     loop-again
-    returns)
+    returns-2)

@@ -1,5 +1,5 @@
 -- Written from Proof.tmpl by 'prove expand': edit that file.
--- A template without a ban is told apart before its tasks are looked at, and they are counted last.
+-- A template without a ban is told apart before its tasks are looked at, and they are looked for last.
 use mathlib.Core.Path.{sym, _∙_}
 use borrow.Author.Needs.{needs}
 use borrow.Author.Tests.{not-true, not-false}
@@ -22,12 +22,12 @@ returns-2 : tie.Need-returns-2
 unfolding alone holds
 returns-2 c = rw (sym (c .before .before .before .banned .ensures) ∙ not-false _ (c .before .before .if1 .left), sym (c .before .others-within .ensures) ∙ not-true _ (c .if2 .taken))
 
-task-count-requires : tie.Need-task-count-requires
-task-count-requires c κs = search needs
+two-tasks-requires : tie.Need-two-tasks-requires
+two-tasks-requires c κs = search needs
 
 returns-3 : tie.Need-returns-3
 unfolding alone holds
-returns-3 c = rw (sym (c .before .before .before .before .banned .ensures) ∙ not-false _ (c .before .before .before .if1 .left), sym (c .before .before .others-within .ensures) ∙ not-false _ (c .before .if2 .left), c .task-count .ensures)
+returns-3 c = rw (sym (c .before .before .before .before .banned .ensures) ∙ not-false _ (c .before .before .before .if1 .left), sym (c .before .before .others-within .ensures) ∙ not-false _ (c .before .if2 .left), c .two-tasks .ensures)
 
 pub alone-spec : {M : Type 1} → statement M
 alone-spec =
@@ -37,5 +37,5 @@ alone-spec =
     returns
     others-within-requires
     returns-2
-    task-count-requires
+    two-tasks-requires
     returns-3)
