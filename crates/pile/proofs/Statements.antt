@@ -7,14 +7,14 @@ use mathlib.Core.Path.{_≡_, refl, sym, ap, _∙_}
 use native.Mathlib.Omega.{arith}
 use Rattle.paper_lower.specs.Checks.{first, granted, GRANTED, ROOM}
 use Rattle.paper_lower.specs.Records.{Bytes}
-use Rattle.paper_lower.specs.Kinds.{Said, run, after}
+use Rattle.paper_lower.specs.Kinds.{after}
 use Rattle.paper_upper.specs.Orders.{Engine, SameTables}
-use Rattle.paper_upper.specs.Engine.{request}
+use Rattle.paper_upper.specs.Engine.{request, Placed, placedRun}
 use Rattle.engine.specs.Buffers.{Buffers, tablesOf, fit}
 use Rattle.engine.proofs.SameLaws.{tables-refl, tables-sym, tables-then}
 use Rattle.engine.proofs.RespectLaws.{runs-respect}
-use Rattle.demands.specs.Calls.{Request, fitting, asked}
-use Rattle.demands.proofs.Calls.{chain-run, reading}
+use Rattle.demands.specs.Calls.{Called, fitting}
+use Rattle.demands.proofs.Calls.{afterAll, after-all, told, chain-run, reading}
 use Rattle.pile.specs.Pile.{whole, repliesOf, writtenAt, pileChecks, Piled, pileOf, pileAnswer}
 use Rattle.pile.specs.Promises.{PileDone, AsOneByOne, OneAnswer}
 
@@ -23,7 +23,7 @@ abbrev done : Bytes → Bytes → ℕ → Buffers → Piled
 done s answers at x = record {
   reply = GRANTED;
   tables = after request (tablesOf x) (whole s);
-  answers = writtenAt at answers (repliesOf (run request (tablesOf x) (whole s)));
+  answers = writtenAt at answers (repliesOf (placedRun (tablesOf x) (whole s)));
 }
 
 -- a pile is taken where its reply is 0
@@ -53,10 +53,12 @@ as-one-by-one = record {
   same = λ {bytes} {answers} {answers′} {at} {x} {y} {z} {said} d c w.
       let k = taken bytes answers at x (sym (d .replies)) in
       let e = answer-taken bytes answers at x k in
-      let ran = chain-run Request fit tablesOf request SameTables reading c (fits bytes answers at x k) (tablesOf x) (tables-refl (tablesOf x)) in
-      let said-is : fitting said ≡ run request (tablesOf x) (whole bytes) = ran .0 ∙ ap (run request (tablesOf x)) w in (
-        d .written ∙ ap (λ (p : Piled). p .answers) e ∙ ap (λ (q : List Said). writtenAt at answers (repliesOf q)) (sym said-is),
-        tables-then (rw e at (d .tables)) (tables-sym (rw w at (ran .1))),
+      let ran = chain-run Called fit tablesOf (λ t s. request t s .tables) (λ a. a .said) told placedRun SameTables reading c (fits bytes answers at x k) (tablesOf x)
+      (tables-refl (tablesOf x)) in
+      let said-is : fitting (λ a. a .said) said ≡ placedRun (tablesOf x) (whole bytes) = ran .0 ∙ ap (placedRun (tablesOf x)) w in
+      let after-is : SameTables (tablesOf z) (afterAll (λ t s. request t s .tables) (tablesOf x) (whole bytes)) = rw w at (ran .1) in (
+        d .written ∙ ap (λ (p : Piled). p .answers) e ∙ ap (λ (q : List Placed). writtenAt at answers (repliesOf q)) (sym said-is),
+        tables-then (rw e at (d .tables)) (tables-sym (rw (after-all request (tablesOf x) (whole bytes)) at after-is)),
       );
 }
 
@@ -82,7 +84,7 @@ module _ (s answers : Bytes) (at : ℕ) (x x′ : Buffers) (f : fit x ≡ fit x�
           (granted k (done s answers at x′) (record { reply = k; tables = tablesOf x′; answers = answers }))
       go zero =
           let h = runs-respect (tablesOf x) (tablesOf x′) t (whole s) in
-          record { replies = refl; answers = ap (λ (q : List Said). writtenAt at answers (repliesOf q)) (h .0); tables = h .1 }
+          record { replies = refl; answers = ap (λ (q : List Placed). writtenAt at answers (repliesOf q)) (h .0); tables = h .1 }
       go (suc k) = record { replies = refl; answers = refl; tables = t }
 
 pub one-answer : OneAnswer

@@ -10,11 +10,11 @@ use lib.ListN.{length, take, drop, set, take-append-drop}
 use lib.Seq.{drop-drop, take-suc-set, drop-set-lt, append-snoc}
 use Rattle.paper_lower.specs.Lists.{each}
 use Rattle.paper_lower.specs.Records.{Bytes}
-use Rattle.paper_lower.specs.Kinds.{Said, run, after}
+use Rattle.paper_lower.specs.Kinds.{after}
 use Rattle.paper_upper.specs.Orders.{SameTables}
-use Rattle.paper_upper.specs.Engine.{request}
+use Rattle.paper_upper.specs.Engine.{request, Placed, placedRun}
 use Rattle.replies.specs.Replies.{numberOf}
-use Rattle.replies.specs.declared.Reply.{Reply}
+use Rattle.rules.specs.declared.Judged.{Judged}
 use Rattle.engine.specs.Buffers.{Buffers, tablesOf, fit, SameLengths}
 use Rattle.engine.specs.Answers.{requestAnswer, Requested}
 use Rattle.engine.proofs.SameLaws.{tables-refl, tables-sym, tables-then}
@@ -25,12 +25,12 @@ use Rattle.pile.specs.Pile.{wholeFrom, repliesOf}
 use Rattle.pile.specs.Promises.{Answers}
 
 -- a reply is a byte
-pub small : {bytes : Bytes} {x y : Buffers} {r : Reply} → Requested bytes x y r → numberOf r ≤ 255
+pub small : {bytes : Bytes} {x y : Buffers} {j : Judged} → Requested bytes x y j → numberOf (j .reply) ≤ 255
 small {bytes} {x} q = let e = q .replies in let l = request-listed bytes x in omega arith
 
 -- i of n requests are done, and the next record stands at a place
 pub record Left (n : ℕ) (bytes : Bytes) (x₀ x : Buffers) (i at : ℕ) (out₀ out : Bytes) : Type 0 where
-  pub replies : take i out ++ repliesOf (run request (tablesOf x) (wholeFrom (n - i) (drop at bytes))) ≡ repliesOf (run request (tablesOf x₀) (wholeFrom n bytes))
+  pub replies : take i out ++ repliesOf (placedRun (tablesOf x) (wholeFrom (n - i) (drop at bytes))) ≡ repliesOf (placedRun (tablesOf x₀) (wholeFrom n bytes))
   pub tables : SameTables (after request (tablesOf x) (wholeFrom (n - i) (drop at bytes))) (after request (tablesOf x₀) (wholeFrom n bytes))
   pub rest : drop i out ≡ drop i out₀
   pub lengths : SameLengths x₀ x
@@ -47,18 +47,21 @@ begun n bytes x out f =
       fits = f;
     }
 
-module _ (bytes : Bytes) (at : ℕ) {k : ℕ} {x y : Buffers} {r : Reply} (k16 : k ≡ 16) (q : Requested (take k (drop at bytes)) x y r) (f : fit x ≡ true) where
-  asked-one : (numberOf r ≡ request (tablesOf x) (take 16 (drop at bytes)) .reply) × SameTables (tablesOf y) (request (tablesOf x) (take 16 (drop at bytes)) .tables)
-  asked-one = rw k16 at (answers (within q) f)
+module _ (bytes : Bytes) (at : ℕ) {k : ℕ} {x y : Buffers} {j : Judged} (k16 : k ≡ 16) (q : Requested (take k (drop at bytes)) x y j) (f : fit x ≡ true) where
+  asked-one : (numberOf (j .reply) ≡ request (tablesOf x) (take 16 (drop at bytes)) .reply) × SameTables (tablesOf y) (request (tablesOf x) (take 16 (drop at bytes)) .tables)
+  asked-one =
+      let a = answers (within q) f in
+      let e : numberOf (j .reply) ≡ request (tablesOf x) (take 16 (drop at bytes)) .reply = rw k16 at (a .0) in
+      let t : SameTables (tablesOf y) (request (tablesOf x) (take 16 (drop at bytes)) .tables) = rw k16 at (a .2) in (e, t)
 
   next-replies : (left : ℕ) → 0 < left
-      → repliesOf (run request (tablesOf x) (wholeFrom left (drop at bytes))) ≡ numberOf r ∷ repliesOf (run request (tablesOf y) (wholeFrom (left - 1) (drop (at + 16) bytes)))
-  unfolding wholeFrom run each
+      → repliesOf (placedRun (tablesOf x) (wholeFrom left (drop at bytes))) ≡ numberOf (j .reply) ∷ repliesOf (placedRun (tablesOf y) (wholeFrom (left - 1) (drop (at + 16) bytes)))
+  unfolding wholeFrom placedRun each
   next-replies zero l = absurd (not-suc-le-zero l)
   next-replies (suc n) l =
       let e = asked-one in
       let h = runs-respect _ _ (e .1) (wholeFrom n (drop (at + 16) bytes)) in
-      rw (sub-one, drop-drop 16 at bytes, ← e .0) (ap (λ (said : List Said). numberOf r ∷ repliesOf said) (sym (h .0)))
+      rw (sub-one, drop-drop 16 at bytes, ← e .0) (ap (λ (said : List Placed). numberOf (j .reply) ∷ repliesOf said) (sym (h .0)))
 
   next-tables : (left : ℕ) → 0 < left
       → SameTables (after request (tablesOf y) (wholeFrom (left - 1) (drop (at + 16) bytes))) (after request (tablesOf x) (wholeFrom left (drop at bytes)))
@@ -74,10 +77,10 @@ untouched out₀ out i v e =
     let l : i < i + 1 = omega arith in
     drop-set-lt (i + 1) out i v l ∙ sym (drop-drop 1 i out) ∙ ap (drop 1) e ∙ drop-drop 1 i out₀
 
-pub turned : {n : ℕ} {bytes : Bytes} {x₀ x y : Buffers} {i at k : ℕ} {out₀ out : Bytes} {r : Reply} {v : ℕ}
-    → Left n bytes x₀ x i at out₀ out → k ≡ 16 → Requested (take k (drop at bytes)) x y r → v ≡ numberOf r → i < n → i < length out
+pub turned : {n : ℕ} {bytes : Bytes} {x₀ x y : Buffers} {i at k : ℕ} {out₀ out : Bytes} {j : Judged} {v : ℕ}
+    → Left n bytes x₀ x i at out₀ out → k ≡ 16 → Requested (take k (drop at bytes)) x y j → v ≡ numberOf (j .reply) → i < n → i < length out
     → Left n bytes x₀ y (i + 1) (at + 16) out₀ (set out i v)
-turned {n} {bytes} {x₀} {x} {y} {i} {at} {k} {out₀} {out} {r} {v} l k16 q e m h =
+turned {n} {bytes} {x₀} {x} {y} {i} {at} {k} {out₀} {out} {j} {v} l k16 q e m h =
     let z : n - i - 1 ≡ n - (i + 1) = omega arith in
     let a = next-replies bytes at k16 q (l .fits) (n - i) (omega arith) in
     let b = next-tables bytes at k16 q (l .fits) (n - i) (omega arith) in
@@ -94,11 +97,11 @@ turned {n} {bytes} {x₀} {x} {y} {i} {at} {k} {out₀} {out} {r} {v} l k16 q e 
     }
 
 pub ended : {n : ℕ} {bytes : Bytes} {x₀ x : Buffers} {i at : ℕ} {out₀ out : Bytes} → Left n bytes x₀ x i at out₀ out → i ≡ n → Answers n bytes x₀ x out₀ out
-unfolding wholeFrom run after each
+unfolding wholeFrom placedRun after each
 ended {n} {bytes} {x₀} {x} {i} {at} {out₀} {out} l e =
     let z : n - i ≡ 0 = omega arith in
-    let w : take i out ++ [] ≡ repliesOf (run request (tablesOf x₀) (wholeFrom n bytes)) = rw z at (l .replies) in
-    let w′ : take i out ≡ repliesOf (run request (tablesOf x₀) (wholeFrom n bytes)) = sym (append-nil (take i out)) ∙ w in
+    let w : take i out ++ [] ≡ repliesOf (placedRun (tablesOf x₀) (wholeFrom n bytes)) = rw z at (l .replies) in
+    let w′ : take i out ≡ repliesOf (placedRun (tablesOf x₀) (wholeFrom n bytes)) = sym (append-nil (take i out)) ∙ w in
     record {
       replies = sym (take-append-drop i out) ∙ rw (w′, l .rest, e);
       tables = rw z at (l .tables);

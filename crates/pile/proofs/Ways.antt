@@ -11,9 +11,8 @@ use borrow.Author.Tests.{ltb-false, not-true, not-false}
 use Rattle.paper_lower.specs.Lists.{each}
 use Rattle.paper_lower.specs.Checks.{first, granted, ROOM}
 use Rattle.paper_lower.specs.Records.{Bytes}
-use Rattle.paper_lower.specs.Kinds.{run}
 use Rattle.paper_upper.specs.Orders.{Engine}
-use Rattle.paper_upper.specs.Engine.{request}
+use Rattle.paper_upper.specs.Engine.{request, placedRun}
 use Rattle.replies.specs.Replies.{numberOf}
 use Rattle.replies.specs.declared.Reply.{Reply}
 use Rattle.replies.proofs.ReplyLaws.{is-zero, not-zero}
@@ -59,8 +58,8 @@ module _ (s answers : Bytes) (at : ℕ) (x : Buffers) where
       record { none-applies = z; fits = not-false (fit x) (h .0); inside = ltb-false _ _ (h .1); room = ltb-false _ _ (h .2) }
 
 -- ---- The replies go into the middle.
-replies-count : (n : ℕ) (s : Bytes) (t : Engine) → length (repliesOf (run request t (wholeFrom n s))) ≡ n
-unfolding wholeFrom run each
+replies-count : (n : ℕ) (s : Bytes) (t : Engine) → length (repliesOf (placedRun t (wholeFrom n s))) ≡ n
+unfolding wholeFrom placedRun each
 replies-count zero s t = refl
 replies-count (suc n) s t = ap suc (replies-count n (drop 16 s) (request t (take 16 s) .tables))
 
@@ -81,7 +80,7 @@ done {s} {answers} {at} {x} {y} {last} k a =
     let z = k .none-applies in
     record {
       replies = rw z;
-      written = laid at (count s) answers last (repliesOf (run request (tablesOf x) (whole s))) (k .room) (replies-count (count s) s (tablesOf x)) (a .replies) ∙ rw z;
+      written = laid at (count s) answers last (repliesOf (placedRun (tablesOf x) (whole s))) (k .room) (replies-count (count s) s (tablesOf x)) (a .replies) ∙ rw z;
       tables = rw z (a .tables);
       lengths = a .lengths;
       kept = λ n. absurd (n refl);

@@ -7,9 +7,9 @@ use lib.ListN.{length, take, drop}
 use Rattle.paper_lower.specs.Lists.{each}
 use Rattle.paper_lower.specs.Checks.{Check, first, granted, GRANTED, ROOM, SHAPE}
 use Rattle.paper_lower.specs.Records.{Bytes}
-use Rattle.paper_lower.specs.Kinds.{Said, run, after}
+use Rattle.paper_lower.specs.Kinds.{after}
 use Rattle.paper_upper.specs.Orders.{Engine}
-use Rattle.paper_upper.specs.Engine.{request}
+use Rattle.paper_upper.specs.Engine.{request, Placed, placedRun}
 use Rattle.engine.specs.Buffers.{Buffers, tablesOf, fit}
 
 -- how many whole records there are, and each of them in order
@@ -40,8 +40,8 @@ pileChecks fits s answers at =
     ∷ []
 
 -- the replies of requests made one by one
-abbrev pub repliesOf : List Said → Bytes
-repliesOf said = each (λ q. q .reply) said
+abbrev pub repliesOf : List Placed → Bytes
+repliesOf said = each (λ a. a .said .reply) said
 
 -- "replies of one byte each written from a place in the middle of the answer buffer that the caller names; other bytes stay"
 abbrev pub writtenAt : ℕ → Bytes → Bytes → Bytes
@@ -56,7 +56,7 @@ pub record Piled : Type 0 where
 unfoldable pub pileOf : Bool → Engine → Bytes → Bytes → ℕ → Piled
 pileOf fits t s answers at =
     granted (first (pileChecks fits s answers at))
-    (record { reply = GRANTED; tables = after request t (whole s); answers = writtenAt at answers (repliesOf (run request t (whole s))) })
+    (record { reply = GRANTED; tables = after request t (whole s); answers = writtenAt at answers (repliesOf (placedRun t (whole s))) })
     (record { reply = first (pileChecks fits s answers at); tables = t; answers = answers })
 
 -- the pile on lent buffers

@@ -4,9 +4,9 @@ use mathlib.Core.List.{List, _++_}
 use mathlib.Core.Path.{_≡_}
 use lib.ListN.{drop}
 use Rattle.paper_lower.specs.Records.{Bytes}
-use Rattle.paper_lower.specs.Kinds.{Said, run, after}
+use Rattle.paper_lower.specs.Kinds.{after}
 use Rattle.paper_upper.specs.Orders.{SameTables}
-use Rattle.paper_upper.specs.Engine.{request}
+use Rattle.paper_upper.specs.Engine.{request, Placed, placedRun}
 use Rattle.replies.specs.Replies.{numberOf}
 use Rattle.replies.specs.declared.Reply.{Reply}
 use Rattle.engine.specs.Buffers.{Buffers, tablesOf, fit, SameLengths}
@@ -23,15 +23,15 @@ pub record PileDone (bytes answers : Bytes) (at : ℕ) (answers′ : Bytes) (x x
 
 -- so many requests, whose replies go to the front of the bytes lent
 pub record Answers (n : ℕ) (bytes : Bytes) (x x′ : Buffers) (out out′ : Bytes) : Type 0 where
-  pub replies : out′ ≡ repliesOf (run request (tablesOf x) (wholeFrom n bytes)) ++ drop n out
+  pub replies : out′ ≡ repliesOf (placedRun (tablesOf x) (wholeFrom n bytes)) ++ drop n out
   pub tables : SameTables (tablesOf x′) (after request (tablesOf x) (wholeFrom n bytes))
   pub lengths : SameLengths x x′
 
 -- "Replies and tables equal those of the requests made one by one": by whichever function, and whatever slots of the ledger they take
 pub record AsOneByOne : Type 0 where
-  pub same : {bytes answers answers′ : Bytes} {at : ℕ} {x y z : Buffers} {said : List Said}
-      → PileDone bytes answers at answers′ x y 0 → Requests x said z → asked (fitting said) ≡ whole bytes
-      → (answers′ ≡ writtenAt at answers (repliesOf (fitting said))) × SameTables (tablesOf y) (tablesOf z)
+  pub same : {bytes answers answers′ : Bytes} {at : ℕ} {x y z : Buffers} {said : List Placed}
+      → PileDone bytes answers at answers′ x y 0 → Requests x said z → asked (λ a. a .said) (fitting (λ a. a .said) said) ≡ whole bytes
+      → (answers′ ≡ writtenAt at answers (repliesOf (fitting (λ a. a .said) said))) × SameTables (tablesOf y) (tablesOf z)
 
 -- "A proof shows that no second answer fits"
 pub record OneAnswer : Type 0 where

@@ -32,7 +32,8 @@ fn answer_all(
     let mut i = 0;
     while i < n {
         let end = at + 16;
-        let r = engine::request(&bytes[at..end], policy, sessions, orders);
+        let j = engine::request(&bytes[at..end], policy, sessions, orders);
+        let r = j.reply;
         out[i] = replies::number(r) as u8;
         at = end;
         i += 1;
