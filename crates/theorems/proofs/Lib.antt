@@ -23,4 +23,5 @@ pub mod FirstRule
 pub mod InUse
 pub mod Theorems
 pub mod Places
+pub mod Meeting
 pub mod Joining

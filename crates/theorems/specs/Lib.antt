@@ -5,5 +5,6 @@ pub mod WellMade
 pub mod InUse
 pub mod Theorems
 pub mod Places
+pub mod Meeting
 pub mod Joining
 pub mod Listing
