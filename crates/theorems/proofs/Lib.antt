@@ -25,3 +25,4 @@ pub mod Theorems
 pub mod Places
 pub mod Meeting
 pub mod Joining
+pub mod Stuck

@@ -7,4 +7,5 @@ pub mod Theorems
 pub mod Places
 pub mod Meeting
 pub mod Joining
+pub mod Stuck
 pub mod Listing
