@@ -5,7 +5,7 @@
 //   with KIND N A B C M        load the policy in hand and this record behind it: reply, place, and whether all words are zero then
 //   load CUT                   load the policy in hand less its last CUT bytes
 //   room P S O                 load it into buffers of P, S and O words
-//   ask KIND N A B C M         a request: its reply, and whether a refused one changed a word
+//   ask KIND N A B C M         a request: its reply, the place of the rule that refuses it, and whether a refused one changed a word
 //   in P S O KIND N A B C M    the same with buffers of P, S and O words
 //   cut LEN KIND N A B C M     the same of the record's first LEN bytes, more bytes being zero
 //   fill TIMES A B C           claim and done (A, B, C), as often as said: how many claims were granted
@@ -17,10 +17,11 @@ use ledger::ORDERS_WORDS;
 use loading::Loaded;
 use policy::POLICY_WORDS;
 use replies::Reply;
+use rules::Judged;
 use scripts::Fields;
 use sessions::SESSIONS_WORDS;
 
-// What a call came to: the number of its reply, a load's place, and whether every word is as before.
+// What a call came to: the number of its reply, its place, and whether every word is as before.
 struct Answer {
     reply: u64,
     place: u64,
@@ -43,6 +44,13 @@ fn say_reply(line: &[u8], reply: u64) {
     io::print_decimal(1, reply);
 }
 
+fn say_place(place: u64) {
+    if place != 0 {
+        say(b" at ");
+        io::print_decimal(1, place);
+    }
+}
+
 // A request with the first words of the buffers, as many as are named.
 fn request_in(
     bytes: &[u8],
@@ -52,15 +60,15 @@ fn request_in(
     sn: usize,
     o: &mut [u64],
     on: usize,
-) -> Reply {
+) -> Judged {
     if pn > p.len() {
-        return Reply::Granted;
+        return rules::plain(Reply::Granted);
     }
     if sn > s.len() {
-        return Reply::Granted;
+        return rules::plain(Reply::Granted);
     }
     if on > o.len() {
-        return Reply::Granted;
+        return rules::plain(Reply::Granted);
     }
     engine::request(bytes, &mut p[0..pn], &mut s[0..sn], &mut o[0..on])
 }
@@ -111,11 +119,12 @@ fn answered(
     scripts::copy(p, &mut p0);
     scripts::copy(s, &mut s0);
     scripts::copy(o, &mut o0);
-    let reply = replies::number(request_in(bytes, p, pn, s, sn, o, on));
+    let j = request_in(bytes, p, pn, s, sn, o, on);
+    let reply = j.reply;
     let kept = scripts::same(p, &p0) & scripts::same(s, &s0) & scripts::same(o, &o0);
     Answer {
-        reply: reply,
-        place: 0,
+        reply: replies::number(reply),
+        place: j.place,
         kept: kept,
     }
 }
@@ -132,6 +141,7 @@ fn ask(
 ) {
     let a = answered(bytes, p, pn, s, sn, o, on);
     say_reply(line, a.reply);
+    say_place(a.place);
     say_if((a.reply != 0) & !a.kept, b", and words changed");
     say(b"\n");
 }
@@ -177,7 +187,7 @@ fn attempt(line: &[u8], r: Fields, p: &mut [u64], s: &mut [u64], o: &mut [u64]) 
     let bytes = scripts::bytes(r);
     let a = answered(&bytes, p, POLICY_WORDS, s, SESSIONS_WORDS, o, ORDERS_WORDS);
     say(line);
-    say_if(a.reply <= 20, b": answered");
+    say_if((a.reply <= 20) & (a.place <= 64), b": answered");
     say_if((a.reply != 0) & !a.kept, b", and words changed");
     say(b"\n");
 }
@@ -202,17 +212,10 @@ fn claimed(a: u64, b: u64, c: u64, p: &mut [u64], s: &mut [u64], o: &mut [u64]) 
         c: c,
         m: 0,
     });
-    let first = replies::number(request_in(
-        &claim,
-        p,
-        POLICY_WORDS,
-        s,
-        SESSIONS_WORDS,
-        o,
-        ORDERS_WORDS,
-    ));
+    let j = request_in(&claim, p, POLICY_WORDS, s, SESSIONS_WORDS, o, ORDERS_WORDS);
+    let first = j.reply;
     request_in(&done, p, POLICY_WORDS, s, SESSIONS_WORDS, o, ORDERS_WORDS);
-    one_if(first == 0)
+    one_if(replies::accepted(first))
 }
 
 fn one_if(yes: bool) -> u64

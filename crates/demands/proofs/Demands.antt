@@ -1,5 +1,5 @@
 -- The demands.
-use Prim.Native.Nat.{ℕ}
+use Prim.Native.Nat.{ℕ, _+_, _≤_}
 use mathlib.Core.Bool.{Bool, true, false}
 use mathlib.Core.List.{List}
 use mathlib.Core.Path.{_≡_, refl, sym, ap, subst, _∙_}
@@ -9,7 +9,7 @@ use Rattle.paper_lower.specs.Records.{Bytes}
 use Rattle.paper_lower.specs.Forms.{requestForms}
 use Rattle.paper_lower.specs.Load.{load}
 use Rattle.paper_upper.specs.Orders.{Engine, SameTables}
-use Rattle.paper_upper.specs.Engine.{requestKinds, request, Placed, placedRun, engineOf}
+use Rattle.paper_upper.specs.Engine.{requestKinds, request, placeTo, Placed, placedRun, engineOf}
 use Rattle.replies.specs.declared.Reply.{Reply}
 use Rattle.replies.proofs.ReplyLaws.{one-reply}
 use Rattle.lower.specs.Exports.{inOne}
@@ -21,12 +21,15 @@ use Rattle.engine.proofs.RespectLaws.{respects}
 use Rattle.theorems.specs.Replies.{FirstRefusal, checksOf}
 use Rattle.theorems.specs.Outside.{hear, outside}
 use Rattle.theorems.specs.Theorems.{tablesAfter, saidAfter, replyAfter, Reaches}
+use Rattle.theorems.specs.InUse.{noTally, count, inUse}
 use Rattle.theorems.specs.Places.{placedAfter, placeAfter}
+use Rattle.theorems.specs.Meeting.{Apart}
 use Rattle.theorems.proofs.Replies.{checks-in-order, refused-loads-are-empty}
 use Rattle.theorems.proofs.Theorems.{orders-keep-the-rules, clerks-keep-the-limits, first-rule-broken}
 use Rattle.theorems.proofs.Places.{places-are-true, placed-said}
+use Rattle.theorems.proofs.Meeting.{claims-do-not-meet}
 use Rattle.demands.specs.Calls.{Request, Load, Called, Requests, allSaid, fitting, asked}
-use Rattle.demands.specs.Demands.{DemandOne, DemandTwo, OneAnswer, Upheld, DemandThree}
+use Rattle.demands.specs.Demands.{DemandOne, DemandTwo, OneAnswer, Upheld, DemandThree, EitherFirst, ClaimsDoNotMeet}
 use Rattle.demands.proofs.Calls.{fit-kept, request-listed, answered, answers, no-room, as-load, load-listed, load-reply, after-all, chain-run, told-fitting, said-fitting, told, reading}
 
 -- ---- loads
@@ -166,3 +169,37 @@ module _ {policy : Bytes} {x y z : Buffers} {reply : ℕ} {said : List Placed} (
 
 pub demand-three : DemandThree
 demand-three = record { upheld = λ l g c. upheld l g c }
+
+-- ---- two claims, in either order
+call-on : {s : Bytes} {x y : Buffers} {q i : ℕ} → Request s x y q i → fit x ≡ true → (t : Engine) → SameTables (tablesOf x) t
+    → (q ≡ request t s .reply) × (i ≡ placeTo t s) × SameTables (tablesOf y) (request t s .tables) × (fit y ≡ true)
+call-on {s} {x} r f t h =
+    let a = answers r f in
+    let b = respects (tablesOf x) t h s in
+    (a .0 ∙ b .0, a .1 ∙ b .1, tables-then (a .2) (b .2), fit-kept (answered r .lengths) ∙ f)
+
+module _ {policy : Bytes} {x y z : Buffers} {reply : ℕ} {said : List Placed} (l : Load policy x y reply) (g : reply ≡ GRANTED) (k : Requests y said z) where
+  -- the entries in use, from what was said
+  used : inUse (saidAfter policy (requestsIn said)) ≡ inUse (allSaid said)
+  unfolding inUse
+  used =
+      rw (sym (placed-said (engineOf (load policy .tables)) (requestsIn said)) ∙ ap allSaid (sym (runs (fits l g) l k .0)) ∙ said-fitting said, told-fitting count noTally (allSaid said))
+
+  either : (c d : Bytes) → Apart c d → inUse (allSaid said) + 2 ≤ 2048 → EitherFirst c d z
+  either c d a room = record {
+    same = λ rc rd rd′ rc′.
+        let t = tablesAfter policy (requestsIn said) in
+        let n = runs (fits l g) l k in
+        let m = claims-do-not-meet policy (sym (loads l (fits l g) .0) ∙ g) (requestsIn said) c d a (rw (← used) at room) in
+        let e = call-on rc (n .2) t (n .1) in
+        let f = call-on rd (e .3) (request t c .tables) (e .2) in
+        let e′ = call-on rd′ (n .2) t (n .1) in
+        let f′ = call-on rc′ (e′ .3) (request t d .tables) (e′ .2) in (
+          (e .0 ∙ sym (m .replies .0) ∙ sym (f′ .0), e .1 ∙ sym (m .places .0) ∙ sym (f′ .1)),
+          (f .0 ∙ m .replies .1 ∙ sym (e′ .0), f .1 ∙ m .places .1 ∙ sym (e′ .1)),
+          tables-then (f .2) (tables-then (m .tables) (tables-sym (f′ .2))),
+        );
+  }
+
+pub calls-do-not-meet : ClaimsDoNotMeet
+calls-do-not-meet = record { upheld = λ l g k c d a room. either l g k c d a room }

@@ -1,5 +1,5 @@
 -- The three demands on the engine, each statement under its sentence: of any bytes, on buffers of any content and any lengths.
-use Prim.Native.Nat.{ℕ, _≤_}
+use Prim.Native.Nat.{ℕ, _+_, _≤_}
 use mathlib.Core.Bool.{true, false}
 use mathlib.Core.List.{List}
 use mathlib.Core.Path.{_≡_}
@@ -21,7 +21,9 @@ use Rattle.theorems.specs.Replies.{FirstRefusal, checksOf, ChecksInOrder}
 use Rattle.theorems.specs.Outside.{hear, outside}
 use Rattle.theorems.specs.OverEntries.{claimRules, RoleLimits}
 use Rattle.theorems.specs.Theorems.{tablesAfter, Reaches, FirstBroken}
+use Rattle.theorems.specs.InUse.{inUse}
 use Rattle.theorems.specs.Places.{placedAfter, RuleAt}
+use Rattle.theorems.specs.Meeting.{Apart}
 use Rattle.demands.specs.Calls.{Request, Load, Requests, allSaid, fitting, asked}
 
 -- ---- Demand 1
@@ -100,3 +102,15 @@ pub record Upheld (policy : Bytes) (said : List Placed) (z : Buffers) : Type 0 w
 pub record DemandThree : Type 0 where
   pub upheld : {policy : Bytes} {x y z : Buffers} {reply : ℕ} {said : List Placed} → Load policy x y reply → reply ≡ GRANTED → Requests y said z
       → Upheld policy said z
+
+-- ---- 02, Ask 14: "Two desks claim in the same second .. It should not matter."
+
+-- the claims c and d on the same buffers z, c first and d first
+pub record EitherFirst (c d : Bytes) (z : Buffers) : Type 0 where
+  pub same : {w v w′ v′ : Buffers} {q p i j q′ p′ i′ j′ : ℕ} → Request c z w q i → Request d w v p j → Request d z w′ p′ j′ → Request c w′ v′ q′ i′
+      → ((q ≡ q′) × (i ≡ i′)) × ((p ≡ p′) × (j ≡ j′)) × SameTables (tablesOf v) (tablesOf v′)
+
+-- "after an accepted load and any requests: for two claims in different open instances, with at least two ledger entries free beforehand"
+pub record ClaimsDoNotMeet : Type 0 where
+  pub upheld : {policy : Bytes} {x y z : Buffers} {reply : ℕ} {said : List Placed} → Load policy x y reply → reply ≡ GRANTED → Requests y said z
+      → (c d : Bytes) → Apart c d → inUse (allSaid said) + 2 ≤ 2048 → EitherFirst c d z

@@ -23,4 +23,6 @@ pub mod FirstRule
 pub mod InUse
 pub mod Theorems
 pub mod Places
+pub mod Meeting
 pub mod Joining
+pub mod Stuck

@@ -5,5 +5,7 @@ pub mod WellMade
 pub mod InUse
 pub mod Theorems
 pub mod Places
+pub mod Meeting
 pub mod Joining
+pub mod Stuck
 pub mod Listing
