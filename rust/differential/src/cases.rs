@@ -204,6 +204,67 @@ fn day(random: &mut Random, pools: Pools, rules: usize, count: usize) -> Case {
     Case { steps, pools }
 }
 
+/// Rules over the tasks of one template, each of which leaves most claims alone, so that rules far down the lists are the first to be broken.
+fn claim_rules(random: &mut Random, pools: &Pools) -> Vec<Record> {
+    let mut tasks = pools.tasks.clone();
+    let mut rules = Vec::new();
+    for &partitioning in &pools.partitionings {
+        shuffle(random, &mut tasks);
+        let blocks = tasks[..6].chunks(2);
+        let set = |block: &[u16]| block.iter().map(|&task| task as u8).collect();
+        rules.extend(blocks.map(|block| Record::block(partitioning, set(block))));
+    }
+    for _ in 0..random.below(10) {
+        shuffle(random, &mut tasks);
+        let members = tasks[..4].iter().map(|&task| task as u8).collect();
+        rules.push(Record::task_set(2 + random.below(2) as u8, members));
+    }
+    // Prerequisites lead from lower to higher tasks, so that there is always one to begin with.
+    for _ in 0..random.below(10) {
+        let (one, other) = (random.pick(&tasks), random.pick(&tasks));
+        rules.push(Record::before(one.min(other), one.max(other)));
+    }
+    for _ in 0..random.below(8) {
+        rules.push(Record::bound(random.pick(&tasks), random.pick(&tasks)));
+    }
+    shuffle(random, &mut rules);
+    rules.truncate(4 + random.below(rules.len()));
+    rules
+}
+
+/// A desk where everyone may take everything, but for the rules of claims.
+fn claims(random: &mut Random) -> Case {
+    let pools = Pools::for_claims(random);
+    let role = pools.roles[0];
+    let mut attempts: Vec<Record> = vec![Record::role(role)];
+    for &user in &pools.users {
+        attempts.extend([Record::user(user), Record::user_has_role(user, role)]);
+    }
+    for &task in &pools.tasks {
+        let of_template = Record::task(task, pools.templates[0]);
+        attempts.extend([of_template, Record::task_open_to(task, role)]);
+    }
+    attempts.extend(claim_rules(random, &pools));
+    let mut steps = vec![Policy::of(attempts).load()];
+    let mut ask = |record: Record| steps.push(Step::Request(record.0.to_vec()));
+    for &subject in &pools.subjects {
+        let user = random.pick(&pools.users);
+        ask(Record::create_subject(
+            subject,
+            user,
+            Set::EMPTY.with(role as u8),
+        ));
+    }
+    for _ in 0..6 {
+        for &order in &pools.orders {
+            ask(Record::end_order(order));
+            ask(Record::open_order(order, pools.templates[0]));
+        }
+        (0..80).for_each(|_| ask(pools.order(random)));
+    }
+    Case { steps, pools }
+}
+
 /// A ledger filled to its last entry by a task that no rule is about, and requests around it.
 fn filled(random: &mut Random) -> Case {
     let mut pools = Pools::few(random);
@@ -270,6 +331,7 @@ impl Case {
                 day(random, pools, 60, 1000)
             }
             27 => noise(random),
+            n if n % 8 == 5 => claims(random),
             n if n % 8 == 3 => {
                 let pools = Pools::for_rules(random);
                 day(random, pools, 1500, count)

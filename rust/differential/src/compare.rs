@@ -16,19 +16,24 @@ pub struct Failure {
 
 /// Counts a load's last judged record, or a request.
 fn count(coverage: &mut Coverage, step: &Step, (reply, place): (u8, usize)) {
-    let record = match step {
-        Step::Request(record) => Some(&record[..]),
+    match step {
+        Step::Request(record) => {
+            if let Some(kind) = record.first() {
+                coverage.add(*kind, reply);
+                coverage.add_place(reply, place);
+            }
+        }
         Step::Load(policy) => {
             let last = place
                 .checked_sub(1)
                 .unwrap_or(policy.len().div_ceil(LENGTH));
-            let accepted = policy.chunks(LENGTH).take(last);
+            let mut records = policy.chunks(LENGTH);
+            let accepted = records.by_ref().take(last);
             accepted.for_each(|record| coverage.add(record[0], 0));
-            policy.chunks(LENGTH).nth(last)
+            if let Some(refused) = records.next() {
+                coverage.add(refused[0], reply);
+            }
         }
-    };
-    if let Some(kind) = record.and_then(|record| record.first()) {
-        coverage.add(*kind, reply);
     }
 }
 
@@ -37,7 +42,7 @@ fn take(panel: &mut Panel, steps: &[Step], coverage: &mut Coverage) -> Result<()
     for (before, step) in steps.iter().enumerate() {
         let answer = match step {
             Step::Load(policy) => panel.load(policy),
-            Step::Request(record) => panel.request(record).map(|reply| (reply, 0)),
+            Step::Request(record) => panel.request(record),
         };
         let answer = answer.map_err(|difference| Failure {
             steps: steps[..=before].to_vec(),

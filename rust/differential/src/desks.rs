@@ -4,7 +4,7 @@ use crate::slow::Slow;
 use plain::{Engine, FlatLedger, Ledger, OrderLists};
 use records::{Record, Reply};
 
-/// A reply's number, and a place.
+/// A reply's number, and a place: of a load's refused record, or of the rule that a refused claim is about.
 pub type Answer = (u8, usize);
 
 /// An engine that is compared.
@@ -13,16 +13,16 @@ pub trait Desk {
     fn name(&self) -> &'static str;
     /// Loads a policy.
     fn load(&mut self, policy: &[u8]) -> Answer;
-    /// Answers a request with a reply's number.
-    fn request(&mut self, record: &[u8]) -> u8;
+    /// Answers a request.
+    fn request(&mut self, record: &[u8]) -> Answer;
     /// The engine once more, in the same state.
     fn copy(&self) -> Box<dyn Desk>;
 
-    /// Answers records one after another. Each engine has its own copy of this loop with its own `request`
+    /// The replies to records, one after another. Each engine has its own copy of this loop with its own `request`
     /// in it, so that a time taken around it holds no call by table for each record.
     fn answer_all(&mut self, records: &[Record], replies: &mut [u8]) {
         for (record, reply) in records.iter().zip(replies) {
-            *reply = self.request(&record.0);
+            *reply = self.request(&record.0).0;
         }
     }
 }
@@ -39,8 +39,9 @@ impl<L: Ledger + 'static> Desk for Plain<L> {
         (reply.number(), place)
     }
 
-    fn request(&mut self, record: &[u8]) -> u8 {
-        self.1.request(record).number()
+    fn request(&mut self, record: &[u8]) -> Answer {
+        let (reply, place) = self.1.request(record);
+        (reply.number(), place)
     }
 
     fn copy(&self) -> Box<dyn Desk> {
@@ -58,8 +59,9 @@ impl Desk for Slow {
         (reply.number(), place)
     }
 
-    fn request(&mut self, record: &[u8]) -> u8 {
-        Slow::request(self, record).number()
+    fn request(&mut self, record: &[u8]) -> Answer {
+        let (reply, place) = Slow::request(self, record);
+        (reply.number(), place)
     }
 
     fn copy(&self) -> Box<dyn Desk> {
@@ -83,8 +85,9 @@ macro_rules! proved_desk {
                 }
             }
 
-            fn request(&mut self, record: &[u8]) -> u8 {
-                <$engine>::request(self, record).number()
+            fn request(&mut self, record: &[u8]) -> Answer {
+                let answer = mishantral::Answer::from(<$engine>::request(self, record));
+                (answer.reply.number(), answer.place)
             }
 
             fn copy(&self) -> Box<dyn Desk> {
@@ -112,9 +115,9 @@ impl Desk for Lowered {
         self.0.load(policy)
     }
 
-    fn request(&mut self, record: &[u8]) -> u8 {
+    fn request(&mut self, record: &[u8]) -> Answer {
         match record.first() {
-            Some(48..=52 | 57) => Reply::Shape.number(),
+            Some(48..=52 | 57) => (Reply::Shape.number(), 0),
             _ => self.0.request(record),
         }
     }
@@ -208,9 +211,8 @@ impl Panel {
     }
 
     /// Asks all engines: the one answer, or what each answered.
-    pub fn request(&mut self, record: &[u8]) -> Result<u8, Difference> {
-        let ask = |desk: &mut Box<dyn Desk>| (desk.request(record), 0);
-        let answers = self.0.iter_mut().map(ask).collect();
-        self.agreed(answers).map(|(reply, _)| reply)
+    pub fn request(&mut self, record: &[u8]) -> Result<Answer, Difference> {
+        let answers = self.0.iter_mut().map(|desk| desk.request(record)).collect();
+        self.agreed(answers)
     }
 }

@@ -14,7 +14,7 @@ The same cases are then put to the lower part of each alone, the proved one wher
   --seed N      another seed than 1
   --cases N     another number of cases than 400
   --first N     begin with this case, to see one again
-  --coverage    print how often each kind was answered with each reply
+  --coverage    print how often each kind was answered with each reply, and with which places of rules
 
 Exit status: 0 all agree; 1 two engines differ, and a small case that shows it is printed; 2 wrong use.
 ";
@@ -86,6 +86,7 @@ fn tell(options: &Options) -> Result<(), String> {
     if options.coverage {
         print!("{}", coverage.table());
         println!("not seen: {:?}", coverage.missing());
+        println!("places not seen: {:?}", coverage.missing_places());
     }
     println!("{} cases of seed {} agree", options.cases, options.seed);
     Ok(())

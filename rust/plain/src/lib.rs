@@ -10,7 +10,7 @@
 //! let user_300 = encode(1, 0, 300, 0, 0, 0);
 //! assert_eq!(engine.load(&user_300), (Reply::Granted, 0));
 //! let add_user_300 = encode(32, 0, 300, 0, 0, 0);
-//! assert_eq!(engine.request(&add_user_300), Reply::Taken);
+//! assert_eq!(engine.request(&add_user_300), (Reply::Taken, 0));
 //! ```
 
 mod ledger;
@@ -28,7 +28,7 @@ pub use reply::Reply;
 use orders::Orders;
 use policy::Policy;
 use record::{decode, Call, Record};
-use reply::{refuse, Outcome};
+use reply::{refuse, Outcome, Refusal};
 use sessions::Sessions;
 
 /// The length of a record.
@@ -48,8 +48,8 @@ impl<L: Ledger> Default for Engine<L> {
     }
 }
 
-fn reply(outcome: Outcome) -> Reply {
-    outcome.err().unwrap_or(Reply::Granted)
+fn refusal(outcome: Outcome) -> Refusal {
+    outcome.err().unwrap_or(Reply::Granted.into())
 }
 
 impl<L: Ledger> Engine<L> {
@@ -83,12 +83,15 @@ impl<L: Ledger> Engine<L> {
 
     /// One step of a load: takes a further policy record, or refuses it and changes nothing.
     pub fn policy_record(&mut self, record: &[u8]) -> Reply {
-        reply(decode(record, Call::Load).and_then(|r| self.policy.take(r)))
+        refusal(decode(record, Call::Load).and_then(|r| self.policy.take(r))).reply
     }
 
-    /// Answers one request.
-    pub fn request(&mut self, record: &[u8]) -> Reply {
-        reply(decode(record, Call::Request).and_then(|r| self.serve(r)))
+    /// Answers one request: the reply, and for BEFORE, SEPARATION, BLOCK and BOUND the place of the first rule broken, from 1
+    /// among all rules of its kind in policy order; for BLOCK of the block at which the search ends. Else 0.
+    pub fn request(&mut self, record: &[u8]) -> (Reply, usize) {
+        let Refusal { reply, place } =
+            refusal(decode(record, Call::Request).and_then(|r| self.serve(r)));
+        (reply, usize::from(place))
     }
 
     /// All entries, in no particular order.
