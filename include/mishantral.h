@@ -9,6 +9,8 @@
  *     uint64_t answer = mishantral_load(bytes, length, policy, words, sessions, .., orders, ..);
  *     if (mishantral_reply_of(answer) != MISHANTRAL_GRANTED)   refused at record mishantral_place_of(answer)
  *
+ * Of a claim that a rule refuses, mishantral_place_of(answer) is the rule's place: see mishantral_request.
+ *
  * What is decided, and which reply is given when, is docs/RULES.md of the project: its section "Numbers" has
  * the records and kinds, "The replies" the replies, "The ledger and the claim rules" the rules of a claim.
  *
@@ -82,8 +84,12 @@ uint64_t mishantral_load(const uint8_t *bytes, size_t length,
 
 /* Answers one request: a record of sixteen bytes; any other length is answered with SHAPE.
  *
- * The answer is the reply + 256 times a place, which is 0. ROOM as above. The buffers are those of
- * an accepted load, or of any content: each content reads as some state. */
+ * The answer is the reply + 256 times a place. With BEFORE, SEPARATION and BOUND the place is that of the first rule that
+ * the claim would break, counted from 1 among all records of its kind in the loaded policy, in their order: of kind 16, 11 or
+ * 15. With BLOCK it is that of the block at which the search ends, among all records of kind 12. With every other reply it
+ * is 0. mishantral_rule_kind tells the kind of a reply's rules.
+ *
+ * ROOM as above. The buffers are those of an accepted load, or of any content: each content reads as some state. */
 uint64_t mishantral_request(const uint8_t *record, size_t length,
                             uint64_t *policy, size_t policy_words,
                             uint64_t *sessions, size_t sessions_words,
@@ -172,8 +178,20 @@ enum mishantral_kind {
 /* The reply of an answer. */
 static inline unsigned mishantral_reply_of(uint64_t answer) { return (unsigned)(answer % 256); }
 
-/* The place of an answer. */
+/* The place of an answer: of a load, that of the refused record; of a request, that of the rule that it is about; from 1, or 0. */
 static inline uint64_t mishantral_place_of(uint64_t answer) { return answer / 256; }
+
+/* The policy kind of the rules among which the place of a request's answer counts; 0 where the reply says no place. */
+static inline unsigned mishantral_rule_kind(unsigned reply)
+{
+    switch (reply) {
+    case MISHANTRAL_BEFORE: return MISHANTRAL_BEFORE_TASK;
+    case MISHANTRAL_SEPARATION: return MISHANTRAL_TASK_SET;
+    case MISHANTRAL_BLOCK: return MISHANTRAL_BLOCK_OF;
+    case MISHANTRAL_BOUND: return MISHANTRAL_BOUND_TO;
+    default: return 0;
+    }
+}
 
 /* A reply's name, as "IN USE"; "?" for a number that is no reply. */
 static inline const char *mishantral_reply_name(unsigned reply)

@@ -1,8 +1,8 @@
 //! The engine over the linked library: three lent buffers, two calls.
 //! The declarations are those of include/mishantral.h; nothing else here is unsafe.
 
-use crate::answer::{bytes, loaded, reply_and_place, shown, zeroed};
-use crate::{Record, Refused, Reply};
+use crate::lent::{answered, bytes, loaded, shown, zeroed};
+use crate::{Answer, Record, Refused};
 use alloc::boxed::Box;
 use core::fmt;
 
@@ -158,8 +158,35 @@ impl Engine {
         self.load(&bytes(policy))
     }
 
-    /// Answers one request: a [`Record`], or bytes of any length. A refused one changes nothing.
-    pub fn request<R: AsRef<[u8]> + ?Sized>(&mut self, record: &R) -> Reply {
-        reply_and_place(self.state.call(mishantral_request, record.as_ref())).0
+    /// Answers one request: a [`Record`], or bytes of any length. A refused one changes nothing. A claim that a rule refuses is
+    /// told the rule's place:
+    ///
+    /// ```
+    /// use mishantral::{Engine, Record, Reply, Set};
+    ///
+    /// let policy = [
+    ///     Record::user(300),
+    ///     Record::role(0),
+    ///     Record::user_has_role(300, 0),
+    ///     Record::task(0, 0),
+    ///     Record::task(1, 0),
+    ///     Record::task_open_to(0, 0),
+    ///     Record::task_open_to(1, 0),
+    ///     Record::task_set(1, Set::of(&[0, 1])),
+    /// ];
+    /// let mut engine = Engine::new();
+    /// engine.load_records(&policy)?;
+    /// assert!(engine.request(&Record::create_subject(5, 300, Set::of(&[0]))).is_granted());
+    /// assert!(engine.request(&Record::open_order(0, 0)).is_granted());
+    /// assert!(engine.request(&Record::claim(5, 0, 0)).is_granted());
+    ///
+    /// let answer = engine.request(&Record::claim(5, 0, 1));
+    /// assert_eq!(answer, Reply::Separation);
+    /// let rule = answer.rule().unwrap();
+    /// assert_eq!(rule.record(&policy), Some(&policy[7]));
+    /// # Ok::<(), mishantral::Refused>(())
+    /// ```
+    pub fn request<R: AsRef<[u8]> + ?Sized>(&mut self, record: &R) -> Answer {
+        answered(self.state.call(mishantral_request, record.as_ref()))
     }
 }

@@ -121,6 +121,19 @@ impl Reply {
         }
     }
 
+    /// The policy kind of the rule that a refused claim is about, where the answer says its place: prerequisites (16) for BEFORE, task
+    /// sets (11) for SEPARATION, blocks (12) for BLOCK, bindings (15) for BOUND.
+    #[must_use]
+    pub const fn rule_kind(self) -> Option<u8> {
+        match self {
+            Before => Some(16),
+            Separation => Some(11),
+            Block => Some(12),
+            Bound => Some(15),
+            _ => None,
+        }
+    }
+
     /// Whether the record was accepted or granted.
     #[must_use]
     pub const fn is_granted(self) -> bool {
