@@ -22,6 +22,7 @@ Records as lines of words (docs/RULES.md), and back.
                                                   a desk program's listing, from standard input, with
                                                   the records of REQUESTS in words and replies by name;
                                                   --policy: the policy's records, to show a refused one
+                                                  and the rule that a refused claim is about
   mishantral-notation refused [--name NAME] POLICY REPLY PLACE
                                                   which record of the policy, text or records, a load's
                                                   refusal is about; --name: what to call the file

@@ -68,7 +68,7 @@ fn a_listing_is_explained() {
     let file = folder.join("requests.rec");
     std::fs::write(&file, notation::read(b"end order 0").unwrap()).unwrap();
     let file = file.to_str().unwrap();
-    let (text, _, status) = run(&["explain", file], b"load 0 0\n1 4\n");
+    let (text, _, status) = run(&["explain", file], b"load 0 0\n1 4 0\n");
     assert_eq!(status, 0);
     assert_eq!(
         text,
