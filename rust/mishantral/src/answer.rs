@@ -3,10 +3,15 @@
 use crate::{Record, Refused, Reply};
 use alloc::{boxed::Box, format, string::String, vec, vec::Vec};
 
+/// The reply.
+pub(crate) fn reply_of(answer: u64) -> Reply {
+    Reply::from_number(answer % 256)
+        .unwrap_or_else(|| panic!("a library with other replies is linked: {answer}"))
+}
+
 /// The reply and the place.
 pub(crate) fn reply_and_place(answer: u64) -> (Reply, usize) {
-    let reply = Reply::from_number(answer % 256)
-        .unwrap_or_else(|| panic!("a library with other replies is linked: {answer}"));
+    let reply = reply_of(answer);
     let place = usize::try_from(answer / 256).expect("a place is below the input's length");
     (reply, place)
 }
