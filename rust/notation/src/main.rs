@@ -10,7 +10,7 @@ use std::process::ExitCode;
 const HELP: &str = "\
 Records as lines of words (docs/RULES.md), and back.
 
-  mishantral-notation records [--either] [--dealer POLICY TASKS] [--name NAME] [FILE]
+  mishantral-notation records [--dealer POLICY TASKS] [--either] [--name NAME] [FILE]
                                                   text to records; --either: records pass as they are;
                                                   --name: what an error calls the file
   mishantral-notation words [--dealer POLICY TASKS] [FILE]
@@ -85,11 +85,11 @@ fn within(file: &str, errors: Vec<impl fmt::Display>) -> Stop {
 }
 
 fn records(arguments: &[&str]) -> Made {
-    let (either, rest) = match arguments {
+    let (names, rest) = dealer::names_of(arguments)?;
+    let (either, rest) = match rest {
         ["--either", rest @ ..] => (true, rest),
         rest => (false, rest),
     };
-    let (names, rest) = dealer::names_of(rest)?;
     let (name, files) = named(rest);
     let file = one_file(files)?;
     let bytes = input(file)?;
