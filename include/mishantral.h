@@ -113,7 +113,7 @@ uint64_t mishantral_lower_request(const uint8_t *record, size_t length,
  * is given. */
 enum mishantral_reply {
     MISHANTRAL_GRANTED = 0,      /* accepted, or granted */
-    MISHANTRAL_ROOM = 1,         /* a lent buffer has not its fixed length; nothing is written */
+    MISHANTRAL_ROOM = 1,         /* a lent buffer has not its fixed length, or an output is too short; nothing is written */
     MISHANTRAL_SHAPE = 2,        /* not 16 bytes, kind not of this call, unused field not zero, m of kind 57 too large */
     MISHANTRAL_RANGE = 3,        /* a number above its limit */
     MISHANTRAL_UNKNOWN = 4,      /* something named is not declared, not open or not live; a pair to take back is absent */
@@ -132,7 +132,9 @@ enum mishantral_reply {
     MISHANTRAL_ALONE = 17,       /* the user has every other task of a template banned for lone workers */
     MISHANTRAL_BOUND = 18,       /* a task bound with this one has an entry of another user */
     MISHANTRAL_COUNT = 19,       /* the task has as many entries as its limit allows */
-    MISHANTRAL_FULL = 20         /* no ledger entry is free, or the rule limit of that kind is reached */
+    MISHANTRAL_FULL = 20,        /* no ledger entry is free, or the rule limit of that kind is reached */
+    MISHANTRAL_TEXT = 21,        /* reading OPL/XML: a text is not in its grammar */
+    MISHANTRAL_NAMES = 22        /* reading OPL/XML: a name is too long, declared nowhere or above a limit */
 };
 
 /* Kinds of record (docs/RULES.md, "Numbers"). A field that is not listed is zero; bit i of m stands for role or
@@ -218,6 +220,8 @@ static inline const char *mishantral_reply_name(unsigned reply)
     case MISHANTRAL_BOUND: return "BOUND";
     case MISHANTRAL_COUNT: return "COUNT";
     case MISHANTRAL_FULL: return "FULL";
+    case MISHANTRAL_TEXT: return "TEXT";
+    case MISHANTRAL_NAMES: return "NAMES";
     default: return "?";
     }
 }

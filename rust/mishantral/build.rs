@@ -44,8 +44,18 @@ fn link(archive: &Archive, found: &Path) {
     println!("cargo:rustc-link-search=native={}", folder.display());
     println!("cargo:rustc-link-lib=static={name}");
     println!("cargo:rustc-cfg={}", archive.cfg);
-    // What the build scripts of crates above read as DEP_MISHANTRAL_ENGINE, DEP_MISHANTRAL_LOWER.
+    // What the build scripts of crates above read as DEP_MISHANTRAL_ENGINE, DEP_MISHANTRAL_LOWER, DEP_MISHANTRAL_OPL.
     println!("cargo:{}=linked", archive.key);
+    if archive.key == "engine" && has(found, b"mishantral_opl\0") {
+        println!("cargo:rustc-cfg=mishantral_opl");
+        println!("cargo:opl=linked");
+    }
+}
+
+/// Whether an archive has a name in it: one that was made before there was a function has it not.
+fn has(archive: &Path, name: &[u8]) -> bool {
+    let bytes = std::fs::read(archive).unwrap_or_default();
+    bytes.windows(name.len()).any(|window| window == name)
 }
 
 /// Links the archive if it is there; whether it is.
@@ -65,6 +75,7 @@ fn linked(root: &Path, archive: &Archive) -> bool {
 }
 
 fn main() {
+    println!("cargo:rustc-check-cfg=cfg(mishantral_opl)");
     let root = Path::new(env!("CARGO_MANIFEST_DIR")).join("../..");
     let root = root.canonicalize().unwrap_or(root);
     if ARCHIVES.iter().filter(|a| linked(&root, a)).count() > 0 {

@@ -3,10 +3,15 @@
 use crate::{Answer, Record, Refused, Reply};
 use alloc::{boxed::Box, format, string::String, vec, vec::Vec};
 
+/// The reply.
+pub(crate) fn reply_of(number: u64) -> Reply {
+    Reply::from_number(number % 256)
+        .unwrap_or_else(|| panic!("a library with other replies is linked: {number}"))
+}
+
 /// The reply and the place.
 pub(crate) fn answered(number: u64) -> Answer {
-    let reply = Reply::from_number(number % 256)
-        .unwrap_or_else(|| panic!("a library with other replies is linked: {number}"));
+    let reply = reply_of(number);
     let place = usize::try_from(number / 256).expect("a place is below the input's length");
     Answer { reply, place }
 }

@@ -2,7 +2,8 @@
 //!
 //! [`Record`] has a constructor for each kind (docs/RULES.md), and [`Reply`] each reply's number and name.
 //! `Engine` owns the state that the library works on: it loads a policy and answers requests with an [`Answer`], the reply and, for a
-//! claim that a rule refuses, which rule it is. `lower::Engine` is the lower part alone, without orders.
+//! claim that a rule refuses, which rule it is. `lower::Engine` is the lower part alone, without orders. `Policy` is a dealer's OPL/XML as
+//! records, with the dealer's names by number.
 //!
 //! `Engine` is there where the proved library's archive was found when this crate was built: by the
 //! environment variable `MISHANTRAL_ARCHIVE`, or as `target/native/libmishantral.a` of the repository, where `tools/archive`
@@ -31,3 +32,10 @@ pub use engine::{Engine, State};
 
 #[cfg(mishantral_lower)]
 pub mod lower;
+
+#[cfg(any(mishantral_opl, test))]
+mod names;
+#[cfg(mishantral_opl)]
+pub mod opl;
+#[cfg(mishantral_opl)]
+pub use {names::Space, opl::Policy};

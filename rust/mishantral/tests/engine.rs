@@ -24,27 +24,24 @@ fn the_listing() {
     let mut engine = Engine::new();
     engine.load_records(&listing_policy()).unwrap();
     let asked = [
-        (Record::create_subject(5, 300, Set::of(&[0])), 0),
-        (Record::create_subject(6, 301, Set::of(&[0])), 0),
-        (Record::open_order(0, 0), 0),
-        (Record::claim(5, 0, 1), 14),
-        (Record::claim(5, 0, 0), 0),
-        (Record::claim(6, 0, 1), 14),
-        (Record::done(5, 0, 0), 0),
-        (Record::claim(5, 0, 1), 15),
-        (Record::claim(6, 0, 1), 0),
-        (Record::end_order(0), 6),
-        (Record::done(6, 0, 1), 0),
-        (Record::end_order(0), 0),
-        (Record::end_order(0), 4),
+        (Record::create_subject(5, 300, Set::of(&[0])), (0, 0)),
+        (Record::create_subject(6, 301, Set::of(&[0])), (0, 0)),
+        (Record::open_order(0, 0), (0, 0)),
+        (Record::claim(5, 0, 1), (14, 1)),
+        (Record::claim(5, 0, 0), (0, 0)),
+        (Record::claim(6, 0, 1), (14, 1)),
+        (Record::done(5, 0, 0), (0, 0)),
+        (Record::claim(5, 0, 1), (15, 1)),
+        (Record::claim(6, 0, 1), (0, 0)),
+        (Record::end_order(0), (6, 0)),
+        (Record::done(6, 0, 1), (0, 0)),
+        (Record::end_order(0), (0, 0)),
+        (Record::end_order(0), (4, 0)),
     ];
-    for (at, (record, number)) in asked.into_iter().enumerate() {
-        assert_eq!(
-            engine.request(&record).number(),
-            number,
-            "request {}",
-            at + 1
-        );
+    for (at, (record, told)) in asked.into_iter().enumerate() {
+        let answer = engine.request(&record);
+        let numbers = (answer.reply.number(), answer.place);
+        assert_eq!(numbers, told, "request {}", at + 1);
     }
 }
 

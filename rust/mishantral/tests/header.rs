@@ -162,7 +162,7 @@ fn limits_are_those_of_the_library() {
         let mut engine = mishantral::Engine::new();
         let mut reply = |record: Record| match record.kind() {
             12 => engine.load_records(&[record]).unwrap_err().reply,
-            _ => engine.request(&record),
+            _ => engine.request(&record).reply,
         };
         let last = number(name) as u16;
         assert_ne!(reply(record(last)), Reply::Range, "{name}");

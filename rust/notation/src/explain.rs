@@ -3,7 +3,7 @@
 use crate::is_text;
 use crate::names::Names;
 use crate::read::{read_lines, tokens, Error, Token, END};
-use crate::write::{line, line_named};
+use crate::write::line_named;
 use records::{Reply, LENGTH};
 
 /// A line of the listing, of which each word is asked for in turn.
@@ -162,6 +162,11 @@ pub fn explain_named(
 /// Where a refused load's record is in a policy, text or records, with the reply and the record in words:
 /// `line 7: 5 TAKEN: user 3`, or `record 2: 5 TAKEN: user 3`.
 pub fn refused(policy: &[u8], reply: Reply, place: usize) -> String {
+    refused_named(policy, reply, place, &Names::default())
+}
+
+/// The same with the names of numbers that have one.
+pub fn refused_named(policy: &[u8], reply: Reply, place: usize, names: &Names) -> String {
     let Some(before) = place.checked_sub(1) else {
         return reply.to_string();
     };
@@ -171,9 +176,11 @@ pub fn refused(policy: &[u8], reply: Reply, place: usize) -> String {
         Vec::new()
     };
     match (text.get(before), policy.chunks(LENGTH).nth(before)) {
-        (Some((number, record)), _) => format!("line {number}: {reply}: {}", line(record)),
+        (Some((number, record)), _) => {
+            format!("line {number}: {reply}: {}", line_named(record, names))
+        }
         (None, Some(record)) if text.is_empty() => {
-            format!("record {place}: {reply}: {}", line(record))
+            format!("record {place}: {reply}: {}", line_named(record, names))
         }
         _ => format!("record {place}: {reply}"),
     }

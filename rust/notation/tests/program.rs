@@ -84,7 +84,7 @@ fn lists_and_help() {
     let (forms, _, _) = run(&["forms"], b"");
     assert_eq!(forms.split(|&b| b == b'\n').count(), 37);
     let (replies, _, _) = run(&["replies"], b"");
-    assert!(String::from_utf8(replies).unwrap().ends_with("20 FULL\n"));
+    assert!(String::from_utf8(replies).unwrap().ends_with("22 NAMES\n"));
     let (help, said, status) = run(&["--help"], b"");
     assert!(help.starts_with(b"Records as lines"));
     assert_eq!((&said[..], status), ("", 0));
