@@ -4,7 +4,7 @@ use crate::candidates::{damaged, other_length};
 use crate::pools::Pools;
 use plain::{Engine, OrderLists};
 use random::Random;
-use records::{Record, Set};
+use records::{Record, Set, LENGTH};
 
 /// What is asked of the engines.
 #[derive(Clone, PartialEq, Debug)]
@@ -13,6 +13,19 @@ pub enum Step {
     Load(Vec<u8>),
     /// A request's bytes.
     Request(Vec<u8>),
+    /// Requests in one call.
+    Pile(Pile),
+}
+
+/// Requests in one call: their bytes, the answer buffer beforehand, and the place in it.
+#[derive(Clone, PartialEq, Debug)]
+pub struct Pile {
+    /// The records, of which the last may be cut.
+    pub records: Vec<u8>,
+    /// What the answer buffer holds.
+    pub buffer: Vec<u8>,
+    /// Where the first reply goes.
+    pub at: usize,
 }
 
 /// Steps, and the numbers that they are about.
@@ -318,11 +331,57 @@ fn noise(random: &mut Random) -> Case {
     Case { steps, pools }
 }
 
+/// A pile of these records, in a buffer that mostly has room for it.
+fn pile(random: &mut Random, mut records: Vec<u8>) -> Pile {
+    if random.chance(1, 10) {
+        let cut = 1 + random.below(15);
+        records.truncate(records.len().saturating_sub(cut));
+    }
+    let (at, behind) = (random.below(5), random.below(3));
+    let length = at + records.len() / LENGTH + behind;
+    let length = length.saturating_sub(random.pick(&[0, 0, 0, 0, 0, 1, 3, 9]));
+    let buffer = (0..length).map(|_| random.word() as u8).collect();
+    Pile {
+        records,
+        buffer,
+        at,
+    }
+}
+
+/// The steps with the requests that follow each other put into piles.
+fn piled(random: &mut Random, steps: Vec<Step>) -> Vec<Step> {
+    let mut piled = Vec::new();
+    let mut waiting = Vec::new();
+    let mut room = 0;
+    for step in steps {
+        match step {
+            Step::Request(record) if record.len() == LENGTH && waiting.len() < room => {
+                waiting.extend(record);
+            }
+            step => {
+                piled.push(Step::Pile(pile(random, std::mem::take(&mut waiting))));
+                room = LENGTH * random.pick(&[0, 1, 2, 10, 200]);
+                piled.push(step);
+            }
+        }
+    }
+    piled.push(Step::Pile(pile(random, waiting)));
+    piled
+}
+
 impl Case {
-    /// The case with this number, of this seed.
+    /// The case with this number, of this seed; one in four has piles.
     pub fn random(seed: u64, number: u64) -> Case {
         let mut random = Random::new(seed ^ number.wrapping_mul(0xd134_2543_de82_ef95));
-        let random = &mut random;
+        let mut case = Case::of_requests(&mut random, number);
+        if random.chance(1, 4) {
+            case.steps = piled(&mut random, case.steps);
+        }
+        case
+    }
+
+    /// Loads and requests, each in a call of its own.
+    fn of_requests(random: &mut Random, number: u64) -> Case {
         let count = random.pick(&[5, 50, 150, 300, 600]);
         match number % 40 {
             7 => filled(random),

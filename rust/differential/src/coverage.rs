@@ -9,6 +9,7 @@ use std::collections::BTreeMap;
 pub struct Coverage {
     seen: BTreeMap<(u8, u8), u64>,
     places: BTreeMap<(u8, usize), u64>,
+    piles: BTreeMap<u8, u64>,
 }
 
 /// The replies that say the place of a rule, and the largest place that there can be.
@@ -53,6 +54,17 @@ impl Coverage {
         *self.places.entry((reply, place)).or_default() += 1;
     }
 
+    /// Counts one pile's reply.
+    pub fn add_pile(&mut self, reply: u8) {
+        *self.piles.entry(reply).or_default() += 1;
+    }
+
+    /// The replies of piles that were not seen.
+    pub fn missing_piles(&self) -> Vec<Reply> {
+        let unseen = |reply: &Reply| !self.piles.contains_key(&reply.number());
+        [Granted, Room, Shape].into_iter().filter(unseen).collect()
+    }
+
     /// Adds what was counted elsewhere.
     pub fn join(&mut self, other: &Coverage) {
         for (pair, count) in &other.seen {
@@ -60,6 +72,9 @@ impl Coverage {
         }
         for (pair, count) in &other.places {
             *self.places.entry(*pair).or_default() += count;
+        }
+        for (reply, count) in &other.piles {
+            *self.piles.entry(*reply).or_default() += count;
         }
     }
 
@@ -123,6 +138,12 @@ impl Coverage {
         }
         let line = |(kind, replies): (u8, String)| format!("kind {kind:>2}:{replies}\n");
         let lines = lines.into_iter().map(line);
+        let piles = self.piles.iter().map(|(reply, count)| {
+            let name = Reply::from_number((*reply).into()).map_or("?", Reply::name);
+            format!("  {name} {count}")
+        });
+        let piles: String = ["piles:".to_string()].into_iter().chain(piles).collect();
+        let lines = lines.chain([piles + "\n"]);
         lines
             .chain(PLACED.iter().map(|p| self.places_of(p.0)))
             .collect()

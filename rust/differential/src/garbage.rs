@@ -40,6 +40,10 @@ fn twice(engine: &mut Engine, step: &Step) -> Answer {
     let take = |engine: &mut Engine| match step {
         Step::Load(policy) => Desk::load(engine, policy),
         Step::Request(record) => Desk::request(engine, record),
+        Step::Pile(pile) => {
+            let mut buffer = pile.buffer.clone();
+            (Desk::pile(engine, &pile.records, &mut buffer, pile.at), 0)
+        }
     };
     let answer = take(engine);
     assert_eq!(take(&mut copy), answer, "a call has two answers");

@@ -87,6 +87,7 @@ fn tell(options: &Options) -> Result<(), String> {
         print!("{}", coverage.table());
         println!("not seen: {:?}", coverage.missing());
         println!("places not seen: {:?}", coverage.missing_places());
+        println!("piles not seen: {:?}", coverage.missing_piles());
     }
     println!("{} cases of seed {} agree", options.cases, options.seed);
     Ok(())

@@ -150,6 +150,25 @@ impl Slow {
         }
     }
 
+    /// Answers a pile: its reply, and the answer buffer afterwards.
+    pub fn pile(&mut self, records: &[u8], answers: &[u8], at: usize) -> (Reply, Vec<u8>) {
+        let whole = records.len() / 16;
+        let past_the_end = at > answers.len();
+        let reply = first(&[
+            (Room, past_the_end),
+            (Room, at.saturating_add(whole) > answers.len()),
+            (Room, whole > 4096),
+            (Shape, records.len() != 16 * whole),
+        ]);
+        if reply != Granted {
+            return (reply, answers.to_vec());
+        }
+        let (before, behind) = (&answers[..at], &answers[at + whole..]);
+        let replies = records.chunks(16).map(|r| self.request(r).0.number());
+        let replies: Vec<u8> = replies.collect();
+        (Granted, [before, &replies, behind].concat())
+    }
+
     fn roles_of(&self, user: u16) -> Numbers {
         let of_user = |(u, role): &(u16, u16)| (*u == user).then_some(*role);
         self.user_roles.iter().filter_map(of_user).collect()

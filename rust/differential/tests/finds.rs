@@ -20,7 +20,12 @@ struct Faulty {
     /// The policy that was loaded, and the place that is answered with a reply in the place of another.
     policy: Vec<u8>,
     placed: Placed,
+    /// What is done with a pile.
+    piled: Piled,
 }
+
+/// A pile's reply by an engine, the records, the buffer and the place.
+type Piled = fn(&mut Faulty, &[u8], &mut [u8], usize) -> u8;
 
 /// A place by the loaded policy, the request, and what it should be answered.
 type Placed = fn(&[u8], &[u8], Answer) -> usize;
@@ -50,6 +55,25 @@ impl Desk for Faulty {
     fn copy(&self) -> Box<dyn Desk> {
         Box::new(self.clone())
     }
+
+    fn pile(&mut self, records: &[u8], answers: &mut [u8], at: usize) -> u8 {
+        (self.piled)(self, records, answers, at)
+    }
+}
+
+/// The requests one after the other, where the pile has room and shape.
+fn rightly(desk: &mut Faulty, records: &[u8], answers: &mut [u8], at: usize) -> u8 {
+    let whole = records.len() / 16;
+    if at > answers.len() || whole > answers.len() - at {
+        return 1;
+    }
+    if 16 * whole != records.len() {
+        return 2;
+    }
+    for (record, answer) in records.chunks(16).zip(&mut answers[at..]) {
+        *answer = desk.request(record).0;
+    }
+    0
 }
 
 fn sound() -> Faulty {
@@ -60,6 +84,7 @@ fn sound() -> Faulty {
         told: |reply| reply,
         policy: Vec::new(),
         placed: |_, _, (_, place)| place,
+        piled: rightly,
     }
 }
 
@@ -221,5 +246,58 @@ fn a_place_that_is_another_rule_s_is_found() {
     ];
     for placed in wrong {
         finds(Faulty { placed, ..sound() }, 60);
+    }
+}
+
+#[test]
+fn a_pile_that_is_answered_wrongly_is_found() {
+    let wrong: [Piled; 6] = [
+        // The replies from place 0 on.
+        |desk, records, answers, at| match rightly(desk, records, answers, at) {
+            0 => {
+                answers.rotate_left(at);
+                0
+            }
+            refused => refused,
+        },
+        // An end at the first refusal.
+        |desk, records, answers, at| {
+            let before = desk.engine.clone();
+            let reply = rightly(desk, records, answers, at);
+            let granted = answers.iter().skip(at).take_while(|reply| **reply == 0);
+            let done = 16 * (granted.count() + 1).min(records.len() / 16);
+            if reply == 0 {
+                desk.engine = before;
+                let _ = rightly(desk, &records[..done], answers, at);
+            }
+            reply
+        },
+        // SHAPE before ROOM.
+        |desk, records, answers, at| match records.len() % 16 {
+            0 => rightly(desk, records, answers, at),
+            _ => 2,
+        },
+        // A byte written behind the last reply.
+        |desk, records, answers, at| {
+            let reply = rightly(desk, records, answers, at);
+            if let Some(byte) = answers.get_mut(at + records.len() / 16) {
+                *byte = if reply == 0 { 0 } else { *byte };
+            }
+            reply
+        },
+        // The whole records of a pile with a cut one done.
+        |desk, records, answers, at| {
+            let whole = &records[..records.len() / 16 * 16];
+            let reply = rightly(desk, whole, answers, at);
+            reply.max(2 * u8::from(whole.len() < records.len() && reply == 0))
+        },
+        // An empty pile refused.
+        |desk, records, answers, at| match records.len() {
+            0 => 2,
+            _ => rightly(desk, records, answers, at),
+        },
+    ];
+    for piled in wrong {
+        finds(Faulty { piled, ..sound() }, 40);
     }
 }

@@ -34,6 +34,9 @@ use sessions::Sessions;
 /// The length of a record.
 pub const RECORD: usize = 16;
 
+/// How many records a pile has at most.
+pub const PILE: usize = 4096;
+
 /// A policy, its sessions and its orders, with the entries kept as `L` keeps them.
 #[derive(Clone, PartialEq, Debug)]
 pub struct Engine<L = OrderLists> {
@@ -92,6 +95,37 @@ impl<L: Ledger> Engine<L> {
         let Refusal { reply, place } =
             refusal(decode(record, Call::Request).and_then(|r| self.serve(r)));
         (reply, usize::from(place))
+    }
+
+    /// Answers a pile of requests, one after the other, refused ones among them: each reply is one byte of `answers`, from the
+    /// place `at` on. ROOM and SHAPE are given before any request is done, and then nothing is written.
+    ///
+    /// ```
+    /// use plain::{encode, Engine, OrderLists, Reply};
+    ///
+    /// let add_user_300 = encode(32, 0, 300, 0, 0, 0);
+    /// let mut answers = [99; 4];
+    /// let mut engine = Engine::<OrderLists>::new();
+    /// let pile = [add_user_300, add_user_300].concat();
+    /// assert_eq!(engine.pile(&pile, &mut answers, 1), Reply::Granted);
+    /// assert_eq!(answers, [99, 0, 5, 99]);
+    /// assert_eq!(engine.pile(&pile, &mut answers, 3), Reply::Room);
+    /// ```
+    pub fn pile(&mut self, records: &[u8], answers: &mut [u8], at: usize) -> Reply {
+        let records = records.chunks_exact(RECORD);
+        let Some(answers) = answers.get_mut(at..) else {
+            return Reply::Room;
+        };
+        if records.len() > answers.len() || records.len() > PILE {
+            return Reply::Room;
+        }
+        if !records.remainder().is_empty() {
+            return Reply::Shape;
+        }
+        for (record, answer) in records.zip(answers) {
+            *answer = self.request(record).0.number();
+        }
+        Reply::Granted
     }
 
     /// All entries, in no particular order.
