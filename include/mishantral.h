@@ -48,7 +48,7 @@ extern "C" {
 #define MISHANTRAL_LAST_SUBJECT 127
 #define MISHANTRAL_LAST_ORDER 63
 
-/* How many there may be: rules of a policy, entries of all orders together, bytes of a record. */
+/* How many there may be: rules of a policy, entries of all orders together, bytes of a record, records of a pile. */
 #define MISHANTRAL_MOST_STATIC_SETS 32
 #define MISHANTRAL_MOST_DYNAMIC_SETS 32
 #define MISHANTRAL_MOST_TASK_SETS 32
@@ -57,6 +57,7 @@ extern "C" {
 #define MISHANTRAL_MOST_PREREQUISITES 64
 #define MISHANTRAL_MOST_ENTRIES 2048
 #define MISHANTRAL_RECORD_BYTES 16
+#define MISHANTRAL_MOST_PILED 4096
 
 /* The three buffers. */
 enum mishantral_group {
@@ -94,6 +95,21 @@ uint64_t mishantral_request(const uint8_t *record, size_t length,
                             uint64_t *policy, size_t policy_words,
                             uint64_t *sessions, size_t sessions_words,
                             uint64_t *orders, size_t orders_words);
+
+/* Answers a pile of requests in one call: `length` bytes, sixteen a record, at most MISHANTRAL_MOST_PILED records. They are made one
+ * after the other, and a refused one does not end the pile. The reply to each is one byte of `answers`, from the place `at` on, counted from
+ * 0; the other bytes of `answers` stay. Replies and state afterwards are those of mishantral_request for each record.
+ *
+ * The answer is the reply to the pile alone: GRANTED; or, before any request is done and with nothing written, ROOM where a state buffer has
+ * not its fixed length, `at` lies past the end of `answers`, there is not a byte for each whole record from there on, or there are more than
+ * MISHANTRAL_MOST_PILED whole records; then SHAPE where `length` is no multiple of 16. A pile without records is granted.
+ *
+ * `answers` points to `answers_length` bytes that may be read and written, and overlaps none of the others. */
+uint64_t mishantral_pile(const uint8_t *records, size_t length,
+                         uint8_t *answers, size_t answers_length, uint64_t at,
+                         uint64_t *policy, size_t policy_words,
+                         uint64_t *sessions, size_t sessions_words,
+                         uint64_t *orders, size_t orders_words);
 
 /* The lower part alone, for dealers: policy, roles and sessions, without orders. It is a library of its own,
  * libmishantral_lower.a, with these three functions and two buffers, of MISHANTRAL_POLICY_WORDS and

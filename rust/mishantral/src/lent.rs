@@ -29,6 +29,14 @@ pub(crate) fn bytes(policy: &[Record]) -> Vec<u8> {
     policy.iter().flat_map(|record| record.0).collect()
 }
 
+/// The bytes of records that stand one behind the other.
+#[cfg(mishantral_pile)]
+pub(crate) fn flat(records: &[Record]) -> &[u8] {
+    let length = core::mem::size_of_val(records);
+    // SAFETY: a record is its sixteen bytes and nothing else (`repr(transparent)`), and any byte is a u8.
+    unsafe { core::slice::from_raw_parts(records.as_ptr().cast(), length) }
+}
+
 /// A buffer of so many words, all zero.
 pub(crate) fn zeroed(words: u64) -> Box<[u64]> {
     let words = usize::try_from(words).expect("a buffer's length fits a usize");

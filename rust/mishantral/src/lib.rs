@@ -27,6 +27,8 @@ mod lent;
 
 #[cfg(mishantral_engine)]
 mod engine;
+#[cfg(mishantral_pile)]
+pub use engine::PILE;
 #[cfg(mishantral_engine)]
 pub use engine::{Engine, State};
 

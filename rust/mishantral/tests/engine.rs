@@ -104,3 +104,36 @@ fn a_state_goes_on_where_it_was_kept() {
     let mut again = Engine::from_state(engine.state().clone());
     assert_eq!(again.request(&Record::add_user(301)), Reply::Taken);
 }
+
+#[cfg(mishantral_pile)]
+#[test]
+fn a_pile_with_a_buffer_of_another_length_is_room_and_nothing_is_written() {
+    let right = State::zeroed();
+    for group in 0..3 {
+        let mut state = right.clone();
+        let buffers = [&mut state.policy, &mut state.sessions, &mut state.orders];
+        let buffer = buffers.into_iter().nth(group).unwrap();
+        *buffer = vec![7; buffer.len() + 1].into();
+        let mut engine = Engine::from_state(state.clone());
+        let mut answers = [9; 2];
+        let pile = [Record::add_user(300); 2];
+        assert_eq!(engine.pile(&pile, &mut answers, 0), Reply::Room);
+        assert_eq!(engine.pile_bytes(&[0; 3], &mut answers, 0), Reply::Room);
+        assert_eq!(answers, [9; 2]);
+        assert_eq!(engine.requests(&pile), [Reply::Room; 2]);
+        assert_eq!(engine.into_state(), state);
+    }
+}
+
+#[cfg(mishantral_pile)]
+#[test]
+fn more_records_than_a_pile_takes_are_made_in_piles() {
+    let records: Vec<Record> = (0..9000).map(|k| Record::add_user(k % 1024)).collect();
+    let mut engine = Engine::new();
+    let replies = engine.requests(&records);
+    let mut one_by_one = Engine::new();
+    for (record, reply) in records.iter().zip(replies) {
+        assert_eq!(one_by_one.request(record), reply);
+    }
+    assert_eq!(engine, one_by_one);
+}

@@ -158,6 +158,8 @@ fn limits_are_those_of_the_library() {
         ("LAST_ORDER", Record::end_order),
     ];
     assert_eq!(number("RECORD_BYTES"), Record::block(0, none).0.len());
+    #[cfg(mishantral_pile)]
+    assert_eq!(number("MOST_PILED"), mishantral::PILE);
     for (name, record) in with {
         let mut engine = mishantral::Engine::new();
         let mut reply = |record: Record| match record.kind() {
