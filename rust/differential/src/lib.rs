@@ -28,6 +28,9 @@ pub use slow::Slow;
 /// Whether the proved library takes part.
 pub const PROVED: bool = cfg!(mishantral_engine);
 
+/// Whether it has a call for piles.
+pub const PILED: bool = cfg!(mishantral_pile);
+
 /// The seed and the number of cases where none are given.
 pub const SEED: u64 = 1;
 /// The number of cases where none is given.
