@@ -28,7 +28,10 @@ pub use slow::Slow;
 /// Whether the proved library takes part.
 pub const PROVED: bool = cfg!(mishantral_engine);
 
-/// Whether it has a call for piles.
+/// Whether the proved library of the lower part takes part.
+pub const PROVED_LOWER: bool = cfg!(mishantral_lower);
+
+/// Whether the proved library has a call for piles.
 pub const PILED: bool = cfg!(mishantral_pile);
 
 /// The seed and the number of cases where none are given.
