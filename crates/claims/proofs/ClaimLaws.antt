@@ -12,8 +12,8 @@ use Rattle.paper_lower.specs.Checks.{Check, first, FULL}
 use Rattle.paper_lower.proofs.ListLaws.{or-none, both}
 use Rattle.paper_lower.proofs.CheckLaws.{Numbered, passed}
 use Rattle.paper_upper.specs.Orders.{Engine, isHeld, ofTask}
-use Rattle.paper_upper.specs.Rules.{ruleChecks}
-use Rattle.paper_upper.specs.Requests.{unknown, claimChecks}
+use Rattle.paper_upper.specs.Rules.{ruleChecks, rulePlace}
+use Rattle.paper_upper.specs.Requests.{unknown, claimChecks, claimPlace}
 use Rattle.replies.specs.Replies.{numberOf}
 use Rattle.replies.specs.declared.Reply.{Reply}
 use Rattle.replies.proofs.ReplyLaws.{is-zero}
@@ -66,6 +66,12 @@ module _ (t : Engine) (a b c : ℕ) where
   module _ {u : ℕ} {g : Gathered} (of : u ≡ t .lower .sessions .user a) (gathers : g ≡ gatheredOf b u c (t .orders .entries)) where
     pub held-is : {x : Bool} → eqb (g .held) 1 ≡ x → some (λ e. ofTask b c e && isHeld (e .standing)) (t .orders .entries) ≡ x
     held-is h = sym (gathered-held b u c (t .orders .entries) gathers) ∙ h
+
+    pub place-by-entries : (n : ℕ) {x : ℕ} → x ≡ rulePlace (t .lower .policy .rules) (g .mine .bits) (g .done .bits) (g .others .bits) c n → x ≡ claimPlace t a b c n
+    unfolding claimPlace
+    place-by-entries n q =
+        let es = t .orders .entries in
+        (rw (gathered-mine b u c es gathers, gathered-done b u c es gathers, gathered-others b u c es gathers) at q) ∙ rw of
 
     pub by-entries : {j : ℕ} (r : Reply) → t .orders .opened b ≡ just j
         → numberOf r ≡ first (gatheredChecks (t .lower .policy .tasks) (t .lower .policy .rules) (just j) (g .mine .bits) (g .done .bits) (g .others .bits) (g .times) c)

@@ -6,7 +6,7 @@ use mathlib.Core.Path.{_≡_}
 use lib.ListN.{length}
 use Rattle.paper_lower.specs.Lists.Maybe.{just}
 use Rattle.paper_lower.specs.Checks.{first}
-use Rattle.paper_upper.specs.Requests.{claimChecks, claimNext, holdChecks, releaseNext, doneNext, taskCheckChecks}
+use Rattle.paper_upper.specs.Requests.{claimChecks, claimPlace, claimNext, holdChecks, releaseNext, doneNext, taskCheckChecks}
 use Rattle.replies.specs.Replies.{numberOf}
 use Rattle.replies.specs.Done.{Done}
 use Rattle.replies.specs.declared.Reply.{Reply}
@@ -15,7 +15,8 @@ use Rattle.policy.specs.Reading.{policyOf}
 use Rattle.sessions.specs.Reading.{sessionsWords}
 use Rattle.ledger.specs.Reading.{ordersWords}
 use Rattle.ledger.specs.declared.Gathered.{Gathered}
-use Rattle.rules.specs.Judging.{gatheredChecks}
+use Rattle.rules.specs.declared.Judged.{Judged}
+use Rattle.rules.specs.Judging.{Verdict, Judging}
 use Rattle.orders.specs.Tables.{engineTables}
 
 -- each buffer has its length, and subject a, instance b and task c are within their limits
@@ -25,18 +26,18 @@ InLimits p s o a b c =
     × ((length s ≡ sessionsWords) × ((length o ≡ ordersWords) × ((a < 128) × ((b < 64) × (c < 64)))))
 
 -- the claim rules for task t of an instance of the template, over what was gathered of its entries
-abbrev pub RulesJudged : List ℕ → ℕ → Gathered → ℕ → Reply → Type 0
-RulesJudged p template g t r =
-    numberOf r
-    ≡ first (gatheredChecks (policyOf p .tasks) (policyOf p .rules) (just template) (g .mine .bits) (g .done .bits) (g .others .bits) (g .times) t)
+abbrev pub RulesJudged : List ℕ → ℕ → Gathered → ℕ → Judged → Type 0
+RulesJudged p template g t j =
+    Judging (policyOf p .tasks) (policyOf p .rules) (just template) (g .mine .bits) (g .done .bits) (g .others .bits) (g .times) t j
 
 -- ---- 50
-abbrev pub ClaimJudged : List ℕ → List ℕ → List ℕ → ℕ → ℕ → ℕ → Reply → Type 0
-ClaimJudged p s o a b c r = numberOf r ≡ first (claimChecks (engineTables p s o) a b c)
+abbrev pub ClaimJudged : List ℕ → List ℕ → List ℕ → ℕ → ℕ → ℕ → Judged → Type 0
+ClaimJudged p s o a b c j = Verdict (claimChecks (engineTables p s o) a b c) (claimPlace (engineTables p s o) a b c) j
 
-abbrev pub Claimed : List ℕ → List ℕ → List ℕ → List ℕ → ℕ → ℕ → ℕ → Reply → Type 0
-Claimed p s o o′ a b c r =
-    Done (engineTables p s) (first (claimChecks (engineTables p s o) a b c)) (claimNext (engineTables p s o) a b c) o o′ r
+-- and, of 02's Ask 2, the place of the rule that refuses
+pub record Claimed (p s o o′ : List ℕ) (a b c : ℕ) (j : Judged) : Type 0 where
+  pub done : Done (engineTables p s) (first (claimChecks (engineTables p s o) a b c)) (claimNext (engineTables p s o) a b c) o o′ (j .reply)
+  pub places : j .place ≡ claimPlace (engineTables p s o) a b c (first (claimChecks (engineTables p s o) a b c))
 
 -- ---- 51 and 52
 abbrev pub HoldJudged : List ℕ → List ℕ → List ℕ → ℕ → ℕ → ℕ → Reply → Type 0

@@ -13,6 +13,8 @@ ghost use Rattle.claims.specs.Promises.{InLimits, RulesJudged, ClaimJudg
 use ledger::Gathered;
 use replies::Reply;
 use replies::accepted;
+use rules::Judged;
+use rules::plain;
 
 // "FULL is given only at 2,048 in use."
 const MOST: usize = 2048;
@@ -38,53 +40,54 @@ fn has_role(p: &[u64], s: &[u64], a: u64, c: u64) -> bool
 }
 
 // The claim rules for task t of an instance of the template, over what was gathered of its entries.
-fn rules_reply(p: &[u64], template: u64, g: Gathered, t: u64) -> Reply
+fn rules_reply(p: &[u64], template: u64, g: Gathered, t: u64) -> Judged
     requires { ⌜ (length (now p) ≡ policyWords) × ((template < 16) × (t < 64)) ⌝ }
     ensures { λ r. ⌜ RulesJudged (now (p .entry)) template g t r ⌝ }
 {
-    let j = rules::judge(p, template, g.mine, g.done, g.others, g.times, t);
-    j.reply
+    rules::judge(p, template, g.mine, g.done, g.others, g.times, t)
 }
 
-// ---- 50: claim. The entries are walked once.
+// ---- 50: claim, with the place of the rule that refuses it. The entries are walked once.
 
-fn claim_reply(p: &[u64], s: &[u64], o: &[u64], a: u64, b: u64, c: u64) -> Reply
+fn claim_reply(p: &[u64], s: &[u64], o: &[u64], a: u64, b: u64, c: u64) -> Judged
     requires { ⌜ InLimits (now p) (now s) (now o) a b c ⌝ }
     ensures { λ r. ⌜ ClaimJudged (now (p .entry)) (now (s .entry)) (now (o .entry)) a b c r ⌝ }
 {
     if is_unknown(p, s, o, a, b, c) {
-        return Reply::Unknown;
+        return plain(Reply::Unknown);
     }
     let user = sessions::user(s, a as usize);
     let g = ledger::gather(o, b, user, c);
     if g.held == 1 {
-        return Reply::Taken;
+        return plain(Reply::Taken);
     }
     if !has_role(p, s, a, c) {
-        return Reply::NoRole;
+        return plain(Reply::NoRole);
     }
     let x = ledger::opened(o, b);
-    let r = rules_reply(p, x.template, g, c);
+    let ruled = rules_reply(p, x.template, g, c);
+    let r = ruled.reply;
     if !accepted(r) {
-        return r;
+        return ruled;
     }
     if MOST <= ledger::in_use(o) {
-        return Reply::Full;
+        return plain(Reply::Full);
     }
-    Reply::Granted
+    plain(Reply::Granted)
 }
 
-pub fn claim(p: &[u64], s: &[u64], o: &mut [u64], a: u64, b: u64, c: u64) -> Reply
+pub fn claim(p: &[u64], s: &[u64], o: &mut [u64], a: u64, b: u64, c: u64) -> Judged
     requires { ⌜ InLimits (now p) (now s) (now o) a b c ⌝ }
     ensures { λ r. ⌜ Claimed (now (p .entry)) (now (s .entry)) (now (o .entry)) (now (o .exit)) a b c r ⌝ }
 {
-    let reply = claim_reply(p, s, o, a, b, c);
+    let j = claim_reply(p, s, o, a, b, c);
+    let reply = j.reply;
     if !accepted(reply) {
-        return reply;
+        return j;
     }
     let user = sessions::user(s, a as usize);
     ledger::enter(o, b, user, c, a);
-    reply
+    j
 }
 
 // ---- 51 and 52: release, done.

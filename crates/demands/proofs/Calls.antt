@@ -1,5 +1,5 @@
 -- What every call gives, by whichever function; and a chain of requests as a run of the definition.
-use Prim.Native.Nat.{ℕ, _+_, _*_, _%_, _≤_}
+use Prim.Native.Nat.{ℕ, _+_, _*_, _/_, _%_, _≤_}
 use mathlib.Core.Bool.{Bool, true, false, not, cond}
 use mathlib.Core.List.{List, [], _∷_}
 use mathlib.Core.Path.{_≡_, refl, sym, ap, subst, _∙_}
@@ -9,20 +9,20 @@ use lib.Dec.{eqb}
 use Rattle.paper_lower.specs.Lists.{keep, each}
 use Rattle.paper_lower.specs.Checks.{ROOM, FULL, granted}
 use Rattle.paper_lower.specs.Records.{Bytes, Record, decode}
-use Rattle.paper_lower.specs.Kinds.{Answer, Said, run, after}
+use Rattle.paper_lower.specs.Kinds.{Answer, Said, after}
 use Rattle.paper_lower.specs.Load.{load}
-use Rattle.paper_upper.specs.Orders.{SameTables}
-use Rattle.paper_upper.specs.Engine.{request, engineOf}
+use Rattle.paper_upper.specs.Orders.{Engine, SameTables}
+use Rattle.paper_upper.specs.Engine.{request, placeTo, Placed, placedRun, engineOf}
 use Rattle.engine.specs.Buffers.{Buffers, tablesOf, fit, SameLengths}
-use Rattle.engine.specs.Answers.{requestAnswer, LoadAnswer, loadAnswer}
-use Rattle.engine.specs.Exports.{RequestExported, LoadExported}
+use Rattle.engine.specs.Answers.{CallAnswer, requestAnswer, loadAnswer}
+use Rattle.engine.specs.Exports.{LoadExported}
 use Rattle.engine.proofs.SameLaws.{tables-then}
 use Rattle.engine.proofs.RespectLaws.{respects}
-use Rattle.engine.proofs.Ways.{request-exported, load-exported}
+use Rattle.engine.proofs.Ways.{load-exported}
 use Rattle.theorems.specs.Replies.{Listed}
 use Rattle.theorems.specs.Outside.{followed}
 use Rattle.theorems.proofs.Replies.{replies-are-listed}
-use Rattle.demands.specs.Calls.{Request, Load, Chain, fitting, asked}
+use Rattle.demands.specs.Calls.{Request, Load, Chain, Called, allSaid, fitting, asked}
 use Rattle.demands.specs.Calls.Request.{within, exported}
 use Rattle.demands.specs.Calls.Load.{within as load-within, exported as load-exported-here}
 use Rattle.demands.specs.Calls.Chain.{no-more, one, misfit}
@@ -30,29 +30,55 @@ use Rattle.demands.specs.Calls.Chain.{no-more, one, misfit}
 pub fit-kept : {x y : Buffers} → SameLengths x y → fit y ≡ fit x
 fit-kept l = rw (l .policy, l .sessions, l .orders)
 
--- ---- one request
-pub as-number : {bytes : Bytes} {x y : Buffers} {reply : ℕ} → Request bytes x y reply → RequestExported bytes x y reply
-as-number (within d) = request-exported d refl
-as-number (exported d) = d
+pub first-byte : (q k n : ℕ) → q ≤ 20 → n ≡ q + 256 * k → n % 256 ≡ q
+first-byte q k n l e = omega arith
 
+rest-of : (q k n : ℕ) → q ≤ 20 → n ≡ q + 256 * k → n / 256 ≡ k
+rest-of q k n l e = omega arith
+
+-- ---- one request
 pub request-listed : (bytes : Bytes) (x : Buffers) → requestAnswer bytes x .reply ≤ FULL
 unfolding requestAnswer
 request-listed bytes x = go (fit x)
   where
-    go : (b : Bool) → cond b (request (tablesOf x) bytes) (record { reply = ROOM; tables = tablesOf x }) .reply ≤ FULL
+    go : (b : Bool)
+        → cond {A = CallAnswer} b (record { reply = request (tablesOf x) bytes .reply; place = placeTo (tablesOf x) bytes; tables = request (tablesOf x) bytes .tables })
+        (record { reply = ROOM; place = 0; tables = tablesOf x }) .reply ≤ FULL
     go true = replies-are-listed .requests (tablesOf x) bytes .0
     go false = omega arith
 
-module _ {bytes : Bytes} {x y : Buffers} {reply : ℕ} (r : Request bytes x y reply) where
-  pub answers : fit x ≡ true → (reply ≡ request (tablesOf x) bytes .reply) × SameTables (tablesOf y) (request (tablesOf x) bytes .tables)
-  unfolding requestAnswer
-  answers f = (as-number r .answers ∙ rw f, rw f at (as-number r .tables))
+-- by whichever function
+pub record Answered (bytes : Bytes) (x y : Buffers) (reply place : ℕ) : Type 0 where
+  pub replies : reply ≡ requestAnswer bytes x .reply
+  pub places : place ≡ requestAnswer bytes x .place
+  pub tables : SameTables (tablesOf y) (requestAnswer bytes x .tables)
+  pub lengths : SameLengths x y
+  pub kept : (reply ≡ 0 → ⊥) → y ≡ x
 
-  pub no-room : fit x ≡ false → (reply ≡ ROOM) × (y ≡ x)
+pub answered : {bytes : Bytes} {x y : Buffers} {reply place : ℕ} → Request bytes x y reply place → Answered bytes x y reply place
+answered (within d) = record { replies = d .replies; places = d .places; tables = d .tables; lengths = d .lengths; kept = d .kept }
+answered {bytes} {x} (exported {n} d) =
+    let e = first-byte _ _ n (request-listed bytes x) (d .answers) in
+    record {
+      replies = e;
+      places = rest-of _ _ n (request-listed bytes x) (d .answers);
+      tables = d .tables;
+      lengths = d .lengths;
+      kept = λ z. d .kept (λ w. z (e ∙ w));
+    }
+
+module _ {bytes : Bytes} {x y : Buffers} {reply place : ℕ} (r : Request bytes x y reply place) where
+  pub answers : fit x ≡ true
+      → (reply ≡ request (tablesOf x) bytes .reply) × (place ≡ placeTo (tablesOf x) bytes) × SameTables (tablesOf y) (request (tablesOf x) bytes .tables)
+  unfolding requestAnswer
+  answers f = let a = answered r in (a .replies ∙ rw f, a .places ∙ rw f, rw f at (a .tables))
+
+  pub no-room : fit x ≡ false → (reply ≡ ROOM) × (place ≡ 0) × (y ≡ x)
   unfolding requestAnswer
   no-room f =
-      let e : requestAnswer bytes x .reply ≡ ROOM = rw f in
-      (as-number r .answers ∙ e, as-number r .kept (λ z. absurd (omega arith)))
+      let a = answered r in
+      let e : reply ≡ ROOM = a .replies ∙ rw f in
+      (e, a .places ∙ rw f, a .kept (λ z. absurd (omega arith)))
 
 -- ---- one load
 pub as-load : {bytes : Bytes} {x y : Buffers} {reply : ℕ} → Load bytes x y reply → (n : ℕ) × LoadExported bytes x y n
@@ -63,12 +89,9 @@ pub load-listed : (bytes : Bytes) (x : Buffers) → loadAnswer bytes x .reply �
 unfolding loadAnswer
 load-listed bytes x = go (fit x)
   where
-    go : (b : Bool) → cond {A = LoadAnswer} b (record { reply = load bytes .reply; place = load bytes .place; tables = engineOf (load bytes .tables) }) (record { reply = ROOM; place = 0; tables = tablesOf x }) .reply ≤ FULL
+    go : (b : Bool) → cond {A = CallAnswer} b (record { reply = load bytes .reply; place = load bytes .place; tables = engineOf (load bytes .tables) }) (record { reply = ROOM; place = 0; tables = tablesOf x }) .reply ≤ FULL
     go true = replies-are-listed .loads bytes .0
     go false = omega arith
-
-pub first-byte : (q k n : ℕ) → q ≤ 20 → n ≡ q + 256 * k → n % 256 ≡ q
-first-byte q k n l e = omega arith
 
 pub load-reply : {bytes : Bytes} {x y : Buffers} {reply : ℕ} → Load bytes x y reply → reply ≡ loadAnswer bytes x .reply
 load-reply (load-within d) = d .replies
@@ -78,53 +101,89 @@ load-reply {bytes} {x} (load-exported-here {n} d) = first-byte _ _ n (load-liste
 not-room : (q : ℕ) → Listed q → not (eqb q ROOM) ≡ true
 not-room q l = ap not (ne-eqb q ROOM (λ e. let m = l .1 (λ z. omega arith) in omega arith))
 
--- tables that are alike: replies and next tables do not depend on more of them
-pub record Reading {L T : Type 0} (P : Bytes → L → L → ℕ → Type 0) (fit : L → Bool) (read : L → T) (ask : T → Bytes → Answer T) (Alike : T → T → Type 0) : Type 0 where
-  pub answers : (bytes : Bytes) (x y : L) (reply : ℕ) → P bytes x y reply → fit x ≡ true
-      → (reply ≡ ask (read x) bytes .reply) × Alike (read y) (ask (read x) bytes .tables) × (fit y ≡ true)
-  pub no-room : (bytes : Bytes) (x y : L) (reply : ℕ) → P bytes x y reply → fit x ≡ false → reply ≡ ROOM
-  pub listed : (t : T) (s : Bytes) → Listed (ask t s .reply)
-  pub respects : (t u : T) → Alike t u → (s : Bytes) → (ask t s .reply ≡ ask u s .reply) × Alike (ask t s .tables) (ask u s .tables)
+-- Calls P on what reads as tables, against the definition: what it says to one request, and its runs. Tables that are alike: what is said and
+-- the next tables do not depend on more of them.
+pub record Reading {L T A : Type 0} (P : A → L → L → Type 0) (fit : L → Bool) (read : L → T) (next : T → Bytes → T) (said : A → Said) (tell : T → Bytes → A)
+    (runs : T → List Bytes → List A) (Alike : T → T → Type 0) : Type 0 where
+  pub answers : (a : A) (x y : L) → P a x y → fit x ≡ true
+      → (a ≡ tell (read x) (said a .request)) × Alike (read y) (next (read x) (said a .request)) × (fit y ≡ true)
+  pub no-room : (a : A) (x y : L) → P a x y → fit x ≡ false → said a .reply ≡ ROOM
+  pub listed : (t : T) (s : Bytes) → Listed (said (tell t s) .reply)
+  pub respects : (t u : T) → Alike t u → (s : Bytes) → (tell t s ≡ tell u s) × Alike (next t s) (next u s)
   pub chained : (t u v : T) → Alike t u → Alike u v → Alike t v
+  pub none : (t : T) → runs t [] ≡ []
+  pub more : (t : T) (s : Bytes) (ss : List Bytes) → runs t (s ∷ ss) ≡ tell t s ∷ runs (next t s) ss
 
-module _ {L T : Type 0} (P : Bytes → L → L → ℕ → Type 0) (fits : L → Bool) (read : L → T) (ask : T → Bytes → Answer T) (Alike : T → T → Type 0)
-    (k : Reading P fits read ask Alike) where
-  pub chain-run : {x z : L} {said : List Said} → Chain P fits x said z → fits x ≡ true → (t : T) → Alike (read x) t
-      → (fitting said ≡ run ask t (asked (fitting said))) × Alike (read z) (after ask t (asked (fitting said))) × (fits z ≡ true)
-  unfolding run after each keep
-  chain-run no-more f t h = (refl, h, f)
-  chain-run (one {x} {y} {z} {bytes} {reply} {said} r c) f t h =
-      let a = k .answers bytes x y reply r f in
-      let b = k .respects (read x) t h bytes in
-      let e : reply ≡ ask t bytes .reply = a .0 ∙ b .0 in
-      let n = chain-run c (a .2) (ask t bytes .tables) (k .chained _ _ _ (a .1) (b .1)) in
-      rw (subst (λ (q : ℕ). not (eqb q ROOM) ≡ true) (sym e) (not-room _ (k .listed t bytes))) (
-        ap (λ (q : ℕ). record { request = bytes; reply = q } ∷ fitting said) e
-            ∙ ap (λ (xs : List Said). record { request = bytes; reply = ask t bytes .reply } ∷ xs) (n .0),
+-- the tables after them
+unfoldable pub afterAll : {T : Type 0} → (T → Bytes → T) → T → List Bytes → T
+afterAll next t [] = t
+afterAll next t (s ∷ ss) = afterAll next (next t s) ss
+
+pub after-all : {T : Type 0} (ask : T → Bytes → Answer T) (t : T) (ss : List Bytes) → afterAll (λ t s. ask t s .tables) t ss ≡ after ask t ss
+unfolding afterAll after
+after-all ask t [] = refl
+after-all ask t (s ∷ ss) = after-all ask (ask t s .tables) ss
+
+module _ {L T A : Type 0} (P : A → L → L → Type 0) (fits : L → Bool) (read : L → T) (next : T → Bytes → T) (said : A → Said) (tell : T → Bytes → A)
+    (runs : T → List Bytes → List A) (Alike : T → T → Type 0) (k : Reading P fits read next said tell runs Alike) where
+  pub chain-run : {x z : L} {ys : List A} → Chain P fits x ys z → fits x ≡ true → (t : T) → Alike (read x) t
+      → (fitting said ys ≡ runs t (asked said (fitting said ys))) × Alike (read z) (afterAll next t (asked said (fitting said ys))) × (fits z ≡ true)
+  unfolding afterAll each keep
+  chain-run no-more f t h = (sym (k .none t), h, f)
+  chain-run (one {x} {y} {z} {a} {said = ys} r c) f t h =
+      let s = said a .request in
+      let g = k .answers a x y r f in
+      let b = k .respects (read x) t h s in
+      let e : a ≡ tell t s = g .0 ∙ b .0 in
+      let n = chain-run c (g .2) (next t s) (k .chained _ _ _ (g .1) (b .1)) in
+      rw (subst (λ (q : A). not (eqb (said q .reply) ROOM) ≡ true) (sym e) (not-room _ (k .listed t s))) (
+        ap (λ (q : A). q ∷ fitting said ys) e ∙ ap (λ (qs : List A). tell t s ∷ qs) (n .0) ∙ sym (k .more t s (asked said (fitting said ys))),
         n .1,
         n .2,
       )
-  chain-run (misfit {x} {v} {w} {z} {bytes} {reply} {said} g r c) f t h =
-      let e : not (eqb reply ROOM) ≡ false = ap not (eq-eqb reply ROOM (k .no-room bytes v w reply r g)) in
+  chain-run (misfit {x} {v} {w} {z} {a} {said = ys} g r c) f t h =
+      let e : not (eqb (said a .reply) ROOM) ≡ false = ap not (eq-eqb (said a .reply) ROOM (k .no-room a v w r g)) in
       rw e (chain-run c f t h)
 
 -- a request that was refused for the lengths tells nothing
-pub told-fitting : {X : Type 0} (f : X → Record → X) (x : X) (said : List Said) → followed f x (fitting said) ≡ followed f x said
+pub told-fitting : {X : Type 0} (f : X → Record → X) (x : X) (said : List Said) → followed f x (fitting (λ y. y) said) ≡ followed f x said
 unfolding followed keep
 told-fitting f x [] = refl
 told-fitting f x (y ∷ ys) = go (eqb (y .reply) ROOM) refl (told-fitting f _ ys)
   where
     go : (b : Bool) → eqb (y .reply) ROOM ≡ b
-        → followed f (granted (y .reply) (f x (decode (y .request))) x) (fitting ys) ≡ followed f (granted (y .reply) (f x (decode (y .request))) x) ys
-        → followed f x (cond (not b) (y ∷ fitting ys) (fitting ys)) ≡ followed f (granted (y .reply) (f x (decode (y .request))) x) ys
-    go true e h = ap (λ (q : ℕ). followed f (granted q (f x (decode (y .request))) x) (fitting ys)) (sym (eqb-true (y .reply) ROOM e)) ∙ h
+        → followed f (granted (y .reply) (f x (decode (y .request))) x) (fitting (λ y. y) ys) ≡ followed f (granted (y .reply) (f x (decode (y .request))) x) ys
+        → followed f x (cond (not b) (y ∷ fitting (λ y. y) ys) (fitting (λ y. y) ys)) ≡ followed f (granted (y .reply) (f x (decode (y .request))) x) ys
+    go true e h = ap (λ (q : ℕ). followed f (granted q (f x (decode (y .request))) x) (fitting (λ y. y) ys)) (sym (eqb-true (y .reply) ROOM e)) ∙ h
     go false e h = h
 
-pub reading : Reading Request fit tablesOf request SameTables
+-- what fits, with its place or without
+pub said-fitting : (ys : List Placed) → allSaid (fitting (λ a. a .said) ys) ≡ fitting (λ y. y) (allSaid ys)
+unfolding keep each
+said-fitting [] = refl
+said-fitting (a ∷ ys) = go (not (eqb (a .said .reply) ROOM)) (said-fitting ys)
+  where
+    go : (b : Bool) → allSaid (fitting (λ a. a .said) ys) ≡ fitting (λ y. y) (allSaid ys)
+        → allSaid (cond b (a ∷ fitting (λ a. a .said) ys) (fitting (λ a. a .said) ys)) ≡ cond b (a .said ∷ fitting (λ y. y) (allSaid ys)) (fitting (λ y. y) (allSaid ys))
+    go true h = ap (λ (l : List Said). a .said ∷ l) h
+    go false h = h
+
+-- what the engine's definition says to one request
+abbrev pub told : Engine → Bytes → Placed
+told t s = record { said = record { request = s; reply = request t s .reply }; place = placeTo t s }
+
+pub reading : Reading Called fit tablesOf (λ t s. request t s .tables) (λ a. a .said) told placedRun SameTables
+unfolding placedRun
 reading = record {
-  answers = λ bytes x y reply r f. let a = answers r f in (a .0, a .1, fit-kept (as-number r .lengths) ∙ f);
-  no-room = λ bytes x y reply r f. no-room r f .0;
+  answers = λ a x y r f. let g = answers r f in (
+    λ i. record { said = record { request = a .said .request; reply = g .0 i }; place = g .1 i },
+    g .2,
+    fit-kept (answered r .lengths) ∙ f,
+  );
+  no-room = λ a x y r f. no-room r f .0;
   listed = replies-are-listed .requests;
-  respects = λ t u h s. respects t u h s;
+  respects = λ t u h s. let g = respects t u h s in (λ i. record { said = record { request = s; reply = g .0 i }; place = g .1 i }, g .2);
   chained = λ t u v h k. tables-then h k;
+  none = λ t. refl;
+  more = λ t s ss. refl;
 }

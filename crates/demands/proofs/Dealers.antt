@@ -6,7 +6,7 @@ use mathlib.Core.Path.{_≡_, refl, sym, ap, _∙_}
 use native.Mathlib.Omega.{arith}
 use Rattle.paper_lower.specs.Checks.{GRANTED, ROOM, FULL}
 use Rattle.paper_lower.specs.Records.{Bytes}
-use Rattle.paper_lower.specs.Kinds.{Said}
+use Rattle.paper_lower.specs.Kinds.{Said, run}
 use Rattle.paper_lower.specs.Tables.{Lower}
 use Rattle.paper_lower.specs.Load.{load, recordsOf}
 use Rattle.paper_lower.specs.Sessions.{lowerRequest, lowerOf}
@@ -19,7 +19,7 @@ use Rattle.theorems.specs.OverEntries.{RoleLimits}
 use Rattle.theorems.proofs.Replies.{replies-are-listed}
 use Rattle.theorems.proofs.Theorems.{dealers-keep-the-limits}
 use Rattle.demands.specs.Calls.{Chain, fitting, asked}
-use Rattle.demands.specs.Dealers.{Buffers, tablesOf, fit, Request, Load, OneAnswer, LimitsHold}
+use Rattle.demands.specs.Dealers.{Buffers, tablesOf, fit, Request, Called, Load, OneAnswer, LimitsHold}
 use Rattle.demands.specs.Dealers.Request.{within, exported}
 use Rattle.demands.specs.Dealers.Load.{within as load-within, exported as load-exported-here}
 use Rattle.demands.proofs.Calls.{first-byte, Reading, chain-run, told-fitting}
@@ -43,13 +43,19 @@ module _ {bytes : Bytes} {x y : Buffers} {reply : ℕ} (r : Request bytes x y re
 same-tables : (t u : Lower) → t ≡ u → (s : Bytes) → (lowerRequest t s .reply ≡ lowerRequest u s .reply) × (lowerRequest t s .tables ≡ lowerRequest u s .tables)
 same-tables t u h s = (ap (λ (k : Lower). lowerRequest k s .reply) h, ap (λ (k : Lower). lowerRequest k s .tables) h)
 
-reading : Reading Request fit tablesOf lowerRequest (λ t u. t ≡ u)
+abbrev told : Lower → Bytes → Said
+told t s = record { request = s; reply = lowerRequest t s .reply }
+
+reading : Reading Called fit tablesOf (λ t s. lowerRequest t s .tables) (λ y. y) told (run lowerRequest) (λ t u. t ≡ u)
+unfolding run
 reading = record {
-  answers = λ bytes x y reply r f. let a = answers r f in (a .0, a .1, still-fit r ∙ f);
-  no-room = λ bytes x y reply r f. no-room r f .0;
+  answers = λ a x y r f. let g = answers r f in (λ i. record { request = a .request; reply = g .0 i }, g .1, still-fit r ∙ f);
+  no-room = λ a x y r f. no-room r f .0;
   listed = replies-are-listed .lowerRequests;
-  respects = same-tables;
+  respects = λ t u h s. (ap (λ (k : Lower). told k s) h, ap (λ (k : Lower). lowerRequest k s .tables) h);
   chained = λ t u v h k. h ∙ k;
+  none = λ t. refl;
+  more = λ t s ss. refl;
 }
 
 -- ---- loads
@@ -100,7 +106,7 @@ one-answer = record {
         (c .0 ∙ sym (d .0), c .1 ∙ h ∙ sym (d .1))
 
 -- ---- the role limits
-module _ {policy : Bytes} {x y z : Buffers} {reply : ℕ} {said : List Said} (l : Load policy x y reply) (g : reply ≡ GRANTED) (c : Chain Request fit y said z) where
+module _ {policy : Bytes} {x y z : Buffers} {reply : ℕ} {said : List Said} (l : Load policy x y reply) (g : reply ≡ GRANTED) (c : Chain Called fit y said z) where
   -- an accepted load was lent buffers of their lengths
   fits : fit x ≡ true
   fits = go (fit x) refl
@@ -118,9 +124,10 @@ module _ {policy : Bytes} {x y z : Buffers} {reply : ℕ} {said : List Said} (l 
   limits : RoleLimits (recordsOf policy) (outside policy said)
   unfolding outside
   limits =
-      let a = chain-run Request fit tablesOf lowerRequest (λ t u. t ≡ u) reading c still-fits (lowerOf (load policy .tables)) (loads l fits .1) in
-      let told = ap (outside policy) (sym (a .0)) ∙ told-fitting hear _ said in
-      rw told at (dealers-keep-the-limits policy accepted (asked (fitting said)))
+      let a = chain-run Called fit tablesOf (λ t s. lowerRequest t s .tables) (λ y. y) told (run lowerRequest) (λ t u. t ≡ u) reading c still-fits
+      (lowerOf (load policy .tables)) (loads l fits .1) in
+      let heard = ap (outside policy) (sym (a .0)) ∙ told-fitting hear _ said in
+      rw heard at (dealers-keep-the-limits policy accepted (asked (λ y. y) (fitting (λ y. y) said)))
 
 pub limits-hold : LimitsHold
 limits-hold = record { upheld = λ l g c. limits l g c }

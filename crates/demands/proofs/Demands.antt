@@ -7,10 +7,9 @@ use native.Mathlib.Omega.{arith}
 use Rattle.paper_lower.specs.Checks.{GRANTED, ROOM, BEFORE}
 use Rattle.paper_lower.specs.Records.{Bytes}
 use Rattle.paper_lower.specs.Forms.{requestForms}
-use Rattle.paper_lower.specs.Kinds.{Said}
 use Rattle.paper_lower.specs.Load.{load}
 use Rattle.paper_upper.specs.Orders.{Engine, SameTables}
-use Rattle.paper_upper.specs.Engine.{requestKinds, request, engineOf}
+use Rattle.paper_upper.specs.Engine.{requestKinds, request, Placed, placedRun, engineOf}
 use Rattle.replies.specs.declared.Reply.{Reply}
 use Rattle.replies.proofs.ReplyLaws.{one-reply}
 use Rattle.lower.specs.Exports.{inOne}
@@ -22,11 +21,13 @@ use Rattle.engine.proofs.RespectLaws.{respects}
 use Rattle.theorems.specs.Replies.{FirstRefusal, checksOf}
 use Rattle.theorems.specs.Outside.{hear, outside}
 use Rattle.theorems.specs.Theorems.{tablesAfter, saidAfter, replyAfter, Reaches}
+use Rattle.theorems.specs.Places.{placedAfter, placeAfter}
 use Rattle.theorems.proofs.Replies.{checks-in-order, refused-loads-are-empty}
 use Rattle.theorems.proofs.Theorems.{orders-keep-the-rules, clerks-keep-the-limits, first-rule-broken}
-use Rattle.demands.specs.Calls.{Request, Load, Requests, fitting, asked}
+use Rattle.theorems.proofs.Places.{places-are-true, placed-said}
+use Rattle.demands.specs.Calls.{Request, Load, Called, Requests, allSaid, fitting, asked}
 use Rattle.demands.specs.Demands.{DemandOne, DemandTwo, OneAnswer, Upheld, DemandThree}
-use Rattle.demands.proofs.Calls.{fit-kept, as-number, request-listed, answers, no-room, as-load, load-listed, load-reply, chain-run, told-fitting, reading}
+use Rattle.demands.proofs.Calls.{fit-kept, request-listed, answered, answers, no-room, as-load, load-listed, load-reply, after-all, chain-run, told-fitting, said-fitting, told, reading}
 
 -- ---- loads
 module _ {bytes : Bytes} {x y : Buffers} {reply : ℕ} (l : Load bytes x y reply) where
@@ -56,9 +57,9 @@ no-number f d = d .answers ∙ rw f
 
 pub demand-one : DemandOne
 demand-one = record {
-  request-answers = λ {bytes} {x} r. rw (as-number r .answers) (request-listed bytes x);
+  request-answers = λ {bytes} {x} r. rw (answered r .replies) (request-listed bytes x);
   load-answers = λ {bytes} {x} l. rw (load-reply l) (load-listed bytes x);
-  refused-request = λ r n. as-number r .kept (λ z. n (as-number r .answers ∙ z));
+  refused-request = λ r n. answered r .kept n;
   refused-load = λ {bytes} f l n. let a = loads l f in (
     a .1 ∙ ap engineOf (refused-loads-are-empty bytes (λ z. n (a .0 ∙ z))),
     as-load l .1 .zeros f (λ z. n (load-reply l ∙ z)),
@@ -81,12 +82,20 @@ number-of f d = d .answers ∙ rw f
 start : {policy : Bytes} {x y : Buffers} {reply : ℕ} → fit x ≡ true → Load policy x y reply → SameTables (tablesOf y) (engineOf (load policy .tables))
 start {policy} {x} {y} f l = subst (λ (t : Engine). SameTables (tablesOf y) t) (loads l f .1) (tables-refl (tablesOf y))
 
-runs : {policy : Bytes} {x y z : Buffers} {reply : ℕ} {said : List Said} → fit x ≡ true → Load policy x y reply → Requests y said z
-    → (fitting said ≡ saidAfter policy (asked (fitting said))) × SameTables (tablesOf z) (tablesAfter policy (asked (fitting said))) × (fit z ≡ true)
-runs {policy} f l c =
-    chain-run Request fit tablesOf request SameTables reading c (fit-kept (as-load l .1 .lengths) ∙ f) (engineOf (load policy .tables)) (start f l)
+abbrev fitted : List Placed → List Placed
+fitted said = fitting (λ a. a .said) said
 
-refusal : {bytes : Bytes} {x y : Buffers} {reply : ℕ} → fit x ≡ true → Request bytes x y reply
+abbrev requestsIn : List Placed → List Bytes
+requestsIn said = asked (λ a. a .said) (fitted said)
+
+runs : {policy : Bytes} {x y z : Buffers} {reply : ℕ} {said : List Placed} → fit x ≡ true → Load policy x y reply → Requests y said z
+    → (fitted said ≡ placedAfter policy (requestsIn said)) × SameTables (tablesOf z) (tablesAfter policy (requestsIn said)) × (fit z ≡ true)
+runs {policy} {said = said} f l c =
+    let a = chain-run Called fit tablesOf (λ t s. request t s .tables) (λ a. a .said) told placedRun SameTables reading c (fit-kept (as-load l .1 .lengths) ∙ f)
+    (engineOf (load policy .tables)) (start f l) in
+    (a .0, rw (after-all request (engineOf (load policy .tables)) (requestsIn said)) at (a .1), a .2)
+
+refusal : {bytes : Bytes} {x y : Buffers} {reply place : ℕ} → fit x ≡ true → Request bytes x y reply place
     → FirstRefusal (checksOf requestForms requestKinds (tablesOf x) bytes) reply
 unfolding request
 refusal {bytes} {x} f r =
@@ -112,42 +121,47 @@ one-answer = record {
   replies = one-reply;
 }
   where
-    same : {bytes : Bytes} {x x′ y y′ : Buffers} {q r : ℕ} → fit x ≡ fit x′ → SameTables (tablesOf x) (tablesOf x′)
-        → Request bytes x y q → Request bytes x′ y′ r → (b : Bool) → fit x ≡ b → (q ≡ r) × SameTables (tablesOf y) (tablesOf y′)
+    same : {bytes : Bytes} {x x′ y y′ : Buffers} {q r i j : ℕ} → fit x ≡ fit x′ → SameTables (tablesOf x) (tablesOf x′)
+        → Request bytes x y q i → Request bytes x′ y′ r j → (b : Bool) → fit x ≡ b → (q ≡ r) × (i ≡ j) × SameTables (tablesOf y) (tablesOf y′)
     same {bytes} {x} {x′} e h a b true f =
         let c = answers a f in
         let d = answers b (sym e ∙ f) in
         let s = respects (tablesOf x) (tablesOf x′) h bytes in
-        (c .0 ∙ s .0 ∙ sym (d .0), tables-then (c .1) (tables-then (s .1) (tables-sym (d .1))))
+        (c .0 ∙ s .0 ∙ sym (d .0), c .1 ∙ s .1 ∙ sym (d .1), tables-then (c .2) (tables-then (s .2) (tables-sym (d .2))))
     same {bytes} {x} {x′} e h a b false f =
         let c = no-room a f in
         let d = no-room b (sym e ∙ f) in
-        (c .0 ∙ sym (d .0), rw (c .1, d .1) h)
+        (c .0 ∙ sym (d .0), c .1 ∙ sym (d .1), rw (c .2, d .2) h)
 
 -- ---- demand 3
-module _ {policy : Bytes} {x y z : Buffers} {reply : ℕ} {said : List Said} (l : Load policy x y reply) (g : reply ≡ GRANTED) (c : Requests y said z) where
+module _ {policy : Bytes} {x y z : Buffers} {reply : ℕ} {said : List Placed} (l : Load policy x y reply) (g : reply ≡ GRANTED) (c : Requests y said z) where
   abbrev ss : List Bytes
-  ss = asked (fitting said)
+  ss = requestsIn said
 
   accepted : load policy .reply ≡ GRANTED
   accepted = sym (loads l (fits l g) .0) ∙ g
 
-  told : outside policy (saidAfter policy ss) ≡ outside policy said
+  heard : outside policy (saidAfter policy ss) ≡ outside policy (allSaid said)
   unfolding outside
-  told = ap (outside policy) (sym (runs (fits l g) l c .0)) ∙ told-fitting hear _ said
+  heard =
+      ap (outside policy) (sym (placed-said (engineOf (load policy .tables)) ss) ∙ ap allSaid (sym (runs (fits l g) l c .0)) ∙ said-fitting said)
+      ∙ told-fitting hear _ (allSaid said)
 
-  claimed : {claim : Bytes} {w : Buffers} {q : ℕ} → Request claim z w q → q ≡ replyAfter policy ss claim
+  claimed : {claim : Bytes} {w : Buffers} {q i : ℕ} → Request claim z w q i → (q ≡ replyAfter policy ss claim) × (i ≡ placeAfter policy ss claim)
   claimed {claim} r =
       let a = runs (fits l g) l c in
-      answers r (a .2) .0 ∙ respects (tablesOf z) (tablesAfter policy ss) (a .1) claim .0
+      let b = answers r (a .2) in
+      let s = respects (tablesOf z) (tablesAfter policy ss) (a .1) claim in
+      (b .0 ∙ s .0, b .1 ∙ s .1)
 
   upheld : Upheld policy said z
   upheld = record {
-    orders = rw told at (orders-keep-the-rules policy accepted ss);
-    clerks = rw told at (clerks-keep-the-limits policy accepted ss);
+    orders = rw heard at (orders-keep-the-rules policy accepted ss);
+    clerks = rw heard at (clerks-keep-the-limits policy accepted ss);
     claims = λ {claim} e r h.
-        let n = claimed r in
-        rw n (rw told at (first-rule-broken policy accepted ss claim e (subst (Reaches BEFORE) n h)));
+        let n = claimed r .0 in
+        rw n (rw heard at (first-rule-broken policy accepted ss claim e (subst (Reaches BEFORE) n h)));
+    places = λ {claim} e r. let n = claimed r in rw (n .0, n .1) (rw heard at (places-are-true policy accepted ss claim e));
   }
 
 pub demand-three : DemandThree

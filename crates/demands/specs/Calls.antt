@@ -1,6 +1,6 @@
 -- Calls of the engine on real buffers. A call is what it promises: `Requested` and `LoadDone` are the contracts of engine::request and
 -- engine::load, `RequestExported` and `LoadExported` those of the functions that C and Rust link. They ask nothing of bytes and buffers.
-use Prim.Native.Nat.{ℕ, _%_}
+use Prim.Native.Nat.{ℕ, _/_, _%_}
 use mathlib.Core.Bool.{Bool, false, not}
 use mathlib.Core.List.{List, [], _∷_}
 use mathlib.Core.Path.{_≡_}
@@ -9,38 +9,46 @@ use Rattle.paper_lower.specs.Lists.{keep, each}
 use Rattle.paper_lower.specs.Checks.{ROOM}
 use Rattle.paper_lower.specs.Records.{Bytes}
 use Rattle.paper_lower.specs.Kinds.{Said}
+use Rattle.paper_upper.specs.Engine.{Placed}
 use Rattle.replies.specs.Replies.{numberOf}
 use Rattle.replies.specs.declared.Reply.{Reply}
+use Rattle.rules.specs.declared.Judged.{Judged}
 use Rattle.engine.specs.Buffers.{Buffers, fit}
 use Rattle.engine.specs.Answers.{Requested, LoadDone}
 use Rattle.engine.specs.Exports.{RequestExported, LoadExported}
 
--- A request by either function: the bytes, the buffers before and after, and the reply.
-pub data Request (bytes : Bytes) (x y : Buffers) : ℕ → Type 0 where
-  within : {r : Reply} → Requested bytes x y r → Request bytes x y (numberOf r)
-  exported : {n : ℕ} → RequestExported bytes x y n → Request bytes x y n
+-- A request by either function: the bytes, the buffers before and after, the reply and the place. The exported one's number is the reply +
+-- 256 times the place.
+pub data Request (bytes : Bytes) (x y : Buffers) : ℕ → ℕ → Type 0 where
+  within : {j : Judged} → Requested bytes x y j → Request bytes x y (numberOf (j .reply)) (j .place)
+  exported : {n : ℕ} → RequestExported bytes x y n → Request bytes x y (n % 256) (n / 256)
 
--- A load by either function. The exported one's number is the reply + 256 times the place.
+-- A load by either function.
 pub data Load (bytes : Bytes) (x y : Buffers) : ℕ → Type 0 where
   within : {r : Reply} {place : ℕ} → LoadDone bytes x y r place → Load bytes x y (numberOf r)
   exported : {n : ℕ} → LoadExported bytes x y n → Load bytes x y (n % 256)
 
--- Requests one after the other, each on the buffers that the one before left, with what was asked and replied. Among them may be some
--- to which other buffers were lent, of a wrong length, be they parts of these: demand 1 says that they come back as they were. A call
--- is here what it promises, P, and fit says of buffers whether they have their lengths.
-pub data Chain {L : Type 0} (P : Bytes → L → L → ℕ → Type 0) (fit : L → Bool) : L → List Said → L → Type 0 where
+-- Requests one after the other, each on the buffers that the one before left, with what was said: asked, replied, and of the engine the place.
+-- Among them may be some to which other buffers were lent, of a wrong length, be they parts of these: demand 1 says that they come back as
+-- they were. A call is here what it promises, P, and fit says of buffers whether they have their lengths.
+pub data Chain {L A : Type 0} (P : A → L → L → Type 0) (fit : L → Bool) : L → List A → L → Type 0 where
   no-more : {x : L} → Chain P fit x [] x
-  one : {x y z : L} {bytes : Bytes} {reply : ℕ} {said : List Said} → P bytes x y reply → Chain P fit y said z
-      → Chain P fit x (record { request = bytes; reply = reply } ∷ said) z
-  misfit : {x v w z : L} {bytes : Bytes} {reply : ℕ} {said : List Said} → fit v ≡ false → P bytes v w reply → Chain P fit x said z
-      → Chain P fit x (record { request = bytes; reply = reply } ∷ said) z
+  one : {x y z : L} {a : A} {said : List A} → P a x y → Chain P fit y said z → Chain P fit x (a ∷ said) z
+  misfit : {x v w z : L} {a : A} {said : List A} → fit v ≡ false → P a v w → Chain P fit x said z → Chain P fit x (a ∷ said) z
 
-abbrev pub Requests : Buffers → List Said → Buffers → Type 0
-Requests x said z = Chain Request fit x said z
+abbrev pub Called : Placed → Buffers → Buffers → Type 0
+Called a x y = Request (a .said .request) x y (a .said .reply) (a .place)
+
+abbrev pub Requests : Buffers → List Placed → Buffers → Type 0
+Requests x said z = Chain Called fit x said z
+
+-- without the places
+abbrev pub allSaid : List Placed → List Said
+allSaid said = each (λ a. a .said) said
 
 -- the requests that were not refused for the lengths of the buffers lent
-abbrev pub fitting : List Said → List Said
-fitting said = keep (λ q. not (eqb (q .reply) ROOM)) said
+abbrev pub fitting : {A : Type 0} → (A → Said) → List A → List A
+fitting f said = keep (λ a. not (eqb (f a .reply) ROOM)) said
 
-abbrev pub asked : List Said → List Bytes
-asked said = each (λ q. q .request) said
+abbrev pub asked : {A : Type 0} → (A → Said) → List A → List Bytes
+asked f said = each (λ a. f a .request) said

@@ -34,6 +34,9 @@ pub data Request (bytes : Bytes) (x y : Buffers) : ℕ → Type 0 where
   within : {r : Reply} → lower.Requested bytes (x .policy) (x .sessions) (y .policy) (y .sessions) r → Request bytes x y (numberOf r)
   exported : {n : ℕ} → exports.RequestExported bytes (x .policy) (x .sessions) (y .policy) (y .sessions) n → Request bytes x y n
 
+abbrev pub Called : Said → Buffers → Buffers → Type 0
+Called a x y = Request (a .request) x y (a .reply)
+
 pub data Load (bytes : Bytes) (x y : Buffers) : ℕ → Type 0 where
   within : {r : Reply} {place : ℕ} → lower.Loads bytes (x .policy) (x .sessions) (y .policy) (y .sessions) r place → Load bytes x y (numberOf r)
   exported : {n : ℕ} → exports.LoadExported bytes (x .policy) (x .sessions) (y .policy) (y .sessions) n → Load bytes x y (n % 256)
@@ -51,5 +54,5 @@ pub record OneAnswer : Type 0 where
 
 -- After an accepted load and any further requests, "role limits hold": of the roles that requests and answers tell.
 pub record LimitsHold : Type 0 where
-  pub upheld : {policy : Bytes} {x y z : Buffers} {reply : ℕ} {said : List Said} → Load policy x y reply → reply ≡ GRANTED → Chain Request fit y said z
+  pub upheld : {policy : Bytes} {x y z : Buffers} {reply : ℕ} {said : List Said} → Load policy x y reply → reply ≡ GRANTED → Chain Called fit y said z
       → RoleLimits (recordsOf policy) (outside policy said)

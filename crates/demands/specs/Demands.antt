@@ -7,11 +7,10 @@ use Rattle.paper_lower.specs.Lists.{Every}
 use Rattle.paper_lower.specs.Checks.{GRANTED, ROOM, BEFORE, FULL}
 use Rattle.paper_lower.specs.Records.{Bytes, decode}
 use Rattle.paper_lower.specs.Forms.{requestForms}
-use Rattle.paper_lower.specs.Kinds.{Said}
 use Rattle.paper_lower.specs.Tables.{noPolicy}
 use Rattle.paper_lower.specs.Load.{load, recordsOf}
 use Rattle.paper_upper.specs.Orders.{SameTables}
-use Rattle.paper_upper.specs.Engine.{requestKinds, request, engineOf}
+use Rattle.paper_upper.specs.Engine.{requestKinds, request, placeTo, Placed, engineOf}
 use Rattle.replies.specs.Replies.{numberOf}
 use Rattle.replies.specs.declared.Reply.{Reply}
 use Rattle.lower.specs.Exports.{inOne}
@@ -21,22 +20,24 @@ use Rattle.engine.specs.Exports.{LoadExported}
 use Rattle.theorems.specs.Replies.{FirstRefusal, checksOf, ChecksInOrder}
 use Rattle.theorems.specs.Outside.{hear, outside}
 use Rattle.theorems.specs.OverEntries.{claimRules, RoleLimits}
-use Rattle.theorems.specs.Theorems.{tablesAfter, saidAfter, Reaches, FirstBroken}
-use Rattle.demands.specs.Calls.{Request, Load, Requests, fitting, asked}
+use Rattle.theorems.specs.Theorems.{tablesAfter, Reaches, FirstBroken}
+use Rattle.theorems.specs.Places.{placedAfter, RuleAt}
+use Rattle.demands.specs.Calls.{Request, Load, Requests, allSaid, fitting, asked}
 
 -- ---- Demand 1
 pub record DemandOne : Type 0 where
   -- "Every record and every state, of any length or content, gets an answer from the published table, and the engine always returns.":
   -- the calls have no `requires`, and a function that is proved returns
-  pub request-answers : {bytes : Bytes} {x y : Buffers} {reply : ℕ} → Request bytes x y reply → reply ≤ FULL
+  pub request-answers : {bytes : Bytes} {x y : Buffers} {reply place : ℕ} → Request bytes x y reply place → reply ≤ FULL
   pub load-answers : {bytes : Bytes} {x y : Buffers} {reply : ℕ} → Load bytes x y reply → reply ≤ FULL
   -- "A refused request changes no table.": no word
-  pub refused-request : {bytes : Bytes} {x y : Buffers} {reply : ℕ} → Request bytes x y reply → (reply ≡ GRANTED → ⊥) → y ≡ x
+  pub refused-request : {bytes : Bytes} {x y : Buffers} {reply place : ℕ} → Request bytes x y reply place → (reply ≡ GRANTED → ⊥) → y ≡ x
   -- "A refused load leaves an empty engine.": in zero words
   pub refused-load : {bytes : Bytes} {x y : Buffers} {reply : ℕ} → fit x ≡ true → Load bytes x y reply → (reply ≡ GRANTED → ⊥)
       → (tablesOf y ≡ engineOf noPolicy) × Zeros y
   -- "Buffers of the wrong length are refused and not written."
-  pub misfit-request : {bytes : Bytes} {x y : Buffers} {reply : ℕ} → fit x ≡ false → Request bytes x y reply → (reply ≡ ROOM) × (y ≡ x)
+  pub misfit-request : {bytes : Bytes} {x y : Buffers} {reply place : ℕ} → fit x ≡ false → Request bytes x y reply place
+      → (reply ≡ ROOM) × (place ≡ 0) × (y ≡ x)
   pub misfit-load : {bytes : Bytes} {x y : Buffers} {reply : ℕ} → fit x ≡ false → Load bytes x y reply → (reply ≡ ROOM) × (y ≡ x)
   -- "place 0"
   pub misfit-place : {bytes : Bytes} {x y : Buffers} {r : Reply} {place : ℕ} → fit x ≡ false → LoadDone bytes x y r place → place ≡ 0
@@ -45,10 +46,12 @@ pub record DemandOne : Type 0 where
 -- ---- Demand 2
 
 -- "Each load and each request gives exactly the answer and the next tables that the condensed OPL rules give: granted when they grant,
--- otherwise refused with the first refusal in the fixed order."
+-- otherwise refused with the first refusal in the fixed order." And, of 02's Ask 2, exactly the place.
 pub record DemandTwo : Type 0 where
-  pub requests : {bytes : Bytes} {x y : Buffers} {reply : ℕ} → fit x ≡ true → Request bytes x y reply
-      → (reply ≡ request (tablesOf x) bytes .reply) × SameTables (tablesOf y) (request (tablesOf x) bytes .tables)
+  pub requests : {bytes : Bytes} {x y : Buffers} {reply place : ℕ} → fit x ≡ true → Request bytes x y reply place
+      → (reply ≡ request (tablesOf x) bytes .reply)
+      × (place ≡ placeTo (tablesOf x) bytes)
+      × SameTables (tablesOf y) (request (tablesOf x) bytes .tables)
   pub loads : {bytes : Bytes} {x y : Buffers} {reply : ℕ} → fit x ≡ true → Load bytes x y reply
       → (reply ≡ load bytes .reply) × (tablesOf y ≡ engineOf (load bytes .tables))
   -- and its place, which the exported number has up to 2 ^ 55
@@ -56,18 +59,19 @@ pub record DemandTwo : Type 0 where
   pub numbers : {bytes : Bytes} {x y : Buffers} {number : ℕ} → fit x ≡ true → LoadExported bytes x y number
       → number ≡ inOne (load bytes .reply) (load bytes .place)
   -- one after the other, from a load of buffers of any content on
-  pub runs : {policy : Bytes} {x y z : Buffers} {reply : ℕ} {said : List Said} → fit x ≡ true → Load policy x y reply → Requests y said z
-      → (fitting said ≡ saidAfter policy (asked (fitting said))) × SameTables (tablesOf z) (tablesAfter policy (asked (fitting said)))
+  pub runs : {policy : Bytes} {x y z : Buffers} {reply : ℕ} {said : List Placed} → fit x ≡ true → Load policy x y reply → Requests y said z
+      → let fitted = fitting (λ a. a .said) said in
+      (fitted ≡ placedAfter policy (asked (λ a. a .said) fitted)) × SameTables (tablesOf z) (tablesAfter policy (asked (λ a. a .said) fitted))
   -- the first refusal is the lowest number of the checks that apply, and none applies to what is granted
-  pub first-refusal : {bytes : Bytes} {x y : Buffers} {reply : ℕ} → fit x ≡ true → Request bytes x y reply
+  pub first-refusal : {bytes : Bytes} {x y : Buffers} {reply place : ℕ} → fit x ≡ true → Request bytes x y reply place
       → FirstRefusal (checksOf requestForms requestKinds (tablesOf x) bytes) reply
   -- "Checks run in the order of their numbers", those of a policy's records too
   pub order : ChecksInOrder
 
 -- "A proof shows that no second answer fits": from the bytes and the tables that were read, whatever the words, by whichever function
 pub record OneAnswer : Type 0 where
-  pub requests : {bytes : Bytes} {x x′ y y′ : Buffers} {q r : ℕ} → fit x ≡ fit x′ → SameTables (tablesOf x) (tablesOf x′)
-      → Request bytes x y q → Request bytes x′ y′ r → (q ≡ r) × SameTables (tablesOf y) (tablesOf y′)
+  pub requests : {bytes : Bytes} {x x′ y y′ : Buffers} {q r i j : ℕ} → fit x ≡ fit x′ → SameTables (tablesOf x) (tablesOf x′)
+      → Request bytes x y q i → Request bytes x′ y′ r j → (q ≡ r) × (i ≡ j) × SameTables (tablesOf y) (tablesOf y′)
   pub loads : {bytes : Bytes} {x x′ y y′ : Buffers} {q r : ℕ} → fit x ≡ true → fit x′ ≡ true
       → Load bytes x y q → Load bytes x′ y′ r → (q ≡ r) × (tablesOf y ≡ tablesOf y′)
   pub places : {bytes : Bytes} {x x′ y y′ : Buffers} {q r : Reply} {i j : ℕ} → fit x ≡ true → fit x′ ≡ true
@@ -78,18 +82,21 @@ pub record OneAnswer : Type 0 where
   pub replies : (q r : Reply) → numberOf q ≡ numberOf r → q ≡ r
 
 -- ---- Demand 3
-pub record Upheld (policy : Bytes) (said : List Said) (z : Buffers) : Type 0 where
+pub record Upheld (policy : Bytes) (said : List Placed) (z : Buffers) : Type 0 where
   -- "read the entries of each open order from the requests and answers alone: they break no task set, partition, lone-worker, binding, count
   -- or prerequisite rule"
-  pub orders : Every (λ k. k .Kept (recordsOf policy) (outside policy said .orders)) claimRules
+  pub orders : Every (λ k. k .Kept (recordsOf policy) (outside policy (allSaid said) .orders)) claimRules
   -- "and role limits hold for every clerk."
-  pub clerks : RoleLimits (recordsOf policy) (outside policy said)
+  pub clerks : RoleLimits (recordsOf policy) (outside policy (allSaid said))
   -- "A claim that passes the earlier checks is refused for the first of these six rules that entering it would break, and for none of them
   -- otherwise."
-  pub claims : {claim : Bytes} {w : Buffers} {reply : ℕ} → decode claim .kind ≡ 50 → Request claim z w reply → Reaches BEFORE reply
-      → FirstBroken claimRules (recordsOf policy) (hear (outside policy said) (decode claim) .orders) reply
+  pub claims : {claim : Bytes} {w : Buffers} {reply place : ℕ} → decode claim .kind ≡ 50 → Request claim z w reply place → Reaches BEFORE reply
+      → FirstBroken claimRules (recordsOf policy) (hear (outside policy (allSaid said)) (decode claim) .orders) reply
+  -- 02, Ask 2: and its place is that of the first record of the rule's kind that entering it would break; of BLOCK, where 01's search ends
+  pub places : {claim : Bytes} {w : Buffers} {reply place : ℕ} → decode claim .kind ≡ 50 → Request claim z w reply place
+      → RuleAt (recordsOf policy) (outside policy (allSaid said)) (decode claim) reply place
 
 -- "After an accepted load and any further requests"
 pub record DemandThree : Type 0 where
-  pub upheld : {policy : Bytes} {x y z : Buffers} {reply : ℕ} {said : List Said} → Load policy x y reply → reply ≡ GRANTED → Requests y said z
+  pub upheld : {policy : Bytes} {x y z : Buffers} {reply : ℕ} {said : List Placed} → Load policy x y reply → reply ≡ GRANTED → Requests y said z
       → Upheld policy said z

@@ -107,6 +107,15 @@ fn put_line(out: &mut [u8; 16384], at: usize, first: u64, second: u64) -> usize
     put_number(out, middle, second, 10)
 }
 
+// A request's line: its number, the reply, and the place of the rule that refuses it or 0; at most 63 bytes.
+fn put_answer(out: &mut [u8; 16384], at: usize, request: u64, reply: u64, place: u64) -> usize
+    requires { ⌜ at + 63 ≤ 16384 ⌝ }
+    ensures { λ r. ⌜ r ≤ at + 63 ⌝ }
+{
+    let middle = put_number(out, at, request, 32);
+    put_line(out, middle, reply, place)
+}
+
 // Where the record that starts at `at` ends: behind 16 bytes, or with the input, which cuts it.
 fn record_end(at: usize, n: usize) -> usize
     requires { ⌜ at < n ⌝ }
@@ -140,8 +149,15 @@ fn answer(
     while i * 16 < block.len() {
         let at = i * 16;
         let end = record_end(at, block.len());
-        let reply = engine::request(&block[at..end], policy, sessions, orders);
-        to = put_line(out, to, first + i as u64, replies::number(reply));
+        let answer = engine::request(&block[at..end], policy, sessions, orders);
+        let reply = answer.reply;
+        to = put_answer(
+            out,
+            to,
+            first + i as u64,
+            replies::number(reply),
+            answer.place,
+        );
         i += 1;
     }
     to

@@ -2,4 +2,5 @@ pub mod SameLaws
 pub mod RespectLaws
 pub mod Lifts
 pub mod LowerKinds
+pub mod PlaceLaws
 pub mod Ways

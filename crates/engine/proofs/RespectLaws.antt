@@ -6,15 +6,15 @@ use Rattle.paper_lower.specs.Lists.{Every, Maybe, each}
 use Rattle.paper_lower.specs.Checks.{Check, first, granted}
 use Rattle.paper_lower.specs.Records.{Record, decode}
 use Rattle.paper_lower.specs.Forms.{requestForms, formChecks}
-use Rattle.paper_lower.specs.Kinds.{Kind, chosen, replyTo, answer, Said, run, after}
+use Rattle.paper_lower.specs.Kinds.{Kind, chosen, replyTo, answer, after}
 use Rattle.paper_lower.specs.Tables.{Lower}
 use Rattle.paper_lower.proofs.ListLaws.{every-map, every-append, every-each, every-all, _⨾_}
 use Rattle.paper_lower.proofs.KindLaws.{of-chosen}
 use Rattle.paper_upper.specs.Orders.{Entry, Same, Engine, SameTables, tasksBy, tasksDone, tasksOthers}
 use Rattle.paper_upper.specs.Orders.Same.{one}
 use Rattle.paper_upper.specs.Rules.{ruleChecks}
-use Rattle.paper_upper.specs.Requests.{deleteAbove, destroyAbove, openChecks, openNext, endChecks, endNext, unknown, claimChecks, claimNext, holdChecks, releaseNext, doneNext, taskCheckChecks, upperKinds}
-use Rattle.paper_upper.specs.Engine.{raised, sharedKinds, requestKinds, request}
+use Rattle.paper_upper.specs.Requests.{deleteAbove, destroyAbove, openChecks, openNext, endChecks, endNext, unknown, claimChecks, claimNext, holdChecks, releaseNext, doneNext, taskCheckChecks, claimPlace, upperKinds}
+use Rattle.paper_upper.specs.Engine.{raised, sharedKinds, requestKinds, request, placeOf, placeTo, placedRun}
 use Rattle.engine.specs.Respects.{Respects, RunsRespect}
 use Rattle.engine.proofs.SameLaws.{some-same, many-same, many-kept, tasks-same, keep-same, each-same}
 
@@ -69,21 +69,32 @@ granted-same : (q : ℕ) {t t′ u u′ : Engine} → SameTables t t′ → Same
 granted-same zero h k = h
 granted-same (suc q) h k = k
 
+-- the place too
+place-same : (x : Lower) (opened : ℕ → Maybe ℕ) {es es′ : List Entry} → Same es es′ → (r : Record) (reply : ℕ) → placeOf (engine x opened es) r reply ≡ placeOf (engine x opened es′) r reply
+unfolding placeOf claimPlace tasksBy tasksDone tasksOthers
+place-same x opened h r reply = rw (tasks-same _ h, tasks-same _ h, tasks-same _ h)
+
+placed-same : (t t′ : Engine) → SameTables t t′ → (r : Record) (reply : ℕ) → placeOf t r reply ≡ placeOf t′ r reply
+placed-same t t′ h r reply =
+    subst (λ (x : Lower). placeOf t r reply ≡ placeOf (engine x (t′ .orders .opened) (t′ .orders .entries)) r reply) (h .lower)
+    (subst (λ (o : ℕ → Maybe ℕ). placeOf t r reply ≡ placeOf (engine (t .lower) o (t′ .orders .entries)) r reply) (h .opened)
+    (place-same (t .lower) (t .orders .opened) (h .entries) r reply))
+
 pub respects : Respects
-unfolding request answer replyTo chosen
+unfolding request answer replyTo chosen placeTo
 respects t t′ h s =
     let a = of-chosen (λ n k. (t t′ : Engine) → SameTables t t′ → (r : Record) → Alike k r t t′) requestKinds
     (every-map requestKinds (λ k f. in-any-order k f) rows) (λ n t t′ h r. (refl, h)) (decode s .kind) t t′ h (decode s) in
-    let q = same-reply (chosen requestKinds (decode s .kind)) (decode s) (formChecks requestForms s) t t′ a in
-    (q, rw (← q) (granted-same (replyTo requestForms requestKinds t s) (a .1) h))
+    let q = same-reply (chosen requestKinds (decode s .kind)) (decode s) (formChecks requestForms s) t t′ a in (
+      q,
+      placed-same t t′ h (decode s) _ ∙ ap (placeOf t′ (decode s)) q,
+      rw (← q) (granted-same (replyTo requestForms requestKinds t s) (a .1) h),
+    )
 
 pub runs-respect : RunsRespect
-unfolding run after
+unfolding placedRun after
 runs-respect t t′ h [] = (refl, h)
 runs-respect t t′ h (s ∷ ss) =
     let a = respects t t′ h s in
-    let b = runs-respect (request t s .tables) (request t′ s .tables) (a .1) ss in (
-      ap (λ (q : ℕ). record { request = s; reply = q } ∷ run request (request t s .tables) ss) (a .0)
-          ∙ ap (λ (xs : List Said). record { request = s; reply = request t′ s .reply } ∷ xs) (b .0),
-      b .1,
-    )
+    let b = runs-respect (request t s .tables) (request t′ s .tables) (a .2) ss in
+    (λ i. record { said = record { request = s; reply = a .0 i }; place = a .1 i } ∷ b .0 i, b .1)

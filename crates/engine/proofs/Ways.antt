@@ -1,5 +1,5 @@
 -- The ways out of the engine's two calls, over plain values.
-use Prim.Native.Nat.{ℕ}
+use Prim.Native.Nat.{ℕ, _+_, _*_}
 use mathlib.Core.Bool.{Bool, true, false, not, _&&_, _||_, true≢false}
 use mathlib.Core.List.{List}
 use mathlib.Core.Path.{_≡_, refl, sym, ap, subst, _∙_}
@@ -7,15 +7,16 @@ use borrow.Author.Tests.{eqb-true}
 use lib.Dec.{eqb}
 use lib.ListN.{length}
 use Rattle.paper_lower.specs.Checks.{granted}
-use Rattle.paper_lower.specs.Records.{Bytes}
+use Rattle.paper_lower.specs.Records.{Bytes, Record, decode}
 use Rattle.paper_lower.specs.Kinds.{Answer}
 use Rattle.paper_upper.specs.Orders.{Engine, SameTables}
 use Rattle.paper_lower.specs.Load.{load}
 use Rattle.paper_lower.specs.Sessions.{lowerOf}
-use Rattle.paper_upper.specs.Engine.{request, engineOf}
+use Rattle.paper_upper.specs.Engine.{request, placeOf, placeTo, engineOf}
 use Rattle.replies.specs.Replies.{numberOf}
 use Rattle.replies.specs.declared.Reply.{Reply}
 use Rattle.replies.specs.declared.Reply.the-variants.{Room}
+use Rattle.rules.specs.declared.Judged.{Judged}
 use Rattle.policy.specs.Layout.{policyWords}
 use Rattle.sessions.specs.Reading.{sessionsWords}
 use Rattle.sessions.specs.Lower.{lowerTables}
@@ -61,22 +62,24 @@ module _ (x : Buffers) where
   pub fits-not : unfit x ≡ true → fit x ≡ false
   fits-not h = not-all (eqb (length (x .policy)) policyWords) (eqb (length (x .sessions)) sessionsWords) (eqb (length (x .orders)) ordersWords) h
 
-  pub no-room : (bytes : Bytes) → unfit x ≡ true → Requested bytes x x Room
+  pub no-room : (bytes : Bytes) {j : Judged} → j ≡ record { reply = Room; place = 0 } → unfit x ≡ true → Requested bytes x x j
   unfolding requestAnswer
-  no-room bytes h =
+  no-room bytes is h =
       let f = fits-not h in
-      record { replies = rw f; tables = rw f (tables-refl (tablesOf x)); lengths = same-lengths refl refl refl; kept = λ _. refl }
+      rw is (record { replies = rw f; places = rw f; tables = rw f (tables-refl (tablesOf x)); lengths = same-lengths refl refl refl; kept = λ _. refl })
 
 -- a step that is the definition's answer
-pub answered : {bytes : Bytes} {x x′ : Buffers} {reply : ℕ} {next : Engine} {r : Reply} → unfit x ≡ false
+pub answered : {bytes : Bytes} {x x′ : Buffers} {r : Record} {reply : ℕ} {next : Engine} {j : Judged} → unfit x ≡ false
     → request (tablesOf x) bytes ≡ record { reply = reply; tables = granted reply next (tablesOf x) }
-    → Step reply next x x′ r → SameLengths x x′ → Requested bytes x x′ r
-unfolding requestAnswer
-answered {bytes} {x} {x′} {reply} {next} {r} h e d l =
-    let a : requestAnswer bytes x ≡ record { reply = reply; tables = granted reply next (tablesOf x) } = rw (fits x h) e in
+    → r ≡ decode bytes → Step reply (placeOf (tablesOf x) r reply) next x x′ j → SameLengths x x′ → Requested bytes x x′ j
+unfolding requestAnswer placeTo
+answered {bytes} {x} {x′} {r} {reply} {next} {j} h e is d l =
+    let f = fits x h in
+    let t : request (tablesOf x) bytes .tables ≡ granted reply next (tablesOf x) = ap (λ (y : Answer Engine). y .tables) e in
     record {
-      replies = d .replies ∙ sym (ap (λ (y : Answer Engine). y .reply) a);
-      tables = subst (λ (t : Engine). SameTables (tablesOf x′) t) (d .tables ∙ sym (ap (λ (y : Answer Engine). y .tables) a)) (tables-refl (tablesOf x′));
+      replies = d .replies ∙ rw f (sym (ap (λ (y : Answer Engine). y .reply) e));
+      places = d .places ∙ rw (f, is) (sym (ap (λ (y : Answer Engine). placeOf (tablesOf x) (decode bytes) (y .reply)) e));
+      tables = rw f (subst (λ (t : Engine). SameTables (tablesOf x′) t) (d .tables ∙ sym t) (tables-refl (tablesOf x′)));
       lengths = l;
       kept = d .kept;
     }
@@ -117,5 +120,6 @@ load-exported d e =
       zeros = λ f n. d .zeros f (λ z. n (sym (d .replies) ∙ z));
     }
 
-pub request-exported : {bytes : Bytes} {x x′ : Buffers} {r : Reply} {number : ℕ} → Requested bytes x x′ r → number ≡ numberOf r → RequestExported bytes x x′ number
-request-exported d e = record { answers = e ∙ d .replies; tables = d .tables; lengths = d .lengths; kept = λ n. d .kept (λ z. n (sym (d .replies) ∙ z)) }
+pub request-exported : {bytes : Bytes} {x x′ : Buffers} {j : Judged} {number : ℕ} → Requested bytes x x′ j → number ≡ numberOf (j .reply)
+    → RequestExported bytes x x′ (number + 256 * j .place)
+request-exported d e = record { answers = rw (e, d .replies, d .places); tables = d .tables; lengths = d .lengths; kept = λ n. d .kept (λ z. n (sym (d .replies) ∙ z)) }

@@ -5,35 +5,41 @@ use mathlib.Core.Path.{_≡_}
 use lib.ListN.{getD}
 use Rattle.paper_lower.specs.Checks.{ROOM}
 use Rattle.paper_lower.specs.Records.{Bytes}
-use Rattle.paper_lower.specs.Kinds.{Answer}
 use Rattle.paper_lower.specs.Load.{load}
 use Rattle.paper_upper.specs.Orders.{Engine, SameTables}
-use Rattle.paper_upper.specs.Engine.{request, engineOf}
+use Rattle.paper_upper.specs.Engine.{request, placeTo, engineOf}
 use Rattle.replies.specs.Replies.{numberOf}
 use Rattle.replies.specs.declared.Reply.{Reply}
+use Rattle.rules.specs.declared.Judged.{Judged}
 use Rattle.engine.specs.Buffers.{Buffers, tablesOf, fit, SameLengths}
 
--- ---- A request.
-
--- "ROOM: a lent state buffer has not its fixed length; nothing is written"; else the definition's answer on the tables that were read
-unfoldable pub requestAnswer : Bytes → Buffers → Answer Engine
-requestAnswer bytes x = cond (fit x) (request (tablesOf x) bytes) (record { reply = ROOM; tables = tablesOf x })
-
-pub record Requested (bytes : Bytes) (x x′ : Buffers) (r : Reply) : Type 0 where
-  pub replies : numberOf r ≡ requestAnswer bytes x .reply
-  pub tables : SameTables (tablesOf x′) (requestAnswer bytes x .tables)
-  pub lengths : SameLengths x x′
-  -- "Refused requests change no byte of the state."
-  pub kept : (numberOf r ≡ 0 → ⊥) → x′ ≡ x
-
--- ---- The load.
-pub record LoadAnswer : Type 0 where
+-- A call's answer: its reply, a place and the tables.
+pub record CallAnswer : Type 0 where
   pub reply : ℕ
   pub place : ℕ
   pub tables : Engine
 
+-- ---- A request.
+
+-- "ROOM: a lent state buffer has not its fixed length; nothing is written"; else the definition's answer on the tables that were read
+unfoldable pub requestAnswer : Bytes → Buffers → CallAnswer
+requestAnswer bytes x =
+    cond (fit x)
+    (record { reply = request (tablesOf x) bytes .reply; place = placeTo (tablesOf x) bytes; tables = request (tablesOf x) bytes .tables })
+    (record { reply = ROOM; place = 0; tables = tablesOf x })
+
+pub record Requested (bytes : Bytes) (x x′ : Buffers) (j : Judged) : Type 0 where
+  pub replies : numberOf (j .reply) ≡ requestAnswer bytes x .reply
+  pub places : j .place ≡ requestAnswer bytes x .place
+  pub tables : SameTables (tablesOf x′) (requestAnswer bytes x .tables)
+  pub lengths : SameLengths x x′
+  -- "Refused requests change no byte of the state."
+  pub kept : (numberOf (j .reply) ≡ 0 → ⊥) → x′ ≡ x
+
+-- ---- The load.
+
 -- "A load empties the engine first; a refused one leaves it empty (ROOM apart)": the definition's tables are those of an empty policy then
-unfoldable pub loadAnswer : Bytes → Buffers → LoadAnswer
+unfoldable pub loadAnswer : Bytes → Buffers → CallAnswer
 loadAnswer bytes x =
     cond (fit x)
     (record { reply = load bytes .reply; place = load bytes .place; tables = engineOf (load bytes .tables) })

@@ -1,5 +1,5 @@
 -- What the functions promise that C and Rust link: the same answers, as one number, the reply + 256 times the place.
-use Prim.Native.Nat.{ℕ}
+use Prim.Native.Nat.{ℕ, _+_, _*_}
 use mathlib.Core.Bool.{true, false, cond}
 use mathlib.Core.Path.{_≡_}
 use lib.Dec.{eqb}
@@ -19,9 +19,8 @@ pub record LoadExported (bytes : Bytes) (x x′ : Buffers) (number : ℕ) : Type
   pub room : fit x ≡ false → x′ ≡ x
   pub zeros : fit x ≡ true → (loadAnswer bytes x .reply ≡ 0 → ⊥) → Zeros x′
 
--- a request's place is 0
 pub record RequestExported (bytes : Bytes) (x x′ : Buffers) (number : ℕ) : Type 0 where
-  pub answers : number ≡ requestAnswer bytes x .reply
+  pub answers : number ≡ requestAnswer bytes x .reply + 256 * requestAnswer bytes x .place
   pub tables : SameTables (tablesOf x′) (requestAnswer bytes x .tables)
   pub lengths : SameLengths x x′
   pub kept : (requestAnswer bytes x .reply ≡ 0 → ⊥) → x′ ≡ x

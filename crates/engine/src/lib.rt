@@ -1,18 +1,13 @@
 // The engine: the load and the request, over the three lent buffers. Any bytes and any buffers have their answer.
 ghost use mathlib.Core.Path.{_≡_};
 ghost use lib.ListN.{length};
-ghost use Rattle.paper_lower.specs.Checks.{first};
 ghost use Rattle.paper_lower.specs.Forms.{requestForms};
-ghost use Rattle.paper_lower.specs.Kinds.{chosen};
-ghost use Rattle.paper_upper.specs.Engine.{requestKinds};
-ghost use Rattle.records.specs.Reading.{paperOf};
 ghost use Rattle.records.specs.Limits.{Limits};
 ghost use Rattle.policy.specs.Layout.{policyWords};
 ghost use Rattle.sessions.specs.Reading.{sessionsWords};
 ghost use Rattle.ledger.specs.Reading.{ordersWords};
-ghost use Rattle.orders.specs.Tables.{engineTables};
 ghost use Rattle.engine.specs.Buffers.{buffers};
-ghost use Rattle.engine.specs.Step.{Step};
+ghost use Rattle.engine.specs.Step.{StepOf};
 ghost use Rattle.engine.specs.Answers.{Requested, LoadDone};
 ghost use Rattle.engine.specs.Exports.{LoadExported, RequestExported, wordsOf};
 use ledger::ORDERS_WORDS;
@@ -21,40 +16,42 @@ use policy::POLICY_WORDS;
 use records::Call;
 use records::Record;
 use replies::Reply;
+use rules::Judged;
+use rules::plain;
 use sessions::SESSIONS_WORDS;
 
-// A request that SHAPE and RANGE let pass: the upper part's kinds here, all others by the lower part.
-fn step(r: Record, p: &mut [u64], s: &mut [u64], o: &mut [u64]) -> Reply
+// A request that SHAPE and RANGE let pass: the upper part's kinds here, all others by the lower part. A claim alone has a place.
+fn step(r: Record, p: &mut [u64], s: &mut [u64], o: &mut [u64]) -> Judged
     requires { ⌜ ((length (now p) ≡ policyWords) × ((length (now s) ≡ sessionsWords) × (length (now o) ≡ ordersWords))) × Limits requestForms r ⌝ }
-    ensures { λ x. ⌜ Step (first (chosen requestKinds (r .kind) .checks (engineTables (now (p .entry)) (now (s .entry)) (now (o .entry))) (paperOf r))) (chosen requestKinds (r .kind) .next (engineTables (now (p .entry)) (now (s .entry)) (now (o .entry))) (paperOf r)) (buffers (now (p .entry)) (now (s .entry)) (now (o .entry))) (buffers (now (p .exit)) (now (s .exit)) (now (o .exit))) x ⌝ }
+    ensures { λ x. ⌜ StepOf r (buffers (now (p .entry)) (now (s .entry)) (now (o .entry))) (buffers (now (p .exit)) (now (s .exit)) (now (o .exit))) x ⌝ }
 {
     let kind = r.kind;
     match kind {
-        33 => orders::delete(p, s, o, r.a),
-        41 => orders::destroy(s, o, r.a),
-        48 => orders::open_order(p, o, r.a, r.b),
-        49 => orders::end_order(o, r.a),
+        33 => plain(orders::delete(p, s, o, r.a)),
+        41 => plain(orders::destroy(s, o, r.a)),
+        48 => plain(orders::open_order(p, o, r.a, r.b)),
+        49 => plain(orders::end_order(o, r.a)),
         50 => claims::claim(p, s, o, r.a, r.b, r.c),
-        51 => claims::release(p, s, o, r.a, r.b, r.c),
-        52 => claims::finish(p, s, o, r.a, r.b, r.c),
-        57 => claims::task_check_reply(p, s, o, r.a, r.b, r.c, r.m),
-        _ => lower::step(r, p, s),
+        51 => plain(claims::release(p, s, o, r.a, r.b, r.c)),
+        52 => plain(claims::finish(p, s, o, r.a, r.b, r.c)),
+        57 => plain(claims::task_check_reply(p, s, o, r.a, r.b, r.c, r.m)),
+        _ => plain(lower::step(r, p, s)),
     }
 }
 
 // Any bytes as a request.
-pub fn request(bytes: &[u8], policy: &mut [u64], sessions: &mut [u64], orders: &mut [u64]) -> Reply
+pub fn request(bytes: &[u8], policy: &mut [u64], sessions: &mut [u64], orders: &mut [u64]) -> Judged
     ensures { λ r. ⌜ Requested (now (bytes .entry)) (buffers (now (policy .entry)) (now (sessions .entry)) (now (orders .entry))) (buffers (now (policy .exit)) (now (sessions .exit)) (now (orders .exit))) r ⌝ }
 {
     if (policy.len() != POLICY_WORDS)
         | (sessions.len() != SESSIONS_WORDS)
         | (orders.len() != ORDERS_WORDS)
     {
-        return Reply::Room;
+        return plain(Reply::Room);
     }
     let r = records::judge(Call::Request, bytes);
     if !replies::accepted(r) {
-        return r;
+        return plain(r);
     }
     step(records::decode(bytes), policy, sessions, orders)
 }
@@ -101,8 +98,9 @@ pub extern "C" fn mishantral_request(
 ) -> u64
     ensures { λ n. ⌜ RequestExported (now (bytes .entry)) (buffers (now (policy .entry)) (now (sessions .entry)) (now (orders .entry))) (buffers (now (policy .exit)) (now (sessions .exit)) (now (orders .exit))) n ⌝ }
 {
-    let r = request(bytes, policy, sessions, orders);
-    replies::number(r)
+    let j = request(bytes, policy, sessions, orders);
+    let reply = j.reply;
+    replies::number(reply) + 256 * j.place
 }
 
 // The length of a buffer in words: 0 the policy's, 1 the sessions', 2 the orders'.

@@ -1,16 +1,17 @@
--- The whole engine: its request. (Its load is the lower part's, and leaves no subject, no order and no entry.)
-use mathlib.Core.Bool.{not, _||_}
-use mathlib.Core.List.{List, _++_}
+-- The whole engine: its request, and the place of the rule that refuses a claim. (Its load is the lower part's, and leaves no subject, no order and no entry.)
+use Prim.Native.Nat.{ℕ}
+use mathlib.Core.Bool.{not, cond, _||_}
+use mathlib.Core.List.{List, [], _∷_, _++_}
 use lib.Dec.{eqb}
 use Rattle.paper_lower.specs.Lists.{keep, each}
-use Rattle.paper_lower.specs.Records.{Bytes}
+use Rattle.paper_lower.specs.Records.{Bytes, Record, decode}
 use Rattle.paper_lower.specs.Forms.{requestForms}
-use Rattle.paper_lower.specs.Kinds.{Kind, on, Answer, answer}
+use Rattle.paper_lower.specs.Kinds.{Kind, on, Answer, answer, Said}
 use Rattle.paper_lower.specs.Tables.{Policy, Lower}
 use Rattle.paper_lower.specs.Sessions.{lowerKinds, lowerOf, lowerOpen}
 use Rattle.paper_upper.specs.Orders.{Engine, noOrders, withLower, ordersOpen}
 use Rattle.paper_upper.specs.Rules.{rulesOpen}
-use Rattle.paper_upper.specs.Requests.{upperKinds, requestsOpen}
+use Rattle.paper_upper.specs.Requests.{claimPlace, upperKinds, requestsOpen}
 
 -- a kind of the lower part, over the whole engine
 unfoldable pub raised : Kind Lower → Kind Engine
@@ -26,11 +27,29 @@ requestKinds = upperKinds ++ each raised sharedKinds
 unfoldable pub request : Engine → Bytes → Answer Engine
 request t s = answer requestForms requestKinds t s
 
+-- ---- 02, Ask 2: a place beside the reply, of a claim; "all other replies carry 0"
+unfoldable pub placeOf : Engine → Record → ℕ → ℕ
+placeOf t r reply = cond (eqb (r .kind) 50) (claimPlace t (r .a) (r .b) (r .c) reply) 0
+
+unfoldable pub placeTo : Engine → Bytes → ℕ
+placeTo t s = placeOf t (decode s) (request t s .reply)
+
+-- a request, with the reply and the place that it was given
+pub record Placed : Type 0 where
+  pub said : Said
+  pub place : ℕ
+
+-- each request with both, the tables of one being those that the one before left
+unfoldable pub placedRun : Engine → List Bytes → List Placed
+placedRun t [] = []
+placedRun t (s ∷ ss) =
+    record { said = record { request = s; reply = request t s .reply }; place = placeTo t s } ∷ placedRun (request t s .tables) ss
+
 -- the engine after a load
 unfoldable pub engineOf : Policy → Engine
 engineOf p = record { lower = lowerOf p; orders = noOrders }
 
 -- All pages of both parts, opened together where a case is computed.
 unfoldable pub engineOpen : Unit {0}
-unfolding lowerOpen ordersOpen rulesOpen requestsOpen raised sharedKinds requestKinds request engineOf
+unfolding lowerOpen ordersOpen rulesOpen requestsOpen raised sharedKinds requestKinds request placeOf placeTo placedRun engineOf
 engineOpen = tt

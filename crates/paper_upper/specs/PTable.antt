@@ -1,15 +1,17 @@
 -- 01's cases marked P, one table and one statement; its first row is 01's listing. A row is a policy with what its load gives, and
--- requests with the reply that each is given.
+-- requests with the reply that each is given. A table of its own has the places of 02's Ask 2.
 use Prim.Native.Nat.{ℕ, _+_, _^_}
-use mathlib.Core.Bool.{true}
+use mathlib.Core.Bool.{Bool, true, false, _&&_}
 use mathlib.Core.Path.{_≡_, refl}
 use mathlib.Core.List.{List, [], _∷_, _++_}
-use Rattle.paper_lower.specs.Lists.{every}
+use lib.Dec.{eqb}
+use Rattle.paper_lower.specs.Lists.{every, each}
 use Rattle.paper_lower.specs.Records.{Bytes}
 use Rattle.paper_lower.specs.Kinds.{Said}
 use Rattle.paper_lower.specs.Checks.{GRANTED, SHAPE, RANGE, UNKNOWN, TAKEN, IN-USE, RULE, NOT-ASSIGNED, STATIC, DYNAMIC, NO-ROLE, NOT-YOURS, DENIED, BEFORE, SEPARATION, BLOCK, ALONE, BOUND, COUNT}
-use Rattle.paper_lower.specs.Words.{Case, refuses, accepts, _⇒_, comesOut, wordsOpen, record-of, user, role, permission, userHas, roleHas, task, openTo, carries, staticSet, dynamicSet, taskSet, block, ban, atMost, bound, isBefore, addUser, deleteUser, assign, takeBack, give, withdraw, create, destroy, activate, deactivate, openOrder, endOrder, claim, release, done, check, taskCheck}
-use Rattle.paper_upper.specs.Engine.{request, engineOf, engineOpen}
+use Rattle.paper_lower.specs.Words.{Case, refuses, accepts, _⇒_, joined, comesOut, wordsOpen, record-of, user, role, permission, userHas, roleHas, task, openTo, carries, staticSet, dynamicSet, taskSet, block, ban, atMost, bound, isBefore, addUser, deleteUser, assign, takeBack, give, withdraw, create, destroy, activate, deactivate, openOrder, endOrder, claim, release, done, check, taskCheck}
+use Rattle.paper_lower.specs.Load.{load}
+use Rattle.paper_upper.specs.Engine.{request, Placed, placedRun, engineOf, engineOpen}
 
 -- ---- What many rows begin with.
 
@@ -194,6 +196,61 @@ further =
     (desks 300 301 ++ (claim 6 0 0 ⇒ GRANTED ∷ done 6 0 0 ⇒ GRANTED ∷ claim 5 0 0 ⇒ GRANTED ∷ claim 5 0 1 ⇒ ALONE ∷ []))
     ∷ []
 
+-- ---- 02, Ask 2: the place beside each reply. "each request line of 01's listing gains " 0", but for requests 4, 6 and 8, which gain " 1""
+pub record Places : Type 0 where
+  pub of : Case
+  pub places : List ℕ
+
+abbrev pub gains : Case → List ℕ → Places
+gains c ks = record { of = c; places = ks }
+
+-- clerks, with a third task
+unfoldable pub clerksOfThree : List Bytes
+clerksOfThree = clerks 300 301 ++ (task 2 0 ∷ openTo 2 0 ∷ [])
+
+unfoldable pub placed : List Places
+placed =
+    gains listing (0 ∷ 0 ∷ 0 ∷ 1 ∷ 0 ∷ 1 ∷ 0 ∷ 1 ∷ 0 ∷ 0 ∷ 0 ∷ 0 ∷ 0 ∷ [])
+    -- "among rules of their kind in policy order, of the first rule broken": the first is about other tasks, the third is broken too
+    ∷ gains
+    (accepts (clerksOfThree ++ (taskSet 1 5 ∷ taskSet 1 3 ∷ taskSet 1 7 ∷ []))
+    (desks 300 301 ++ (claim 5 0 0 ⇒ GRANTED ∷ claim 5 0 1 ⇒ SEPARATION ∷ [])))
+    (0 ∷ 0 ∷ 0 ∷ 0 ∷ 2 ∷ [])
+    ∷ gains
+    (accepts (clerksOfThree ++ (isBefore 0 2 ∷ isBefore 0 1 ∷ isBefore 2 1 ∷ []))
+    (desks 300 301 ++ (claim 5 0 1 ⇒ BEFORE ∷ claim 5 0 0 ⇒ GRANTED ∷ done 5 0 0 ⇒ GRANTED ∷ claim 5 0 1 ⇒ BEFORE ∷ claim 5 0 2 ⇒ GRANTED ∷ [])))
+    (0 ∷ 0 ∷ 0 ∷ 2 ∷ 0 ∷ 0 ∷ 3 ∷ 0 ∷ [])
+    ∷ gains
+    (accepts (clerksOfThree ++ (bound 0 2 ∷ bound 1 0 ∷ bound 1 2 ∷ []))
+    (desks 300 301 ++ (claim 6 0 0 ⇒ GRANTED ∷ claim 5 0 1 ⇒ BOUND ∷ claim 5 0 2 ⇒ BOUND ∷ [])))
+    (0 ∷ 0 ∷ 0 ∷ 0 ∷ 2 ∷ 1 ∷ [])
+    -- "For BLOCK it is the block at which 01's search ends": in the first partitioning, not the first in policy order, counted among all blocks
+    ∷ gains
+    (accepts (clerksOfThree ++ (block 9 1 ∷ block 2 4 ∷ block 9 2 ∷ block 2 2 ∷ []))
+    (desks 300 301 ++ (claim 5 0 0 ⇒ GRANTED ∷ claim 5 0 1 ⇒ BLOCK ∷ claim 5 0 2 ⇒ GRANTED ∷ claim 5 0 1 ⇒ BLOCK ∷ [])))
+    (0 ∷ 0 ∷ 0 ∷ 0 ∷ 1 ∷ 0 ∷ 2 ∷ [])
+    -- "all other replies carry 0": ALONE and COUNT, beside rules that are broken by other claims; a claim's SHAPE, RANGE, UNKNOWN, TAKEN and NO ROLE
+    ∷ gains countLimit (0 ∷ 0 ∷ 0 ∷ 0 ∷ 0 ∷ 0 ∷ 0 ∷ 0 ∷ 0 ∷ 0 ∷ 0 ∷ [])
+    ∷ gains
+    (accepts (clerksOfThree ++ (isBefore 0 1 ∷ taskSet 2 7 ∷ ban 0 ∷ atMost 1 0 ∷ task 3 0 ∷ []))
+    (desks 300 301 ++ (claim 5 0 0 ⇒ GRANTED ∷ claim 5 0 0 ⇒ TAKEN ∷ done 5 0 0 ⇒ GRANTED ∷ claim 6 0 0 ⇒ COUNT ∷ claim 5 0 3 ⇒ NO-ROLE ∷ claim 5 0 4 ⇒ UNKNOWN ∷ claim 5 0 64 ⇒ RANGE ∷ record-of 50 1 5 0 1 0 ⇒ SHAPE ∷ [])))
+    (0 ∷ 0 ∷ 0 ∷ 0 ∷ 0 ∷ 0 ∷ 0 ∷ 0 ∷ 0 ∷ 0 ∷ 0 ∷ [])
+    ∷ gains
+    (accepts (clerks 300 301 ++ (bound 0 1 ∷ ban 0 ∷ [])) (desks 300 301 ++ (claim 5 0 0 ⇒ GRANTED ∷ claim 5 0 1 ⇒ ALONE ∷ claim 6 0 1 ⇒ BOUND ∷ [])))
+    (0 ∷ 0 ∷ 0 ∷ 0 ∷ 0 ∷ 1 ∷ [])
+    ∷ []
+
+unfoldable pub samePlaces : List Placed → List ℕ → Bool
+samePlaces [] [] = true
+samePlaces [] (k ∷ ks) = false
+samePlaces (x ∷ xs) [] = false
+samePlaces (x ∷ xs) (k ∷ ks) = eqb (x .place) k && samePlaces xs ks
+
+unfoldable pub placesComeOut : Places → Bool
+placesComeOut c =
+    comesOut request engineOf (c .of)
+    && samePlaces (placedRun (engineOf (load (joined (c .of .policy)) .tables)) (each (λ x. x .request) (c .of .requests))) (c .places)
+
 -- Every row comes out as it stands above.
 pub all-come-out : every (comesOut request engineOf) cases ≡ true
 unfolding engineOpen wordsOpen clerks desks listing lastUser differentPeople setsOfTwo fourTasks blocksAndBindings countLimit twoSubjects beside cases
@@ -202,3 +259,7 @@ all-come-out = refl
 pub further-come-out : every (comesOut request engineOf) further ≡ true
 unfolding engineOpen wordsOpen clerks desks further
 further-come-out = refl
+
+pub places-come-out : every placesComeOut placed ≡ true
+unfolding engineOpen wordsOpen clerks desks listing countLimit clerksOfThree placed samePlaces placesComeOut
+places-come-out = refl

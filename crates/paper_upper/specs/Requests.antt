@@ -12,9 +12,9 @@ use Rattle.paper_lower.specs.Tables.{Permissions, withPolicy, withSessions}
 use Rattle.paper_lower.specs.Policy.{hasTask, isFor}
 use Rattle.paper_lower.specs.Roles.{deleteChecks, deleteNext}
 use Rattle.paper_lower.specs.Sessions.{destroyChecks, destroyNext}
-use Rattle.paper_upper.specs.Orders.{isHeld, isHeldBy, Entry, entry, Engine, withLower, withOrders, withEntries, inOrder, ofTask, heldBy}
+use Rattle.paper_upper.specs.Orders.{isHeld, isHeldBy, Entry, entry, Engine, withLower, withOrders, withEntries, inOrder, ofTask, heldBy, tasksBy, tasksDone, tasksOthers}
 use Rattle.paper_upper.specs.Orders.Standing.{held, done}
-use Rattle.paper_upper.specs.Rules.{ruleChecks}
+use Rattle.paper_upper.specs.Rules.{ruleChecks, rulePlace}
 
 -- ---- "The conditions of IN USE for 33 and 41 that look at entries are judged above it."
 -- 33 "while the user has .. an entry in an open instance"
@@ -56,6 +56,13 @@ claimChecks t a b c =
     ∷ (not (meets (t .lower .policy .tasks .openTo c) (t .lower .sessions .active a)), NO-ROLE)
     ∷ ruleChecks (t .lower .policy .tasks) (t .lower .policy .rules) (t .orders .opened b) (t .orders .entries) b (t .lower .sessions .user a) c
     ++ ((leb 2048 (many (t .orders .entries)), FULL) ∷ [])
+
+-- 02, Ask 2: the place that the reply to a claim carries
+unfoldable pub claimPlace : Engine → ℕ → ℕ → ℕ → ℕ → ℕ
+claimPlace t a b c reply =
+    let u = t .lower .sessions .user a in
+    let es = t .orders .entries in
+    rulePlace (t .lower .policy .rules) (tasksBy b u es) (tasksDone b es) (tasksOthers b u es) c reply
 
 unfoldable pub claimNext : Engine → ℕ → ℕ → ℕ → Engine
 claimNext t a b c = withEntries t (entry b (t .lower .sessions .user a) c (held a) ∷ t .orders .entries)
@@ -99,5 +106,5 @@ upperKinds =
 
 -- What this page defines, opened together where a case is computed.
 unfoldable pub requestsOpen : Unit {0}
-unfolding deleteAbove destroyAbove openChecks openNext endChecks endNext unknown claimChecks claimNext holdChecks releaseNext turned doneNext carried taskCheckChecks upperKinds
+unfolding deleteAbove destroyAbove openChecks openNext endChecks endNext unknown claimChecks claimPlace claimNext holdChecks releaseNext turned doneNext carried taskCheckChecks upperKinds
 requestsOpen = tt

@@ -69,7 +69,17 @@ ruleChecks k rules template es i u t =
     ∷ (spent k (many (keep (ofTask i t) es)) t, COUNT)
     ∷ []
 
+-- ---- 02, Ask 2: "The rule questions at the bottom now return the place, from 1 and among rules of their kind in policy order, of the first rule
+-- broken, or 0. For BLOCK it is the block at which 01's search ends. Claims carry it up for BEFORE, SEPARATION, BLOCK and BOUND; all other
+-- replies carry 0."
+unfoldable pub rulePlace : Rules → Set → Set → Set → ℕ → ℕ → ℕ
+rulePlace rules d finished others t reply =
+    cond (eqb reply BEFORE) (before rules finished t)
+    (cond (eqb reply SEPARATION) (separation rules d t)
+    (cond (eqb reply BLOCK) (block rules d t)
+    (cond (eqb reply BOUND) (bound rules others t) 0)))
+
 -- What this page defines, opened together where a case is computed.
 unfoldable pub rulesOpen : Unit {0}
-unfolding missing before crowded separation own strange blockIn block alone tied bound spent ruleChecks
+unfolding missing before crowded separation own strange blockIn block alone tied bound spent ruleChecks rulePlace
 rulesOpen = tt

@@ -1,4 +1,5 @@
--- The chain of the claim rules, over what was gathered from the entries: D, the tasks done, the tasks of other users, and the number of entries of the task.
+-- The chain of the claim rules, over what was gathered from the entries: D, the tasks done, the tasks of other users, and the number of entries of the
+-- task. With the place of the rule that refuses.
 use Prim.Native.Nat.{ℕ}
 use mathlib.Core.List.{List, [], _∷_}
 use mathlib.Core.Path.{_≡_}
@@ -6,7 +7,7 @@ use Rattle.paper_lower.specs.Sets.{Set}
 use Rattle.paper_lower.specs.Lists.{Maybe}
 use Rattle.paper_lower.specs.Checks.{Check, first, BEFORE, SEPARATION, BLOCK, ALONE, BOUND, COUNT}
 use Rattle.paper_lower.specs.Tables.{Tasks, Rules}
-use Rattle.paper_upper.specs.Rules.{before, separation, block, alone, bound, spent, found}
+use Rattle.paper_upper.specs.Rules.{before, separation, block, alone, bound, spent, found, rulePlace}
 use Rattle.replies.specs.Replies.{numberOf}
 use Rattle.rules.specs.declared.Judged.{Judged}
 
@@ -21,22 +22,11 @@ gatheredChecks k rules template d finished others times t =
     ∷ (spent k times t, COUNT)
     ∷ []
 
--- and the place that each gives: ALONE and COUNT have none
-unfoldable pub gatheredPlaces : Tasks → Rules → Maybe ℕ → Set → Set → Set → ℕ → ℕ → List Check
-gatheredPlaces k rules template d finished others times t =
-    (found (before rules finished t), before rules finished t)
-    ∷ (found (separation rules d t), separation rules d t)
-    ∷ (found (block rules d t), block rules d t)
-    ∷ (alone k template d t, 0)
-    ∷ (found (bound rules others t), bound rules others t)
-    ∷ (spent k times t, 0)
-    ∷ []
-
--- the first check that applies gives the reply, and its place
-pub record Verdict (cs ps : List Check) (r : Judged) : Type 0 where
+-- the first check that applies gives the reply, and the reply its place
+pub record Verdict (cs : List Check) (place : ℕ → ℕ) (r : Judged) : Type 0 where
   pub replies : numberOf (r .reply) ≡ first cs
-  pub places : r .place ≡ first ps
+  pub places : r .place ≡ place (numberOf (r .reply))
 
 abbrev pub Judging : Tasks → Rules → Maybe ℕ → Set → Set → Set → ℕ → ℕ → Judged → Type 0
 Judging k rules template d finished others times t r =
-    Verdict (gatheredChecks k rules template d finished others times t) (gatheredPlaces k rules template d finished others times t) r
+    Verdict (gatheredChecks k rules template d finished others times t) (rulePlace rules d finished others t) r

@@ -245,6 +245,13 @@ pub fn judge(
     answer(Reply::Granted, 0)
 }
 
+// A reply that is no rule's.
+pub fn plain(reply: Reply) -> Judged
+    ensures { λ r. ⌜ r ≡ record { reply = reply; place = 0 } ⌝ }
+{
+    answer(reply, 0)
+}
+
 fn answer(reply: Reply, place: u64) -> Judged
     ensures { λ r. ⌜ r ≡ record { reply = reply; place = place } ⌝ }
 {

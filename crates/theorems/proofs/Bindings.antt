@@ -49,7 +49,7 @@ one-side es b u c x y = (
     back true e h = has-where _ es y ∙ none-some _ es (every-map es (λ f g. none f (g (eqb-true _ _ e)) _ refl) h)
     back false e h = refl
 
-one-binding : (es : List Entry) (a b u c : ℕ) (r : Record) → Every (λ e. Every (OneUser r e) es) es
+pub one-binding : (es : List Entry) (a b u c : ℕ) (r : Record) → Every (λ e. Every (OneUser r e) es) es
     → (tied (tasksOthers b u es) c (aPair r) ≡ false) ↔ Every (λ e. Every (OneUser r e) (entry b u c (held a) ∷ es)) (entry b u c (held a) ∷ es)
 unfolding tied
 one-binding es a b u c r old =

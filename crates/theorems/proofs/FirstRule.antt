@@ -6,11 +6,12 @@ use mathlib.Core.List.{List, [], _∷_, _++_}
 use native.Mathlib.Omega.{arith}
 use lib.Dec.{leb}
 use Rattle.paper_lower.specs.Sets.{meets}
-use Rattle.paper_lower.specs.Lists.{some, many}
+use Rattle.paper_lower.specs.Lists.{some, many, Every}
 use Rattle.paper_lower.specs.Checks.{Check, first, UNKNOWN, TAKEN, NO-ROLE, BEFORE, FULL}
 use Rattle.paper_lower.specs.Records.{Bytes, Record, decode}
 use Rattle.paper_lower.specs.Forms.{requestForms, formChecks}
 use Rattle.paper_lower.specs.Kinds.{chosen, replyTo, answer}
+use Rattle.paper_lower.proofs.ListLaws.{every-left}
 use Rattle.paper_lower.proofs.CheckLaws.{first-passed}
 use Rattle.paper_upper.specs.Orders.{Engine, isHeld, ofTask}
 use Rattle.paper_upper.specs.Rules.{ruleChecks}
@@ -20,7 +21,7 @@ use Rattle.theorems.specs.Outside.{telling, hear}
 use Rattle.theorems.specs.OverEntries.{claimRules}
 use Rattle.theorems.specs.Theorems.{shown, Reaches, FirstBroken}
 use Rattle.theorems.proofs.EntryLaws.{claiming}
-use Rattle.theorems.proofs.Meets.{reaches-passed, first-broken}
+use Rattle.theorems.proofs.Meets.{Says, first-says, reaches-passed, first-broken}
 use Rattle.theorems.proofs.Sound.{rules-meet}
 use Rattle.theorems.proofs.Keeps.{Kept}
 
@@ -61,8 +62,13 @@ module _ (t : Engine) (s : Bytes) (e : decode s .kind ≡ 50) where
       claim-reply ∙ first-passed (early ++ rules) full
       (reaches-passed FULL (early ++ rules) full (omega arith) (omega arith) (subst (Reaches FULL) claim-reply h))
 
+  -- what the reply says of each rule's check
+  pub rules-say : Reaches BEFORE (request t s .reply) → Every (Says (request t s .reply)) rules
+  unfolding ruleChecks
+  rules-say h = rw (rule-reply h) (every-left (Says (first (rules ++ full))) rules full (first-says 0 (rules ++ full) (omega arith)))
+
   -- the orders, were it granted
-  entered : hear (shown t) r .orders ≡ claiming (t .orders) (r .a) (r .b) (t .lower .sessions .user (r .a)) (r .c)
+  pub entered : hear (shown t) r .orders ≡ claiming (t .orders) (r .a) (r .b) (t .lower .sessions .user (r .a)) (r .c)
   unfolding hear telling chosen
   entered = ap (λ (n : ℕ). chosen telling n .next (shown t) r .orders) e
 

@@ -22,4 +22,5 @@ pub mod Outside
 pub mod FirstRule
 pub mod InUse
 pub mod Theorems
+pub mod Places
 pub mod Joining

@@ -34,10 +34,10 @@ first-above n (x ∷ xs) a = go (x .0) (first-above (x .1) xs (a .1))
     go false h = ⊎-elim (λ e. inl e) (λ l. inr (let b = a .0 in omega arith)) h
 
 -- what the reply says of each check: one before it does not apply, and its own does
-abbrev Says : ℕ → Check → Type 0
+abbrev pub Says : ℕ → Check → Type 0
 Says q x = (x .1 < q → x .0 ≡ false) × (q ≡ x .1 → x .0 ≡ true)
 
-first-says : (n : ℕ) (xs : List Check) → Above n xs → Every (Says (first xs)) xs
+pub first-says : (n : ℕ) (xs : List Check) → Above n xs → Every (Says (first xs)) xs
 first-says n [] a = tt
 first-says n (x ∷ xs) a = go (x .0) refl (first-says (x .1) xs (a .1))
   where

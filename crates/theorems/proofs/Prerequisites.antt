@@ -34,7 +34,7 @@ same-done : (es : List Entry) (i a b u c : ℕ) → tasksDone i (entry b u c (he
 unfolding tasksDone tasksWhere isDone
 same-done es i a b u c = rw (and-false (inOrder i (entry b u c (held a))))
 
-one-before : (es : List Entry) (a b u c : ℕ) (r : Record) → Every (Ready es r) es
+pub one-before : (es : List Entry) (a b u c : ℕ) (r : Record) → Every (Ready es r) es
     → (missing (tasksDone b es) c (aPair r) ≡ false) ↔ Every (Ready (entry b u c (held a) ∷ es) r) (entry b u c (held a) ∷ es)
 unfolding missing
 one-before es a b u c r old = (

@@ -18,7 +18,7 @@ use Rattle.theorems.specs.OverEntries.{ofKind, Allows}
 use Rattle.theorems.proofs.Made.{aLimit, Made, places}
 
 -- one more task in d is within the limit, where SEPARATION does not apply; and the way back
-one-set : (r : Record) (d : Set) (c : ℕ) → Allows r d → (crowded d c (aLimit r) ≡ false) ↔ Allows r (plus d c)
+pub one-set : (r : Record) (d : Set) (c : ℕ) → Allows r d → (crowded d c (aLimit r) ≡ false) ↔ Allows r (plus d c)
 unfolding crowded
 one-set r d c k = go (has (r .m) c) refl
   where

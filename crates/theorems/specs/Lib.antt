@@ -4,5 +4,6 @@ pub mod OverEntries
 pub mod WellMade
 pub mod InUse
 pub mod Theorems
+pub mod Places
 pub mod Joining
 pub mod Listing

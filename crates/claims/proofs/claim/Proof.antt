@@ -1,4 +1,6 @@
+-- Written from Proof.tmpl by 'prove expand': edit that file.
 -- Judged, and then one entry more: a granted claim finds room.
+use mathlib.Core.Path.{_∙_}
 use borrow.Author.Needs.{needs}
 use Rattle.paper_upper.specs.Requests.{claimNext}
 use Rattle.replies.proofs.DoneLaws.{refused, done}
@@ -17,7 +19,10 @@ same-length : tie.Need-same-length
 same-length c = search needs
 
 returns : tie.Need-returns
-returns c = refused (c .before .before .claim-reply .ensures) (c .before .accepted .ensures) (c .if1 .taken)
+returns c = record {
+  done = refused (c .before .before .claim-reply .ensures .replies) (c .before .accepted .ensures) (c .if1 .taken);
+  places = c .before .before .claim-reply .ensures .places ∙ rw (c .before .before .claim-reply .ensures .replies);
+}
 
 user-requires : tie.Need-user-requires
 user-requires c κs = search needs
@@ -28,7 +33,7 @@ enter-requires c κs =
       c .before .before .before .before .before .before .before .before .before .pre .1 .1 .0,
       (
         room (engineTables (z .p .now) (z .s .now) (z .o .now)) (z .a) (z .b) (z .c)
-            (c .before .before .before .before .claim-reply .result) (c .before .before .before .before .claim-reply .ensures) (c .before .before .before .accepted .ensures) (c .before .before .if1 .left),
+            (c .before .before .before .before .claim-reply .result .reply) (c .before .before .before .before .claim-reply .ensures .replies) (c .before .before .before .accepted .ensures) (c .before .before .if1 .left),
         (
           c .before .user .ensures .1,
           (
@@ -47,9 +52,11 @@ same-length-2 c = search needs
 
 returns-2 : tie.Need-returns-2
 unfolding claimNext
-returns-2 c =
-    done (c .before .before .before .before .before .before .before .claim-reply .ensures) (c .before .before .before .before .before .before .accepted .ensures) (c .before .before .before .before .before .if1 .left)
-    (rw (c .before .before .enter .ensures, c .before .before .before .before .user .ensures .0))
+returns-2 c = record {
+  done = done (c .before .before .before .before .before .before .before .claim-reply .ensures .replies) (c .before .before .before .before .before .before .accepted .ensures) (c .before .before .before .before .before .if1 .left)
+      (rw (c .before .before .enter .ensures, c .before .before .before .before .user .ensures .0));
+  places = c .before .before .before .before .before .before .before .claim-reply .ensures .places ∙ rw (c .before .before .before .before .before .before .before .claim-reply .ensures .replies);
+}
 
 pub claim-spec : {M : Type 1} → statement M
 claim-spec =

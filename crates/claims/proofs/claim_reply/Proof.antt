@@ -1,75 +1,30 @@
+-- Written from Proof.tmpl by 'prove expand': edit that file.
+use Rattle.claims.proofs.claim_reply.Reads as reads
+use Rattle.claims.proofs.claim_reply.Lts as lts
+use Rattle.claims.proofs.has_role.Reads as has-role-reads
+use Rattle.claims.proofs.is_unknown.Reads as is-unknown-reads
+use Rattle.claims.proofs.rules_reply.Reads as rules-reply-reads
+use Rattle.ledger.proofs.gather.Reads as gather-reads
+use Rattle.ledger.proofs.in_use.Reads as in-use-reads
+use Rattle.ledger.proofs.opened.Reads as opened-reads
+use Rattle.replies.proofs.accepted.Reads as accepted-reads
+use Rattle.rules.proofs.plain.Reads as plain-reads
+use Rattle.sessions.proofs.user.Reads as user-reads
 -- Each way out is the first check of the definition that applies; the rules are judged over what one walk gathered.
-use mathlib.Core.Path.{_≡_, sym}
+use mathlib.Core.Path.{_≡_, refl, sym}
 use mathlib.Core.List.{_++_}
 use borrow.Author.Needs.{needs}
 use borrow.Author.Tests.{eq-eqb, ne-eqb, le-leb, lt-leb}
 use Rattle.paper_lower.specs.Checks.{first}
-use Rattle.paper_upper.specs.Requests.{claimChecks}
+use Rattle.paper_upper.specs.Rules.{rulePlace}
+use Rattle.paper_upper.specs.Requests.{claimChecks, claimPlace}
 use Rattle.replies.specs.Replies.{numberOf}
+use Rattle.replies.specs.declared.Reply.the-variants.{Granted, Unknown, Taken, NoRole, Full}
+use Rattle.rules.proofs.JudgeLaws.{plainly}
 use Rattle.orders.specs.Tables.{engineTables}
-use Rattle.claims.proofs.ClaimLaws.{rulesOf, fullOf, template-known, rules-next, held-is, by-entries, by-rule, by-room}
+use Rattle.claims.proofs.ClaimLaws.{rulesOf, fullOf, template-known, rules-next, held-is, place-by-entries, by-entries, by-rule, by-room}
 use Rattle.claims.proofs.claim_reply.Statement.{statement}
 use Rattle.claims.proofs.claim_reply.Tie as tie
-
-is-unknown-requires : tie.Need-is-unknown-requires
-is-unknown-requires c κs = search needs
-
-returns : tie.Need-returns
-unfolding claimChecks
-returns c = simp (← c .before .is-unknown .ensures, c .if1 .taken)
-
-user-requires : tie.Need-user-requires
-user-requires c κs = search needs
-
-gather-requires : tie.Need-gather-requires
-gather-requires c κs = search needs
-
-returns-2 : tie.Need-returns-2
-unfolding claimChecks
-returns-2 c =
-    let z = c .before .before .before .before .before .before .before .before .before .args in
-    let t = engineTables (z .p .now) (z .s .now) (z .o .now) in
-    simp (
-      ← c .before .before .before .before .before .is-unknown .ensures,
-      c .before .before .before .before .if1 .left,
-      held-is t (z .a) (z .b) (z .c) (c .before .before .before .user .ensures .0) (c .before .before .gather .ensures)
-          (eq-eqb _ _ (c .if2 .taken)),
-    )
-
-has-role-requires : tie.Need-has-role-requires
-has-role-requires c κs = search needs
-
-returns-3 : tie.Need-returns-3
-unfolding claimChecks
-returns-3 c =
-    let z = c .before .before .before .before .before .before .before .before .before .before .before .args in
-    let t = engineTables (z .p .now) (z .s .now) (z .o .now) in
-    simp (
-      ← c .before .before .before .before .before .before .before .is-unknown .ensures,
-      c .before .before .before .before .before .before .if1 .left,
-      held-is t (z .a) (z .b) (z .c) (c .before .before .before .before .before .user .ensures .0) (c .before .before .before .before .gather .ensures)
-          (ne-eqb _ _ (c .before .before .if2 .left)),
-      ← c .before .has-role .ensures,
-      c .if3 .taken,
-    )
-
-opened-requires : tie.Need-opened-requires
-opened-requires c κs = (
-  c .before .before .before .before .before .before .before .before .before .before .before .pre .1 .1 .0,
-  c .before .before .before .before .before .before .before .before .before .before .before .pre .1 .1 .1 .1 .0,
-)
-
-rules-reply-requires : tie.Need-rules-reply-requires
-rules-reply-requires c κs = (
-  c .before .before .before .before .before .before .before .before .before .before .before .before .pre .0,
-  (
-    c .opened .ensures .1,
-    c .before .before .before .before .before .before .before .before .before .before .before .before .pre .1 .1 .1 .1 .1,
-  ),
-)
-
-accepted-requires : tie.Need-accepted-requires
-accepted-requires c κs = search needs
 
 -- what is known once the rules are judged: the checks before them passed, and the judge's reply is that of the rules
 passes : (c : tie.After-rules-reply) →
@@ -88,58 +43,163 @@ passes c =
 judged : (c : tie.After-rules-reply) →
     let z = c .before .before .before .before .before .before .before .before .before .before .before .before .before .args in
     let t = engineTables (z .p .now) (z .s .now) (z .o .now) in
-    numberOf (c .rules-reply .result) ≡ first (rulesOf t (z .a) (z .b) (z .c))
+    numberOf (c .rules-reply .result .reply) ≡ first (rulesOf t (z .a) (z .b) (z .c))
 judged c =
     let z = c .before .before .before .before .before .before .before .before .before .before .before .before .before .args in
     let t = engineTables (z .p .now) (z .s .now) (z .o .now) in
     by-entries t (z .a) (z .b) (z .c) (c .before .before .before .before .before .before .before .user .ensures .0) (c .before .before .before .before .before .before .gather .ensures)
-    (c .rules-reply .result)
+    (c .rules-reply .result .reply)
     (template-known t (z .a) (z .b) (z .c) (c .before .opened .result) (c .before .opened .ensures .0)
     (c .before .before .before .before .before .before .before .before .before .is-unknown .ensures) (c .before .before .before .before .before .before .before .before .if1 .left))
-    (c .rules-reply .ensures)
+    (c .rules-reply .ensures .replies)
 
+-- src/lib.rt:56:8
+is-unknown-requires : tie.Need-is-unknown-requires
+is-unknown-requires c κs = search needs
+
+-- src/lib.rt:57:9
+plain-requires : tie.Need-plain-requires
+plain-requires c κs = search needs
+
+-- src/lib.rt:57:9
+returns : tie.Need-returns
+unfolding claimChecks claimPlace rulePlace
+returns c = plainly Unknown (c .plain .ensures) (simp (← c .before .before .is-unknown .ensures, c .before .if1 .taken)) refl
+
+-- src/lib.rt:59:9
+user-requires : tie.Need-user-requires
+user-requires c κs = search needs
+
+-- src/lib.rt:60:9
+gather-requires : tie.Need-gather-requires
+gather-requires c κs = search needs
+
+-- src/lib.rt:62:9
+plain-requires-2 : tie.Need-plain-requires-2
+plain-requires-2 c κs = search needs
+
+-- src/lib.rt:62:9
+returns-2 : tie.Need-returns-2
+unfolding claimChecks claimPlace rulePlace
+returns-2 c =
+    let z = c .before .before .before .before .before .before .before .before .before .before .args in
+    let t = engineTables (z .p .now) (z .s .now) (z .o .now) in
+    plainly Taken (c .plain2 .ensures)
+    (simp (
+      ← c .before .before .before .before .before .before .is-unknown .ensures,
+      c .before .before .before .before .before .if1 .left,
+      held-is t (z .a) (z .b) (z .c) (c .before .before .before .before .user .ensures .0) (c .before .before .before .gather .ensures) (eq-eqb _ _ (c .before .if2 .taken)),
+    )) refl
+
+-- src/lib.rt:64:9
+has-role-requires : tie.Need-has-role-requires
+has-role-requires c κs = search needs
+
+-- src/lib.rt:65:9
+plain-requires-3 : tie.Need-plain-requires-3
+plain-requires-3 c κs = search needs
+
+-- src/lib.rt:65:9
+returns-3 : tie.Need-returns-3
+unfolding claimChecks claimPlace rulePlace
+returns-3 c =
+    let z = c .before .before .before .before .before .before .before .before .before .before .before .before .args in
+    let t = engineTables (z .p .now) (z .s .now) (z .o .now) in
+    plainly NoRole (c .plain3 .ensures)
+    (simp (
+      ← c .before .before .before .before .before .before .before .before .is-unknown .ensures,
+      c .before .before .before .before .before .before .before .if1 .left,
+      held-is t (z .a) (z .b) (z .c) (c .before .before .before .before .before .before .user .ensures .0) (c .before .before .before .before .before .gather .ensures) (ne-eqb _ _ (c .before .before .before .if2 .left)),
+      ← c .before .before .has-role .ensures,
+      c .before .if3 .taken,
+    )) refl
+
+-- src/lib.rt:67:9
+opened-requires : tie.Need-opened-requires
+opened-requires c κs = (
+  c .before .before .before .before .before .before .before .before .before .before .before .pre .1 .1 .0,
+  c .before .before .before .before .before .before .before .before .before .before .before .pre .1 .1 .1 .1 .0,
+)
+
+-- src/lib.rt:68:9
+rules-reply-requires : tie.Need-rules-reply-requires
+rules-reply-requires c κs = (
+  c .before .before .before .before .before .before .before .before .before .before .before .before .pre .0,
+  (
+    c .opened .ensures .1,
+    c .before .before .before .before .before .before .before .before .before .before .before .before .pre .1 .1 .1 .1 .1,
+  ),
+)
+
+-- src/lib.rt:70:9
+accepted-requires : tie.Need-accepted-requires
+accepted-requires c κs = search needs
+
+-- src/lib.rt:71:9
 returns-4 : tie.Need-returns-4
 returns-4 c =
     let z = c .before .before .before .before .before .before .before .before .before .before .before .before .before .before .before .args in
     let t = engineTables (z .p .now) (z .s .now) (z .o .now) in
     let k = c .before .before in
-    by-rule t (z .a) (z .b) (z .c) (c .before .before .rules-reply .result) (passes k) (judged k)
-    (c .before .accepted .ensures) (c .if4 .taken)
+    record {
+      replies = by-rule t (z .a) (z .b) (z .c) (c .before .before .rules-reply .result .reply) (passes k) (judged k) (c .before .accepted .ensures) (c .if4 .taken);
+      places = place-by-entries t (z .a) (z .b) (z .c) (c .before .before .before .before .before .before .before .before .before .user .ensures .0) (c .before .before .before .before .before .before .before .before .gather .ensures) _ (c .before .before .rules-reply .ensures .places);
+    }
 
+-- src/lib.rt:73:16
 in-use-requires : tie.Need-in-use-requires
 in-use-requires c κs = c .before .before .before .before .before .before .before .before .before .before .before .before .before .before .before .pre .1 .1 .0
 
-returns-5 : tie.Need-returns-5
-returns-5 c =
-    let z = c .before .before .before .before .before .before .before .before .before .before .before .before .before .before .before .before .before .args in
-    let t = engineTables (z .p .now) (z .s .now) (z .o .now) in
-    let k = c .before .before .before .before in
-    sym (by-room t (z .a) (z .b) (z .c) (c .before .before .before .before .rules-reply .result) (passes k) (judged k)
-    (c .before .before .before .accepted .ensures) (c .before .before .if4 .left) (c .before .in-use .ensures .0) (le-leb _ _ (c .if5 .taken)))
+-- src/lib.rt:74:9
+plain-requires-4 : tie.Need-plain-requires-4
+plain-requires-4 c κs = search needs
 
-returns-6 : tie.Need-returns-6
-returns-6 c =
-    let z = c .before .before .before .before .before .before .before .before .before .before .before .before .before .before .before .before .before .args in
+-- src/lib.rt:74:9
+returns-5 : tie.Need-returns-5
+unfolding claimPlace rulePlace
+returns-5 c =
+    let z = c .before .before .before .before .before .before .before .before .before .before .before .before .before .before .before .before .before .before .args in
     let t = engineTables (z .p .now) (z .s .now) (z .o .now) in
-    let k = c .before .before .before .before in
-    sym (by-room t (z .a) (z .b) (z .c) (c .before .before .before .before .rules-reply .result) (passes k) (judged k)
-    (c .before .before .before .accepted .ensures) (c .before .before .if4 .left) (c .before .in-use .ensures .0) (lt-leb _ _ (c .if5 .left)))
+    let k = c .before .before .before .before .before in
+    plainly Full (c .plain4 .ensures)
+    (sym (by-room t (z .a) (z .b) (z .c) (c .before .before .before .before .before .rules-reply .result .reply) (passes k) (judged k)
+    (c .before .before .before .before .accepted .ensures) (c .before .before .before .if4 .left) (c .before .before .in-use .ensures .0) (le-leb _ _ (c .before .if5 .taken)))) refl
+
+-- src/lib.rt:76:5
+plain-requires-5 : tie.Need-plain-requires-5
+plain-requires-5 c κs = search needs
+
+-- src/lib.rt:52:1
+returns-6 : tie.Need-returns-6
+unfolding claimPlace rulePlace
+returns-6 c =
+    let z = c .before .before .before .before .before .before .before .before .before .before .before .before .before .before .before .before .before .before .args in
+    let t = engineTables (z .p .now) (z .s .now) (z .o .now) in
+    let k = c .before .before .before .before .before in
+    plainly Granted (c .plain5 .ensures)
+    (sym (by-room t (z .a) (z .b) (z .c) (c .before .before .before .before .before .rules-reply .result .reply) (passes k) (judged k)
+    (c .before .before .before .before .accepted .ensures) (c .before .before .before .if4 .left) (c .before .before .in-use .ensures .0) (lt-leb _ _ (c .before .if5 .left)))) refl
 
 pub claim-reply-spec : {M : Type 1} → statement M
 claim-reply-spec =
     tie.close
     (tie.spec
     is-unknown-requires
+    plain-requires
     returns
     user-requires
     gather-requires
+    plain-requires-2
     returns-2
     has-role-requires
+    plain-requires-3
     returns-3
     opened-requires
     rules-reply-requires
     accepted-requires
     returns-4
     in-use-requires
+    plain-requires-4
     returns-5
+    plain-requires-5
     returns-6)

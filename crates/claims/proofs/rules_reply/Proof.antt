@@ -1,3 +1,4 @@
+-- Written from Proof.tmpl by 'prove expand': edit that file.
 -- The judge's reply.
 use borrow.Author.Needs.{needs}
 use Rattle.claims.proofs.rules_reply.Statement.{statement}
@@ -7,7 +8,7 @@ judge-requires : tie.Need-judge-requires
 judge-requires c κs = search needs
 
 returns : tie.Need-returns
-returns c = c .judge .ensures .replies
+returns c = c .judge .ensures
 
 pub rules-reply-spec : {M : Type 1} → statement M
 rules-reply-spec = tie.close (tie.spec judge-requires returns)

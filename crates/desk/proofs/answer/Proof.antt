@@ -1,4 +1,4 @@
--- Each record before this one has added at most 42 bytes, and a block has at most 256 records.
+-- Each record before this one has added at most 63 bytes, and a block has at most 256 records.
 use borrow.Author.Needs.{needs}
 use Prim.Native.Nat.{_≤_, _-_, _*_}
 use mathlib.Core.Path.{_≡_}
@@ -7,7 +7,7 @@ use Rattle.desk.proofs.answer.Statement.{statement}
 use Rattle.desk.proofs.answer.Tie as tie
 
 abbrev Inv-loop : tie.InvT-loop
-Inv-loop block first policy₀ sessions₀ orders₀ out₀ i₀ to₀ policy sessions orders out i to = (i ≤ 256) × ((to ≤ i * 42) × ((length policy ≡ length policy₀) × ((length sessions ≡ length sessions₀) × (length orders ≡ length orders₀))))
+Inv-loop block first policy₀ sessions₀ orders₀ out₀ i₀ to₀ policy sessions orders out i to = (i ≤ 256) × ((to ≤ i * 63) × ((length policy ≡ length policy₀) × ((length sessions ≡ length sessions₀) × (length orders ≡ length orders₀))))
 
 abbrev μ-loop : tie.MeasureT-loop
 μ-loop block first policy₀ sessions₀ orders₀ out₀ i₀ to₀ policy sessions orders out i to = 256 - i
@@ -36,14 +36,14 @@ part-request-end c = search needs
 request-requires : tie.Need-request-requires Inv-loop μ-loop
 request-requires c κs = search needs
 
-add-put-line : tie.Need-add-put-line Inv-loop μ-loop
-add-put-line c = search needs
+add-put-answer : tie.Need-add-put-answer Inv-loop μ-loop
+add-put-answer c = search needs
 
 number-requires : tie.Need-number-requires Inv-loop μ-loop
 number-requires c κs = search needs
 
-put-line-requires : tie.Need-put-line-requires Inv-loop μ-loop
-put-line-requires c κs = search needs
+put-answer-requires : tie.Need-put-answer-requires Inv-loop μ-loop
+put-answer-requires c κs = search needs
 
 add-i : tie.Need-add-i Inv-loop μ-loop
 add-i c = search needs
@@ -80,9 +80,9 @@ answer-spec =
     part-request-start
     part-request-end
     request-requires
-    add-put-line
+    add-put-answer
     number-requires
-    put-line-requires
+    put-answer-requires
     add-i
     loop-less
     loop-again

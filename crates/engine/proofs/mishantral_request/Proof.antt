@@ -1,5 +1,9 @@
--- The request's reply as its number.
+-- Written from Proof.tmpl by 'prove expand': edit that file.
+-- The request's reply and place as one number.
+use native.Mathlib.Omega.{arith}
 use borrow.Author.Needs.{needs}
+use Rattle.lower.proofs.Numbers.{number-small}
+use Rattle.engine.proofs.PlaceLaws.{requested-small}
 use Rattle.engine.proofs.Ways.{request-exported}
 use Rattle.engine.proofs.mishantral_request.Statement.{statement}
 use Rattle.engine.proofs.mishantral_request.Tie as tie
@@ -9,6 +13,12 @@ request-requires c κs = search needs
 
 number-requires : tie.Need-number-requires
 number-requires c κs = search needs
+
+mul-result : tie.Need-mul-result
+mul-result c = omega (arith, requested-small (c .before .before .before .before .before .before .before .before .request .ensures))
+
+add-result : tie.Need-add-result
+add-result c = omega (arith, requested-small (c .before .before .before .before .before .before .before .before .request .ensures), number-small (c .before .before .before .before .before .before .before .before .request .result .reply), c .before .number .ensures)
 
 same-length : tie.Need-same-length
 same-length c = search needs
@@ -20,7 +30,17 @@ same-length-3 : tie.Need-same-length-3
 same-length-3 c = search needs
 
 returns : tie.Need-returns
-returns c = request-exported (c .before .before .before .before .before .before .before .request .ensures) (c .number .ensures)
+returns c = request-exported (c .before .before .before .before .before .before .before .before .request .ensures) (c .before .number .ensures)
 
 pub mishantral-request-spec : {M : Type 1} → statement M
-mishantral-request-spec = tie.close (tie.spec request-requires number-requires same-length same-length-2 same-length-3 returns)
+mishantral-request-spec =
+    tie.close
+    (tie.spec
+    request-requires
+    number-requires
+    mul-result
+    add-result
+    same-length
+    same-length-2
+    same-length-3
+    returns)

@@ -1,18 +1,24 @@
+-- Written from Proof.tmpl by 'prove expand': edit that file.
 -- Buffers of another length are ROOM; SHAPE and RANGE store nothing; any other record is a step.
 use mathlib.Core.Path.{refl}
 use borrow.Author.Needs.{needs}
+use Rattle.paper_lower.specs.Records.{decode}
 use Rattle.paper_lower.specs.Forms.{requestForms}
 use Rattle.paper_upper.specs.Engine.{requestKinds, request}
 use Rattle.records.specs.Calls.{settled}
 use Rattle.records.proofs.Passing.{refused-answer, sized, passed, passed-answer}
 use Rattle.engine.specs.Buffers.{buffers, tablesOf}
 use Rattle.engine.proofs.Lifts.{of-none}
+use Rattle.engine.proofs.PlaceLaws.{no-form}
 use Rattle.engine.proofs.Ways.{same-lengths, lengths, no-room, answered}
 use Rattle.engine.proofs.request.Statement.{statement}
 use Rattle.engine.proofs.request.Tie as tie
 
+plain-requires : tie.Need-plain-requires
+plain-requires c κs = search needs
+
 returns : tie.Need-returns
-returns c = no-room (buffers (c .before .before .before .before .before .args .policy .now) (c .before .before .before .before .before .args .sessions .now) (c .before .before .before .before .before .args .orders .now)) (c .before .before .before .before .before .args .bytes .now) (c .if1 .taken)
+returns c = no-room (buffers (c .before .before .before .before .before .before .args .policy .now) (c .before .before .before .before .before .before .args .sessions .now) (c .before .before .before .before .before .before .args .orders .now)) (c .before .before .before .before .before .before .args .bytes .now) (c .plain .ensures) (c .before .if1 .taken)
 
 judge-requires : tie.Need-judge-requires
 judge-requires c κs = search needs
@@ -20,12 +26,15 @@ judge-requires c κs = search needs
 accepted-requires : tie.Need-accepted-requires
 accepted-requires c κs = search needs
 
+plain-requires-2 : tie.Need-plain-requires-2
+plain-requires-2 c κs = search needs
+
 returns-2 : tie.Need-returns-2
 unfolding request
 returns-2 c =
-    answered (c .before .before .before .if1 .left)
-    (refused-answer requestForms (c .before .before .before .before .before .before .before .before .args .bytes .now) requestKinds (tablesOf (buffers (c .before .before .before .before .before .before .before .before .args .policy .now) (c .before .before .before .before .before .before .before .before .args .sessions .now) (c .before .before .before .before .before .before .before .before .args .orders .now))) (c .before .before .judge .result) (c .before .before .judge .ensures) (c .before .accepted .ensures) (c .if2 .taken))
-    (of-none refl) (same-lengths refl refl refl)
+    answered (c .before .before .before .before .if1 .left)
+    (refused-answer requestForms (c .before .before .before .before .before .before .before .before .before .args .bytes .now) requestKinds (tablesOf (buffers (c .before .before .before .before .before .before .before .before .before .args .policy .now) (c .before .before .before .before .before .before .before .before .before .args .sessions .now) (c .before .before .before .before .before .before .before .before .before .args .orders .now))) (c .before .before .before .judge .result) (c .before .before .before .judge .ensures) (c .before .before .accepted .ensures) (c .before .if2 .taken))
+    refl (of-none (c .plain2 .ensures) (no-form requestForms (c .before .before .before .before .before .before .before .before .before .args .bytes .now) (tablesOf (buffers (c .before .before .before .before .before .before .before .before .before .args .policy .now) (c .before .before .before .before .before .before .before .before .before .args .sessions .now) (c .before .before .before .before .before .before .before .before .before .args .orders .now))) (decode (c .before .before .before .before .before .before .before .before .before .args .bytes .now)) (c .before .before .before .judge .ensures)) refl) (same-lengths refl refl refl)
 
 decode-requires : tie.Need-decode-requires
 decode-requires c κs = sized requestForms (c .before .before .before .before .before .before .before .before .args .bytes .now) (c .before .before .judge .result) (c .before .before .judge .ensures) (c .before .accepted .ensures) (c .if2 .left)
@@ -50,8 +59,22 @@ unfolding request settled
 returns-3 c =
     answered (c .before .before .before .before .before .before .before .before .before .before .before .before .before .before .if1 .left)
     (passed-answer requestForms (c .before .before .before .before .before .before .before .before .before .before .before .before .before .before .before .before .before .before .before .args .bytes .now) (c .before .before .before .before .before .before .before .before .before .before .before .before .before .judge .result) (c .before .before .before .before .before .before .before .before .before .before .before .before .before .judge .ensures) (c .before .before .before .before .before .before .before .before .before .before .before .before .accepted .ensures) (c .before .before .before .before .before .before .before .before .before .before .before .if2 .left) (c .before .before .before .before .before .before .before .before .before .before .decode .ensures) requestKinds (tablesOf (buffers (c .before .before .before .before .before .before .before .before .before .before .before .before .before .before .before .before .before .before .before .args .policy .now) (c .before .before .before .before .before .before .before .before .before .before .before .before .before .before .before .before .before .before .before .args .sessions .now) (c .before .before .before .before .before .before .before .before .before .before .before .before .before .before .before .before .before .before .before .args .orders .now))))
+    (c .before .before .before .before .before .before .before .before .before .before .decode .ensures .reads)
     (c .before .before .before .before .before .before .step .ensures) (same-lengths (same-length c) (same-length-2 c) (same-length-3 c))
 
 pub request-spec : {M : Type 1} → statement M
 request-spec =
-    tie.close (tie.spec returns judge-requires accepted-requires returns-2 decode-requires step-requires same-length same-length-2 same-length-3 returns-3)
+    tie.close
+    (tie.spec
+    plain-requires
+    returns
+    judge-requires
+    accepted-requires
+    plain-requires-2
+    returns-2
+    decode-requires
+    step-requires
+    same-length
+    same-length-2
+    same-length-3
+    returns-3)

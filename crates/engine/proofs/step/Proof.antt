@@ -1,12 +1,15 @@
+-- Written from Proof.tmpl by 'prove expand': edit that file.
 -- Each kind of the upper part, as a step of the three buffers; any other kind is the lower part's.
+use mathlib.Core.Path.{refl}
 use borrow.Author.Needs.{needs}
 use Rattle.paper_lower.specs.Forms.{requestForms}
 use Rattle.paper_lower.specs.Kinds.{chosen}
 use Rattle.paper_upper.specs.Requests.{upperKinds}
-use Rattle.paper_upper.specs.Engine.{raised, requestKinds}
+use Rattle.paper_upper.specs.Engine.{raised, requestKinds, placeOf}
 use Rattle.records.specs.Limits.{limitA, limitB, limitC, limitM, limitsOpen}
 use Rattle.records.proofs.Passing.{below}
-use Rattle.engine.proofs.Lifts.{of-policy, of-sessions, of-orders, of-none, of-lower}
+use Rattle.engine.proofs.Lifts.{of-policy, of-sessions, of-orders, of-claim, of-none, of-lower}
+use Rattle.engine.proofs.PlaceLaws.{no-claim}
 use Rattle.engine.proofs.LowerKinds.{lower-row, lower-limits}
 use Rattle.engine.proofs.step.Statement.{statement}
 use Rattle.engine.proofs.step.Tie as tie
@@ -15,17 +18,29 @@ delete-requires : tie.Need-delete-requires
 unfolding limitsOpen
 delete-requires c κs = (c .before .before .before .before .before .before .before .pre .0 .0, (c .before .before .before .before .before .before .before .pre .0 .1 .0, (c .before .before .before .before .before .before .before .pre .0 .1 .1, below (limitA requestForms) (c .before .before .before .before .before .before .before .pre .1 .a) (c .before .before .before .match .keys1) 1024 tt)))
 
+plain-requires : tie.Need-plain-requires
+plain-requires c κs = search needs
+
 destroy-requires : tie.Need-destroy-requires
 unfolding limitsOpen
 destroy-requires c κs = (c .before .before .before .before .before .before .pre .0 .1 .0, (c .before .before .before .before .before .before .pre .0 .1 .1, below (limitA requestForms) (c .before .before .before .before .before .before .pre .1 .a) (c .before .before .match .keys2) 128 tt))
+
+plain-requires-2 : tie.Need-plain-requires-2
+plain-requires-2 c κs = search needs
 
 open-order-requires : tie.Need-open-order-requires
 unfolding limitsOpen
 open-order-requires c κs = (c .before .before .before .before .before .before .pre .0 .0, (c .before .before .before .before .before .before .pre .0 .1 .1, (below (limitA requestForms) (c .before .before .before .before .before .before .pre .1 .a) (c .before .before .match .keys3) 64 tt, below (limitB requestForms) (c .before .before .before .before .before .before .pre .1 .b) (c .before .before .match .keys3) 16 tt)))
 
+plain-requires-3 : tie.Need-plain-requires-3
+plain-requires-3 c κs = search needs
+
 end-order-requires : tie.Need-end-order-requires
 unfolding limitsOpen
 end-order-requires c κs = (c .before .before .before .before .before .pre .0 .1 .1, below (limitA requestForms) (c .before .before .before .before .before .pre .1 .a) (c .before .match .keys4) 64 tt)
+
+plain-requires-4 : tie.Need-plain-requires-4
+plain-requires-4 c κs = search needs
 
 claim-requires : tie.Need-claim-requires
 unfolding limitsOpen
@@ -35,16 +50,28 @@ release-requires : tie.Need-release-requires
 unfolding limitsOpen
 release-requires c κs = (c .before .before .before .before .before .before .before .pre .0 .0, (c .before .before .before .before .before .before .before .pre .0 .1 .0, (c .before .before .before .before .before .before .before .pre .0 .1 .1, (below (limitA requestForms) (c .before .before .before .before .before .before .before .pre .1 .a) (c .before .before .before .match .keys6) 128 tt, (below (limitB requestForms) (c .before .before .before .before .before .before .before .pre .1 .b) (c .before .before .before .match .keys6) 64 tt, below (limitC requestForms) (c .before .before .before .before .before .before .before .pre .1 .c) (c .before .before .before .match .keys6) 64 tt)))))
 
+plain-requires-5 : tie.Need-plain-requires-5
+plain-requires-5 c κs = search needs
+
 finish-requires : tie.Need-finish-requires
 unfolding limitsOpen
 finish-requires c κs = (c .before .before .before .before .before .before .before .pre .0 .0, (c .before .before .before .before .before .before .before .pre .0 .1 .0, (c .before .before .before .before .before .before .before .pre .0 .1 .1, (below (limitA requestForms) (c .before .before .before .before .before .before .before .pre .1 .a) (c .before .before .before .match .keys7) 128 tt, (below (limitB requestForms) (c .before .before .before .before .before .before .before .pre .1 .b) (c .before .before .before .match .keys7) 64 tt, below (limitC requestForms) (c .before .before .before .before .before .before .before .pre .1 .c) (c .before .before .before .match .keys7) 64 tt)))))
+
+plain-requires-6 : tie.Need-plain-requires-6
+plain-requires-6 c κs = search needs
 
 task-check-reply-requires : tie.Need-task-check-reply-requires
 unfolding limitsOpen
 task-check-reply-requires c κs = ((c .before .before .before .before .before .before .before .pre .0 .0, (c .before .before .before .before .before .before .before .pre .0 .1 .0, (c .before .before .before .before .before .before .before .pre .0 .1 .1, (below (limitA requestForms) (c .before .before .before .before .before .before .before .pre .1 .a) (c .before .before .before .match .keys8) 128 tt, (below (limitB requestForms) (c .before .before .before .before .before .before .before .pre .1 .b) (c .before .before .before .match .keys8) 64 tt, below (limitC requestForms) (c .before .before .before .before .before .before .before .pre .1 .c) (c .before .before .before .match .keys8) 64 tt))))), below (limitM requestForms) (c .before .before .before .before .before .before .before .pre .1 .m) (c .before .before .before .match .keys8) 4294967296 tt)
 
+plain-requires-7 : tie.Need-plain-requires-7
+plain-requires-7 c κs = search needs
+
 step-requires : tie.Need-step-requires
 step-requires c κs = (c .before .before .before .before .before .before .pre .0 .0, (c .before .before .before .before .before .before .pre .0 .1 .0, lower-limits (c .before .before .match .rest) (c .before .before .before .before .before .before .pre .1)))
+
+plain-requires-8 : tie.Need-plain-requires-8
+plain-requires-8 c κs = search needs
 
 same-length : tie.Need-same-length
 same-length c = search needs
@@ -56,8 +83,8 @@ same-length-3 : tie.Need-same-length-3
 same-length-3 c = search needs
 
 returns : tie.Need-returns
-unfolding chosen requestKinds upperKinds
-returns c = rw (c .before .before .before .before .before .before .match .keys1) (of-policy (c .before .before .delete .ensures))
+unfolding chosen requestKinds upperKinds placeOf
+returns c = rw (c .before .before .before .before .before .before .before .match .keys1) (of-policy (c .plain .ensures) refl (c .before .before .before .delete .ensures))
 
 same-length-4 : tie.Need-same-length-4
 same-length-4 c = search needs
@@ -66,8 +93,8 @@ same-length-5 : tie.Need-same-length-5
 same-length-5 c = search needs
 
 returns-2 : tie.Need-returns-2
-unfolding chosen requestKinds upperKinds
-returns-2 c = rw (c .before .before .before .before .before .match .keys2) (of-sessions (c .before .before .destroy .ensures (c .before .before .before .before .before .before .before .before .before .args .p .now)))
+unfolding chosen requestKinds upperKinds placeOf
+returns-2 c = rw (c .before .before .before .before .before .before .match .keys2) (of-sessions (c .plain2 .ensures) refl (c .before .before .before .destroy .ensures (c .before .before .before .before .before .before .before .before .before .before .args .p .now)))
 
 same-length-6 : tie.Need-same-length-6
 same-length-6 c = search needs
@@ -76,15 +103,15 @@ same-length-7 : tie.Need-same-length-7
 same-length-7 c = search needs
 
 returns-3 : tie.Need-returns-3
-unfolding chosen requestKinds upperKinds
-returns-3 c = rw (c .before .before .before .before .before .match .keys3) (of-orders (c .before .before .open-order .ensures (c .before .before .before .before .before .before .before .before .before .args .s .now)))
+unfolding chosen requestKinds upperKinds placeOf
+returns-3 c = rw (c .before .before .before .before .before .before .match .keys3) (of-orders (c .plain3 .ensures) refl (c .before .before .before .open-order .ensures (c .before .before .before .before .before .before .before .before .before .before .args .s .now)))
 
 same-length-8 : tie.Need-same-length-8
 same-length-8 c = search needs
 
 returns-4 : tie.Need-returns-4
-unfolding chosen requestKinds upperKinds
-returns-4 c = rw (c .before .before .before .before .match .keys4) (of-orders (c .before .before .end-order .ensures (c .before .before .before .before .before .before .before .before .args .p .now) (c .before .before .before .before .before .before .before .before .args .s .now)))
+unfolding chosen requestKinds upperKinds placeOf
+returns-4 c = rw (c .before .before .before .before .before .match .keys4) (of-orders (c .plain4 .ensures) refl (c .before .before .before .end-order .ensures (c .before .before .before .before .before .before .before .before .before .args .p .now) (c .before .before .before .before .before .before .before .before .before .args .s .now)))
 
 same-length-9 : tie.Need-same-length-9
 same-length-9 c = search needs
@@ -96,8 +123,8 @@ same-length-11 : tie.Need-same-length-11
 same-length-11 c = search needs
 
 returns-5 : tie.Need-returns-5
-unfolding chosen requestKinds upperKinds
-returns-5 c = rw (c .before .before .before .before .before .before .match .keys5) (of-orders (c .before .before .claim .ensures))
+unfolding chosen requestKinds upperKinds placeOf
+returns-5 c = rw (c .before .before .before .before .before .before .match .keys5) (of-claim (c .before .before .claim .ensures))
 
 same-length-12 : tie.Need-same-length-12
 same-length-12 c = search needs
@@ -109,8 +136,8 @@ same-length-14 : tie.Need-same-length-14
 same-length-14 c = search needs
 
 returns-6 : tie.Need-returns-6
-unfolding chosen requestKinds upperKinds
-returns-6 c = rw (c .before .before .before .before .before .before .match .keys6) (of-orders (c .before .before .release .ensures))
+unfolding chosen requestKinds upperKinds placeOf
+returns-6 c = rw (c .before .before .before .before .before .before .before .match .keys6) (of-orders (c .plain5 .ensures) refl (c .before .before .before .release .ensures))
 
 same-length-15 : tie.Need-same-length-15
 same-length-15 c = search needs
@@ -122,8 +149,8 @@ same-length-17 : tie.Need-same-length-17
 same-length-17 c = search needs
 
 returns-7 : tie.Need-returns-7
-unfolding chosen requestKinds upperKinds
-returns-7 c = rw (c .before .before .before .before .before .before .match .keys7) (of-orders (c .before .before .finish .ensures))
+unfolding chosen requestKinds upperKinds placeOf
+returns-7 c = rw (c .before .before .before .before .before .before .before .match .keys7) (of-orders (c .plain6 .ensures) refl (c .before .before .before .finish .ensures))
 
 same-length-18 : tie.Need-same-length-18
 same-length-18 c = search needs
@@ -135,8 +162,8 @@ same-length-20 : tie.Need-same-length-20
 same-length-20 c = search needs
 
 returns-8 : tie.Need-returns-8
-unfolding chosen requestKinds upperKinds
-returns-8 c = rw (c .before .before .before .before .match .keys8) (of-none (c .task-check-reply .ensures))
+unfolding chosen requestKinds upperKinds placeOf
+returns-8 c = rw (c .before .before .before .before .before .match .keys8) (of-none (c .plain7 .ensures) refl (c .before .task-check-reply .ensures))
 
 same-length-21 : tie.Need-same-length-21
 same-length-21 c = search needs
@@ -146,21 +173,29 @@ same-length-22 c = search needs
 
 returns-9 : tie.Need-returns-9
 unfolding raised
-returns-9 c = rw (lower-row (c .before .before .before .before .before .before .before .match .rest)) (of-lower (c .before .before .before .before .step .ensures))
+returns-9 c = rw (lower-row (c .before .before .before .before .before .before .before .before .match .rest)) (of-lower (c .plain8 .ensures) (no-claim _ _ _ (c .before .before .before .before .before .before .before .before .match .rest .0 .0 .0 .1)) (c .before .before .before .before .before .step .ensures))
 
 pub step-spec : {M : Type 1} → statement M
 step-spec =
     tie.close
     (tie.spec
     delete-requires
+    plain-requires
     destroy-requires
+    plain-requires-2
     open-order-requires
+    plain-requires-3
     end-order-requires
+    plain-requires-4
     claim-requires
     release-requires
+    plain-requires-5
     finish-requires
+    plain-requires-6
     task-check-reply-requires
+    plain-requires-7
     step-requires
+    plain-requires-8
     same-length
     same-length-2
     same-length-3

@@ -1,9 +1,9 @@
 -- Each way out is the links up to it.
 use mathlib.Core.Path.{refl}
 use borrow.Author.Needs.{needs}
-use Rattle.paper_upper.specs.Rules.{spent}
+use Rattle.paper_upper.specs.Rules.{spent, rulePlace}
 use Rattle.replies.specs.declared.Reply.the-variants.{Granted, Before, Separation, Block, Alone, Bound, Count}
-use Rattle.rules.specs.Judging.{gatheredChecks, gatheredPlaces}
+use Rattle.rules.specs.Judging.{gatheredChecks}
 use Rattle.rules.proofs.Chain.{by-place, no-place, by-test, not-by-test, by-none}
 use Rattle.rules.proofs.judge.Statement.{statement}
 use Rattle.rules.proofs.judge.Tie as tie
@@ -15,9 +15,9 @@ answer-requires : tie.Need-answer-requires
 answer-requires c κs = search needs
 
 returns : tie.Need-returns
-unfolding gatheredChecks gatheredPlaces spent
+unfolding gatheredChecks rulePlace spent
 returns c =
-    by-place Before (c .answer .ensures) refl (c .before .before .before2 .ensures) (c .before .if1 .taken)
+    by-place Before (c .answer .ensures) refl refl (c .before .before .before2 .ensures) (c .before .if1 .taken)
 
 separation-requires : tie.Need-separation-requires
 separation-requires c κs = search needs
@@ -26,10 +26,10 @@ answer-requires-2 : tie.Need-answer-requires-2
 answer-requires-2 c κs = search needs
 
 returns-2 : tie.Need-returns-2
-unfolding gatheredChecks gatheredPlaces spent
+unfolding gatheredChecks rulePlace spent
 returns-2 c =
     no-place (c .before .before .before .before .before2 .ensures) (c .before .before .before .if1 .left)
-    (by-place Separation (c .answer2 .ensures) refl (c .before .before .separation .ensures) (c .before .if2 .taken))
+    (by-place Separation (c .answer2 .ensures) refl refl (c .before .before .separation .ensures) (c .before .if2 .taken))
 
 block-requires : tie.Need-block-requires
 block-requires c κs = search needs
@@ -38,11 +38,11 @@ answer-requires-3 : tie.Need-answer-requires-3
 answer-requires-3 c κs = search needs
 
 returns-3 : tie.Need-returns-3
-unfolding gatheredChecks gatheredPlaces spent
+unfolding gatheredChecks rulePlace spent
 returns-3 c =
     no-place (c .before .before .before .before .before .before .before2 .ensures) (c .before .before .before .before .before .if1 .left)
     (no-place (c .before .before .before .before .separation .ensures) (c .before .before .before .if2 .left)
-    (by-place Block (c .answer3 .ensures) refl (c .before .before .block .ensures) (c .before .if3 .taken)))
+    (by-place Block (c .answer3 .ensures) refl refl (c .before .before .block .ensures) (c .before .if3 .taken)))
 
 alone-requires : tie.Need-alone-requires
 alone-requires c κs = search needs
@@ -51,12 +51,12 @@ answer-requires-4 : tie.Need-answer-requires-4
 answer-requires-4 c κs = search needs
 
 returns-4 : tie.Need-returns-4
-unfolding gatheredChecks gatheredPlaces spent
+unfolding gatheredChecks rulePlace spent
 returns-4 c =
     no-place (c .before .before .before .before .before .before .before .before .before2 .ensures) (c .before .before .before .before .before .before .before .if1 .left)
     (no-place (c .before .before .before .before .before .before .separation .ensures) (c .before .before .before .before .before .if2 .left)
     (no-place (c .before .before .before .before .block .ensures) (c .before .before .before .if3 .left)
-    (by-test Alone (c .answer4 .ensures) refl (c .before .before .alone .ensures) (c .before .if4 .taken))))
+    (by-test Alone (c .answer4 .ensures) refl refl (c .before .before .alone .ensures) (c .before .if4 .taken))))
 
 bound-requires : tie.Need-bound-requires
 bound-requires c κs = search needs
@@ -65,13 +65,13 @@ answer-requires-5 : tie.Need-answer-requires-5
 answer-requires-5 c κs = search needs
 
 returns-5 : tie.Need-returns-5
-unfolding gatheredChecks gatheredPlaces spent
+unfolding gatheredChecks rulePlace spent
 returns-5 c =
     no-place (c .before .before .before .before .before .before .before .before .before .before .before2 .ensures) (c .before .before .before .before .before .before .before .before .before .if1 .left)
     (no-place (c .before .before .before .before .before .before .before .before .separation .ensures) (c .before .before .before .before .before .before .before .if2 .left)
     (no-place (c .before .before .before .before .before .before .block .ensures) (c .before .before .before .before .before .if3 .left)
     (not-by-test (c .before .before .before .before .alone .ensures) (c .before .before .before .if4 .left)
-    (by-place Bound (c .answer5 .ensures) refl (c .before .before .bound .ensures) (c .before .if5 .taken)))))
+    (by-place Bound (c .answer5 .ensures) refl refl (c .before .before .bound .ensures) (c .before .if5 .taken)))))
 
 limit-reached-requires : tie.Need-limit-reached-requires
 limit-reached-requires c κs = search needs
@@ -80,20 +80,20 @@ answer-requires-6 : tie.Need-answer-requires-6
 answer-requires-6 c κs = search needs
 
 returns-6 : tie.Need-returns-6
-unfolding gatheredChecks gatheredPlaces spent
+unfolding gatheredChecks rulePlace spent
 returns-6 c =
     no-place (c .before .before .before .before .before .before .before .before .before .before .before .before .before2 .ensures) (c .before .before .before .before .before .before .before .before .before .before .before .if1 .left)
     (no-place (c .before .before .before .before .before .before .before .before .before .before .separation .ensures) (c .before .before .before .before .before .before .before .before .before .if2 .left)
     (no-place (c .before .before .before .before .before .before .before .before .block .ensures) (c .before .before .before .before .before .before .before .if3 .left)
     (not-by-test (c .before .before .before .before .before .before .alone .ensures) (c .before .before .before .before .before .if4 .left)
     (no-place (c .before .before .before .before .bound .ensures) (c .before .before .before .if5 .left)
-    (by-test Count (c .answer6 .ensures) refl (c .before .before .limit-reached .ensures) (c .before .if6 .taken))))))
+    (by-test Count (c .answer6 .ensures) refl refl (c .before .before .limit-reached .ensures) (c .before .if6 .taken))))))
 
 answer-requires-7 : tie.Need-answer-requires-7
 answer-requires-7 c κs = search needs
 
 returns-7 : tie.Need-returns-7
-unfolding gatheredChecks gatheredPlaces spent
+unfolding gatheredChecks rulePlace spent
 returns-7 c =
     no-place (c .before .before .before .before .before .before .before .before .before .before .before .before .before2 .ensures) (c .before .before .before .before .before .before .before .before .before .before .before .if1 .left)
     (no-place (c .before .before .before .before .before .before .before .before .before .before .separation .ensures) (c .before .before .before .before .before .before .before .before .before .if2 .left)
@@ -101,7 +101,7 @@ returns-7 c =
     (not-by-test (c .before .before .before .before .before .before .alone .ensures) (c .before .before .before .before .before .if4 .left)
     (no-place (c .before .before .before .before .bound .ensures) (c .before .before .before .if5 .left)
     (not-by-test (c .before .before .limit-reached .ensures) (c .before .if6 .left)
-    (by-none Granted (c .answer7 .ensures) refl))))))
+    (by-none Granted (c .answer7 .ensures) refl refl))))))
 
 pub judge-spec : {M : Type 1} → statement M
 judge-spec =
