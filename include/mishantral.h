@@ -9,6 +9,8 @@
  *     uint64_t answer = mishantral_load(bytes, length, policy, words, sessions, .., orders, ..);
  *     if (mishantral_reply_of(answer) != MISHANTRAL_GRANTED)   refused at record mishantral_place_of(answer)
  *
+ * Of a claim that a rule refuses, mishantral_place_of(answer) is the rule's place: see mishantral_request.
+ *
  * What is decided, and which reply is given when, is docs/RULES.md of the project: its section "Numbers" has
  * the records and kinds, "The replies" the replies, "The ledger and the claim rules" the rules of a claim.
  *
@@ -46,7 +48,7 @@ extern "C" {
 #define MISHANTRAL_LAST_SUBJECT 127
 #define MISHANTRAL_LAST_ORDER 63
 
-/* How many there may be: rules of a policy, entries of all orders together, bytes of a record. */
+/* How many there may be: rules of a policy, entries of all orders together, bytes of a record, records of a pile. */
 #define MISHANTRAL_MOST_STATIC_SETS 32
 #define MISHANTRAL_MOST_DYNAMIC_SETS 32
 #define MISHANTRAL_MOST_TASK_SETS 32
@@ -55,6 +57,7 @@ extern "C" {
 #define MISHANTRAL_MOST_PREREQUISITES 64
 #define MISHANTRAL_MOST_ENTRIES 2048
 #define MISHANTRAL_RECORD_BYTES 16
+#define MISHANTRAL_MOST_PILED 4096
 
 /* The three buffers. */
 enum mishantral_group {
@@ -82,12 +85,31 @@ uint64_t mishantral_load(const uint8_t *bytes, size_t length,
 
 /* Answers one request: a record of sixteen bytes; any other length is answered with SHAPE.
  *
- * The answer is the reply + 256 times a place, which is 0. ROOM as above. The buffers are those of
- * an accepted load, or of any content: each content reads as some state. */
+ * The answer is the reply + 256 times a place. With BEFORE, SEPARATION and BOUND the place is that of the first rule that
+ * the claim would break, counted from 1 among all records of its kind in the loaded policy, in their order: of kind 16, 11 or
+ * 15. With BLOCK it is that of the block at which the search ends, among all records of kind 12. With every other reply it
+ * is 0. mishantral_rule_kind tells the kind of a reply's rules.
+ *
+ * ROOM as above. The buffers are those of an accepted load, or of any content: each content reads as some state. */
 uint64_t mishantral_request(const uint8_t *record, size_t length,
                             uint64_t *policy, size_t policy_words,
                             uint64_t *sessions, size_t sessions_words,
                             uint64_t *orders, size_t orders_words);
+
+/* Answers a pile of requests in one call: `length` bytes, sixteen a record, at most MISHANTRAL_MOST_PILED records. They are made one
+ * after the other, and a refused one does not end the pile. The reply to each is one byte of `answers`, from the place `at` on, counted from
+ * 0; the other bytes of `answers` stay. Replies and state afterwards are those of mishantral_request for each record.
+ *
+ * The answer is the reply to the pile alone: GRANTED; or, before any request is done and with nothing written, ROOM where a state buffer has
+ * not its fixed length, `at` lies past the end of `answers`, there is not a byte for each whole record from there on, or there are more than
+ * MISHANTRAL_MOST_PILED whole records; then SHAPE where `length` is no multiple of 16. A pile without records is granted.
+ *
+ * `answers` points to `answers_length` bytes that may be read and written, and overlaps none of the others. */
+uint64_t mishantral_pile(const uint8_t *records, size_t length,
+                         uint8_t *answers, size_t answers_length, uint64_t at,
+                         uint64_t *policy, size_t policy_words,
+                         uint64_t *sessions, size_t sessions_words,
+                         uint64_t *orders, size_t orders_words);
 
 /* The lower part alone, for dealers: policy, roles and sessions, without orders. It is a library of its own,
  * libmishantral_lower.a, with these three functions and two buffers, of MISHANTRAL_POLICY_WORDS and
@@ -107,7 +129,7 @@ uint64_t mishantral_lower_request(const uint8_t *record, size_t length,
  * is given. */
 enum mishantral_reply {
     MISHANTRAL_GRANTED = 0,      /* accepted, or granted */
-    MISHANTRAL_ROOM = 1,         /* a lent buffer has not its fixed length; nothing is written */
+    MISHANTRAL_ROOM = 1,         /* a lent buffer has not its fixed length, or an output is too short; nothing is written */
     MISHANTRAL_SHAPE = 2,        /* not 16 bytes, kind not of this call, unused field not zero, m of kind 57 too large */
     MISHANTRAL_RANGE = 3,        /* a number above its limit */
     MISHANTRAL_UNKNOWN = 4,      /* something named is not declared, not open or not live; a pair to take back is absent */
@@ -126,7 +148,9 @@ enum mishantral_reply {
     MISHANTRAL_ALONE = 17,       /* the user has every other task of a template banned for lone workers */
     MISHANTRAL_BOUND = 18,       /* a task bound with this one has an entry of another user */
     MISHANTRAL_COUNT = 19,       /* the task has as many entries as its limit allows */
-    MISHANTRAL_FULL = 20         /* no ledger entry is free, or the rule limit of that kind is reached */
+    MISHANTRAL_FULL = 20,        /* no ledger entry is free, or the rule limit of that kind is reached */
+    MISHANTRAL_TEXT = 21,        /* reading OPL/XML: a text is not in its grammar */
+    MISHANTRAL_NAMES = 22        /* reading OPL/XML: a name is too long, declared nowhere or above a limit */
 };
 
 /* Kinds of record (docs/RULES.md, "Numbers"). A field that is not listed is zero; bit i of m stands for role or
@@ -172,8 +196,20 @@ enum mishantral_kind {
 /* The reply of an answer. */
 static inline unsigned mishantral_reply_of(uint64_t answer) { return (unsigned)(answer % 256); }
 
-/* The place of an answer. */
+/* The place of an answer: of a load, that of the refused record; of a request, that of the rule that it is about; from 1, or 0. */
 static inline uint64_t mishantral_place_of(uint64_t answer) { return answer / 256; }
+
+/* The policy kind of the rules among which the place of a request's answer counts; 0 where the reply says no place. */
+static inline unsigned mishantral_rule_kind(unsigned reply)
+{
+    switch (reply) {
+    case MISHANTRAL_BEFORE: return MISHANTRAL_BEFORE_TASK;
+    case MISHANTRAL_SEPARATION: return MISHANTRAL_TASK_SET;
+    case MISHANTRAL_BLOCK: return MISHANTRAL_BLOCK_OF;
+    case MISHANTRAL_BOUND: return MISHANTRAL_BOUND_TO;
+    default: return 0;
+    }
+}
 
 /* A reply's name, as "IN USE"; "?" for a number that is no reply. */
 static inline const char *mishantral_reply_name(unsigned reply)
@@ -200,6 +236,8 @@ static inline const char *mishantral_reply_name(unsigned reply)
     case MISHANTRAL_BOUND: return "BOUND";
     case MISHANTRAL_COUNT: return "COUNT";
     case MISHANTRAL_FULL: return "FULL";
+    case MISHANTRAL_TEXT: return "TEXT";
+    case MISHANTRAL_NAMES: return "NAMES";
     default: return "?";
     }
 }

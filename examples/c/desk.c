@@ -52,8 +52,10 @@ int main(void)
     uint8_t record[MISHANTRAL_RECORD_BYTES];
     size_t got;
     unsigned long place = 0;
-    while (loaded && fflush(stdout) == 0 && (got = fread(record, 1, sizeof record, stdin)) > 0)
-        printf("%lu %u\n", ++place, mishantral_reply_of(request(record, got)));
+    while (loaded && fflush(stdout) == 0 && (got = fread(record, 1, sizeof record, stdin)) > 0) {
+        answer = request(record, got);
+        printf("%lu %u %" PRIu64 "\n", ++place, mishantral_reply_of(answer), mishantral_place_of(answer));
+    }
 
     if (fflush(stdout) != 0 || ferror(stdout))
         return 2;

@@ -5,6 +5,7 @@ fn main() {
     for (told, cfg) in [
         ("DEP_MISHANTRAL_ENGINE", "mishantral_engine"),
         ("DEP_MISHANTRAL_LOWER", "mishantral_lower"),
+        ("DEP_MISHANTRAL_PILE", "mishantral_pile"),
     ] {
         println!("cargo:rustc-check-cfg=cfg({cfg})");
         if std::env::var_os(told).is_some() {

@@ -44,8 +44,23 @@ fn link(archive: &Archive, found: &Path) {
     println!("cargo:rustc-link-search=native={}", folder.display());
     println!("cargo:rustc-link-lib=static={name}");
     println!("cargo:rustc-cfg={}", archive.cfg);
-    // What the build scripts of crates above read as DEP_MISHANTRAL_ENGINE, DEP_MISHANTRAL_LOWER.
+    // What the build scripts of crates above read as DEP_MISHANTRAL_ENGINE, DEP_MISHANTRAL_LOWER, DEP_MISHANTRAL_OPL and so on.
     println!("cargo:{}=linked", archive.key);
+    for later in LATER.iter().filter(|_| archive.key == "engine") {
+        if has(found, format!("mishantral_{later}\0").as_bytes()) {
+            println!("cargo:rustc-cfg=mishantral_{later}");
+            println!("cargo:{later}=linked");
+        }
+    }
+}
+
+/// Functions of the whole engine's archive that one made earlier has not: `mishantral_opl` and so on.
+const LATER: [&str; 2] = ["opl", "pile"];
+
+/// Whether an archive has a name in it: one that was made before there was a function has it not.
+fn has(archive: &Path, name: &[u8]) -> bool {
+    let bytes = std::fs::read(archive).unwrap_or_default();
+    bytes.windows(name.len()).any(|window| window == name)
 }
 
 /// Links the archive if it is there; whether it is.
@@ -65,6 +80,9 @@ fn linked(root: &Path, archive: &Archive) -> bool {
 }
 
 fn main() {
+    for later in LATER {
+        println!("cargo:rustc-check-cfg=cfg(mishantral_{later})");
+    }
     let root = Path::new(env!("CARGO_MANIFEST_DIR")).join("../..");
     let root = root.canonicalize().unwrap_or(root);
     if ARCHIVES.iter().filter(|a| linked(&root, a)).count() > 0 {

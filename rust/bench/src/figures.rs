@@ -67,6 +67,8 @@ pub struct Figures {
     pub permissions: Growth,
     /// A line for each kind of request.
     pub kinds: Vec<Line>,
+    /// Requests in piles, where the library takes them, each behind the same in calls of their own.
+    pub piles: Vec<Line>,
     /// The stack, where the library is linked.
     pub stack: Option<Stack>,
     /// The bytes of the three lent buffers.
@@ -148,7 +150,15 @@ fn workloads() -> Vec<Workload> {
     all.extend(ENTRIES.map(day_among));
     all.extend(PERMISSIONS.map(checks));
     all.extend(kinds());
+    if piled() {
+        all.extend([checks(256).in_piles(), day().in_piles()]);
+    }
     all
+}
+
+/// Whether piles are timed: without a call for them there is nothing to see.
+fn piled() -> bool {
+    differential::PILED || !differential::PROVED
 }
 
 /// The lines of the workloads whose names have these words in them.
@@ -177,11 +187,15 @@ impl Figures {
             lines: take(PERMISSIONS.len()),
         };
         main.splice(..0, permissions.lines.last().cloned());
+        let kinds = take(kinds().len());
+        let alone = main[..2].iter().cloned();
+        let piles = alone.zip(take(2)).flat_map(|(alone, piled)| [alone, piled]);
         Ok(Figures {
+            piles: piles.collect(),
             main,
             entries,
             permissions,
-            kinds: take(workloads.len()),
+            kinds,
             stack: stack(&workloads),
             state: state(),
         })

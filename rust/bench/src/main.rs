@@ -82,6 +82,9 @@ fn print(figures: &Figures) {
         .iter()
         .for_each(|growth| print!("\n{}", table(&growth.lines)));
     print!("\n{}", table(&figures.kinds));
+    if !figures.piles.is_empty() {
+        print!("\n{}", table(&figures.piles));
+    }
     if let Some(stack) = &figures.stack {
         println!(
             "\nstack: load {} bytes, requests {} bytes",

@@ -63,7 +63,7 @@ struct Run {
 
 impl Run {
     fn ask(&mut self, record: Record) {
-        if self.engine.request(&record.0) == Reply::Granted {
+        if self.engine.request(&record.0).0 == Reply::Granted {
             let order = if record.kind() < 50 {
                 record.a()
             } else {

@@ -1,6 +1,6 @@
 //! Times one workload on several engines in turn, and compares every reply of every pass.
 
-use crate::workloads::{Timed, Workload};
+use crate::workloads::{Timed, Workload, LENGTH};
 use differential::{plain, proved, Desk};
 use plain::{Engine, FlatLedger, OrderLists};
 use std::time::{Duration, Instant};
@@ -26,6 +26,8 @@ pub struct Race<'a> {
     /// What is run.
     pub workload: &'a Workload,
     policy: Vec<u8>,
+    /// The requests that are timed, where they go in piles.
+    piled: Vec<u8>,
     expected: Vec<u8>,
     runners: Vec<Runner>,
 }
@@ -46,6 +48,10 @@ impl<'a> Race<'a> {
         let mut race = Race {
             workload,
             policy: workload.policy_bytes(),
+            piled: match &workload.timed {
+                Timed::Piles(stream) => stream.iter().flat_map(|record| record.0).collect(),
+                _ => Vec::new(),
+            },
             expected: Vec::new(),
             runners: Vec::new(),
         };
@@ -79,7 +85,7 @@ impl<'a> Race<'a> {
     }
 
     fn expect(&mut self) {
-        if let Timed::Requests(stream) = &self.workload.timed {
+        if let Timed::Requests(stream) | Timed::Piles(stream) = &self.workload.timed {
             self.expected = vec![0; stream.len()];
             let first = &mut self.runners[0];
             first.desk.answer_all(stream, &mut self.expected);
@@ -104,6 +110,7 @@ impl<'a> Race<'a> {
                         runner.desk.answer_all(stream, &mut replies);
                         begin.elapsed()
                     }
+                    Timed::Piles(_) => time_piles(&mut *runner.desk, &self.piled, &mut replies)?,
                 };
                 runner.best = runner.best.min(taken);
                 let name = runner.desk.name();
@@ -122,6 +129,19 @@ impl<'a> Race<'a> {
         };
         self.runners.iter().map(best).collect()
     }
+}
+
+/// The records in piles of 4,096, and what is left over in a last one.
+fn time_piles(desk: &mut dyn Desk, records: &[u8], replies: &mut [u8]) -> Result<Duration, String> {
+    let begin = Instant::now();
+    let piles = records.chunks(16 * LENGTH).zip(replies.chunks_mut(LENGTH));
+    for (pile, answers) in piles {
+        let reply = desk.pile(pile, answers, 0);
+        if reply != 0 {
+            return Err(format!("{} answers a pile with {reply}", desk.name()));
+        }
+    }
+    Ok(begin.elapsed())
 }
 
 fn time_load(desk: &mut dyn Desk, policy: &[u8]) -> Result<Duration, String> {

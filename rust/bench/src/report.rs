@@ -169,10 +169,27 @@ tools/bench            # builds what is missing, measures for half a minute, wri
     tools/bench --quick    # a few passes, printed only
 ";
 
+/// Requests in piles, beside the same ones alone.
+fn piles(figures: &Figures) -> String {
+    if figures.piles.is_empty() {
+        return String::new();
+    }
+    let table = table(&figures.piles);
+    format!(
+        "
+## In piles
+
+The same requests by `mishantral_pile`, 4,096 in a call, and by the plain engine's call for piles.
+
+{table}"
+    )
+}
+
 /// docs/BENCH.md
 pub fn page(figures: &Figures, effort: Effort) -> String {
     let head = head(effort);
     let (main, kinds, space) = (table(&figures.main), table(&figures.kinds), space(figures));
+    let piles = piles(figures);
     let entries = table(&figures.entries.lines);
     let permissions = table(&figures.permissions.lines);
     let history = HISTORY.trim();
@@ -192,7 +209,7 @@ pub fn page(figures: &Figures, effort: Effort) -> String {
 
 96 subjects, 100 entries in use; pairs undo each other, and a time is for one record of the pair.
 
-{kinds}
+{kinds}{piles}
 ## Stack and state
 
 {space}

@@ -19,6 +19,8 @@ pub enum Timed {
     Load,
     /// Requests.
     Requests(Vec<Record>),
+    /// Requests in piles of 4,096.
+    Piles(Vec<Record>),
 }
 
 /// A stream of records that is timed, and what comes before it.
@@ -38,7 +40,20 @@ impl Workload {
     pub fn length(&self) -> usize {
         match &self.timed {
             Timed::Load => self.policy.len(),
-            Timed::Requests(stream) => stream.len(),
+            Timed::Requests(stream) | Timed::Piles(stream) => stream.len(),
+        }
+    }
+
+    /// The same with its requests in piles.
+    pub fn in_piles(self) -> Workload {
+        let timed = match self.timed {
+            Timed::Requests(stream) => Timed::Piles(stream),
+            timed => timed,
+        };
+        Workload {
+            name: format!("{}, in piles", self.name),
+            timed,
+            ..self
         }
     }
 
@@ -47,7 +62,9 @@ impl Workload {
         let kinds = [33, 41, 49, 50, 51, 52, 57];
         match &self.timed {
             Timed::Load => false,
-            Timed::Requests(stream) => stream.iter().any(|r| kinds.contains(&r.kind())),
+            Timed::Requests(stream) | Timed::Piles(stream) => {
+                stream.iter().any(|r| kinds.contains(&r.kind()))
+            }
         }
     }
 
@@ -60,7 +77,7 @@ impl Workload {
     pub fn requests(&self) -> Vec<Record> {
         match &self.timed {
             Timed::Load => self.setup.clone(),
-            Timed::Requests(stream) => [&self.setup[..], stream].concat(),
+            Timed::Requests(stream) | Timed::Piles(stream) => [&self.setup[..], stream].concat(),
         }
     }
 }

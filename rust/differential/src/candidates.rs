@@ -105,7 +105,7 @@ impl Pools {
     }
 
     /// A request about orders.
-    fn order(&self, random: &mut Random) -> Record {
+    pub fn order(&self, random: &mut Random) -> Record {
         let subject = random.pick(&self.subjects);
         let (order, task) = self.order_and_task(random);
         let (operation, object) = (random.pick(&self.operations), random.pick(&self.objects));

@@ -4,7 +4,7 @@ use crate::candidates::{damaged, other_length};
 use crate::pools::Pools;
 use plain::{Engine, OrderLists};
 use random::Random;
-use records::{Record, Set};
+use records::{Record, Set, LENGTH};
 
 /// What is asked of the engines.
 #[derive(Clone, PartialEq, Debug)]
@@ -13,6 +13,19 @@ pub enum Step {
     Load(Vec<u8>),
     /// A request's bytes.
     Request(Vec<u8>),
+    /// Requests in one call.
+    Pile(Pile),
+}
+
+/// Requests in one call: their bytes, the answer buffer beforehand, and the place in it.
+#[derive(Clone, PartialEq, Debug)]
+pub struct Pile {
+    /// The records, of which the last may be cut.
+    pub records: Vec<u8>,
+    /// What the answer buffer holds.
+    pub buffer: Vec<u8>,
+    /// Where the first reply goes.
+    pub at: usize,
 }
 
 /// Steps, and the numbers that they are about.
@@ -204,6 +217,67 @@ fn day(random: &mut Random, pools: Pools, rules: usize, count: usize) -> Case {
     Case { steps, pools }
 }
 
+/// Rules over the tasks of one template, each of which leaves most claims alone, so that rules far down the lists are the first to be broken.
+fn claim_rules(random: &mut Random, pools: &Pools) -> Vec<Record> {
+    let mut tasks = pools.tasks.clone();
+    let mut rules = Vec::new();
+    for &partitioning in &pools.partitionings {
+        shuffle(random, &mut tasks);
+        let blocks = tasks[..6].chunks(2);
+        let set = |block: &[u16]| block.iter().map(|&task| task as u8).collect();
+        rules.extend(blocks.map(|block| Record::block(partitioning, set(block))));
+    }
+    for _ in 0..random.below(10) {
+        shuffle(random, &mut tasks);
+        let members = tasks[..4].iter().map(|&task| task as u8).collect();
+        rules.push(Record::task_set(2 + random.below(2) as u8, members));
+    }
+    // Prerequisites lead from lower to higher tasks, so that there is always one to begin with.
+    for _ in 0..random.below(10) {
+        let (one, other) = (random.pick(&tasks), random.pick(&tasks));
+        rules.push(Record::before(one.min(other), one.max(other)));
+    }
+    for _ in 0..random.below(8) {
+        rules.push(Record::bound(random.pick(&tasks), random.pick(&tasks)));
+    }
+    shuffle(random, &mut rules);
+    rules.truncate(4 + random.below(rules.len()));
+    rules
+}
+
+/// A desk where everyone may take everything, but for the rules of claims.
+fn claims(random: &mut Random) -> Case {
+    let pools = Pools::for_claims(random);
+    let role = pools.roles[0];
+    let mut attempts: Vec<Record> = vec![Record::role(role)];
+    for &user in &pools.users {
+        attempts.extend([Record::user(user), Record::user_has_role(user, role)]);
+    }
+    for &task in &pools.tasks {
+        let of_template = Record::task(task, pools.templates[0]);
+        attempts.extend([of_template, Record::task_open_to(task, role)]);
+    }
+    attempts.extend(claim_rules(random, &pools));
+    let mut steps = vec![Policy::of(attempts).load()];
+    let mut ask = |record: Record| steps.push(Step::Request(record.0.to_vec()));
+    for &subject in &pools.subjects {
+        let user = random.pick(&pools.users);
+        ask(Record::create_subject(
+            subject,
+            user,
+            Set::EMPTY.with(role as u8),
+        ));
+    }
+    for _ in 0..6 {
+        for &order in &pools.orders {
+            ask(Record::end_order(order));
+            ask(Record::open_order(order, pools.templates[0]));
+        }
+        (0..80).for_each(|_| ask(pools.order(random)));
+    }
+    Case { steps, pools }
+}
+
 /// A ledger filled to its last entry by a task that no rule is about, and requests around it.
 fn filled(random: &mut Random) -> Case {
     let mut pools = Pools::few(random);
@@ -257,11 +331,57 @@ fn noise(random: &mut Random) -> Case {
     Case { steps, pools }
 }
 
+/// A pile of these records, in a buffer that mostly has room for it.
+fn pile(random: &mut Random, mut records: Vec<u8>) -> Pile {
+    if random.chance(1, 10) {
+        let cut = 1 + random.below(15);
+        records.truncate(records.len().saturating_sub(cut));
+    }
+    let (at, behind) = (random.below(5), random.below(3));
+    let length = at + records.len() / LENGTH + behind;
+    let length = length.saturating_sub(random.pick(&[0, 0, 0, 0, 0, 1, 3, 9]));
+    let buffer = (0..length).map(|_| random.word() as u8).collect();
+    Pile {
+        records,
+        buffer,
+        at,
+    }
+}
+
+/// The steps with the requests that follow each other put into piles.
+fn piled(random: &mut Random, steps: Vec<Step>) -> Vec<Step> {
+    let mut piled = Vec::new();
+    let mut waiting = Vec::new();
+    let mut room = 0;
+    for step in steps {
+        match step {
+            Step::Request(record) if record.len() == LENGTH && waiting.len() < room => {
+                waiting.extend(record);
+            }
+            step => {
+                piled.push(Step::Pile(pile(random, std::mem::take(&mut waiting))));
+                room = LENGTH * random.pick(&[0, 1, 2, 10, 200]);
+                piled.push(step);
+            }
+        }
+    }
+    piled.push(Step::Pile(pile(random, waiting)));
+    piled
+}
+
 impl Case {
-    /// The case with this number, of this seed.
+    /// The case with this number, of this seed; one in four has piles.
     pub fn random(seed: u64, number: u64) -> Case {
         let mut random = Random::new(seed ^ number.wrapping_mul(0xd134_2543_de82_ef95));
-        let random = &mut random;
+        let mut case = Case::of_requests(&mut random, number);
+        if random.chance(1, 4) {
+            case.steps = piled(&mut random, case.steps);
+        }
+        case
+    }
+
+    /// Loads and requests, each in a call of its own.
+    fn of_requests(random: &mut Random, number: u64) -> Case {
         let count = random.pick(&[5, 50, 150, 300, 600]);
         match number % 40 {
             7 => filled(random),
@@ -270,6 +390,7 @@ impl Case {
                 day(random, pools, 60, 1000)
             }
             27 => noise(random),
+            n if n % 8 == 5 => claims(random),
             n if n % 8 == 3 => {
                 let pools = Pools::for_rules(random);
                 day(random, pools, 1500, count)

@@ -16,19 +16,26 @@ pub struct Failure {
 
 /// Counts a load's last judged record, or a request.
 fn count(coverage: &mut Coverage, step: &Step, (reply, place): (u8, usize)) {
-    let record = match step {
-        Step::Request(record) => Some(&record[..]),
+    match step {
+        Step::Request(record) => {
+            if let Some(kind) = record.first() {
+                coverage.add(*kind, reply);
+                coverage.add_place(reply, place);
+            }
+        }
+        // Its records are counted where it is taken.
+        Step::Pile(_) => coverage.add_pile(reply),
         Step::Load(policy) => {
             let last = place
                 .checked_sub(1)
                 .unwrap_or(policy.len().div_ceil(LENGTH));
-            let accepted = policy.chunks(LENGTH).take(last);
+            let mut records = policy.chunks(LENGTH);
+            let accepted = records.by_ref().take(last);
             accepted.for_each(|record| coverage.add(record[0], 0));
-            policy.chunks(LENGTH).nth(last)
+            if let Some(refused) = records.next() {
+                coverage.add(refused[0], reply);
+            }
         }
-    };
-    if let Some(kind) = record.and_then(|record| record.first()) {
-        coverage.add(*kind, reply);
     }
 }
 
@@ -37,7 +44,15 @@ fn take(panel: &mut Panel, steps: &[Step], coverage: &mut Coverage) -> Result<()
     for (before, step) in steps.iter().enumerate() {
         let answer = match step {
             Step::Load(policy) => panel.load(policy),
-            Step::Request(record) => panel.request(record).map(|reply| (reply, 0)),
+            Step::Request(record) => panel.request(record),
+            Step::Pile(pile) => panel.pile(pile).map(|(reply, buffer)| {
+                let taken = reply == Reply::Granted.number();
+                let answered = buffer.iter().skip(pile.at).filter(|_| taken);
+                for (record, reply) in pile.records.chunks(LENGTH).zip(answered) {
+                    coverage.add(record[0], *reply);
+                }
+                (reply, 0)
+            }),
         };
         let answer = answer.map_err(|difference| Failure {
             steps: steps[..=before].to_vec(),
@@ -83,17 +98,23 @@ fn without_pieces<T: Clone>(list: Vec<T>, fails: impl Fn(&[T]) -> bool) -> Vec<T
     list
 }
 
-/// The steps with the records of one load left out where they are not needed.
+/// The steps with the records of one load or pile left out where they are not needed.
 fn without_records(steps: Vec<Step>, fails: impl Fn(&[Step]) -> bool) -> Vec<Step> {
     let mut steps = steps;
     for at in 0..steps.len() {
-        let Step::Load(policy) = &steps[at] else {
-            continue;
+        let records = match &steps[at] {
+            Step::Request(_) => continue,
+            Step::Load(policy) => policy,
+            Step::Pile(pile) => &pile.records,
         };
-        let records: Vec<Vec<u8>> = policy.chunks(LENGTH).map(<[u8]>::to_vec).collect();
+        let records: Vec<Vec<u8>> = records.chunks(LENGTH).map(<[u8]>::to_vec).collect();
         let with = |records: &[Vec<u8>]| {
             let mut changed = steps.clone();
-            changed[at] = Step::Load(records.concat());
+            match &mut changed[at] {
+                Step::Load(bytes) => *bytes = records.concat(),
+                Step::Pile(pile) => pile.records = records.concat(),
+                Step::Request(_) => {}
+            }
             changed
         };
         let fewer = without_pieces(records, |records| fails(&with(records)));
@@ -128,6 +149,7 @@ fn smallest(start: &Panel, mut failure: Failure) -> Failure {
 fn size(steps: &[Step]) -> usize {
     let records = |step: &Step| match step {
         Step::Load(policy) => 1 + policy.len().div_ceil(LENGTH),
+        Step::Pile(pile) => 1 + pile.records.len().div_ceil(LENGTH),
         Step::Request(_) => 1,
     };
     steps.iter().map(records).sum()
@@ -143,22 +165,24 @@ pub fn compare(start: &Panel, case: &Case, fill: bool) -> Result<Coverage, Box<F
     Ok(coverage)
 }
 
-fn shown((reply, place): (u8, usize)) -> String {
-    let name = Reply::from_number(reply.into()).map_or("?", Reply::name);
-    format!("{reply} {name}, place {place}")
-}
-
 impl Failure {
     /// The steps in words, and what each engine answered to the last.
     pub fn report(&self) -> String {
         let mut text = String::new();
+        let within = |text: &mut String, records: &[u8]| {
+            for record in records.chunks(LENGTH) {
+                let _ = writeln!(text, "    {}", notation::line(record));
+            }
+        };
         for step in &self.steps {
             match step {
                 Step::Load(policy) => {
                     let _ = writeln!(text, "load");
-                    for record in policy.chunks(LENGTH) {
-                        let _ = writeln!(text, "    {}", notation::line(record));
-                    }
+                    within(&mut text, policy);
+                }
+                Step::Pile(pile) => {
+                    let _ = writeln!(text, "pile at {} of {:?}", pile.at, pile.buffer);
+                    within(&mut text, &pile.records);
                 }
                 Step::Request(record) => {
                     let _ = writeln!(text, "{}", notation::line(record));
@@ -166,7 +190,7 @@ impl Failure {
             }
         }
         for (name, answer) in &self.difference.0 {
-            let _ = writeln!(text, "{name:>8}: {}", shown(*answer));
+            let _ = writeln!(text, "{name:>8}: {answer}");
         }
         text
     }

@@ -1,13 +1,19 @@
-//! How often each kind was answered with each reply, and which pairs the rules allow (docs/RULES.md, "The order of checks").
+//! How often each kind was answered with each reply, and which pairs the rules allow (docs/RULES.md, "The order of checks"); and the
+//! places that a refused claim had.
 
 use records::Reply::{self, *};
 use std::collections::BTreeMap;
 
-/// How often each pair came up.
+/// How often each pair came up, and each reply with each place.
 #[derive(Clone, Default)]
 pub struct Coverage {
     seen: BTreeMap<(u8, u8), u64>,
+    places: BTreeMap<(u8, usize), u64>,
+    piles: BTreeMap<u8, u64>,
 }
+
+/// The replies that say the place of a rule, and the largest place that there can be.
+const PLACED: [(Reply, usize); 4] = [(Before, 64), (Separation, 32), (Block, 64), (Bound, 64)];
 
 /// The replies that a kind can have in a state that a load and requests made, in the order of checks.
 pub fn possible(kind: u8) -> Option<Vec<Reply>> {
@@ -43,11 +49,64 @@ impl Coverage {
         *self.seen.entry((kind, reply)).or_default() += 1;
     }
 
+    /// Counts one place of a request's answer.
+    pub fn add_place(&mut self, reply: u8, place: usize) {
+        *self.places.entry((reply, place)).or_default() += 1;
+    }
+
+    /// Counts one pile's reply.
+    pub fn add_pile(&mut self, reply: u8) {
+        *self.piles.entry(reply).or_default() += 1;
+    }
+
+    /// The replies of piles that were not seen.
+    pub fn missing_piles(&self) -> Vec<Reply> {
+        let unseen = |reply: &Reply| !self.piles.contains_key(&reply.number());
+        [Granted, Room, Shape].into_iter().filter(unseen).collect()
+    }
+
     /// Adds what was counted elsewhere.
     pub fn join(&mut self, other: &Coverage) {
         for (pair, count) in &other.seen {
             *self.seen.entry(*pair).or_default() += count;
         }
+        for (pair, count) in &other.places {
+            *self.places.entry(*pair).or_default() += count;
+        }
+        for (reply, count) in &other.piles {
+            *self.piles.entry(*reply).or_default() += count;
+        }
+    }
+
+    /// How often a reply came with a place from `least` on.
+    fn placed(&self, reply: Reply, least: usize) -> u64 {
+        let range = (reply.number(), least)..=(reply.number(), usize::MAX);
+        self.places.range(range).map(|(_, count)| count).sum()
+    }
+
+    /// The replies that say a rule's place and did not come with place 1, or with none above 1.
+    pub fn missing_places(&self) -> Vec<Reply> {
+        let unseen = |reply: &Reply| {
+            !self.places.contains_key(&(reply.number(), 1)) || self.placed(*reply, 2) == 0
+        };
+        PLACED
+            .map(|(reply, _)| reply)
+            .into_iter()
+            .filter(unseen)
+            .collect()
+    }
+
+    /// The places that no answer can have: 0 where a rule is broken, one above the rules that there are, any with another reply.
+    pub fn surprising_places(&self) -> Vec<(u8, usize)> {
+        let expected = |(reply, place): &(u8, usize)| {
+            let placed = PLACED.iter().find(|(r, _)| r.number() == *reply);
+            placed.map_or(*place == 0, |(_, most)| (1..=*most).contains(place))
+        };
+        self.places
+            .keys()
+            .filter(|p| !expected(p))
+            .copied()
+            .collect()
     }
 
     /// The pairs of kind and reply that are possible and were not seen.
@@ -68,7 +127,7 @@ impl Coverage {
         self.seen.keys().filter(|p| !expected(p)).copied().collect()
     }
 
-    /// One line a kind: each reply with how often it came.
+    /// One line a kind: each reply with how often it came. Then a line for each reply that says a rule's place.
     pub fn table(&self) -> String {
         let mut lines: BTreeMap<u8, String> = BTreeMap::new();
         for ((kind, reply), count) in &self.seen {
@@ -78,6 +137,24 @@ impl Coverage {
             }
         }
         let line = |(kind, replies): (u8, String)| format!("kind {kind:>2}:{replies}\n");
-        lines.into_iter().map(line).collect()
+        let lines = lines.into_iter().map(line);
+        let piles = self.piles.iter().map(|(reply, count)| {
+            let name = Reply::from_number((*reply).into()).map_or("?", Reply::name);
+            format!("  {name} {count}")
+        });
+        let piles: String = ["piles:".to_string()].into_iter().chain(piles).collect();
+        let lines = lines.chain([piles + "\n"]);
+        lines
+            .chain(PLACED.iter().map(|p| self.places_of(p.0)))
+            .collect()
+    }
+
+    /// `places of BLOCK: 1 in 20, above in 31, largest 9`.
+    fn places_of(&self, reply: Reply) -> String {
+        let (all, above) = (self.placed(reply, 1), self.placed(reply, 2));
+        let last = self.places.range(..=(reply.number(), usize::MAX)).last();
+        let largest = last.map_or(0, |((_, place), _)| *place);
+        let (name, first) = (reply.name(), all - above);
+        format!("places of {name}: 1 in {first}, above in {above}, largest {largest}\n")
     }
 }

@@ -1,10 +1,11 @@
 //! The engines that are compared, behind one face, and a panel of them asked the same in step.
 
+use crate::cases::Pile;
 use crate::slow::Slow;
 use plain::{Engine, FlatLedger, Ledger, OrderLists};
-use records::{Record, Reply};
+use records::{Record, Reply, LENGTH};
 
-/// A reply's number, and a place.
+/// A reply's number, and a place: of a load's refused record, or of the rule that a refused claim is about.
 pub type Answer = (u8, usize);
 
 /// An engine that is compared.
@@ -13,16 +14,32 @@ pub trait Desk {
     fn name(&self) -> &'static str;
     /// Loads a policy.
     fn load(&mut self, policy: &[u8]) -> Answer;
-    /// Answers a request with a reply's number.
-    fn request(&mut self, record: &[u8]) -> u8;
+    /// Answers a request.
+    fn request(&mut self, record: &[u8]) -> Answer;
     /// The engine once more, in the same state.
     fn copy(&self) -> Box<dyn Desk>;
 
-    /// Answers records one after another. Each engine has its own copy of this loop with its own `request`
+    /// Answers a pile of requests into a buffer, from a place on. An engine without a call for piles judges the pile and makes
+    /// the requests one by one.
+    fn pile(&mut self, records: &[u8], answers: &mut [u8], at: usize) -> u8 {
+        let whole = records.len() / LENGTH;
+        if at > answers.len() || whole > answers.len() - at || whole > 4096 {
+            return Reply::Room.number();
+        }
+        if !records.chunks_exact(LENGTH).remainder().is_empty() {
+            return Reply::Shape.number();
+        }
+        for (k, record) in records.chunks(LENGTH).enumerate() {
+            answers[at + k] = self.request(record).0;
+        }
+        Reply::Granted.number()
+    }
+
+    /// The replies to records, one after another. Each engine has its own copy of this loop with its own `request`
     /// in it, so that a time taken around it holds no call by table for each record.
     fn answer_all(&mut self, records: &[Record], replies: &mut [u8]) {
         for (record, reply) in records.iter().zip(replies) {
-            *reply = self.request(&record.0);
+            *reply = self.request(&record.0).0;
         }
     }
 }
@@ -39,12 +56,17 @@ impl<L: Ledger + 'static> Desk for Plain<L> {
         (reply.number(), place)
     }
 
-    fn request(&mut self, record: &[u8]) -> u8 {
-        self.1.request(record).number()
+    fn request(&mut self, record: &[u8]) -> Answer {
+        let (reply, place) = self.1.request(record);
+        (reply.number(), place)
     }
 
     fn copy(&self) -> Box<dyn Desk> {
         Box::new(Plain(self.0, self.1.clone()))
+    }
+
+    fn pile(&mut self, records: &[u8], answers: &mut [u8], at: usize) -> u8 {
+        self.1.pile(records, answers, at).number()
     }
 }
 
@@ -58,19 +80,26 @@ impl Desk for Slow {
         (reply.number(), place)
     }
 
-    fn request(&mut self, record: &[u8]) -> u8 {
-        Slow::request(self, record).number()
+    fn request(&mut self, record: &[u8]) -> Answer {
+        let (reply, place) = Slow::request(self, record);
+        (reply.number(), place)
     }
 
     fn copy(&self) -> Box<dyn Desk> {
         Box::new(self.clone())
+    }
+
+    fn pile(&mut self, records: &[u8], answers: &mut [u8], at: usize) -> u8 {
+        let (reply, written) = Slow::pile(self, records, answers, at);
+        answers.copy_from_slice(&written);
+        reply.number()
     }
 }
 
 /// The proved engine's answers: the wrapper of the whole and that of the lower part have the same calls.
 #[cfg(any(mishantral_engine, mishantral_lower))]
 macro_rules! proved_desk {
-    ($engine:ty) => {
+    ($engine:ty $(, $pile:item)?) => {
         impl Desk for $engine {
             fn name(&self) -> &'static str {
                 "proved"
@@ -83,19 +112,28 @@ macro_rules! proved_desk {
                 }
             }
 
-            fn request(&mut self, record: &[u8]) -> u8 {
-                <$engine>::request(self, record).number()
+            fn request(&mut self, record: &[u8]) -> Answer {
+                let answer = mishantral::Answer::from(<$engine>::request(self, record));
+                (answer.reply.number(), answer.place)
             }
 
             fn copy(&self) -> Box<dyn Desk> {
                 Box::new(self.clone())
             }
+
+            $($pile)?
         }
     };
 }
 
 #[cfg(mishantral_engine)]
-proved_desk!(mishantral::Engine);
+proved_desk!(
+    mishantral::Engine,
+    #[cfg(mishantral_pile)]
+    fn pile(&mut self, records: &[u8], answers: &mut [u8], at: usize) -> u8 {
+        self.pile_bytes(records, answers, at).number()
+    }
+);
 
 #[cfg(mishantral_lower)]
 proved_desk!(mishantral::lower::Engine);
@@ -112,15 +150,36 @@ impl Desk for Lowered {
         self.0.load(policy)
     }
 
-    fn request(&mut self, record: &[u8]) -> u8 {
+    fn request(&mut self, record: &[u8]) -> Answer {
         match record.first() {
-            Some(48..=52 | 57) => Reply::Shape.number(),
+            Some(48..=52 | 57) => (Reply::Shape.number(), 0),
             _ => self.0.request(record),
         }
     }
 
     fn copy(&self) -> Box<dyn Desk> {
         Box::new(Lowered(self.0.copy()))
+    }
+}
+
+/// An engine that makes the requests of a pile one by one.
+struct OneByOne(Box<dyn Desk>);
+
+impl Desk for OneByOne {
+    fn name(&self) -> &'static str {
+        self.0.name()
+    }
+
+    fn load(&mut self, policy: &[u8]) -> Answer {
+        self.0.load(policy)
+    }
+
+    fn request(&mut self, record: &[u8]) -> Answer {
+        self.0.request(record)
+    }
+
+    fn copy(&self) -> Box<dyn Desk> {
+        Box::new(OneByOne(self.0.copy()))
     }
 }
 
@@ -151,9 +210,21 @@ pub fn plain<L: Ledger + 'static>(name: &'static str, engine: Engine<L>) -> Box<
     Box::new(Plain(name, engine))
 }
 
-/// What each engine answered, where they did not all answer alike.
+/// What each engine answered, in words, where they did not all answer alike.
 #[derive(Clone, Debug)]
-pub struct Difference(pub Vec<(&'static str, Answer)>);
+pub struct Difference(pub Vec<(&'static str, String)>);
+
+fn shown((reply, place): &Answer) -> String {
+    let name = Reply::from_number((*reply).into()).map_or("?", Reply::name);
+    format!("{reply} {name}, place {place}")
+}
+
+/// A pile's reply, and the buffer afterwards.
+type Piled = (u8, Vec<u8>);
+
+fn shown_pile((reply, buffer): &Piled) -> String {
+    format!("{}, buffer {buffer:?}", shown(&(*reply, 0)))
+}
 
 /// Several engines, asked the same in step.
 pub struct Panel(Vec<Box<dyn Desk>>);
@@ -163,7 +234,7 @@ impl Panel {
     pub fn all() -> Panel {
         let mut desks = vec![
             plain("lists", Engine::<OrderLists>::new()),
-            plain("flat", Engine::<FlatLedger>::new()),
+            Box::new(OneByOne(plain("flat", Engine::<FlatLedger>::new()))),
         ];
         desks.extend(proved());
         desks.push(Box::new(Slow::default()));
@@ -194,23 +265,38 @@ impl Panel {
         Panel(self.0.iter().map(|desk| desk.copy()).collect())
     }
 
-    fn agreed(&self, answers: Vec<Answer>) -> Result<Answer, Difference> {
+    fn agreed<A: PartialEq + Clone>(
+        &self,
+        answers: Vec<A>,
+        shown: fn(&A) -> String,
+    ) -> Result<A, Difference> {
         if answers.iter().all(|answer| *answer == answers[0]) {
-            return Ok(answers[0]);
+            return Ok(answers[0].clone());
         }
-        Err(Difference(self.names().into_iter().zip(answers).collect()))
+        let told = self.names().into_iter().zip(answers.iter().map(shown));
+        Err(Difference(told.collect()))
     }
 
     /// Loads a policy everywhere: the one answer, or what each answered.
     pub fn load(&mut self, policy: &[u8]) -> Result<Answer, Difference> {
         let answers = self.0.iter_mut().map(|desk| desk.load(policy)).collect();
-        self.agreed(answers)
+        self.agreed(answers, shown)
     }
 
     /// Asks all engines: the one answer, or what each answered.
-    pub fn request(&mut self, record: &[u8]) -> Result<u8, Difference> {
-        let ask = |desk: &mut Box<dyn Desk>| (desk.request(record), 0);
+    pub fn request(&mut self, record: &[u8]) -> Result<Answer, Difference> {
+        let answers = self.0.iter_mut().map(|desk| desk.request(record)).collect();
+        self.agreed(answers, shown)
+    }
+
+    /// Hands all engines a pile: its reply and the buffer afterwards, or what each answered.
+    pub fn pile(&mut self, pile: &Pile) -> Result<Piled, Difference> {
+        let ask = |desk: &mut Box<dyn Desk>| {
+            let mut buffer = pile.buffer.clone();
+            let reply = desk.pile(&pile.records, &mut buffer, pile.at);
+            (reply, buffer)
+        };
         let answers = self.0.iter_mut().map(ask).collect();
-        self.agreed(answers).map(|(reply, _)| reply)
+        self.agreed(answers, shown_pile)
     }
 }

@@ -3,7 +3,7 @@
 
 use crate::cases::{Case, Step};
 use crate::compare::compare;
-use crate::desks::{Desk, Panel};
+use crate::desks::{Answer, Desk, Panel};
 use mishantral::{Engine, State};
 use plain::OrderLists;
 use random::Random;
@@ -35,16 +35,20 @@ fn spoilt(random: &mut Random, after: Engine) -> State {
 }
 
 /// Takes the step, and takes it again on a copy: both must come to the same.
-fn twice(engine: &mut Engine, step: &Step) -> u8 {
+fn twice(engine: &mut Engine, step: &Step) -> Answer {
     let mut copy = engine.clone();
     let take = |engine: &mut Engine| match step {
         Step::Load(policy) => Desk::load(engine, policy),
-        Step::Request(record) => (Desk::request(engine, record), 0),
+        Step::Request(record) => Desk::request(engine, record),
+        Step::Pile(pile) => {
+            let mut buffer = pile.buffer.clone();
+            (Desk::pile(engine, &pile.records, &mut buffer, pile.at), 0)
+        }
     };
     let answer = take(engine);
     assert_eq!(take(&mut copy), answer, "a call has two answers");
     assert_eq!(*engine, copy, "a call leaves two states");
-    answer.0
+    answer
 }
 
 /// Runs one case over garbage. A panic or a crash is the failure; a difference after a load is told.
@@ -62,7 +66,12 @@ pub fn garbage(seed: u64, number: u64) -> Result<(), String> {
             continue;
         };
         let before = engine.clone();
-        let reply = twice(&mut engine, step);
+        let (reply, place) = twice(&mut engine, step);
+        let about_a_rule = matches!(reply, 14..=16 | 18);
+        assert!(
+            about_a_rule == (place != 0) && place <= 64,
+            "{reply} with place {place}"
+        );
         let only_asks = matches!(record.first(), Some(56 | 57));
         if reply != 0 || only_asks {
             assert_eq!(engine, before, "a refusal changed the state");

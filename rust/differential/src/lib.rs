@@ -16,7 +16,7 @@ mod pools;
 mod slow;
 mod walk;
 
-pub use cases::{Case, Step};
+pub use cases::{Case, Pile, Step};
 pub use command::command;
 pub use compare::{compare, Failure};
 pub use coverage::{possible, Coverage};
@@ -27,6 +27,12 @@ pub use slow::Slow;
 
 /// Whether the proved library takes part.
 pub const PROVED: bool = cfg!(mishantral_engine);
+
+/// Whether the proved library of the lower part takes part.
+pub const PROVED_LOWER: bool = cfg!(mishantral_lower);
+
+/// Whether the proved library has a call for piles.
+pub const PILED: bool = cfg!(mishantral_pile);
 
 /// The seed and the number of cases where none are given.
 pub const SEED: u64 = 1;

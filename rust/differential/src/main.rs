@@ -1,6 +1,8 @@
 //! Compares all engines over random cases, and says which pairs of kind and reply came up.
 
-use differential::{command, compare, Case, Coverage, Failure, Panel, CASES, PROVED, SEED};
+use differential::{
+    command, compare, Case, Coverage, Failure, Panel, CASES, PROVED, PROVED_LOWER, SEED,
+};
 use std::process::ExitCode;
 
 const HELP: &str = "\
@@ -9,14 +11,15 @@ proved library where its archive was found at build time (MISHANTRAL_ARCHIVE, or
 The same cases are then put to the lower part of each alone, the proved one where its archive was found
 (MISHANTRAL_LOWER_ARCHIVE, or target/native/libmishantral_lower.a).
 
-  differential [--seed N] [--cases N] [--first N] [--coverage]
+  differential [--seed N] [--cases N] [--first N] [--coverage] [--proved]
 
   --seed N      another seed than 1
   --cases N     another number of cases than 400
   --first N     begin with this case, to see one again
-  --coverage    print how often each kind was answered with each reply
+  --proved      both proved libraries must take part: that one is not linked is a failure
+  --coverage    print how often each kind was answered with each reply, and with which places of rules
 
-Exit status: 0 all agree; 1 two engines differ, and a small case that shows it is printed; 2 wrong use.
+Exit status: 0 all agree; 1 two engines differ, and a small case that shows it is printed, or --proved finds one missing; 2 wrong use.
 ";
 
 struct Options {
@@ -24,6 +27,7 @@ struct Options {
     first: u64,
     cases: u64,
     coverage: bool,
+    proved: bool,
 }
 
 fn options(arguments: &[String]) -> Result<Options, String> {
@@ -32,6 +36,7 @@ fn options(arguments: &[String]) -> Result<Options, String> {
         first: 0,
         cases: CASES,
         coverage: false,
+        proved: false,
     };
     let mut rest = arguments.iter();
     while let Some(argument) = rest.next() {
@@ -44,6 +49,7 @@ fn options(arguments: &[String]) -> Result<Options, String> {
             "--first" => options.first = number()?,
             "--cases" => options.cases = number()?,
             "--coverage" => options.coverage = true,
+            "--proved" => options.proved = true,
             other => return Err(format!("no such option: {other:?}")),
         }
     }
@@ -79,13 +85,23 @@ fn garbage(_seed: u64, _number: u64) -> Result<(), String> {
 fn tell(options: &Options) -> Result<(), String> {
     println!("engines: {}", Panel::all().names().join(", "));
     println!("lower part alone: {}", Panel::lower().names().join(", "));
-    if !PROVED {
-        println!("the proved library is not linked: its archive was not found at build time");
+    for (linked, what) in [(PROVED, "library"), (PROVED_LOWER, "lower part")] {
+        if linked {
+            continue;
+        }
+        let missing =
+            format!("the proved {what} is not linked: its archive was not found at build time");
+        if options.proved {
+            return Err(missing);
+        }
+        println!("{missing}");
     }
     let coverage = run(options)?;
     if options.coverage {
         print!("{}", coverage.table());
         println!("not seen: {:?}", coverage.missing());
+        println!("places not seen: {:?}", coverage.missing_places());
+        println!("piles not seen: {:?}", coverage.missing_piles());
     }
     println!("{} cases of seed {} agree", options.cases, options.seed);
     Ok(())

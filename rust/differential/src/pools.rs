@@ -87,6 +87,18 @@ impl Pools {
         }
     }
 
+    /// One template, one role and a dozen tasks, for claims that nothing but a rule refuses.
+    pub fn for_claims(random: &mut Random) -> Pools {
+        Pools {
+            roles: some(random, 1, 63),
+            tasks: some(random, 12, 63),
+            templates: some(random, 1, 15),
+            partitionings: some(random, 4, 15),
+            subjects: some(random, 8, 127),
+            ..Pools::few(random)
+        }
+    }
+
     /// As many of each as there are.
     pub fn crowd(random: &mut Random) -> Pools {
         Pools {

@@ -61,6 +61,22 @@ fn first(checks: &[(Reply, bool)]) -> Reply {
     applies.map_or(Granted, |(reply, _)| *reply)
 }
 
+/// The places, from 1, of all rules of a kind that are broken.
+fn places<T>(rules: &[T], broken: impl Fn(&T) -> bool) -> Vec<usize> {
+    let numbered = rules.iter().enumerate();
+    let of_broken = |(before, rule)| broken(rule).then_some(before + 1);
+    numbered.filter_map(of_broken).collect()
+}
+
+/// The same for a check that has no place.
+fn unplaced(applies: bool) -> Vec<usize> {
+    if applies {
+        vec![0]
+    } else {
+        Vec::new()
+    }
+}
+
 /// The largest a, b and c of a kind, where it uses them, and whether it uses n and m.
 type Form = ([Option<u16>; 3], bool, bool);
 
@@ -126,12 +142,31 @@ impl Slow {
         (Granted, 0)
     }
 
-    /// Answers one request.
-    pub fn request(&mut self, bytes: &[u8]) -> Reply {
+    /// Answers one request: the reply, and the place of the rule that it is about, from 1, or 0.
+    pub fn request(&mut self, bytes: &[u8]) -> (Reply, usize) {
         match well_formed(bytes, false) {
             Ok(record) => self.serve(record),
-            Err(reply) => reply,
+            Err(reply) => (reply, 0),
         }
+    }
+
+    /// Answers a pile: its reply, and the answer buffer afterwards.
+    pub fn pile(&mut self, records: &[u8], answers: &[u8], at: usize) -> (Reply, Vec<u8>) {
+        let whole = records.len() / 16;
+        let past_the_end = at > answers.len();
+        let reply = first(&[
+            (Room, past_the_end),
+            (Room, at.saturating_add(whole) > answers.len()),
+            (Room, whole > 4096),
+            (Shape, records.len() != 16 * whole),
+        ]);
+        if reply != Granted {
+            return (reply, answers.to_vec());
+        }
+        let (before, behind) = (&answers[..at], &answers[at + whole..]);
+        let replies = records.chunks(16).map(|r| self.request(r).0.number());
+        let replies: Vec<u8> = replies.collect();
+        (Granted, [before, &replies, behind].concat())
     }
 
     fn roles_of(&self, user: u16) -> Numbers {
@@ -330,18 +365,18 @@ impl Slow {
         }
     }
 
-    fn serve(&mut self, r: Record) -> Reply {
-        let reply = match r.kind() {
-            32..=37 => self.judge_roles(r),
-            40..=43 | 56 => self.judge_sessions(r),
-            48 | 49 => self.judge_orders(r),
+    fn serve(&mut self, r: Record) -> (Reply, usize) {
+        let (reply, place) = match r.kind() {
+            32..=37 => (self.judge_roles(r), 0),
+            40..=43 | 56 => (self.judge_sessions(r), 0),
+            48 | 49 => (self.judge_orders(r), 0),
             50 => self.judge_claim(r),
-            _ => self.judge_holder(r),
+            _ => (self.judge_holder(r), 0),
         };
         if reply == Granted {
             self.act(r);
         }
-        reply
+        (reply, place)
     }
 
     fn judge_roles(&self, r: Record) -> Reply {
@@ -455,10 +490,10 @@ impl Slow {
         first(&[(NotYours, !yours), (Denied, r.kind() == 57 && !carried)])
     }
 
-    fn judge_claim(&self, r: Record) -> Reply {
+    fn judge_claim(&self, r: Record) -> (Reply, usize) {
         let (subject, task) = (r.a(), r.c());
         let Some(user) = self.named(r) else {
-            return Unknown;
+            return (Unknown, 0);
         };
         let order: Vec<&Entry> = self
             .entries
@@ -470,13 +505,18 @@ impl Slow {
         let opened = active
             .iter()
             .any(|role| self.open_to.contains(&(task, *role)));
-        let mut checks = vec![(Taken, held), (NoRole, !opened)];
+        let mut checks = vec![(Taken, unplaced(held)), (NoRole, unplaced(!opened))];
         checks.extend(self.claim_rules(&order, user, task));
-        checks.push((Full, self.entries.len() == 2048));
-        first(&checks)
+        checks.push((Full, unplaced(self.entries.len() == 2048)));
+        let answers = checks.iter().filter_map(|(reply, broken)| {
+            let place = broken.first()?;
+            Some((*reply, *place))
+        });
+        answers.into_iter().next().unwrap_or((Granted, 0))
     }
 
-    fn claim_rules(&self, order: &[&Entry], user: u16, task: u16) -> [(Reply, bool); 6] {
+    /// Each claim rule with the places of all that are broken, in the order in which they are sought.
+    fn claim_rules(&self, order: &[&Entry], user: u16, task: u16) -> [(Reply, Vec<usize>); 6] {
         let of_user = |e: &&&Entry| e.user == user;
         let d: Numbers = order.iter().filter(of_user).map(|e| e.task).collect();
         let done: Numbers = order
@@ -499,26 +539,28 @@ impl Slow {
         let apart =
             |(x, y): &(u16, u16)| (*x == task && of_another(*y)) || (*y == task && of_another(*x));
         let early = |(x, y): &(u16, u16)| *y == task && !done.contains(x);
+        let limited = self.limits.get(&task).is_some_and(too_often);
         [
-            (Before, self.prerequisites.iter().any(early)),
-            (Separation, self.task_sets.iter().any(separated)),
-            (
-                Block,
-                self.blocks
-                    .iter()
-                    .any(|own| self.leaves_block(own, task, &d)),
-            ),
-            (Alone, governed && rest.is_subset(&d)),
-            (Bound, self.bindings.iter().any(apart)),
-            (Count, self.limits.get(&task).is_some_and(too_often)),
+            (Before, places(&self.prerequisites, early)),
+            (Separation, places(&self.task_sets, separated)),
+            (Block, self.other_blocks(task, &d)),
+            (Alone, unplaced(governed && rest.is_subset(&d))),
+            (Bound, places(&self.bindings, apart)),
+            (Count, unplaced(limited)),
         ]
     }
 
-    /// Whether the task is in this block and D meets another one of its partitioning.
-    fn leaves_block(&self, own: &(u16, Numbers), task: u16, d: &Numbers) -> bool {
-        let of_same = self.blocks.iter().filter(|other| other.0 == own.0);
-        let mut another = of_same.filter(|other| !other.1.contains(&task));
-        own.1.contains(&task) && another.any(|other| overlap(&other.1, d) > 0)
+    /// The blocks that D meets, without the task, of partitionings that have the task in a block: by partitioning, then in policy order.
+    fn other_blocks(&self, task: u16, d: &Numbers) -> Vec<usize> {
+        let has_task = |p: u16| {
+            self.blocks
+                .iter()
+                .any(|(of, m)| *of == p && m.contains(&task))
+        };
+        let met = |(p, m): &(u16, Numbers)| has_task(*p) && !m.contains(&task) && overlap(m, d) > 0;
+        let mut found = places(&self.blocks, met);
+        found.sort_by_key(|place| (self.blocks[place - 1].0, *place));
+        found
     }
 
     /// What a granted request changes.

@@ -120,7 +120,7 @@ pub fn count_free(panel: &Panel, pools: &Pools) -> Walked {
             let claim = Record::claim(subject, order, task);
             let done = Record::done(subject, order, task);
             let mut copy = panel.copy();
-            let granted = |r: Result<u8, _>| matches!(r, Ok(0));
+            let granted = |answer| matches!(answer, Ok((0, _)));
             let repeats =
                 (0..3).all(|_| granted(copy.request(&claim.0)) && granted(copy.request(&done.0)));
             if repeats {

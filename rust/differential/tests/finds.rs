@@ -2,6 +2,7 @@
 
 use differential::{compare, plain, Answer, Case, Desk, Panel};
 use plain::{Engine, OrderLists};
+use records::Reply;
 
 /// What a record is taken for.
 type Bend = fn(&[u8]) -> Vec<u8>;
@@ -16,7 +17,18 @@ struct Faulty {
     idle: fn(u8) -> bool,
     /// What is answered in the place of a reply.
     told: fn(u8) -> u8,
+    /// The policy that was loaded, and the place that is answered with a reply in the place of another.
+    policy: Vec<u8>,
+    placed: Placed,
+    /// What is done with a pile.
+    piled: Piled,
 }
+
+/// A pile's reply by an engine, the records, the buffer and the place.
+type Piled = fn(&mut Faulty, &[u8], &mut [u8], usize) -> u8;
+
+/// A place by the loaded policy, the request, and what it should be answered.
+type Placed = fn(&[u8], &[u8], Answer) -> usize;
 
 impl Desk for Faulty {
     fn name(&self) -> &'static str {
@@ -26,21 +38,42 @@ impl Desk for Faulty {
     fn load(&mut self, policy: &[u8]) -> Answer {
         let bent: Vec<u8> = policy.chunks(16).flat_map(self.bent).collect();
         let (reply, place) = self.engine.load(&bent);
+        self.policy = policy.to_vec();
         ((self.told)(reply.number()), place)
     }
 
-    fn request(&mut self, record: &[u8]) -> u8 {
+    fn request(&mut self, record: &[u8]) -> Answer {
         let before = self.engine.clone();
-        let reply = self.engine.request(&(self.bent)(record)).number();
+        let (reply, place) = self.engine.request(&(self.bent)(record));
         if record.first().is_some_and(|kind| (self.idle)(*kind)) {
             self.engine = before;
         }
-        (self.told)(reply)
+        let place = (self.placed)(&self.policy, record, (reply.number(), place));
+        ((self.told)(reply.number()), place)
     }
 
     fn copy(&self) -> Box<dyn Desk> {
         Box::new(self.clone())
     }
+
+    fn pile(&mut self, records: &[u8], answers: &mut [u8], at: usize) -> u8 {
+        (self.piled)(self, records, answers, at)
+    }
+}
+
+/// The requests one after the other, where the pile has room and shape.
+fn rightly(desk: &mut Faulty, records: &[u8], answers: &mut [u8], at: usize) -> u8 {
+    let whole = records.len() / 16;
+    if at > answers.len() || whole > answers.len() - at {
+        return 1;
+    }
+    if 16 * whole != records.len() {
+        return 2;
+    }
+    for (record, answer) in records.chunks(16).zip(&mut answers[at..]) {
+        *answer = desk.request(record).0;
+    }
+    0
 }
 
 fn sound() -> Faulty {
@@ -49,6 +82,9 @@ fn sound() -> Faulty {
         bent: <[u8]>::to_vec,
         idle: |_| false,
         told: |reply| reply,
+        policy: Vec::new(),
+        placed: |_, _, (_, place)| place,
+        piled: rightly,
     }
 }
 
@@ -159,5 +195,109 @@ fn a_reply_told_as_another_is_found() {
     ];
     for told in tells {
         finds(Faulty { told, ..sound() }, 120);
+    }
+}
+
+/// The records of the kind that a reply's place counts.
+fn rules(policy: &[u8], reply: u8) -> impl Iterator<Item = &[u8]> {
+    let kind = Reply::from_number(reply.into()).and_then(Reply::rule_kind);
+    policy.chunks(16).filter(move |rule| Some(rule[0]) == kind)
+}
+
+/// Whether a rule names the claimed task.
+fn about(rule: &[u8], claim: &[u8]) -> bool {
+    let task = claim[6];
+    match rule[0] {
+        11 | 12 => rule[8 + usize::from(task / 8)] & 1 << (task % 8) != 0,
+        _ => rule[2] == task || rule[4] == task,
+    }
+}
+
+#[test]
+fn a_place_that_is_another_rule_s_is_found() {
+    let wrong: [Placed; 6] = [
+        // Counted from 0.
+        |_, _, (_, place)| place.saturating_sub(1),
+        // Counted among the rules about the claimed task.
+        |policy, claim, (reply, place)| match reply {
+            14 | 15 | 18 => {
+                let rules = rules(policy, reply).take(place);
+                rules.filter(|rule| about(rule, claim)).count()
+            }
+            _ => place,
+        },
+        // Of a block, counted within its partitioning.
+        |policy, _, (reply, place)| match (reply, rules(policy, reply).nth(place.max(1) - 1)) {
+            (16, Some(met)) => {
+                let rules = rules(policy, reply).take(place);
+                rules.filter(|rule| rule[2] == met[2]).count()
+            }
+            _ => place,
+        },
+        // Of the last rule of its kind.
+        |policy, _, (reply, place)| match place {
+            0 => 0,
+            _ => rules(policy, reply).count(),
+        },
+        // Carried by COUNT too.
+        |_, _, (reply, place)| place + usize::from(reply == 19),
+        // Told for one kind of rule only.
+        |_, _, (reply, place)| if reply == 15 { place } else { 0 },
+    ];
+    for placed in wrong {
+        finds(Faulty { placed, ..sound() }, 60);
+    }
+}
+
+#[test]
+fn a_pile_that_is_answered_wrongly_is_found() {
+    let wrong: [Piled; 6] = [
+        // The replies from place 0 on.
+        |desk, records, answers, at| match rightly(desk, records, answers, at) {
+            0 => {
+                answers.rotate_left(at);
+                0
+            }
+            refused => refused,
+        },
+        // An end at the first refusal.
+        |desk, records, answers, at| {
+            let before = desk.engine.clone();
+            let reply = rightly(desk, records, answers, at);
+            let granted = answers.iter().skip(at).take_while(|reply| **reply == 0);
+            let done = 16 * (granted.count() + 1).min(records.len() / 16);
+            if reply == 0 {
+                desk.engine = before;
+                let _ = rightly(desk, &records[..done], answers, at);
+            }
+            reply
+        },
+        // SHAPE before ROOM.
+        |desk, records, answers, at| match records.len() % 16 {
+            0 => rightly(desk, records, answers, at),
+            _ => 2,
+        },
+        // A byte written behind the last reply.
+        |desk, records, answers, at| {
+            let reply = rightly(desk, records, answers, at);
+            if let Some(byte) = answers.get_mut(at + records.len() / 16) {
+                *byte = if reply == 0 { 0 } else { *byte };
+            }
+            reply
+        },
+        // The whole records of a pile with a cut one done.
+        |desk, records, answers, at| {
+            let whole = &records[..records.len() / 16 * 16];
+            let reply = rightly(desk, whole, answers, at);
+            reply.max(2 * u8::from(whole.len() < records.len() && reply == 0))
+        },
+        // An empty pile refused.
+        |desk, records, answers, at| match records.len() {
+            0 => 2,
+            _ => rightly(desk, records, answers, at),
+        },
+    ];
+    for piled in wrong {
+        finds(Faulty { piled, ..sound() }, 40);
     }
 }

@@ -48,7 +48,8 @@ mod desk {
             if record.is_empty() {
                 break;
             }
-            writeln!(out, "{place} {}", engine.request(&record).number())?;
+            let answer = engine.request(&record);
+            writeln!(out, "{place} {} {}", answer.reply.number(), answer.place)?;
         }
         out.flush().map(|()| true)
     }

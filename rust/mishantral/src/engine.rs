@@ -1,9 +1,15 @@
 //! The engine over the linked library: three lent buffers, two calls.
 //! The declarations are those of include/mishantral.h; nothing else here is unsafe.
 
-use crate::answer::{bytes, loaded, reply_and_place, shown, zeroed};
-use crate::{Record, Refused, Reply};
+use crate::lent::{answered, bytes, loaded, shown, zeroed};
+#[cfg(mishantral_pile)]
+use crate::lent::{flat, reply_of};
+#[cfg(mishantral_pile)]
+use crate::Reply;
+use crate::{Answer, Record, Refused};
 use alloc::boxed::Box;
+#[cfg(mishantral_pile)]
+use alloc::{vec, vec::Vec};
 use core::fmt;
 
 type Call = unsafe extern "C" fn(
@@ -39,7 +45,25 @@ extern "C" {
         orders: *mut u64,
         orders_words: usize,
     ) -> u64;
+    #[cfg(mishantral_pile)]
+    fn mishantral_pile(
+        records: *const u8,
+        length: usize,
+        answers: *mut u8,
+        answers_length: usize,
+        at: u64,
+        policy: *mut u64,
+        policy_words: usize,
+        sessions: *mut u64,
+        sessions_words: usize,
+        orders: *mut u64,
+        orders_words: usize,
+    ) -> u64;
 }
+
+/// How many records a pile has at most.
+#[cfg(mishantral_pile)]
+pub const PILE: usize = 4096;
 
 /// The three buffers that the library works on. Every content is a state: what is written in docs/STATE.md
 /// says how it reads. Buffers of other lengths are answered with ROOM, and are not written to.
@@ -158,8 +182,102 @@ impl Engine {
         self.load(&bytes(policy))
     }
 
-    /// Answers one request: a [`Record`], or bytes of any length. A refused one changes nothing.
-    pub fn request<R: AsRef<[u8]> + ?Sized>(&mut self, record: &R) -> Reply {
-        reply_and_place(self.state.call(mishantral_request, record.as_ref())).0
+    /// Answers one request: a [`Record`], or bytes of any length. A refused one changes nothing. A claim that a rule refuses is
+    /// told the rule's place:
+    ///
+    /// ```
+    /// use mishantral::{Engine, Record, Reply, Set};
+    ///
+    /// let policy = [
+    ///     Record::user(300),
+    ///     Record::role(0),
+    ///     Record::user_has_role(300, 0),
+    ///     Record::task(0, 0),
+    ///     Record::task(1, 0),
+    ///     Record::task_open_to(0, 0),
+    ///     Record::task_open_to(1, 0),
+    ///     Record::task_set(1, Set::of(&[0, 1])),
+    /// ];
+    /// let mut engine = Engine::new();
+    /// engine.load_records(&policy)?;
+    /// assert!(engine.request(&Record::create_subject(5, 300, Set::of(&[0]))).is_granted());
+    /// assert!(engine.request(&Record::open_order(0, 0)).is_granted());
+    /// assert!(engine.request(&Record::claim(5, 0, 0)).is_granted());
+    ///
+    /// let answer = engine.request(&Record::claim(5, 0, 1));
+    /// assert_eq!(answer, Reply::Separation);
+    /// let rule = answer.rule().unwrap();
+    /// assert_eq!(rule.record(&policy), Some(&policy[7]));
+    /// # Ok::<(), mishantral::Refused>(())
+    /// ```
+    pub fn request<R: AsRef<[u8]> + ?Sized>(&mut self, record: &R) -> Answer {
+        answered(self.state.call(mishantral_request, record.as_ref()))
+    }
+
+    /// Answers up to 4,096 requests in one call, one after the other, refused ones among them: the number of each reply is written to
+    /// `answers` from the place `at` on, and the other bytes stay. Replies and state are those of the requests made one by one.
+    ///
+    /// It is ROOM, before any request is done, where `at` lies past the end of `answers`, where there is not a byte for each record from
+    /// there on, or where there are more than 4,096 records. Then nothing is written.
+    ///
+    /// ```
+    /// use mishantral::{Engine, Record, Reply};
+    ///
+    /// let mut engine = Engine::new();
+    /// let mut answers = [99; 4];
+    /// let pile = [Record::add_user(300), Record::add_user(300)];
+    /// assert_eq!(engine.pile(&pile, &mut answers, 1), Reply::Granted);
+    /// assert_eq!(answers, [99, Reply::Granted.number(), Reply::Taken.number(), 99]);
+    /// assert_eq!(engine.pile(&pile, &mut answers, 3), Reply::Room);
+    /// ```
+    #[cfg(mishantral_pile)]
+    pub fn pile(&mut self, records: &[Record], answers: &mut [u8], at: usize) -> Reply {
+        self.pile_bytes(flat(records), answers, at)
+    }
+
+    /// As `pile`, of bytes: after ROOM it is SHAPE where their length is no multiple of 16.
+    #[cfg(mishantral_pile)]
+    pub fn pile_bytes(&mut self, records: &[u8], answers: &mut [u8], at: usize) -> Reply {
+        let State {
+            policy,
+            sessions,
+            orders,
+        } = &mut self.state;
+        // SAFETY: each pointer is a slice's own, with its length in elements behind it; the five slices are
+        // apart, and the library keeps none of them.
+        let number = unsafe {
+            mishantral_pile(
+                records.as_ptr(),
+                records.len(),
+                answers.as_mut_ptr(),
+                answers.len(),
+                at as u64,
+                policy.as_mut_ptr(),
+                policy.len(),
+                sessions.as_mut_ptr(),
+                sessions.len(),
+                orders.as_mut_ptr(),
+                orders.len(),
+            )
+        };
+        reply_of(number)
+    }
+
+    /// The replies to any number of requests, made one after the other in piles.
+    ///
+    /// ```
+    /// use mishantral::{Engine, Record, Reply};
+    ///
+    /// let twice = [Record::add_user(300), Record::add_user(300)];
+    /// assert_eq!(Engine::new().requests(&twice), [Reply::Granted, Reply::Taken]);
+    /// ```
+    #[cfg(mishantral_pile)]
+    pub fn requests(&mut self, records: &[Record]) -> Vec<Reply> {
+        // Where the state has not its lengths, a pile is ROOM and writes nothing; so is each of its requests.
+        let mut replies = vec![Reply::Room.number(); records.len()];
+        for (pile, answers) in records.chunks(PILE).zip(replies.chunks_mut(PILE)) {
+            let _ = self.pile(pile, answers, 0);
+        }
+        replies.into_iter().map(|n| reply_of(n.into())).collect()
     }
 }

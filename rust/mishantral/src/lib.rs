@@ -1,8 +1,9 @@
 //! The proved policy engine from Rust, without a dependency and without std: an allocator is enough.
 //!
 //! [`Record`] has a constructor for each kind (docs/RULES.md), and [`Reply`] each reply's number and name.
-//! `Engine` owns the state that the library works on: it loads a policy and answers requests. `lower::Engine` is the
-//! lower part alone, without orders.
+//! `Engine` owns the state that the library works on: it loads a policy and answers requests with an [`Answer`], the reply and, for a
+//! claim that a rule refuses, which rule it is. `lower::Engine` is the lower part alone, without orders. `Policy` is a dealer's OPL/XML as
+//! records, with the dealer's names by number.
 //!
 //! `Engine` is there where the proved library's archive was found when this crate was built: by the
 //! environment variable `MISHANTRAL_ARCHIVE`, or as `target/native/libmishantral.a` of the repository, where `tools/archive`
@@ -15,16 +16,28 @@ extern crate std;
 
 pub use records::{Record, Reply, Set, LENGTH};
 
+mod answer;
+pub use answer::{Answer, Rule};
+
 mod refused;
 pub use refused::Refused;
 
 #[cfg(any(mishantral_engine, mishantral_lower))]
-mod answer;
+mod lent;
 
 #[cfg(mishantral_engine)]
 mod engine;
+#[cfg(mishantral_pile)]
+pub use engine::PILE;
 #[cfg(mishantral_engine)]
 pub use engine::{Engine, State};
 
 #[cfg(mishantral_lower)]
 pub mod lower;
+
+#[cfg(any(mishantral_opl, test))]
+mod names;
+#[cfg(mishantral_opl)]
+pub mod opl;
+#[cfg(mishantral_opl)]
+pub use {names::Space, opl::Policy};

@@ -5,7 +5,7 @@
 //! or as `target/native/libmishantral_lower.a` of the repository.
 //! The declarations are those of include/mishantral.h; nothing else here is unsafe.
 
-use crate::answer::{bytes, loaded, reply_and_place, shown, zeroed};
+use crate::lent::{answered, bytes, loaded, shown, zeroed};
 use crate::{Record, Refused, Reply};
 use alloc::boxed::Box;
 use core::fmt;
@@ -147,8 +147,9 @@ impl Engine {
         self.load(&bytes(policy))
     }
 
-    /// Answers one request: a [`Record`], or bytes of any length. A refused one changes nothing.
+    /// Answers one request: a [`Record`], or bytes of any length. A refused one changes nothing. There are no claims here, so no
+    /// answer is about a rule's place.
     pub fn request<R: AsRef<[u8]> + ?Sized>(&mut self, record: &R) -> Reply {
-        reply_and_place(self.state.call(mishantral_lower_request, record.as_ref())).0
+        answered(self.state.call(mishantral_lower_request, record.as_ref())).reply
     }
 }

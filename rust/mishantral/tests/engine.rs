@@ -24,27 +24,24 @@ fn the_listing() {
     let mut engine = Engine::new();
     engine.load_records(&listing_policy()).unwrap();
     let asked = [
-        (Record::create_subject(5, 300, Set::of(&[0])), 0),
-        (Record::create_subject(6, 301, Set::of(&[0])), 0),
-        (Record::open_order(0, 0), 0),
-        (Record::claim(5, 0, 1), 14),
-        (Record::claim(5, 0, 0), 0),
-        (Record::claim(6, 0, 1), 14),
-        (Record::done(5, 0, 0), 0),
-        (Record::claim(5, 0, 1), 15),
-        (Record::claim(6, 0, 1), 0),
-        (Record::end_order(0), 6),
-        (Record::done(6, 0, 1), 0),
-        (Record::end_order(0), 0),
-        (Record::end_order(0), 4),
+        (Record::create_subject(5, 300, Set::of(&[0])), (0, 0)),
+        (Record::create_subject(6, 301, Set::of(&[0])), (0, 0)),
+        (Record::open_order(0, 0), (0, 0)),
+        (Record::claim(5, 0, 1), (14, 1)),
+        (Record::claim(5, 0, 0), (0, 0)),
+        (Record::claim(6, 0, 1), (14, 1)),
+        (Record::done(5, 0, 0), (0, 0)),
+        (Record::claim(5, 0, 1), (15, 1)),
+        (Record::claim(6, 0, 1), (0, 0)),
+        (Record::end_order(0), (6, 0)),
+        (Record::done(6, 0, 1), (0, 0)),
+        (Record::end_order(0), (0, 0)),
+        (Record::end_order(0), (4, 0)),
     ];
-    for (at, (record, number)) in asked.into_iter().enumerate() {
-        assert_eq!(
-            engine.request(&record).number(),
-            number,
-            "request {}",
-            at + 1
-        );
+    for (at, (record, told)) in asked.into_iter().enumerate() {
+        let answer = engine.request(&record);
+        let numbers = (answer.reply.number(), answer.place);
+        assert_eq!(numbers, told, "request {}", at + 1);
     }
 }
 
@@ -106,4 +103,37 @@ fn a_state_goes_on_where_it_was_kept() {
     engine.load_records(&listing_policy()).unwrap();
     let mut again = Engine::from_state(engine.state().clone());
     assert_eq!(again.request(&Record::add_user(301)), Reply::Taken);
+}
+
+#[cfg(mishantral_pile)]
+#[test]
+fn a_pile_with_a_buffer_of_another_length_is_room_and_nothing_is_written() {
+    let right = State::zeroed();
+    for group in 0..3 {
+        let mut state = right.clone();
+        let buffers = [&mut state.policy, &mut state.sessions, &mut state.orders];
+        let buffer = buffers.into_iter().nth(group).unwrap();
+        *buffer = vec![7; buffer.len() + 1].into();
+        let mut engine = Engine::from_state(state.clone());
+        let mut answers = [9; 2];
+        let pile = [Record::add_user(300); 2];
+        assert_eq!(engine.pile(&pile, &mut answers, 0), Reply::Room);
+        assert_eq!(engine.pile_bytes(&[0; 3], &mut answers, 0), Reply::Room);
+        assert_eq!(answers, [9; 2]);
+        assert_eq!(engine.requests(&pile), [Reply::Room; 2]);
+        assert_eq!(engine.into_state(), state);
+    }
+}
+
+#[cfg(mishantral_pile)]
+#[test]
+fn more_records_than_a_pile_takes_are_made_in_piles() {
+    let records: Vec<Record> = (0..9000).map(|k| Record::add_user(k % 1024)).collect();
+    let mut engine = Engine::new();
+    let replies = engine.requests(&records);
+    let mut one_by_one = Engine::new();
+    for (record, reply) in records.iter().zip(replies) {
+        assert_eq!(one_by_one.request(record), reply);
+    }
+    assert_eq!(engine, one_by_one);
 }

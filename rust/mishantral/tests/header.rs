@@ -95,8 +95,25 @@ fn replies_have_one_name() {
         let case = format!("    case MISHANTRAL_{constant}: return \"{name}\";");
         assert!(HEADER.lines().any(|line| line == case), "{case}");
     }
-    let cases = HEADER.lines().filter(|l| l.contains("case MISHANTRAL_"));
-    assert_eq!(cases.count(), Reply::ALL.len());
+    let cases = HEADER.lines().filter(|l| l.contains(": return \""));
+    assert_eq!(cases.count(), Reply::ALL.len() + 1);
+}
+
+#[test]
+fn a_reply_that_says_a_place_has_the_kind_of_its_rules() {
+    let constants = constants();
+    let is_case = |l: &&str| l.contains("case MISHANTRAL_") && l.contains(": return MISHANTRAL_");
+    let mut cases = 0;
+    for line in HEADER.lines().filter(is_case) {
+        let line = line.trim().trim_end_matches(';').replace("MISHANTRAL_", "");
+        let (reply, kind) = line.split_once(": return ").unwrap();
+        let name = reply.strip_prefix("case ").unwrap();
+        let reply = Reply::from_number(constants[name].into()).unwrap();
+        assert_eq!(reply.rule_kind(), Some(constants[kind]), "{line}");
+        cases += 1;
+    }
+    let placed = Reply::ALL.iter().filter(|r| r.rule_kind().is_some());
+    assert_eq!(cases, placed.count());
 }
 
 #[test]
@@ -141,11 +158,13 @@ fn limits_are_those_of_the_library() {
         ("LAST_ORDER", Record::end_order),
     ];
     assert_eq!(number("RECORD_BYTES"), Record::block(0, none).0.len());
+    #[cfg(mishantral_pile)]
+    assert_eq!(number("MOST_PILED"), mishantral::PILE);
     for (name, record) in with {
         let mut engine = mishantral::Engine::new();
         let mut reply = |record: Record| match record.kind() {
             12 => engine.load_records(&[record]).unwrap_err().reply,
-            _ => engine.request(&record),
+            _ => engine.request(&record).reply,
         };
         let last = number(name) as u16;
         assert_ne!(reply(record(last)), Reply::Range, "{name}");

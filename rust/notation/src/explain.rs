@@ -1,9 +1,9 @@
-//! A desk program's bare listing, with each request in words and each reply by its name.
+//! A desk program's bare listing, with each request in words, each reply by its name, and the rule that a refused claim is about.
 
 use crate::is_text;
 use crate::names::Names;
 use crate::read::{read_lines, tokens, Error, Token, END};
-use crate::write::{line, line_named};
+use crate::write::line_named;
 use records::{Reply, LENGTH};
 
 /// A line of the listing, of which each word is asked for in turn.
@@ -44,6 +44,11 @@ impl<'a> Listed<'a> {
         self.next(&expected, |t| Reply::from_number(t.number()?))
     }
 
+    fn place(&mut self, expected: &str, fits: impl Fn(usize) -> bool) -> Result<usize, Error> {
+        let read = |t: Token| usize::try_from(t.number()?).ok().filter(|n| fits(*n));
+        self.next(expected, read)
+    }
+
     fn end(self) -> Result<(), Error> {
         self.tokens.get(self.at).map_or(Ok(()), |token| {
             Err(Error {
@@ -63,9 +68,7 @@ fn load_line(
 ) -> Result<(Reply, String), Error> {
     listed.word("load")?;
     let reply = listed.reply()?;
-    let place = listed.next("the place of a record", |t| {
-        t.number().and_then(|n| usize::try_from(n).ok())
-    })?;
+    let place = listed.place("the place of a record", |_| true)?;
     listed.end()?;
     let at = match place {
         0 => String::new(),
@@ -80,22 +83,51 @@ fn load_line(
     Ok((reply, format!("load {reply}{at}{refused}\n")))
 }
 
+/// The rule that a refused claim is about, in words, where the reply says its place: `task set 1 of 0 1 (rule 1 of its kind)`.
+fn rule_words(
+    listed: &mut Listed,
+    reply: Reply,
+    policy: Option<&[u8]>,
+    names: &Names,
+) -> Result<Option<String>, Error> {
+    let Some(kind) = reply.rule_kind() else {
+        listed.place("place 0", |place| place == 0)?;
+        return Ok(None);
+    };
+    let Some(policy) = policy else {
+        let place = listed.place("the place of a rule, from 1", |place| place > 0)?;
+        return Ok(Some(format!("(rule {place} of its kind)")));
+    };
+    let records = policy.chunks(LENGTH);
+    let rules: Vec<&[u8]> = records.filter(|record| record[0] == kind).collect();
+    let expected = format!("the place of a rule of kind {kind}, 1 to {}", rules.len());
+    let place = listed.place(&expected, |place| (1..=rules.len()).contains(&place))?;
+    let words = line_named(rules[place - 1], names);
+    Ok(Some(format!("{words} (rule {place} of its kind)")))
+}
+
+/// The request's line, and a line below it for the rule.
 fn request_line(
     mut listed: Listed,
     place: usize,
     record: &[u8],
+    policy: Option<&[u8]>,
     names: &Names,
 ) -> Result<String, Error> {
     listed.word(&place.to_string())?;
     let reply = listed.reply()?;
+    let rule = rule_words(&mut listed, reply, policy, names)?;
     listed.end()?;
     let (number, name) = (reply.number(), reply.name());
     let words = line_named(record, names);
-    Ok(format!("{place:>5}  {number:>2} {name:<12}  {words}\n"))
+    let rule = rule.map_or(String::new(), |rule| format!("{:7}{reply}  {rule}\n", ""));
+    Ok(format!(
+        "{place:>5}  {number:>2} {name:<12}  {words}\n{rule}"
+    ))
 }
 
-/// Joins request records and the listing that a desk program wrote for them. With the policy's
-/// records, a refused one is shown in words too.
+/// Joins request records and the listing that a desk program wrote for them. With the policy's records, one that was refused and
+/// the rules that refused claims are about are shown in words too.
 pub fn explain(policy: Option<&[u8]>, requests: &[u8], listing: &str) -> Result<String, Error> {
     explain_named(policy, requests, listing, &Names::default())
 }
@@ -113,7 +145,8 @@ pub fn explain_named(
     let judged = if reply.is_granted() { requests } else { &[] };
     for (before, record) in judged.chunks(LENGTH).enumerate() {
         let (at, listed) = lines.next().unwrap_or((before + 1, ""));
-        text += &request_line(Listed::new(at, listed), before + 1, record, names)?;
+        let listed = Listed::new(at, listed);
+        text += &request_line(listed, before + 1, record, policy, names)?;
     }
     match lines.next() {
         None => Ok(text),
@@ -129,6 +162,11 @@ pub fn explain_named(
 /// Where a refused load's record is in a policy, text or records, with the reply and the record in words:
 /// `line 7: 5 TAKEN: user 3`, or `record 2: 5 TAKEN: user 3`.
 pub fn refused(policy: &[u8], reply: Reply, place: usize) -> String {
+    refused_named(policy, reply, place, &Names::default())
+}
+
+/// The same with the names of numbers that have one.
+pub fn refused_named(policy: &[u8], reply: Reply, place: usize, names: &Names) -> String {
     let Some(before) = place.checked_sub(1) else {
         return reply.to_string();
     };
@@ -138,9 +176,11 @@ pub fn refused(policy: &[u8], reply: Reply, place: usize) -> String {
         Vec::new()
     };
     match (text.get(before), policy.chunks(LENGTH).nth(before)) {
-        (Some((number, record)), _) => format!("line {number}: {reply}: {}", line(record)),
+        (Some((number, record)), _) => {
+            format!("line {number}: {reply}: {}", line_named(record, names))
+        }
         (None, Some(record)) if text.is_empty() => {
-            format!("record {place}: {reply}: {}", line(record))
+            format!("record {place}: {reply}: {}", line_named(record, names))
         }
         _ => format!("record {place}: {reply}"),
     }

@@ -26,7 +26,7 @@ mod names;
 mod read;
 mod write;
 
-pub use explain::{explain, explain_named, refused};
+pub use explain::{explain, explain_named, refused, refused_named};
 pub use names::{quoted, Names};
 pub use read::{read, read_lines, read_named, Error};
 use records::forms::{parts, FORMS};

@@ -10,7 +10,7 @@ use std::process::ExitCode;
 const HELP: &str = "\
 Records as lines of words (docs/RULES.md), and back.
 
-  mishantral-notation records [--either] [--dealer POLICY TASKS] [--name NAME] [FILE]
+  mishantral-notation records [--dealer POLICY TASKS] [--either] [--name NAME] [FILE]
                                                   text to records; --either: records pass as they are;
                                                   --name: what an error calls the file
   mishantral-notation words [--dealer POLICY TASKS] [FILE]
@@ -18,12 +18,15 @@ Records as lines of words (docs/RULES.md), and back.
   mishantral-notation opl [--words | --names] POLICY [TASKS]
                                                   a dealer's OPL/XML and its task lines to records;
                                                   --words: to text; --names: its names by number
+  mishantral-notation opl --reader                which reader that is: \"proved\", the linked library's, or
+                                                  \"plain\", where no library with it was there at the build
   mishantral-notation explain [--dealer POLICY TASKS] [--policy FILE] REQUESTS
                                                   a desk program's listing, from standard input, with
                                                   the records of REQUESTS in words and replies by name;
                                                   --policy: the policy's records, to show a refused one
-  mishantral-notation refused [--name NAME] POLICY REPLY PLACE
-                                                  which record of the policy, text or records, a load's
+                                                  and the rule that a refused claim is about
+  mishantral-notation refused [--dealer POLICY TASKS] [--name NAME] FILE REPLY PLACE
+                                                  which record of a policy, text or records, a load's
                                                   refusal is about; --name: what to call the file
   mishantral-notation forms                       every line that the notation has
   mishantral-notation replies                     every reply's number and name
@@ -83,11 +86,11 @@ fn within(file: &str, errors: Vec<impl fmt::Display>) -> Stop {
 }
 
 fn records(arguments: &[&str]) -> Made {
-    let (either, rest) = match arguments {
+    let (names, rest) = dealer::names_of(arguments)?;
+    let (either, rest) = match rest {
         ["--either", rest @ ..] => (true, rest),
         rest => (false, rest),
     };
-    let (names, rest) = dealer::names_of(rest)?;
     let (name, files) = named(rest);
     let file = one_file(files)?;
     let bytes = input(file)?;
@@ -125,7 +128,8 @@ fn explain(arguments: &[&str]) -> Made {
 }
 
 fn refused(arguments: &[&str]) -> Made {
-    let (name, rest) = named(arguments);
+    let (names, rest) = dealer::names_of(arguments)?;
+    let (name, rest) = named(rest);
     let [file, reply, place] = rest else {
         return Err(usage(
             "refused takes a policy, a reply's number and a place",
@@ -135,7 +139,7 @@ fn refused(arguments: &[&str]) -> Made {
     let reply = number.ok_or(usage(&format!("no such reply: {reply:?}")))?;
     let place = place.parse().ok();
     let place = place.ok_or(usage("a place is a number"))?;
-    let told = notation::refused(&input(file)?, reply, place);
+    let told = notation::refused_named(&input(file)?, reply, place, &names);
     Ok(format!("{}: {told}\n", name.unwrap_or(file)).into_bytes())
 }
 

@@ -9,14 +9,70 @@ fn records(text: &str) -> Vec<u8> {
 #[test]
 fn each_request_with_its_reply() {
     let requests = records("claim 5 0 1\nend order 0\nbytes 01 02");
-    let listing = "load 0 0\n1 14\n2 6\n3 2\n";
+    let listing = "load 0 0\n1 14 1\n2 6 0\n3 2 0\n";
     let text = "\
 load 0 GRANTED
     1  14 BEFORE        claim 5 0 1
+       14 BEFORE  (rule 1 of its kind)
     2   6 IN USE        end order 0
     3   2 SHAPE         bytes 01 02
 ";
     assert_eq!(explain(None, &requests, listing).unwrap(), text);
+}
+
+#[test]
+fn a_refused_claim_shows_its_rule_where_the_policy_is_given() {
+    let policy = records(
+        "task set 1 of 4 5\ntask 2 before task 3\ntask set 1 of 0 1\nblock of partitioning 7: 0\n\
+         block of partitioning 2: 1\ntask 0 bound to task 1\ntask 0 before task 1",
+    );
+    let requests = records("claim 5 0 1\nclaim 5 0 1\nclaim 5 0 1\nclaim 5 0 1\nclaim 5 0 1");
+    let listing = "load 0 0\n1 14 2\n2 15 2\n3 16 1\n4 18 1\n5 19 0\n";
+    let text = "\
+load 0 GRANTED
+    1  14 BEFORE        claim 5 0 1
+       14 BEFORE  task 0 before task 1 (rule 2 of its kind)
+    2  15 SEPARATION    claim 5 0 1
+       15 SEPARATION  task set 1 of 0 1 (rule 2 of its kind)
+    3  16 BLOCK         claim 5 0 1
+       16 BLOCK  block of partitioning 7: 0 (rule 1 of its kind)
+    4  18 BOUND         claim 5 0 1
+       18 BOUND  task 0 bound to task 1 (rule 1 of its kind)
+    5  19 COUNT         claim 5 0 1
+";
+    let shown = explain(Some(&policy), &requests, listing).unwrap();
+    assert_eq!(shown, text);
+}
+
+#[test]
+fn a_place_that_no_rule_has() {
+    let policy = records("task 0 before task 1");
+    let requests = records("claim 5 0 1");
+    let refused = |policy: Option<&[u8]>, line: &str, message: &str| {
+        let error = explain(policy, &requests, &format!("load 0 0\n{line}\n"));
+        assert_eq!(error.unwrap_err().to_string(), message, "{line:?}");
+    };
+    let of_kind_16 = |found: &str| {
+        format!("line 2, column 6: expected the place of a rule of kind 16, 1 to 1, found {found}")
+    };
+    refused(Some(&policy), "1 14 2", &of_kind_16("\"2\""));
+    refused(Some(&policy), "1 14 0", &of_kind_16("\"0\""));
+    refused(Some(&policy), "1 14 x", &of_kind_16("\"x\""));
+    refused(
+        None,
+        "1 14 0",
+        "line 2, column 6: expected the place of a rule, from 1, found \"0\"",
+    );
+    refused(
+        Some(&policy),
+        "1 19 1",
+        "line 2, column 6: expected place 0, found \"1\"",
+    );
+    refused(
+        None,
+        "1 0",
+        "line 2, column 4: expected place 0, found the end of the line",
+    );
 }
 
 #[test]
@@ -47,28 +103,28 @@ fn a_listing_that_does_not_fit() {
         "line 1, column 7: expected the place of a record, found the end of the line",
     );
     refused(
-        "load 21 0",
-        "line 1, column 6: expected a reply, 0 to 20, found \"21\"",
+        "load 23 0",
+        "line 1, column 6: expected a reply, 0 to 22, found \"23\"",
     );
     refused(
-        "load 0 0\n1 0\n",
+        "load 0 0\n1 0 0\n",
         "line 3, column 1: expected \"2\", found the end of the line",
     );
     refused(
-        "load 0 0\n1 0\n3 0\n",
+        "load 0 0\n1 0 0\n3 0 0\n",
         "line 3, column 1: expected \"2\", found \"3\"",
     );
     refused(
-        "load 0 0\n1 0 7\n2 0\n",
-        "line 2, column 5: expected the end of the line, found \"7\"",
+        "load 0 0\n1 0 0 7\n2 0 0\n",
+        "line 2, column 7: expected the end of the line, found \"7\"",
     );
     refused(
-        "load 0 0\n1 0\n2 0\n3 0\n",
-        "line 4, column 1: expected the end of the listing, found \"3 0\"",
+        "load 0 0\n1 0 0\n2 0 0\n3 0 0\n",
+        "line 4, column 1: expected the end of the listing, found \"3 0 0\"",
     );
     refused(
-        "load 5 1\n1 0\n",
-        "line 2, column 1: expected the end of the listing, found \"1 0\"",
+        "load 5 1\n1 0 0\n",
+        "line 2, column 1: expected the end of the listing, found \"1 0 0\"",
     );
 }
 

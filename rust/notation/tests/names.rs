@@ -138,3 +138,16 @@ fn a_listing_shows_names() {
     );
     assert_eq!(line_named(&Record::user(700).0, &names), "user 700");
 }
+
+#[test]
+fn a_rule_is_shown_with_names() {
+    let names = names();
+    let policy = Record::before(0, 4);
+    let claim = Record::claim(5, 0, 4);
+    let said = explain_named(Some(&policy.0), &claim.0, "load 0 0\n1 14 1\n", &names).unwrap();
+    assert_eq!(
+        said,
+        "load 0 GRANTED\n    1  14 BEFORE        claim 5 0 \"task:4\"\n\
+         \u{20}      14 BEFORE  task \"task:0\" before task \"task:4\" (rule 1 of its kind)\n"
+    );
+}

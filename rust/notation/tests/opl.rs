@@ -98,6 +98,19 @@ fn names_of_any_bytes_stand_on_one_line() {
     fs::remove_file(policy).unwrap();
 }
 
+/// The plain reader takes the proved one's place where no library is linked, and the program says so.
+#[test]
+fn the_reader_is_told() {
+    let (name, said, status) = run(&["--reader"]);
+    assert_eq!((&said[..], status), ("", 0));
+    let expected: &[u8] = if cfg!(mishantral_opl) {
+        b"proved\n"
+    } else {
+        b"plain\n"
+    };
+    assert_eq!(name, expected);
+}
+
 #[test]
 fn wrong_use_is_status_2() {
     for arguments in [

@@ -68,7 +68,7 @@ fn a_listing_is_explained() {
     let file = folder.join("requests.rec");
     std::fs::write(&file, notation::read(b"end order 0").unwrap()).unwrap();
     let file = file.to_str().unwrap();
-    let (text, _, status) = run(&["explain", file], b"load 0 0\n1 4\n");
+    let (text, _, status) = run(&["explain", file], b"load 0 0\n1 4 0\n");
     assert_eq!(status, 0);
     assert_eq!(
         text,
@@ -84,7 +84,7 @@ fn lists_and_help() {
     let (forms, _, _) = run(&["forms"], b"");
     assert_eq!(forms.split(|&b| b == b'\n').count(), 37);
     let (replies, _, _) = run(&["replies"], b"");
-    assert!(String::from_utf8(replies).unwrap().ends_with("20 FULL\n"));
+    assert!(String::from_utf8(replies).unwrap().ends_with("22 NAMES\n"));
     let (help, said, status) = run(&["--help"], b"");
     assert!(help.starts_with(b"Records as lines"));
     assert_eq!((&said[..], status), ("", 0));

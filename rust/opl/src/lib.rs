@@ -28,7 +28,7 @@ mod tasks;
 
 pub use names::{Space, LONGEST};
 pub use policy::{Policy, RECORD};
-pub use refusal::{line_and_column, Fault, NameFault, NameWhy, Refusal, Text, Why};
+pub use refusal::{found, line_and_column, Fault, NameFault, NameWhy, Refusal, Text, Why};
 
 /// The reply to an accepted policy.
 pub const ACCEPTED: u8 = 0;
@@ -78,16 +78,14 @@ pub fn read<'t>(policy: &'t [u8], tasks: &'t [u8]) -> Result<Policy<'t>, Refusal
 
 /// Reads, and writes the records to the front of the output. A refusal writes nothing.
 pub fn translate(policy: &[u8], tasks: &[u8], output: &mut [u8]) -> Answer {
-    let (reply, text, figure) = match read(policy, tasks) {
-        Ok(read) if read.write(output) => (ACCEPTED, 0, read.count()),
-        Ok(_) => (ROOM, 0, 0),
-        Err(Refusal::Text(fault)) => (TEXT, fault.text as u8, fault.place),
-        Err(Refusal::Names(_)) => (NAMES, 0, 0),
+    let (reply, count) = match read(policy, tasks) {
+        Ok(read) if read.write(output) => (ACCEPTED, read.count()),
+        Ok(_) => (ROOM, 0),
+        Err(refusal) => return refusal.answer(),
     };
-    let figure = figure as u64;
     Answer {
         reply,
-        text,
-        figure,
+        text: 0,
+        figure: count as u64,
     }
 }

@@ -2,6 +2,7 @@
 
 use crate::elements::{Progress, Tag};
 use crate::names::{Space, LONGEST};
+use crate::{Answer, NAMES, TEXT};
 use std::fmt::{self, Display, Formatter};
 
 /// One of the two texts.
@@ -207,7 +208,7 @@ fn shown(bytes: &[u8]) -> String {
 }
 
 /// What stands at a place, from 1, in words.
-fn found(text: &[u8], place: usize) -> String {
+pub fn found(text: &[u8], place: usize) -> String {
     let rest = &text[(place - 1).min(text.len())..];
     let run = |from: usize| {
         let length = rest[from..].iter().take_while(|&&b| is_name(b)).count();
@@ -252,6 +253,22 @@ impl Refusal {
         match self {
             Refusal::Text(fault) => fault.place,
             Refusal::Names(fault) => fault.place,
+        }
+    }
+
+    /// What a program is answered: a name's place is told to people alone.
+    pub fn answer(&self) -> Answer {
+        match self {
+            Refusal::Text(fault) => Answer {
+                reply: TEXT,
+                text: fault.text as u8,
+                figure: fault.place as u64,
+            },
+            Refusal::Names(_) => Answer {
+                reply: NAMES,
+                text: 0,
+                figure: 0,
+            },
         }
     }
 

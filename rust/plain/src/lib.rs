@@ -10,7 +10,7 @@
 //! let user_300 = encode(1, 0, 300, 0, 0, 0);
 //! assert_eq!(engine.load(&user_300), (Reply::Granted, 0));
 //! let add_user_300 = encode(32, 0, 300, 0, 0, 0);
-//! assert_eq!(engine.request(&add_user_300), Reply::Taken);
+//! assert_eq!(engine.request(&add_user_300), (Reply::Taken, 0));
 //! ```
 
 mod ledger;
@@ -28,11 +28,14 @@ pub use reply::Reply;
 use orders::Orders;
 use policy::Policy;
 use record::{decode, Call, Record};
-use reply::{refuse, Outcome};
+use reply::{refuse, Outcome, Refusal};
 use sessions::Sessions;
 
 /// The length of a record.
 pub const RECORD: usize = 16;
+
+/// How many records a pile has at most.
+pub const PILE: usize = 4096;
 
 /// A policy, its sessions and its orders, with the entries kept as `L` keeps them.
 #[derive(Clone, PartialEq, Debug)]
@@ -48,8 +51,8 @@ impl<L: Ledger> Default for Engine<L> {
     }
 }
 
-fn reply(outcome: Outcome) -> Reply {
-    outcome.err().unwrap_or(Reply::Granted)
+fn refusal(outcome: Outcome) -> Refusal {
+    outcome.err().unwrap_or(Reply::Granted.into())
 }
 
 impl<L: Ledger> Engine<L> {
@@ -83,12 +86,46 @@ impl<L: Ledger> Engine<L> {
 
     /// One step of a load: takes a further policy record, or refuses it and changes nothing.
     pub fn policy_record(&mut self, record: &[u8]) -> Reply {
-        reply(decode(record, Call::Load).and_then(|r| self.policy.take(r)))
+        refusal(decode(record, Call::Load).and_then(|r| self.policy.take(r))).reply
     }
 
-    /// Answers one request.
-    pub fn request(&mut self, record: &[u8]) -> Reply {
-        reply(decode(record, Call::Request).and_then(|r| self.serve(r)))
+    /// Answers one request: the reply, and for BEFORE, SEPARATION, BLOCK and BOUND the place of the first rule broken, from 1
+    /// among all rules of its kind in policy order; for BLOCK of the block at which the search ends. Else 0.
+    pub fn request(&mut self, record: &[u8]) -> (Reply, usize) {
+        let Refusal { reply, place } =
+            refusal(decode(record, Call::Request).and_then(|r| self.serve(r)));
+        (reply, usize::from(place))
+    }
+
+    /// Answers a pile of requests, one after the other, refused ones among them: each reply is one byte of `answers`, from the
+    /// place `at` on. ROOM and SHAPE are given before any request is done, and then nothing is written.
+    ///
+    /// ```
+    /// use plain::{encode, Engine, OrderLists, Reply};
+    ///
+    /// let add_user_300 = encode(32, 0, 300, 0, 0, 0);
+    /// let mut answers = [99; 4];
+    /// let mut engine = Engine::<OrderLists>::new();
+    /// let pile = [add_user_300, add_user_300].concat();
+    /// assert_eq!(engine.pile(&pile, &mut answers, 1), Reply::Granted);
+    /// assert_eq!(answers, [99, 0, 5, 99]);
+    /// assert_eq!(engine.pile(&pile, &mut answers, 3), Reply::Room);
+    /// ```
+    pub fn pile(&mut self, records: &[u8], answers: &mut [u8], at: usize) -> Reply {
+        let records = records.chunks_exact(RECORD);
+        let Some(answers) = answers.get_mut(at..) else {
+            return Reply::Room;
+        };
+        if records.len() > answers.len() || records.len() > PILE {
+            return Reply::Room;
+        }
+        if !records.remainder().is_empty() {
+            return Reply::Shape;
+        }
+        for (record, answer) in records.zip(answers) {
+            *answer = self.request(record).0.number();
+        }
+        Reply::Granted
     }
 
     /// All entries, in no particular order.

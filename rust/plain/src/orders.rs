@@ -3,7 +3,7 @@
 use crate::ledger::{Ledger, View, ENTRIES};
 use crate::policy::{bit, Policy};
 use crate::record::Record;
-use crate::reply::{refuse, Outcome, Reply};
+use crate::reply::{refuse, refuse_at, Outcome, Refusal, Reply};
 use crate::sessions::Sessions;
 
 #[derive(Clone, PartialEq, Debug)]
@@ -54,7 +54,7 @@ impl<L: Ledger> Orders<L> {
     }
 
     /// What the record names, where the subject is live, the instance open and the task of its template.
-    fn named(&self, policy: &Policy, sessions: &Sessions, r: Record) -> Result<Named, Reply> {
+    fn named(&self, policy: &Policy, sessions: &Sessions, r: Record) -> Result<Named, Refusal> {
         let user = sessions.user_of(usize::from(r.a))?;
         let template = self.template[usize::from(r.b)].ok_or(Reply::Unknown)?;
         let of_it = policy.is_task_of(usize::from(r.c), template);
@@ -114,30 +114,63 @@ impl<L: Ledger> Orders<L> {
 fn claim_rules(policy: &Policy, template: u8, task: usize, view: View) -> Outcome {
     let rules = &policy.of_task[task];
     let mine_other = view.mine & !bit(task);
-    refuse(Reply::Before, rules.needs & !view.done != 0)?;
-    refuse(Reply::Separation, separated(policy, rules.sets, mine_other))?;
-    refuse(Reply::Block, rules.other_blocks & view.mine != 0)?;
+    refuse_at(Reply::Before, rules.needs & !view.done != 0, || {
+        first(policy.prerequisites.rows(), |&(before, after)| {
+            after == task && view.done & bit(before) == 0
+        })
+    })?;
+    let separated = separated(policy, rules.sets, mine_other);
+    refuse_at(Reply::Separation, separated != 0, || separated)?;
+    refuse_at(Reply::Block, rules.other_blocks & view.mine != 0, || {
+        left_block(policy, task, view.mine)
+    })?;
     let banned = policy.banned & 1 << template != 0;
     let tasks = policy.tasks_of[usize::from(template)];
     let governed = banned && tasks.count_ones() >= 2;
     let rest = tasks & !bit(task);
     refuse(Reply::Alone, governed && rest & !view.mine == 0)?;
-    refuse(Reply::Bound, rules.bound_with & view.others != 0)?;
+    refuse_at(Reply::Bound, rules.bound_with & view.others != 0, || {
+        first(policy.bindings.rows(), |&(one, other)| {
+            (one == task && view.others & bit(other) != 0)
+                || (other == task && view.others & bit(one) != 0)
+        })
+    })?;
     refuse(
         Reply::Count,
         rules.limit != 0 && view.count >= u32::from(rules.limit),
     )
 }
 
-/// Whether one of these task sets has n or more of its members among `mine_other`.
-fn separated(policy: &Policy, sets: u32, mine_other: u64) -> bool {
+/// The place, from 1, of the first rule that is broken.
+#[cold]
+fn first<T>(rules: &[T], broken: impl Fn(&T) -> bool) -> usize {
+    rules.iter().position(broken).map_or(0, |before| before + 1)
+}
+
+/// The place, from 1, of the first of these task sets that has n or more of its members among `mine_other`; 0 where none has.
+fn separated(policy: &Policy, sets: u32, mine_other: u64) -> usize {
     let mut left = sets;
     while left != 0 {
-        let set = policy.task_sets.rows()[left.trailing_zeros() as usize];
+        let before = left.trailing_zeros() as usize;
+        let set = policy.task_sets.rows()[before];
         if (set.members & mine_other).count_ones() >= u32::from(set.n) {
-            return true;
+            return before + 1;
         }
         left &= left - 1;
     }
-    false
+    0
+}
+
+/// The place, from 1 among all blocks, of the first block without the task that `mine` meets, in the first partitioning that has the task
+/// in a block and has such a one.
+#[cold]
+fn left_block(policy: &Policy, task: usize, mine: u64) -> usize {
+    let blocks = policy.blocks.rows();
+    let places = (0..16).filter(|&partitioning| policy.in_blocks[partitioning] & bit(task) != 0);
+    let of = |partitioning| {
+        first(blocks, |&(of, tasks)| {
+            of == partitioning && tasks & bit(task) == 0 && tasks & mine != 0
+        })
+    };
+    places.map(of).find(|&place| place != 0).unwrap_or(0)
 }

@@ -112,11 +112,11 @@ pub(crate) struct Policy {
     static_sets: Rules<AtMost, 32>,
     dynamic_sets: Rules<AtMost, 32>,
     pub task_sets: Rules<AtMost, 32>,
-    blocks: Rules<(usize, u64), 64>,
+    pub blocks: Rules<(usize, u64), 64>,
     /// The tasks of all blocks of each partitioning.
-    in_blocks: [u64; 16],
-    bindings: Rules<(usize, usize), 64>,
-    prerequisites: Rules<(usize, usize), 64>,
+    pub in_blocks: [u64; 16],
+    pub bindings: Rules<(usize, usize), 64>,
+    pub prerequisites: Rules<(usize, usize), 64>,
 }
 
 impl Policy {

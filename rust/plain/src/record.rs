@@ -1,6 +1,6 @@
 //! The sixteen bytes of a record, and the two checks that need no table: SHAPE and RANGE.
 
-use crate::reply::Reply;
+use crate::reply::{Refusal, Reply};
 
 /// The call that a record is handed to.
 #[derive(Clone, Copy, PartialEq, Eq)]
@@ -35,7 +35,7 @@ pub fn encode(kind: u8, n: u8, a: u16, b: u16, c: u16, m: u64) -> [u8; 16] {
 ///
 /// Inlined, since a record handed back through memory costs as much as an access check.
 #[inline(always)]
-pub(crate) fn decode(bytes: &[u8], call: Call) -> Result<Record, Reply> {
+pub(crate) fn decode(bytes: &[u8], call: Call) -> Result<Record, Refusal> {
     let bytes: &[u8; 16] = bytes.try_into().map_err(|_| Reply::Shape)?;
     let (low, high) = bytes.split_at(8);
     let fields = u64::from_le_bytes(low.try_into().unwrap());
@@ -54,10 +54,10 @@ pub(crate) fn decode(bytes: &[u8], call: Call) -> Result<Record, Reply> {
         .filter(|form| form.call == call)
         .ok_or(Reply::Shape)?;
     if fields & form.zero_fields | m & form.zero_m != 0 {
-        return Err(Reply::Shape);
+        return Err(Reply::Shape.into());
     }
     if record.a > form.last_a || record.b > form.last_b || record.c > form.last_c {
-        return Err(Reply::Range);
+        return Err(Reply::Range.into());
     }
     Ok(record)
 }

@@ -55,14 +55,38 @@ impl Reply {
     }
 }
 
-/// What one check, or a whole record, comes to: the reply is the refusal.
-pub(crate) type Outcome = Result<(), Reply>;
+/// A refusal, and the place of the rule that it is about: from 1 among all rules of its kind in policy order, or 0.
+#[derive(Clone, Copy, PartialEq, Eq, Debug)]
+pub(crate) struct Refusal {
+    pub reply: Reply,
+    pub place: u8,
+}
+
+impl From<Reply> for Refusal {
+    fn from(reply: Reply) -> Refusal {
+        Refusal { reply, place: 0 }
+    }
+}
+
+/// What one check, or a whole record, comes to.
+pub(crate) type Outcome = Result<(), Refusal>;
 
 /// One line of the table: `reply` is given when `applies`.
 #[inline(always)]
 pub(crate) fn refuse(reply: Reply, applies: bool) -> Outcome {
     if applies {
-        Err(reply)
+        Err(reply.into())
+    } else {
+        Ok(())
+    }
+}
+
+/// The same for a rule that says its place, which is sought only once it is broken.
+#[inline(always)]
+pub(crate) fn refuse_at(reply: Reply, applies: bool, place: impl FnOnce() -> usize) -> Outcome {
+    if applies {
+        let place = place() as u8;
+        Err(Refusal { reply, place })
     } else {
         Ok(())
     }

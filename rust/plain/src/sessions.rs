@@ -2,7 +2,7 @@
 //! What kinds 33 and 41 ask of entries is asked by the engine, above.
 
 use crate::policy::{bit, Policy};
-use crate::reply::{refuse, Outcome, Reply};
+use crate::reply::{refuse, Outcome, Refusal, Reply};
 
 /// The user of a number that is no live subject.
 const NOBODY: u16 = u16::MAX;
@@ -24,7 +24,7 @@ impl Sessions {
     };
 
     /// The user of a live subject.
-    pub fn user_of(&self, subject: usize) -> Result<u16, Reply> {
+    pub fn user_of(&self, subject: usize) -> Result<u16, Refusal> {
         let user = self.user[subject];
         refuse(Reply::Unknown, user == NOBODY)?;
         Ok(user)

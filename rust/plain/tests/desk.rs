@@ -50,9 +50,9 @@ fn a_caller_that_waits_for_each_reply_gets_it() {
     let mut next = || lines.next().unwrap().unwrap();
     assert_eq!(next(), "load 0 0");
     requests.write_all(&add_user(300)).unwrap();
-    assert_eq!(next(), "1 0");
+    assert_eq!(next(), "1 0 0");
     requests.write_all(&add_user(300)).unwrap();
-    assert_eq!(next(), "2 5");
+    assert_eq!(next(), "2 5 0");
     drop(requests);
     assert!(child.wait().unwrap().success());
 }
@@ -61,13 +61,16 @@ fn a_caller_that_waits_for_each_reply_gets_it() {
 fn one_line_a_request_after_the_load() {
     let requests = [add_user(300), add_user(300), add_user(1024)].concat();
     let got = desk("lines", Some(&[]), &requests);
-    assert_eq!(got, "load 0 0\n1 0\n2 5\n3 3\n");
+    assert_eq!(got, "load 0 0\n1 0 0\n2 5 0\n3 3 0\n");
 }
 
 #[test]
 fn a_cut_last_record_gets_shape() {
     let requests = [add_user(300), add_user(301)[..7].to_vec()].concat();
-    assert_eq!(desk("cut", Some(&[]), &requests), "load 0 0\n1 0\n2 2\n");
+    assert_eq!(
+        desk("cut", Some(&[]), &requests),
+        "load 0 0\n1 0 0\n2 2 0\n"
+    );
 }
 
 #[test]

@@ -21,26 +21,22 @@ fn the_listing() {
     ];
     assert_eq!(policy.len(), 11);
     let asked = [
-        (create(5, 300, &[0]), 0),
-        (create(6, 301, &[0]), 0),
-        (open(0, 0), 0),
-        (claim(5, 0, 1), 14),
-        (claim(5, 0, 0), 0),
-        (claim(6, 0, 1), 14),
-        (done(5, 0, 0), 0),
-        (claim(5, 0, 1), 15),
-        (claim(6, 0, 1), 0),
-        (end(0), 6),
-        (done(6, 0, 1), 0),
-        (end(0), 0),
-        (end(0), 4),
+        (create(5, 300, &[0]), (0, 0)),
+        (create(6, 301, &[0]), (0, 0)),
+        (open(0, 0), (0, 0)),
+        (claim(5, 0, 1), (14, 1)),
+        (claim(5, 0, 0), (0, 0)),
+        (claim(6, 0, 1), (14, 1)),
+        (done(5, 0, 0), (0, 0)),
+        (claim(5, 0, 1), (15, 1)),
+        (claim(6, 0, 1), (0, 0)),
+        (end(0), (6, 0)),
+        (done(6, 0, 1), (0, 0)),
+        (end(0), (0, 0)),
+        (end(0), (4, 0)),
     ];
-    let (requests, numbers): (Vec<_>, Vec<u8>) = asked.into_iter().unzip();
-    let got: Vec<u8> = replies(&policy, &requests)
-        .into_iter()
-        .map(Reply::number)
-        .collect();
-    assert_eq!(got, numbers);
+    let (requests, told): (Vec<_>, Vec<_>) = asked.into_iter().unzip();
+    assert_eq!(answers(&policy, &requests), told);
 }
 
 #[test]

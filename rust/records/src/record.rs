@@ -10,6 +10,7 @@ pub const LENGTH: usize = 16;
 ///
 /// It prints as its line in the notation, as `claim 5 0 1`.
 #[derive(Clone, Copy, PartialEq, Eq, Hash)]
+#[repr(transparent)]
 pub struct Record(pub [u8; LENGTH]);
 
 impl AsRef<[u8]> for Record {

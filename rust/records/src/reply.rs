@@ -13,7 +13,7 @@ use core::fmt;
 pub enum Reply {
     /// Accepted, or granted.
     Granted = 0,
-    /// A lent state buffer has not its fixed length; nothing is written.
+    /// A lent buffer has not its fixed length, or the output is too short; nothing is written.
     Room = 1,
     /// Not 16 bytes, a kind not of this call, an unused field not zero, or m of kind 57 too large.
     Shape = 2,
@@ -53,6 +53,10 @@ pub enum Reply {
     Count = 19,
     /// No ledger entry is free, or the rule limit of that kind is reached.
     Full = 20,
+    /// A dealer's text is not in its grammar.
+    Text = 21,
+    /// A dealer's name is too long, declared nowhere or above a limit.
+    Names = 22,
 }
 
 use Reply::*;
@@ -81,6 +85,8 @@ impl Reply {
         Bound,
         Count,
         Full,
+        Text,
+        Names,
     ];
 
     /// The reply's number in docs/RULES.md.
@@ -118,6 +124,21 @@ impl Reply {
             Bound => "BOUND",
             Count => "COUNT",
             Full => "FULL",
+            Text => "TEXT",
+            Names => "NAMES",
+        }
+    }
+
+    /// The policy kind of the rule that a refused claim is about, where the answer says its place: prerequisites (16) for BEFORE, task
+    /// sets (11) for SEPARATION, blocks (12) for BLOCK, bindings (15) for BOUND.
+    #[must_use]
+    pub const fn rule_kind(self) -> Option<u8> {
+        match self {
+            Before => Some(16),
+            Separation => Some(11),
+            Block => Some(12),
+            Bound => Some(15),
+            _ => None,
         }
     }
 

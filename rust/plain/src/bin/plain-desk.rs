@@ -42,7 +42,8 @@ fn run() -> io::Result<bool> {
         if record.is_empty() {
             break;
         }
-        writeln!(out, "{place} {}", engine.request(&record).number())?;
+        let (reply, rule) = engine.request(&record);
+        writeln!(out, "{place} {} {rule}", reply.number())?;
     }
     out.flush().map(|()| true)
 }

@@ -146,26 +146,33 @@ impl Both {
         answer
     }
 
-    /// The reply of both; a refusal, and a granted check, change nothing.
+    /// The reply of both.
     pub fn request(&mut self, record: &[u8]) -> Reply {
+        self.answer(record).0
+    }
+
+    /// The reply and the place of both; a refusal, and a granted check, change nothing.
+    pub fn answer(&mut self, record: &[u8]) -> (Reply, usize) {
         let before = (self.flat.clone(), self.lists.clone());
-        let reply = self.flat.request(record);
+        let (reply, place) = self.flat.request(record);
         let other = self.lists.request(record);
-        assert_eq!(reply, other, "the two ledgers differ on {record:?}");
+        assert_eq!((reply, place), other, "the two differ on {record:?}");
+        let about_a_rule = matches!(reply.number(), 14..=16 | 18);
+        assert_eq!(place != 0, about_a_rule, "place {place} with {reply:?}");
         if reply != Reply::Granted || matches!(record.first(), Some(56 | 57)) {
             assert!(before == (self.flat.clone(), self.lists.clone()));
         }
         let mut entries = [self.flat.entries(), self.lists.entries()];
         entries.iter_mut().for_each(|e| e.sort());
         assert_eq!(entries[0], entries[1], "the two ledgers' entries differ");
-        reply
+        (reply, place)
     }
 
     /// As `request` without its comparisons, for long runs.
     pub fn quick(&mut self, record: &[u8]) -> Reply {
-        let reply = self.flat.request(record);
-        assert_eq!(reply, self.lists.request(record), "the two ledgers differ");
-        reply
+        let answer = self.flat.request(record);
+        assert_eq!(answer, self.lists.request(record), "the two ledgers differ");
+        answer.0
     }
 }
 
@@ -184,4 +191,12 @@ pub fn ready(policy: &[Bytes], requests: &[Bytes]) -> Both {
 pub fn replies(policy: &[Bytes], requests: &[Bytes]) -> Vec<Reply> {
     let mut both = ready(policy, &[]);
     requests.iter().map(|r| both.request(r)).collect()
+}
+
+/// The numbers of the replies and the places, one after the other.
+pub fn answers(policy: &[Bytes], requests: &[Bytes]) -> Vec<(u8, usize)> {
+    let mut both = ready(policy, &[]);
+    let answer = |r: &Bytes| both.answer(r);
+    let numbers = |(reply, place): (Reply, usize)| (reply.number(), place);
+    requests.iter().map(answer).map(numbers).collect()
 }

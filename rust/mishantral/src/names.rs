@@ -1,0 +1,246 @@
+//! The dealer's names by number. The proved reader answers with records; that the names stand for their numbers is read off: the elements that
+//! declare names and the task lines stand in the order of their records. rust/opl_differential compares with readers that number names themselves.
+
+use crate::LENGTH;
+use alloc::boxed::Box;
+use alloc::vec::Vec;
+
+/// What has names in a dealer's texts: each space has its own numbers.
+#[derive(Clone, Copy, PartialEq, Eq, Hash, Debug)]
+#[repr(u8)]
+pub enum Space {
+    /// Declared by `user`.
+    User,
+    /// Declared by `role`.
+    Role,
+    /// Declared by `permission`.
+    Permission,
+    /// Declared by `operation`, in a permission.
+    Operation,
+    /// Declared by `object`, in a permission.
+    Object,
+    /// Declared by a task line, as its first name.
+    Task,
+    /// Declared by a task line, as its second name.
+    Template,
+}
+
+impl Space {
+    /// All, in the order of their numbers.
+    pub const ALL: [Space; 7] = [
+        Space::User,
+        Space::Role,
+        Space::Permission,
+        Space::Operation,
+        Space::Object,
+        Space::Task,
+        Space::Template,
+    ];
+
+    /// The space in a word, as `role`: for those of the policy text, the element that declares its names.
+    pub const fn word(self) -> &'static str {
+        match self {
+            Space::User => "user",
+            Space::Role => "role",
+            Space::Permission => "permission",
+            Space::Operation => "operation",
+            Space::Object => "object",
+            Space::Task => "task",
+            Space::Template => "template",
+        }
+    }
+
+    /// The kind of the record that a declaration yields, and where in the record the number stands.
+    const fn record(self) -> (u8, usize) {
+        match self {
+            Space::User => (1, 2),
+            Space::Role => (2, 2),
+            Space::Permission => (3, 2),
+            Space::Operation => (3, 4),
+            Space::Object => (3, 6),
+            Space::Task => (6, 2),
+            Space::Template => (6, 4),
+        }
+    }
+}
+
+/// The names of one space.
+#[derive(Clone, Default, PartialEq, Eq, Debug)]
+struct Named {
+    by_number: Vec<Box<[u8]>>,
+    /// The numbers in the order of their names.
+    sorted: Vec<u16>,
+}
+
+impl Named {
+    fn new(numbers: impl Iterator<Item = u16>, names: &[&[u8]]) -> Named {
+        let mut named = Named::default();
+        for (number, &name) in numbers.zip(names) {
+            // Numbers go by first declaration: a number is the next one, or has its name.
+            if usize::from(number) == named.by_number.len() {
+                named.by_number.push(name.into());
+                named.sorted.push(number);
+            }
+        }
+        let names = &named.by_number;
+        named
+            .sorted
+            .sort_unstable_by_key(|&number| &names[usize::from(number)]);
+        named
+    }
+}
+
+/// The names of all spaces.
+#[derive(Clone, Default, PartialEq, Eq, Debug)]
+pub(crate) struct Names([Named; 7]);
+
+impl Names {
+    /// The names of texts that the reader accepted, with these records.
+    pub fn told(xml: &[u8], tasks: &[u8], records: &[u8]) -> Names {
+        let mut declared: [Vec<&[u8]>; 7] = Default::default();
+        for (space, name) in (Tags { rest: xml }) {
+            declared[space as usize].push(name);
+        }
+        for line in tasks.split(|&b| b == b'\n').filter(|line| !line.is_empty()) {
+            let mut names = line.split(|&b| b == b' ');
+            for space in [Space::Task, Space::Template] {
+                declared[space as usize].extend(names.next());
+            }
+        }
+        Names(Space::ALL.map(|space| {
+            let (kind, at) = space.record();
+            let records = records.chunks_exact(LENGTH).filter(|r| r[0] == kind);
+            let numbers = records.map(|r| u16::from_le_bytes([r[at], r[at + 1]]));
+            Named::new(numbers, &declared[space as usize])
+        }))
+    }
+
+    pub fn all(&self, space: Space) -> impl ExactSizeIterator<Item = &[u8]> {
+        self.0[space as usize]
+            .by_number
+            .iter()
+            .map(|name| &name[..])
+    }
+
+    pub fn name(&self, space: Space, number: u16) -> Option<&[u8]> {
+        let name = self.0[space as usize].by_number.get(usize::from(number))?;
+        Some(name)
+    }
+
+    pub fn number(&self, space: Space, name: &[u8]) -> Option<u16> {
+        let Named { by_number, sorted } = &self.0[space as usize];
+        let name_of = |&number: &u16| &by_number[usize::from(number)][..];
+        let found = sorted.binary_search_by_key(&name, name_of).ok()?;
+        Some(sorted[found])
+    }
+}
+
+/// The elements of an accepted policy text that declare names, in text order, each with its name. There a `<` begins a tag, the declaration, the
+/// DOCTYPE or a comment, and only a comment has further ones within.
+struct Tags<'t> {
+    rest: &'t [u8],
+}
+
+fn position(text: &[u8], piece: &[u8]) -> usize {
+    let found = text.windows(piece.len()).position(|window| window == piece);
+    found.unwrap_or(text.len())
+}
+
+/// What stands before the first byte that ends it, and what from there on.
+fn cut(text: &[u8], ends: impl Fn(&u8) -> bool) -> (&[u8], &[u8]) {
+    text.split_at(text.iter().position(ends).unwrap_or(text.len()))
+}
+
+fn is_white(byte: &u8) -> bool {
+    matches!(byte, b' ' | b'\t' | b'\n' | b'\r')
+}
+
+/// The space whose names an element declares.
+fn declares(element: &[u8]) -> Option<Space> {
+    let spaces = Space::ALL[..5].iter();
+    spaces
+        .copied()
+        .find(|space| space.word().as_bytes() == element)
+}
+
+/// The value of an attribute `.._id` from behind the element's name on; of those that declare names each has one.
+fn id(tag: &[u8]) -> Option<&[u8]> {
+    let mut rest = tag;
+    loop {
+        let (_, attribute) = cut(rest, |b| !is_white(b));
+        let (name, behind) = cut(attribute, |b| {
+            is_white(b) || matches!(b, b'=' | b'>' | b'/')
+        });
+        if name.is_empty() {
+            return None;
+        }
+        let (_, quoted) = cut(behind, |b| matches!(b, b'"' | b'\''));
+        let (&quote, within) = quoted.split_first()?;
+        let (value, end) = cut(within, |&b| b == quote);
+        if name.ends_with(b"_id") {
+            return Some(value);
+        }
+        rest = &end[1.min(end.len())..];
+    }
+}
+
+impl<'t> Iterator for Tags<'t> {
+    type Item = (Space, &'t [u8]);
+
+    fn next(&mut self) -> Option<Self::Item> {
+        loop {
+            let (_, tag) = cut(self.rest, |&b| b == b'<');
+            let (_, inside) = tag.split_first()?;
+            if let Some(comment) = inside.strip_prefix(b"!--") {
+                self.rest = &comment[position(comment, b"-->")..];
+                continue;
+            }
+            let (name, behind) = cut(inside, |b| is_white(b) || matches!(b, b'>' | b'/'));
+            self.rest = behind;
+            if let Some(named) = declares(name).and_then(|space| Some((space, id(behind)?))) {
+                return Some(named);
+            }
+        }
+    }
+}
+
+#[cfg(test)]
+mod tests {
+    use super::*;
+    use std::vec;
+
+    #[test]
+    fn names_are_those_of_the_elements_that_declare_them() {
+        let xml = b"<?xml version='1.0'?><!-- <user user_id='no'/> --><users><user user_id='a>b' /><user\n user_id = \"c'\"/>
+            <role role_description='role_id=\"x\"' role_id='r'></role><user_assignment user_id='no' role_id='no'/><!---><user user_id='no'/>--></users>";
+        let told: Vec<_> = Tags { rest: xml }.collect();
+        let expected = vec![
+            (Space::User, &b"a>b"[..]),
+            (Space::User, b"c'"),
+            (Space::Role, b"r"),
+        ];
+        assert_eq!(told, expected);
+    }
+
+    #[test]
+    fn numbers_are_those_of_the_records() {
+        let record = |kind: u8, a: u8, b: u8| {
+            let mut bytes = [0; LENGTH];
+            bytes[..5].copy_from_slice(&[kind, 0, a, 0, b]);
+            bytes
+        };
+        let records = [
+            record(6, 0, 0),
+            record(6, 1, 0),
+            record(6, 0, 0),
+            record(6, 2, 1),
+        ];
+        let names = Names::told(b"", b"z t\ny t\nz t\nx s", &records.concat());
+        assert_eq!(names.name(Space::Task, 1), Some(&b"y"[..]));
+        assert_eq!(names.all(Space::Task).len(), 3);
+        assert_eq!(names.number(Space::Task, b"x"), Some(2));
+        assert_eq!(names.number(Space::Template, b"s"), Some(1));
+        assert_eq!(names.number(Space::Template, b"z"), None);
+        assert_eq!(names.name(Space::User, 0), None);
+    }
+}
