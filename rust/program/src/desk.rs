@@ -1,0 +1,144 @@
+//! A desk: the engine with a policy loaded, what its answers have told, and questions put to copies of it.
+
+use crate::names::{Names, Sort};
+use crate::source::Policy;
+use crate::told::Told;
+use mishantral::{Answer, Engine, Refused};
+use records::{Record, Set, LENGTH};
+
+pub struct Desk {
+    pub policy: Policy,
+    /// The policy's names, and those that requests gave.
+    pub names: Names,
+    pub told: Told,
+    engine: Engine,
+}
+
+/// Someone who could claim a task now.
+#[derive(Clone, Copy, PartialEq, Eq, Debug)]
+pub struct Candidate {
+    pub user: u16,
+    /// The live subject that could; none where the user would need a new one with this role active.
+    pub subject: Option<u16>,
+    pub role: Option<u16>,
+}
+
+/// A record's sixteen bytes, if it has as many.
+pub fn whole(bytes: &[u8]) -> Option<Record> {
+    <[u8; LENGTH]>::try_from(bytes).ok().map(Record)
+}
+
+impl Desk {
+    /// Loads the policy into a new engine.
+    pub fn open(policy: Policy) -> Result<Desk, (Policy, Refused)> {
+        let mut engine = Engine::new();
+        match engine.load(&policy.bytes) {
+            Ok(()) => Ok(Desk {
+                told: Told::loaded(&policy.records()),
+                names: policy.names.clone(),
+                policy,
+                engine,
+            }),
+            Err(refused) => Err((policy, refused)),
+        }
+    }
+
+    /// The engine's answer; what a granted request changes is kept in mind.
+    pub fn ask(&mut self, record: &[u8]) -> Answer {
+        let answer = self.engine.request(record);
+        if let (true, Some(record)) = (answer.is_granted(), whole(record)) {
+            self.told.granted(&record);
+        }
+        answer
+    }
+
+    /// The answers to these requests one after the other, on a copy; the last of them.
+    pub fn tried(&self, records: &[Record]) -> Answer {
+        let mut copy = self.engine.clone();
+        let mut last = Answer::from(records::Reply::Granted);
+        for record in records {
+            last = copy.request(record);
+            if !last.is_granted() {
+                break;
+            }
+        }
+        last
+    }
+
+    /// Who could claim this task of this order now, by the engine's answers on copies: subjects that are live, and users without one
+    /// that could, in a new one with one of their roles.
+    pub fn candidates(&self, order: u16, task: u16) -> Vec<Candidate> {
+        let mut all = Vec::new();
+        for (&subject, session) in &self.told.subjects {
+            if self
+                .tried(&[Record::claim(subject, order, task)])
+                .is_granted()
+            {
+                let user = session.user;
+                let (subject, role) = (Some(subject), None);
+                all.push(Candidate {
+                    user,
+                    subject,
+                    role,
+                });
+            }
+        }
+        let free = (0..=Sort::Subject.last()).find(|s| !self.told.subjects.contains_key(s));
+        let (Some(free), open) = (free, self.told.open_to(task)) else {
+            return all;
+        };
+        for (&user, &roles) in &self.told.users {
+            if all.iter().any(|c| c.user == user) {
+                continue;
+            }
+            let could = |&role: &u8| {
+                let create = Record::create_subject(free, user, Set::of(&[role]));
+                self.tried(&[create, Record::claim(free, order, task)])
+                    .is_granted()
+            };
+            let role = Set(roles.0 & open.0).members().find(could);
+            all.extend(role.map(|role| Candidate {
+                user,
+                subject: None,
+                role: Some(role.into()),
+            }));
+        }
+        all
+    }
+
+    pub fn say(&self, sort: Sort, number: u16) -> String {
+        self.names.say(sort, number)
+    }
+
+    /// `subject 5 of clerk_a`, or its name.
+    pub fn say_subject(&self, subject: u16) -> String {
+        let whose = self.told.user_of(subject);
+        let whose = whose.map_or(String::new(), |user| {
+            format!(" of {}", self.say(Sort::User, user))
+        });
+        format!("{}{whose}", self.say(Sort::Subject, subject))
+    }
+
+    /// `clerk_a and clerk_b`, of a sort.
+    pub fn say_all(&self, sort: Sort, numbers: impl IntoIterator<Item = u16>) -> String {
+        let all: Vec<String> = numbers.into_iter().map(|n| self.say(sort, n)).collect();
+        joined(&all)
+    }
+
+    /// The members of a set, or `none`.
+    pub fn say_set(&self, sort: Sort, set: Set) -> String {
+        match set {
+            Set::EMPTY => "none".to_string(),
+            set => self.say_all(sort, set.members().map(u16::from)),
+        }
+    }
+}
+
+/// `a, b and c`.
+pub fn joined(all: &[String]) -> String {
+    match all.split_last() {
+        None => "none".to_string(),
+        Some((last, [])) => last.clone(),
+        Some((last, others)) => format!("{} and {last}", others.join(", ")),
+    }
+}

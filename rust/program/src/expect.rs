@@ -1,0 +1,436 @@
+//! `test`: files of requests with the replies that are expected of them.
+//!
+//! A file has a policy, as lines of its own or by `policy FILE`, and then requests, each with `=> REPLY` behind it; a request
+//! without one is expected to be granted. A policy after requests begins anew. `load => REPLY` says what the load is expected to answer.
+
+use crate::check::clashes;
+use crate::desk::Desk;
+use crate::names::{name_of, Names};
+use crate::reader::{self, decode, lines, read_tokens, tokens, Line, Token, Wrong};
+use crate::source::{self, bytes_of, Policy};
+use crate::stop::{wrong, Done, Stop, REFUSED, WELL};
+use crate::why::why;
+use crate::writer;
+use records::Reply;
+use std::io::Write;
+use std::path::Path;
+
+/// A reply, and the place that goes with it: of the refused record, or of the rule.
+#[derive(Clone, Copy, PartialEq, Eq, Debug)]
+struct Expected {
+    reply: Reply,
+    /// Judged where it is told.
+    place: Option<usize>,
+}
+
+const GRANTED: Expected = Expected {
+    reply: Reply::Granted,
+    place: None,
+};
+
+/// What a line of a test file says.
+enum Says {
+    /// A policy file and its task lines.
+    Policy(String, Option<String>),
+    Load(Expected),
+    Record(Line, Expected),
+}
+
+/// What was found to be otherwise than expected.
+struct Failure {
+    line: usize,
+    expected: Expected,
+    reply: Reply,
+    place: usize,
+    what: String,
+    because: Vec<String>,
+}
+
+/// How a reply is written behind `=>`; the place of a load is that of a record.
+fn reply_text(reply: Reply, place: usize, load: bool) -> String {
+    match (place, load) {
+        (0, _) => reply.to_string(),
+        (place, true) => format!("{reply}, record {place}"),
+        (place, false) => format!("{reply}, rule {place}"),
+    }
+}
+
+/// `14 BEFORE, rule 1`: the number, the name or both, and the place where it matters.
+fn expected(tokens: &[Token], end: usize) -> Result<Expected, Wrong> {
+    let found = |at: usize, expected: &str| Wrong {
+        column: tokens.get(at).map_or(end, |t| t.column),
+        expected: expected.to_string(),
+        found: tokens
+            .get(at)
+            .map_or("the end of the line".to_string(), |t| {
+                format!("\"{}\"", t.text)
+            }),
+    };
+    let number = tokens.first().and_then(|t| t.number());
+    let by_number = match number {
+        Some(number) => {
+            Some(Reply::from_number(number).ok_or_else(|| found(0, "the number of a reply"))?)
+        }
+        None => None,
+    };
+    let mut at = usize::from(number.is_some());
+    let named = |reply: &Reply| {
+        let words: Vec<&str> = reply.name().split(' ').collect();
+        let there = tokens.get(at..at + words.len()).unwrap_or(&[]);
+        let same = there
+            .iter()
+            .zip(&words)
+            .all(|(t, word)| t.text.eq_ignore_ascii_case(word));
+        (!there.is_empty() && same).then_some((*reply, words.len()))
+    };
+    let by_name = Reply::ALL.iter().find_map(named);
+    let reply = match (by_number, by_name) {
+        (Some(number), Some((name, _))) if number != name => {
+            return Err(found(at, &format!("\"{}\"", number.name())))
+        }
+        (_, Some((name, length))) => {
+            at += length;
+            name
+        }
+        (Some(number), None) => number,
+        (None, None) => return Err(found(at, "a reply, by number or name")),
+    };
+    if tokens.get(at).is_some_and(|t| t.text == ",") {
+        at += 1;
+    }
+    let mut place = None;
+    if tokens
+        .get(at)
+        .is_some_and(|t| matches!(t.text, "rule" | "record"))
+    {
+        let number = tokens.get(at + 1).and_then(|t| t.number());
+        place = Some(number.ok_or_else(|| found(at + 1, "a place"))? as usize);
+        at += 2;
+    }
+    match tokens.get(at) {
+        Some(_) => Err(found(at, "\"rule\", \"record\" or the end of the line")),
+        None => Ok(Expected { reply, place }),
+    }
+}
+
+/// A file's name in a line: a word, or between quotes.
+fn file_name(token: Token) -> String {
+    match name_of(token.text) {
+        Some(name) if token.text.starts_with('"') => String::from_utf8_lossy(&name).into_owned(),
+        _ => token.text.to_string(),
+    }
+}
+
+/// The run of one test file.
+struct Run<'a> {
+    file: &'a str,
+    /// The policy that is being told, and whether it is one of lines here.
+    policy: Policy,
+    inline: bool,
+    desk: Option<Desk>,
+    /// Whether the load was tried; where that failed, requests are left out.
+    loaded: bool,
+    passed: usize,
+    failures: Vec<Failure>,
+}
+
+fn empty(file: &str) -> Policy {
+    Policy {
+        file: file.to_string(),
+        bytes: Vec::new(),
+        lines: Vec::new(),
+        names: Names::default(),
+    }
+}
+
+impl<'a> Run<'a> {
+    fn new(file: &'a str) -> Run<'a> {
+        Run {
+            file,
+            policy: empty(file),
+            inline: true,
+            desk: None,
+            loaded: false,
+            passed: 0,
+            failures: Vec::new(),
+        }
+    }
+
+    /// Begins anew with this policy.
+    fn begin(&mut self, policy: Policy, inline: bool) {
+        self.policy = policy;
+        self.inline = inline;
+        self.desk = None;
+        self.loaded = false;
+    }
+
+    fn names(&self) -> &Names {
+        self.desk
+            .as_ref()
+            .map_or(&self.policy.names, |desk| &desk.names)
+    }
+
+    fn says(&self, line: &str) -> Result<Option<Says>, Wrong> {
+        let (all, end) = tokens(line);
+        let end = line[..end].chars().count() + 1;
+        let arrow = all.iter().position(|t| t.text == "=>");
+        let (before, behind) =
+            arrow.map_or((&all[..], None), |at| (&all[..at], Some(&all[at + 1..])));
+        let judged = behind.map(|tokens| expected(tokens, end)).transpose()?;
+        let words: Vec<&str> = before.iter().map(|t| t.text).collect();
+        match words[..] {
+            ["policy", _] if judged.is_none() => {
+                return Ok(Some(Says::Policy(file_name(before[1]), None)))
+            }
+            ["policy", _, "tasks", _] if judged.is_none() => {
+                let tasks = Some(file_name(before[3]));
+                return Ok(Some(Says::Policy(file_name(before[1]), tasks)));
+            }
+            ["load"] => return Ok(Some(Says::Load(judged.unwrap_or(GRANTED)))),
+            _ => {}
+        }
+        // A policy line behind requests begins a policy with names of its own.
+        let none = Names::default();
+        let of_policy = |line: &Line| line.record.as_ref().is_some_and(|r| r[0] < 32);
+        let fresh = read_tokens(before, &none)
+            .ok()
+            .flatten()
+            .filter(|line| self.loaded && of_policy(line));
+        let line = match fresh {
+            Some(line) => Some(line),
+            None => read_tokens(before, self.names())?,
+        };
+        Ok(line.map(|line| Says::Record(line, judged.unwrap_or(GRANTED))))
+    }
+
+    fn step(&mut self, number: usize, says: Says) -> Result<Option<Wrong>, Stop> {
+        match says {
+            Says::Policy(file, tasks) => {
+                let folder = Path::new(self.file).parent().unwrap_or(Path::new(""));
+                let beside = |file: &str| folder.join(file).to_string_lossy().into_owned();
+                let tasks = tasks.map(|file| beside(&file));
+                let policy = source::policy(&beside(&file), tasks.as_deref(), None)?;
+                self.begin(policy, false);
+            }
+            Says::Load(expected) => self.load(number, expected, true),
+            Says::Record(line, expected) => return Ok(self.record(number, line, expected)),
+        }
+        Ok(None)
+    }
+
+    fn record(&mut self, number: usize, line: Line, expected: Expected) -> Option<Wrong> {
+        let of_policy = line.record.as_ref().map_or(!self.loaded, |r| r[0] < 32);
+        if of_policy {
+            if self.loaded || (!self.inline && line.record.is_some()) {
+                self.begin(empty(self.file), true);
+            }
+            if let Some(record) = &line.record {
+                self.policy.bytes.extend(record);
+                self.policy.lines.push(number);
+            }
+            return reader::give(&mut self.policy.names, &line.namings, true);
+        }
+        if !self.loaded {
+            self.load(number, GRANTED, false);
+        }
+        let Some(desk) = &mut self.desk else {
+            return None;
+        };
+        reader::give(&mut desk.names, &line.namings, false);
+        let record = line.record?;
+        let answer = desk.ask(&record);
+        if answer.reply == expected.reply
+            && expected.place.is_none_or(|place| place == answer.place)
+        {
+            self.passed += 1;
+            return None;
+        }
+        let because = match answer.is_granted() {
+            true => Vec::new(),
+            false => why(desk, &record, answer).lines(desk),
+        };
+        let what = writer::line(&record, &desk.names);
+        let (reply, place) = (answer.reply, answer.place);
+        self.failures.push(Failure {
+            line: number,
+            expected,
+            reply,
+            place,
+            what,
+            because,
+        });
+        None
+    }
+
+    /// Loads the policy; that it is accepted counts where the line says what is expected.
+    fn load(&mut self, number: usize, expected: Expected, told: bool) {
+        self.loaded = true;
+        let (reply, place) = match Desk::open(self.policy.clone()) {
+            Ok(desk) => {
+                self.desk = Some(desk);
+                (Reply::Granted, 0)
+            }
+            Err((_, refused)) => (refused.reply, refused.place),
+        };
+        if reply == expected.reply && expected.place.is_none_or(|at| at == place) {
+            self.passed += usize::from(told);
+            return;
+        }
+        let mut because = Vec::new();
+        if let Some(before) = place.checked_sub(1) {
+            because.push(format!(
+                "{}: {}",
+                self.policy.place(before),
+                self.policy.line(before)
+            ));
+            because.extend(clashes(&self.policy, before, reply));
+        }
+        let what = "load".to_string();
+        self.failures.push(Failure {
+            line: number,
+            expected,
+            reply,
+            place,
+            what,
+            because,
+        });
+    }
+}
+
+/// How many characters a text has.
+fn width(text: &str) -> usize {
+    text.chars().count()
+}
+
+/// The line without its expectation and its comment; those two.
+fn pieces(line: &str) -> (&str, Option<&str>, &str) {
+    let (all, end) = tokens(line);
+    let (code, comment) = line.split_at(end);
+    match all.iter().find(|t| t.text == "=>") {
+        Some(arrow) => (
+            code[..arrow.at].trim_end(),
+            Some(&code[arrow.at..]),
+            comment,
+        ),
+        None => (code.trim_end(), None, comment),
+    }
+}
+
+/// The line with what was answered in the place of what was expected: the arrow in this column, the comment in its own if it can be.
+fn updated(line: &str, failure: &Failure, column: usize) -> String {
+    let (request, arrow, comment) = pieces(line);
+    let column = arrow.map_or(column, |arrow| {
+        width(&line[..line.len() - arrow.len() - comment.len()])
+    });
+    let reply = reply_text(failure.reply, failure.place, failure.what == "load");
+    let text = format!("{request:<0$} => {reply}", column.saturating_sub(1));
+    match comment {
+        "" => text,
+        comment => {
+            let before = width(line) - width(comment);
+            format!("{text:<0$}  {comment}", before.saturating_sub(2))
+        }
+    }
+}
+
+/// Runs one file; how many passed, and what failed. Text errors are all told.
+fn run<'a>(file: &'a str, text: &[u8]) -> Result<Run<'a>, Stop> {
+    let mut run = Run::new(file);
+    let mut errors = Vec::new();
+    for (number, bytes) in lines(text) {
+        let said = decode(bytes).and_then(|line| run.says(line));
+        match said {
+            Ok(None) => {}
+            Ok(Some(says)) => errors.extend(run.step(number, says)?.map(|wrong| (number, wrong))),
+            Err(wrong) => errors.push((number, wrong)),
+        }
+    }
+    if errors.is_empty() {
+        Ok(run)
+    } else {
+        Err(source::told(file, errors))
+    }
+}
+
+fn told(file: &str, failure: &Failure, out: &mut dyn Write) -> std::io::Result<()> {
+    let load = failure.what == "load";
+    let wanted = reply_text(
+        failure.expected.reply,
+        failure.expected.place.unwrap_or(0),
+        load,
+    );
+    let got = reply_text(failure.reply, failure.place, load);
+    writeln!(
+        out,
+        "{file}: line {}: expected {wanted}, got {got}: {}",
+        failure.line, failure.what
+    )?;
+    failure
+        .because
+        .iter()
+        .try_for_each(|line| writeln!(out, "    {line}"))
+}
+
+/// Runs the files; with `update` their expectations become what was answered.
+pub fn test(files: &[String], update: bool, out: &mut dyn Write) -> Done {
+    let (mut passed, mut failed, mut changed) = (0, 0, 0);
+    let mut wrongs = Vec::new();
+    for file in files {
+        let text = bytes_of(file)?;
+        let run = match run(file, &text) {
+            Ok(run) => run,
+            Err(Stop::Wrong(lines)) => {
+                wrongs.extend(lines);
+                continue;
+            }
+            Err(quiet) => return Err(quiet),
+        };
+        passed += run.passed;
+        if update && !run.failures.is_empty() {
+            rewrite(file, &text, &run.failures)?;
+            changed += run.failures.len();
+            writeln!(out, "{file}: {} updated", run.failures.len())?;
+            continue;
+        }
+        failed += run.failures.len();
+        for failure in &run.failures {
+            told(file, failure, out)?;
+        }
+    }
+    if !wrongs.is_empty() {
+        return Err(Stop::Wrong(wrongs));
+    }
+    let updated = if update {
+        format!(", {changed} updated")
+    } else {
+        String::new()
+    };
+    writeln!(out, "{passed} passed, {failed} failed{updated}")?;
+    Ok(if failed == 0 { WELL } else { REFUSED })
+}
+
+fn rewrite(file: &str, text: &[u8], failures: &[Failure]) -> Result<(), Stop> {
+    let mark = if text.starts_with(b"\xef\xbb\xbf") {
+        "\u{feff}"
+    } else {
+        ""
+    };
+    let all: Vec<(usize, String)> = lines(text)
+        .map(|(n, line)| (n, String::from_utf8_lossy(line).into_owned()))
+        .collect();
+    let failure = |number: usize| failures.iter().find(|f| f.line == number);
+    let failed = all.iter().filter(|(number, _)| failure(*number).is_some());
+    let column = failed
+        .map(|(_, line)| width(pieces(line).0) + 2)
+        .max()
+        .unwrap_or(0);
+    let line = |(number, line): &(usize, String)| match failure(*number) {
+        Some(failure) => updated(line, failure, column),
+        None => line.clone(),
+    };
+    let all: Vec<String> = all.iter().map(line).collect();
+    match std::fs::write(file, format!("{mark}{}", all.join("\n"))) {
+        Ok(()) => Ok(()),
+        Err(why) => wrong(format!("{file}: it cannot be written: {why}")),
+    }
+}

@@ -1,0 +1,613 @@
+//! Why a request was refused, in words: the rule by its place in the engine's answer, the entries that it met and whose they are, and
+//! who could claim now, by the engine's answers on copies of its state.
+
+use crate::desk::{joined, whole, Candidate, Desk};
+use crate::names::Sort;
+use crate::reader::declares;
+use crate::told::Entry;
+use crate::writer::numbers;
+use mishantral::Answer;
+use records::forms::Field;
+use records::{Record, Reply, Set, LENGTH};
+
+/// A rule of the policy: its place among the policy's records, from 0, and its record.
+type Rule = (usize, Record);
+
+#[derive(Default)]
+pub struct Why {
+    pub rule: Option<Rule>,
+    pub because: Vec<String>,
+    /// A task, and who could claim it now.
+    pub could: Option<(u16, Vec<Candidate>)>,
+}
+
+impl Why {
+    pub fn because(reason: impl Into<String>) -> Why {
+        Why {
+            because: vec![reason.into()],
+            ..Why::default()
+        }
+    }
+
+    pub fn all(because: Vec<String>) -> Why {
+        Why {
+            because,
+            ..Why::default()
+        }
+    }
+
+    fn by(mut self, rule: Option<Rule>) -> Why {
+        self.rule = rule;
+        self
+    }
+
+    /// The explanation, a line each.
+    pub fn lines(&self, desk: &Desk) -> Vec<String> {
+        let rule = self.rule.map(|(place, _)| {
+            let (line, place) = (desk.policy.line(place), desk.policy.place(place));
+            format!("{line} ({place})")
+        });
+        let could = self.could.as_ref().map(|(task, who)| {
+            let task = desk.say(Sort::Task, *task);
+            match &who[..] {
+                [] => format!("{task}: nobody could claim it now"),
+                who => format!(
+                    "{task} could be claimed now by {}",
+                    say_candidates(desk, who)
+                ),
+            }
+        });
+        let because = self.because.iter().cloned();
+        rule.into_iter().chain(because).chain(could).collect()
+    }
+}
+
+/// As many candidates as one reads.
+const FEW: usize = 6;
+
+fn say_candidates(desk: &Desk, who: &[Candidate]) -> String {
+    let one = |c: &Candidate| match (c.subject, c.role) {
+        (Some(subject), _) => desk.say_subject(subject),
+        (None, Some(role)) => {
+            let (user, role) = (desk.say(Sort::User, c.user), desk.say(Sort::Role, role));
+            format!("{user} in a new subject with {role}")
+        }
+        _ => desk.say(Sort::User, c.user),
+    };
+    let mut all: Vec<String> = who.iter().take(FEW).map(one).collect();
+    if who.len() > FEW {
+        all.push(format!("{} more", who.len() - FEW));
+    }
+    joined(&all)
+}
+
+/// Why the engine, as it stands, gave this record this answer.
+pub fn why(desk: &Desk, bytes: &[u8], answer: Answer) -> Why {
+    let Some(record) = whole(bytes) else {
+        return Why::because(format!(
+            "a record has {LENGTH} bytes, and this has {}",
+            bytes.len()
+        ));
+    };
+    match answer.reply {
+        Reply::Shape => shape(record),
+        Reply::Range => range(record),
+        Reply::Unknown => Why::all(unknown(desk, record)),
+        Reply::Taken => taken(desk, record),
+        Reply::InUse => in_use(desk, record),
+        Reply::NotAssigned => not_assigned(desk, record),
+        Reply::Static => role_limit(desk, record, 9),
+        Reply::Dynamic => role_limit(desk, record, 10),
+        Reply::NotYours => Why::because(holder(desk, record.b(), record.c())),
+        Reply::Denied => denied(desk, record),
+        Reply::NoRole => no_role(desk, record),
+        Reply::Before | Reply::Separation | Reply::Block | Reply::Bound => {
+            claim_rule(desk, record, answer)
+        }
+        Reply::Alone => alone(desk, record),
+        Reply::Count => count(desk, record),
+        Reply::Full => {
+            Why::because("all 2048 ledger entries are in use: an order that is ended frees its own")
+        }
+        _ => Why::default(),
+    }
+}
+
+fn shape(record: Record) -> Why {
+    Why::because(match record.kind() {
+        1..=31 => "it is a record of a policy, not a request".to_string(),
+        32..=37 | 40..=43 | 48..=52 | 56 | 57 => {
+            "a field that the kind does not use is not zero".to_string()
+        }
+        kind => format!("there is no request of kind {kind}"),
+    })
+}
+
+pub fn range(record: Record) -> Why {
+    let beyond = numbers(&record.0)
+        .into_iter()
+        .filter(|(sort, _, n)| *n > sort.last());
+    Why::all(
+        beyond
+            .map(|(sort, _, n)| format!("{} {n}: the largest is {}", sort.word(), sort.last()))
+            .collect(),
+    )
+}
+
+pub fn is_known(desk: &Desk, sort: Sort, number: u16) -> bool {
+    let told = &desk.told;
+    match sort {
+        Sort::User => told.users.contains_key(&number),
+        Sort::Role => u8::try_from(number).is_ok_and(|role| told.roles.has(role)),
+        Sort::Permission => told.permissions.contains_key(&number),
+        Sort::Task => told.tasks.contains_key(&number),
+        Sort::Subject => told.subjects.contains_key(&number),
+        Sort::Order => told.orders.contains_key(&number),
+        _ => true,
+    }
+}
+
+/// What a record names that is not there; else what it asks for that is not there.
+pub fn unknown(desk: &Desk, record: Record) -> Vec<String> {
+    let kind = record.kind();
+    let declared =
+        |&(_, field, _): &(Sort, Field, u16)| !declares(kind, field) || field == Field::M;
+    let absent = numbers(&record.0).into_iter().filter(declared);
+    let absent = absent.filter(|&(sort, _, number)| !is_known(desk, sort, number));
+    let mut all: Vec<String> = absent
+        .map(|(sort, _, number)| {
+            let is_not = match sort {
+                Sort::Subject => "is not live",
+                Sort::Order => "is not open",
+                _ => "is not declared",
+            };
+            format!("{} {is_not}", desk.say(sort, number))
+        })
+        .collect();
+    if all.is_empty() {
+        all.extend(not_there(desk, record));
+    }
+    all
+}
+
+fn not_there(desk: &Desk, record: Record) -> Option<String> {
+    let (a, b) = (record.a(), record.b());
+    let user = || desk.say(Sort::User, a);
+    Some(match record.kind() {
+        35 => format!("{} does not have {}", user(), desk.say(Sort::Role, b)),
+        37 => {
+            let permission = desk.say(Sort::Permission, b);
+            format!("{} does not have {permission}", desk.say(Sort::Role, a))
+        }
+        43 => {
+            let role = desk.say(Sort::Role, b);
+            format!("{role} is not active in {}", desk.say_subject(a))
+        }
+        13 => format!("{} has no task", desk.say(Sort::Template, a)),
+        48 => format!("{} has no task", desk.say(Sort::Template, b)),
+        50..=52 | 57 => {
+            let template = desk.told.orders.get(&b)?.template;
+            let (order, task) = (desk.say(Sort::Order, b), desk.say(Sort::Task, record.c()));
+            let tasks = desk.say_all(Sort::Task, desk.told.tasks_of(template));
+            let template = desk.say(Sort::Template, template);
+            format!("{order} is of {template}, whose tasks are {tasks}; {task} is none of them")
+        }
+        _ => return None,
+    })
+}
+
+fn taken(desk: &Desk, record: Record) -> Why {
+    let (a, b) = (record.a(), record.b());
+    let pair =
+        |one: Sort, other: Sort| format!("{} has {} already", desk.say(one, a), desk.say(other, b));
+    let reason = match record.kind() {
+        32 => format!("{} is declared already", desk.say(Sort::User, a)),
+        34 => pair(Sort::User, Sort::Role),
+        36 => pair(Sort::Role, Sort::Permission),
+        40 => format!("{} is live already", desk.say_subject(a)),
+        42 => format!(
+            "{} is active already in {}",
+            desk.say(Sort::Role, b),
+            desk.say_subject(a)
+        ),
+        48 => format!("{} is open already", desk.say(Sort::Order, a)),
+        50 => holder(desk, b, record.c()),
+        _ => return Why::default(),
+    };
+    Why::because(reason)
+}
+
+/// Who holds a task of an order.
+fn holder(desk: &Desk, order: u16, task: u16) -> String {
+    let held = desk
+        .told
+        .entries(order)
+        .iter()
+        .find(|e| e.task == task && e.holder.is_some());
+    let (task, order) = (desk.say(Sort::Task, task), desk.say(Sort::Order, order));
+    match held.and_then(|entry| entry.holder) {
+        Some(subject) => format!("{task} of {order} is held by {}", desk.say_subject(subject)),
+        None => format!("nobody holds {task} of {order}"),
+    }
+}
+
+/// `test (done)`, `sign (held in subject 5)`.
+fn say_entry(desk: &Desk, entry: &Entry) -> String {
+    let task = desk.say(Sort::Task, entry.task);
+    format!("{task} ({})", state_of(desk, entry))
+}
+
+fn state_of(desk: &Desk, entry: &Entry) -> String {
+    match entry.holder {
+        Some(subject) => format!("held in {}", desk.say(Sort::Subject, subject)),
+        None => "done".to_string(),
+    }
+}
+
+/// `clerk_a has test (done) and sign (held in subject 5)`, of these entries.
+fn say_entries(desk: &Desk, user: u16, entries: &[Entry]) -> String {
+    let all: Vec<String> = entries.iter().map(|e| say_entry(desk, e)).collect();
+    format!("{} has {}", desk.say(Sort::User, user), joined(&all))
+}
+
+fn in_use(desk: &Desk, record: Record) -> Why {
+    let (a, told) = (record.a(), &desk.told);
+    let subjects = |pick: &dyn Fn(&crate::told::Session) -> bool| {
+        let picked = told.subjects.iter().filter(|(_, s)| s.user == a && pick(s));
+        picked.map(|(&subject, _)| subject).collect::<Vec<u16>>()
+    };
+    let held = |pick: &dyn Fn(u16, &Entry) -> bool| {
+        let mut all = Vec::new();
+        for (&order, opened) in &told.orders {
+            let picked = opened.entries.iter().filter(|e| pick(order, e));
+            let in_order = desk.say(Sort::Order, order);
+            all.extend(picked.map(|e| format!("{} of {in_order}", say_entry(desk, e))));
+        }
+        all
+    };
+    let mut because = Vec::new();
+    match record.kind() {
+        33 => {
+            let user = desk.say(Sort::User, a);
+            for subject in subjects(&|_| true) {
+                because.push(format!(
+                    "{user} has {} live",
+                    desk.say(Sort::Subject, subject)
+                ));
+            }
+            for entry in held(&|_, e| e.user == a) {
+                because.push(format!("{user} has an entry: {entry}"));
+            }
+        }
+        35 => {
+            let role = desk.say(Sort::Role, record.b());
+            let active = |s: &crate::told::Session| s.active.has(record.b() as u8);
+            for subject in subjects(&active) {
+                because.push(format!("{role} is active in {}", desk.say_subject(subject)));
+            }
+        }
+        41 => {
+            for entry in held(&|_, e| e.holder == Some(a)) {
+                because.push(format!("{} holds a task: {entry}", desk.say_subject(a)));
+            }
+        }
+        _ => {
+            for entry in desk.told.entries(a).iter().filter(|e| e.holder.is_some()) {
+                because.push(holder(desk, a, entry.task));
+            }
+        }
+    }
+    Why::all(because)
+}
+
+fn not_assigned(desk: &Desk, record: Record) -> Why {
+    let (user, asked) = match record.kind() {
+        40 => (record.b(), Set(record.m())),
+        _ => (
+            desk.told.user_of(record.a()).unwrap_or_default(),
+            Set::of(&[record.b() as u8]),
+        ),
+    };
+    let roles = desk.told.roles_of(user);
+    let missing = desk.say_set(Sort::Role, Set(asked.0 & !roles.0));
+    let (user, roles) = (desk.say(Sort::User, user), desk.say_set(Sort::Role, roles));
+    Why::because(format!(
+        "{user} is not assigned {missing}; assigned: {roles}"
+    ))
+}
+
+/// The first set of a kind that these roles exceed, and the roles of it.
+fn exceeded(desk: &Desk, kind: u8, roles: Set) -> Option<(Rule, Set)> {
+    let mut sets = desk
+        .told
+        .rules_of(kind)
+        .map(|(place, rule)| ((place, rule), Set(rule.m() & roles.0)));
+    sets.find(|((_, rule), of_set)| of_set.0.count_ones() > u32::from(rule.n()))
+}
+
+/// STATIC and DYNAMIC: which set, and which roles of it the user would have.
+pub fn role_limit(desk: &Desk, record: Record, kind: u8) -> Why {
+    let (told, a, b) = (&desk.told, record.a(), record.b());
+    let one = Set(1u64.checked_shl(b.into()).unwrap_or(0));
+    let (user, before, added) = match record.kind() {
+        32 => (a, Set::EMPTY, Set(record.m())),
+        4 | 34 => (a, told.roles_of(a), one),
+        40 => (b, had_by(desk, b), Set(record.m())),
+        _ => {
+            let user = told.user_of(a).unwrap_or_default();
+            (user, had_by(desk, user), one)
+        }
+    };
+    let Some((rule, roles)) = exceeded(desk, kind, Set(before.0 | added.0)) else {
+        return Why::default();
+    };
+    let name = desk.say(Sort::User, user);
+    let limit = rule.1.n();
+    let would = desk.say_set(Sort::Role, roles);
+    let mut because = vec![if kind == 9 {
+        format!("{name} would be assigned {would}, and may have {limit} of these")
+    } else {
+        format!("{name} would have had {would} active, and may have {limit} of these over all live subjects")
+    }];
+    if kind == 10 {
+        for (&subject, session) in told.subjects.iter().filter(|(_, s)| s.user == user) {
+            let met = Set(session.had.0 & rule.1.m());
+            if met != Set::EMPTY {
+                let met = desk.say_set(Sort::Role, met);
+                because.push(format!(
+                    "{} has had {met} active; destroying it forgets that",
+                    desk.say(Sort::Subject, subject)
+                ));
+            }
+        }
+    }
+    Why::all(because).by(Some(rule))
+}
+
+fn had_by(desk: &Desk, user: u16) -> Set {
+    let of_user = desk.told.subjects.values().filter(|s| s.user == user);
+    Set(of_user.fold(0, |all, s| all | s.had.0))
+}
+
+fn denied(desk: &Desk, record: Record) -> Why {
+    let told = &desk.told;
+    let pair = match record.kind() {
+        56 => (record.b(), record.c()),
+        _ => ((record.m() & 0xffff) as u16, (record.m() >> 16) as u16),
+    };
+    let named = told.permissions.iter().find(|(_, &p)| p == pair);
+    let Some((&permission, _)) = named else {
+        let (operation, object) = (
+            desk.say(Sort::Operation, pair.0),
+            desk.say(Sort::Object, pair.1),
+        );
+        return Why::because(format!(
+            "no permission is declared for {operation} on {object}"
+        ));
+    };
+    let said = desk.say(Sort::Permission, permission);
+    let list = |sort: Sort, pairs: &[(u16, u16)]| {
+        let with = pairs.iter().filter(|(_, p)| *p == permission);
+        desk.say_all(sort, with.map(|&(of, _)| of))
+    };
+    Why::all(match record.kind() {
+        56 => {
+            let subject = record.a();
+            let active = told.subjects.get(&subject).map_or(Set::EMPTY, |s| s.active);
+            let active = desk.say_set(Sort::Role, active);
+            let roles = list(Sort::Role, &told.allowed);
+            vec![
+                format!("it takes {said}, which these roles have: {roles}"),
+                format!("active in {}: {active}", desk.say_subject(subject)),
+            ]
+        }
+        _ => {
+            let task = desk.say(Sort::Task, record.c());
+            let tasks = list(Sort::Task, &told.carried);
+            vec![format!(
+                "it takes {said}, which {task} does not carry; tasks that do: {tasks}"
+            )]
+        }
+    })
+}
+
+fn no_role(desk: &Desk, record: Record) -> Why {
+    let (subject, task) = (record.a(), record.c());
+    let session = desk.told.subjects.get(&subject);
+    let active = session.map_or(Set::EMPTY, |s| s.active);
+    let open = desk.told.open_to(task);
+    let mut because = vec![
+        format!(
+            "{} is open to: {}",
+            desk.say(Sort::Task, task),
+            desk.say_set(Sort::Role, open)
+        ),
+        format!(
+            "active in {}: {}",
+            desk.say_subject(subject),
+            desk.say_set(Sort::Role, active)
+        ),
+    ];
+    if let Some(session) = session {
+        let could = Set(desk.told.roles_of(session.user).0 & open.0);
+        if could != Set::EMPTY {
+            let (user, roles) = (
+                desk.say(Sort::User, session.user),
+                desk.say_set(Sort::Role, could),
+            );
+            because.push(format!(
+                "{user} is assigned {roles}, which can be activated"
+            ));
+        }
+    }
+    Why {
+        could: Some((task, desk.candidates(record.b(), task))),
+        ..Why::all(because)
+    }
+}
+
+/// The entries of an order that a rule met, for a claim of a task by a user.
+struct Claim<'a> {
+    desk: &'a Desk,
+    user: u16,
+    order: u16,
+    task: u16,
+}
+
+impl Claim<'_> {
+    fn of(desk: &Desk, record: Record) -> Claim<'_> {
+        Claim {
+            desk,
+            user: desk.told.user_of(record.a()).unwrap_or_default(),
+            order: record.b(),
+            task: record.c(),
+        }
+    }
+
+    fn entries(&self, pick: impl Fn(&Entry) -> bool) -> Vec<Entry> {
+        let all = self.desk.told.entries(self.order).iter();
+        all.filter(|e| pick(e)).copied().collect()
+    }
+
+    /// The user's entries in these tasks other than the claimed one.
+    fn own(&self, tasks: Set) -> Vec<Entry> {
+        self.entries(|e| e.user == self.user && e.task != self.task && tasks.has(e.task as u8))
+    }
+
+    /// What a rule met: entries, or for a prerequisite their absence.
+    fn met(&self, rule: Record) -> String {
+        let desk = self.desk;
+        match rule.kind() {
+            16 => {
+                let first = desk.say(Sort::Task, rule.a());
+                match &self.entries(|e| e.task == rule.a())[..] {
+                    [] => format!(
+                        "{first} has no entry in {}",
+                        desk.say(Sort::Order, self.order)
+                    ),
+                    all => format!("{first} is not done: {}", holders(desk, all)),
+                }
+            }
+            15 => {
+                let other = if rule.a() == self.task {
+                    rule.b()
+                } else {
+                    rule.a()
+                };
+                let theirs = self.entries(|e| e.task == other && e.user != self.user);
+                let whose = theirs.first().map_or(self.user, |e| e.user);
+                say_entries(desk, whose, &theirs)
+            }
+            _ => say_entries(desk, self.user, &self.own(Set(rule.m()))),
+        }
+    }
+}
+
+/// Where a library tells no place: the first rule that the told entries break, in the order of docs/RULES.md.
+impl Claim<'_> {
+    fn first_broken(&self, reply: Reply) -> Option<Rule> {
+        let kind = reply.rule_kind()?;
+        let broken = |&(_, rule): &Rule| match kind {
+            16 => {
+                let done = |e: &Entry| e.task == rule.a() && e.holder.is_none();
+                rule.b() == self.task && self.entries(done).is_empty()
+            }
+            11 => {
+                let own = self.own(Set(rule.m()));
+                let tasks = own.iter().fold(0u64, |all, e| all | 1 << e.task);
+                has(rule, self.task) && tasks.count_ones() >= rule.n().into()
+            }
+            _ => {
+                let pair = [(rule.a(), rule.b()), (rule.b(), rule.a())];
+                let other = pair.into_iter().find(|(one, _)| *one == self.task);
+                other.is_some_and(|(_, other)| {
+                    let theirs = |e: &Entry| e.task == other && e.user != self.user;
+                    !self.entries(theirs).is_empty()
+                })
+            }
+        };
+        match kind {
+            12 => self.first_block(),
+            _ => self.desk.told.rules_of(kind).find(broken),
+        }
+    }
+
+    fn first_block(&self) -> Option<Rule> {
+        let blocks: Vec<Rule> = self.desk.told.rules_of(12).collect();
+        let own = |block: Record| {
+            blocks
+                .iter()
+                .any(|&(_, b)| b.a() == block.a() && has(b, self.task))
+        };
+        let met = |&&(_, block): &&Rule| {
+            own(block) && !has(block, self.task) && !self.own(Set(block.m())).is_empty()
+        };
+        blocks
+            .iter()
+            .filter(met)
+            .min_by_key(|(place, block)| (block.a(), *place))
+            .copied()
+    }
+}
+
+fn has(rule: Record, task: u16) -> bool {
+    Set(rule.m()).has(task as u8)
+}
+
+/// `clerk_a (held in subject 5), clerk_b (done)`.
+fn holders(desk: &Desk, entries: &[Entry]) -> String {
+    let one = |e: &Entry| format!("{} ({})", desk.say(Sort::User, e.user), state_of(desk, e));
+    joined(&entries.iter().map(one).collect::<Vec<String>>())
+}
+
+/// BEFORE, SEPARATION, BLOCK, BOUND: the rule is the one at the place that the engine told.
+fn claim_rule(desk: &Desk, record: Record, answer: Answer) -> Why {
+    let claim = Claim::of(desk, record);
+    let placed = answer.rule().and_then(|rule| {
+        let mut of_kind = desk.told.rules_of(rule.kind);
+        of_kind.nth(rule.place - 1)
+    });
+    let Some((place, rule)) = placed.or_else(|| claim.first_broken(answer.reply)) else {
+        return Why::default();
+    };
+    // Nobody may claim a task whose prerequisite is not done; who may do that one is what helps.
+    let task = if rule.kind() == 16 {
+        rule.a()
+    } else {
+        claim.task
+    };
+    let held = claim.entries(|e| e.task == task && e.holder.is_some());
+    let could = held
+        .is_empty()
+        .then(|| (task, desk.candidates(claim.order, task)));
+    Why {
+        rule: Some((place, rule)),
+        because: vec![claim.met(rule)],
+        could,
+    }
+}
+
+fn alone(desk: &Desk, record: Record) -> Why {
+    let claim = Claim::of(desk, record);
+    let template = desk.told.orders.get(&claim.order).map(|o| o.template);
+    let mut bans = desk.told.rules_of(13);
+    let rule = bans.find(|(_, rule)| Some(rule.a()) == template);
+    let own = claim.entries(|e| e.user == claim.user);
+    let reason = format!("{}: every other task", say_entries(desk, claim.user, &own));
+    Why {
+        could: Some((claim.task, desk.candidates(claim.order, claim.task))),
+        ..Why::because(reason).by(rule)
+    }
+}
+
+fn count(desk: &Desk, record: Record) -> Why {
+    let claim = Claim::of(desk, record);
+    let rule = desk
+        .told
+        .rules_of(14)
+        .find(|(_, rule)| rule.a() == claim.task);
+    let all = claim.entries(|e| e.task == claim.task);
+    let task = desk.say(Sort::Task, claim.task);
+    let reason = format!("{task} has {} entries: {}", all.len(), holders(desk, &all));
+    Why::because(reason).by(rule)
+}
