@@ -14,10 +14,9 @@ use std::io::Write;
 
 /// Loads the policy and tells the verdict; with `strict` a warning is a refusal.
 pub fn check(policy: Policy, strict: bool, out: &mut dyn Write) -> Done {
-    let file = policy.file.clone();
-    let desk = match Desk::open(policy) {
+    let desk = match Desk::open(&policy) {
         Ok(desk) => desk,
-        Err((policy, refused)) => {
+        Err(refused) => {
             for line in refusal(&policy, refused) {
                 writeln!(out, "{line}")?;
             }
@@ -30,7 +29,8 @@ pub fn check(policy: Policy, strict: bool, out: &mut dyn Write) -> Done {
     }
     writeln!(
         out,
-        "{file}: accepted: {}{}",
+        "{}: accepted: {}{}",
+        policy.file,
         contents(&desk),
         counted_warnings(warned.len())
     )?;
@@ -101,7 +101,7 @@ pub fn clashes(policy: &Policy, before: usize, reply: Reply) -> Vec<String> {
         bytes: policy.bytes[..before * LENGTH].to_vec(),
         ..policy.clone()
     };
-    let Ok(desk) = Desk::open(earlier) else {
+    let Ok(desk) = Desk::open(&earlier) else {
         return Vec::new();
     };
     match reply {

@@ -30,17 +30,15 @@ pub fn whole(bytes: &[u8]) -> Option<Record> {
 
 impl Desk {
     /// Loads the policy into a new engine.
-    pub fn open(policy: Policy) -> Result<Desk, (Policy, Refused)> {
+    pub fn open(policy: &Policy) -> Result<Desk, Refused> {
         let mut engine = Engine::new();
-        match engine.load(&policy.bytes) {
-            Ok(()) => Ok(Desk {
-                told: Told::loaded(&policy.records()),
-                names: policy.names.clone(),
-                policy,
-                engine,
-            }),
-            Err(refused) => Err((policy, refused)),
-        }
+        engine.load(&policy.bytes)?;
+        Ok(Desk {
+            told: Told::loaded(&policy.records()),
+            names: policy.names.clone(),
+            policy: policy.clone(),
+            engine,
+        })
     }
 
     /// The engine's answer; what a granted request changes is kept in mind.

@@ -265,12 +265,12 @@ impl<'a> Run<'a> {
     /// Loads the policy; that it is accepted counts where the line says what is expected.
     fn load(&mut self, number: usize, expected: Expected, told: bool) {
         self.loaded = true;
-        let (reply, place) = match Desk::open(self.policy.clone()) {
+        let (reply, place) = match Desk::open(&self.policy) {
             Ok(desk) => {
                 self.desk = Some(desk);
                 (Reply::Granted, 0)
             }
-            Err((_, refused)) => (refused.reply, refused.place),
+            Err(refused) => (refused.reply, refused.place),
         };
         if reply == expected.reply && expected.place.is_none_or(|at| at == place) {
             self.passed += usize::from(told);

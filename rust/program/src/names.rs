@@ -203,6 +203,11 @@ impl Names {
         all.map(|(&(_, number), name)| (number, shown(name)))
     }
 
+    /// The names of a sort alone.
+    pub fn words(&self, sort: Sort) -> Vec<String> {
+        self.of_sort(sort).map(|(_, name)| name).collect()
+    }
+
     pub fn has_any(&self, sort: Sort) -> bool {
         self.of_sort(sort).next().is_some()
     }

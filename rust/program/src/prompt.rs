@@ -29,9 +29,12 @@ const COMMANDS: [(&str, &str); 6] = [
     ("quit", "ends the desk, as does the end of input (Ctrl-D)"),
 ];
 
-/// Completes a line by the names of the moment.
-struct Completion {
+/// Completes a line by what is there at the moment.
+#[derive(Default)]
+pub struct Completion {
     names: Names,
+    /// What is declared, live or open of each sort, by name or number.
+    known: Vec<(Sort, Vec<String>)>,
 }
 
 impl Completer for Completion {
@@ -43,7 +46,7 @@ impl Completer for Completion {
         at: usize,
         _: &Context,
     ) -> rustyline::Result<(usize, Vec<String>)> {
-        Ok(completed(&line[..at], &self.names))
+        Ok(self.completed(&line[..at]))
     }
 }
 
@@ -54,37 +57,72 @@ impl Highlighter for Completion {}
 impl Validator for Completion {}
 impl Helper for Completion {}
 
-/// Where the last word of a line begins, and what it may become.
-pub fn completed(line: &str, names: &Names) -> (usize, Vec<String>) {
-    let (mut before, end) = tokens(line);
-    if end < line.len() {
-        return (line.len(), Vec::new());
+impl Completion {
+    fn of(desk: &Desk) -> Completion {
+        let (told, names) = (&desk.told, desk.names.clone());
+        let shown = |sort: Sort, numbers: &mut dyn Iterator<Item = u16>| {
+            let words = numbers.map(|number| names.shown(sort, number));
+            (sort, words.collect::<Vec<String>>())
+        };
+        let known = vec![
+            shown(Sort::User, &mut told.users.keys().copied()),
+            shown(Sort::Role, &mut told.roles.members().map(u16::from)),
+            shown(Sort::Permission, &mut told.permissions.keys().copied()),
+            shown(
+                Sort::Operation,
+                &mut told.permissions.values().map(|pair| pair.0),
+            ),
+            shown(
+                Sort::Object,
+                &mut told.permissions.values().map(|pair| pair.1),
+            ),
+            shown(Sort::Task, &mut told.tasks.keys().copied()),
+            shown(Sort::Template, &mut told.tasks.values().copied()),
+            shown(Sort::Subject, &mut told.subjects.keys().copied()),
+            shown(Sort::Order, &mut told.orders.keys().copied()),
+        ];
+        Completion { names, known }
     }
-    let last = before
-        .last()
-        .copied()
-        .filter(|t| t.at + t.text.len() == line.len());
-    let (start, begun) = last.map_or((line.len(), ""), |token| (token.at, token.text));
-    if last.is_some() {
-        before.pop();
+
+    fn words(&self, sort: Sort) -> Vec<String> {
+        let known = self.known.iter().find(|(of, _)| *of == sort);
+        known.map_or(self.names.words(sort), |(_, words)| words.clone())
     }
-    let mut words = offered(&expected_after(&before, names), names);
-    match &before[..] {
-        [] => words.extend(
-            COMMANDS
-                .iter()
-                .filter_map(|(c, _)| c.split(' ').next())
-                .map(String::from),
-        ),
-        [who] if who.text == "who" => words.extend(names.of_sort(Sort::Order).map(|(_, n)| n)),
-        [who, _] if who.text == "who" => words.extend(names.of_sort(Sort::Task).map(|(_, n)| n)),
-        _ => {}
+
+    /// Where the last word of a line begins, and what it may become.
+    pub fn completed(&self, line: &str) -> (usize, Vec<String>) {
+        let (mut before, end) = tokens(line);
+        if end < line.len() {
+            return (line.len(), Vec::new());
+        }
+        let last = before
+            .last()
+            .copied()
+            .filter(|t| t.at + t.text.len() == line.len());
+        let (start, begun) = last.map_or((line.len(), ""), |token| (token.at, token.text));
+        if last.is_some() {
+            before.pop();
+        }
+        let mut words = offered(&expected_after(&before, &self.names), |sort| {
+            self.words(sort)
+        });
+        match &before[..] {
+            [] => words.extend(
+                COMMANDS
+                    .iter()
+                    .filter_map(|(c, _)| c.split(' ').next())
+                    .map(String::from),
+            ),
+            [who] if who.text == "who" => words.extend(self.words(Sort::Order)),
+            [who, _] if who.text == "who" => words.extend(self.words(Sort::Task)),
+            _ => {}
+        }
+        words.retain(|word| word.starts_with(begun));
+        words.sort();
+        words.dedup();
+        let words = words.into_iter().map(|word| word + " ").collect();
+        (start, words)
     }
-    words.retain(|word| word.starts_with(begun));
-    words.sort();
-    words.dedup();
-    let words = words.into_iter().map(|word| word + " ").collect();
-    (start, words)
 }
 
 /// Where the history is kept between runs.
@@ -103,8 +141,7 @@ pub fn talk(desk: &mut Desk, listing: &mut Listing) -> Done {
         .auto_add_history(true)
         .build();
     let mut editor: Editor<Completion> = Editor::with_config(config);
-    let names = desk.names.clone();
-    editor.set_helper(Some(Completion { names }));
+    editor.set_helper(Some(Completion::of(desk)));
     let history = history();
     if let Some(file) = &history {
         let _ = editor.load_history(file);
@@ -120,9 +157,7 @@ pub fn talk(desk: &mut Desk, listing: &mut Listing) -> Done {
                 if !said(desk, &line, listing)? {
                     break;
                 }
-                if let Some(helper) = editor.helper_mut() {
-                    helper.names = desk.names.clone();
-                }
+                editor.set_helper(Some(Completion::of(desk)));
             }
             Err(ReadlineError::Interrupted) => continue,
             Err(ReadlineError::Eof) => break,
@@ -247,7 +282,9 @@ mod tests {
         names.give(Sort::User, 301, b"clerk_b");
         names.give(Sort::Role, 0, b"signer");
         names.give(Sort::Task, 4, b"sign");
-        let offers = |line: &str| completed(line, &names).1;
+        let known = vec![(Sort::Subject, vec!["5".to_string()])];
+        let completion = Completion { names, known };
+        let offers = |line: &str| completion.completed(line).1;
         assert_eq!(offers("cl"), ["claim "]);
         assert_eq!(
             offers("create subject 5 for user cl"),
@@ -258,9 +295,12 @@ mod tests {
             ["none ", "signer "]
         );
         assert_eq!(offers("claim 5 0 "), ["sign "]);
+        assert_eq!(offers("claim "), ["5 "]);
+        assert_eq!(offers("ta"), ["take ", "task "]);
+        assert_eq!(offers("task "), ["check "]);
         assert_eq!(offers("who 0 s"), ["sign "]);
         assert_eq!(offers("nonsense "), [""; 0]);
         assert_eq!(offers("claim 5 # cl"), [""; 0]);
-        assert_eq!(completed("delete user clerk_", &names).0, 12);
+        assert_eq!(completion.completed("delete user clerk_").0, 12);
     }
 }

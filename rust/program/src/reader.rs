@@ -272,7 +272,8 @@ impl Attempt {
             Part::Word("times") if token.text == "time" => self.next(),
             Part::Word(word) => (word == token.text).then(|| self.next())?,
             Part::Number(field, _) => {
-                let number = self.number(token, field.last(), sort, names)?;
+                let by_name = sort.filter(|_| !self.form.names_alone);
+                let number = self.number(token, field.last(), by_name, names)?;
                 self.record = field.put(self.record, number);
                 let nameable = self.form.names_alone || declares(self.form.kind, field);
                 let by_number = token.number().is_some();
@@ -317,6 +318,8 @@ impl Attempt {
             None => {}
             Some((Part::Word(word), _)) => all.push(Expected::Word(word)),
             Some((Part::Number(field, name), sort)) => {
+                // A line that names takes a number, which may have no name yet.
+                let sort = sort.filter(|_| !self.form.names_alone);
                 all.push(Expected::Number(field.last(), name, sort));
             }
             Some((Part::Set, sort)) if self.record.m() == 0 => {
@@ -337,8 +340,13 @@ impl Attempt {
 }
 
 /// The attempts that are left after these tokens, or the token that none goes on with and those before it.
-fn follow(tokens: &[Token], names: &Names) -> Result<Vec<Attempt>, (usize, Vec<Attempt>)> {
-    let mut open: Vec<Attempt> = forms().iter().map(Attempt::new).collect();
+fn follow(
+    tokens: &[Token],
+    names: &Names,
+    of: impl Fn(&Form) -> bool,
+) -> Result<Vec<Attempt>, (usize, Vec<Attempt>)> {
+    let followed = forms().iter().filter(|form| of(form));
+    let mut open: Vec<Attempt> = followed.map(Attempt::new).collect();
     for (at, &token) in tokens.iter().enumerate() {
         let steps = open.iter().cloned().filter_map(|a| a.step(token, names));
         let on: Vec<Attempt> = steps.collect();
@@ -360,20 +368,17 @@ fn expected_by(open: &[Attempt]) -> Vec<Expected> {
     all
 }
 
-/// What may stand behind these tokens; nothing where they are not in the notation.
+/// What may stand behind these tokens in a request; nothing where they are not in the notation.
 pub fn expected_after(tokens: &[Token], names: &Names) -> Vec<Expected> {
-    follow(tokens, names).map_or(Vec::new(), |open| expected_by(&open))
+    let of_requests = |form: &Form| form.kind >= 32 || form.names_alone;
+    follow(tokens, names, of_requests).map_or(Vec::new(), |open| expected_by(&open))
 }
 
-/// The words that may stand there, names among them.
-pub fn offered(expected: &[Expected], names: &Names) -> Vec<String> {
-    let of = |sort: Option<Sort>| {
-        sort.into_iter()
-            .flat_map(|s| names.of_sort(s).map(|(_, name)| name))
-    };
+/// The words that may stand there; `known` tells those of a sort, its names among them.
+pub fn offered(expected: &[Expected], known: impl Fn(Sort) -> Vec<String>) -> Vec<String> {
     let words = expected.iter().flat_map(|&expected| match expected {
         Expected::Word(word) => vec![word.to_string()],
-        Expected::Number(_, _, sort) | Expected::Member(_, sort) => of(sort).collect(),
+        Expected::Number(_, _, sort) | Expected::Member(_, sort) => sort.map_or(vec![], &known),
         _ => vec![],
     });
     words.collect()
@@ -418,18 +423,16 @@ fn wrong(open: &[Attempt], token: Option<Token>, end: usize, names: &Names) -> W
     let words: Vec<String> = expected.iter().flat_map(|e| e.words(names)).collect();
     let mut text = either(&words);
     let near = token.and_then(|token| {
-        let offered = offered(&expected, names);
+        let offered = offered(&expected, |sort| names.words(sort));
         let near = |word: &String| (distance(token.text, word), word.clone());
         let (far, word) = offered.iter().map(near).min()?;
         (far <= 2 && far < token.text.chars().count() && token.number().is_none()).then_some(word)
     });
     // Where a word is nearly right, it and nothing else is what a person wants to read.
-    if let Some(word) = near {
-        text = if words.len() > 4 {
-            format!("\"{word}\"")
-        } else {
-            format!("{text} (\"{word}\"?)")
-        };
+    match near {
+        Some(word) if words.len() > 4 => text = format!("\"{word}\""),
+        Some(word) if words.len() > 1 => text += &format!(" (\"{word}\"?)"),
+        _ => {}
     }
     Wrong {
         column: token.map_or(end, |token| token.column),
@@ -451,8 +454,8 @@ pub fn read_tokens(tokens: &[Token], names: &Names) -> Result<Option<Line>, Wron
         return Ok(None);
     };
     let end = last.column + last.text.chars().count();
-    let open =
-        follow(tokens, names).map_err(|(at, open)| wrong(&open, Some(tokens[at]), end, names))?;
+    let open = follow(tokens, names, |_| true)
+        .map_err(|(at, open)| wrong(&open, Some(tokens[at]), end, names))?;
     let missing = wrong(&open, None, end, names);
     let whole = open.into_iter().find(Attempt::complete).ok_or(missing)?;
     let record = match whole.part() {
@@ -622,7 +625,7 @@ task set 1 of 4 6\npermission 1 is operation 2 on object 9\nclaim 5 0 4\n";
         };
         assert_eq!(
             said("user 300 has rolle 0"),
-            "14: expected \"role\" (\"role\"?), found \"rolle\""
+            "14: expected \"role\", found \"rolle\""
         );
         assert_eq!(said("delete user clerk_x"), "13: expected a number up to 65535 or the name of a known user (\"clerk_b\"?), found \"clerk_x\"");
         assert_eq!(said("clam 5 0 1"), "1: expected \"claim\", found \"clam\"");

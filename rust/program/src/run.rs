@@ -37,13 +37,13 @@ pub fn run(policy: Policy, requests: Option<&str>, style: Style, out: &mut dyn W
     let too_long = style == Style::Plain && policy.bytes.len() > DESK_LONGEST;
     let opened = if too_long {
         let (reply, place) = (Reply::Room, 0);
-        Err((policy, Refused { reply, place }))
+        Err(Refused { reply, place })
     } else {
-        Desk::open(policy)
+        Desk::open(&policy)
     };
     let mut desk = match opened {
         Ok(desk) => desk,
-        Err((policy, refused)) => {
+        Err(refused) => {
             show_refusal(&policy, refused, style, out)?;
             return Ok(REFUSED);
         }

@@ -611,3 +611,128 @@ fn count(desk: &Desk, record: Record) -> Why {
     let reason = format!("{task} has {} entries: {}", all.len(), holders(desk, &all));
     Why::because(reason).by(rule)
 }
+
+#[cfg(test)]
+mod tests {
+    use super::*;
+    use crate::source::text_policy;
+    use std::collections::BTreeMap;
+
+    const POLICIES: [&str; 3] = [
+        include_str!("../../../examples/named.txt"),
+        include_str!("../../../examples/loan/policy.txt"),
+        include_str!("../../../examples/stuck_order/policy.txt"),
+    ];
+
+    /// Numbers that repeat.
+    struct Random(u64);
+
+    impl Random {
+        fn below(&mut self, end: u64) -> u64 {
+            self.0 ^= self.0 << 13;
+            self.0 ^= self.0 >> 7;
+            self.0 ^= self.0 << 17;
+            self.0 % end
+        }
+
+        fn pick(&mut self, from: &[u16]) -> u16 {
+            from[self.below(from.len() as u64) as usize]
+        }
+    }
+
+    fn request(random: &mut Random, desk: &Desk) -> Record {
+        let with_one = |numbers: Vec<u16>, other: u16| [numbers, vec![other]].concat();
+        let users = with_one(desk.told.users.keys().copied().collect(), 9);
+        let tasks = with_one(desk.told.tasks.keys().copied().collect(), 50);
+        let templates: Vec<u16> = desk.told.tasks.values().copied().chain([14]).collect();
+        let (user, task) = (random.pick(&users), random.pick(&tasks));
+        let template = random.pick(&templates);
+        let (subject, order) = (random.below(6) as u16, random.below(3) as u16);
+        let (role, roles) = (random.below(5) as u16, Set(random.below(32)));
+        match random.below(29) {
+            0 => Record::add_user_with(user, roles),
+            1 => Record::delete_user(user),
+            2 => Record::assign_role(user, role),
+            3 => Record::take_role(user, role),
+            4 => Record::destroy_subject(subject),
+            5 | 6 => Record::activate_role(subject, role),
+            7 => Record::deactivate_role(subject, role),
+            8 | 9 => Record::open_order(order, template),
+            10 => Record::end_order(order),
+            11 => Record::check(subject, role, task),
+            12 => Record::task_check(subject, order, task, role, user),
+            13 => Record::give_permission(role, 1),
+            14 => Record::take_permission(role, 1),
+            15 => Record::user(1024 + user),
+            16 | 17 => Record::create_subject(subject, user, roles),
+            18 => Record::create_subject(subject, user, desk.told.roles_of(user)),
+            19 => Record::release(subject, order, task),
+            22 => Record::delete_user(1024 + user),
+            20 | 21 => Record::done(subject, order, task),
+            _ => Record::claim(subject, order, task),
+        }
+    }
+
+    /// Every refusal is explained; who is said to be able to claim is granted the claim, and nobody who is live is left out; a rule is
+    /// the one whose place the engine told.
+    #[test]
+    fn explanations_are_the_engines() {
+        let mut met: BTreeMap<Reply, usize> = BTreeMap::new();
+        for (seed, text) in (1u64..).zip(POLICIES) {
+            let policy = text_policy("policy.txt", text.as_bytes()).unwrap();
+            let mut desk = Desk::open(&policy).unwrap();
+            let mut random = Random(seed.wrapping_mul(0x9e37_79b9_7f4a_7c15));
+            for _ in 0..6_000 {
+                let record = request(&mut random, &desk);
+                let answer = desk.ask(&record.0);
+                *met.entry(answer.reply).or_default() += 1;
+                if answer.is_granted() {
+                    continue;
+                }
+                let why = why(&desk, &record.0, answer);
+                let said = why.lines(&desk);
+                assert!(!said.is_empty(), "{answer}: {record}");
+                if let Some(rule) = answer.rule() {
+                    let told = desk.told.rules_of(rule.kind).nth(rule.place - 1);
+                    assert_eq!(why.rule, told);
+                    let claim = Claim::of(&desk, record);
+                    assert_eq!(claim.first_broken(answer.reply), told, "{answer}: {record}");
+                }
+                let Some((task, who)) = why.could else {
+                    continue;
+                };
+                for &subject in desk.told.subjects.keys() {
+                    let claim = Record::claim(subject, record.b(), task);
+                    let named = who.iter().any(|c| c.subject == Some(subject));
+                    assert_eq!(desk.tried(&[claim]).is_granted(), named, "{claim}");
+                }
+            }
+        }
+        let claims = [
+            Reply::NoRole,
+            Reply::Before,
+            Reply::Separation,
+            Reply::Block,
+            Reply::Alone,
+            Reply::Bound,
+            Reply::Count,
+        ];
+        let others = [
+            Reply::Shape,
+            Reply::Range,
+            Reply::Unknown,
+            Reply::Taken,
+            Reply::InUse,
+            Reply::NotAssigned,
+        ];
+        let last = [
+            Reply::Static,
+            Reply::Dynamic,
+            Reply::NotYours,
+            Reply::Denied,
+        ];
+        for reply in claims.into_iter().chain(others).chain(last) {
+            assert!(met.contains_key(&reply), "{reply} was not met: {met:?}");
+        }
+    }
+}
