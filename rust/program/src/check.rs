@@ -6,7 +6,7 @@ use crate::reader::declares;
 use crate::source::Policy;
 use crate::stop::{Done, REFUSED, WELL};
 use crate::warnings::warnings;
-use crate::why::{is_known, range, role_limit, unknown, Why};
+use crate::why::{has_line, is_known, range, role_limit, unknown, Why};
 use crate::writer::numbers;
 use mishantral::Refused;
 use records::{Record, Reply, Set, LENGTH};
@@ -122,9 +122,9 @@ pub fn clashes(policy: &Policy, before: usize, reply: Reply) -> Vec<String> {
 
 fn shape(record: Record) -> String {
     match record.kind() {
-        kind @ 1..=16 => format!("a field that kind {kind} does not use is not zero"),
+        kind if !has_line(kind) => format!("there is no policy record of kind {kind}"),
         32.. => "it is a request: are policy and requests swapped?".to_string(),
-        kind => format!("there is no policy record of kind {kind}"),
+        kind => format!("a field that kind {kind} does not use is not zero"),
     }
 }
 

@@ -4,7 +4,8 @@ use crate::names::{Names, Sort};
 use crate::source::Policy;
 use crate::told::Told;
 use mishantral::{Answer, Engine, Refused};
-use records::{Record, Set, LENGTH};
+use records::{Record, Reply, Set, LENGTH};
+use std::collections::BTreeMap;
 
 pub struct Desk {
     pub policy: Policy,
@@ -21,6 +22,13 @@ pub struct Candidate {
     /// The live subject that could; none where the user would need a new one with this role active.
     pub subject: Option<u16>,
     pub role: Option<u16>,
+}
+
+/// Those who could, and how many others with a role for the task would be refused with what.
+#[derive(Clone, Default, Debug)]
+pub struct Candidates {
+    pub who: Vec<Candidate>,
+    pub refused: BTreeMap<Reply, usize>,
 }
 
 /// A record's sixteen bytes, if it has as many.
@@ -53,7 +61,7 @@ impl Desk {
     /// The answers to these requests one after the other, on a copy; the last of them.
     pub fn tried(&self, records: &[Record]) -> Answer {
         let mut copy = self.engine.clone();
-        let mut last = Answer::from(records::Reply::Granted);
+        let mut last = Answer::from(Reply::Granted);
         for record in records {
             last = copy.request(record);
             if !last.is_granted() {
@@ -64,42 +72,44 @@ impl Desk {
     }
 
     /// Who could claim this task of this order now, by the engine's answers on copies: subjects that are live, and users without one
-    /// that could, in a new one with one of their roles.
-    pub fn candidates(&self, order: u16, task: u16) -> Vec<Candidate> {
-        let mut all = Vec::new();
+    /// that could, in a new one with one of their roles; and of the others who have a role for it, what they would be answered.
+    pub fn candidates(&self, order: u16, task: u16) -> Candidates {
+        let mut all = Candidates::default();
         for (&subject, session) in &self.told.subjects {
-            if self
-                .tried(&[Record::claim(subject, order, task)])
-                .is_granted()
-            {
-                let user = session.user;
-                let (subject, role) = (Some(subject), None);
-                all.push(Candidate {
-                    user,
-                    subject,
-                    role,
+            let claim = Record::claim(subject, order, task);
+            if self.tried(&[claim]).is_granted() {
+                all.who.push(Candidate {
+                    user: session.user,
+                    subject: Some(subject),
+                    role: None,
                 });
             }
         }
-        let free = (0..=Sort::Subject.last()).find(|s| !self.told.subjects.contains_key(s));
-        let (Some(free), open) = (free, self.told.open_to(task)) else {
+        let mut subjects = 0..=Sort::Subject.last();
+        let Some(free) = subjects.find(|s| !self.told.subjects.contains_key(s)) else {
             return all;
         };
+        let open = self.told.open_to(task);
         for (&user, &roles) in &self.told.users {
-            if all.iter().any(|c| c.user == user) {
+            if all.who.iter().any(|c| c.user == user) {
                 continue;
             }
+            let mut refused = None;
             let could = |&role: &u8| {
                 let create = Record::create_subject(free, user, Set::of(&[role]));
-                self.tried(&[create, Record::claim(free, order, task)])
-                    .is_granted()
+                let answer = self.tried(&[create, Record::claim(free, order, task)]);
+                refused = Some(answer.reply).filter(|reply| !reply.is_granted());
+                answer.is_granted()
             };
             let role = Set(roles.0 & open.0).members().find(could);
-            all.extend(role.map(|role| Candidate {
+            all.who.extend(role.map(|role| Candidate {
                 user,
                 subject: None,
                 role: Some(role.into()),
             }));
+            if let Some(reply) = refused {
+                *all.refused.entry(reply).or_default() += 1;
+            }
         }
         all
     }

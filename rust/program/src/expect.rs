@@ -44,6 +44,8 @@ struct Failure {
     place: usize,
     what: String,
     because: Vec<String>,
+    /// Whether the line is the one that says what was expected, and so can be updated.
+    told: bool,
 }
 
 /// How a reply is written behind `=>`; the place of a load is that of a record.
@@ -258,6 +260,7 @@ impl<'a> Run<'a> {
             place,
             what,
             because,
+            told: true,
         });
         None
     }
@@ -293,6 +296,7 @@ impl<'a> Run<'a> {
             place,
             what,
             because,
+            told,
         });
     }
 }
@@ -345,11 +349,14 @@ fn run<'a>(file: &'a str, text: &[u8]) -> Result<Run<'a>, Stop> {
             Err(wrong) => errors.push((number, wrong)),
         }
     }
-    if errors.is_empty() {
-        Ok(run)
-    } else {
-        Err(source::told(file, errors))
+    if !errors.is_empty() {
+        return Err(source::told(file, errors));
     }
+    // A policy that no request follows is tried too.
+    if !run.loaded && !run.policy.bytes.is_empty() {
+        run.load(run.policy.lines.last().copied().unwrap_or(1), GRANTED, true);
+    }
+    Ok(run)
 }
 
 fn told(file: &str, failure: &Failure, out: &mut dyn Write) -> std::io::Result<()> {
@@ -377,7 +384,7 @@ pub fn test(files: &[String], update: bool, out: &mut dyn Write) -> Done {
     let mut wrongs = Vec::new();
     for file in files {
         let text = bytes_of(file)?;
-        let run = match run(file, &text) {
+        let mut run = match run(file, &text) {
             Ok(run) => run,
             Err(Stop::Wrong(lines)) => {
                 wrongs.extend(lines);
@@ -386,11 +393,15 @@ pub fn test(files: &[String], update: bool, out: &mut dyn Write) -> Done {
             Err(quiet) => return Err(quiet),
         };
         passed += run.passed;
-        if update && !run.failures.is_empty() {
-            rewrite(file, &text, &run.failures)?;
-            changed += run.failures.len();
-            writeln!(out, "{file}: {} updated", run.failures.len())?;
-            continue;
+        if update {
+            let (can, cannot): (Vec<Failure>, Vec<Failure>) =
+                run.failures.into_iter().partition(|f| f.told);
+            run.failures = cannot;
+            if !can.is_empty() {
+                rewrite(file, &text, &can)?;
+                changed += can.len();
+                writeln!(out, "{file}: {} updated", can.len())?;
+            }
         }
         failed += run.failures.len();
         for failure in &run.failures {
@@ -399,6 +410,9 @@ pub fn test(files: &[String], update: bool, out: &mut dyn Write) -> Done {
     }
     if !wrongs.is_empty() {
         return Err(Stop::Wrong(wrongs));
+    }
+    if passed + failed + changed == 0 {
+        return wrong("there is nothing to test in these files");
     }
     let updated = if update {
         format!(", {changed} updated")

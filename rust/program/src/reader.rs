@@ -329,9 +329,7 @@ impl Attempt {
             Some((Part::Bytes, _)) if self.bytes.len() == LENGTH => {}
             Some((Part::Bytes, _)) => all.push(Expected::Byte),
         }
-        if self.form.names_alone {
-            all.extend(self.unnamed.map(|(sort, _)| Expected::Name(sort)));
-        }
+        all.extend(self.unnamed.map(|(sort, _)| Expected::Name(sort)));
         if self.complete() {
             all.push(Expected::End);
         }
@@ -633,7 +631,7 @@ task set 1 of 4 6\npermission 1 is operation 2 on object 9\nclaim 5 0 4\n";
             said("claim 5"),
             "8: expected the order, a number up to 65535, found the end of the line"
         );
-        assert_eq!(said("task 4"), "7: expected \"of\", \"open\", \"carries\", \"at\", \"bound\", \"before\" or a name for the task, found the end of the line");
+        assert_eq!(said("task 4"), "7: expected \"of\", a name for the task, \"open\", \"carries\", \"at\", \"bound\" or \"before\", found the end of the line");
     }
 
     #[test]

@@ -178,10 +178,13 @@ fn explained(desk: &Desk, why: &Why) -> Value {
             "record": place + 1, "line": desk.policy.lines.get(place),
         });
     }
-    if let Some((task, who)) = &why.could {
+    if let Some((task, could)) = &why.could {
         let one = |c: &crate::desk::Candidate| json!({"user": c.user, "name": name(Sort::User, c.user), "subject": c.subject, "role": c.role});
-        let who: Vec<Value> = who.iter().map(one).collect();
-        value["could_claim"] = json!({"task": task, "name": name(Sort::Task, *task), "who": who});
+        let who: Vec<Value> = could.who.iter().map(one).collect();
+        let other = |(reply, count): (&Reply, &usize)| json!({"reply": reply.number(), "name": reply.name(), "users": count});
+        let others: Vec<Value> = could.refused.iter().map(other).collect();
+        value["could_claim"] =
+            json!({"task": task, "name": name(Sort::Task, *task), "who": who, "others": others});
     }
     value
 }

@@ -1,13 +1,13 @@
 //! Why a request was refused, in words: the rule by its place in the engine's answer, the entries that it met and whose they are, and
 //! who could claim now, by the engine's answers on copies of its state.
 
-use crate::desk::{joined, whole, Candidate, Desk};
+use crate::desk::{joined, whole, Candidate, Candidates, Desk};
 use crate::names::Sort;
 use crate::reader::declares;
 use crate::told::Entry;
 use crate::writer::numbers;
 use mishantral::Answer;
-use records::forms::Field;
+use records::forms::{Field, FORMS};
 use records::{Record, Reply, Set, LENGTH};
 
 /// A rule of the policy: its place among the policy's records, from 0, and its record.
@@ -18,7 +18,7 @@ pub struct Why {
     pub rule: Option<Rule>,
     pub because: Vec<String>,
     /// A task, and who could claim it now.
-    pub could: Option<(u16, Vec<Candidate>)>,
+    pub could: Option<(u16, Candidates)>,
 }
 
 impl Why {
@@ -47,10 +47,13 @@ impl Why {
             let (line, place) = (desk.policy.line(place), desk.policy.place(place));
             format!("{line} ({place})")
         });
-        let could = self.could.as_ref().map(|(task, who)| {
+        let could = self.could.as_ref().map(|(task, candidates)| {
             let task = desk.say(Sort::Task, *task);
-            match &who[..] {
-                [] => format!("{task}: nobody could claim it now"),
+            match &candidates.who[..] {
+                [] => format!(
+                    "{task}: nobody could claim it now{}",
+                    say_refused(candidates)
+                ),
                 who => format!(
                     "{task} could be claimed now by {}",
                     say_candidates(desk, who)
@@ -64,6 +67,18 @@ impl Why {
 
 /// As many candidates as one reads.
 const FEW: usize = 6;
+
+/// What those who have a role for the task would be answered.
+fn say_refused(candidates: &Candidates) -> String {
+    let one = |(reply, &count): (&Reply, &usize)| match count {
+        1 => format!("1 clerk would get {}", reply.name()),
+        _ => format!("{count} clerks would get {}", reply.name()),
+    };
+    match &candidates.refused.iter().map(one).collect::<Vec<String>>()[..] {
+        [] => String::new(),
+        all => format!("; with a role for it, {}", joined(all)),
+    }
+}
 
 fn say_candidates(desk: &Desk, who: &[Candidate]) -> String {
     let one = |c: &Candidate| match (c.subject, c.role) {
@@ -113,13 +128,16 @@ pub fn why(desk: &Desk, bytes: &[u8], answer: Answer) -> Why {
     }
 }
 
+/// Whether the notation has a line for this kind.
+pub fn has_line(kind: u8) -> bool {
+    kind != 0 && FORMS.iter().any(|&(of, _)| of == kind)
+}
+
 fn shape(record: Record) -> Why {
     Why::because(match record.kind() {
-        1..=31 => "it is a record of a policy, not a request".to_string(),
-        32..=37 | 40..=43 | 48..=52 | 56 | 57 => {
-            "a field that the kind does not use is not zero".to_string()
-        }
-        kind => format!("there is no request of kind {kind}"),
+        kind if !has_line(kind) => format!("there is no request of kind {kind}"),
+        ..=31 => "it is a record of a policy, not a request".to_string(),
+        _ => "a field that the kind does not use is not zero".to_string(),
     })
 }
 
@@ -698,12 +716,12 @@ mod tests {
                     let claim = Claim::of(&desk, record);
                     assert_eq!(claim.first_broken(answer.reply), told, "{answer}: {record}");
                 }
-                let Some((task, who)) = why.could else {
+                let Some((task, could)) = why.could else {
                     continue;
                 };
                 for &subject in desk.told.subjects.keys() {
                     let claim = Record::claim(subject, record.b(), task);
-                    let named = who.iter().any(|c| c.subject == Some(subject));
+                    let named = could.who.iter().any(|c| c.subject == Some(subject));
                     assert_eq!(desk.tried(&[claim]).is_granted(), named, "{claim}");
                 }
             }

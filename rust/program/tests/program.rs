@@ -1,7 +1,7 @@
 //! The program as its users have it: run on the examples and on small files, its output, its errors and its exit statuses compared.
 
 use serde_json::Value;
-use std::io::{BufRead, BufReader, Write};
+use std::io::{BufRead, BufReader, Read, Write};
 use std::path::{Path, PathBuf};
 use std::process::{Command, Output, Stdio};
 
@@ -236,6 +236,18 @@ fn a_failed_test_says_what_came_instead_and_update_writes_it() {
         run(&["test", &test]),
         ("5 passed, 0 failed\n".to_string(), String::new(), 0)
     );
+    // A refused load that no line expects is not for --update to accept.
+    let load = file(&room, "load.test", "user 1\nuser 1\nadd user 2\n");
+    for arguments in [&["test", &load][..], &["test", "--update", &load]] {
+        let (told, _, status) = run(arguments);
+        assert!(
+            told.contains("line 3: expected 0 GRANTED, got 5 TAKEN, record 2: load\n"),
+            "{told}"
+        );
+        assert_eq!(status, 1);
+    }
+    let empty = file(&room, "empty.test", "# nothing\n");
+    assert_eq!(run(&["test", &empty]).2, 2);
     let wrong = file(
         &room,
         "wrong.test",
@@ -596,4 +608,64 @@ fn a_reader_who_stops_is_no_fault() {
     drop(child.stdout.take());
     let output = child.wait_with_output().unwrap();
     assert_eq!(String::from_utf8(output.stderr).unwrap(), "");
+}
+
+/// On a terminal, which `script` gives: words are completed with Tab, refusals explained, lines kept in a history.
+#[test]
+fn the_prompt_completes_explains_and_remembers() {
+    let room = room("prompt");
+    let program = env!("CARGO_BIN_EXE_mishantral");
+    let mut command = Command::new("script");
+    command.args([
+        "-qec",
+        &format!("'{program}' run examples/named.txt"),
+        "/dev/null",
+    ]);
+    command
+        .current_dir(root())
+        .env("XDG_STATE_HOME", &room)
+        .env("TERM", "xterm");
+    let Ok(mut child) = command.stdin(Stdio::piped()).stdout(Stdio::piped()).spawn() else {
+        return;
+    };
+    let mut to = child.stdin.take().unwrap();
+    let mut from = child.stdout.take().unwrap();
+    let mut said = String::new();
+    // Waits for what is to be shown before it types on: a prompt that is not there yet would take keys as they come.
+    let mut until = |text: &str| {
+        let mut byte = [0];
+        let mut bytes = Vec::new();
+        while !String::from_utf8_lossy(&bytes).contains(text) {
+            assert_eq!(from.read(&mut byte).unwrap(), 1, "{text}: {said}");
+            bytes.push(byte[0]);
+        }
+        said += &String::from_utf8_lossy(&bytes);
+    };
+    until("Ctrl-D ends.");
+    until("> ");
+    for (keys, shown) in [
+        (
+            "cre\tsub\t1 for user an\twith roles f\t\r",
+            "GRANTED       create subject 1 for user anna with roles fitter",
+        ),
+        (
+            "open order 0 mill of template b\t\r",
+            "GRANTED       open order mill of template breakdown",
+        ),
+        ("claim 1 m\tte\t\r", "test is open to: tester"),
+        ("nonsense\r", "expected "),
+        (
+            "who mill repair\r",
+            "repair could be claimed now by subject 1 of anna",
+        ),
+        ("show\r", "order mill of breakdown"),
+    ] {
+        to.write_all(keys.as_bytes()).unwrap();
+        until(shown);
+        until("> ");
+    }
+    to.write_all(b"quit\r").unwrap();
+    assert!(child.wait().unwrap().success());
+    let history = std::fs::read_to_string(room.join("mishantral/history")).unwrap();
+    assert!(history.contains("claim 1 mill test"), "{history}");
 }
