@@ -1,6 +1,7 @@
 //! A desk: the engine with a policy loaded, what its answers have told, and questions put to copies of it.
 
 use crate::names::{Names, Sort};
+use crate::reader::{self, Line};
 use crate::source::Policy;
 use crate::told::Told;
 use mishantral::{Answer, Engine, Refused};
@@ -54,6 +55,16 @@ impl Desk {
         let answer = self.engine.request(record);
         if let (true, Some(record)) = (answer.is_granted(), whole(record)) {
             self.told.granted(&record);
+        }
+        answer
+    }
+
+    /// Takes a line: the engine's answer to its record. The names that it gives are given where the record is granted, or where
+    /// there is none.
+    pub fn take(&mut self, line: &Line) -> Option<Answer> {
+        let answer = line.record.as_deref().map(|record| self.ask(record));
+        if answer.is_none_or(Answer::is_granted) {
+            reader::give(&mut self.names, &line.namings, false);
         }
         answer
     }

@@ -238,9 +238,8 @@ impl<'a> Run<'a> {
         let Some(desk) = &mut self.desk else {
             return None;
         };
-        reader::give(&mut desk.names, &line.namings, false);
+        let answer = desk.take(&line)?;
         let record = line.record?;
-        let answer = desk.ask(&record);
         if answer.reply == expected.reply
             && expected.place.is_none_or(|place| place == answer.place)
         {

@@ -2,7 +2,7 @@
 
 use crate::desk::Desk;
 use crate::names::{Names, Sort};
-use crate::reader::{expected_after, give, offered, read_line, tokens};
+use crate::reader::{expected_after, offered, read_line, tokens};
 use crate::run::Listing;
 use crate::stop::{Done, Stop, WELL};
 use rustyline::completion::Completer;
@@ -194,12 +194,7 @@ pub fn said(desk: &mut Desk, line: &str, listing: &mut Listing) -> Result<bool, 
 fn request(desk: &mut Desk, line: &str, listing: &mut Listing) -> Result<(), Stop> {
     match read_line(line, &desk.names) {
         Ok(None) => {}
-        Ok(Some(said)) => {
-            give(&mut desk.names, &said.namings, false);
-            if let Some(record) = said.record {
-                listing.answer(desk, &record)?;
-            }
-        }
+        Ok(Some(said)) => listing.answer(desk, &said)?,
         Err(wrong) => {
             // The prompt takes two columns.
             writeln!(listing.out, "{:>1$}", "^", wrong.column + 2)?;

@@ -446,6 +446,16 @@ pub struct Line {
     pub namings: Vec<Naming>,
 }
 
+impl Line {
+    /// A record that came as bytes.
+    pub fn of(record: &[u8]) -> Line {
+        Line {
+            record: Some(record.to_vec()),
+            namings: Vec::new(),
+        }
+    }
+}
+
 /// What these tokens say; nothing for a line without words.
 pub fn read_tokens(tokens: &[Token], names: &Names) -> Result<Option<Line>, Wrong> {
     let Some(last) = tokens.last() else {

@@ -4,7 +4,7 @@ use crate::check::{clashes, refusal};
 use crate::desk::{whole, Desk};
 use crate::names::Sort;
 use crate::prompt;
-use crate::reader;
+use crate::reader::{self, Line};
 use crate::source::{self, Policy, Requests};
 use crate::stop::{Done, Stop, REFUSED, WELL, WRONG};
 use crate::why::{why, Why};
@@ -118,10 +118,12 @@ pub struct Listing<'a> {
 }
 
 impl Listing<'_> {
-    /// Asks the desk and shows its answer.
-    pub fn answer(&mut self, desk: &mut Desk, record: &[u8]) -> Result<(), Stop> {
+    /// Has the desk take a line, and shows its answer if it has one.
+    pub fn answer(&mut self, desk: &mut Desk, line: &Line) -> Result<(), Stop> {
+        let (Some(record), Some(answer)) = (&line.record, desk.take(line)) else {
+            return Ok(());
+        };
         self.place += 1;
-        let answer = desk.ask(record);
         let text = match self.style {
             Style::Plain => format!(
                 "{} {} {}\n",
@@ -192,10 +194,7 @@ fn explained(desk: &Desk, why: &Why) -> Value {
 /// Requests that are all there.
 fn answered(desk: &mut Desk, requests: Requests, listing: &mut Listing) -> Done {
     for line in &requests {
-        reader::give(&mut desk.names, &line.namings, false);
-        if let Some(record) = &line.record {
-            listing.answer(desk, record)?;
-        }
+        listing.answer(desk, line)?;
     }
     listing.out.flush()?;
     Ok(WELL)
@@ -225,7 +224,7 @@ fn streamed(desk: &mut Desk, listing: &mut Listing) -> Done {
             break;
         }
         if !text {
-            listing.answer(desk, &bytes)?;
+            listing.answer(desk, &Line::of(&bytes))?;
         } else if !line(desk, number, &bytes, listing)? {
             status = WRONG;
         }
@@ -244,12 +243,7 @@ fn line(desk: &mut Desk, number: usize, bytes: &[u8], listing: &mut Listing) -> 
     let read = reader::decode(bytes).and_then(|line| reader::read_line(line, &desk.names));
     match read {
         Ok(None) => {}
-        Ok(Some(said)) => {
-            reader::give(&mut desk.names, &said.namings, false);
-            if let Some(record) = said.record {
-                listing.answer(desk, &record)?;
-            }
-        }
+        Ok(Some(said)) => listing.answer(desk, &said)?,
         Err(wrong) => {
             let column = wrong.column;
             eprintln!("mishantral: standard input: line {number}, column {column}: {wrong}");

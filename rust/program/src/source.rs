@@ -180,9 +180,5 @@ pub fn requests(file: &str, names: &Names) -> Result<Requests, Stop> {
         let read = reader::read(&bytes, names, false).map_err(|errors| told(file, errors))?;
         return Ok(read.lines.into_iter().map(|(_, line)| line).collect());
     }
-    let line = |record: &[u8]| reader::Line {
-        record: Some(record.to_vec()),
-        namings: Vec::new(),
-    };
-    Ok(bytes.chunks(LENGTH).map(line).collect())
+    Ok(bytes.chunks(LENGTH).map(reader::Line::of).collect())
 }

@@ -466,13 +466,17 @@ fn answers_through_a_pipe_come_one_by_one() {
     assert_eq!(next(), "load 0 GRANTED");
     to.write_all(b"add user 4 dora\n").unwrap();
     assert_eq!(next(), "    1   0 GRANTED       add user dora");
-    to.write_all(b"nonsense\n\ndelete user dora\n").unwrap();
-    assert_eq!(next(), "    2   0 GRANTED       delete user dora");
+    // A refused request names nothing.
+    to.write_all(b"add user 4 else\nnonsense\n\ndelete user dora\n")
+        .unwrap();
+    assert_eq!(next(), "    2   5 TAKEN         add user dora");
+    assert_eq!(next(), "                          dora is declared already");
+    assert_eq!(next(), "    3   0 GRANTED       delete user dora");
     drop(to);
     let output = child.wait_with_output().unwrap();
     let wrong = String::from_utf8(output.stderr).unwrap();
     assert!(
-        wrong.starts_with("mishantral: standard input: line 2, column 1: expected "),
+        wrong.starts_with("mishantral: standard input: line 3, column 1: expected "),
         "{wrong}"
     );
     assert_eq!(output.status.code(), Some(2));
