@@ -319,21 +319,13 @@ fn pieces(line: &str) -> (&str, Option<&str>, &str) {
     }
 }
 
-/// The line with what was answered in the place of what was expected: the arrow in this column, the comment in its own if it can be.
+/// The line without its comment, with what was answered in the place of what was expected: the arrow where it was, or in this column.
 fn updated(line: &str, failure: &Failure, column: usize) -> String {
     let (request, arrow, comment) = pieces(line);
-    let column = arrow.map_or(column, |arrow| {
-        width(&line[..line.len() - arrow.len() - comment.len()])
-    });
+    let before = |arrow: &str| width(&line[..line.len() - arrow.len() - comment.len()]);
+    let column = arrow.map_or(column, before);
     let reply = reply_text(failure.reply, failure.place, failure.what == "load");
-    let text = format!("{request:<0$} => {reply}", column.saturating_sub(1));
-    match comment {
-        "" => text,
-        comment => {
-            let before = width(line) - width(comment);
-            format!("{text:<0$}  {comment}", before.saturating_sub(2))
-        }
-    }
+    format!("{request:<0$} => {reply}", column.saturating_sub(1))
 }
 
 /// Runs one file; how many passed, and what failed. Text errors are all told.
@@ -434,12 +426,21 @@ fn rewrite(file: &str, text: &[u8], failures: &[Failure]) -> Result<(), Stop> {
     let failure = |number: usize| failures.iter().find(|f| f.line == number);
     let failed = all.iter().filter(|(number, _)| failure(*number).is_some());
     let column = failed
+        .clone()
         .map(|(_, line)| width(pieces(line).0) + 2)
         .max()
         .unwrap_or(0);
-    let line = |(number, line): &(usize, String)| match failure(*number) {
-        Some(failure) => updated(line, failure, column),
-        None => line.clone(),
+    let text = |(number, line): &(usize, String)| Some(updated(line, failure(*number)?, column));
+    // The comments of the lines that change stand in one column.
+    let widest = failed
+        .filter_map(text)
+        .map(|text| width(&text))
+        .max()
+        .unwrap_or(0);
+    let line = |numbered: &(usize, String)| match (text(numbered), pieces(&numbered.1).2) {
+        (None, _) => numbered.1.clone(),
+        (Some(text), "") => text,
+        (Some(text), comment) => format!("{text:<widest$}  {comment}"),
     };
     let all: Vec<String> = all.iter().map(line).collect();
     match std::fs::write(file, format!("{mark}{}", all.join("\n"))) {

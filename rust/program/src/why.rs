@@ -521,57 +521,6 @@ impl Claim<'_> {
     }
 }
 
-/// Where a library tells no place: the first rule that the told entries break, in the order of docs/RULES.md.
-impl Claim<'_> {
-    fn first_broken(&self, reply: Reply) -> Option<Rule> {
-        let kind = reply.rule_kind()?;
-        let broken = |&(_, rule): &Rule| match kind {
-            16 => {
-                let done = |e: &Entry| e.task == rule.a() && e.holder.is_none();
-                rule.b() == self.task && self.entries(done).is_empty()
-            }
-            11 => {
-                let own = self.own(Set(rule.m()));
-                let tasks = own.iter().fold(0u64, |all, e| all | 1 << e.task);
-                has(rule, self.task) && tasks.count_ones() >= rule.n().into()
-            }
-            _ => {
-                let pair = [(rule.a(), rule.b()), (rule.b(), rule.a())];
-                let other = pair.into_iter().find(|(one, _)| *one == self.task);
-                other.is_some_and(|(_, other)| {
-                    let theirs = |e: &Entry| e.task == other && e.user != self.user;
-                    !self.entries(theirs).is_empty()
-                })
-            }
-        };
-        match kind {
-            12 => self.first_block(),
-            _ => self.desk.told.rules_of(kind).find(broken),
-        }
-    }
-
-    fn first_block(&self) -> Option<Rule> {
-        let blocks: Vec<Rule> = self.desk.told.rules_of(12).collect();
-        let own = |block: Record| {
-            blocks
-                .iter()
-                .any(|&(_, b)| b.a() == block.a() && has(b, self.task))
-        };
-        let met = |&&(_, block): &&Rule| {
-            own(block) && !has(block, self.task) && !self.own(Set(block.m())).is_empty()
-        };
-        blocks
-            .iter()
-            .filter(met)
-            .min_by_key(|(place, block)| (block.a(), *place))
-            .copied()
-    }
-}
-
-fn has(rule: Record, task: u16) -> bool {
-    Set(rule.m()).has(task as u8)
-}
-
 /// `clerk_a (held in subject 5), clerk_b (done)`.
 fn holders(desk: &Desk, entries: &[Entry]) -> String {
     let one = |e: &Entry| format!("{} ({})", desk.say(Sort::User, e.user), state_of(desk, e));
@@ -585,7 +534,7 @@ fn claim_rule(desk: &Desk, record: Record, answer: Answer) -> Why {
         let mut of_kind = desk.told.rules_of(rule.kind);
         of_kind.nth(rule.place - 1)
     });
-    let Some((place, rule)) = placed.or_else(|| claim.first_broken(answer.reply)) else {
+    let Some((place, rule)) = placed else {
         return Why::default();
     };
     // Nobody may claim a task whose prerequisite is not done; who may do that one is what helps.
@@ -641,6 +590,57 @@ mod tests {
         include_str!("../../../examples/loan/policy.txt"),
         include_str!("../../../examples/stuck_order/policy.txt"),
     ];
+
+    /// What the place must be: that of the first rule that the told entries break, in the order of docs/RULES.md.
+    impl Claim<'_> {
+        fn first_broken(&self, reply: Reply) -> Option<Rule> {
+            let kind = reply.rule_kind()?;
+            let broken = |&(_, rule): &Rule| match kind {
+                16 => {
+                    let done = |e: &Entry| e.task == rule.a() && e.holder.is_none();
+                    rule.b() == self.task && self.entries(done).is_empty()
+                }
+                11 => {
+                    let own = self.own(Set(rule.m()));
+                    let tasks = own.iter().fold(0u64, |all, e| all | 1 << e.task);
+                    has(rule, self.task) && tasks.count_ones() >= rule.n().into()
+                }
+                _ => {
+                    let pair = [(rule.a(), rule.b()), (rule.b(), rule.a())];
+                    let other = pair.into_iter().find(|(one, _)| *one == self.task);
+                    other.is_some_and(|(_, other)| {
+                        let theirs = |e: &Entry| e.task == other && e.user != self.user;
+                        !self.entries(theirs).is_empty()
+                    })
+                }
+            };
+            match kind {
+                12 => self.first_block(),
+                _ => self.desk.told.rules_of(kind).find(broken),
+            }
+        }
+
+        fn first_block(&self) -> Option<Rule> {
+            let blocks: Vec<Rule> = self.desk.told.rules_of(12).collect();
+            let own = |block: Record| {
+                blocks
+                    .iter()
+                    .any(|&(_, b)| b.a() == block.a() && has(b, self.task))
+            };
+            let met = |&&(_, block): &&Rule| {
+                own(block) && !has(block, self.task) && !self.own(Set(block.m())).is_empty()
+            };
+            blocks
+                .iter()
+                .filter(met)
+                .min_by_key(|(place, block)| (block.a(), *place))
+                .copied()
+        }
+    }
+
+    fn has(rule: Record, task: u16) -> bool {
+        Set(rule.m()).has(task as u8)
+    }
 
     /// Numbers that repeat.
     struct Random(u64);
@@ -710,11 +710,9 @@ mod tests {
                 let why = why(&desk, &record.0, answer);
                 let said = why.lines(&desk);
                 assert!(!said.is_empty(), "{answer}: {record}");
-                if let Some(rule) = answer.rule() {
-                    let told = desk.told.rules_of(rule.kind).nth(rule.place - 1);
-                    assert_eq!(why.rule, told);
-                    let claim = Claim::of(&desk, record);
-                    assert_eq!(claim.first_broken(answer.reply), told, "{answer}: {record}");
+                if answer.reply.rule_kind().is_some() {
+                    let broken = Claim::of(&desk, record).first_broken(answer.reply);
+                    assert_eq!(why.rule, broken, "{answer}: {record}");
                 }
                 let Some((task, could)) = why.could else {
                     continue;

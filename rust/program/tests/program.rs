@@ -68,30 +68,10 @@ const LISTING: [&str; 2] = [
     "examples/listing/requests.txt",
 ];
 
-/// Whether the library that is linked tells which rule refused a claim.
-fn tells_places() -> bool {
-    let [policy, requests] = LISTING;
-    run(&["run", "--plain", policy, requests])
-        .0
-        .contains("\n4 14 1\n")
-}
-
-/// A desk listing as a library without places has it.
-fn without_places(listing: &str) -> String {
-    let line = |line: &str| match line.split(' ').collect::<Vec<&str>>()[..] {
-        [k, reply, _] if k != "load" => format!("{k} {reply} 0\n"),
-        _ => format!("{line}\n"),
-    };
-    listing.lines().map(line).collect()
-}
-
 #[test]
 fn plain_is_the_desk_listing_from_text_and_from_records() {
     let [policy, requests] = LISTING;
-    let mut listing = std::fs::read_to_string(root().join("examples/listing/listing.txt")).unwrap();
-    if !tells_places() {
-        listing = without_places(&listing);
-    }
+    let listing = std::fs::read_to_string(root().join("examples/listing/listing.txt")).unwrap();
     assert_eq!(
         run(&["run", "--plain", policy, requests]),
         (listing.clone(), String::new(), 0)
@@ -156,11 +136,8 @@ fn test_files() -> Vec<String> {
 
 #[test]
 fn the_test_files_pass() {
-    let mut files = test_files();
+    let files = test_files();
     assert!(files.len() >= 12, "{files:?}");
-    if !tells_places() {
-        files.retain(|file| !file.contains("which-rule"));
-    }
     let arguments: Vec<&str> = ["test"]
         .into_iter()
         .chain(files.iter().map(String::as_str))
