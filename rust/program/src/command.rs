@@ -47,7 +47,12 @@ fn check() -> Command {
         )
         .args([policy(), tasks(), format()])
         .arg(flag("strict", "Exit with 1 where there is a warning"))
-        .after_help("Example:\n  mishantral check examples/stuck_order/policy.txt\n\nExit status: 0 accepted; 1 refused (with --strict: or a warning); 2 text errors, or a file that cannot be read.")
+        .after_help(concat!(
+            "Example:\n",
+            "  mishantral check examples/stuck_order/policy.txt\n",
+            "\n",
+            "Exit status: 0 accepted; 1 refused (with --strict: or a warning); 2 text errors, or a file that cannot be read.",
+        ))
 }
 
 fn run() -> Command {
@@ -70,7 +75,15 @@ fn run() -> Command {
         .arg(flag("brief", "Leave out the explanations"))
         .arg(flag("json", "One object a line").conflicts_with("plain"))
         .arg(flag("plain", "The listing of the desk program, byte for byte"))
-        .after_help("Examples:\n  mishantral run examples/loan/policy.txt examples/loan/requests.txt\n  mishantral run policy.txt                 # a prompt\n  mishantral run --json policy.xml --tasks tasks.txt <requests.txt\n\nExit status: 0 the policy was accepted, whatever the replies; 1 it was refused; 2 text errors (from a pipe: after all other lines were answered), or a file that cannot be read or written.")
+        .after_help(concat!(
+            "Examples:\n",
+            "  mishantral run examples/loan/policy.txt examples/loan/requests.txt\n",
+            "  mishantral run policy.txt                 # a prompt\n",
+            "  mishantral run --json policy.xml --tasks tasks.txt <requests.txt\n",
+            "\n",
+            "Exit status: 0 the policy was accepted, whatever the replies; 1 it was refused; 2 text errors (from a pipe: after all ",
+            "other lines were answered), or a file that cannot be read or written.",
+        ))
 }
 
 fn test() -> Command {
@@ -92,7 +105,15 @@ fn test() -> Command {
                 .help("Test files"),
         )
         .arg(flag("update", "Write what was answered into the files, in the place of what was expected"))
-        .after_help("Example:\n  mishantral test examples/*.test\n\n  A line of a test file:\n  claim 5 0 1          => 14 BEFORE, rule 1     # a comment\n\nExit status: 0 all passed; 1 one failed; 2 text errors, or a file that cannot be read or written.")
+        .after_help(concat!(
+            "Example:\n",
+            "  mishantral test examples/*.test\n",
+            "\n",
+            "  A line of a test file:\n",
+            "  claim 5 0 1          => 14 BEFORE, rule 1     # a comment\n",
+            "\n",
+            "Exit status: 0 all passed; 1 one failed; 2 text errors, or a file that cannot be read or written.",
+        ))
 }
 
 fn convert() -> Command {
@@ -127,7 +148,13 @@ fn convert() -> Command {
                 .value_hint(ValueHint::FilePath)
                 .help("Where to; standard output where it is missing"),
         )
-        .after_help("Examples:\n  mishantral convert policy.xml --tasks tasks.txt --to text\n  mishantral convert policy.txt --to records -o policy.rec\n\nExit status: 0 written; 2 text errors, or a file that cannot be read or written.")
+        .after_help(concat!(
+            "Examples:\n",
+            "  mishantral convert policy.xml --tasks tasks.txt --to text\n",
+            "  mishantral convert policy.txt --to records -o policy.rec\n",
+            "\n",
+            "Exit status: 0 written; 2 text errors, or a file that cannot be read or written.",
+        ))
 }
 
 fn generate() -> Command {
@@ -141,7 +168,13 @@ fn generate() -> Command {
                 .value_parser(PossibleValuesParser::new(shells))
                 .help("The man page, or a shell"),
         )
-        .after_help("Examples:\n  mishantral generate man >mishantral.1\n  mishantral generate bash >~/.local/share/bash-completion/completions/mishantral\n\nExit status: 0 written; 2 otherwise.")
+        .after_help(concat!(
+            "Examples:\n",
+            "  mishantral generate man >mishantral.1\n",
+            "  mishantral generate bash >~/.local/share/bash-completion/completions/mishantral\n",
+            "\n",
+            "Exit status: 0 written; 2 otherwise.",
+        ))
 }
 
 pub fn command() -> Command {
@@ -151,7 +184,15 @@ pub fn command() -> Command {
         .subcommand_required(true)
         .arg_required_else_help(true)
         .max_term_width(110)
-        .after_help("Example:\n  mishantral run examples/listing/policy.txt examples/listing/requests.txt\n\n`mishantral help COMMAND` tells more of a command.\n\nExit status: 0 all well; 1 a policy refused or a test failed; 2 wrong use, text errors, or a file that cannot be read or written.")
+        .after_help(concat!(
+            "Example:\n",
+            "  mishantral run examples/listing/policy.txt examples/listing/requests.txt\n",
+            "\n",
+            "`mishantral help COMMAND` tells more of a command.\n",
+            "\n",
+            "Exit status: 0 all well; 1 a policy refused or a test failed; 2 wrong use, text errors, or a file that cannot be read ",
+            "or written.",
+        ))
         .subcommands([check(), run(), test(), convert(), generate()])
 }
 

@@ -23,6 +23,12 @@ struct Expected {
     place: Option<usize>,
 }
 
+impl Expected {
+    fn is(self, reply: Reply, place: usize) -> bool {
+        self.reply == reply && self.place.is_none_or(|expected| expected == place)
+    }
+}
+
 const GRANTED: Expected = Expected {
     reply: Reply::Granted,
     place: None,
@@ -33,7 +39,9 @@ enum Says {
     /// A policy file and its task lines.
     Policy(String, Option<String>),
     Load(Expected),
-    Record(Line, Expected),
+    /// A line of a policy, or one that names.
+    Declared(Line),
+    Request(Line, Expected),
 }
 
 /// What was found to be otherwise than expected.
@@ -57,61 +65,90 @@ fn reply_text(reply: Reply, place: usize, load: bool) -> String {
     }
 }
 
-/// `14 BEFORE, rule 1`: the number, the name or both, and the place where it matters.
-fn expected(tokens: &[Token], end: usize) -> Result<Expected, Wrong> {
-    let found = |at: usize, expected: &str| Wrong {
-        column: tokens.get(at).map_or(end, |t| t.column),
-        expected: expected.to_string(),
-        found: tokens
-            .get(at)
-            .map_or("the end of the line".to_string(), |t| {
+/// The words behind `=>`, of which some have been read.
+struct Behind<'a> {
+    tokens: &'a [Token<'a>],
+    at: usize,
+    /// The column behind the last.
+    end: usize,
+}
+
+impl Behind<'_> {
+    fn wrong(&self, expected: &str) -> Wrong {
+        let token = self.tokens.get(self.at);
+        Wrong {
+            column: token.map_or(self.end, |t| t.column),
+            expected: expected.to_string(),
+            found: token.map_or("the end of the line".to_string(), |t| {
                 format!("\"{}\"", t.text)
             }),
-    };
-    let number = tokens.first().and_then(|t| t.number());
-    let by_number = match number {
-        Some(number) => {
-            Some(Reply::from_number(number).ok_or_else(|| found(0, "the number of a reply"))?)
         }
-        None => None,
-    };
-    let mut at = usize::from(number.is_some());
-    let named = |reply: &Reply| {
-        let words: Vec<&str> = reply.name().split(' ').collect();
-        let there = tokens.get(at..at + words.len()).unwrap_or(&[]);
-        let same = there
-            .iter()
-            .zip(&words)
-            .all(|(t, word)| t.text.eq_ignore_ascii_case(word));
-        (!there.is_empty() && same).then_some((*reply, words.len()))
-    };
-    let by_name = Reply::ALL.iter().find_map(named);
-    let reply = match (by_number, by_name) {
-        (Some(number), Some((name, _))) if number != name => {
-            return Err(found(at, &format!("\"{}\"", number.name())))
-        }
-        (_, Some((name, length))) => {
-            at += length;
-            name
-        }
-        (Some(number), None) => number,
-        (None, None) => return Err(found(at, "a reply, by number or name")),
-    };
-    if tokens.get(at).is_some_and(|t| t.text == ",") {
-        at += 1;
     }
+
+    fn is(&self, words: &[&str]) -> bool {
+        self.tokens
+            .get(self.at)
+            .is_some_and(|t| words.contains(&t.text))
+    }
+
+    fn number(&mut self) -> Option<u64> {
+        let number = self.tokens.get(self.at)?.number()?;
+        self.at += 1;
+        Some(number)
+    }
+
+    /// A reply by its name, in letters of either case.
+    fn name(&mut self) -> Option<Reply> {
+        let there = &self.tokens[self.at..];
+        let named = |reply: &&Reply| {
+            let mut words = reply.name().split(' ').zip(1..);
+            words.all(|(word, at)| {
+                there
+                    .get(at - 1)
+                    .is_some_and(|t| t.text.eq_ignore_ascii_case(word))
+            })
+        };
+        let reply = Reply::ALL.iter().find(named)?;
+        self.at += reply.name().split(' ').count();
+        Some(*reply)
+    }
+
+    fn reply(&mut self) -> Result<Reply, Wrong> {
+        let start = self.at;
+        let number = self.number().map(Reply::from_number);
+        let by_number = match number {
+            Some(None) => {
+                self.at = start;
+                return Err(self.wrong("the number of a reply"));
+            }
+            number => number.flatten(),
+        };
+        let before = self.at;
+        match (by_number, self.name()) {
+            (Some(number), Some(name)) if number != name => {
+                self.at = before;
+                Err(self.wrong(&format!("\"{}\"", number.name())))
+            }
+            (number, name) => name
+                .or(number)
+                .ok_or_else(|| self.wrong("a reply, by number or name")),
+        }
+    }
+}
+
+/// `14 BEFORE, rule 1`: the number, the name or both, and the place where it matters.
+fn expected(tokens: &[Token], end: usize) -> Result<Expected, Wrong> {
+    let mut behind = Behind { tokens, at: 0, end };
+    let reply = behind.reply()?;
     let mut place = None;
-    if tokens
-        .get(at)
-        .is_some_and(|t| matches!(t.text, "rule" | "record"))
-    {
-        let number = tokens.get(at + 1).and_then(|t| t.number());
-        place = Some(number.ok_or_else(|| found(at + 1, "a place"))? as usize);
-        at += 2;
+    behind.at += usize::from(behind.is(&[","]));
+    if behind.is(&["rule", "record"]) {
+        behind.at += 1;
+        place = Some(behind.number().ok_or_else(|| behind.wrong("a place"))? as usize);
     }
-    match tokens.get(at) {
-        Some(_) => Err(found(at, "\"rule\", \"record\" or the end of the line")),
-        None => Ok(Expected { reply, place }),
+    match behind.at < tokens.len() {
+        true => Err(behind.wrong("\"rule\", \"record\" or the end of the line")),
+        false => Ok(Expected { reply, place }),
     }
 }
 
@@ -192,17 +229,20 @@ impl<'a> Run<'a> {
             _ => {}
         }
         // A policy line behind requests begins a policy with names of its own.
-        let none = Names::default();
-        let of_policy = |line: &Line| line.record.as_ref().is_some_and(|r| r[0] < 32);
-        let fresh = read_tokens(before, &none)
-            .ok()
-            .flatten()
-            .filter(|line| self.loaded && of_policy(line));
-        let line = match fresh {
+        let of_policy = |line: &Line| match &line.record {
+            Some(record) => judged.is_none() && record[0] < 32,
+            None => !self.loaded,
+        };
+        let alone = read_tokens(before, &Names::default()).ok().flatten();
+        let begins = alone.filter(|line| self.loaded && of_policy(line));
+        let line = match begins {
             Some(line) => Some(line),
             None => read_tokens(before, self.names())?,
         };
-        Ok(line.map(|line| Says::Record(line, judged.unwrap_or(GRANTED))))
+        Ok(line.map(|line| match of_policy(&line) {
+            true => Says::Declared(line),
+            false => Says::Request(line, judged.unwrap_or(GRANTED)),
+        }))
     }
 
     fn step(&mut self, number: usize, says: Says) -> Result<Option<Wrong>, Stop> {
@@ -215,53 +255,51 @@ impl<'a> Run<'a> {
                 self.begin(policy, false);
             }
             Says::Load(expected) => self.load(number, expected, true),
-            Says::Record(line, expected) => return Ok(self.record(number, line, expected)),
+            Says::Declared(line) => return Ok(self.declared(number, &line)),
+            Says::Request(line, expected) => self.asked(number, &line, expected),
         }
         Ok(None)
     }
 
-    fn record(&mut self, number: usize, line: Line, expected: Expected) -> Option<Wrong> {
-        let of_policy = line.record.as_ref().map_or(!self.loaded, |r| r[0] < 32);
-        if of_policy {
-            if self.loaded || (!self.inline && line.record.is_some()) {
-                self.begin(empty(self.file), true);
-            }
-            if let Some(record) = &line.record {
-                self.policy.bytes.extend(record);
-                self.policy.lines.push(number);
-            }
-            return reader::give(&mut self.policy.names, &line.namings, true);
+    /// A line of a policy; or what is wrong with its names.
+    fn declared(&mut self, number: usize, line: &Line) -> Option<Wrong> {
+        if self.loaded || (!self.inline && line.record.is_some()) {
+            self.begin(empty(self.file), true);
         }
+        if let Some(record) = &line.record {
+            self.policy.bytes.extend(record);
+            self.policy.lines.push(number);
+        }
+        reader::give(&mut self.policy.names, &line.namings, true)
+    }
+
+    /// A request, and what is expected of it.
+    fn asked(&mut self, number: usize, line: &Line, expected: Expected) {
         if !self.loaded {
             self.load(number, GRANTED, false);
         }
-        let Some(desk) = &mut self.desk else {
-            return None;
+        let Some(desk) = &mut self.desk else { return };
+        let (Some(answer), Some(record)) = (desk.take(line), &line.record) else {
+            return;
         };
-        let answer = desk.take(&line)?;
-        let record = line.record?;
-        if answer.reply == expected.reply
-            && expected.place.is_none_or(|place| place == answer.place)
-        {
+        let (reply, place) = (answer.reply, answer.place);
+        if expected.is(reply, place) {
             self.passed += 1;
-            return None;
+            return;
         }
         let because = match answer.is_granted() {
             true => Vec::new(),
-            false => why(desk, &record, answer).lines(desk),
+            false => why(desk, record, answer).lines(desk),
         };
-        let what = writer::line(&record, &desk.names);
-        let (reply, place) = (answer.reply, answer.place);
         self.failures.push(Failure {
             line: number,
             expected,
             reply,
             place,
-            what,
+            what: writer::line(record, &desk.names),
             because,
             told: true,
         });
-        None
     }
 
     /// Loads the policy; that it is accepted counts where the line says what is expected.
@@ -274,7 +312,7 @@ impl<'a> Run<'a> {
             }
             Err(refused) => (refused.reply, refused.place),
         };
-        if reply == expected.reply && expected.place.is_none_or(|at| at == place) {
+        if expected.is(reply, place) {
             self.passed += usize::from(told);
             return;
         }
@@ -369,44 +407,57 @@ fn told(file: &str, failure: &Failure, out: &mut dyn Write) -> std::io::Result<(
         .try_for_each(|line| writeln!(out, "    {line}"))
 }
 
+/// How many of each there were.
+#[derive(Default)]
+struct Count {
+    passed: usize,
+    failed: usize,
+    updated: usize,
+}
+
+/// Runs a file, tells what failed, or writes it into the file.
+fn test_file(file: &str, update: bool, count: &mut Count, out: &mut dyn Write) -> Result<(), Stop> {
+    let text = bytes_of(file)?;
+    let run = run(file, &text)?;
+    let (can, cannot): (Vec<Failure>, Vec<Failure>) =
+        run.failures.into_iter().partition(|f| update && f.told);
+    if !can.is_empty() {
+        rewrite(file, &text, &can)?;
+        writeln!(out, "{file}: {} updated", can.len())?;
+    }
+    for failure in &cannot {
+        told(file, failure, out)?;
+    }
+    count.passed += run.passed;
+    count.failed += cannot.len();
+    count.updated += can.len();
+    Ok(())
+}
+
 /// Runs the files; with `update` their expectations become what was answered.
 pub fn test(files: &[String], update: bool, out: &mut dyn Write) -> Done {
-    let (mut passed, mut failed, mut changed) = (0, 0, 0);
+    let mut count = Count::default();
     let mut wrongs = Vec::new();
     for file in files {
-        let text = bytes_of(file)?;
-        let mut run = match run(file, &text) {
-            Ok(run) => run,
-            Err(Stop::Wrong(lines)) => {
-                wrongs.extend(lines);
-                continue;
-            }
+        match test_file(file, update, &mut count, out) {
+            Ok(()) => {}
+            Err(Stop::Wrong(lines)) => wrongs.extend(lines),
             Err(quiet) => return Err(quiet),
-        };
-        passed += run.passed;
-        if update {
-            let (can, cannot): (Vec<Failure>, Vec<Failure>) =
-                run.failures.into_iter().partition(|f| f.told);
-            run.failures = cannot;
-            if !can.is_empty() {
-                rewrite(file, &text, &can)?;
-                changed += can.len();
-                writeln!(out, "{file}: {} updated", can.len())?;
-            }
-        }
-        failed += run.failures.len();
-        for failure in &run.failures {
-            told(file, failure, out)?;
         }
     }
+    let Count {
+        passed,
+        failed,
+        updated,
+    } = count;
     if !wrongs.is_empty() {
         return Err(Stop::Wrong(wrongs));
     }
-    if passed + failed + changed == 0 {
+    if passed + failed + updated == 0 {
         return wrong("there is nothing to test in these files");
     }
     let updated = if update {
-        format!(", {changed} updated")
+        format!(", {updated} updated")
     } else {
         String::new()
     };

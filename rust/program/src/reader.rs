@@ -252,54 +252,60 @@ impl Attempt {
 
     /// The attempt with one token more, if its form goes on so: that token may be a name for the number before it.
     fn step(mut self, token: Token, names: &Names) -> Option<Attempt> {
-        let unnamed = self.unnamed.take();
-        if let (Some((sort, number)), Some(name)) = (unnamed, name_of(token.text)) {
+        if let (Some((sort, number)), Some(name)) = (self.unnamed.take(), name_of(token.text)) {
             let column = token.column;
-            let naming = Naming {
+            self.namings.push(Naming {
                 sort,
                 number,
                 name,
                 column,
-            };
-            self.namings.push(naming);
+            });
             return Some(self);
-        }
-        if self.form.names_alone && self.at == self.form.parts.len() {
-            return None;
         }
         let (part, sort) = self.part()?;
         match part {
             Part::Word("times") if token.text == "time" => self.next(),
             Part::Word(word) => (word == token.text).then(|| self.next())?,
-            Part::Number(field, _) => {
-                let by_name = sort.filter(|_| !self.form.names_alone);
-                let number = self.number(token, field.last(), by_name, names)?;
-                self.record = field.put(self.record, number);
-                let nameable = self.form.names_alone || declares(self.form.kind, field);
-                let by_number = token.number().is_some();
-                self.unnamed = sort
-                    .filter(|_| nameable && by_number)
-                    .map(|sort| (sort, number as u16));
-                self.next()
-            }
-            Part::Set if token.text == "none" && self.record.m() == 0 => self.next(),
-            Part::Set if token.text == "," && self.complete() => {
-                self.comma = true;
-                Some(self)
-            }
-            Part::Set => {
-                let member = self.number(token, 63, sort, names)? as u8;
-                (!Set(self.record.m()).has(member)).then_some(())?;
-                self.record = Field::M.put(self.record, Set::EMPTY.with(member).0);
-                self.comma = false;
-                Some(self)
-            }
+            Part::Number(field, _) => self.with_number(token, field, sort, names),
+            Part::Set => self.with_member(token, sort, names),
             Part::Bytes => {
                 (self.bytes.len() < LENGTH).then_some(())?;
                 self.bytes.push(token.byte()?);
                 Some(self)
             }
         }
+    }
+
+    fn with_number(
+        mut self,
+        token: Token,
+        field: Field,
+        sort: Option<Sort>,
+        names: &Names,
+    ) -> Option<Attempt> {
+        let by_name = sort.filter(|_| !self.form.names_alone);
+        let number = self.number(token, field.last(), by_name, names)?;
+        self.record = field.put(self.record, number);
+        let declared = self.form.names_alone || declares(self.form.kind, field);
+        let nameable = sort.filter(|_| declared && token.number().is_some());
+        self.unnamed = nameable.map(|sort| (sort, number as u16));
+        self.next()
+    }
+
+    fn with_member(mut self, token: Token, sort: Option<Sort>, names: &Names) -> Option<Attempt> {
+        match token.text {
+            "none" if self.record.m() == 0 => return self.next(),
+            "," if self.complete() => {
+                self.comma = true;
+                return Some(self);
+            }
+            _ => {}
+        }
+        let member = self.number(token, 63, sort, names)? as u8;
+        (!Set(self.record.m()).has(member)).then_some(())?;
+        self.record = Field::M.put(self.record, Set::EMPTY.with(member).0);
+        self.comma = false;
+        Some(self)
     }
 
     /// Whether the line may end here.

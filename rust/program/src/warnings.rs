@@ -15,90 +15,130 @@ const TRIES: usize = 20_000;
 
 /// The warnings, by their places in the policy.
 pub fn warnings(desk: &Desk) -> Vec<String> {
-    let mut all: Vec<(usize, String)> = Vec::new();
-    let records = desk.policy.records();
-    let declared = |kind: u8, number: u16| {
-        let of = |r: &Record| r.kind() == kind && r.a() == number;
-        records.iter().position(of).unwrap_or(0)
+    let mut found = Found {
+        desk,
+        all: Vec::new(),
+        shut: BTreeSet::new(),
+        stuck: BTreeSet::new(),
     };
-    let has = |user: &Set, role: u8| user.has(role);
-    for role in desk.told.roles.members() {
-        if !desk.told.users.values().any(|roles| has(roles, role)) {
-            let text = format!("no user has {}", desk.say(Sort::Role, role.into()));
-            all.push((declared(2, role.into()), text));
-        }
-    }
-    let mut shut = BTreeSet::new();
-    for &task in desk.told.tasks.keys() {
-        let (open, said) = (desk.told.open_to(task), desk.say(Sort::Task, task));
-        let text = if open == Set::EMPTY {
-            format!("{said} is open to no role, so nobody can claim it")
-        } else if clerks(desk, task).is_empty() {
-            let roles = desk.say_set(Sort::Role, open);
-            format!("{said} is open to {roles} alone, which no user has, so nobody can claim it")
-        } else {
-            continue;
-        };
-        shut.insert(task);
-        all.push((declared(6, task), text));
-    }
-    let mut waiting = BTreeSet::new();
-    for template in templates(desk) {
-        let stuck = stuck(desk, template);
-        if let Some(&first) = stuck.first() {
-            let tasks = desk.say_all(Sort::Task, stuck.iter().copied());
-            let text = format!(
-                "{}: prerequisites that go in a circle leave {tasks} waiting for ever",
-                desk.say(Sort::Template, template)
-            );
-            all.push((declared(6, first), text));
-        }
-        waiting.extend(stuck);
-    }
-    let mut shut_out = waiting.clone();
-    for (place, tasks, rules) in rules_alone(desk) {
-        let doable: Vec<u16> = tasks
-            .iter()
-            .copied()
-            .filter(|t| !shut.contains(t))
-            .collect();
-        if let Finish::Never(left) = finish(desk, &rules, &doable) {
-            let who: BTreeSet<u16> = doable.iter().flat_map(|&t| clerks(desk, t)).collect();
-            let text = format!(
-                "{}: the clerks who may take its tasks cannot satisfy it ({}); left over: {}",
-                desk.policy.line(place),
-                few(desk, &who),
-                desk.say_all(Sort::Task, left)
-            );
-            all.push((place, text));
-            shut_out.extend(tasks);
-        }
-    }
-    // What is said above explains a template that cannot be finished.
-    let rules: Vec<Record> = desk.told.rules.iter().map(|(_, rule)| *rule).collect();
-    for template in templates(desk) {
-        let tasks: Vec<u16> = desk.told.tasks_of(template).collect();
-        if tasks
-            .iter()
-            .any(|t| shut.contains(t) || shut_out.contains(t))
-        {
-            continue;
-        }
-        if let Finish::Never(left) = finish(desk, &rules, &tasks) {
-            let text = format!(
-                "{}: its rules together let the clerks there are finish no order; left over: {}",
-                desk.say(Sort::Template, template),
-                desk.say_all(Sort::Task, left)
-            );
-            all.push((declared(6, tasks[0]), text));
-        }
-    }
-    all.sort();
+    found.roles();
+    found.tasks();
+    found.circles();
+    found.rules();
+    found.templates();
+    found.all.sort();
     let line = |(place, text): (usize, String)| {
         let at = desk.policy.place_within(place);
         format!("{}: {at}: warning: {text}", desk.policy.file)
     };
-    all.into_iter().map(line).collect()
+    found.all.into_iter().map(line).collect()
+}
+
+/// What was found, with its places in the policy.
+struct Found<'a> {
+    desk: &'a Desk,
+    all: Vec<(usize, String)>,
+    /// Tasks that nobody may claim.
+    shut: BTreeSet<u16>,
+    /// Tasks that a circle of prerequisites, or one rule, lets nobody do: why a template cannot be finished is said with them.
+    stuck: BTreeSet<u16>,
+}
+
+impl Found<'_> {
+    /// Tells of what the record of this kind declares.
+    fn tell(&mut self, kind: u8, number: u16, text: String) {
+        let declares = |r: &Record| r.kind() == kind && r.a() == number;
+        let place = self.desk.policy.records().iter().position(declares);
+        self.all.push((place.unwrap_or(0), text));
+    }
+
+    fn roles(&mut self) {
+        for role in self.desk.told.roles.members() {
+            if !self.desk.told.users.values().any(|roles| roles.has(role)) {
+                let text = format!("no user has {}", self.desk.say(Sort::Role, role.into()));
+                self.tell(2, role.into(), text);
+            }
+        }
+    }
+
+    fn tasks(&mut self) {
+        let desk = self.desk;
+        for &task in desk.told.tasks.keys() {
+            let (open, said) = (desk.told.open_to(task), desk.say(Sort::Task, task));
+            let text = if open == Set::EMPTY {
+                format!("{said} is open to no role, so nobody can claim it")
+            } else if clerks(desk, task).is_empty() {
+                let roles = desk.say_set(Sort::Role, open);
+                format!(
+                    "{said} is open to {roles} alone, which no user has, so nobody can claim it"
+                )
+            } else {
+                continue;
+            };
+            self.shut.insert(task);
+            self.tell(6, task, text);
+        }
+    }
+
+    fn circles(&mut self) {
+        for template in templates(self.desk) {
+            let waiting = waiting(self.desk, template);
+            if let Some(&first) = waiting.first() {
+                let tasks = self.desk.say_all(Sort::Task, waiting.iter().copied());
+                let template = self.desk.say(Sort::Template, template);
+                let text = format!(
+                    "{template}: prerequisites that go in a circle leave {tasks} waiting for ever"
+                );
+                self.tell(6, first, text);
+            }
+            self.stuck.extend(waiting);
+        }
+    }
+
+    fn rules(&mut self) {
+        let desk = self.desk;
+        for (place, tasks, rules) in rules_alone(desk) {
+            let doable: Vec<u16> = tasks
+                .iter()
+                .copied()
+                .filter(|t| !self.shut.contains(t))
+                .collect();
+            let Finish::Never(left) = finish(desk, &rules, &doable) else {
+                continue;
+            };
+            let who: BTreeSet<u16> = doable.iter().flat_map(|&t| clerks(desk, t)).collect();
+            let (rule, who, left) = (
+                desk.policy.line(place),
+                few(desk, &who),
+                desk.say_all(Sort::Task, left),
+            );
+            let text = format!("{rule}: the clerks who may take its tasks cannot satisfy it ({who}); left over: {left}");
+            self.all.push((place, text));
+            self.stuck.extend(tasks);
+        }
+    }
+
+    fn templates(&mut self) {
+        let desk = self.desk;
+        let rules: Vec<Record> = desk.told.rules.iter().map(|(_, rule)| *rule).collect();
+        for template in templates(desk) {
+            let tasks: Vec<u16> = desk.told.tasks_of(template).collect();
+            if tasks
+                .iter()
+                .any(|t| self.shut.contains(t) || self.stuck.contains(t))
+            {
+                continue;
+            }
+            if let Finish::Never(left) = finish(desk, &rules, &tasks) {
+                let (template, left) = (
+                    desk.say(Sort::Template, template),
+                    desk.say_all(Sort::Task, left),
+                );
+                let text = format!("{template}: its rules together let the clerks there are finish no order; left over: {left}");
+                self.tell(6, tasks[0], text);
+            }
+        }
+    }
 }
 
 fn few(desk: &Desk, users: &BTreeSet<u16>) -> String {
@@ -130,7 +170,7 @@ fn clerks(desk: &Desk, task: u16) -> Vec<u16> {
 
 /// The tasks of a template that are never claimed for their prerequisites, by an engine in which one clerk may take every task and no
 /// other rule holds.
-fn stuck(desk: &Desk, template: u16) -> Vec<u16> {
+fn waiting(desk: &Desk, template: u16) -> Vec<u16> {
     let tasks: Vec<u16> = desk.told.tasks_of(template).collect();
     let mut policy = vec![
         Record::user(0),

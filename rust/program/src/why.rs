@@ -4,7 +4,7 @@
 use crate::desk::{joined, whole, Candidate, Candidates, Desk};
 use crate::names::Sort;
 use crate::reader::declares;
-use crate::told::Entry;
+use crate::told::{Entry, Session};
 use crate::writer::numbers;
 use mishantral::Answer;
 use records::forms::{Field, FORMS};
@@ -269,53 +269,52 @@ fn say_entries(desk: &Desk, user: u16, entries: &[Entry]) -> String {
 }
 
 fn in_use(desk: &Desk, record: Record) -> Why {
-    let (a, told) = (record.a(), &desk.told);
-    let subjects = |pick: &dyn Fn(&crate::told::Session) -> bool| {
-        let picked = told.subjects.iter().filter(|(_, s)| s.user == a && pick(s));
-        picked.map(|(&subject, _)| subject).collect::<Vec<u16>>()
-    };
-    let held = |pick: &dyn Fn(u16, &Entry) -> bool| {
-        let mut all = Vec::new();
-        for (&order, opened) in &told.orders {
-            let picked = opened.entries.iter().filter(|e| pick(order, e));
-            let in_order = desk.say(Sort::Order, order);
-            all.extend(picked.map(|e| format!("{} of {in_order}", say_entry(desk, e))));
-        }
-        all
-    };
-    let mut because = Vec::new();
-    match record.kind() {
+    let (a, user) = (record.a(), || desk.say(Sort::User, record.a()));
+    Why::all(match record.kind() {
         33 => {
-            let user = desk.say(Sort::User, a);
-            for subject in subjects(&|_| true) {
-                because.push(format!(
-                    "{user} has {} live",
-                    desk.say(Sort::Subject, subject)
-                ));
-            }
-            for entry in held(&|_, e| e.user == a) {
-                because.push(format!("{user} has an entry: {entry}"));
-            }
+            let live = subjects(desk, a, |_| true).into_iter();
+            let live = live.map(|s| format!("{} has {} live", user(), desk.say(Sort::Subject, s)));
+            let entries = entries_of(desk, |e| e.user == a).into_iter();
+            live.chain(entries.map(|e| format!("{} has an entry: {e}", user())))
+                .collect()
         }
         35 => {
             let role = desk.say(Sort::Role, record.b());
-            let active = |s: &crate::told::Session| s.active.has(record.b() as u8);
-            for subject in subjects(&active) {
-                because.push(format!("{role} is active in {}", desk.say_subject(subject)));
-            }
+            let active = subjects(desk, a, |s| s.active.has(record.b() as u8)).into_iter();
+            active
+                .map(|s| format!("{role} is active in {}", desk.say_subject(s)))
+                .collect()
         }
         41 => {
-            for entry in held(&|_, e| e.holder == Some(a)) {
-                because.push(format!("{} holds a task: {entry}", desk.say_subject(a)));
-            }
+            let held = entries_of(desk, |e| e.holder == Some(a)).into_iter();
+            held.map(|e| format!("{} holds a task: {e}", desk.say_subject(a)))
+                .collect()
         }
         _ => {
-            for entry in desk.told.entries(a).iter().filter(|e| e.holder.is_some()) {
-                because.push(holder(desk, a, entry.task));
-            }
+            let held = desk.told.entries(a).iter().filter(|e| e.holder.is_some());
+            held.map(|e| holder(desk, a, e.task)).collect()
         }
-    }
-    Why::all(because)
+    })
+}
+
+/// The live subjects of a user that are picked.
+fn subjects(desk: &Desk, user: u16, pick: impl Fn(&Session) -> bool) -> Vec<u16> {
+    let all = desk.told.subjects.iter();
+    let picked = all.filter(|(_, s)| s.user == user && pick(s));
+    picked.map(|(&subject, _)| subject).collect()
+}
+
+/// The entries that are picked, of all orders: `test (done) of order 0`.
+fn entries_of(desk: &Desk, pick: impl Fn(&Entry) -> bool) -> Vec<String> {
+    let all = desk
+        .told
+        .orders
+        .iter()
+        .flat_map(|(&order, opened)| opened.entries.iter().map(move |e| (order, e)));
+    let picked = all.filter(|(_, entry)| pick(entry));
+    picked
+        .map(|(order, e)| format!("{} of {}", say_entry(desk, e), desk.say(Sort::Order, order)))
+        .collect()
 }
 
 fn not_assigned(desk: &Desk, record: Record) -> Why {
