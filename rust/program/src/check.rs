@@ -269,3 +269,87 @@ fn limit(kind: u8) -> usize {
         _ => 64,
     }
 }
+
+#[cfg(test)]
+mod tests {
+    use super::*;
+    use crate::names::Names;
+    use std::collections::BTreeMap;
+
+    /// A number below an end, from a state that repeats.
+    fn below(state: &mut u64, end: u64) -> u64 {
+        *state ^= *state << 13;
+        *state ^= *state >> 7;
+        *state ^= *state << 17;
+        *state % end
+    }
+
+    fn record(state: &mut u64) -> Record {
+        let mut small = || below(state, 5) as u16;
+        let (a, b, c, kind) = (small(), small(), small(), small());
+        let (n, set) = (small() as u8, Set(below(state, 32)));
+        match below(state, 19) + u64::from(kind == 0) * 20 {
+            0 | 1 => Record::user(a),
+            2 => Record::role(a),
+            3 => Record::permission(a, b, c),
+            4 => Record::user_has_role(a, b),
+            5 => Record::role_has_permission(a, b),
+            6 | 7 => Record::task(a, b / 3),
+            8 => Record::task_open_to(a, b),
+            9 => Record::task_carries(a, b),
+            10 => Record::static_set(n, set),
+            11 => Record::dynamic_set(n, set),
+            12 => Record::task_set(n, set),
+            13 => Record::block(a / 3, set),
+            14 => Record::lone_worker_ban(a),
+            15 => Record::at_most(a, n),
+            16 => Record::bound(a, b),
+            17 => Record::before(a, b),
+            18 => Record::new(a as u8 * 20, n, b, c, 0, 0),
+            _ => Record::user(1020 + 2 * a),
+        }
+    }
+
+    /// Whatever record a load refuses, it is said what it clashes with.
+    #[test]
+    fn every_refusal_of_a_policy_is_explained() {
+        let mut state = 7;
+        let mut met: BTreeMap<(u8, Reply), usize> = BTreeMap::new();
+        for _ in 0..60 {
+            let mut kept: Vec<u8> = Vec::new();
+            for _ in 0..400 {
+                let record = record(&mut state);
+                let policy = Policy {
+                    file: "policy.rec".to_string(),
+                    bytes: [&kept[..], &record.0].concat(),
+                    lines: Vec::new(),
+                    names: Names::default(),
+                };
+                let Err(refused) = Desk::open(&policy) else {
+                    kept = policy.bytes;
+                    continue;
+                };
+                assert_eq!(refused.place, kept.len() / LENGTH + 1);
+                let said = refusal(&policy, refused);
+                assert!(said.len() > 1, "{said:?}");
+                *met.entry((record.kind(), refused.reply)).or_default() += 1;
+            }
+        }
+        let replies = [
+            Reply::Shape,
+            Reply::Range,
+            Reply::Unknown,
+            Reply::Taken,
+            Reply::Rule,
+            Reply::Static,
+        ];
+        for reply in replies {
+            assert!(
+                met.keys().any(|(_, of)| *of == reply),
+                "{reply} was not met"
+            );
+        }
+        let kinds: Vec<u8> = met.keys().map(|(kind, _)| *kind).collect();
+        assert!((1..=16).all(|kind| kinds.contains(&kind)), "{met:?}");
+    }
+}

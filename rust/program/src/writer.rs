@@ -116,4 +116,39 @@ permission 1 p is operation 2 read on object 9 book\nblock of partitioning 3 mon
         );
         assert_eq!(policy(&bytes, &Names::default()), notation::write(&bytes));
     }
+
+    /// With names for every other number, some of which need quotes, every line reads back as its record.
+    #[test]
+    fn lines_with_names_read_back() {
+        let mut names = Names::default();
+        for sort in Sort::ALL {
+            for number in (0..64).step_by(2) {
+                let name = match number % 3 {
+                    0 => format!("{}:{number} \"x\"", sort.word()),
+                    _ => format!("{}_{number}", sort.word()),
+                };
+                names.give(sort, number, name.as_bytes());
+            }
+        }
+        let known = |kind: u8| crate::why::has_line(kind);
+        for kind in (1..=255).filter(|&kind| known(kind)) {
+            for number in 0..40u16 {
+                let (a, b, c) = (number, number * 7 % 61, number * 5 % 59);
+                let whole = Record::new(kind, number as u8, a, b, c, u64::from(number) << 3 | 1);
+                // Only what the kind uses, so that its own line is what is written.
+                let pattern = FORMS.into_iter().rfind(|&(of, _)| of == kind).unwrap().1;
+                let fields = parts(pattern).filter_map(|part| match part {
+                    Part::Number(field, _) => Some(field),
+                    Part::Set => Some(Field::M),
+                    _ => None,
+                });
+                let none = Record::new(kind, 0, 0, 0, 0, 0);
+                let record = fields.fold(none, |record, field| field.put(record, field.of(whole)));
+                let text = line(&record.0, &names);
+                let back = crate::reader::read_line(&text, &names).unwrap().unwrap();
+                assert_eq!(back.record.as_deref(), Some(&record.0[..]), "{text}");
+                assert_ne!(text.split(' ').next(), Some("record"), "{text}");
+            }
+        }
+    }
 }
