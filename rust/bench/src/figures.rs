@@ -1,6 +1,7 @@
 //! All measurements of a run: every workload raced, the stack that calls use, the size of the state.
 
 use crate::race::{Race, FLAT, LISTS, PROVED};
+use crate::reading::{reading_stack, readings, Reading};
 use crate::workloads::{checks, day, day_among, load, Workload};
 use crate::{kinds, stack};
 use differential::proved;
@@ -67,8 +68,12 @@ pub struct Figures {
     pub permissions: Growth,
     /// A line for each kind of request.
     pub kinds: Vec<Line>,
+    /// A line for each text of OPL/XML.
+    pub readings: Vec<Reading>,
     /// The stack, where the library is linked.
     pub stack: Option<Stack>,
+    /// The stack of reading OPL/XML, likewise.
+    pub reading_stack: Option<usize>,
     /// The bytes of the three lent buffers.
     pub state: Option<[usize; 3]>,
 }
@@ -182,7 +187,9 @@ impl Figures {
             entries,
             permissions,
             kinds: take(workloads.len()),
+            readings: readings(effort)?,
             stack: stack(&workloads),
+            reading_stack: reading_stack(),
             state: state(),
         })
     }
