@@ -149,7 +149,7 @@ impl Writer<'_> {
     }
 
     fn task_rules(&mut self) {
-        self.within("module_wf_sep_duty_policy", "", |w| {
+        self.module("module_wf_sep_duty_policy", &[11, 12, 13], |w| {
             w.each("hdsodsl", 13, |w, r| {
                 w.one(
                     "critical_workflow_template",
@@ -185,9 +185,16 @@ impl Writer<'_> {
         });
     }
 
+    /// A module, where there are records that it says.
+    fn module(&mut self, name: &str, kinds: &[u8], content: impl FnOnce(&mut Self)) {
+        if self.records.iter().any(|r| kinds.contains(&r.kind())) {
+            self.within(name, "", content);
+        }
+    }
+
     /// A module of one list.
-    fn list(&mut self, [module, holder]: [&str; 2], kind: u8, said: impl Fn(&mut Self, &Record)) {
-        self.within(module, "", |w| w.each(holder, kind, said));
+    fn list(&mut self, [name, holder]: [&str; 2], kind: u8, said: impl Fn(&mut Self, &Record)) {
+        self.module(name, &[kind], |w| w.each(holder, kind, said));
     }
 
     fn document(&mut self) {
@@ -197,7 +204,7 @@ impl Writer<'_> {
             w.one("active_modules", &[]);
             w.within("policy_object_modules", "", |w| {
                 w.core();
-                w.within("module_sep_duty_policy", "", |w| {
+                w.module("module_sep_duty_policy", &[9, 10], |w| {
                     w.role_sets("static_separation_of_duty", 9);
                     w.role_sets("dynamic_separation_of_duty", 10);
                 });
@@ -279,8 +286,8 @@ pub fn texts() -> Vec<Dealt> {
     let others = all.iter().filter(|r| r.kind() != 3).copied();
     let names: Vec<Record> = others.chain(pairs).collect();
     vec![
-        part("a small policy", 4, 2, 2, 2),
-        part("a middling policy", 160, 34, 64, 32),
+        part("a small policy", 3, 1, 1, 1),
+        part("a middling policy", 172, 34, 66, 32),
         dealt("the largest policy that loads", &all),
         dealt("every space of names full", &names),
     ]

@@ -5,7 +5,7 @@ use std::slice::{from_raw_parts, from_raw_parts_mut};
 
 #[test]
 fn the_readers_agree() {
-    let met = run(&readers(), 7, 20_000).unwrap_or_else(|difference| panic!("{difference}"));
+    let met = run(&readers(), 7, 100_000).unwrap_or_else(|difference| panic!("{difference}"));
     assert!(met.everything(), "{met}");
 }
 
