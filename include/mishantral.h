@@ -37,6 +37,7 @@ extern "C" {
 #define MISHANTRAL_POLICY_WORDS 4504
 #define MISHANTRAL_SESSIONS_WORDS 384
 #define MISHANTRAL_ORDERS_WORDS 2113
+#define MISHANTRAL_OPL_WORDS 397495
 
 /* The last number of each thing: users are 0 to MISHANTRAL_LAST_USER, and so on. */
 #define MISHANTRAL_LAST_USER 1023
@@ -59,11 +60,12 @@ extern "C" {
 #define MISHANTRAL_RECORD_BYTES 16
 #define MISHANTRAL_MOST_PILED 4096
 
-/* The three buffers. */
+/* The three buffers, and the scratch of mishantral_opl. */
 enum mishantral_group {
     MISHANTRAL_POLICY = 0,   /* users, roles, permissions, tasks, rules */
     MISHANTRAL_SESSIONS = 1, /* subjects and their active roles */
-    MISHANTRAL_ORDERS = 2    /* open orders and their entries */
+    MISHANTRAL_ORDERS = 2,   /* open orders and their entries */
+    MISHANTRAL_OPL_SCRATCH = 4
 };
 
 /* How many 64-bit words a buffer has: the only length that the other two calls take. 0 for another group. */
@@ -111,6 +113,25 @@ uint64_t mishantral_pile(const uint8_t *records, size_t length,
                          uint64_t *sessions, size_t sessions_words,
                          uint64_t *orders, size_t orders_words);
 
+/* Reads a dealer's OPL/XML with its task lines, and writes the policy's records, sixteen bytes each, to the front of `output`,
+ * for mishantral_load to take. A task line is a task's name, one space and its template's name.
+ *
+ * The answer is the reply + 256 times (the text + 4 times a figure), by the first of these that applies:
+ *
+ *     TEXT      a text is not in its grammar: the text is 1, the policy's, or 2, the task lines'; the figure is the
+ *               place of the byte, counted from 1, behind the last one where the text ends too early
+ *     ROOM      the scratch has not its fixed length
+ *     NAMES     a name is too long, declared nowhere or above a limit
+ *     ROOM      the records do not fit the output
+ *     GRANTED   the figure is the number of records
+ *
+ * Text and figure are 0 where nothing is said of them. A refusal writes nothing to the output, and bytes behind the last
+ * record stay. The scratch may hold anything before, and what it holds afterwards means nothing. Pointers are as above. */
+uint64_t mishantral_opl(const uint8_t *policy_text, size_t policy_bytes,
+                        const uint8_t *task_lines, size_t task_bytes,
+                        uint8_t *output, size_t output_bytes,
+                        uint64_t *scratch, size_t scratch_words);
+
 /* The lower part alone, for dealers: policy, roles and sessions, without orders. It is a library of its own,
  * libmishantral_lower.a, with these three functions and two buffers, of MISHANTRAL_POLICY_WORDS and
  * MISHANTRAL_SESSIONS_WORDS words. They answer as those above do; kinds 48 to 52 and 57 are no kinds of the lower
@@ -149,8 +170,8 @@ enum mishantral_reply {
     MISHANTRAL_BOUND = 18,       /* a task bound with this one has an entry of another user */
     MISHANTRAL_COUNT = 19,       /* the task has as many entries as its limit allows */
     MISHANTRAL_FULL = 20,        /* no ledger entry is free, or the rule limit of that kind is reached */
-    MISHANTRAL_TEXT = 21,        /* reading OPL/XML: a text is not in its grammar */
-    MISHANTRAL_NAMES = 22        /* reading OPL/XML: a name is too long, declared nowhere or above a limit */
+    MISHANTRAL_TEXT = 21,        /* mishantral_opl: a text is not in its grammar */
+    MISHANTRAL_NAMES = 22        /* mishantral_opl: a name is too long, declared nowhere or above a limit */
 };
 
 /* Kinds of record (docs/RULES.md, "Numbers"). A field that is not listed is zero; bit i of m stands for role or
@@ -210,6 +231,10 @@ static inline unsigned mishantral_rule_kind(unsigned reply)
     default: return 0;
     }
 }
+
+/* The text and the figure of an answer of mishantral_opl. */
+static inline unsigned mishantral_opl_text_of(uint64_t answer) { return (unsigned)(answer / 256 % 4); }
+static inline uint64_t mishantral_opl_figure_of(uint64_t answer) { return answer / 1024; }
 
 /* A reply's name, as "IN USE"; "?" for a number that is no reply. */
 static inline const char *mishantral_reply_name(unsigned reply)

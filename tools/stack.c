@@ -1,5 +1,5 @@
 /* The stack that each exported call uses: the call runs on a stack of its own that is painted, and the deepest byte is sought that was
- * painted over. Built and run by tools/stack, with LOWER for the lower part alone. */
+ * painted over. Built and run by tools/stack, with LOWER for the lower part alone, with OPL for the reader of OPL/XML. */
 #include <mishantral.h>
 #include <stdio.h>
 #include <string.h>
@@ -9,9 +9,11 @@
 #define PAINT 0x5a
 
 static unsigned char stack[STACK] __attribute__((aligned(64)));
+#ifndef OPL
 static uint64_t policy[MISHANTRAL_POLICY_WORDS], sessions[MISHANTRAL_SESSIONS_WORDS];
 #ifndef LOWER
 static uint64_t orders[MISHANTRAL_ORDERS_WORDS];
+#endif
 #endif
 static ucontext_t here, there;
 static const unsigned char *bytes;
@@ -20,6 +22,8 @@ static uint64_t answer;
 static void (*call)(void);
 
 static void nothing(void) {}
+
+#ifndef OPL
 
 static void load(void) {
 #ifdef LOWER
@@ -45,6 +49,7 @@ static void words(void) {
 #endif
 }
 
+#endif
 static void entry(void) { call(); }
 
 static size_t used_by(void (*function)(void)) {
@@ -61,6 +66,41 @@ static size_t used_by(void (*function)(void)) {
     return STACK - at;
 }
 
+#ifdef OPL
+static unsigned char policy_text[1 << 20], task_lines[1 << 16], output[1 << 20];
+static uint64_t scratch[MISHANTRAL_OPL_WORDS];
+static size_t lines;
+
+static void opl(void) {
+    answer = mishantral_opl(bytes, length, task_lines, lines, output, sizeof output, scratch, MISHANTRAL_OPL_WORDS);
+}
+
+static size_t contents(const char *file, unsigned char *to, size_t room) {
+    FILE *from = fopen(file, "rb");
+    size_t n = from ? fread(to, 1, room, from) : 0;
+    if (from) fclose(from);
+    return n;
+}
+
+/* The policy whole, cut at each byte, and with each byte struck out; the deepest of all. */
+int main(int count, char **words) {
+    if (count != 3) return 2;
+    size_t whole = contents(words[1], policy_text, sizeof policy_text), own = used_by(nothing), deepest = 0;
+    lines = contents(words[2], task_lines, sizeof task_lines);
+    bytes = policy_text;
+    for (size_t at = 0; at <= whole; at++) {
+        unsigned char kept = policy_text[at];
+        size_t n;
+        length = whole - at, n = used_by(opl);
+        if (at == 0 && mishantral_reply_of(answer) != MISHANTRAL_GRANTED) return printf("the policy is refused: %llu\n", (unsigned long long)answer), 1;
+        if (n > deepest) deepest = n;
+        length = whole, policy_text[at] = '?', n = used_by(opl), policy_text[at] = kept;
+        if (n > deepest) deepest = n;
+    }
+    printf("opl %zu\n", deepest - own);
+    return 0;
+}
+#else
 static uint64_t seed = 20240607;
 static unsigned below(unsigned n) {
     seed = seed * 6364136223846793005u + 1442695040888963407u;
@@ -120,3 +160,4 @@ int main(void) {
     printf(", words %zu\n", used_by(words) - own);
     return 0;
 }
+#endif

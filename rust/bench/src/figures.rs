@@ -1,6 +1,7 @@
 //! All measurements of a run: every workload raced, the stack that calls use, the size of the state.
 
 use crate::race::{Race, FLAT, LISTS, PROVED};
+use crate::reading::{reading_stack, readings, Reading};
 use crate::workloads::{checks, day, day_among, load, Workload};
 use crate::{kinds, stack};
 use differential::proved;
@@ -69,8 +70,12 @@ pub struct Figures {
     pub kinds: Vec<Line>,
     /// Requests in piles, where the library takes them, each behind the same in calls of their own.
     pub piles: Vec<Line>,
+    /// A line for each text of OPL/XML.
+    pub readings: Vec<Reading>,
     /// The stack, where the library is linked.
     pub stack: Option<Stack>,
+    /// The stack of reading OPL/XML, likewise.
+    pub reading_stack: Option<usize>,
     /// The bytes of the three lent buffers.
     pub state: Option<[usize; 3]>,
 }
@@ -196,7 +201,9 @@ impl Figures {
             entries,
             permissions,
             kinds,
+            readings: readings(effort)?,
             stack: stack(&workloads),
+            reading_stack: reading_stack(),
             state: state(),
         })
     }

@@ -1,13 +1,16 @@
 //! The proved library timed against the plain engine, on the same streams of records, in one run.
 //! Every reply is compared in every pass. Rests on the engines as `differential` lines them up.
 
+mod dealt;
 mod figures;
 mod kinds;
+mod libxml2;
 mod numbers;
 mod orders;
 mod plot;
 mod policies;
 mod race;
+mod reading;
 mod report;
 mod stack;
 mod workloads;
@@ -15,5 +18,6 @@ mod workloads;
 pub use figures::{only, Effort, Figures};
 pub use kinds::kinds;
 pub use race::Race;
+pub use reading::{reading_table, readings};
 pub use report::{page, plot, table};
 pub use workloads::{checks, day, day_among, load, Workload};

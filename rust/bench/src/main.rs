@@ -1,6 +1,6 @@
 //! Times the proved library against the plain engine, and writes docs/BENCH.md and docs/bench.svg.
 
-use bench::{only, page, plot, table, Effort, Figures};
+use bench::{only, page, plot, reading_table, readings, table, Effort, Figures};
 use differential::command;
 use std::path::Path;
 use std::process::ExitCode;
@@ -10,10 +10,11 @@ const HELP: &str = "\
 Times the proved library against the plain Rust engine, on the same records in one run, and compares every reply.
 Writes docs/BENCH.md and docs/bench.svg.
 
-  bench [--quick] [--only WORDS]
+  bench [--quick] [--only WORDS | --opl]
 
   --quick        a few passes, with rough times; prints them and writes nothing
   --only WORDS   the streams alone whose names have these words in them; prints them and writes nothing
+  --opl          the readers of OPL/XML alone; prints their times and writes nothing
   --help         this text
 
 Build it with --release, and with the proved library's archive in its place: tools/bench does both. Without the
@@ -25,11 +26,12 @@ Exit status: 0 measured; 1 two engines disagree, no stream has the words, or a f
 struct Options {
     effort: Effort,
     only: Option<String>,
+    opl: bool,
 }
 
 impl Options {
     fn writes(&self) -> bool {
-        self.effort != Effort::QUICK && self.only.is_none()
+        self.effort != Effort::QUICK && self.only.is_none() && !self.opl
     }
 }
 
@@ -37,11 +39,13 @@ fn options(arguments: &[String]) -> Result<Options, String> {
     let mut options = Options {
         effort: Effort::FULL,
         only: None,
+        opl: false,
     };
     let mut rest = arguments.iter();
     while let Some(argument) = rest.next() {
         match argument.as_str() {
             "--quick" => options.effort = Effort::QUICK,
+            "--opl" => options.opl = true,
             "--only" => {
                 let words = rest.next().ok_or("--only takes words of a stream's name")?;
                 options.only = Some(words.clone());
@@ -85,6 +89,7 @@ fn print(figures: &Figures) {
     if !figures.piles.is_empty() {
         print!("\n{}", table(&figures.piles));
     }
+    print!("\n{}", reading_table(&figures.readings));
     if let Some(stack) = &figures.stack {
         println!(
             "\nstack: load {} bytes, requests {} bytes",
@@ -95,6 +100,10 @@ fn print(figures: &Figures) {
 
 fn run(options: &Options) -> Result<(), String> {
     let effort = options.effort;
+    if options.opl {
+        print!("{}", reading_table(&readings(effort)?));
+        return Ok(());
+    }
     if let Some(words) = &options.only {
         print!("{}", table(&only(words, effort)?));
         return Ok(());

@@ -3,6 +3,7 @@
 use crate::figures::{Effort, Figures, Growth, Line};
 use crate::numbers::grouped;
 use crate::plot::{picture, Curve, Panel};
+use crate::reading::reading_table;
 use std::fmt::Write;
 use std::process::Command;
 
@@ -125,15 +126,17 @@ fn space(figures: &Figures) -> String {
     let all = grouped(policy + sessions + orders);
     let [policy, sessions, orders] = [policy, sessions, orders].map(grouped);
     let [load, requests] = [stack.load, stack.requests].map(grouped);
+    let reading = figures.reading_stack.map_or(String::from("-"), grouped);
     format!(
         "| bytes | measured | aim |
 |---|---:|---:|
 | stack, the deepest of all loads | {load} | 2,048 |
 | stack, the deepest of all requests | {requests} | 2,048 |
+| stack, the deepest of all readings of OPL/XML | {reading} | 2,048 |
 | state lent by the caller: policy {policy}, sessions {sessions}, orders {orders} | {all} | |
 
 The stack below the calls is painted, and the deepest byte sought that they painted over; so the frames of the wrapper
-`mishantral::Engine` and of the loop that asks are counted too.
+`mishantral::Engine` and of the loop that asks are counted too. Reading OPL/XML is lent a scratch besides, of 3,179,960 bytes.
 "
     )
 }
@@ -185,6 +188,12 @@ The same requests by `mishantral_pile`, 4,096 in a call, and by the plain engine
     )
 }
 
+const READING_NOTES: &str = "\
+Nanoseconds a byte of both texts, the best of many readings, the readers in turn. \"plain\" is the reader of `rust/opl`, written for speed and apart from the
+proved one; all records are compared. libxml2 is asked for none of its events: it sees that the text is well-formed, and makes nothing of it.
+In the last text 65,536 permissions declare as many operations and objects, under 256 names.
+";
+
 /// docs/BENCH.md
 pub fn page(figures: &Figures, effort: Effort) -> String {
     let head = head(effort);
@@ -192,6 +201,7 @@ pub fn page(figures: &Figures, effort: Effort) -> String {
     let piles = piles(figures);
     let entries = table(&figures.entries.lines);
     let permissions = table(&figures.permissions.lines);
+    let readings = reading_table(&figures.readings);
     let history = HISTORY.trim();
     format!(
         "{head}
@@ -210,6 +220,10 @@ pub fn page(figures: &Figures, effort: Effort) -> String {
 96 subjects, 100 entries in use; pairs undo each other, and a time is for one record of the pair.
 
 {kinds}{piles}
+## Reading OPL/XML
+
+{READING_NOTES}
+{readings}
 ## Stack and state
 
 {space}

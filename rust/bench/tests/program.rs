@@ -21,6 +21,8 @@ fn a_quick_run_prints_every_table() {
         "| load of 4,096",
         "| orders, 8 among 1,000",
         "| 57 task check",
+        "| a small policy",
+        "| every space of names full",
     ] {
         assert!(printed.contains(line), "{line} is not in\n{printed}");
     }

@@ -81,7 +81,7 @@ fn kinds_have_one_number() {
     for (name, record) in kinds {
         assert_eq!(constants.get(name), Some(&record.kind()), "{name}");
     }
-    let beside = ["POLICY", "SESSIONS", "ORDERS"];
+    let beside = ["POLICY", "SESSIONS", "ORDERS", "OPL_SCRATCH"];
     assert_eq!(
         constants.len(),
         kinds.len() + Reply::ALL.len() + beside.len()
@@ -131,6 +131,13 @@ fn buffers_have_the_lengths_that_the_library_tells() {
     assert_eq!(number("POLICY_WORDS"), state.policy.len());
     assert_eq!(number("SESSIONS_WORDS"), state.sessions.len());
     assert_eq!(number("ORDERS_WORDS"), state.orders.len());
+}
+
+#[cfg(mishantral_opl)]
+#[test]
+fn the_scratch_has_the_length_that_the_library_tells() {
+    let words = mishantral::opl::scratch_words();
+    assert_eq!(number("OPL_WORDS"), words);
 }
 
 #[cfg(mishantral_lower)]

@@ -73,15 +73,71 @@ impl Reader {
     }
 }
 
-/// The readers that are always there.
+/// All readers that there are: the plain one, the slow one, and the proved one where the library is linked.
 pub fn readers() -> Vec<Reader> {
     let slow = Reader::new("slow", |policy, tasks, output| {
         slow::translate(policy, tasks, output).0
     });
-    vec![
+    let mut all = vec![
         Reader::new("plain", opl::translate),
         Reader { slow: true, ..slow },
-    ]
+    ];
+    all.extend(proved::reader());
+    all
+}
+
+/// The proved reader, and the names that its wrapper tells.
+#[cfg(mishantral_opl)]
+mod proved {
+    use super::{Answer, Reader, Space, Texts};
+    use mishantral::{opl::scratch_words, Policy};
+    use random::Random;
+    use std::cell::RefCell;
+
+    /// In how many calls one is lent a scratch of noise. In the others it holds what the call before left: the names of other texts.
+    const NOISE: usize = 50;
+
+    pub fn reader() -> Option<Reader> {
+        let lent = RefCell::new((Random::new(11), vec![0; scratch_words()]));
+        Some(Reader::new("proved", move |policy, tasks, output| {
+            let (random, scratch) = &mut *lent.borrow_mut();
+            if random.chance(1, NOISE) {
+                scratch.fill_with(|| random.word());
+            }
+            let answer = mishantral::opl::translate(policy, tasks, output, scratch);
+            Answer {
+                reply: answer.reply.number(),
+                text: answer.text.map_or(0, |text| text as u8),
+                figure: answer.figure,
+            }
+        }))
+    }
+
+    pub fn agrees(texts: &Texts, read: &opl::Policy) -> bool {
+        let policy = Policy::from_opl(&texts.policy, &texts.tasks);
+        policy.is_ok_and(|policy| {
+            let mut spaces = Space::ALL.into_iter().zip(mishantral::Space::ALL);
+            let names = spaces.all(|(space, same)| {
+                let told = policy.names(same).eq(read.names(space).iter().copied());
+                let mut numbers = (0..=u16::MAX).zip(read.names(space));
+                told && numbers.all(|(number, name)| policy.number(same, name) == Some(number))
+            });
+            names && policy.bytes() == read.records()
+        })
+    }
+}
+
+#[cfg(not(mishantral_opl))]
+mod proved {
+    use super::{Reader, Texts};
+
+    pub fn reader() -> Option<Reader> {
+        None
+    }
+
+    pub fn agrees(_: &Texts, _: &opl::Policy) -> bool {
+        true
+    }
 }
 
 /// What the output holds before a reader writes.
@@ -191,7 +247,7 @@ fn report(readers: &[Reader], texts: &Texts, room: usize) -> String {
     words
 }
 
-/// The names by number of an accepted policy, as both plain readers tell them.
+/// The names by number of an accepted policy, as all readers tell them.
 pub fn compare_names(texts: &Texts) -> Result<(), String> {
     let read = opl::read(&texts.policy, &texts.tasks).map_err(|r| format!("{r:?}"))?;
     let mut output = vec![0; RECORD * read.count()];
@@ -201,6 +257,9 @@ pub fn compare_names(texts: &Texts) -> Result<(), String> {
         if read.names(space) != names[space as usize] {
             return Err(format!("the {} names differ in {texts:?}", space.name()));
         }
+    }
+    if !proved::agrees(texts, &read) {
+        return Err(format!("the wrapper's names differ in {texts:?}"));
     }
     if read.records() == output {
         return Ok(());

@@ -1,8 +1,8 @@
 //! Readers of OPL/XML compared over random texts of the grammar and over damaged ones: every figure of the answer, every
-//! byte of the output and, between the two readers here, every name by its number.
+//! byte of the output and every name by its number.
 //!
-//! The plain reader (crate `opl`) and a slow one, which reads content models from the DTD's text, always take part. A further
-//! reader is a [`Reader`] more, from a closure or, by [`Reader::exported`], from a library's function:
+//! The plain reader (crate `opl`) and a slow one, which reads content models from the DTD's text, always take part, the proved one where
+//! the library is linked. A further reader is a [`Reader`] more, from a closure or, by [`Reader::exported`], from a library's function:
 //!
 //! ```
 //! use opl_differential::{readers, run, Reader};

@@ -5,7 +5,8 @@ use std::process::{Command, ExitCode};
 use std::time::Instant;
 
 const HELP: &str = "\
-Compares readers of OPL/XML: the plain one and a slow one that reads content models from the DTD.
+Compares readers of OPL/XML: the plain one, a slow one that reads content models from the DTD, and the proved one where the
+library is linked.
 
   opl-differential [--seed N] [--texts N]
   opl-differential --time

@@ -5,7 +5,7 @@ use std::slice::{from_raw_parts, from_raw_parts_mut};
 
 #[test]
 fn the_readers_agree() {
-    let met = run(&readers(), 7, 20_000).unwrap_or_else(|difference| panic!("{difference}"));
+    let met = run(&readers(), 7, 100_000).unwrap_or_else(|difference| panic!("{difference}"));
     assert!(met.everything(), "{met}");
 }
 
@@ -29,6 +29,35 @@ unsafe extern "C" fn exported(
         from_raw_parts_mut(scratch, scratch_words).fill(7);
         let output = from_raw_parts_mut(output, output_bytes);
         opl::translate(policy, tasks, output).number()
+    }
+}
+
+/// A scratch of another length is ROOM, but behind TEXT; the output stays.
+#[cfg(mishantral_opl)]
+#[test]
+fn the_scratch_has_one_length() {
+    use opl_differential::{mangled, Texts};
+    let mut random = random::Random::new(13);
+    let words = mishantral::opl::scratch_words();
+    let mut scratch = vec![0x5a5a_5a5a_5a5a_5a5a; words + 1];
+    for turn in 0..4_000 {
+        let mut texts = Texts::random(&mut random);
+        if turn % 2 == 1 {
+            texts.policy = mangled(&mut random, &texts.policy);
+        }
+        let mut output = vec![3; random.below(400)];
+        let length = random.pick(&[0, 1, 1_000, words - 1, words + 1]);
+        let lent = &mut scratch[..length];
+        let told = mishantral::opl::translate(&texts.policy, &texts.tasks, &mut output, lent);
+        let plain = opl::translate(&texts.policy, &texts.tasks, &mut []);
+        let expected = match plain.reply {
+            opl::TEXT => plain.number(),
+            _ => opl::ROOM.into(),
+        };
+        let text = told.text.map_or(0, |text| text as u64);
+        let number = u64::from(told.reply.number()) + 256 * (text + 4 * told.figure);
+        assert_eq!(number, expected, "{texts:?}");
+        assert!(output.iter().all(|&byte| byte == 3));
     }
 }
 
