@@ -1,21 +1,18 @@
 -- What one tag of an accepted text says, as the numbers of a record, where the tables of the scratch hold the names.
 use Prim.Native.Nat.{ℕ, zero, suc, _≤_, _<_}
 use mathlib.Core.Path.{_≡_}
-use mathlib.Core.Bool.{cond}
-use mathlib.Core.List.{List, [], _∷_}
-use lib.Dec.{ltb}
-use lib.ListN.{length, getD}
-use Rattle.paper_lower.specs.Lists.{Maybe, keep, each}
+use mathlib.Core.List.{List}
+use lib.ListN.{length}
+use Rattle.paper_lower.specs.Lists.{Maybe, each}
 use Rattle.paper_lower.specs.Lists.Maybe.{none, just}
 use Rattle.paper_lower.specs.Records.{Record}
-use Rattle.paper_opl.specs.Reading.{Text, text, same}
-use Rattle.paper_opl.specs.Tree.{if-found, decimal}
-use Rattle.paper_opl.specs.Naming.{Space, Names, valueOf, numberIn, setOf, ofFirst}
+use Rattle.paper_opl.specs.Reading.{Text, text}
+use Rattle.paper_opl.specs.Tree.{decimal}
+use Rattle.paper_opl.specs.Naming.{Space, Names, valueOf, numberIn}
 use Rattle.paper_opl.specs.Walk.{tags, namesIn, leading, Saying}
 use Rattle.opl_names.specs.Table.{Sound, foundOf}
 use Rattle.opl_names.specs.declared.Found.{Found}
 use Rattle.opl_names.specs.declared.Found.the-variants.{At, Nowhere}
-use Rattle.opl_table.specs.Numbers.{nameOf}
 use Rattle.opl_lines.specs.Lines.{linesIn}
 use Rattle.opl_tags.specs.Tags.{givenAt}
 use Rattle.opl_spaces.specs.Spaces.{limitOf, scratchWords, tableOf, numbered}
@@ -46,6 +43,9 @@ pub record Held (s t : Text) (ns : Names) (l : List ℕ) : Type 0 where
   pub lines-sound : (i : ℕ) → 4 < i → i < 7 → Sound t (limitOf i) (tableOf i l)
   pub tag-numbers : (i : ℕ) → i < 5 → (w : Text) → numbered s i l w ≡ numberIn (spaceAt ns i) w
   pub line-numbers : (i : ℕ) → 4 < i → i < 7 → (w : Text) → numbered t i l w ≡ numberIn (spaceAt ns i) w
+
+abbrev pub Holds : Text → Text → List ℕ → Type 0
+Holds s t l = Held s t (allNames s t) l
 
 -- a number of a space is below its limit
 abbrev pub Below : ℕ → Found → Type 0
