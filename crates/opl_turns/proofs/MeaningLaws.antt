@@ -1,0 +1,151 @@
+-- What one guess and one comparison find is what the definitions find by name.
+use Prim.Native.Nat.{ℕ, zero, suc, _+_, _-_, _≤_, _<_}
+use mathlib.Core.Path.{_≡_, refl, sym, ap, _∙_}
+use mathlib.Core.Bool.{Bool, true, false, not, _&&_, false≢true}
+use mathlib.Core.List.{List, [], _∷_}
+use native.Mathlib.Omega.{arith}
+use lib.Dec.{eqb, ltb}
+use lib.ListN.{length, getD}
+use borrow.Author.Tests.{eqb-true, ltb-true}
+use Rattle.paper_lower.specs.Lists.{every, listsOpen}
+use Rattle.paper_lower.proofs.ListLaws.{both}
+use Rattle.paper_opl.specs.Reading.{Text, text, same, readingOpen}
+use Rattle.paper_opl.specs.Elements.{elementsOpen}
+use Rattle.paper_opl.specs.Tree.{Tag}
+use Rattle.paper_opl.specs.Walk.{called, Context, turn, kinds, kindIn, kindAt}
+use Rattle.paper_opl.proofs.Inversion.{on-test}
+use Rattle.paper_opl.proofs.Conforms.{same-true}
+use Rattle.opl_table.specs.Numbers.{names, nameOf}
+use Rattle.opl_turns.specs.Meaning.{guesses, guessOf, elementOf, kindList, kindBy, setsBy, partsBy, numberBy}
+
+-- ---- The two tables, computed.
+
+alike : Bool → Bool → Bool
+alike true b = b
+alike false b = not b
+
+alike-is : (a b : Bool) → alike a b ≡ true → a ≡ b
+unfolding alike
+alike-is true true e = refl
+alike-is true false e = absurd (false≢true e)
+alike-is false true e = absurd (false≢true e)
+alike-is false false e = refl
+
+abbrev named : ℕ → Text → ℕ → Bool
+named g w k = alike (same (nameOf g) w) (eqb g k)
+
+-- what an element's number tells is what its name does
+tells : ℕ → Bool
+tells g =
+    eqb (kindIn kinds (nameOf g)) (getD kindList g 0)
+    && (named g (text "critical_role_set") 23
+    && (named g (text "static_separation_of_duty") 20
+    && (named g (text "dynamic_separation_of_duty") 21 && (named g (text "hdsodtp_partitioning") 38 && named g (text "hdsodtp_partition") 39))))
+
+guesses-tell : (tells 0 ≡ true) × (every tells guesses ≡ true)
+unfolding listsOpen readingOpen elementsOpen kinds kindIn names nameOf kindList guesses tells alike
+guesses-tell = (refl, refl)
+
+-- a name at which the guess is right
+abbrev guessed : Text → Bool
+guessed w = same w (nameOf (guessOf w))
+
+kinds-guessed : every (λ x. guessed (x .0)) kinds ≡ true
+unfolding listsOpen readingOpen elementsOpen kinds names nameOf guesses guessOf
+kinds-guessed = refl
+
+others-guessed : (guessed (text "critical_role_set") ≡ true) × (guessed (text "static_separation_of_duty") ≡ true) × (guessed (text "dynamic_separation_of_duty") ≡ true) × (guessed (text "hdsodtp_partitioning") ≡ true) × (guessed (text "hdsodtp_partition") ≡ true)
+unfolding listsOpen readingOpen elementsOpen names nameOf guesses guessOf
+others-guessed = (refl, refl, refl, refl, refl)
+
+-- ---- Any name.
+
+every-at : (p : ℕ → Bool) (l : List ℕ) (i d : ℕ) → every p l ≡ true → p d ≡ true → p (getD l i d) ≡ true
+unfolding every
+every-at p [] i d h e = e
+every-at p (x ∷ l) zero d h e = both (p x) (every p l) h .0
+every-at p (x ∷ l) (suc i) d h e = every-at p l i d (both (p x) (every p l) h .1) e
+
+guess-tells : (w : Text) → tells (guessOf w) ≡ true
+unfolding guessOf
+guess-tells w = every-at tells guesses _ 0 (guesses-tell .1) (guesses-tell .0)
+
+unlike : (x w : Text) → guessed x ≡ true → guessed w ≡ false → same w x ≡ false
+unlike x w g f = on-test (same w x) (λ q. absurd (false≢true (sym f ∙ ap (λ (v : Text). guessed v) (same-true w x q) ∙ g))) (λ q. q)
+
+kind-none : (xs : List (Text × ℕ)) (w : Text) → every (λ x. guessed (x .0)) xs ≡ true → guessed w ≡ false → kindIn xs w ≡ 0
+unfolding every kindIn
+kind-none [] w h f = refl
+kind-none (x ∷ xs) w h f =
+    let b = both (guessed (x .0)) (every (λ x. guessed (x .0)) xs) h in
+    rw (unlike (x .0) w (b .0) f) (kind-none xs w (b .1) f)
+
+-- what a name tells, by its number
+pub record Meant (w : Text) (id : ℕ) : Type 0 where
+  pub kind : kindIn kinds w ≡ getD kindList id 0
+  pub set : same w (text "critical_role_set") ≡ eqb id 23
+  pub static : same w (text "static_separation_of_duty") ≡ eqb id 20
+  pub dynamic : same w (text "dynamic_separation_of_duty") ≡ eqb id 21
+  pub partitioning : same w (text "hdsodtp_partitioning") ≡ eqb id 38
+  pub partition : same w (text "hdsodtp_partition") ≡ eqb id 39
+
+by-number : (g : ℕ) → tells g ≡ true → Meant (nameOf g) g
+unfolding tells
+by-number g h =
+    let a = both (eqb (kindIn kinds (nameOf g)) (getD kindList g 0)) _ h in
+    let b = both (named g (text "critical_role_set") 23) _ (a .1) in
+    let c = both (named g (text "static_separation_of_duty") 20) _ (b .1) in
+    let d = both (named g (text "dynamic_separation_of_duty") 21) _ (c .1) in
+    let e = both (named g (text "hdsodtp_partitioning") 38) (named g (text "hdsodtp_partition") 39) (d .1) in
+    record {
+      kind = eqb-true _ _ (a .0);
+      set = alike-is _ _ (b .0);
+      static = alike-is _ _ (c .0);
+      dynamic = alike-is _ _ (d .0);
+      partitioning = alike-is _ _ (e .0);
+      partition = alike-is _ _ (e .1);
+    }
+
+unguessed : (w : Text) → guessed w ≡ false → Meant w 65
+unfolding kindList
+unguessed w f =
+    record {
+      kind = kind-none kinds w kinds-guessed f;
+      set = unlike _ w (others-guessed .0) f;
+      static = unlike _ w (others-guessed .1) f;
+      dynamic = unlike _ w (others-guessed .2) f;
+      partitioning = unlike _ w (others-guessed .3) f;
+      partition = unlike _ w (others-guessed .4) f;
+    }
+
+pub meant : (w : Text) → Meant w (elementOf w)
+unfolding elementOf
+meant w =
+    on-test (guessed w)
+    (λ q. let e = same-true w (nameOf (guessOf w)) q in rw q (rw (← e) at (by-number (guessOf w) (guess-tells w))))
+    (λ q. rw q (unguessed w q))
+
+pub no-name : (w : Text) → length w ≡ 0 → 65 ≡ guessOf w
+unfolding guesses guessOf
+no-name [] e = refl
+no-name (b ∷ w) e = absurd (omega (arith, e))
+
+-- ---- A tag.
+
+module _ (c : Context) (t : Tag) where
+  pub kind-is : kindAt c t ≡ kindBy (c .sets) (elementOf (t .name))
+  unfolding kindBy
+  kind-is = let m = meant (t .name) in rw (m .set, m .kind)
+
+  pub turn-is : turn c t ≡ record { sets = setsBy (c .sets) (elementOf (t .name)); partitionings = partsBy (c .partitionings) (elementOf (t .name)) }
+  unfolding turn
+  turn-is = let m = meant (t .name) in let z : suc (c .partitionings) ≡ c .partitionings + 1 = omega arith in rw (m .static, m .dynamic, m .partitioning, z)
+
+kinds-small : (ltb 0 17 ≡ true) × (every (λ k. ltb k 17) kindList ≡ true)
+unfolding listsOpen kindList
+kinds-small = (refl, refl)
+
+pub kind-small : (sets id : ℕ) → sets ≤ 10 → kindBy sets id < 17
+unfolding kindBy
+kind-small sets id h =
+    on-test (eqb id 23) (λ q. rw q (omega arith)) (λ q. rw q (ltb-true _ _ (every-at (λ k. ltb k 17) kindList id 0 (kinds-small .1) (kinds-small .0))))
