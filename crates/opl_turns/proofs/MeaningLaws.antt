@@ -6,7 +6,7 @@ use mathlib.Core.List.{List, [], _∷_}
 use native.Mathlib.Omega.{arith}
 use lib.Dec.{eqb, ltb}
 use lib.ListN.{length, getD}
-use borrow.Author.Tests.{eqb-true, ltb-true}
+use borrow.Author.Tests.{eqb-true, ne-eqb, ltb-true}
 use Rattle.paper_lower.specs.Lists.{every, listsOpen}
 use Rattle.paper_lower.proofs.ListLaws.{both}
 use Rattle.paper_opl.specs.Reading.{Text, text, same, readingOpen}
@@ -129,6 +129,50 @@ pub no-name : (w : Text) → length w ≡ 0 → 65 ≡ guessOf w
 unfolding guesses guessOf
 no-name [] e = refl
 no-name (b ∷ w) e = absurd (omega (arith, e))
+
+-- ---- The elements that declare names: 12 to 16.
+
+spaces : List ℕ
+spaces = 0 ∷ 1 ∷ 2 ∷ 3 ∷ 4 ∷ []
+
+guesses-declare : (every (λ i. named 0 (nameOf (12 + i)) (12 + i)) spaces ≡ true) × (every (λ g. every (λ i. named g (nameOf (12 + i)) (12 + i)) spaces) guesses ≡ true)
+unfolding listsOpen readingOpen elementsOpen names nameOf guesses alike spaces
+guesses-declare = (refl, refl)
+
+declarers-guessed : every (λ i. guessed (nameOf (12 + i))) spaces ≡ true
+unfolding listsOpen readingOpen elementsOpen names nameOf guesses guessOf spaces
+declarers-guessed = refl
+
+every-space : (p : ℕ → Bool) → every p spaces ≡ true → (i : ℕ) → i < 5 → p i ≡ true
+unfolding every spaces
+every-space p h i a =
+    let e = both (p 0) _ h in
+    let f = both (p 1) _ (e .1) in
+    let g = both (p 2) _ (f .1) in
+    let k = both (p 3) _ (g .1) in
+    let m = both (p 4) true (k .1) in
+    at-space i a (e .0) (f .0) (g .0) (k .0) (m .0)
+  where
+    at-space : (i : ℕ) → i < 5 → p 0 ≡ true → p 1 ≡ true → p 2 ≡ true → p 3 ≡ true → p 4 ≡ true → p i ≡ true
+    at-space zero a e f g k m = e
+    at-space (suc zero) a e f g k m = f
+    at-space (suc (suc zero)) a e f g k m = g
+    at-space (suc (suc (suc zero))) a e f g k m = k
+    at-space (suc (suc (suc (suc zero)))) a e f g k m = m
+    at-space (suc (suc (suc (suc (suc i))))) a e f g k m = absurd (omega arith)
+
+guess-declares : (w : Text) → every (λ i. named (guessOf w) (nameOf (12 + i)) (12 + i)) spaces ≡ true
+unfolding guessOf
+guess-declares w = every-at (λ g. every (λ i. named g (nameOf (12 + i)) (12 + i)) spaces) guesses _ 0 (guesses-declare .1) (guesses-declare .0)
+
+pub declares-by : (w : Text) (i : ℕ) → i < 5 → same w (nameOf (12 + i)) ≡ eqb (elementOf w) (12 + i)
+unfolding elementOf
+declares-by w i h =
+    on-test (guessed w)
+    (λ q.
+    let e = same-true w (nameOf (guessOf w)) q in
+    rw q (ap (λ (v : Text). same v (nameOf (12 + i))) e ∙ alike-is _ _ (every-space (λ i. named (guessOf w) (nameOf (12 + i)) (12 + i)) (guess-declares w) i h)))
+    (λ q. rw q (unlike (nameOf (12 + i)) w (every-space (λ i. guessed (nameOf (12 + i))) declarers-guessed i h) q ∙ sym (ne-eqb 65 (12 + i) (λ z. omega (arith, z)))))
 
 -- ---- A tag.
 
