@@ -309,7 +309,7 @@ module _ (l₀ : List ℕ) (cap : ℕ) (l : List ℕ) (sum k : ℕ) (b : BeginLe
   pub begin-end : 17 ≤ k → Begun l₀ l cap sum
   begin-end h =
       let z : k ≡ 17 = omega (arith, b .last) in
-      record { total = rw (← z) (b .sum-is); fits = b .fits; each-begins = λ j p q. b .done j p (omega arith) }
+      record { total = rw (← z) (b .sum-is); fits = b .fits; each-begins = λ j p q. b .done j p (omega arith); kinds = b .room }
 
   module _ (h : k < 17) where
     next-is : begins (of l₀) (k + 1) ≡ sum + of l k

@@ -67,6 +67,7 @@ pub record Begun (l l′ : List ℕ) (cap n : ℕ) : Type 0 where
   pub total : n ≡ begins (of l) 17
   pub fits : n ≤ cap
   pub each-begins : (k : ℕ) → 1 ≤ k → k < 17 → of l′ k ≡ begins (of l) k
+  pub kinds : length l′ ≡ 17
 
 abbrev pub Sums : List ℕ → List ℕ → ℕ → Sum → Type 0
 Sums l l′ cap (Total n) = Begun l l′ cap n
