@@ -150,9 +150,8 @@ fill-agree ns [] c low f g h out = refl
 fill-agree ns (t ∷ ts) c low f g h out =
     on-test (eqb (kindAt c t) 0) (λ q. rw q (fill-agree ns ts (turn c t) (low-turn c t low) f g h out))
     (λ q.
-    let k = kindAt c t in
     let z = eqb-false (kindAt c t) 0 q in
-    let s : kindAt c t < 17 = rw (kind-is c t) (kind-small (c .sets) (elementOf (t .name)) low) in
+    let s : kindAt c t < 17 = rw (kind-is c t) (kind-small (c .sets) (t .name) low) in
     let o : 1 ≤ kindAt c t = omega (arith, z) in
     rw q (ap (λ (p : ℕ). fill ns (turn c t) (upd f (kindAt c t) (suc (f (kindAt c t)))) ts (putAt out p (valued (recordSaid ns (saying c t (leading ts)))))) (h (kindAt c t) o s)
     ∙ fill-agree ns ts (turn c t) (low-turn c t low) (upd f (kindAt c t) (suc (f (kindAt c t)))) (upd g (kindAt c t) (suc (g (kindAt c t)))) (agree-upd f g (kindAt c t) o s h) (putAt out (g (kindAt c t)) (valued (recordSaid ns (saying c t (leading ts)))))))

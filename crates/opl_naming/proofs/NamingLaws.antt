@@ -14,7 +14,7 @@ use Rattle.paper_opl.specs.Walk.{tag, tags}
 use Rattle.paper_opl.proofs.Inversion.{on-test}
 use Rattle.opl_names.specs.Table.{namesIn, Sound, Emptied}
 use Rattle.opl_names.specs.declared.Found.{Found}
-use Rattle.opl_table.specs.Numbers.{nameOf}
+use Rattle.opl_table.specs.Numbers.{nameOf, digit}
 use Rattle.opl_tags.specs.Tags.{givenAt, Valued, Opens, ReadsTag}
 use Rattle.opl_tags.specs.declared.Tag.{Tag}
 use Rattle.opl_tags.specs.declared.Tag.the-variants.{Start, End, Halt}
@@ -29,6 +29,16 @@ use Rattle.opl_said.proofs.HeldLaws.{held}
 use Rattle.opl_turns.specs.Meaning.{elementOf}
 use Rattle.opl_turns.proofs.MeaningLaws.{declares-by}
 use Rattle.opl_naming.specs.Naming.{Keeps, Onwards, LongFrom, Goes, AllSound, Filled, AllFilled, Fills, AllEmptied, declaredOf, LongName, Names}
+
+-- the attributes of the five spaces, in a word
+pub attribute-is : (i : ℕ) → i < 5 → digit 250068088373 i ≡ attributeOf i
+unfolding attributeOf
+attribute-is zero h = refl
+attribute-is (suc zero) h = refl
+attribute-is (suc (suc zero)) h = refl
+attribute-is (suc (suc (suc zero))) h = refl
+attribute-is (suc (suc (suc (suc zero)))) h = refl
+attribute-is (suc (suc (suc (suc (suc i))))) h = absurd (omega arith)
 
 -- ---- One tag.
 

@@ -16,16 +16,15 @@ use opl_spaces::declare;
 use opl_tags::Tag;
 use opl_tags::read_tag;
 use opl_tags::value_of;
+use opl_turns::digit;
 use opl_turns::element;
-
-const ATTRIBUTES: [u64; 5] = [53, 54, 56, 57, 58];
 
 // The attribute that declares a name of the space.
 fn attribute(i: usize) -> u64
     requires { ⌜ i < 5 ⌝ }
     ensures { λ r. ⌜ r ≡ attributeOf i ⌝ }
 {
-    ATTRIBUTES[i]
+    digit(0x3a39383635, i as u64)
 }
 
 // The next tag from `at` on: if it declares a name, that name goes into its space.

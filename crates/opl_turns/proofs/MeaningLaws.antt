@@ -1,12 +1,12 @@
 -- What one guess and one comparison find is what the definitions find by name.
-use Prim.Native.Nat.{ℕ, zero, suc, _+_, _-_, _≤_, _<_}
+use Prim.Native.Nat.{ℕ, zero, suc, _+_, _*_, _-_, _%_, _≤_, _<_}
 use mathlib.Core.Path.{_≡_, refl, sym, ap, _∙_}
 use mathlib.Core.Bool.{Bool, true, false, not, _&&_, false≢true}
 use mathlib.Core.List.{List, [], _∷_}
 use native.Mathlib.Omega.{arith}
 use lib.Dec.{eqb, ltb}
 use lib.ListN.{length, getD}
-use borrow.Author.Tests.{eqb-true, ne-eqb, ltb-true}
+use borrow.Author.Tests.{eqb-true, eqb-false, ne-eqb, ltb-true}
 use Rattle.paper_lower.specs.Lists.{every, listsOpen}
 use Rattle.paper_lower.proofs.ListLaws.{both}
 use Rattle.paper_opl.specs.Reading.{Text, text, same, readingOpen}
@@ -15,7 +15,7 @@ use Rattle.paper_opl.specs.Tree.{Tag}
 use Rattle.paper_opl.specs.Walk.{called, Context, turn, kinds, kindIn, kindAt}
 use Rattle.paper_opl.proofs.Inversion.{on-test}
 use Rattle.paper_opl.proofs.Conforms.{same-true}
-use Rattle.opl_table.specs.Numbers.{names, nameOf}
+use Rattle.opl_table.specs.Numbers.{names, nameOf, packed, wordAt, numberAt}
 use Rattle.opl_turns.specs.Meaning.{guesses, guessOf, elementOf, kindList, kindBy, setsBy, partsBy, numberBy}
 
 -- ---- The two tables, computed.
@@ -34,41 +34,51 @@ alike-is false false e = refl
 abbrev named : ℕ → Text → ℕ → Bool
 named g w k = alike (same (nameOf g) w) (eqb g k)
 
+-- the numbers below n
+countTo : ℕ → List ℕ
+countTo zero = []
+countTo (suc n) = n ∷ countTo n
+
+below-at : (p : ℕ → Bool) (n k : ℕ) → every p (countTo n) ≡ true → k < n → p k ≡ true
+unfolding every countTo
+below-at p zero k h a = absurd (omega arith)
+below-at p (suc n) k h a =
+    let b = both (p n) (every p (countTo n)) h in
+    on-test (eqb k n) (λ q. let e = eqb-true k n q in rw e (b .0)) (λ q. let e = eqb-false k n q in below-at p n k (b .1) (omega (arith, e)))
+
 -- what an element's number tells is what its name does
 tells : ℕ → Bool
 tells g =
-    eqb (kindIn kinds (nameOf g)) (getD kindList g 0)
+    ltb (numberAt kindList g) 17
+    && (eqb (kindIn kinds (nameOf g)) (numberAt kindList g)
     && (named g (text "critical_role_set") 23
     && (named g (text "static_separation_of_duty") 20
-    && (named g (text "dynamic_separation_of_duty") 21 && (named g (text "hdsodtp_partitioning") 38 && named g (text "hdsodtp_partition") 39))))
+    && (named g (text "dynamic_separation_of_duty") 21 && (named g (text "hdsodtp_partitioning") 38 && named g (text "hdsodtp_partition") 39)))))
 
-guesses-tell : (tells 0 ≡ true) × (every tells guesses ≡ true)
-unfolding listsOpen readingOpen elementsOpen kinds kindIn names nameOf kindList guesses tells alike
-guesses-tell = (refl, refl)
+guesses-tell : every (λ h. tells (numberAt guesses h)) (countTo 64) ≡ true
+unfolding listsOpen readingOpen elementsOpen kinds kindIn names nameOf kindList guesses tells alike countTo numberAt wordAt packed
+guesses-tell = refl
 
 -- a name at which the guess is right
 abbrev guessed : Text → Bool
 guessed w = same w (nameOf (guessOf w))
 
 kinds-guessed : every (λ x. guessed (x .0)) kinds ≡ true
-unfolding listsOpen readingOpen elementsOpen kinds names nameOf guesses guessOf
+unfolding listsOpen readingOpen elementsOpen kinds names nameOf guesses guessOf numberAt wordAt packed
 kinds-guessed = refl
 
 others-guessed : (guessed (text "critical_role_set") ≡ true) × (guessed (text "static_separation_of_duty") ≡ true) × (guessed (text "dynamic_separation_of_duty") ≡ true) × (guessed (text "hdsodtp_partitioning") ≡ true) × (guessed (text "hdsodtp_partition") ≡ true)
-unfolding listsOpen readingOpen elementsOpen names nameOf guesses guessOf
+unfolding listsOpen readingOpen elementsOpen names nameOf guesses guessOf numberAt wordAt packed
 others-guessed = (refl, refl, refl, refl, refl)
 
 -- ---- Any name.
 
-every-at : (p : ℕ → Bool) (l : List ℕ) (i d : ℕ) → every p l ≡ true → p d ≡ true → p (getD l i d) ≡ true
-unfolding every
-every-at p [] i d h e = e
-every-at p (x ∷ l) zero d h e = both (p x) (every p l) h .0
-every-at p (x ∷ l) (suc i) d h e = every-at p l i d (both (p x) (every p l) h .1) e
+mod-lt : (n : ℕ) → n % 64 < 64
+mod-lt n = omega arith
 
 guess-tells : (w : Text) → tells (guessOf w) ≡ true
 unfolding guessOf
-guess-tells w = every-at tells guesses _ 0 (guesses-tell .1) (guesses-tell .0)
+guess-tells w = below-at (λ h. tells (numberAt guesses h)) 64 _ guesses-tell (mod-lt (length w + 17 * getD w (length w - 1) 0))
 
 unlike : (x w : Text) → guessed x ≡ true → guessed w ≡ false → same w x ≡ false
 unlike x w g f = on-test (same w x) (λ q. absurd (false≢true (sym f ∙ ap (λ (v : Text). guessed v) (same-true w x q) ∙ g))) (λ q. q)
@@ -82,7 +92,8 @@ kind-none (x ∷ xs) w h f =
 
 -- what a name tells, by its number
 pub record Meant (w : Text) (id : ℕ) : Type 0 where
-  pub kind : kindIn kinds w ≡ getD kindList id 0
+  pub small : numberAt kindList id < 17
+  pub kind : kindIn kinds w ≡ numberAt kindList id
   pub set : same w (text "critical_role_set") ≡ eqb id 23
   pub static : same w (text "static_separation_of_duty") ≡ eqb id 20
   pub dynamic : same w (text "dynamic_separation_of_duty") ≡ eqb id 21
@@ -92,12 +103,14 @@ pub record Meant (w : Text) (id : ℕ) : Type 0 where
 by-number : (g : ℕ) → tells g ≡ true → Meant (nameOf g) g
 unfolding tells
 by-number g h =
-    let a = both (eqb (kindIn kinds (nameOf g)) (getD kindList g 0)) _ h in
+    let z = both (ltb (numberAt kindList g) 17) _ h in
+    let a = both (eqb (kindIn kinds (nameOf g)) (numberAt kindList g)) _ (z .1) in
     let b = both (named g (text "critical_role_set") 23) _ (a .1) in
     let c = both (named g (text "static_separation_of_duty") 20) _ (b .1) in
     let d = both (named g (text "dynamic_separation_of_duty") 21) _ (c .1) in
     let e = both (named g (text "hdsodtp_partitioning") 38) (named g (text "hdsodtp_partition") 39) (d .1) in
     record {
+      small = ltb-true _ _ (z .0);
       kind = eqb-true _ _ (a .0);
       set = alike-is _ _ (b .0);
       static = alike-is _ _ (c .0);
@@ -107,9 +120,10 @@ by-number g h =
     }
 
 unguessed : (w : Text) → guessed w ≡ false → Meant w 65
-unfolding kindList
+unfolding kindList numberAt wordAt packed
 unguessed w f =
     record {
+      small = omega arith;
       kind = kind-none kinds w kinds-guessed f;
       set = unlike _ w (others-guessed .0) f;
       static = unlike _ w (others-guessed .1) f;
@@ -126,7 +140,7 @@ meant w =
     (λ q. rw q (unguessed w q))
 
 pub no-name : (w : Text) → length w ≡ 0 → 65 ≡ guessOf w
-unfolding guesses guessOf
+unfolding guesses guessOf numberAt wordAt packed
 no-name [] e = refl
 no-name (b ∷ w) e = absurd (omega (arith, e))
 
@@ -135,12 +149,12 @@ no-name (b ∷ w) e = absurd (omega (arith, e))
 spaces : List ℕ
 spaces = 0 ∷ 1 ∷ 2 ∷ 3 ∷ 4 ∷ []
 
-guesses-declare : (every (λ i. named 0 (nameOf (12 + i)) (12 + i)) spaces ≡ true) × (every (λ g. every (λ i. named g (nameOf (12 + i)) (12 + i)) spaces) guesses ≡ true)
-unfolding listsOpen readingOpen elementsOpen names nameOf guesses alike spaces
-guesses-declare = (refl, refl)
+guesses-declare : every (λ h. every (λ i. named (numberAt guesses h) (nameOf (12 + i)) (12 + i)) spaces) (countTo 64) ≡ true
+unfolding listsOpen readingOpen elementsOpen names nameOf guesses alike spaces countTo numberAt wordAt packed
+guesses-declare = refl
 
 declarers-guessed : every (λ i. guessed (nameOf (12 + i))) spaces ≡ true
-unfolding listsOpen readingOpen elementsOpen names nameOf guesses guessOf spaces
+unfolding listsOpen readingOpen elementsOpen names nameOf guesses guessOf spaces numberAt wordAt packed
 declarers-guessed = refl
 
 every-space : (p : ℕ → Bool) → every p spaces ≡ true → (i : ℕ) → i < 5 → p i ≡ true
@@ -163,7 +177,7 @@ every-space p h i a =
 
 guess-declares : (w : Text) → every (λ i. named (guessOf w) (nameOf (12 + i)) (12 + i)) spaces ≡ true
 unfolding guessOf
-guess-declares w = every-at (λ g. every (λ i. named g (nameOf (12 + i)) (12 + i)) spaces) guesses _ 0 (guesses-declare .1) (guesses-declare .0)
+guess-declares w = below-at (λ h. every (λ i. named (numberAt guesses h) (nameOf (12 + i)) (12 + i)) spaces) 64 _ guesses-declare (mod-lt (length w + 17 * getD w (length w - 1) 0))
 
 pub declares-by : (w : Text) (i : ℕ) → i < 5 → same w (nameOf (12 + i)) ≡ eqb (elementOf w) (12 + i)
 unfolding elementOf
@@ -185,11 +199,6 @@ module _ (c : Context) (t : Tag) where
   unfolding turn
   turn-is = let m = meant (t .name) in let z : suc (c .partitionings) ≡ c .partitionings + 1 = omega arith in rw (m .static, m .dynamic, m .partitioning, z)
 
-kinds-small : (ltb 0 17 ≡ true) × (every (λ k. ltb k 17) kindList ≡ true)
-unfolding listsOpen kindList
-kinds-small = (refl, refl)
-
-pub kind-small : (sets id : ℕ) → sets ≤ 10 → kindBy sets id < 17
+pub kind-small : (sets : ℕ) (w : Text) → sets ≤ 10 → kindBy sets (elementOf w) < 17
 unfolding kindBy
-kind-small sets id h =
-    on-test (eqb id 23) (λ q. rw q (omega arith)) (λ q. rw q (ltb-true _ _ (every-at (λ k. ltb k 17) kindList id 0 (kinds-small .1) (kinds-small .0))))
+kind-small sets w h = on-test (eqb (elementOf w) 23) (λ q. rw q (omega arith)) (λ q. rw q (meant w .small))

@@ -158,7 +158,7 @@ module _ (s : Text) (c : Cursor) (stood : Stood s c) (r : Tag) (reads : ReadsTag
               named = omega (arith, turn-stands .past, turn-stands .inside);
               cardinal = smalls .0;
               some = omega (arith, z);
-              small = kind-small (c .sets) id (stood .low);
+              small = kind-small (c .sets) (take (end - name) (drop name s)) (stood .low);
               says = ap (sayings (contextOf c)) walk-is ∙ loud-says (contextOf c) here (walkAt s next) _ k (contextOf n) turned q _ m;
               tallies = λ f. ap (tally (contextOf c) f) walk-is ∙ loud-tallies (contextOf c) here (walkAt s next) _ k (contextOf n) turned q _ m f;
               fills = λ ns f out. ap (λ (ts : List Tagged). fill ns (contextOf c) f ts out) walk-is ∙ loud-fills (contextOf c) here (walkAt s next) _ k (contextOf n) turned q _ m ns f out;

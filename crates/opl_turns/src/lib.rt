@@ -2,7 +2,8 @@
 // record is there; and the records into the output. It rests on the tags of opl_tags, the tables of opl_spaces and on opl_said.
 ghost use mathlib.Core.Path.{_≡_};
 ghost use Prim.Native.Nat.{_≤_, _<_};
-ghost use Rattle.opl_turns.specs.Meaning.{guessOf, elementOf, kindBy, setsBy, partsBy, numberBy};
+ghost use Rattle.opl_table.specs.Numbers.{wordAt, digit as digitOf};
+ghost use Rattle.opl_turns.specs.Meaning.{guesses, guessOf, elementOf, kindList, kindBy, setsBy, partsBy, numberBy};
 ghost use Rattle.opl_turns.specs.Turning.{turnedBy, Stood, Turns};
 use opl_table::is_name;
 use opl_tags::Tag;
@@ -29,14 +30,48 @@ pub enum Turned {
 
 // ---- The element of a tag.
 
-const GUESSES: [u64; 64] = [65, 65, 65, 17, 65, 23, 35, 65, 30, 18, 65, 46, 65, 65, 29, 33, 65, 65, 65, 65, 65, 65, 12, 15, 14, 43, 65, 65, 65, 65, 65, 39, 65, 65, 20, 21, 65, 65, 65, 65, 65, 65, 65, 38, 65, 65, 65, 65, 65, 65, 65, 65, 65, 65, 65, 65, 65, 13, 16, 49, 65, 65, 65, 65];
+// Number k of eight in a word.
+pub fn digit(w: u64, k: u64) -> u64
+    ensures { λ r. ⌜ r ≡ digitOf w k ⌝ }
+{
+    (w >> (8 * (k % 8))) % 256
+}
 
-const KINDS: [u64; 50] = [0, 0, 0, 0, 0, 0, 0, 0, 0, 0, 0, 0, 1, 2, 3, 0, 0, 4, 5, 0, 0, 0, 0, 0, 0, 0, 0, 0, 0, 8, 7, 0, 0, 13, 0, 11, 0, 0, 0, 12, 0, 0, 0, 14, 0, 0, 15, 0, 0, 16];
+fn guess_word(j: u64) -> u64
+    ensures { λ r. ⌜ r ≡ wordAt guesses j ⌝ }
+{
+    match j {
+        0 => 0x4123174111414141,
+        1 => 0x211d41412e41121e,
+        2 => 0x0f0c414141414141,
+        3 => 0x2741414141412b0e,
+        4 => 0x4141414115144141,
+        5 => 0x4141414126414141,
+        6 => 0x4141414141414141,
+        7 => 0x4141414131100d41,
+        _ => 0,
+    }
+}
 
-fn wide(b: u8) -> usize
+fn kind_word(j: u64) -> u64
+    ensures { λ r. ⌜ r ≡ wordAt kindList j ⌝ }
+{
+    match j {
+        0 => 0x0000000000000000,
+        1 => 0x0003020100000000,
+        2 => 0x0000000000050400,
+        3 => 0x0007080000000000,
+        4 => 0x0c0000000b000d00,
+        5 => 0x000f00000e000000,
+        6 => 0x0000000000001000,
+        _ => 0,
+    }
+}
+
+fn wide(b: u8) -> u64
     ensures { λ r. ⌜ (r ≡ b) × (r ≤ 255) ⌝ }
 {
-    b as usize
+    b as u64
 }
 
 fn guess(v: &[u8]) -> u64
@@ -46,8 +81,8 @@ fn guess(v: &[u8]) -> u64
     if n == 0 {
         return 65;
     }
-    let h = (n + 17 * wide(v[n - 1])) % 64;
-    GUESSES[h]
+    let h = (n as u64 + 17 * wide(v[n - 1])) % 64;
+    digit(guess_word(h / 8), h)
 }
 
 pub fn element(v: &[u8]) -> u64
@@ -66,10 +101,7 @@ fn kind_by(sets: u64, id: u64) -> u64
     if id == 23 {
         return sets;
     }
-    if 50 <= id {
-        return 0;
-    }
-    KINDS[id as usize]
+    digit(kind_word(id / 8), id)
 }
 
 fn sets_by(sets: u64, id: u64) -> u64

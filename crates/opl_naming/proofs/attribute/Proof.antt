@@ -1,19 +1,15 @@
--- As the table has it.
-use mathlib.Core.Path.{refl}
+-- As the word has it.
+use mathlib.Core.Path.{_∙_}
 use borrow.Author.Needs.{needs}
-use Rattle.opl_declared.specs.Names.{attributeOf}
+use Rattle.opl_naming.proofs.NamingLaws.{attribute-is}
 use Rattle.opl_naming.proofs.attribute.Statement.{statement}
 use Rattle.opl_naming.proofs.attribute.Tie as tie
 
-mul-result : tie.Need-mul-result
-mul-result c = search needs
-
-array-read-result : tie.Need-array-read-result
-array-read-result c = search needs
+digit-requires : tie.Need-digit-requires
+digit-requires c κs = search needs
 
 returns : tie.Need-returns
-unfolding attributeOf
-returns c = refl
+returns c = c .digit .ensures ∙ attribute-is (c .before .args .i) (c .before .pre)
 
 pub attribute-spec : {M : Type 1} → statement M
-attribute-spec = tie.close (tie.spec mul-result array-read-result returns)
+attribute-spec = tie.close (tie.spec digit-requires returns)
