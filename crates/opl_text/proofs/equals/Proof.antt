@@ -1,9 +1,9 @@
 -- White space, "=", white space.
 use denote.Ref.{now}
-use Rattle.opl_reader.proofs.Attributes.{equals-not, equals-room, equals-yes}
+use Rattle.opl_text.proofs.Literals.{equals-not, equals-room, equals-yes}
 use borrow.Author.Needs.{needs}
-use Rattle.opl_reader.proofs.equals.Statement.{statement}
-use Rattle.opl_reader.proofs.equals.Tie as tie
+use Rattle.opl_text.proofs.equals.Statement.{statement}
+use Rattle.opl_text.proofs.equals.Tie as tie
 
 skip-space-requires : tie.Need-skip-space-requires
 skip-space-requires c κs = search needs
