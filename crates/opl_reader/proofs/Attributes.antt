@@ -17,7 +17,6 @@ use Rattle.paper_opl.proofs.Counts.{below, below-of, below-after, space-strict,
 use Rattle.opl_text.specs.declared.Step.{Step}
 use Rattle.opl_text.specs.declared.Step.the-variants.{Next, Bad}
 use Rattle.opl_text.specs.Steps.{Reads, stepOf, wordOf, valueOf}
-use Rattle.opl_text.proofs.Laws.{one-not, one-yes}
 use Rattle.opl_text.proofs.Literals.{value-room}
 use Rattle.opl_table.specs.declared.Found.{Found}
 use Rattle.opl_table.specs.declared.Found.the-variants.{Known, Unknown}
@@ -31,20 +30,6 @@ use Rattle.opl_reader.proofs.Chain.{stopped-at, goes-on, space-not, spa
 -- the same answer to the same reading
 pub retaken : {s : Text} {x y : Read (List Attribute)} {r : Taken} → y ≡ x → Takes s x r → Takes s y r
 retaken e a = record { read-is = a .read-is ∙ sym e; inside = a .inside }
-
--- ---- White space, "=", white space.
-
-module _ (s : Text) (at i : ℕ) (from : drop i s ≡ behind white (drop at s)) (b : Bool) (p : b ≡ starts (61 ∷ []) (drop i s)) where
-  pub equals-not : not b ≡ true → bad (drop i s) ≡ equals (drop at s)
-  unfolding equals text
-  equals-not n = sym (rw (sym from, one-not 61 (drop i s) (sym p ∙ not-true b n)))
-
-  pub equals-room : not b ≡ false → i + 1 ≤ length s
-  equals-room n = let o = one-yes 61 (drop i s) (sym p ∙ not-false b n) .1 in let l = length-drop i s in omega arith
-
-  pub equals-yes : not b ≡ false → (j : ℕ) → drop j s ≡ behind white (drop (i + 1) s) → got tt (drop j s) ≡ equals (drop at s)
-  unfolding equals text
-  equals-yes n j f = sym (rw (sym from, one-yes 61 (drop i s) (sym p ∙ not-false b n) .0, drop-drop 1 i s, sym f))
 
 -- ---- A value of a class.
 

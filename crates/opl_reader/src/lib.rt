@@ -3,7 +3,7 @@
 ghost use mathlib.Core.Path.{_≡_};
 ghost use Prim.Native.Nat.{_+_, _≤_};
 ghost use lib.ListN.{length, drop};
-ghost use Rattle.paper_opl.specs.Reading.{space as spaceOf, equals as equalsOf};
+ghost use Rattle.paper_opl.specs.Reading.{space as spaceOf};
 ghost use Rattle.paper_opl.specs.Elements.{elements, rowIn};
 ghost use Rattle.paper_opl.specs.Elements.Class.{number};
 ghost use Rattle.paper_opl.specs.Tree.{digit as digitOf, fits as fitsOf, opening as openingOf, ending as endingOf, pseudo as pseudoOf, declaration as declarationOf, doctype as doctypeOf, prolog as prologOf, document as documentOf};
@@ -84,19 +84,6 @@ pub fn space(s: &[u8], at: usize) -> Step
     Step::Next(i)
 }
 
-// White space, "=", white space.
-pub fn equals(s: &[u8], at: usize) -> Step
-    requires { ⌜ at ≤ length (now s) ⌝ }
-    ensures { λ r. ⌜ Reads (now (s .entry)) (stepOf (now (s .entry))) (equalsOf (drop at (now (s .entry)))) r ⌝ }
-{
-    let i = opl_text::skip_space(s, at);
-    if !opl_text::is_at(s, i, 61) {
-        return Step::Bad(i);
-    }
-    let j = opl_text::skip_space(s, i + 1);
-    Step::Next(j)
-}
-
 // A value of the class: handed back between its quotes, and judged there.
 fn class_value(s: &[u8], at: usize, class: u64, more: u64) -> Taken
     requires { ⌜ at ≤ length (now s) ⌝ }
@@ -118,7 +105,7 @@ fn attribute_value(s: &[u8], at: usize, class: u64, more: u64) -> Taken
     requires { ⌜ at ≤ length (now s) ⌝ }
     ensures { λ r. ⌜ Takes (now (s .entry)) (valued (classOf class) (listOf more) (drop at (now (s .entry)))) r ⌝ }
 {
-    let q = equals(s, at);
+    let q = opl_text::equals(s, at);
     match q {
         Step::Bad(p) => Taken::Refused(p),
         Step::Next(u) => class_value(s, u, class, more),
@@ -130,7 +117,7 @@ fn strange_value(s: &[u8], at: usize, name: usize) -> Taken
     requires { ⌜ (at ≤ length (now s)) × (name ≤ length (now s)) ⌝ }
     ensures { λ r. ⌜ Takes (now (s .entry)) (strange (drop name (now (s .entry))) (drop at (now (s .entry)))) r ⌝ }
 {
-    let q = equals(s, at);
+    let q = opl_text::equals(s, at);
     match q {
         Step::Bad(p) => Taken::Refused(p),
         Step::Next(u) => {
@@ -331,7 +318,7 @@ fn pseudo(s: &[u8], at: usize, w: &[u8], v: &[u8]) -> Step
     let Step::Next(i) = x else {
         return x;
     };
-    let q = equals(s, i);
+    let q = opl_text::equals(s, i);
     let Step::Next(u) = q else {
         return q;
     };

@@ -1,15 +1,13 @@
 -- Laws of the attributes of a start tag, one by one.
 use Prim.Native.Nat.{ℕ, zero, suc, _+_, _-_, _≤_, _<_}
 use mathlib.Core.Path.{_≡_, refl, sym, ap, _∙_, subst}
-use mathlib.Core.Bool.{Bool, true, false, not, _||_}
+use mathlib.Core.Bool.{Bool, true, false, _||_}
 use mathlib.Core.List.{List, [], _∷_}
 use native.Mathlib.Omega.{arith}
 use lib.ListN.{length, take, drop, length-drop, drop-of-length-le}
-use lib.Seq.{drop-drop}
-use borrow.Author.Tests.{not-true, not-false}
 use Rattle.paper_lower.specs.Lists.{Maybe}
 use Rattle.paper_lower.specs.Lists.Maybe.{none, just}
-use Rattle.paper_opl.specs.Reading.{Text, text, Read, after, same, starts, expect, white, behind, skip, space, inName, name, word, value, equals}
+use Rattle.paper_opl.specs.Reading.{Text, text, Read, after, same, starts, white, behind, skip, space, inName, name, word, value, equals}
 use Rattle.paper_opl.specs.Reading.Read.{got, bad}
 use Rattle.paper_opl.specs.Tree.{Given, if-found}
 use Rattle.paper_opl.specs.Naming.{valueOf as valueIn}
@@ -20,28 +18,11 @@ use Rattle.paper_opl.proofs.Tags.{plain-below, givens-enough}
 use Rattle.opl_text.specs.declared.Step.{Step}
 use Rattle.opl_text.specs.declared.Step.the-variants.{Next, Bad}
 use Rattle.opl_text.specs.Steps.{Reads, stepOf, wordOf, valueOf, placeOf}
-use Rattle.opl_text.proofs.Laws.{onward, no-word, a-word, one-not, one-yes}
+use Rattle.opl_text.proofs.Laws.{onward, no-word, a-word}
 use Rattle.opl_text.proofs.Literals.{value-room}
 use Rattle.opl_tags.specs.Tags.{placeless, given, Within, Stands, ReadsAttribute, collectedOn, collected, givenAt, Valued, forget}
 use Rattle.opl_tags.specs.declared.Attribute.{Attribute}
 use Rattle.opl_tags.specs.declared.Attribute.the-variants.{Pair, Done, Stop}
-
--- ---- White space, "=", white space.
-module _ (s : Text) (i : ℕ) (b : Bool) (is : b ≡ starts (61 ∷ []) (drop i s)) (at : ℕ) (from : drop i s ≡ behind white (drop at s)) where
-  pub equals-not : not b ≡ true → bad (drop i s) ≡ equals (drop at s)
-  unfolding equals text
-  equals-not q = rw (← from, one-not 61 (drop i s) (sym is ∙ not-true b q))
-
-  module _ (q : not b ≡ false) where
-    sign : (expect (61 ∷ []) (drop i s) ≡ got tt (drop 1 (drop i s))) × (0 < length (drop i s))
-    sign = one-yes 61 (drop i s) (sym is ∙ not-false b q)
-
-    pub equals-past : i + 1 ≤ length s
-    equals-past = omega (arith, sign .1, length-drop i s)
-
-    pub equals-yes : (j : ℕ) → drop j s ≡ behind white (drop (i + 1) s) → got tt (drop j s) ≡ equals (drop at s)
-    unfolding equals text
-    equals-yes j to = rw (← from, sign .0, drop-drop 1 i s, ← to)
 
 -- ---- An attribute.
 module _ (s : Text) (at : ℕ) (n : Step) (reads : Reads s (wordOf s at) (name (drop at s)) n) where

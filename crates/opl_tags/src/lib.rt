@@ -3,15 +3,15 @@
 ghost use Prim.Native.Nat.{_+_, _-_, _≤_, _<_};
 ghost use lib.ListN.{length, drop};
 ghost use Rattle.paper_lower.specs.Lists.Maybe.{just};
-ghost use Rattle.paper_opl.specs.Reading.{after, equals as equalsOf};
+ghost use Rattle.paper_opl.specs.Reading.{after};
 ghost use Rattle.paper_opl.specs.Reading.Read.{got};
 ghost use Rattle.paper_opl.specs.Naming.{valueOf};
 ghost use Rattle.paper_opl.specs.Walk.{plain as plainOf, givens, startTag, endTag, tag};
-ghost use Rattle.opl_text.specs.Steps.{Reads, stepOf};
 ghost use Rattle.opl_table.specs.Numbers.{nameOf};
 ghost use Rattle.opl_tags.specs.Tags.{given as givenOf, givenAt, ReadsAttribute, Valued, forget, Ends, ReadsTag};
 use opl_table::is_name;
 use opl_text::Step;
+use opl_text::equals;
 use opl_text::is_at;
 use opl_text::read_name;
 use opl_text::read_value;
@@ -46,19 +46,6 @@ pub enum Tag {
     },
     End(usize),
     Halt,
-}
-
-// White space, "=", white space.
-fn equals(s: &[u8], at: usize) -> Step
-    requires { ⌜ at ≤ length (now s) ⌝ }
-    ensures { λ r. ⌜ Reads (now (s .entry)) (stepOf (now (s .entry))) (equalsOf (drop at (now (s .entry)))) r ⌝ }
-{
-    let i = skip_space(s, at);
-    if !is_at(s, i, 61) {
-        return Step::Bad(i);
-    }
-    let j = skip_space(s, i + 1);
-    Step::Next(j)
 }
 
 // An attribute, whatever it is.

@@ -8,7 +8,7 @@ use lib.Dec.{eqb}
 use lib.ListN.{length, getD, take, drop, length-drop, length-take, drop-of-length-le}
 use lib.Seq.{drop-drop}
 use borrow.Author.Tests.{not-true, not-false}
-use Rattle.paper_opl.specs.Reading.{Text, Read, after, starts, expect, inValue, run, behind, upTo, value}
+use Rattle.paper_opl.specs.Reading.{Text, text, Read, after, starts, expect, white, inValue, run, behind, upTo, value, equals}
 use Rattle.paper_opl.specs.Reading.Read.{got, bad}
 use Rattle.paper_opl.proofs.Inversion.{bad≢got}
 use Rattle.opl_text.specs.declared.Step.{Step}
@@ -116,3 +116,16 @@ value-room s at r q e v h =
     let c = length-drop (e + 1) s in
     let d = length-take (e - (at + 1)) (drop (at + 1) s) in
     (omega arith, omega arith)
+
+-- White space, "=", white space.
+module _ (s : Text) (at i : ℕ) (from : drop i s ≡ behind white (drop at s)) (b : Bool) (p : b ≡ starts (61 ∷ []) (drop i s)) where
+  pub equals-not : not b ≡ true → bad (drop i s) ≡ equals (drop at s)
+  unfolding equals text
+  equals-not n = sym (rw (sym from, one-not 61 (drop i s) (sym p ∙ not-true b n)))
+
+  pub equals-room : not b ≡ false → i + 1 ≤ length s
+  equals-room n = let o = one-yes 61 (drop i s) (sym p ∙ not-false b n) .1 in let l = length-drop i s in omega arith
+
+  pub equals-yes : not b ≡ false → (j : ℕ) → drop j s ≡ behind white (drop (i + 1) s) → got tt (drop j s) ≡ equals (drop at s)
+  unfolding equals text
+  equals-yes n j f = sym (rw (sym from, one-yes 61 (drop i s) (sym p ∙ not-false b n) .0, drop-drop 1 i s, sym f))

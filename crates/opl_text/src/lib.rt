@@ -4,7 +4,7 @@ ghost use mathlib.Core.Path.{_≡_};
 ghost use mathlib.Core.List.{[], _∷_};
 ghost use Prim.Native.Nat.{_+_, _-_, _≤_};
 ghost use lib.ListN.{length, take, drop};
-ghost use Rattle.paper_opl.specs.Reading.{text, white as whiteOf, control as controlOf, inName, inValue, same, starts, expect as expectOf, behind, name as nameOf, value as valueIn, comment, misc};
+ghost use Rattle.paper_opl.specs.Reading.{text, white as whiteOf, control as controlOf, inName, inValue, same, starts, expect as expectOf, behind, name as nameOf, value as valueIn, equals as equalsOf, comment, misc};
 ghost use Rattle.opl_text.specs.Steps.{From, Reads, stepOf, wordOf, valueOf};
 
 // Where a reader stopped: behind what it read, or at the byte that cannot stand there.
@@ -25,21 +25,22 @@ pub fn control(b: u8) -> bool
     (b < 32) & !white(b)
 }
 
+// Names and values are most of a text, and letters most of these: they are asked for first.
 pub fn in_name(b: u8) -> bool
     ensures { λ r. ⌜ r ≡ inName b ⌝ }
 {
-    ((97 <= b) & (b <= 122))
-        | ((65 <= b) & (b <= 90))
-        | ((48 <= b) & (b <= 58))
-        | (b == 95)
-        | (b == 45)
-        | (b == 46)
-        | (128 <= b)
+    if 97 <= b {
+        return (b <= 122) | (128 <= b);
+    }
+    ((65 <= b) & (b <= 90)) | ((48 <= b) & (b <= 58)) | (b == 95) | (b == 45) | (b == 46)
 }
 
 pub fn in_value(q: u8, b: u8) -> bool
     ensures { λ r. ⌜ r ≡ inValue q b ⌝ }
 {
+    if 64 <= b {
+        return b != q;
+    }
     !((b == q) | (b == 60) | (b == 38) | control(b))
 }
 
@@ -96,6 +97,19 @@ pub fn value_end(s: &[u8], at: usize, q: u8) -> usize
         i += 1;
     }
     i
+}
+
+// White space, "=", white space.
+pub fn equals(s: &[u8], at: usize) -> Step
+    requires { ⌜ at ≤ length (now s) ⌝ }
+    ensures { λ r. ⌜ Reads (now (s .entry)) (stepOf (now (s .entry))) (equalsOf (drop at (now (s .entry)))) r ⌝ }
+{
+    let i = skip_space(s, at);
+    if !is_at(s, i, 61) {
+        return Step::Bad(i);
+    }
+    let j = skip_space(s, i + 1);
+    Step::Next(j)
 }
 
 // A name, one byte at least.

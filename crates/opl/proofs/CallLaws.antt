@@ -1,0 +1,191 @@
+-- The call's ways: a text that is refused, a scratch of another length, a name that is too long; and one answer.
+use Prim.Native.Nat.{ℕ, zero, suc, _+_, _-_, _≤_, _<_}
+use mathlib.Core.Path.{_≡_, refl, sym, ap, _∙_}
+use mathlib.Core.Bool.{Bool, true, false, cond, false≢true, true≢false}
+use mathlib.Core.List.{List, [], _∷_}
+use native.Mathlib.Omega.{arith}
+use lib.Dec.{eqb, leb}
+use lib.ListN.{length, drop, length-drop}
+use borrow.Author.Tests.{eq-eqb, ne-eqb}
+use Rattle.paper_lower.specs.Lists.{Maybe, every, Every}
+use Rattle.paper_lower.specs.Lists.Maybe.{none, just}
+use Rattle.paper_lower.specs.Records.{Bytes, Record}
+use Rattle.paper_opl.specs.Reading.{Text, Read}
+use Rattle.paper_opl.specs.Reading.Read.{got, bad}
+use Rattle.paper_opl.specs.Tree.{Tag, Elements, if-found, prolog, document}
+use Rattle.paper_opl.specs.Naming.{Line, lines, recordsOf, written, translate, Answer as Translated}
+use Rattle.paper_opl.specs.Walk.{recordsIn, tags}
+use Rattle.paper_opl.proofs.Inversion.{on, on-test, on-found, bad≢got}
+use Rattle.paper_opl.proofs.Cardinalities.{Small, value-small}
+use Rattle.paper_opl.proofs.LeftToRight.{walk-gives}
+use Rattle.paper_opl.proofs.ShortNames.{ShortNames, short-names}
+use Rattle.opl_text.specs.Steps.{Reads, stepOf, placeOf}
+use Rattle.opl_text.specs.declared.Step.{Step}
+use Rattle.opl_text.specs.declared.Step.the-variants.{Next, Bad}
+use Rattle.opl_reader.specs.Grammar.{forget}
+use Rattle.opl_lines.specs.Lines.{linesIn, forget as forgetLines}
+use Rattle.opl_spaces.specs.Spaces.{scratchWords}
+use Rattle.opl_declared.specs.Names.{short, walkAt, accepted}
+use Rattle.opl_declared.proofs.FilledLaws.{users-are, roles-are, permissions-are, operations-are, objects-are}
+use Rattle.opl_declared.proofs.LineNames.{tasks-are, templates-are}
+use Rattle.opl_said.specs.Said.{allNames, Held}
+use Rattle.opl_said.proofs.HeldLaws.{AllCardinal, all-cardinal}
+use Rattle.opl_turns.specs.Turning.{SmallTag}
+use Rattle.opl_naming.specs.Naming.{declaredOf, LongName}
+use Rattle.opl.specs.declared.Answer.{Answer}
+use Rattle.opl.specs.Call.{answer, answered, Answers, inOne, Exported, AnswersAsDefined, OneAnswer}
+use Rattle.opl.specs.Steps.{refusal, badText, Accepts, recordsAnswer, acceptedAnswer, Gives, Ready}
+use Rattle.opl.proofs.JoinLaws.{unnamed}
+
+-- ---- A reading that is accepted.
+reads-on : {A R : Type 0} (x : Read A) → accepted x ≡ true → ((v : A) (z : Text) → x ≡ got v z → R) → R
+reads-on (got v z) e f = f v z refl
+reads-on (bad z) e f = absurd (false≢true e)
+
+restOf : Read (Unit {0}) → Text
+restOf (got x y) = y
+restOf (bad y) = y
+
+bad-rest : {x y : Text} → _≡_ {A = Read (Unit {0})} (bad x) (bad y) → x ≡ y
+unfolding restOf
+bad-rest p = ap restOf p
+
+-- ---- The policy text is refused, or accepted.
+place-is : (s : Text) (i : ℕ) → i ≤ length s → suc (length s - length (drop i s)) ≡ i + 1
+place-is s i h = omega (arith, length-drop i s)
+
+module _ (s t : Text) (words : ℕ) (out : Bytes) (d : Step) (reads : Reads s (stepOf s) (forget (document s)) d) where
+  pub bad-inside : (i : ℕ) → d ≡ Bad i → i ≤ length s
+  bad-inside i e = rw e at (reads .inside)
+
+  pub bad-policy : (i : ℕ) → d ≡ Bad i → Answers s t words out out (badText i 1)
+  unfolding answer
+  bad-policy i e =
+      on (document s)
+      (λ es z q. absurd (bad≢got ((rw e at (reads .read-is)) ∙ ap forget q)))
+      (λ z q.
+      let w : _≡_ {A = Read (Unit {0})} (bad (drop i s)) (bad z) = (rw e at (reads .read-is)) ∙ ap forget q in
+      record { answer-is = rw (q, ← bad-rest w, place-is s i (bad-inside i e)); room = refl })
+
+  module _ (j : ℕ) (e : d ≡ Next j) where
+    pub policy-good : accepted (document s) ≡ true
+    policy-good =
+        on (document s) (λ es z q. rw q) (λ z q. absurd (bad≢got (sym (ap forget q) ∙ sym (rw e at (reads .read-is)))))
+
+    module _ (l : Step) (reads₂ : Reads t (stepOf t) (forgetLines (lines (length t) t)) l) where
+      pub line-inside : (i : ℕ) → l ≡ Bad i → i ≤ length t
+      line-inside i q = rw q at (reads₂ .inside)
+
+      pub bad-lines : (i : ℕ) → l ≡ Bad i → Answers s t words out out (badText i 2)
+      unfolding answer
+      bad-lines i q =
+          reads-on (document s) policy-good (λ es z u. on (lines (length t) t)
+          (λ ls y v. absurd (bad≢got ((rw q at (reads₂ .read-is)) ∙ ap forgetLines v)))
+          (λ y v.
+          let w : _≡_ {A = Read (Unit {0})} (bad (drop i t)) (bad y) = (rw q at (reads₂ .read-is)) ∙ ap forgetLines v in
+          record { answer-is = rw (u, v, ← bad-rest w, place-is t i (line-inside i q)); room = refl }))
+
+      pub both-accepted : (i : ℕ) → l ≡ Next i → Accepts s t
+      both-accepted i q =
+          record {
+            policy = policy-good;
+            task-lines = on (lines (length t) t) (λ ls z v. rw v) (λ z v. absurd (bad≢got (sym (ap forgetLines v) ∙ sym (rw q at (reads₂ .read-is)))));
+          }
+
+pub by-walk : (s t : Text) (words : ℕ) (out : Bytes) → Accepts s t → answer words s t out ≡ acceptedAnswer words s t out
+unfolding answer acceptedAnswer recordsAnswer linesIn
+by-walk s t words out a =
+    reads-on (document s) (a .policy) (λ es z u. reads-on (lines (length t) t) (a .task-lines) (λ ls y v. rw (u, v, walk-gives s es z ls u)))
+
+pub accepted-is : (s t : Text) (words : ℕ) (out out′ : Bytes) (r : Answer) → Accepts s t → Gives (acceptedAnswer words s t out) out out′ r → Answers s t words out out′ r
+accepted-is s t words out out′ r a g = record { answer-is = g .answer-is ∙ sym (by-walk s t words out a); room = g .room }
+
+-- ---- Two accepted texts.
+module _ (s t : Text) (words : ℕ) (out : Bytes) where
+  pub no-scratch : (words ≡ scratchWords → ⊥) → Gives (acceptedAnswer words s t out) out out (refusal 1)
+  unfolding acceptedAnswer
+  no-scratch n = record { answer-is = rw (ne-eqb words scratchWords n); room = refl }
+
+  pub with-scratch : (out′ : Bytes) (r : Answer) → words ≡ scratchWords → Gives (recordsAnswer s t out) out out′ r → Gives (acceptedAnswer words s t out) out out′ r
+  unfolding acceptedAnswer
+  with-scratch out′ r e g = record { answer-is = g .answer-is ∙ rw (eq-eqb words scratchWords e); room = g .room }
+
+module _ (s t : Text) (a : Accepts s t) (p : Step) (reads : Reads s (stepOf s) (prolog s) p) where
+  pub never-begun : (i : ℕ) → p ≡ Bad i → {R : Type 0} → R
+  unfolding document
+  never-begun i e = let z : bad (drop i s) ≡ prolog s = rw e at (reads .read-is) in absurd (false≢true (rw (← z) at (a .policy)))
+
+  module _ (from : ℕ) (e : p ≡ Next from) where
+    pub begins-inside : from ≤ length s
+    begins-inside = rw e at (reads .inside)
+
+    pub begins-there : tags s ≡ walkAt s from
+    unfolding tags
+    begins-there = rw (← rw e at (reads .read-is))
+
+    smalls : (ts : List Tag) → AllCardinal ts → Every SmallTag ts
+    smalls [] h = tt
+    smalls (t ∷ ts) h = (value-small (t .given) (h .0), smalls ts (h .1))
+
+    pub ready : (l : List ℕ) → Held s t (allNames s t) l → Ready s t l from
+    ready l h =
+        record {
+          held = h;
+          inside = begins-inside;
+          tags-are = begins-there;
+          small = reads-on (document s) (a .policy) (λ es z u. rw begins-there at (smalls (tags s) (all-cardinal s es z u)));
+          task-lines = a .task-lines;
+        }
+
+-- ---- A name that is too long.
+all-short : (s t : Text) (i : ℕ) → i < 7 → ShortNames (tags s) (linesIn t) → every short (declaredOf s t i) ≡ true
+all-short s t zero h n = ap (every short) (users-are (tags s)) ∙ n .users
+all-short s t (suc zero) h n = ap (every short) (roles-are (tags s)) ∙ n .roles
+all-short s t (suc (suc zero)) h n = ap (every short) (permissions-are (tags s)) ∙ n .permissions
+all-short s t (suc (suc (suc zero))) h n = ap (every short) (operations-are (tags s)) ∙ n .operations
+all-short s t (suc (suc (suc (suc zero)))) h n = ap (every short) (objects-are (tags s)) ∙ n .objects
+all-short s t (suc (suc (suc (suc (suc zero))))) h n = ap (every short) (tasks-are t) ∙ n .tasks
+all-short s t (suc (suc (suc (suc (suc (suc zero)))))) h n = ap (every short) (templates-are t) ∙ n .templates
+all-short s t (suc (suc (suc (suc (suc (suc (suc i))))))) h n = absurd (omega arith)
+
+pub too-long : (s t : Text) (out : Bytes) → Accepts s t → LongName s t → Gives (recordsAnswer s t out) out out (refusal 22)
+too-long s t out a n =
+    unnamed s t out (on-found (recordsIn (tags s) (linesIn t))
+    (λ rs q. reads-on (document s) (a .policy) (λ es z u. absurd (true≢false (sym (all-short s t (n .space) (n .of-seven) (short-names s es z (linesIn t) rs u q)) ∙ n .long))))
+    (λ q. q))
+
+-- ---- The statements.
+pub answers-as-defined : AnswersAsDefined
+unfolding answer translate
+answers-as-defined s t out = refl
+
+fields-are : (r₁ r₂ : Answer) (out₁ out₂ : Bytes) → answered r₁ out₁ ≡ answered r₂ out₂ → (r₁ ≡ r₂) × (out₁ ≡ out₂)
+fields-are r₁ r₂ out₁ out₂ e = (ap (λ (a : Translated). record { reply = a .reply; place = a .place; which = a .which; count = a .count }) e, ap (λ (a : Translated). a .output) e)
+
+-- no second answer fits
+pub one-answer : OneAnswer
+one-answer s t words out out₁ out₂ r₁ r₂ a b = fields-are r₁ r₂ out₁ out₂ (a .answer-is ∙ sym (b .answer-is))
+
+-- ---- As one number.
+small-answer : (words : ℕ) (s t : Text) (out : Bytes) → (answer words s t out .reply < 256) × (answer words s t out .which < 4)
+unfolding answer
+small-answer words s t out =
+    on (document s)
+    (λ es z u. on (lines (length t) t)
+    (λ ls y v. on-test (eqb words scratchWords)
+    (λ q. on-found (recordsOf es ls)
+    (λ rs p. on-test (leb (length (written rs)) (length out)) (λ f. rw (u, v, q, p, f) (omega arith, omega arith)) (λ f. rw (u, v, q, p, f) (omega arith, omega arith)))
+    (λ p. rw (u, v, q, p) (omega arith, omega arith)))
+    (λ q. rw (u, v, q) (omega arith, omega arith)))
+    (λ y v. rw (u, v) (omega arith, omega arith)))
+    (λ z u. rw u (omega arith, omega arith))
+
+pub small-reply : (s t : Text) (words : ℕ) (out out′ : Bytes) (r : Answer) → Answers s t words out out′ r → (r .reply < 256) × (r .which < 4)
+small-reply s t words out out′ r a =
+    let b = small-answer words s t out in
+    let e = ap (λ (x : Translated). x .reply) (a .answer-is) in
+    let f = ap (λ (x : Translated). x .which) (a .answer-is) in
+    (omega (arith, b .0, e), omega (arith, b .1, f))
+
+pub exported : (s t : Text) (words : ℕ) (out out′ : Bytes) (r : Answer) → Answers s t words out out′ r → Exported s t words out out′ (inOne (answered r out′))
+exported s t words out out′ r a = record { number-is = ap inOne (a .answer-is); output-is = ap (λ (x : Translated). x .output) (a .answer-is) }

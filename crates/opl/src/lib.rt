@@ -1,0 +1,136 @@
+// Dealers' OPL/XML and their task lines, translated to records: the call, for Rattle and for C. Any texts and any buffers have their answer.
+ghost use mathlib.Core.Path.{_≡_};
+ghost use Prim.Native.Nat.{_<_};
+ghost use lib.ListN.{length};
+ghost use Rattle.opl.specs.Call.{Answers, shownOf, Exported};
+ghost use Rattle.opl.specs.Steps.{refusal, badText, Accepts, recordsAnswer, acceptedAnswer, Gives, Ready};
+use opl_lines::judge;
+use opl_naming::name_all;
+use opl_passes::Counted;
+use opl_passes::Sum;
+use opl_passes::begin;
+use opl_passes::check_lines;
+use opl_passes::check_tags;
+use opl_passes::write_lines;
+use opl_passes::write_tags;
+use opl_reader::document;
+use opl_reader::prolog;
+use opl_spaces::WORDS;
+use opl_text::Step;
+
+// The reply; with 21, the byte's place from 1 and which text, 1 or 2; the number of records.
+pub struct Answer {
+    pub reply: u64,
+    pub place: u64,
+    pub which: u64,
+    pub count: u64,
+}
+
+// TEXT, at the byte `at` from 0.
+fn bad_text(at: usize, which: u64) -> Answer
+    requires { ⌜ at < 18446744073709551615 ⌝ }
+    ensures { λ r. ⌜ r ≡ badText at which ⌝ }
+{
+    Answer {
+        reply: 21,
+        place: at as u64 + 1,
+        which,
+        count: 0,
+    }
+}
+
+// A refusal without a place.
+fn refused(reply: u64) -> Answer
+    ensures { λ r. ⌜ r ≡ refusal reply ⌝ }
+{
+    Answer {
+        reply,
+        place: 0,
+        which: 0,
+        count: 0,
+    }
+}
+
+// The records of two accepted texts, whose names are in the scratch, into the output; the tags of the first begin at `from`.
+fn records(s: &[u8], t: &[u8], out: &mut [u8], w: &[u64], from: usize) -> Answer
+    requires { ⌜ Ready (now s) (now t) (now w) from ⌝ }
+    ensures { λ r. ⌜ Gives (recordsAnswer (now (s .entry)) (now (t .entry)) (now (out .entry))) (now (out .entry)) (now (out .exit)) r ⌝ }
+{
+    let l = check_lines(s, t, w);
+    let Counted::Lines(n) = l else {
+        return refused(22);
+    };
+    let mut counts = [0; 17];
+    if !check_tags(s, t, w, &mut counts, from) {
+        return refused(22);
+    }
+    counts[6] = n;
+    let b = begin(&mut counts, out.len() / 16);
+    let Sum::Total(total) = b else {
+        return refused(1);
+    };
+    let first = counts[6];
+    write_lines(s, t, w, out, first);
+    write_tags(s, t, w, &mut counts, out, from);
+    Answer {
+        reply: 0,
+        place: 0,
+        which: 0,
+        count: total as u64,
+    }
+}
+
+// Two accepted texts.
+fn accepted(s: &[u8], t: &[u8], out: &mut [u8], w: &mut [u64]) -> Answer
+    requires { ⌜ Accepts (now s) (now t) ⌝ }
+    ensures { λ r. ⌜ Gives (acceptedAnswer (length (now (w .entry))) (now (s .entry)) (now (t .entry)) (now (out .entry))) (now (out .entry)) (now (out .exit)) r ⌝ }
+{
+    if w.len() != WORDS {
+        return refused(1);
+    }
+    let p = prolog(s);
+    let Step::Next(from) = p else {
+        return refused(22);
+    };
+    if !name_all(s, t, w, from) {
+        return refused(22);
+    }
+    records(s, t, out, w, from)
+}
+
+// Any texts, any output and any scratch. The scratch may hold anything, and holds anything afterwards.
+pub fn translate(s: &[u8], t: &[u8], out: &mut [u8], w: &mut [u64]) -> Answer
+    ensures { λ r. ⌜ Answers (now (s .entry)) (now (t .entry)) (length (now (w .entry))) (now (out .entry)) (now (out .exit)) r ⌝ }
+{
+    let d = document(s);
+    match d {
+        Step::Bad(i) => bad_text(i, 1),
+        Step::Next(_) => {
+            let l = judge(t);
+            match l {
+                Step::Bad(i) => bad_text(i, 2),
+                Step::Next(_) => accepted(s, t, out, w),
+            }
+        }
+    }
+}
+
+// ---- For C and Rust: the reply + 256 times (which text + 4 times the byte's place or the number of records), as one number.
+
+fn shown(reply: u64, place: u64, count: u64) -> u64
+    ensures { λ r. ⌜ r ≡ shownOf reply place count ⌝ }
+{
+    if reply == 21 {
+        return place;
+    }
+    count
+}
+
+#[no_mangle]
+pub extern "C" fn mishantral_opl(policy: &[u8], lines: &[u8], output: &mut [u8], scratch: &mut [u64]) -> u64
+    ensures { λ n. ⌜ Exported (now (policy .entry)) (now (lines .entry)) (length (now (scratch .entry))) (now (output .entry)) (now (output .exit)) n ⌝ }
+{
+    let a = translate(policy, lines, output, scratch);
+    let n = shown(a.reply, a.place, a.count);
+    a.reply + 256 * (a.which + 4 * (n % 18014398509481984))
+}

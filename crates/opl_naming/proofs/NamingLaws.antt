@@ -1,0 +1,262 @@
+-- Laws of the walk that declares names, all five spaces at once.
+use Prim.Native.Nat.{ℕ, zero, suc, _+_, _-_, _≤_, _<_}
+use mathlib.Core.Path.{_≡_, refl, sym, ap, _∙_}
+use mathlib.Core.Bool.{Bool, true, false, not, cond}
+use mathlib.Core.List.{List, []}
+use native.Mathlib.Omega.{arith}
+use lib.Dec.{eqb, ltb}
+use lib.ListN.{length, take, drop}
+use borrow.Author.Tests.{ne-eqb, eq-eqb, eqb-true, eqb-false, lt-ltb, le-ltb}
+use Rattle.paper_lower.specs.Lists.{every}
+use Rattle.paper_opl.specs.Reading.{Text, same}
+use Rattle.paper_opl.specs.Naming.{valueOf}
+use Rattle.paper_opl.specs.Walk.{tag, tags}
+use Rattle.paper_opl.proofs.Inversion.{on-test}
+use Rattle.opl_names.specs.Table.{namesIn, Sound, Emptied}
+use Rattle.opl_names.specs.declared.Found.{Found}
+use Rattle.opl_table.specs.Numbers.{nameOf, digit}
+use Rattle.opl_tags.specs.Tags.{givenAt, Valued, Opens, ReadsTag}
+use Rattle.opl_tags.specs.declared.Tag.{Tag}
+use Rattle.opl_tags.specs.declared.Tag.the-variants.{Start, End, Halt}
+use Rattle.opl_tags.specs.declared.Part.{Part}
+use Rattle.opl_spaces.specs.Spaces.{limitOf, scratchWords, tableOf, Empties, DeclaresIn, Apart}
+use Rattle.opl_declared.specs.Names.{attributeOf, declaredAt, short, walkAt, tagNames, lineNames, filled, Onward, Walking, DeclaresAll}
+use Rattle.opl_declared.specs.declared.Walked.{Walked}
+use Rattle.opl_declared.specs.declared.Walked.the-variants.{Next, Long, Done}
+use Rattle.opl_declared.proofs.DeclaredLaws.{walked-halt, walked-end, walked-other, walked-long, walked-on, start-stands, no-tags}
+use Rattle.opl_said.specs.Said.{allNames, Held}
+use Rattle.opl_said.proofs.HeldLaws.{held}
+use Rattle.opl_turns.specs.Meaning.{elementOf}
+use Rattle.opl_turns.proofs.MeaningLaws.{declares-by}
+use Rattle.opl_naming.specs.Naming.{Keeps, Onwards, LongFrom, Goes, AllSound, Filled, AllFilled, Fills, AllEmptied, declaredOf, LongName, Names}
+
+-- the attributes of the five spaces, in a word
+pub attribute-is : (i : ℕ) → i < 5 → digit 250068088373 i ≡ attributeOf i
+unfolding attributeOf
+attribute-is zero h = refl
+attribute-is (suc zero) h = refl
+attribute-is (suc (suc zero)) h = refl
+attribute-is (suc (suc (suc zero))) h = refl
+attribute-is (suc (suc (suc (suc zero)))) h = refl
+attribute-is (suc (suc (suc (suc (suc i))))) h = absurd (omega arith)
+
+-- ---- One tag.
+
+-- what a step does for one space, whose table it leaves so
+keeps : (s : Text) (i at n : ℕ) (l l₁ l′ : List ℕ) → Onward s i (tagNames s i) at n l l₁ → tableOf i l′ ≡ tableOf i l₁ → Keeps s i at n l l′
+keeps s i at n l l₁ l′ o e = record { sound = rw e (o .sound); fills = rw e (o .fills); shorts = o .shorts }
+
+module _ (s : Text) (at : ℕ) (r : Tag) (reads : ReadsTag s (tag (drop at s)) r) (l : List ℕ) (sound : AllSound s l) where
+  pub goes-halt : r ≡ Halt → Goes s at l l Done
+  goes-halt e = (λ i h. walked-halt s i at r reads l (sound i h) e .walks .0, refl)
+
+  pub goes-end : (n : ℕ) → r ≡ End n → Goes s at l l (Next n)
+  goes-end n e =
+      let o = walked-end s 0 at r reads l (sound 0 (omega arith)) n e .walks in
+      record {
+        past = o .past;
+        inside = o .inside;
+        room = refl;
+        keeps = λ i h. keeps s i at n l l l (walked-end s i at r reads l (sound i h) n e .walks) refl;
+        others = λ j a b. refl;
+      }
+
+  module _ (name end next : ℕ) (e : r ≡ Start name end next) where
+    pub goes-stands : Opens s name end next
+    goes-stands = start-stands s 0 at r reads l (sound 0 (omega arith)) name end next e
+
+    abbrev v : Text
+    v = take (end - name) (drop name s)
+
+    other : (i : ℕ) (h : i < 5) → (elementOf v ≡ 12 + i → ⊥) → Onward s i (tagNames s i) at next l l
+    other i h d =
+        let q : same v (nameOf (12 + i)) ≡ false = declares-by v i h ∙ ne-eqb (elementOf v) (12 + i) d in
+        walked-other s i at r reads l (sound i h) name end next e (same v (nameOf (12 + i))) refl (ap not q) .walks
+
+    pub goes-other : ((i : ℕ) → i < 5 → elementOf v ≡ 12 + i → ⊥) → Goes s at l l (Next next)
+    goes-other d =
+        let o = other 0 (omega arith) (d 0 (omega arith)) in
+        record {
+          past = o .past;
+          inside = o .inside;
+          room = refl;
+          keeps = λ i h. keeps s i at next l l l (other i h (d i h)) refl;
+          others = λ j a b. refl;
+        }
+
+    module _ (i : ℕ) (h : i < 5) (is : elementOf v ≡ 12 + i) (p : Part) (valued : Valued s (valueOf (nameOf (attributeOf i)) (givenAt s end)) p) where
+      named : not (same v (nameOf (12 + i))) ≡ false
+      named = ap not (declares-by v i h ∙ eq-eqb (elementOf v) (12 + i) is)
+
+      pub goes-long : 64 < p .to - p .from → Goes s at l l Long
+      goes-long q =
+          record {
+            space = i;
+            of-tags = h;
+            long = walked-long s i at r reads l (sound i h) name end next e (same v (nameOf (12 + i))) refl named p valued q .walks;
+          }
+
+      pub goes-on : (l′ : List ℕ) (k : Found) → p .to - p .from ≤ 64 → DeclaresIn s i (take (p .to - p .from) (drop (p .from) s)) l l′ k → Goes s at l l′ (Next next)
+      goes-on l′ k q d =
+          let o = walked-on s i at r reads l (sound i h) name end next e (same v (nameOf (12 + i))) refl named p valued l′ k q d .walks in
+          record {
+            past = o .past;
+            inside = o .inside;
+            room = d .apart .room;
+            keeps = λ j a. on-test (eqb j i)
+            (λ u. let z = eqb-true j i u in rw z (keeps s i at next l l′ l′ o refl))
+            (λ u. let z = eqb-false j i u in keeps s j at next l l l′ (other j a (λ w. z (omega (arith, is, w)))) (d .apart .others j (omega arith) z));
+            others = λ j a b. d .apart .others j b (λ w. omega (arith, w));
+          }
+
+-- ---- All tags from a place on.
+pub record SpaceLeft (s : Text) (i from at : ℕ) (l l′ : List ℕ) : Type 0 where
+  pub sound : Sound s (limitOf i) (tableOf i l′)
+  pub fills : filled (limitOf i) (namesIn s (tableOf i l)) (tagNames s i from) ≡ filled (limitOf i) (namesIn s (tableOf i l′)) (tagNames s i at)
+  pub shorts : every short (tagNames s i from) ≡ every short (tagNames s i at)
+
+pub record NamesLeft (s : Text) (from at : ℕ) (l l′ : List ℕ) : Type 0 where
+  pub inside : at ≤ length s
+  pub room : length l′ ≡ length l
+  pub spaces : (i : ℕ) → i < 5 → SpaceLeft s i from at l l′
+  pub others : (j : ℕ) → 4 < j → j < 7 → tableOf j l′ ≡ tableOf j l
+
+module _ (s : Text) (from : ℕ) (l : List ℕ) where
+  pub names-first : from ≤ length s → AllSound s l → NamesLeft s from from l l
+  names-first h sound =
+      record { inside = h; room = refl; spaces = λ i a. record { sound = sound i a; fills = refl; shorts = refl }; others = λ j a b. refl }
+
+  module _ (at : ℕ) (l′ : List ℕ) (left : NamesLeft s from at l l′) where
+    pub names-none : ((i : ℕ) → i < 5 → tagNames s i at ≡ []) → Fills s from l l′ true
+    unfolding filled every
+    names-none e =
+        record {
+          room = left .room;
+          each-space = λ i h.
+          let a = left .spaces i h in
+          record { shorts = a .shorts ∙ ap (every short) (e i h); sound = a .sound; names = sym (a .fills ∙ ap (filled (limitOf i) (namesIn s (tableOf i l′))) (e i h)) };
+          others = left .others;
+        }
+
+    pub names-end : length s ≤ at → Fills s from l l′ true
+    names-end h = names-none (λ i a. no-tags s i at h)
+
+    module _ (r : Walked) (l″ : List ℕ) (goes : Goes s at l′ l″ r) where
+      pub names-done : r ≡ Done → Fills s from l l″ true
+      names-done e = let g : Goes s at l′ l″ Done = rw e at goes in rw (g .1) (names-none (g .0))
+
+      pub names-long : r ≡ Long → Fills s from l l″ false
+      names-long e =
+          let g : LongFrom s at = rw e at goes in
+          record { space = g .space; of-tags = g .of-tags; long = left .spaces (g .space) (g .of-tags) .shorts ∙ g .long }
+
+      module _ (n : ℕ) (e : r ≡ Next n) where
+        onwards : Onwards s at n l′ l″
+        onwards = rw e at goes
+
+        pub names-past : (at < n) × (n ≤ length s)
+        names-past = (onwards .past, onwards .inside)
+
+        pub names-on : NamesLeft s from n l l″
+        names-on =
+            let o = onwards in
+            record {
+              inside = o .inside;
+              room = o .room ∙ left .room;
+              spaces = λ i h. record { sound = o .keeps i h .sound; fills = left .spaces i h .fills ∙ o .keeps i h .fills; shorts = left .spaces i h .shorts ∙ o .keeps i h .shorts };
+              others = λ j a b. o .others j a b ∙ left .others j a b;
+            }
+
+-- ---- Empty spaces.
+pub record EmptyLeft (l l′ : List ℕ) (i : ℕ) : Type 0 where
+  pub few : i ≤ 7
+  pub room : length l′ ≡ length l
+  pub emptied : (j : ℕ) → j < i → Emptied (limitOf j) (tableOf j l′)
+
+pub empty-first : (l : List ℕ) → EmptyLeft l l 0
+empty-first l = record { few = omega arith; room = refl; emptied = λ j h. absurd (omega arith) }
+
+pub empty-on : (l l′ l″ : List ℕ) (i : ℕ) → i < 7 → EmptyLeft l l′ i → Empties i l′ l″ → EmptyLeft l l″ (i + 1)
+empty-on l l′ l″ i h left e =
+    record {
+      few = omega arith;
+      room = e .apart .room ∙ left .room;
+      emptied = λ j a. on-test (eqb j i)
+      (λ u. let z = eqb-true j i u in rw z (e .emptied))
+      (λ u. let z = eqb-false j i u in rw (e .apart .others j (omega arith) z) (left .emptied j (omega (arith, z))));
+    }
+
+pub empty-end : (l l′ : List ℕ) (i : ℕ) → 7 ≤ i → EmptyLeft l l′ i → AllEmptied l l′
+empty-end l l′ i h left = record { room = left .room; emptied = λ j a. left .emptied j (omega arith) }
+
+-- ---- Both texts.
+
+of-tags : (s t : Text) (i : ℕ) → i < 5 → declaredOf s t i ≡ declaredAt i (tags s)
+of-tags s t i h = rw (lt-ltb i 5 h)
+
+of-lines : (s t : Text) (i : ℕ) → 5 ≤ i → declaredOf s t i ≡ lineNames t i 0
+of-lines s t i h = rw (le-ltb i 5 h)
+
+module _ (s t : Text) (from : ℕ) (same-tags : tags s ≡ walkAt s from) where
+  pub long-tag : LongFrom s from → LongName s t
+  long-tag g =
+      record {
+        space = g .space;
+        of-seven = omega (arith, g .of-tags);
+        long = ap (every short) (of-tags s t (g .space) (g .of-tags) ∙ ap (declaredAt (g .space)) same-tags) ∙ g .long;
+      }
+
+  pub long-line : (i : ℕ) (l l′ : List ℕ) → 5 ≤ i → i < 7 → DeclaresAll t i (lineNames t i 0) l l′ false → LongName s t
+  long-line i l l′ a b d = record { space = i; of-seven = b; long = ap (every short) (of-lines s t i a) ∙ d .ends }
+
+  module _ (l₀ l₁ l₂ : List ℕ) (room : length l₀ ≡ scratchWords) (emptied : AllEmptied l₀ l₁) where
+    pub empty-sound : AllSound s l₁
+    empty-sound i h = emptied .emptied i (omega arith) .sound s
+
+    module _ (filled-tags : AllFilled s from l₁ l₂) where
+      pub tasks-sound : Sound t (limitOf 5) (tableOf 5 l₂)
+      tasks-sound = rw (filled-tags .others 5 (omega arith) (omega arith)) (emptied .emptied 5 (omega arith) .sound t)
+
+      module _ (l₃ : List ℕ) (tasks : DeclaresAll t 5 (lineNames t 5 0) l₂ l₃ true) where
+        pub templates-sound : Sound t (limitOf 6) (tableOf 6 l₃)
+        templates-sound =
+            rw (tasks .apart .others 6 (omega arith) (λ e. omega (arith, e)) ∙ filled-tags .others 6 (omega arith) (omega arith)) (emptied .emptied 6 (omega arith) .sound t)
+
+        module _ (l₄ : List ℕ) (templates : DeclaresAll t 6 (lineNames t 6 0) l₃ l₄ true) where
+          tags-stay : (i : ℕ) → i < 5 → tableOf i l₄ ≡ tableOf i l₂
+          tags-stay i h = templates .apart .others i (omega arith) (λ e. omega (arith, e)) ∙ tasks .apart .others i (omega arith) (λ e. omega (arith, e))
+
+          tasks-stay : tableOf 5 l₄ ≡ tableOf 5 l₃
+          tasks-stay = templates .apart .others 5 (omega arith) (λ e. omega (arith, e))
+
+          tags-held : (i : ℕ) → i < 5 → Sound s (limitOf i) (tableOf i l₄) × (namesIn s (tableOf i l₄) ≡ filled (limitOf i) [] (declaredAt i (tags s)))
+          tags-held i h =
+              (rw (tags-stay i h) (filled-tags .each-space i h .sound), ap (namesIn s) (tags-stay i h) ∙ filled-tags .each-space i h .names
+              ∙ ap (λ (x : List Text). filled (limitOf i) x (tagNames s i from)) (emptied .emptied i (omega arith) .empty s)
+              ∙ ap (λ ts. filled (limitOf i) [] (declaredAt i ts)) (sym same-tags))
+
+          tasks-held : Sound t (limitOf 5) (tableOf 5 l₄) × (namesIn t (tableOf 5 l₄) ≡ filled (limitOf 5) [] (lineNames t 5 0))
+          tasks-held =
+              (rw tasks-stay (tasks .ends .1 .0), ap (namesIn t) tasks-stay ∙ tasks .ends .1 .1
+              ∙ ap (λ (x : List Text). filled (limitOf 5) x (lineNames t 5 0)) (ap (namesIn t) (filled-tags .others 5 (omega arith) (omega arith)) ∙ emptied .emptied 5 (omega arith) .empty t))
+
+          templates-held : Sound t (limitOf 6) (tableOf 6 l₄) × (namesIn t (tableOf 6 l₄) ≡ filled (limitOf 6) [] (lineNames t 6 0))
+          templates-held =
+              (templates .ends .1 .0, templates .ends .1 .1
+              ∙ ap (λ (x : List Text). filled (limitOf 6) x (lineNames t 6 0))
+              (ap (namesIn t) (tasks .apart .others 6 (omega arith) (λ e. omega (arith, e)) ∙ filled-tags .others 6 (omega arith) (omega arith)) ∙ emptied .emptied 6 (omega arith) .empty t))
+
+          lines-held : (i : ℕ) → 4 < i → i < 7 → Sound t (limitOf i) (tableOf i l₄) × (namesIn t (tableOf i l₄) ≡ filled (limitOf i) [] (lineNames t i 0))
+          lines-held i a b =
+              on-test (eqb i 5) (λ q. let z = eqb-true i 5 q in rw z tasks-held)
+              (λ q. let z = eqb-false i 5 q in let w : i ≡ 6 = omega (arith, z) in rw w templates-held)
+
+          pub all-held : Held s t (allNames s t) l₄
+          all-held = held s t l₄ (templates .apart .room ∙ tasks .apart .room ∙ filled-tags .room ∙ emptied .room ∙ room) tags-held lines-held
+
+-- what the last call answers
+module _ (s t : Text) (from : ℕ) (same-tags : tags s ≡ walkAt s from) (l₀ l₁ l₂ l₃ l₄ : List ℕ) (room : length l₀ ≡ scratchWords) (emptied : AllEmptied l₀ l₁)
+    (filled-tags : AllFilled s from l₁ l₂) (tasks : DeclaresAll t 5 (lineNames t 5 0) l₂ l₃ true) where
+  pub named-all : (r : Bool) → DeclaresAll t 6 (lineNames t 6 0) l₃ l₄ r → Names s t l₄ r
+  named-all true d = all-held s t from same-tags l₀ l₁ l₂ room emptied filled-tags l₃ tasks l₄ d
+  named-all false d = long-line s t from same-tags 6 l₃ l₄ (omega arith) (omega arith) d

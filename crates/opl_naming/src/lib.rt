@@ -1,0 +1,108 @@
+// The names that two accepted texts declare, all seven spaces by one walk over the tags and the lines. It rests on the tags of opl_tags, on the guess of
+// opl_turns, and on the tables of opl_spaces.
+ghost use mathlib.Core.Path.{_≡_};
+ghost use mathlib.Core.Bool.{true};
+ghost use Prim.Native.Nat.{ℕ, _≤_, _<_};
+ghost use lib.ListN.{length};
+ghost use Rattle.paper_opl.specs.Naming.{lines};
+ghost use Rattle.paper_opl.specs.Walk.{tags};
+ghost use Rattle.opl_tags.specs.Tags.{Opens};
+ghost use Rattle.opl_spaces.specs.Spaces.{scratchWords};
+ghost use Rattle.opl_declared.specs.Names.{attributeOf, walkAt, accepted};
+ghost use Rattle.opl_naming.specs.Naming.{AllSound, Goes, Fills, AllEmptied, Names};
+use opl_declared::Walked;
+use opl_declared::declare_lines;
+use opl_spaces::declare;
+use opl_tags::Tag;
+use opl_tags::read_tag;
+use opl_tags::value_of;
+use opl_turns::digit;
+use opl_turns::element;
+
+// The attribute that declares a name of the space.
+fn attribute(i: usize) -> u64
+    requires { ⌜ i < 5 ⌝ }
+    ensures { λ r. ⌜ r ≡ attributeOf i ⌝ }
+{
+    digit(0x3a39383635, i as u64)
+}
+
+// The next tag from `at` on: if it declares a name, that name goes into its space.
+fn declare_tag(s: &[u8], w: &mut [u64], at: usize) -> Walked
+    requires { ⌜ (length (now w) ≡ scratchWords) × (AllSound (now s) (now w) × (at ≤ length (now s))) ⌝ }
+    ensures { λ r. ⌜ Goes (now (s .entry)) at (now (w .entry)) (now (w .exit)) r ⌝ }
+{
+    let t = read_tag(s, at);
+    match t {
+        Tag::Halt => Walked::Done,
+        Tag::End(next) => Walked::Next(next),
+        Tag::Start { name, end, next } => {
+            let id = element(&s[name..end]) as usize;
+            if id < 12 {
+                return Walked::Next(next);
+            }
+            if 16 < id {
+                return Walked::Next(next);
+            }
+            let i = id - 12;
+            let v = value_of(s, end, attribute(i));
+            let from = v.from;
+            let size = v.to - from;
+            if 64 < size {
+                return Walked::Long;
+            }
+            declare(s, w, i, from, size);
+            Walked::Next(next)
+        }
+    }
+}
+
+// All tags from `from` on. False where a name is too long.
+fn declare_tags(s: &[u8], w: &mut [u64], from: usize) -> bool
+    requires { ⌜ (length (now w) ≡ scratchWords) × (AllSound (now s) (now w) × (from ≤ length (now s))) ⌝ }
+    ensures { λ r. ⌜ Fills (now (s .entry)) from (now (w .entry)) (now (w .exit)) r ⌝ }
+{
+    let mut at = from;
+    while at < s.len() {
+        let r = declare_tag(s, w, at);
+        match r {
+            Walked::Done => {
+                return true;
+            }
+            Walked::Long => {
+                return false;
+            }
+            Walked::Next(n) => {
+                at = n;
+            }
+        }
+    }
+    true
+}
+
+// No names in any space, whatever the words were.
+fn empty_all(w: &mut [u64])
+    requires { ⌜ length (now w) ≡ scratchWords ⌝ }
+    ensures { λ _. ⌜ AllEmptied (now (w .entry)) (now (w .exit)) ⌝ }
+{
+    let mut i = 0;
+    while i < 7 {
+        opl_spaces::empty(w, i);
+        i += 1;
+    }
+}
+
+// The names of two accepted texts, the tags of the first beginning at `from`. False where a name is too long.
+pub fn name_all(s: &[u8], t: &[u8], w: &mut [u64], from: usize) -> bool
+    requires { ⌜ (length (now w) ≡ scratchWords) × ((from ≤ length (now s)) × ((tags (now s) ≡ walkAt (now s) from) × (accepted (lines (length (now t)) (now t)) ≡ true))) ⌝ }
+    ensures { λ r. ⌜ Names (now (s .entry)) (now (t .entry)) (now (w .exit)) r ⌝ }
+{
+    empty_all(w);
+    if !declare_tags(s, w, from) {
+        return false;
+    }
+    if !declare_lines(t, w, 5) {
+        return false;
+    }
+    declare_lines(t, w, 6)
+}

@@ -1,0 +1,276 @@
+// The walks over accepted texts behind the one that declares names: whether every record is there, how many of each kind, and the records into the
+// output. It rests on opl_turns, opl_said and opl_output.
+ghost use mathlib.Core.Path.{_≡_};
+ghost use mathlib.Core.Bool.{true};
+ghost use Prim.Native.Nat.{ℕ, _+_, _*_, _≤_, _<_};
+ghost use lib.ListN.{length, drop};
+ghost use Rattle.paper_lower.specs.Lists.{Every};
+ghost use Rattle.paper_opl.specs.Naming.{lines};
+ghost use Rattle.paper_opl.specs.Walk.{start};
+ghost use Rattle.paper_opl.specs.Filling.{fill, fillLines};
+ghost use Rattle.opl_lines.specs.Lines.{Apart, linesIn};
+ghost use Rattle.opl_declared.specs.Names.{walkAt};
+ghost use Rattle.opl_said.specs.Said.{allNames, Held};
+ghost use Rattle.opl_turns.specs.Turning.{Stood, SmallTag};
+ghost use Rattle.opl_passes.specs.Lines.{linesAt, linesGood, linesThere, Pairs, lineBetween, RowIs, LinesAre, LineWritten, LinesFit};
+ghost use Rattle.opl_passes.specs.Tags.{of, allThere, thereFrom, Checks, ChecksAll, Sums, TagsFit, Writes, FitsAll};
+use opl_lines::Ends;
+use opl_lines::read_line;
+use opl_names::Found;
+use opl_output::put;
+use opl_said::Fields;
+use opl_said::number_of;
+use opl_said::said;
+use opl_turns::Cursor;
+use opl_turns::Turned;
+use opl_turns::turn;
+
+// The numbers of a task and its template, and where the next line begins; or a name in the line has no number.
+pub enum Row {
+    Pair {
+        a: u64,
+        b: u64,
+        next: usize,
+    },
+    Nameless,
+}
+
+// How many lines there are; or a name in one has no number.
+pub enum Counted {
+    Lines(usize),
+    Unnamed,
+}
+
+// Behind a tag; or a name in it has no number; or no tag any more.
+pub enum Checked {
+    Next(Cursor),
+    Unnamed,
+    Done,
+}
+
+pub enum Wrote {
+    Onward(Cursor),
+    Ended,
+}
+
+// How many records there are in all; or more than so many.
+pub enum Sum {
+    Total(usize),
+    Over,
+}
+
+// ---- The task lines.
+
+// The numbers of the names of a line, from `at` to `task` and from behind it to `template`.
+fn numbers(s: &[u8], t: &[u8], w: &[u64], at: usize, task: usize, template: usize, next: usize) -> Row
+    requires { ⌜ Held (now s) (now t) (allNames (now s) (now t)) (now w) × Apart (now t) at task template next ⌝ }
+    ensures { λ r. ⌜ Pairs (allNames (now (s .entry)) (now (t .entry))) (lineBetween (now (t .entry)) at task template) next r ⌝ }
+{
+    let x = number_of(s, t, w, 5, &t[at..task]);
+    let Found::At(a) = x else {
+        return Row::Nameless;
+    };
+    let from = task + 1;
+    let y = number_of(s, t, w, 6, &t[from..template]);
+    let Found::At(b) = y else {
+        return Row::Nameless;
+    };
+    Row::Pair {
+        a: a as u64,
+        b: b as u64,
+        next,
+    }
+}
+
+// The line at `at`.
+fn row_at(s: &[u8], t: &[u8], w: &[u64], at: usize) -> Row
+    requires { ⌜ Held (now s) (now t) (allNames (now s) (now t)) (now w) × ((at < length (now t)) × linesGood (now t) at) ⌝ }
+    ensures { λ r. ⌜ RowIs (allNames (now (s .entry)) (now (t .entry))) (now (t .entry)) at r ⌝ }
+{
+    let r = read_line(t, at);
+    match r {
+        Ends::Bad(_) => Row::Nameless,
+        Ends::Line {
+            task,
+            template,
+            next,
+        } => numbers(s, t, w, at, task, template, next),
+    }
+}
+
+// Every line has its record, and how many they are.
+pub fn check_lines(s: &[u8], t: &[u8], w: &[u64]) -> Counted
+    requires { ⌜ Held (now s) (now t) (allNames (now s) (now t)) (now w) × linesGood (now t) 0 ⌝ }
+    ensures { λ r. ⌜ LinesAre (allNames (now (s .entry)) (now (t .entry))) (now (t .entry)) r ⌝ }
+{
+    let mut n = 0;
+    let mut at = 0;
+    while at < t.len() {
+        let r = row_at(s, t, w, at);
+        match r {
+            Row::Nameless => {
+                return Counted::Unnamed;
+            }
+            Row::Pair { a: _, b: _, next } => {
+                n += 1;
+                at = next;
+            }
+        }
+    }
+    Counted::Lines(n)
+}
+
+// The record of the line at `at` into the output. Answers where the next line begins.
+fn write_line(s: &[u8], t: &[u8], w: &[u64], out: &mut [u8], at: usize, place: usize) -> usize
+    requires { ⌜ (Held (now s) (now t) (allNames (now s) (now t)) (now w) × ((at < length (now t)) × linesGood (now t) at)) × ((linesThere (allNames (now s) (now t)) (linesAt (now t) at) ≡ true) × LinesFit (now t) at place (now out)) ⌝ }
+    ensures { λ r. ⌜ LineWritten (allNames (now (s .entry)) (now (t .entry))) (now (t .entry)) at place r (now (out .entry)) (now (out .exit)) ⌝ }
+{
+    let r = row_at(s, t, w, at);
+    match r {
+        Row::Nameless => t.len(),
+        Row::Pair { a, b, next } => {
+            put(out, place, 6, 0, a, b, 0, 0);
+            next
+        }
+    }
+}
+
+// All lines' records, from a place of the output on.
+pub fn write_lines(s: &[u8], t: &[u8], w: &[u64], out: &mut [u8], place: usize)
+    requires { ⌜ (Held (now s) (now t) (allNames (now s) (now t)) (now w) × linesGood (now t) 0) × ((linesThere (allNames (now s) (now t)) (linesIn (now t)) ≡ true) × LinesFit (now t) 0 place (now out)) ⌝ }
+    ensures { λ _. ⌜ now (out .exit) ≡ fillLines (allNames (now (s .entry)) (now (t .entry))) place (linesIn (now (t .entry))) (now (out .entry)) ⌝ }
+{
+    let mut p = place;
+    let mut at = 0;
+    while at < t.len() {
+        at = write_line(s, t, w, out, at, p);
+        p += 1;
+    }
+}
+
+// ---- The tags.
+
+// The next tag is judged and counted.
+fn check_at(s: &[u8], t: &[u8], w: &[u64], counts: &mut [usize; 17], c: Cursor) -> Checked
+    requires { ⌜ Held (now s) (now t) (allNames (now s) (now t)) (now w) × (Stood (now s) c × ((length (now counts) ≡ 17) × ((k : ℕ) → of (now counts) k ≤ c .at))) ⌝ }
+    ensures { λ r. ⌜ Checks (allNames (now (s .entry)) (now (t .entry))) (now (s .entry)) c (now (counts .entry)) (now (counts .exit)) r ⌝ }
+{
+    let x = turn(s, c);
+    match x {
+        Turned::Done => Checked::Done,
+        Turned::Silent(n) => Checked::Next(n),
+        Turned::Says {
+            kind,
+            number,
+            end,
+            next,
+        } => {
+            let f = said(s, t, w, kind, number, end, next.at);
+            let Fields::Numbers {
+                n: _,
+                a: _,
+                b: _,
+                c: _,
+                m: _,
+            } = f else {
+                return Checked::Unnamed;
+            };
+            let k = kind as usize;
+            counts[k] = counts[k] + 1;
+            Checked::Next(next)
+        }
+    }
+}
+
+// All tags from `from` on: each record is there, and there are partitionings for 16 numbers at most.
+pub fn check_tags(s: &[u8], t: &[u8], w: &[u64], counts: &mut [usize; 17], from: usize) -> bool
+    requires { ⌜ Held (now s) (now t) (allNames (now s) (now t)) (now w) × ((from ≤ length (now s)) × (Every SmallTag (walkAt (now s) from) × ((length (now counts) ≡ 17) × ((k : ℕ) → of (now counts) k ≡ 0)))) ⌝ }
+    ensures { λ r. ⌜ ChecksAll (allNames (now (s .entry)) (now (t .entry))) (walkAt (now (s .entry)) from) (now (counts .entry)) (now (counts .exit)) r ⌝ }
+{
+    let mut c = Cursor {
+        at: from,
+        sets: 9,
+        parts: 0,
+    };
+    while c.at < s.len() {
+        let r = check_at(s, t, w, counts, c);
+        match r {
+            Checked::Done => {
+                return c.parts <= 16;
+            }
+            Checked::Unnamed => {
+                return false;
+            }
+            Checked::Next(n) => {
+                c = n;
+            }
+        }
+    }
+    c.parts <= 16
+}
+
+// From how many there are of each kind to where each begins, if there are at most so many in all.
+pub fn begin(counts: &mut [usize; 17], cap: usize) -> Sum
+    requires { ⌜ length (now counts) ≡ 17 ⌝ }
+    ensures { λ r. ⌜ Sums (now (counts .entry)) (now (counts .exit)) cap r ⌝ }
+{
+    let mut sum = 0;
+    let mut k = 1;
+    while k < 17 {
+        let n = counts[k];
+        if cap - sum < n {
+            return Sum::Over;
+        }
+        counts[k] = sum;
+        sum += n;
+        k += 1;
+    }
+    Sum::Total(sum)
+}
+
+// The next tag's record into the output, at the next place of its kind.
+fn write_at(s: &[u8], t: &[u8], w: &[u64], next: &mut [usize; 17], out: &mut [u8], c: Cursor) -> Wrote
+    requires { ⌜ (Held (now s) (now t) (allNames (now s) (now t)) (now w) × Stood (now s) c) × ((thereFrom (allNames (now s) (now t)) (now s) c ≡ true) × ((length (now next) ≡ 17) × TagsFit (now s) c (now next) (now out))) ⌝ }
+    ensures { λ r. ⌜ Writes (allNames (now (s .entry)) (now (t .entry))) (now (s .entry)) c (now (next .entry)) (now (next .exit)) (now (out .entry)) (now (out .exit)) r ⌝ }
+{
+    let x = turn(s, c);
+    match x {
+        Turned::Done => Wrote::Ended,
+        Turned::Silent(n) => Wrote::Onward(n),
+        Turned::Says {
+            kind,
+            number,
+            end,
+            next: behind,
+        } => {
+            let f = said(s, t, w, kind, number, end, behind.at);
+            let Fields::Numbers { n, a, b, c, m } = f else {
+                return Wrote::Ended;
+            };
+            let k = kind as usize;
+            let place = next[k];
+            put(out, place, kind, n, a, b, c, m);
+            next[k] = place + 1;
+            Wrote::Onward(behind)
+        }
+    }
+}
+
+// All tags' records from `from` on.
+pub fn write_tags(s: &[u8], t: &[u8], w: &[u64], next: &mut [usize; 17], out: &mut [u8], from: usize)
+    requires { ⌜ (Held (now s) (now t) (allNames (now s) (now t)) (now w) × ((from ≤ length (now s)) × Every SmallTag (walkAt (now s) from))) × ((allThere (allNames (now s) (now t)) start (walkAt (now s) from) ≡ true) × ((length (now next) ≡ 17) × FitsAll (walkAt (now s) from) (now next) (now out))) ⌝ }
+    ensures { λ _. ⌜ now (out .exit) ≡ fill (allNames (now (s .entry)) (now (t .entry))) start (of (now (next .entry))) (walkAt (now (s .entry)) from) (now (out .entry)) ⌝ }
+{
+    let mut c = Cursor {
+        at: from,
+        sets: 9,
+        parts: 0,
+    };
+    while c.at < s.len() {
+        let r = write_at(s, t, w, next, out, c);
+        let Wrote::Onward(n) = r else {
+            return;
+        };
+        c = n;
+    }
+}

@@ -1,0 +1,86 @@
+-- A walk over the tags of a text: a place, with what the tags before it told.
+use Prim.Native.Nat.{ℕ, suc, _+_, _≤_, _<_}
+use mathlib.Core.Path.{_≡_}
+use mathlib.Core.Bool.{cond}
+use mathlib.Core.List.{List, [], _∷_}
+use lib.Dec.{eqb}
+use lib.ListN.{length}
+use Rattle.paper_lower.specs.Lists.{upd, many, keep, Every}
+use Rattle.paper_lower.specs.Records.{Bytes}
+use Rattle.paper_opl.specs.Reading.{Text, text}
+use Rattle.paper_opl.specs.Tree.{Tag, decimal}
+use Rattle.paper_opl.specs.Naming.{Names, valueOf}
+use Rattle.paper_opl.specs.Walk.{called, Context, leading, Saying, sayings, recordSaid}
+use Rattle.paper_opl.specs.Filling.{putAt, valued, fill, tally}
+use Rattle.opl_tags.specs.Tags.{givenAt}
+use Rattle.opl_declared.specs.Names.{walkAt}
+use Rattle.opl_turns.specs.Meaning.{kindBy, setsBy, partsBy, numberBy}
+use Rattle.opl_turns.specs.declared.Cursor.{Cursor}
+use Rattle.opl_turns.specs.declared.Turned.{Turned}
+use Rattle.opl_turns.specs.declared.Turned.the-variants.{Says, Silent, Done}
+
+abbrev pub contextOf : Cursor → Context
+contextOf c = record { sets = c .sets; partitionings = c .parts }
+
+abbrev pub tagsAt : Text → Cursor → List Tag
+tagsAt s c = walkAt s (c .at)
+
+-- behind the tag of an element, and what the tag tells
+abbrev pub behind : ℕ → Cursor → ℕ → Cursor
+behind id c next = record { at = next; sets = setsBy (c .sets) id; parts = partsBy (c .parts) id }
+
+abbrev pub turnedBy : ℕ → Cursor → ℕ → ℕ → Turned
+turnedBy id c end next = cond (eqb (kindBy (c .sets) id) 0) (Silent (behind id c next)) (Says (kindBy (c .sets) id) (numberBy (c .parts) id) end (behind id c next))
+
+-- its cardinality, if it has one, is a number up to 255
+abbrev pub SmallTag : Tag → Type 0
+SmallTag t = decimal 0 (valueOf (text "cardinality") (t .given)) ≤ 255
+
+abbrev pub Cardinal : Text → ℕ → Type 0
+Cardinal s end = decimal 0 (valueOf (text "cardinality") (givenAt s end)) ≤ 255
+
+-- what the tag whose name ends at `end`, and behind which the text goes on at `next`, says
+abbrev pub sayingAt : Text → ℕ → ℕ → ℕ → ℕ → Saying
+sayingAt s kind number end next = record { kind = kind; found = record { number = number; given = givenAt s end; inside = leading (walkAt s next) } }
+
+-- a cursor that stands in the text
+pub record Stood (s : Text) (c : Cursor) : Type 0 where
+  pub inside : c .at ≤ length s
+  pub few : c .parts ≤ c .at
+  pub low : c .sets ≤ 10
+  pub small : Every SmallTag (tagsAt s c)
+
+-- partitionings begun before the cursor, and behind it
+abbrev pub partitionings : Text → Cursor → ℕ
+partitionings s c = c .parts + many (keep (called "hdsodtp_partitioning") (tagsAt s c))
+
+-- from one cursor to the next
+pub record Steps (s : Text) (c n : Cursor) : Type 0 where
+  pub past : c .at < n .at
+  pub stood : Stood s n
+  pub begun : partitionings s c ≡ partitionings s n
+
+-- over a tag that says no record
+pub record Passes (s : Text) (c n : Cursor) : Type 0 where
+  pub steps : Steps s c n
+  pub says : sayings (contextOf c) (tagsAt s c) ≡ sayings (contextOf n) (tagsAt s n)
+  pub tallies : (f : ℕ → ℕ) → tally (contextOf c) f (tagsAt s c) ≡ tally (contextOf n) f (tagsAt s n)
+  pub fills : (ns : Names) (f : ℕ → ℕ) (out : Bytes) → fill ns (contextOf c) f (tagsAt s c) out ≡ fill ns (contextOf n) f (tagsAt s n) out
+
+-- over a tag that says one
+pub record Tells (s : Text) (c : Cursor) (kind number end : ℕ) (n : Cursor) : Type 0 where
+  pub steps : Steps s c n
+  pub named : end ≤ length s
+  pub cardinal : Cardinal s end
+  pub some : 0 < kind
+  pub small : kind < 17
+  pub says : sayings (contextOf c) (tagsAt s c) ≡ sayingAt s kind number end (n .at) ∷ sayings (contextOf n) (tagsAt s n)
+  pub tallies : (f : ℕ → ℕ) → tally (contextOf c) f (tagsAt s c) ≡ tally (contextOf n) (upd f kind (suc (f kind))) (tagsAt s n)
+  pub fills : (ns : Names) (f : ℕ → ℕ) (out : Bytes)
+      → fill ns (contextOf c) f (tagsAt s c) out
+      ≡ fill ns (contextOf n) (upd f kind (suc (f kind))) (tagsAt s n) (putAt out (f kind) (valued (recordSaid ns (sayingAt s kind number end (n .at)))))
+
+abbrev pub Turns : Text → Cursor → Turned → Type 0
+Turns s c (Says kind number end n) = Tells s c kind number end n
+Turns s c (Silent n) = Passes s c n
+Turns s c Done = tagsAt s c ≡ []
