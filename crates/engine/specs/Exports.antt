@@ -25,6 +25,12 @@ pub record RequestExported (bytes : Bytes) (x x′ : Buffers) (number : ℕ) : T
   pub lengths : SameLengths x x′
   pub kept : (requestAnswer bytes x .reply ≡ 0 → ⊥) → x′ ≡ x
 
--- the length of a buffer: policy 0, sessions 1, orders 2
+-- the scratch of the reader of OPL/XML, which has seven tables of names: a word each, and three for every name that it may hold
+abbrev pub readerWords : ℕ
+readerWords = 7 + 3 * (1024 + 64 + 256 + 65536 + 65536 + 64 + 16)
+
+-- the length of a buffer: policy 0, sessions 1, orders 2, the reader's scratch 4
 abbrev pub wordsOf : ℕ → ℕ
-wordsOf group = cond (eqb group 0) policyWords (cond (eqb group 1) sessionsWords (cond (eqb group 2) ordersWords 0))
+wordsOf group =
+    cond (eqb group 0) policyWords
+    (cond (eqb group 1) sessionsWords (cond (eqb group 2) ordersWords (cond (eqb group 4) readerWords 0)))

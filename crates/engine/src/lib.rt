@@ -103,7 +103,7 @@ pub extern "C" fn mishantral_request(
     replies::number(reply) + 256 * j.place
 }
 
-// The length of a buffer in words: 0 the policy's, 1 the sessions', 2 the orders'.
+// The length of a buffer in words: 0 the policy's, 1 the sessions', 2 the orders', 4 that of the scratch with which OPL/XML is read.
 #[no_mangle]
 pub extern "C" fn mishantral_words(group: u64) -> u64
     ensures { λ n. ⌜ n ≡ wordsOf group ⌝ }
@@ -116,6 +116,9 @@ pub extern "C" fn mishantral_words(group: u64) -> u64
     }
     if group == 2 {
         return ORDERS_WORDS as u64;
+    }
+    if group == 4 {
+        return 397495;
     }
     0
 }

@@ -13,7 +13,12 @@ returns-3 : tie.Need-returns-3
 returns-3 c = simp (ne-eqb _ 0 (c .before .before .if1 .left), ne-eqb _ 1 (c .before .if2 .left), eq-eqb _ 2 (c .if3 .taken))
 
 returns-4 : tie.Need-returns-4
-returns-4 c = simp (ne-eqb _ 0 (c .before .before .if1 .left), ne-eqb _ 1 (c .before .if2 .left), ne-eqb _ 2 (c .if3 .left))
+returns-4 c =
+    simp (ne-eqb _ 0 (c .before .before .before .if1 .left), ne-eqb _ 1 (c .before .before .if2 .left), ne-eqb _ 2 (c .before .if3 .left), eq-eqb _ 4 (c .if4 .taken))
+
+returns-5 : tie.Need-returns-5
+returns-5 c =
+    simp (ne-eqb _ 0 (c .before .before .before .if1 .left), ne-eqb _ 1 (c .before .before .if2 .left), ne-eqb _ 2 (c .before .if3 .left), ne-eqb _ 4 (c .if4 .left))
 
 pub mishantral-words-spec : {M : Type 1} → statement M
-mishantral-words-spec = tie.close (tie.spec returns returns-2 returns-3 returns-4)
+mishantral-words-spec = tie.close (tie.spec returns returns-2 returns-3 returns-4 returns-5)
