@@ -1,5 +1,5 @@
-// The names that two accepted texts declare, all seven spaces by one walk over the tags and the lines. It rests on the tags of opl_tags, on the guess of
-// opl_turns, and on the tables of opl_spaces.
+// The names that two accepted texts declare: five spaces by one walk over the tags, two by the lines. It rests on the tags of opl_tags, on the guess
+// of opl_turns, on the tables of opl_spaces and on opl_declared's walk over the lines.
 ghost use mathlib.Core.Path.{_≡_};
 ghost use mathlib.Core.Bool.{true};
 ghost use Prim.Native.Nat.{_≤_, _<_};

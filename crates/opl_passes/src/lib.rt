@@ -9,7 +9,7 @@ ghost use Rattle.paper_opl.specs.Walk.{start};
 ghost use Rattle.paper_opl.specs.Filling.{fill, fillLines};
 ghost use Rattle.opl_lines.specs.Lines.{Apart, linesIn};
 ghost use Rattle.opl_declared.specs.Names.{walkAt};
-ghost use Rattle.opl_said.specs.Said.{allNames, Held};
+ghost use Rattle.opl_said.specs.Said.{allNames, Holds};
 ghost use Rattle.opl_turns.specs.Turning.{Stood, SmallTag};
 ghost use Rattle.opl_passes.specs.Lines.{linesAt, linesGood, linesThere, Pairs, lineBetween, RowIs, LinesAre, LineWritten, LinesFit};
 ghost use Rattle.opl_passes.specs.Tags.{of, allThere, thereFrom, Checks, ChecksAll, Sums, TagsFit, Writes, FitsAll};
@@ -66,7 +66,7 @@ fn numbers(
     template: usize,
     next: usize,
 ) -> Row
-    requires { ⌜ Held (now s) (now t) (allNames (now s) (now t)) (now w) × Apart (now t) at task template next ⌝ }
+    requires { ⌜ Holds (now s) (now t) (now w) × Apart (now t) at task template next ⌝ }
     ensures { λ r. ⌜ Pairs (allNames (now (s .entry)) (now (t .entry))) (lineBetween (now (t .entry)) at task template) next r ⌝ }
 {
     let x = number_of(s, t, w, 5, &t[at..task]);
@@ -87,7 +87,7 @@ fn numbers(
 
 // The line at `at`.
 fn row_at(s: &[u8], t: &[u8], w: &[u64], at: usize) -> Row
-    requires { ⌜ Held (now s) (now t) (allNames (now s) (now t)) (now w) × ((at < length (now t)) × linesGood (now t) at) ⌝ }
+    requires { ⌜ Holds (now s) (now t) (now w) × ((at < length (now t)) × linesGood (now t) at) ⌝ }
     ensures { λ r. ⌜ RowIs (allNames (now (s .entry)) (now (t .entry))) (now (t .entry)) at r ⌝ }
 {
     let r = read_line(t, at);
@@ -103,7 +103,7 @@ fn row_at(s: &[u8], t: &[u8], w: &[u64], at: usize) -> Row
 
 // Every line has its record, and how many they are.
 pub fn check_lines(s: &[u8], t: &[u8], w: &[u64]) -> Counted
-    requires { ⌜ Held (now s) (now t) (allNames (now s) (now t)) (now w) × linesGood (now t) 0 ⌝ }
+    requires { ⌜ Holds (now s) (now t) (now w) × linesGood (now t) 0 ⌝ }
     ensures { λ r. ⌜ LinesAre (allNames (now (s .entry)) (now (t .entry))) (now (t .entry)) r ⌝ }
 {
     let mut n = 0;
@@ -125,7 +125,7 @@ pub fn check_lines(s: &[u8], t: &[u8], w: &[u64]) -> Counted
 
 // The record of the line at `at` into the output. Answers where the next line begins.
 fn write_line(s: &[u8], t: &[u8], w: &[u64], out: &mut [u8], at: usize, place: usize) -> usize
-    requires { ⌜ (Held (now s) (now t) (allNames (now s) (now t)) (now w) × ((at < length (now t)) × linesGood (now t) at)) × ((linesThere (allNames (now s) (now t)) (linesAt (now t) at) ≡ true) × LinesFit (now t) at place (now out)) ⌝ }
+    requires { ⌜ (Holds (now s) (now t) (now w) × ((at < length (now t)) × linesGood (now t) at)) × ((linesThere (allNames (now s) (now t)) (linesAt (now t) at) ≡ true) × LinesFit (now t) at place (now out)) ⌝ }
     ensures { λ r. ⌜ LineWritten (allNames (now (s .entry)) (now (t .entry))) (now (t .entry)) at place r (now (out .entry)) (now (out .exit)) ⌝ }
 {
     let r = row_at(s, t, w, at);
@@ -140,7 +140,7 @@ fn write_line(s: &[u8], t: &[u8], w: &[u64], out: &mut [u8], at: usize, place: u
 
 // All lines' records, from a place of the output on.
 pub fn write_lines(s: &[u8], t: &[u8], w: &[u64], out: &mut [u8], place: usize)
-    requires { ⌜ (Held (now s) (now t) (allNames (now s) (now t)) (now w) × linesGood (now t) 0) × ((linesThere (allNames (now s) (now t)) (linesIn (now t)) ≡ true) × LinesFit (now t) 0 place (now out)) ⌝ }
+    requires { ⌜ (Holds (now s) (now t) (now w) × linesGood (now t) 0) × ((linesThere (allNames (now s) (now t)) (linesIn (now t)) ≡ true) × LinesFit (now t) 0 place (now out)) ⌝ }
     ensures { λ _. ⌜ now (out .exit) ≡ fillLines (allNames (now (s .entry)) (now (t .entry))) place (linesIn (now (t .entry))) (now (out .entry)) ⌝ }
 {
     let mut p = place;
@@ -155,7 +155,7 @@ pub fn write_lines(s: &[u8], t: &[u8], w: &[u64], out: &mut [u8], place: usize)
 
 // The next tag is judged and counted.
 fn check_at(s: &[u8], t: &[u8], w: &[u64], counts: &mut [usize; 17], c: Cursor) -> Checked
-    requires { ⌜ Held (now s) (now t) (allNames (now s) (now t)) (now w) × (Stood (now s) c × ((length (now counts) ≡ 17) × ((k : ℕ) → of (now counts) k ≤ c .at))) ⌝ }
+    requires { ⌜ Holds (now s) (now t) (now w) × (Stood (now s) c × ((length (now counts) ≡ 17) × ((k : ℕ) → of (now counts) k ≤ c .at))) ⌝ }
     ensures { λ r. ⌜ Checks (allNames (now (s .entry)) (now (t .entry))) (now (s .entry)) c (now (counts .entry)) (now (counts .exit)) r ⌝ }
 {
     let x = turn(s, c);
@@ -188,7 +188,7 @@ fn check_at(s: &[u8], t: &[u8], w: &[u64], counts: &mut [usize; 17], c: Cursor) 
 
 // All tags from `from` on: each record is there, and there are partitionings for 16 numbers at most.
 pub fn check_tags(s: &[u8], t: &[u8], w: &[u64], counts: &mut [usize; 17], from: usize) -> bool
-    requires { ⌜ Held (now s) (now t) (allNames (now s) (now t)) (now w) × ((from ≤ length (now s)) × (Every SmallTag (walkAt (now s) from) × ((length (now counts) ≡ 17) × ((k : ℕ) → of (now counts) k ≡ 0)))) ⌝ }
+    requires { ⌜ Holds (now s) (now t) (now w) × ((from ≤ length (now s)) × (Every SmallTag (walkAt (now s) from) × ((length (now counts) ≡ 17) × ((k : ℕ) → of (now counts) k ≡ 0)))) ⌝ }
     ensures { λ r. ⌜ ChecksAll (allNames (now (s .entry)) (now (t .entry))) (walkAt (now (s .entry)) from) (now (counts .entry)) (now (counts .exit)) r ⌝ }
 {
     let mut c = Cursor {
@@ -241,7 +241,7 @@ fn write_at(
     out: &mut [u8],
     c: Cursor,
 ) -> Wrote
-    requires { ⌜ (Held (now s) (now t) (allNames (now s) (now t)) (now w) × Stood (now s) c) × ((thereFrom (allNames (now s) (now t)) (now s) c ≡ true) × ((length (now next) ≡ 17) × TagsFit (now s) c (now next) (now out))) ⌝ }
+    requires { ⌜ (Holds (now s) (now t) (now w) × Stood (now s) c) × ((thereFrom (allNames (now s) (now t)) (now s) c ≡ true) × ((length (now next) ≡ 17) × TagsFit (now s) c (now next) (now out))) ⌝ }
     ensures { λ r. ⌜ Writes (allNames (now (s .entry)) (now (t .entry))) (now (s .entry)) c (now (next .entry)) (now (next .exit)) (now (out .entry)) (now (out .exit)) r ⌝ }
 {
     let x = turn(s, c);
@@ -276,7 +276,7 @@ pub fn write_tags(
     out: &mut [u8],
     from: usize,
 )
-    requires { ⌜ (Held (now s) (now t) (allNames (now s) (now t)) (now w) × ((from ≤ length (now s)) × Every SmallTag (walkAt (now s) from))) × ((allThere (allNames (now s) (now t)) start (walkAt (now s) from) ≡ true) × ((length (now next) ≡ 17) × FitsAll (walkAt (now s) from) (now next) (now out))) ⌝ }
+    requires { ⌜ (Holds (now s) (now t) (now w) × ((from ≤ length (now s)) × Every SmallTag (walkAt (now s) from))) × ((allThere (allNames (now s) (now t)) start (walkAt (now s) from) ≡ true) × ((length (now next) ≡ 17) × FitsAll (walkAt (now s) from) (now next) (now out))) ⌝ }
     ensures { λ _. ⌜ now (out .exit) ≡ fill (allNames (now (s .entry)) (now (t .entry))) start (of (now (next .entry))) (walkAt (now (s .entry)) from) (now (out .entry)) ⌝ }
 {
     let mut c = Cursor {

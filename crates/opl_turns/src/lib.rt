@@ -1,5 +1,5 @@
-// The walks over the tags and the task lines of accepted texts, behind the one that declares names: what each tag says, in whatever order; and whether every
-// record is there; and the records into the output. It rests on the tags of opl_tags, the tables of opl_spaces and on opl_said.
+// What each tag of a text tells, from tag to tag: the kind of record that it says, by the name of its element and by the tags before it. It rests on the
+// tags of opl_tags and on the names of opl_table.
 ghost use mathlib.Core.Path.{_≡_};
 ghost use Prim.Native.Nat.{_≤_, _<_};
 ghost use Rattle.opl_table.specs.Numbers.{wordAt, digit as digitOf};
@@ -37,6 +37,7 @@ pub fn digit(w: u64, k: u64) -> u64
     (w >> (8 * (k % 8))) % 256
 }
 
+// Tables are words that a match finds: an array would be laid on the stack at each use.
 fn guess_word(j: u64) -> u64
     ensures { λ r. ⌜ r ≡ wordAt guesses j ⌝ }
 {
