@@ -61,7 +61,7 @@ fn run() -> Command {
         .long_about(
             "Loads a policy and answers requests, each as soon as it is there, on a line of its own: its place, its reply and the request \
              in words. A refusal is explained: the rule, with its place in the policy, the entries that it met and whose they are, and who \
-             could claim now. All of it comes from the engine's own answers, on a copy of its state where a question is put to it.\n\n\
+             could claim now, which copies of the engine are asked.\n\n\
              On a terminal, without REQUESTS, there is a prompt with editing, history and completion (Tab); \"help\" there tells more.",
         )
         .args([policy()])
