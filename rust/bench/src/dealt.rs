@@ -286,7 +286,7 @@ pub fn texts() -> Vec<Dealt> {
     let others = all.iter().filter(|r| r.kind() != 3).copied();
     let names: Vec<Record> = others.chain(pairs).collect();
     vec![
-        part("a small policy", 3, 1, 1, 1),
+        part("a small policy", 5, 1, 2, 1),
         part("a middling policy", 172, 34, 66, 32),
         dealt("the largest policy that loads", &all),
         dealt("every space of names full", &names),
