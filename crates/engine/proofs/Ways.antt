@@ -20,14 +20,24 @@ use Rattle.rules.specs.declared.Judged.{Judged}
 use Rattle.policy.specs.Layout.{policyWords}
 use Rattle.sessions.specs.Reading.{sessionsWords}
 use Rattle.sessions.specs.Lower.{lowerTables}
-use Rattle.ledger.specs.Reading.{ordersWords, Cleared}
+use Rattle.links.specs.Chains.{ordersWords, soundOf}
+use Rattle.links.proofs.SameLaws.{tables-refl}
+use Rattle.entries.specs.Reading.{Cleared}
 use Rattle.lower.specs.Answers.{Loads, fit as lowerFit}
 use Rattle.lower.specs.Exports.{inOne}
-use Rattle.engine.specs.Buffers.{Buffers, buffers, tablesOf, fit, SameLengths}
+use Rattle.engine.specs.Buffers.{Buffers, buffers, productOf, noEngine, tablesOf, fit, SameLengths}
 use Rattle.engine.specs.Step.{Step}
 use Rattle.engine.specs.Answers.{requestAnswer, Requested, loadAnswer, LoadDone}
 use Rattle.engine.specs.Exports.{LoadExported, RequestExported}
-use Rattle.engine.proofs.SameLaws.{tables-refl}
+
+-- ---- The reading.
+pub tables-sound : (x : Buffers) → soundOf (x .orders) ≡ true → tablesOf x ≡ productOf x
+unfolding tablesOf
+tables-sound x h = rw h
+
+pub tables-broken : (x : Buffers) → soundOf (x .orders) ≡ false → tablesOf x ≡ noEngine
+unfolding tablesOf
+tables-broken x h = rw h
 
 -- the code's test of the lengths
 all : (a b c : Bool) → (not a || not b) || not c ≡ false → (a ≡ true) × (b ≡ true) × (c ≡ true)
@@ -71,7 +81,7 @@ module _ (x : Buffers) where
 -- a step that is the definition's answer
 pub answered : {bytes : Bytes} {x x′ : Buffers} {r : Record} {reply : ℕ} {next : Engine} {j : Judged} → unfit x ≡ false
     → request (tablesOf x) bytes ≡ record { reply = reply; tables = granted reply next (tablesOf x) }
-    → r ≡ decode bytes → Step reply (placeOf (tablesOf x) r reply) next x x′ j → SameLengths x x′ → Requested bytes x x′ j
+    → r ≡ decode bytes → Step (tablesOf x) (tablesOf x′) reply (placeOf (tablesOf x) r reply) next x x′ j → SameLengths x x′ → Requested bytes x x′ j
 unfolding requestAnswer placeTo
 answered {bytes} {x} {x′} {r} {reply} {next} {j} h e is d l =
     let f = fits x h in
@@ -79,7 +89,7 @@ answered {bytes} {x} {x′} {r} {reply} {next} {j} h e is d l =
     record {
       replies = d .replies ∙ rw f (sym (ap (λ (y : Answer Engine). y .reply) e));
       places = d .places ∙ rw (f, is) (sym (ap (λ (y : Answer Engine). placeOf (tablesOf x) (decode bytes) (y .reply)) e));
-      tables = rw f (subst (λ (t : Engine). SameTables (tablesOf x′) t) (d .tables ∙ sym t) (tables-refl (tablesOf x′)));
+      tables = rw f (subst (λ (t : Engine). SameTables (tablesOf x′) t) (sym t) (d .tables));
       lengths = l;
       kept = d .kept;
     }
@@ -103,7 +113,7 @@ loaded {bytes} {p} {s} {o} {p′} {s′} {o′} {r} {place} h c d l =
     record {
       replies = d .replies ∙ rw (e .0, e .1, e .2);
       places = d .places ∙ rw (e .0, e .1, e .2);
-      tables = rw (e .0, e .1, e .2) (λ i. record { lower = t i; orders = c .tables i });
+      tables = tables-sound (buffers p′ s′ o′) (c .sound) ∙ rw (e .0, e .1, e .2) (λ i. record { lower = t i; orders = c .tables i });
       lengths = l;
       room = λ n. absurd (true≢false (sym f ∙ n));
       zeros = λ _ n. record { policy = λ i. d .zeros g n i .0; sessions = λ i. d .zeros g n i .1; orders = c .zeros };

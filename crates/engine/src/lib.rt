@@ -1,16 +1,18 @@
 // The engine: the load and the request, over the three lent buffers. Any bytes and any buffers have their answer.
 ghost use mathlib.Core.Path.{_≡_};
+ghost use mathlib.Core.Bool.{false};
 ghost use lib.ListN.{length};
 ghost use Rattle.paper_lower.specs.Forms.{requestForms};
 ghost use Rattle.records.specs.Limits.{Limits};
 ghost use Rattle.policy.specs.Layout.{policyWords};
 ghost use Rattle.sessions.specs.Reading.{sessionsWords};
-ghost use Rattle.ledger.specs.Reading.{ordersWords};
-ghost use Rattle.engine.specs.Buffers.{buffers};
-ghost use Rattle.engine.specs.Step.{StepOf};
+ghost use Rattle.links.specs.Chains.{ordersWords, soundOf};
+ghost use Rattle.entries.specs.Acts.{Ready};
+ghost use Rattle.engine.specs.Buffers.{buffers, noEngine, tablesOf};
+ghost use Rattle.engine.specs.Step.{StepOf, SoundStep};
 ghost use Rattle.engine.specs.Answers.{Requested, LoadDone};
 ghost use Rattle.engine.specs.Exports.{LoadExported, RequestExported, wordsOf};
-use ledger::ORDERS_WORDS;
+use links::ORDERS_WORDS;
 use loading::Loaded;
 use policy::POLICY_WORDS;
 use records::Call;
@@ -22,8 +24,8 @@ use sessions::SESSIONS_WORDS;
 
 // A request that SHAPE and RANGE let pass: the upper part's kinds here, all others by the lower part. A claim alone has a place.
 fn step(r: Record, p: &mut [u64], s: &mut [u64], o: &mut [u64]) -> Judged
-    requires { ⌜ ((length (now p) ≡ policyWords) × ((length (now s) ≡ sessionsWords) × (length (now o) ≡ ordersWords))) × Limits requestForms r ⌝ }
-    ensures { λ x. ⌜ StepOf r (buffers (now (p .entry)) (now (s .entry)) (now (o .entry))) (buffers (now (p .exit)) (now (s .exit)) (now (o .exit))) x ⌝ }
+    requires { ⌜ ((length (now p) ≡ policyWords) × ((length (now s) ≡ sessionsWords) × Ready (now o))) × Limits requestForms r ⌝ }
+    ensures { λ x. ⌜ SoundStep r (buffers (now (p .entry)) (now (s .entry)) (now (o .entry))) (buffers (now (p .exit)) (now (s .exit)) (now (o .exit))) x ⌝ }
 {
     let kind = r.kind;
     match kind {
@@ -37,6 +39,31 @@ fn step(r: Record, p: &mut [u64], s: &mut [u64], o: &mut [u64]) -> Judged
         57 => plain(claims::task_check_reply(p, s, o, r.a, r.b, r.c, r.m)),
         _ => plain(lower::step(r, p, s)),
     }
+}
+
+// The same on links that are not sound, which reads as the empty engine: it grants only that a user without roles is added.
+fn as_empty(r: Record, p: &mut [u64], s: &mut [u64], o: &mut [u64]) -> Judged
+    requires { ⌜ ((length (now p) ≡ policyWords) × ((length (now s) ≡ sessionsWords) × (length (now o) ≡ ordersWords))) × (Limits requestForms r × (soundOf (now o) ≡ false)) ⌝ }
+    ensures { λ x. ⌜ StepOf noEngine (tablesOf (buffers (now (p .exit)) (now (s .exit)) (now (o .exit)))) r (buffers (now (p .entry)) (now (s .entry)) (now (o .entry))) (buffers (now (p .exit)) (now (s .exit)) (now (o .exit))) x ⌝ }
+{
+    if (r.kind != 32) | (r.m != 0) {
+        return plain(Reply::Unknown);
+    }
+    policy::clear(p);
+    sessions::clear(s);
+    entries::clear(o);
+    step(r, p, s, o)
+}
+
+// And on any content.
+fn act(r: Record, p: &mut [u64], s: &mut [u64], o: &mut [u64]) -> Judged
+    requires { ⌜ ((length (now p) ≡ policyWords) × ((length (now s) ≡ sessionsWords) × (length (now o) ≡ ordersWords))) × Limits requestForms r ⌝ }
+    ensures { λ x. ⌜ StepOf (tablesOf (buffers (now (p .entry)) (now (s .entry)) (now (o .entry)))) (tablesOf (buffers (now (p .exit)) (now (s .exit)) (now (o .exit)))) r (buffers (now (p .entry)) (now (s .entry)) (now (o .entry))) (buffers (now (p .exit)) (now (s .exit)) (now (o .exit))) x ⌝ }
+{
+    if !links::is_sound(o) {
+        return as_empty(r, p, s, o);
+    }
+    step(r, p, s, o)
 }
 
 // Any bytes as a request.
@@ -53,7 +80,7 @@ pub fn request(bytes: &[u8], policy: &mut [u64], sessions: &mut [u64], orders: &
     if !replies::accepted(r) {
         return plain(r);
     }
-    step(records::decode(bytes), policy, sessions, orders)
+    act(records::decode(bytes), policy, sessions, orders)
 }
 
 // Any bytes as a policy: no subject is live afterwards, no order open, no entry in use.
@@ -69,7 +96,7 @@ pub fn load(bytes: &[u8], policy: &mut [u64], sessions: &mut [u64], orders: &mut
             place: 0,
         };
     }
-    ledger::clear(orders);
+    entries::clear(orders);
     lower::load(bytes, policy, sessions)
 }
 
