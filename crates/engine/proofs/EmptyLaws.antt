@@ -7,8 +7,8 @@ use borrow.Author.Tests.{eq-eqb, eqb-true, ne-eqb, not-false}
 use lib.Bits.{and-zero-r}
 use lib.Dec.{eqb, T}
 use Rattle.paper_lower.specs.Sets.{empty, cut, within, collect}
-use Rattle.paper_lower.specs.Lists.{Maybe, holds, there, some, keep, each, Every}
-use Rattle.paper_lower.specs.Lists.Maybe.{none, just}
+use Rattle.paper_lower.specs.Lists.{holds, there, some, keep, each, Every}
+use Rattle.paper_lower.specs.Lists.Maybe.{just}
 use Rattle.paper_lower.specs.Checks.{first, UNKNOWN}
 use Rattle.paper_lower.specs.Records.{Record}
 use Rattle.paper_lower.specs.Forms.{Form, formOf, lowerForms, upperForms, requestForms}

@@ -1,25 +1,24 @@
 -- From what an act leaves of one instance to the tables.
-use Prim.Native.Nat.{ℕ, _+_, _<_}
+use Prim.Native.Nat.{ℕ, _<_}
 use mathlib.Core.Bool.{Bool, true, false, not, cond}
 use mathlib.Core.List.{List, [], _∷_}
 use mathlib.Core.Path.{_≡_, refl, sym, ap, _∙_, fun-ext}
-use native.Mathlib.Omega.{arith}
-use borrow.Author.Tests.{eq-eqb, eqb-true, eqb-false}
+use borrow.Author.Tests.{eqb-true, eqb-false}
 use lib.Dec.{eqb}
 use Rattle.paper_lower.specs.Sets.{has}
-use Rattle.paper_lower.specs.Lists.{Maybe, there, upd, many, add, keep, each, Every}
+use Rattle.paper_lower.specs.Lists.{Maybe, there, upd, add, keep, each, Every}
 use Rattle.paper_lower.specs.Lists.Maybe.{none, just}
 use Rattle.paper_lower.proofs.ListLaws.{every-map}
-use Rattle.paper_upper.specs.Orders.{Entry, entry, Orders, Same, inOrder, heldBy}
+use Rattle.paper_upper.specs.Orders.{Entry, entry, inOrder, heldBy}
 use Rattle.paper_upper.specs.Orders.Standing.{held}
 use Rattle.paper_upper.specs.Requests.{turned}
-use Rattle.links.specs.Chains.{openOf, templateAt, entriesIn, soundOf, joined}
+use Rattle.links.specs.Chains.{openOf, templateAt, entriesIn, joined}
 use Rattle.links.specs.Stacks.{Woven}
 use Rattle.links.specs.Acts.{Leaves}
 use Rattle.links.proofs.ReadLaws.{there-open}
-use Rattle.links.proofs.SameLaws.{same-path, joined-more, keep-joined, each-joined}
+use Rattle.links.proofs.SameLaws.{joined-more, keep-joined, each-joined}
 use Rattle.links.proofs.EntryLaws.{same-add, held-other, turned-other}
-use Rattle.entries.specs.Reading.{ordersOf, withInstance, withLedger}
+use Rattle.entries.specs.Reading.{ordersOf, withInstance}
 use Rattle.entries.specs.Acts.{afterEnter, afterRelease, afterFinish, afterEnd, Acts, Enters}
 use Rattle.entries.proofs.OwnLaws.{entries-own, entries-other, joined-same}
 

@@ -1,6 +1,6 @@
 -- A search along chains, and one through all entries.
-use Prim.Native.Nat.{ℕ, zero, suc, _+_, _*_, _<_}
-use mathlib.Core.Bool.{Bool, true, false, not, cond, _&&_, _||_}
+use Prim.Native.Nat.{ℕ, zero, suc, _*_, _<_}
+use mathlib.Core.Bool.{Bool, true, false, _&&_, _||_}
 use mathlib.Core.List.{List, [], _∷_}
 use mathlib.Core.Path.{_≡_, refl, sym, ap, _∙_}
 use native.Mathlib.Omega.{arith}
@@ -9,7 +9,7 @@ use lib.Dec.{eqb}
 use Rattle.paper_lower.specs.Sets.{has}
 use Rattle.paper_lower.specs.Lists.{there, someBelow, some, Every}
 use Rattle.paper_lower.proofs.ListLaws.{every-map}
-use Rattle.paper_upper.specs.Orders.{Entry, isHeld, isHeldBy, inOrder, ofTask, heldBy}
+use Rattle.paper_upper.specs.Orders.{Entry, isHeld, isHeldBy, inOrder, heldBy}
 use Rattle.links.specs.Chains.{markOf, openOf, templateAt, headOf, countOf, chainWord, wordAt, entryOf, walkOver, takeEntry, entriesIn, Fine}
 use Rattle.links.specs.Stacks.{Woven}
 use Rattle.links.proofs.ReadLaws.{there-open}

@@ -8,7 +8,7 @@ use lib.ListN.{length, getD}
 use lib.Bits.{bitAnd}
 use Rattle.paper_lower.specs.Lists.{Maybe, there, upd}
 use Rattle.paper_lower.specs.Lists.Maybe.{none, just}
-use Rattle.paper_upper.specs.Orders.{Entry, Orders, noOrders, Same}
+use Rattle.paper_upper.specs.Orders.{Entry, Orders, noOrders}
 use Rattle.links.specs.Chains.{ordersWords, templateAt, headOf, countOf, chainWord, walkOver, entriesIn, soundOf, joined}
 use Rattle.entries.specs.declared.Instance.{Instance}
 

@@ -10,7 +10,7 @@ ghost use Rattle.paper_lower.specs.Lists.{someBelow, there, some, many};
 ghost use Rattle.paper_lower.specs.Lists.Maybe.{just};
 ghost use Rattle.paper_upper.specs.Orders.{isHeld, isHeldBy, inOrder, heldBy};
 ghost use Rattle.links.specs.Chains.{ordersWords};
-ghost use Rattle.entries.specs.Reading.{Cleared, ordersOf, withInstance, openedOf, inOpenOrder, keyOf, fits, anyIn};
+ghost use Rattle.entries.specs.Reading.{Cleared, ordersOf, withInstance, openedOf, inOpenOrder, keyOf, anyIn};
 ghost use Rattle.entries.specs.Acts.{InLimits, Ready, afterEnter, afterRelease, afterFinish, afterEnd, Acts, Enters};
 ghost use Rattle.entries.specs.Gathering.{gatheredOf, takenIn, figuresOf};
 use links::FREE;

@@ -1,7 +1,7 @@
 -- What the acts on one instance leave, from the chains' stacks to its entries.
-use Prim.Native.Nat.{ℕ, zero, suc, _+_, _*_, _/_, _%_, _≤_, _<_}
-use mathlib.Core.Bool.{Bool, true, false, not, cond, _&&_, _||_}
-use mathlib.Core.List.{List, [], _∷_, _++_}
+use Prim.Native.Nat.{ℕ, _+_, _*_, _%_, _≤_, _<_}
+use mathlib.Core.Bool.{Bool, true, false, not}
+use mathlib.Core.List.{List, [], _∷_}
 use mathlib.Core.Path.{_≡_, refl, sym, ap, _∙_}
 use native.Mathlib.Omega.{arith}
 use borrow.Author.Tests.{eq-eqb, eqb-true, eqb-false, lt-ltb, ltb-true, ltb-false}
@@ -15,12 +15,12 @@ use Rattle.paper_upper.specs.Orders.{Entry, entry, heldBy, tasksWhere, tasksDon
 use Rattle.paper_upper.specs.Orders.Standing.{held}
 use Rattle.paper_upper.specs.Requests.{turned}
 use Rattle.sets.proofs.SetLaws.{has-new, has-other, has-gone, has-kept}
-use Rattle.links.specs.Chains.{ordersWords, markOf, openOf, templateAt, doneWord, isRead, headOf, countOf, chainWord, ownerOf, wordAt, walkOver, entriesIn, figures, sumTo, Fine, Linked, soundOf}
-use Rattle.links.specs.Stacks.{payloadsIn, stackOf, Woven, Beside, Pushed, Taken, revOnto, entryFrom, stays, turnedLoad, Still, Dropped, Turned, Restored}
+use Rattle.links.specs.Chains.{ordersWords, markOf, openOf, templateAt, doneWord, headOf, countOf, chainWord, wordAt, walkOver, entriesIn, figures, Fine, soundOf}
+use Rattle.links.specs.Stacks.{payloadsIn, Woven, Pushed, Taken, revOnto, entryFrom, stays, turnedLoad, Still, Dropped, Turned, Restored}
 use Rattle.links.specs.Acts.{Leaves}
 use Rattle.links.proofs.ReadLaws.{chain-read, chain-closed, chain-as, chain-same, done-read, done-as, done-same, done-closed, template-read, template-as, template-same, template-closed, read-open}
 use Rattle.links.proofs.ChainLaws.{linked-same}
-use Rattle.links.proofs.OnceLaws.{sum-same, sum-none}
+use Rattle.links.proofs.OnceLaws.{sum-same}
 use Rattle.links.proofs.SoundLaws.{Sound, sound, is-sound}
 use Rattle.links.proofs.StackLaws.{stack-same, relink, payloads-at}
 use Rattle.links.proofs.SameLaws.{same-sym}

@@ -1,18 +1,16 @@
 -- Entries carried from chain to chain, one at a time, and a whole chain.
-use Prim.Native.Nat.{ℕ, zero, suc, _+_, _-_, _*_, _/_, _%_, _≤_, _<_}
-use mathlib.Core.Bool.{Bool, true, false, not, cond, _&&_, _||_}
-use mathlib.Core.List.{List, [], _∷_, _++_}
+use Prim.Native.Nat.{ℕ, suc, _-_, _/_, _%_, _≤_, _<_}
+use mathlib.Core.Bool.{Bool, true, false, not, cond, _||_}
+use mathlib.Core.List.{List, [], _∷_}
 use mathlib.Core.Path.{_≡_, refl, sym, ap, _∙_}
 use native.Mathlib.Omega.{arith}
-use borrow.Author.Tests.{eq-eqb, ne-eqb, eqb-true, eqb-false}
 use lib.Dec.{eqb}
-use lib.ListN.{length, getD}
 use Rattle.paper_lower.specs.Sets.{plus}
 use Rattle.paper_lower.specs.Lists.{many, keep, each}
-use Rattle.paper_upper.specs.Orders.{Entry, isDone, inOrder, tasksWhere, tasksDone}
+use Rattle.paper_upper.specs.Orders.{isDone, tasksWhere, tasksDone}
 use Rattle.paper_upper.specs.Orders.Standing.{held, done}
-use Rattle.links.specs.Chains.{ordersWords, countOf, chainWord, wordAt}
-use Rattle.links.specs.Stacks.{payloadOf, payloadsIn, Woven, Beside, Popped, Pushed, Carried, revOnto, entryFrom, stays, turnedLoad, Still, Dropped, Turned, Restored}
+use Rattle.links.specs.Chains.{countOf, chainWord, wordAt}
+use Rattle.links.specs.Stacks.{payloadOf, payloadsIn, Woven, Popped, Pushed, Carried, revOnto, entryFrom, stays, turnedLoad, Still, Dropped, Turned, Restored}
 use Rattle.links.proofs.EntryLaws.{many-payloads, from-own}
 
 pub carried : (l l₁ l₂ : List ℕ) (i j k p q : ℕ) → i ≤ 65 → j ≤ 65 → (i ≡ j → ⊥) → p ≡ payloadOf (wordAt l₁ k) → Popped l l₁ i k → Pushed l₁ l₂ j q → Carried l l₂ i j p q

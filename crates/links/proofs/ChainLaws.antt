@@ -1,18 +1,17 @@
 -- Steps along links: where they lead, that they come to no entry twice, and what a walk gathers.
-use Prim.Native.Nat.{ℕ, zero, suc, _+_, _-_, _≤_, _<_, _/_, _%_, _*_}
-use mathlib.Core.Bool.{Bool, true, false, not, cond, _&&_, _||_, true≢false, false≢true}
-use mathlib.Core.List.{List, [], _∷_, _++_}
+use Prim.Native.Nat.{ℕ, zero, suc, _-_, _≤_, _<_, _/_, _%_}
+use mathlib.Core.Bool.{Bool, true, false, not, cond, _&&_, _||_}
+use mathlib.Core.List.{List, [], _∷_}
 use mathlib.Core.Path.{_≡_, refl, sym, ap, _∙_}
 use native.Mathlib.Omega.{arith}
 use borrow.Author.Tests.{eq-eqb, ne-eqb, eqb-true, eqb-false, ltb-true, ltb-false, le-ltb, not-true, not-false}
 use lib.Dec.{eqb, ltb}
-use lib.ListN.{length, getD, set}
+use lib.ListN.{length, set}
 use Rattle.paper_lower.specs.Sets.{plus}
-use Rattle.paper_lower.specs.Lists.{many, Every}
 use Rattle.paper_lower.proofs.ListLaws.{or-none, both}
 use Rattle.paper_upper.specs.Orders.{Entry, isDone, inOrder, tasksWhere, tasksDone}
 use Rattle.paper_upper.specs.Orders.Standing.{held, done}
-use Rattle.links.specs.Chains.{ordersWords, markOf, headOf, countOf, chainWord, standingOf, entryOf, ownerOf, linkOf, wordAt, walkOver, takeEntry, takeNumber, takeDone, entriesIn, numbersIn, astray, Fine, Linked, leads, figures, chainSound, times}
+use Rattle.links.specs.Chains.{headOf, countOf, chainWord, standingOf, entryOf, ownerOf, linkOf, wordAt, walkOver, takeEntry, takeDone, entriesIn, astray, Fine, Linked, leads, figures, chainSound}
 
 -- ---- The test and the statement.
 pub found : (l : List ℕ) (i m h : ℕ) → astray l i m h ≡ false → Fine l i m h

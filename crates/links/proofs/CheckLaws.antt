@@ -1,20 +1,19 @@
 -- The check, chain by chain: what was counted and found sound so far, and all of it at the end.
-use Prim.Native.Nat.{ℕ, zero, suc, _+_, _-_, _/_, _%_, _^_, _≤_, _<_}
+use Prim.Native.Nat.{ℕ, zero, suc, _+_, _-_, _/_, _%_, _≤_, _<_}
 use mathlib.Core.Bool.{Bool, true, false, not, cond, _&&_, _||_, true≢false, false≢true}
-use mathlib.Core.List.{List, [], _∷_}
+use mathlib.Core.List.{List}
 use mathlib.Core.Path.{_≡_, refl, sym, ap, _∙_}
 use native.Mathlib.Numerals.{add-one}
 use native.Mathlib.Omega.{arith}
-use borrow.Author.Tests.{eq-eqb, ne-eqb, eqb-true, eqb-false, lt-ltb, le-ltb, ltb-true, ltb-false}
+use borrow.Author.Tests.{ne-eqb, eqb-true, eqb-false, lt-ltb, le-ltb, ltb-true, ltb-false}
 use lib.Dec.{eqb, ltb}
-use lib.ListN.{length, getD}
 use Rattle.paper_lower.specs.Sets.{has}
 use Rattle.paper_lower.specs.Lists.{someBelow}
 use Rattle.paper_lower.proofs.ListLaws.{and-false, some-below, none-below, below-none}
 use Rattle.paper_upper.specs.Orders.{tasksWhere, tasksDone}
 use Rattle.sets.proofs.Bits.{bit, bit-zero, some-bit, bit-above}
 use Rattle.sets.proofs.SetLaws.{bit-has, bit-hasnt}
-use Rattle.links.specs.Chains.{markOf, openOf, doneWord, isRead, headOf, countOf, chainWord, walkOver, entriesIn, leads, figures, chainSound, sumTo, soundOf, Counted}
+use Rattle.links.specs.Chains.{markOf, openOf, isRead, countOf, chainWord, walkOver, entriesIn, leads, figures, chainSound, sumTo, soundOf, Counted}
 use Rattle.links.proofs.ReadLaws.{read-closed, chain-closed, done-closed}
 use Rattle.links.proofs.OnceLaws.{sum-more}
 

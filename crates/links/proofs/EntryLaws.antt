@@ -1,15 +1,14 @@
 -- Entries and what their words hold beside chain and link: the entries of a chain are its stack, read from the oldest on.
-use Prim.Native.Nat.{ℕ, zero, suc, _+_, _*_, _/_, _%_, _≤_, _<_}
-use mathlib.Core.Bool.{Bool, true, false, not, cond, _&&_, _||_}
+use Prim.Native.Nat.{ℕ, zero, suc, _+_, _*_, _/_, _%_, _<_}
+use mathlib.Core.Bool.{Bool, true, false, not, cond, _&&_}
 use mathlib.Core.List.{List, [], _∷_, _++_}
 use mathlib.Core.Path.{_≡_, refl, sym, ap, _∙_}
 use native.Mathlib.Omega.{arith}
 use borrow.Author.Tests.{eq-eqb, ne-eqb, eqb-true, eqb-false}
 use lib.Dec.{eqb}
-use lib.ListN.{length, getD}
 use Rattle.paper_lower.specs.Lists.{many, add, keep, each}
 use Rattle.paper_lower.proofs.ListLaws.{and-false}
-use Rattle.paper_upper.specs.Orders.{Standing, Entry, entry, isDone, isHeldBy, inOrder, ofTask, heldBy, tasksWhere, tasksDone}
+use Rattle.paper_upper.specs.Orders.{Entry, entry, isDone, isHeldBy, inOrder, ofTask, heldBy, tasksWhere, tasksDone}
 use Rattle.paper_upper.specs.Orders.Standing.{held, done}
 use Rattle.paper_upper.specs.Orders.{Same}
 use Rattle.paper_upper.specs.Orders.Same.{one, swap, then}

@@ -1,14 +1,14 @@
 -- What is read of an instance's words: all while it is open, and nothing else; the chain of the free entries and that of those set aside always.
-use Prim.Native.Nat.{ℕ, zero, suc, _+_, _/_, _%_, _≤_, _<_}
-use mathlib.Core.Bool.{Bool, true, false, cond, _&&_, _||_}
+use Prim.Native.Nat.{ℕ, _+_, _%_, _<_}
+use mathlib.Core.Bool.{Bool, true, false, cond, _&&_}
 use mathlib.Core.List.{List}
-use mathlib.Core.Path.{_≡_, refl, sym, ap, _∙_}
+use mathlib.Core.Path.{_≡_, refl, ap}
 use native.Mathlib.Omega.{arith}
 use borrow.Author.Tests.{lt-ltb, le-ltb, ltb-true}
 use lib.Dec.{ltb}
 use lib.ListN.{getD}
 use Rattle.paper_lower.specs.Sets.{has}
-use Rattle.paper_lower.specs.Lists.{Maybe, holds, there}
+use Rattle.paper_lower.specs.Lists.{holds, there}
 use Rattle.paper_lower.specs.Lists.Maybe.{none, just}
 use Rattle.paper_lower.proofs.ListLaws.{or-true}
 use Rattle.links.specs.Chains.{openOf, templateIn, templateAt, doneWord, isRead, chainWord, countOf}

@@ -1,14 +1,13 @@
 -- What a sound buffer is, chain by chain; and that each entry is in one chain, once.
 use Prim.Native.Nat.{ℕ, zero, suc, _+_, _-_, _≤_, _<_}
-use mathlib.Core.Bool.{Bool, true, false, not, cond, _&&_, _||_}
-use mathlib.Core.List.{List, [], _∷_, _++_}
+use mathlib.Core.Bool.{Bool, true, false, not, cond}
+use mathlib.Core.List.{List, [], _∷_}
 use mathlib.Core.Path.{_≡_, refl, sym, ap, _∙_}
 use native.Mathlib.Omega.{arith}
-use borrow.Author.Tests.{eq-eqb, ne-eqb, eqb-true, eqb-false, ltb-true, ltb-false, le-ltb, not-true, not-false}
+use borrow.Author.Tests.{eq-eqb, ne-eqb, eqb-true, ltb-true, ltb-false, le-ltb, not-true, not-false}
 use lib.Dec.{eqb, ltb}
-use lib.ListN.{length, getD}
-use Rattle.paper_lower.specs.Lists.{someBelow, many, Every}
-use Rattle.paper_lower.proofs.ListLaws.{or-none, both, none-below, below-none, every-append, every-map}
+use Rattle.paper_lower.specs.Lists.{many, Every}
+use Rattle.paper_lower.proofs.ListLaws.{both, none-below, below-none, every-append, every-map}
 use Rattle.paper_upper.specs.Orders.{tasksDone}
 use Rattle.links.specs.Chains.{markOf, headOf, countOf, chainWord, ownerOf, linkOf, wordAt, walkOver, takeNumber, entriesIn, numbersIn, leads, figures, chainSound, sumTo, soundOf, times, joined, Fine, Linked, ReachedOnce}
 use Rattle.links.specs.Stacks.{Woven}

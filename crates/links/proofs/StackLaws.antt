@@ -1,15 +1,15 @@
 -- A chain as a stack: what taking an entry from it and putting one on it do to all chains.
 use Prim.Native.Nat.{ℕ, zero, suc, _+_, _-_, _*_, _/_, _%_, _≤_, _<_}
 use mathlib.Core.Bool.{Bool, true, false}
-use mathlib.Core.List.{List, [], _∷_}
+use mathlib.Core.List.{List, _∷_}
 use mathlib.Core.Path.{_≡_, refl, sym, ap, _∙_, subst}
 use native.Mathlib.Omega.{arith}
 use borrow.Author.Tests.{eqb-true, eqb-false}
 use lib.Dec.{eqb}
 use lib.ListN.{length, getD, set, length-set}
 use lib.Seq.{getD-set-same, getD-set-other}
-use Rattle.links.specs.Chains.{ordersWords, markOf, openOf, headOf, countOf, isRead, chainWord, ownerOf, linkOf, wordAt, sumTo, Fine, Linked}
-use Rattle.links.specs.Stacks.{payloadOf, wordFor, stackOf, payloadsIn, Woven, Loose, Beside, Popped, Pushed, Taken}
+use Rattle.links.specs.Chains.{ordersWords, markOf, openOf, headOf, countOf, isRead, chainWord, ownerOf, linkOf, wordAt, Fine, Linked}
+use Rattle.links.specs.Stacks.{payloadOf, wordFor, stackOf, payloadsIn, Woven, Loose, Popped, Pushed, Taken}
 use Rattle.links.proofs.ChainLaws.{linked-here, linked-on, no-return, linked-same}
 use Rattle.links.proofs.OnceLaws.{sum-step, sum-same, sum-ge}
 use Rattle.links.proofs.ReadLaws.{chain-read, read-some, read-same, chain-same}

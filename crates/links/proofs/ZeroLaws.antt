@@ -1,16 +1,15 @@
 -- The buffer of zeros is sound: no instance is open, and no chain has an entry.
-use Prim.Native.Nat.{ℕ, zero, suc, _+_, _≤_, _<_}
+use Prim.Native.Nat.{ℕ, _+_}
 use mathlib.Core.Bool.{Bool, true, false, cond}
 use mathlib.Core.List.{List, []}
 use mathlib.Core.Path.{_≡_, refl, sym, ap, _∙_}
 use native.Mathlib.Omega.{arith}
 use lib.ListN.{getD}
 use Rattle.paper_lower.specs.Sets.{has}
-use Rattle.paper_lower.specs.Lists.{Maybe}
 use Rattle.paper_lower.specs.Lists.Maybe.{none}
 use Rattle.paper_upper.specs.Orders.{tasksWhere, tasksDone}
 use Rattle.sets.proofs.SetLaws.{has-empty}
-use Rattle.links.specs.Chains.{markOf, openOf, templateAt, doneWord, isRead, headOf, countOf, chainWord, walkOver, entriesIn, soundOf, Fine}
+use Rattle.links.specs.Chains.{markOf, openOf, templateAt, isRead, headOf, countOf, chainWord, walkOver, entriesIn, soundOf, Fine}
 use Rattle.links.proofs.ReadLaws.{done-closed, template-closed}
 use Rattle.links.proofs.OnceLaws.{sum-none}
 use Rattle.links.proofs.StackLaws.{relink}

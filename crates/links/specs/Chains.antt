@@ -1,10 +1,10 @@
 -- The words of the orders buffer: the chains of entries, the steps along them, and when a buffer's chains are sound.
 use Prim.Native.Nat.{ℕ, zero, suc, _+_, _*_, _/_, _%_, _≤_, _<_}
-use mathlib.Core.Bool.{Bool, true, false, not, cond, _&&_, _||_}
+use mathlib.Core.Bool.{Bool, true, not, cond, _&&_, _||_}
 use mathlib.Core.List.{List, [], _∷_, _++_}
 use mathlib.Core.Path.{_≡_}
 use lib.Dec.{eqb, ltb}
-use lib.ListN.{length, getD}
+use lib.ListN.{getD}
 use Rattle.paper_lower.specs.Sets.{has, plus}
 use Rattle.paper_lower.specs.Lists.{Maybe, someBelow}
 use Rattle.paper_lower.specs.Lists.Maybe.{none, just}

@@ -1,12 +1,12 @@
 -- What an act does to the chains on its way: a chain as a stack, from which an entry is taken, and on which it is put.
 use Prim.Native.Nat.{ℕ, zero, suc, _+_, _*_, _/_, _%_, _≤_, _<_}
-use mathlib.Core.Bool.{Bool, true, false, not, cond, _||_}
+use mathlib.Core.Bool.{Bool, not, cond, _||_}
 use mathlib.Core.List.{List, [], _∷_}
 use mathlib.Core.Path.{_≡_}
 use lib.Dec.{eqb}
 use lib.ListN.{length, getD}
 use Rattle.paper_lower.specs.Lists.{keep, each}
-use Rattle.paper_upper.specs.Orders.{Standing, Entry, entry, tasksDone}
+use Rattle.paper_upper.specs.Orders.{Entry, entry, tasksDone}
 use Rattle.paper_upper.specs.Orders.Standing.{held, done}
 use Rattle.links.specs.Chains.{markOf, openOf, headOf, countOf, chainWord, linkOf, wordAt, sumTo, Fine, Linked}
 

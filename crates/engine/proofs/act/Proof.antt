@@ -1,4 +1,4 @@
--- Written from Proof.tmpl by 'prove expand': edit that file.
+-- A step on sound links, or on the empty engine.
 use mathlib.Core.Path.{sym, _∙_}
 use borrow.Author.Tests.{not-true, not-false}
 use Rattle.engine.specs.Buffers.{buffers}
@@ -6,53 +6,37 @@ use Rattle.engine.proofs.EmptyLaws.{broken-step, sound-step}
 use borrow.Author.Needs.{needs}
 use Rattle.engine.proofs.act.Statement.{statement}
 use Rattle.engine.proofs.act.Tie as tie
-use Rattle.engine.proofs.act.Reads as reads
-use Rattle.engine.proofs.act.Lts as lts
-use Rattle.engine.proofs.as_empty.Reads as as-empty-reads
-use Rattle.engine.proofs.step.Reads as step-reads
-use Rattle.links.proofs.is_sound.Reads as is-sound-reads
 
--- src/lib.rt:63:9
 is-sound-requires : tie.Need-is-sound-requires
 is-sound-requires c κs = search needs
 
--- src/lib.rt:64:9
 as-empty-requires : tie.Need-as-empty-requires
 as-empty-requires c κs = (c .before .before .before .before .before .before .before .before .before .pre .0, (c .before .before .before .before .before .before .before .before .before .pre .1, sym (c .before .before .before .before .is-sound .ensures) ∙ not-true _ (c .before .before .before .if1 .taken)))
 
--- src/lib.rt:64:9
 same-length : tie.Need-same-length
 same-length c = search needs
 
--- src/lib.rt:64:9
 same-length-2 : tie.Need-same-length-2
 same-length-2 c = search needs
 
--- src/lib.rt:64:9
 same-length-3 : tie.Need-same-length-3
 same-length-3 c = search needs
 
--- src/lib.rt:64:9
 returns : tie.Need-returns
 returns c = broken-step (c .before .before .before .before .before .before .before .before .before .before .before .before .before .before .before .before .args .r) (buffers (c .before .before .before .before .before .before .before .before .before .before .before .before .before .before .before .before .args .p .now) (c .before .before .before .before .before .before .before .before .before .before .before .before .before .before .before .before .args .s .now) (c .before .before .before .before .before .before .before .before .before .before .before .before .before .before .before .before .args .o .now)) _ (sym (c .before .before .before .before .before .before .before .before .before .before .before .is-sound .ensures) ∙ not-true _ (c .before .before .before .before .before .before .before .before .before .before .if1 .taken)) (c .before .before .before .before .before .before .as-empty .ensures)
 
--- src/lib.rt:66:5
 step-requires : tie.Need-step-requires
 step-requires c κs = ((c .before .before .before .before .before .before .before .before .before .pre .0 .0, (c .before .before .before .before .before .before .before .before .before .pre .0 .1 .0, (c .before .before .before .before .before .before .before .before .before .pre .0 .1 .1, sym (c .before .before .before .before .is-sound .ensures) ∙ not-false _ (c .before .before .before .if1 .left)))), c .before .before .before .before .before .before .before .before .before .pre .1)
 
--- src/lib.rt:59:1
 same-length-4 : tie.Need-same-length-4
 same-length-4 c = search needs
 
--- src/lib.rt:59:1
 same-length-5 : tie.Need-same-length-5
 same-length-5 c = search needs
 
--- src/lib.rt:59:1
 same-length-6 : tie.Need-same-length-6
 same-length-6 c = search needs
 
--- src/lib.rt:59:1
 returns-2 : tie.Need-returns-2
 returns-2 c = sound-step (c .before .before .before .before .before .before .before .before .before .before .before .before .before .before .before .before .args .r) (buffers (c .before .before .before .before .before .before .before .before .before .before .before .before .before .before .before .before .args .p .now) (c .before .before .before .before .before .before .before .before .before .before .before .before .before .before .before .before .args .s .now) (c .before .before .before .before .before .before .before .before .before .before .before .before .before .before .before .before .args .o .now)) _ (sym (c .before .before .before .before .before .before .before .before .before .before .before .is-sound .ensures) ∙ not-false _ (c .before .before .before .before .before .before .before .before .before .before .if1 .left)) (c .before .before .before .before .before .before .step .ensures)
 

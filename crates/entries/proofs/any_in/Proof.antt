@@ -1,6 +1,6 @@
--- Written from Proof.tmpl by 'prove expand': edit that file.
-use Prim.Native.Nat.{ℕ, _≤_, _+_, _-_, _*_}
-use mathlib.Core.Path.{_≡_, refl, sym, ap, subst, _∙_}
+-- What is left of the walk finds the same.
+use Prim.Native.Nat.{ℕ, _-_}
+use mathlib.Core.Path.{_≡_, sym, ap, subst, _∙_}
 use native.Mathlib.Omega.{arith}
 use mathlib.Core.Bool.{false}
 use Rattle.links.specs.Chains.{markOf, headOf, countOf, walkOver, Fine, Linked}
@@ -9,10 +9,6 @@ use Rattle.links.proofs.ActLaws.{whole}
 use Rattle.entries.specs.Reading.{fits, takeFit, anyIn}
 use Rattle.entries.proofs.any_in.Statement.{statement}
 use Rattle.entries.proofs.any_in.Tie as tie
-use Rattle.entries.proofs.any_in.Reads as reads
-use Rattle.entries.proofs.any_in.Lts as lts
-use Rattle.links.proofs.chain.Reads as chain-reads
-use Rattle.links.proofs.word.Reads as word-reads
 
 abbrev Inv-loop : tie.InvT-loop
 Inv-loop o i mask key x h₀ n₀ found₀ h n found = Linked o (Fine o i (markOf o)) h n × (walkOver (takeFit mask key) o h n found ≡ anyIn o i mask key)
@@ -20,32 +16,25 @@ Inv-loop o i mask key x h₀ n₀ found₀ h n found = Linked o (Fine o i (markO
 abbrev μ-loop : tie.MeasureT-loop
 μ-loop o i mask key x h₀ n₀ found₀ h n found = n
 
--- src/lib.rt:151:9
 chain-requires : tie.Need-chain-requires Inv-loop μ-loop
 chain-requires c κs = (c .before .pre .0 .0, omega arith)
 
--- src/lib.rt:155:5
 loop-holds : tie.Need-loop-holds Inv-loop μ-loop
 loop-holds c = (subst (λ (x : ℕ). Linked (c .before .before .args .o .now) (Fine (c .before .before .args .o .now) (c .before .before .args .i) (markOf (c .before .before .args .o .now))) (headOf x) (countOf x)) (sym (c .chain .ensures)) ((whole (c .before .before .args .o .now) (c .before .before .pre .0 .1) .woven) .chain (c .before .before .args .i) (omega arith)), ap (λ (x : ℕ). walkOver (takeFit (c .before .before .args .mask) (c .before .before .args .key)) (c .before .before .args .o .now) (headOf x) (countOf x) false) (c .chain .ensures))
 
--- src/lib.rt:156:13
 word-requires : tie.Need-word-requires Inv-loop μ-loop
 word-requires c κs = (c .before .before .before .before .pre .0 .0, (let f = linked-here (c .before .before .before .before .args .o .now) (Fine (c .before .before .before .before .args .o .now) (c .before .before .before .before .args .i) (markOf (c .before .before .before .before .args .o .now))) (c .before .loop .h) (c .before .loop .n) (c .loop-test .taken) (c .before .loop .inv .0) in let m = (whole (c .before .before .before .before .args .o .now) (c .before .before .before .before .pre .0 .1) .woven) .mark in omega arith))
 
--- src/lib.rt:159:9
 sub-n : tie.Need-sub-n Inv-loop μ-loop
 sub-n c = omega arith
 
--- src/lib.rt:155:5
 loop-less : tie.Need-loop-less Inv-loop μ-loop
 loop-less c = omega arith
 
--- src/lib.rt:155:5
 loop-again : tie.Need-loop-again Inv-loop μ-loop
 unfolding fits
 loop-again c = rw (c .word .ensures) (linked-on (c .before .before .before .before .before .args .o .now) (Fine (c .before .before .before .before .before .args .o .now) (c .before .before .before .before .before .args .i) (markOf (c .before .before .before .before .before .args .o .now))) (c .before .before .loop .h) (c .before .before .loop .n) (c .before .loop-test .taken) (c .before .before .loop .inv .0), sym (walk-turn (takeFit (c .before .before .before .before .before .args .mask) (c .before .before .before .before .before .args .key)) (c .before .before .before .before .before .args .o .now) (c .before .before .loop .h) (c .before .before .loop .n) (c .before .before .loop .n - 1) (c .before .before .loop .found) (omega arith)) ∙ c .before .before .loop .inv .1)
 
--- src/lib.rt:147:1
 returns : tie.Need-returns Inv-loop μ-loop
 returns c = sym (walk-end (takeFit (c .before .before .before .before .args .mask) (c .before .before .before .before .args .key)) (c .before .before .before .before .args .o .now) (c .before .loop .h) (c .before .loop .n) (c .before .loop .found) (omega arith)) ∙ c .before .loop .inv .1
 

@@ -1,6 +1,6 @@
--- Written from Proof.tmpl by 'prove expand': edit that file.
-use Prim.Native.Nat.{ℕ, _≤_, _+_, _-_, _*_}
-use mathlib.Core.Path.{_≡_, refl, sym, ap, subst, _∙_}
+-- The set of open instances, and the template.
+use Prim.Native.Nat.{ℕ, _-_}
+use mathlib.Core.Path.{ap, _∙_}
 use native.Mathlib.Omega.{arith}
 use mathlib.Core.Bool.{Bool, cond}
 use Rattle.paper_lower.specs.Sets.{has}
@@ -11,20 +11,13 @@ use Rattle.entries.specs.Reading.{ordersOf}
 use borrow.Author.Needs.{needs}
 use Rattle.entries.proofs.opened.Statement.{statement}
 use Rattle.entries.proofs.opened.Tie as tie
-use Rattle.entries.proofs.opened.Reads as reads
-use Rattle.entries.proofs.opened.Lts as lts
-use Rattle.links.proofs.is_open.Reads as is-open-reads
-use Rattle.links.proofs.template.Reads as template-reads
 
--- src/lib.rt:40:9
 is-open-requires : tie.Need-is-open-requires
 is-open-requires c κs = search needs
 
--- src/lib.rt:41:9
 template-requires : tie.Need-template-requires
 template-requires c κs = search needs
 
--- src/lib.rt:36:1
 returns : tie.Need-returns
 unfolding ordersOf
 returns c = (ap (λ (b : Bool). cond b (just (c .template .result)) none) (c .before .is-open .ensures) ∙ ap (λ (j : ℕ). cond (has (openOf (c .before .before .before .args .o .now)) (c .before .before .before .args .i)) (just j) none) (c .template .ensures) ∙ template-is (c .before .before .before .args .o .now) (c .before .before .before .args .i) (c .before .before .before .pre .1), (let e = c .template .ensures in omega arith))

@@ -1,4 +1,4 @@
--- Written from Proof.tmpl by 'prove expand': edit that file.
+-- A closed instance has no entries.
 use mathlib.Core.Bool.{false}
 use Rattle.links.proofs.ActLaws.{whole}
 use Rattle.entries.proofs.OwnLaws.{closed-none}
@@ -6,19 +6,13 @@ use Rattle.entries.proofs.ActLaws.{opened-there, opens}
 use borrow.Author.Needs.{needs}
 use Rattle.entries.proofs.set_opened.Statement.{statement}
 use Rattle.entries.proofs.set_opened.Tie as tie
-use Rattle.entries.proofs.set_opened.Reads as reads
-use Rattle.entries.proofs.set_opened.Lts as lts
-use Rattle.links.proofs.open_chain.Reads as open-chain-reads
 
--- src/lib.rt:49:5
 open-chain-requires : tie.Need-open-chain-requires
 open-chain-requires c κs = (c .before .before .pre .0 .0, (c .before .before .pre .0 .1, (opened-there (c .before .before .args .o .now) (c .before .before .args .i) false (c .before .before .pre .1 .1 .0) (c .before .before .pre .1 .0), c .before .before .pre .1 .1)))
 
--- src/lib.rt:45:1
 same-length : tie.Need-same-length
 same-length c = search needs
 
--- src/lib.rt:45:1
 returns : tie.Need-returns
 returns c = opens (c .before .before .before .before .before .args .i) (c .before .before .before .before .before .pre .1 .1 .0) (c .before .before .before .before .before .args .o .now) _ (whole (c .before .before .before .before .before .args .o .now) (c .before .before .before .before .before .pre .0 .1) .woven) (c .before .before .before .before .before .args .j) (closed-none (c .before .before .before .before .before .args .o .now) (c .before .before .before .before .before .args .i) (c .before .before .before .before .before .pre .1 .1 .0) (opened-there (c .before .before .before .before .before .args .o .now) (c .before .before .before .before .before .args .i) false (c .before .before .before .before .before .pre .1 .1 .0) (c .before .before .before .before .before .pre .1 .0))) (c .before .before .open-chain .ensures)
 

@@ -1,4 +1,4 @@
--- Written from Proof.tmpl by 'prove expand': edit that file.
+-- The word itself where the chain is read, and 0 where it is not.
 use Prim.Native.Nat.{_+_}
 use mathlib.Core.Bool.{Bool, cond}
 use mathlib.Core.Path.{sym, ap, _∙_}
@@ -9,36 +9,25 @@ use Rattle.links.proofs.ReadLaws.{chain-read, read-past, read-closed}
 use borrow.Author.Needs.{needs}
 use Rattle.links.proofs.chain.Statement.{statement}
 use Rattle.links.proofs.chain.Tie as tie
-use Rattle.links.proofs.chain.Reads as reads
-use Rattle.links.proofs.chain.Lts as lts
-use Rattle.links.proofs.is_open.Reads as is-open-reads
-use Rattle.links.proofs.pick.Reads as pick-reads
 
--- src/lib.rt:69:15
 add-x : tie.Need-add-x
 add-x c = search needs
 
--- src/lib.rt:69:13
 mul-x : tie.Need-mul-x
 mul-x c = search needs
 
--- src/lib.rt:69:13
 shared-slice-read-x : tie.Need-shared-slice-read-x
 shared-slice-read-x c = search needs
 
--- src/lib.rt:71:9
 returns : tie.Need-returns
 returns c = sym (chain-read (c .before .before .before .args .o .now) (c .before .before .before .args .i) (read-past (c .before .before .before .args .o .now) (c .before .before .before .args .i) (c .if1 .taken)))
 
--- src/lib.rt:73:9
 is-open-requires : tie.Need-is-open-requires
 is-open-requires c κs = search needs
 
--- src/lib.rt:74:5
 pick-requires : tie.Need-pick-requires
 pick-requires c κs = search needs
 
--- src/lib.rt:65:1
 returns-2 : tie.Need-returns-2
 unfolding chainWord
 returns-2 c = c .pick .ensures ∙ ap (λ (b : Bool). cond b (getD (c .before .before .before .before .before .args .o .now) (66 + c .before .before .before .before .before .args .i) 0) 0) (c .before .is-open .ensures ∙ sym (read-closed (c .before .before .before .before .before .args .o .now) (c .before .before .before .before .before .args .i) (omega arith)))

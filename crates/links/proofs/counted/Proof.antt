@@ -1,4 +1,4 @@
--- Written from Proof.tmpl by 'prove expand': edit that file.
+-- Not read, too many, or walked.
 use Prim.Native.Nat.{ℕ}
 use mathlib.Core.Path.{sym, subst, _∙_}
 use native.Mathlib.Omega.{arith}
@@ -9,48 +9,34 @@ use Rattle.links.proofs.CheckLaws.{not-read, too-many, walked}
 use borrow.Author.Needs.{needs}
 use Rattle.links.proofs.counted.Statement.{statement}
 use Rattle.links.proofs.counted.Tie as tie
-use Rattle.links.proofs.counted.Reads as reads
-use Rattle.links.proofs.counted.Lts as lts
-use Rattle.links.proofs.chain_sound.Reads as chain-sound-reads
-use Rattle.links.proofs.pick.Reads as pick-reads
 
--- src/lib.rt:144:9
 returns : tie.Need-returns
 returns c = not-read (c .before .before .args .o .now) (c .before .before .args .m) (c .before .before .args .i) (c .before .before .args .n) (c .before .before .pre .1 .1 .1 .0) (c .before .before .pre .1 .1 .0) (sym (c .before .before .pre .1 .1 .1 .1) ∙ not-true _ (c .if1 .taken))
 
--- src/lib.rt:146:15
 add-x : tie.Need-add-x
 add-x c = search needs
 
--- src/lib.rt:146:13
 mul-x : tie.Need-mul-x
 mul-x c = search needs
 
--- src/lib.rt:146:13
 shared-slice-read-x : tie.Need-shared-slice-read-x
 shared-slice-read-x c = search needs
 
--- src/lib.rt:147:15
 add-all : tie.Need-add-all
 add-all c = search needs
 
--- src/lib.rt:149:9
 returns-2 : tie.Need-returns-2
 returns-2 c = too-many (c .before .before .before .before .args .o .now) (c .before .before .before .before .args .m) (c .before .before .before .before .args .i) (c .before .before .before .before .args .n) _ (let e = chain-read (c .before .before .before .before .args .o .now) (c .before .before .before .before .args .i) (sym (c .before .before .before .before .pre .1 .1 .1 .1) ∙ not-false _ (c .before .before .if1 .left)) in omega arith) (c .if2 .taken)
 
--- src/lib.rt:151:9
 chain-sound-requires : tie.Need-chain-sound-requires
 chain-sound-requires c κs = (c .before .before .before .before .pre .0, (c .before .before .before .before .pre .1 .0, (c .before .before .before .before .pre .1 .1 .1 .0, ((sym (c .before .before .before .before .pre .1 .1 .1 .1) ∙ not-false _ (c .before .before .if1 .left)), sym (chain-read (c .before .before .before .before .args .o .now) (c .before .before .before .before .args .i) (sym (c .before .before .before .before .pre .1 .1 .1 .1) ∙ not-false _ (c .before .before .if1 .left)))))))
 
--- src/lib.rt:152:22
 add-pick : tie.Need-add-pick
 add-pick c = search needs
 
--- src/lib.rt:152:5
 pick-requires : tie.Need-pick-requires
 pick-requires c κs = search needs
 
--- src/lib.rt:139:1
 returns-3 : tie.Need-returns-3
 returns-3 c = subst (λ (r : ℕ). Counted (c .before .before .before .before .before .before .args .o .now) (c .before .before .before .before .before .before .args .m) (c .before .before .before .before .before .before .args .i) (c .before .before .before .before .before .before .args .n) r) (sym (c .pick .ensures)) (walked (c .before .before .before .before .before .before .args .o .now) (c .before .before .before .before .before .before .args .m) (c .before .before .before .before .before .before .args .i) (c .before .before .before .before .before .before .args .n) _ (c .before .chain-sound .result) (c .before .before .before .before .before .before .pre .1 .0) (omega arith) (let e = chain-read (c .before .before .before .before .before .before .args .o .now) (c .before .before .before .before .before .before .args .i) (sym (c .before .before .before .before .before .before .pre .1 .1 .1 .1) ∙ not-false _ (c .before .before .before .before .if1 .left)) in omega arith) (c .before .chain-sound .ensures))
 

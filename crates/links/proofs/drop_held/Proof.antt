@@ -1,22 +1,15 @@
--- Written from Proof.tmpl by 'prove expand': edit that file.
-use borrow.Author.Needs.{needs}
+-- At each turn the stacks come to the same once the rest is carried.
 use native.Mathlib.Omega.{arith}
-use Prim.Native.Nat.{_%_, _-_, _/_}
-use mathlib.Core.Bool.{Bool, cond, _||_}
-use mathlib.Core.List.{[]}
-use mathlib.Core.Path.{_≡_, refl, sym, ap, _∙_}
+use Prim.Native.Nat.{_%_, _-_}
+use mathlib.Core.Bool.{cond, _||_}
+use mathlib.Core.Path.{_≡_, refl, _∙_}
 use lib.Dec.{eqb}
-use Rattle.paper_lower.specs.Lists.{keep, each}
-use Rattle.paper_upper.specs.Orders.{tasksDone}
+use Rattle.paper_lower.specs.Lists.{keep}
 use Rattle.links.specs.Chains.{countOf, chainWord}
-use Rattle.links.specs.Stacks.{Still, payloadsIn, revOnto, stays, turnedLoad, entryFrom}
-use Rattle.links.proofs.CarryLaws.{still-refl, still-step, count-step, off-drop, drop-step, turn-step, back-step, done-step, done-none, none-left, dropped, all-turned, restored}
+use Rattle.links.specs.Stacks.{Still, payloadsIn, revOnto, stays}
+use Rattle.links.proofs.CarryLaws.{still-refl, still-step, count-step, off-drop, drop-step, dropped}
 use Rattle.links.proofs.drop_held.Statement.{statement}
 use Rattle.links.proofs.drop_held.Tie as tie
-use Rattle.links.proofs.drop_held.Reads as reads
-use Rattle.links.proofs.drop_held.Lts as lts
-use Rattle.links.proofs.count.Reads as count-reads
-use Rattle.links.proofs.drop_one.Reads as drop-one-reads
 
 abbrev Inv-loop : tie.InvT-loop
 Inv-loop o₀ i all key n₀ o n = Still i o₀ o × ((n ≡ countOf (chainWord o i)) × (revOnto (keep (stays all key) (payloadsIn o i)) (payloadsIn o 65) ≡ revOnto (keep (stays all key) (payloadsIn o₀ i)) (payloadsIn o₀ 65)))
@@ -24,35 +17,27 @@ Inv-loop o₀ i all key n₀ o n = Still i o₀ o × ((n ≡ countOf (chainWord 
 abbrev μ-loop : tie.MeasureT-loop
 μ-loop o₀ i all key n₀ o n = n
 
--- src/lib.rt:316:9
 count-requires : tie.Need-count-requires Inv-loop μ-loop
 count-requires c κs = (c .before .before .pre .0, omega arith)
 
--- src/lib.rt:317:5
 loop-holds : tie.Need-loop-holds Inv-loop μ-loop
 loop-holds c = (still-refl (c .before .before .before .args .i) (c .before .before .before .args .o .now) (c .before .before .before .pre .1 .0), (c .count .ensures, refl))
 
--- src/lib.rt:318:9
 drop-one-requires : tie.Need-drop-one-requires Inv-loop μ-loop
 drop-one-requires c κs = (c .before .before .loop .inv .0 .beside .room ∙ c .before .before .before .before .before .before .pre .0, (c .before .before .loop .inv .0 .woven, (c .before .before .before .before .before .before .pre .1 .1, (let e = c .before .before .loop .inv .1 .0 in omega arith))))
 
--- src/lib.rt:319:9
 sub-n : tie.Need-sub-n Inv-loop μ-loop
 sub-n c = omega arith
 
--- src/lib.rt:317:5
 loop-less : tie.Need-loop-less Inv-loop μ-loop
 loop-less c = omega arith
 
--- src/lib.rt:317:5
 loop-again : tie.Need-loop-again Inv-loop μ-loop
 loop-again c = (still-step (c .before .before .before .before .before .before .before .before .before .args .i) (c .before .before .before .before .before .before .before .before .before .args .i) (cond (c .before .before .before .before .before .before .before .before .before .args .all || eqb (c .before .before .drop-one .result % 16384) (c .before .before .before .before .before .before .before .before .before .args .key)) 64 65) (c .before .before .drop-one .result) (c .before .before .drop-one .result) (c .before .before .before .before .before .before .before .before .before .args .o .now) _ _ (off-drop (c .before .before .before .before .before .before .before .before .before .args .i) (c .before .before .before .before .before .before .before .before .before .args .all || eqb (c .before .before .drop-one .result % 16384) (c .before .before .before .before .before .before .before .before .before .args .key))) (c .before .before .before .before .before .loop .inv .0) (c .before .before .drop-one .ensures), ((let e = c .before .before .before .before .before .loop .inv .1 .0 in let d = count-step (c .before .before .before .before .before .before .before .before .before .args .i) (cond (c .before .before .before .before .before .before .before .before .before .args .all || eqb (c .before .before .drop-one .result % 16384) (c .before .before .before .before .before .before .before .before .before .args .key)) 64 65) (c .before .before .drop-one .result) (c .before .before .drop-one .result) _ _ (c .before .before .drop-one .ensures) in omega arith), drop-step (c .before .before .before .before .before .before .before .before .before .args .i) (c .before .before .before .before .before .before .before .before .before .args .all) (c .before .before .before .before .before .before .before .before .before .args .key) (c .before .before .drop-one .result) _ _ (c .before .before .before .before .before .before .before .before .before .pre .1 .1) (c .before .before .drop-one .ensures) ∙ c .before .before .before .before .before .loop .inv .1 .1))
 
--- src/lib.rt:312:1
 same-length : tie.Need-same-length Inv-loop μ-loop
 same-length c = c .before .loop .inv .0 .beside .room
 
--- src/lib.rt:312:1
 returns : tie.Need-returns Inv-loop μ-loop
 returns c = dropped (c .before .before .before .before .before .args .i) (c .before .before .before .before .before .args .all) (c .before .before .before .before .before .args .key) (c .before .before .before .before .before .args .o .now) _ (c .before .loop .inv .0) (let e = c .before .loop .inv .1 .0 in omega arith) (c .before .loop .inv .1 .1)
 

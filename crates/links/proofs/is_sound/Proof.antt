@@ -1,4 +1,4 @@
--- Written from Proof.tmpl by 'prove expand': edit that file.
+-- The free chain, that of those set aside, and then the instances.
 use mathlib.Core.Path.{sym}
 use native.Mathlib.Omega.{arith}
 use borrow.Author.Tests.{lt-ltb}
@@ -9,45 +9,32 @@ use Rattle.links.proofs.CheckLaws.{one-fails, all-sound}
 use borrow.Author.Needs.{needs}
 use Rattle.links.proofs.is_sound.Statement.{statement}
 use Rattle.links.proofs.is_sound.Tie as tie
-use Rattle.links.proofs.is_sound.Reads as reads
-use Rattle.links.proofs.is_sound.Lts as lts
-use Rattle.links.proofs.counted.Reads as counted-reads
-use Rattle.links.proofs.orders_sound.Reads as orders-sound-reads
 
--- src/lib.rt:179:13
 shared-slice-read-m : tie.Need-shared-slice-read-m
 shared-slice-read-m c = search needs
 
--- src/lib.rt:181:9
 returns : tie.Need-returns
 unfolding soundOf
 returns c = rw (lt-ltb _ _ (c .if1 .taken))
 
--- src/lib.rt:183:9
 counted-requires : tie.Need-counted-requires
 counted-requires c κs = (c .before .before .before .pre, (c .if1 .left, (omega arith, (omega arith, sym (read-past (c .before .before .before .args .o .now) 64 (omega arith))))))
 
--- src/lib.rt:185:9
 returns-2 : tie.Need-returns-2
 returns-2 c = one-fails (c .before .before .before .before .before .args .o .now) (c .before .before .if1 .left) 64 0 (c .before .counted .result) (omega arith) (omega arith) (c .before .counted .ensures) (c .if2 .taken)
 
--- src/lib.rt:187:9
 counted-requires-2 : tie.Need-counted-requires-2
 counted-requires-2 c κs = (c .before .before .before .before .before .pre, (c .before .before .if1 .left, (c .if2 .left, (omega arith, sym (read-past (c .before .before .before .before .before .args .o .now) 65 (omega arith))))))
 
--- src/lib.rt:189:9
 returns-3 : tie.Need-returns-3
 returns-3 c = one-fails (c .before .before .before .before .before .before .before .args .o .now) (c .before .before .before .before .if1 .left) 65 (c .before .before .before .counted .result) (c .before .counted2 .result) (omega arith) (let e = c .before .before .before .counted .ensures .fits (c .before .before .if2 .left) .0 in let s = sum-ge (λ i. countOf (chainWord (c .before .before .before .before .before .before .before .args .o .now) i)) 64 65 (omega arith) in omega arith) (c .before .counted2 .ensures) (c .if3 .taken)
 
--- src/lib.rt
 shared-slice-read-orders-sound : tie.Need-shared-slice-read-orders-sound
 shared-slice-read-orders-sound c = search needs
 
--- src/lib.rt:191:5
 orders-sound-requires : tie.Need-orders-sound-requires
 orders-sound-requires c κs = search needs
 
--- src/lib.rt:175:1
 returns-4 : tie.Need-returns-4
 returns-4 c = all-sound (c .before .before .before .before .before .before .before .before .before .args .o .now) (c .before .before .before .before .before .before .if1 .left) (c .before .before .before .before .before .counted .result) (c .before .before .before .counted2 .result) (c .orders-sound .result) (c .before .before .before .before .before .counted .ensures) (c .before .before .before .before .if2 .left) (c .before .before .before .counted2 .ensures) (c .before .before .if3 .left) (c .orders-sound .ensures)
 

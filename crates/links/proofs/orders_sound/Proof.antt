@@ -1,4 +1,4 @@
--- Written from Proof.tmpl by 'prove expand': edit that file.
+-- The bits that are left are those of the instances not yet looked at.
 use Prim.Native.Nat.{_≤_, _<_}
 use mathlib.Core.Path.{sym, subst, _∙_}
 use native.Mathlib.Omega.{arith}
@@ -7,9 +7,6 @@ use Rattle.links.proofs.ReadLaws.{read-closed}
 use Rattle.links.proofs.CheckLaws.{Left, all-left, one-less, here, below, SoFar, start, more, fails, ends}
 use Rattle.links.proofs.orders_sound.Statement.{statement}
 use Rattle.links.proofs.orders_sound.Tie as tie
-use Rattle.links.proofs.orders_sound.Reads as reads
-use Rattle.links.proofs.orders_sound.Lts as lts
-use Rattle.links.proofs.counted.Reads as counted-reads
 
 abbrev Inv-loop : tie.InvT-loop
 Inv-loop o m s opened rest₀ i₀ n₀ rest i n = (i ≤ 64) × ((n ≤ m) × (SoFar o m s i n × ((openOf o < 18446744073709551616) × Left (openOf o) i rest)))
@@ -17,31 +14,24 @@ Inv-loop o m s opened rest₀ i₀ n₀ rest i n = (i ≤ 64) × ((n ≤ m) × (
 abbrev μ-loop : tie.MeasureT-loop
 μ-loop o m s opened rest₀ i₀ n₀ rest i n = rest
 
--- src/lib.rt:163:5
 loop-holds : tie.Need-loop-holds Inv-loop μ-loop
 loop-holds c = (omega arith, (c .before .pre .1 .1 .0, (start (c .before .args .o .now) (c .before .args .m) (c .before .args .s), (omega arith, subst (Left (openOf (c .before .args .o .now)) 0) (sym (c .before .pre .1 .1 .1)) (all-left (openOf (c .before .args .o .now)))))))
 
--- src/lib.rt:164:9
 counted-requires : tie.Need-counted-requires Inv-loop μ-loop
 counted-requires c κs = (c .before .before .before .pre .0, (c .before .before .before .pre .1 .0, (c .before .loop .inv .1 .0, ((let z = below (openOf (c .before .before .before .args .o .now)) (c .before .loop .i) (c .before .loop .rest) (c .before .loop .inv .1 .1 .1 .0) (c .before .loop .inv .1 .1 .1 .1) (c .loop-test .taken) in omega arith), here (openOf (c .before .before .before .args .o .now)) (c .before .loop .i) (c .before .loop .rest) (c .before .loop .inv .1 .1 .1 .1) ∙ sym (read-closed (c .before .before .before .args .o .now) (c .before .loop .i) (below (openOf (c .before .before .before .args .o .now)) (c .before .loop .i) (c .before .loop .rest) (c .before .loop .inv .1 .1 .1 .0) (c .before .loop .inv .1 .1 .1 .1) (c .loop-test .taken)))))))
 
--- src/lib.rt:166:13
 returns : tie.Need-returns Inv-loop μ-loop
 returns c = fails (c .before .before .before .before .before .args .o .now) (c .before .before .before .before .before .args .m) (c .before .before .before .before .before .args .s) (c .before .before .before .loop .i) (c .before .before .before .loop .n) (c .before .counted .result) (below (openOf (c .before .before .before .before .before .args .o .now)) (c .before .before .before .loop .i) (c .before .before .before .loop .rest) (c .before .before .before .loop .inv .1 .1 .1 .0) (c .before .before .before .loop .inv .1 .1 .1 .1) (c .before .before .loop-test .taken)) (c .before .before .before .loop .inv .1 .1 .0) (c .before .counted .ensures) (c .if1 .taken)
 
--- src/lib.rt:169:9
 add-i : tie.Need-add-i Inv-loop μ-loop
 add-i c = let z = below (openOf (c .before .before .before .before .before .args .o .now)) (c .before .before .before .loop .i) (c .before .before .before .loop .rest) (c .before .before .before .loop .inv .1 .1 .1 .0) (c .before .before .before .loop .inv .1 .1 .1 .1) (c .before .before .loop-test .taken) in omega arith
 
--- src/lib.rt:163:5
 loop-less : tie.Need-loop-less Inv-loop μ-loop
 loop-less c = omega arith
 
--- src/lib.rt:163:5
 loop-again : tie.Need-loop-again Inv-loop μ-loop
 loop-again c = ((let z = below (openOf (c .before .before .before .before .before .args .o .now)) (c .before .before .before .loop .i) (c .before .before .before .loop .rest) (c .before .before .before .loop .inv .1 .1 .1 .0) (c .before .before .before .loop .inv .1 .1 .1 .1) (c .before .before .loop-test .taken) in omega arith), (c .if1 .left, (more (c .before .before .before .before .before .args .o .now) (c .before .before .before .before .before .args .m) (c .before .before .before .before .before .args .s) (c .before .before .before .loop .i) (c .before .before .before .loop .n) (c .before .counted .result) (c .before .before .before .loop .inv .1 .1 .0) (c .before .counted .ensures) (c .if1 .left), (c .before .before .before .loop .inv .1 .1 .1 .0, one-less (openOf (c .before .before .before .before .before .args .o .now)) (c .before .before .before .loop .i) (c .before .before .before .loop .rest) (c .before .before .before .loop .inv .1 .1 .1 .1)))))
 
--- src/lib.rt:156:1
 returns-2 : tie.Need-returns-2 Inv-loop μ-loop
 returns-2 c = ends (c .before .before .before .args .o .now) (c .before .before .before .args .m) (c .before .before .before .args .s) (c .before .loop .i) (c .before .loop .n) (c .before .loop .rest) (c .before .loop .inv .0) (c .before .loop .inv .1 .1 .0) (c .before .loop .inv .1 .1 .1 .1) (omega arith)
 

@@ -1,5 +1,4 @@
--- Written from Proof.tmpl by 'prove expand': edit that file.
--- Written from Proof.tmpl by 'prove expand': edit that file.
+-- The entry links to the head before it.
 use Rattle.links.proofs.ReadLaws.{chain-read}
 use lib.ListN.{getD}
 use Prim.Native.Nat.{_+_}
@@ -9,86 +8,64 @@ use Rattle.links.proofs.StackLaws.{pushed-at}
 use borrow.Author.Needs.{needs}
 use Rattle.links.proofs.push.Statement.{statement}
 use Rattle.links.proofs.push.Tie as tie
-use Rattle.links.proofs.push.Reads as reads
-use Rattle.links.proofs.push.Lts as lts
 
--- src/lib.rt:239:15
 add-x : tie.Need-add-x
 add-x c = search needs
 
--- src/lib.rt:239:13
 mul-x : tie.Need-mul-x
 mul-x c = search needs
 
--- src/lib.rt:239:13
 slice-read-x : tie.Need-slice-read-x
 slice-read-x c = search needs
 
--- src/lib.rt:240:39
 mul-o : tie.Need-mul-o
 mul-o c = search needs
 
--- src/lib.rt:240:30
 add-o : tie.Need-add-o
 add-o c = search needs
 
--- src/lib.rt:240:61
 mul-o-2 : tie.Need-mul-o-2
 mul-o-2 c = search needs
 
--- src/lib.rt:240:30
 add-o-2 : tie.Need-add-o-2
 add-o-2 c = search needs
 
--- src/lib.rt:240:70
 mul-o-3 : tie.Need-mul-o-3
 mul-o-3 c = search needs
 
--- src/lib.rt:240:30
 add-o-3 : tie.Need-add-o-3
 add-o-3 c = search needs
 
--- src/lib.rt:240:7
 add-o-4 : tie.Need-add-o-4
 add-o-4 c = search needs
 
--- src/lib.rt:240:5
 mul-o-4 : tie.Need-mul-o-4
 mul-o-4 c = search needs
 
--- src/lib.rt:240:5
 slice-write-o : tie.Need-slice-write-o
 slice-write-o c = search needs
 
--- src/lib.rt:241:42
 add-o-5 : tie.Need-add-o-5
 add-o-5 c = search needs
 
--- src/lib.rt:241:34
 mul-o-5 : tie.Need-mul-o-5
 mul-o-5 c = search needs
 
--- src/lib.rt:241:30
 add-o-6 : tie.Need-add-o-6
 add-o-6 c = search needs
 
--- src/lib.rt:241:7
 add-o-7 : tie.Need-add-o-7
 add-o-7 c = search needs
 
--- src/lib.rt:241:5
 mul-o-6 : tie.Need-mul-o-6
 mul-o-6 c = search needs
 
--- src/lib.rt:241:5
 slice-write-o-2 : tie.Need-slice-write-o-2
 slice-write-o-2 c = rw (length-set (c .before .args .o .now) (195 + c .before .args .k) _) (omega arith)
 
--- src/lib.rt:235:1
 same-length : tie.Need-same-length
 same-length c = search needs
 
--- src/lib.rt:235:1
 returns : tie.Need-returns
 returns c = pushed-at (c .before .args .o .now) (c .before .pre .0) (c .before .args .k) (c .before .pre .1 .0) (c .before .args .i) (c .before .pre .1 .1 .0) (c .before .args .p) (c .before .pre .1 .1 .1 .0) (c .before .pre .1 .1 .1 .1) (getD (c .before .args .o .now) (66 + c .before .args .i) 0) (chain-read (c .before .args .o .now) (c .before .args .i) (c .before .pre .1 .1 .1 .1))
 

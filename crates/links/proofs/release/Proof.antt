@@ -1,55 +1,40 @@
--- Written from Proof.tmpl by 'prove expand': edit that file.
+-- Those that fit become free, and the others are put back in their order.
 use Prim.Native.Nat.{_+_}
 use mathlib.Core.Path.{_∙_}
-use native.Mathlib.Omega.{arith}
 use lib.ListN.{length-set}
 use Rattle.links.proofs.ReadLaws.{read-same, read-open}
 use Rattle.links.proofs.ActLaws.{whole, released}
 use borrow.Author.Needs.{needs}
 use Rattle.links.proofs.release.Statement.{statement}
 use Rattle.links.proofs.release.Tie as tie
-use Rattle.links.proofs.release.Reads as reads
-use Rattle.links.proofs.release.Lts as lts
-use Rattle.links.proofs.drop_held.Reads as drop-held-reads
-use Rattle.links.proofs.put_back.Reads as put-back-reads
 
--- src/lib.rt:339:28
 mul-drop-held : tie.Need-mul-drop-held
 mul-drop-held c = search needs
 
--- src/lib.rt:339:36
 mul-drop-held-2 : tie.Need-mul-drop-held-2
 mul-drop-held-2 c = search needs
 
--- src/lib.rt:339:28
 add-drop-held : tie.Need-add-drop-held
 add-drop-held c = search needs
 
--- src/lib.rt:339:5
 drop-held-requires : tie.Need-drop-held-requires
 drop-held-requires c κs = (c .before .before .pre .0, (whole (c .before .before .args .o .now) (c .before .before .pre .1 .0) .woven, c .before .before .pre .1 .1 .1 .0))
 
--- src/lib.rt:340:9
 put-back-requires : tie.Need-put-back-requires
 put-back-requires c κs = (c .before .before .before .drop-held .ensures .still .beside .room ∙ c .before .before .before .before .before .before .pre .0, (c .before .before .before .drop-held .ensures .still .woven, (c .before .before .before .before .before .before .pre .1 .1 .1 .0, (read-same (c .before .before .before .before .before .before .args .o .now) _ (c .before .before .before .before .before .before .args .i) (c .before .before .before .drop-held .ensures .still .beside .opens) ∙ read-open (c .before .before .before .before .before .before .args .o .now) (c .before .before .before .before .before .before .args .i) (c .before .before .before .before .before .before .pre .1 .1 .0), c .before .before .before .drop-held .ensures .own))))
 
--- src/lib.rt:341:7
 add-o : tie.Need-add-o
 add-o c = search needs
 
--- src/lib.rt:341:5
 mul-o : tie.Need-mul-o
 mul-o c = search needs
 
--- src/lib.rt:341:5
 slice-write-o : tie.Need-slice-write-o
 slice-write-o c = search needs
 
--- src/lib.rt:335:1
 same-length : tie.Need-same-length
 same-length c = length-set (c .before .before .put-back .last .0) (132 + c .before .before .before .before .before .before .before .before .before .args .i) (c .before .before .put-back .result) ∙ (c .before .before .put-back .ensures .still .beside .room ∙ c .before .before .before .before .before .before .drop-held .ensures .still .beside .room)
 
--- src/lib.rt:335:1
 returns : tie.Need-returns
 returns c = released (c .before .before .before .before .before .before .before .before .before .args .o .now) _ _ (c .before .before .before .before .before .before .before .before .before .args .i) (c .before .before .before .before .before .before .before .before .before .args .t) (c .before .before .before .before .before .before .before .before .before .args .a) (c .before .before .put-back .result) (c .before .before .before .before .before .before .before .before .before .pre .0) (whole (c .before .before .before .before .before .before .before .before .before .args .o .now) (c .before .before .before .before .before .before .before .before .before .pre .1 .0)) (c .before .before .before .before .before .before .before .before .before .pre .1 .1 .1 .0) (c .before .before .before .before .before .before .before .before .before .pre .1 .1 .1 .1 .0) (c .before .before .before .before .before .before .before .before .before .pre .1 .1 .1 .1 .1) (c .before .before .before .before .before .before .before .before .before .pre .1 .1 .0) (c .before .before .before .before .before .before .drop-held .ensures) (c .before .before .put-back .ensures)
 

@@ -1,22 +1,13 @@
--- Written from Proof.tmpl by 'prove expand': edit that file.
-use borrow.Author.Needs.{needs}
+-- At each turn the stacks come to the same once the rest is turned.
 use native.Mathlib.Omega.{arith}
-use Prim.Native.Nat.{_%_, _-_, _/_}
-use mathlib.Core.Bool.{Bool, cond, _||_}
-use mathlib.Core.List.{[]}
-use mathlib.Core.Path.{_≡_, refl, sym, ap, _∙_}
-use lib.Dec.{eqb}
-use Rattle.paper_lower.specs.Lists.{keep, each}
-use Rattle.paper_upper.specs.Orders.{tasksDone}
+use Prim.Native.Nat.{_-_}
+use mathlib.Core.Path.{_≡_, refl, _∙_}
+use Rattle.paper_lower.specs.Lists.{each}
 use Rattle.links.specs.Chains.{countOf, chainWord}
-use Rattle.links.specs.Stacks.{Still, payloadsIn, revOnto, stays, turnedLoad, entryFrom}
-use Rattle.links.proofs.CarryLaws.{still-refl, still-step, count-step, off-drop, drop-step, turn-step, back-step, done-step, done-none, none-left, dropped, all-turned, restored}
+use Rattle.links.specs.Stacks.{Still, payloadsIn, revOnto, turnedLoad}
+use Rattle.links.proofs.CarryLaws.{still-refl, still-step, count-step, turn-step, all-turned}
 use Rattle.links.proofs.turn_held.Statement.{statement}
 use Rattle.links.proofs.turn_held.Tie as tie
-use Rattle.links.proofs.turn_held.Reads as reads
-use Rattle.links.proofs.turn_held.Lts as lts
-use Rattle.links.proofs.count.Reads as count-reads
-use Rattle.links.proofs.turn_one.Reads as turn-one-reads
 
 abbrev Inv-loop : tie.InvT-loop
 Inv-loop o₀ i key n₀ o n = Still i o₀ o × ((n ≡ countOf (chainWord o i)) × (revOnto (each (turnedLoad key) (payloadsIn o i)) (payloadsIn o 65) ≡ revOnto (each (turnedLoad key) (payloadsIn o₀ i)) (payloadsIn o₀ 65)))
@@ -24,35 +15,27 @@ Inv-loop o₀ i key n₀ o n = Still i o₀ o × ((n ≡ countOf (chainWord o i)
 abbrev μ-loop : tie.MeasureT-loop
 μ-loop o₀ i key n₀ o n = n
 
--- src/lib.rt:327:9
 count-requires : tie.Need-count-requires Inv-loop μ-loop
 count-requires c κs = (c .before .before .pre .0, omega arith)
 
--- src/lib.rt:328:5
 loop-holds : tie.Need-loop-holds Inv-loop μ-loop
 loop-holds c = (still-refl (c .before .before .before .args .i) (c .before .before .before .args .o .now) (c .before .before .before .pre .1 .0), (c .count .ensures, refl))
 
--- src/lib.rt:329:9
 turn-one-requires : tie.Need-turn-one-requires Inv-loop μ-loop
 turn-one-requires c κs = (c .before .before .loop .inv .0 .beside .room ∙ c .before .before .before .before .before .before .pre .0, (c .before .before .loop .inv .0 .woven, (c .before .before .before .before .before .before .pre .1 .1 .0, ((let e = c .before .before .loop .inv .1 .0 in omega arith), c .before .before .before .before .before .before .pre .1 .1 .1))))
 
--- src/lib.rt:330:9
 sub-n : tie.Need-sub-n Inv-loop μ-loop
 sub-n c = omega arith
 
--- src/lib.rt:328:5
 loop-less : tie.Need-loop-less Inv-loop μ-loop
 loop-less c = omega arith
 
--- src/lib.rt:328:5
 loop-again : tie.Need-loop-again Inv-loop μ-loop
 loop-again c = (still-step (c .before .before .before .before .before .before .before .before .before .args .i) (c .before .before .before .before .before .before .before .before .before .args .i) 65 (c .before .before .turn-one .result) (turnedLoad (c .before .before .before .before .before .before .before .before .before .args .key) (c .before .before .turn-one .result)) (c .before .before .before .before .before .before .before .before .before .args .o .now) _ _ (λ x h d. (d, λ e. omega arith)) (c .before .before .before .before .before .loop .inv .0) (c .before .before .turn-one .ensures), ((let e = c .before .before .before .before .before .loop .inv .1 .0 in let d = count-step (c .before .before .before .before .before .before .before .before .before .args .i) 65 (c .before .before .turn-one .result) (turnedLoad (c .before .before .before .before .before .before .before .before .before .args .key) (c .before .before .turn-one .result)) _ _ (c .before .before .turn-one .ensures) in omega arith), turn-step (c .before .before .before .before .before .before .before .before .before .args .i) (c .before .before .before .before .before .before .before .before .before .args .key) (c .before .before .turn-one .result) _ _ (c .before .before .before .before .before .before .before .before .before .pre .1 .1 .0) (c .before .before .turn-one .ensures) ∙ c .before .before .before .before .before .loop .inv .1 .1))
 
--- src/lib.rt:323:1
 same-length : tie.Need-same-length Inv-loop μ-loop
 same-length c = c .before .loop .inv .0 .beside .room
 
--- src/lib.rt:323:1
 returns : tie.Need-returns Inv-loop μ-loop
 returns c = all-turned (c .before .before .before .before .before .args .i) (c .before .before .before .before .before .args .key) (c .before .before .before .before .before .args .o .now) _ (c .before .loop .inv .0) (let e = c .before .loop .inv .1 .0 in omega arith) (c .before .loop .inv .1 .1)
 

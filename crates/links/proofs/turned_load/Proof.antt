@@ -1,23 +1,18 @@
--- Written from Proof.tmpl by 'prove expand': edit that file.
+-- The done bit where the entry is the key's.
 use native.Mathlib.Omega.{arith}
 use borrow.Author.Tests.{eq-eqb, ne-eqb}
 use Rattle.links.specs.Stacks.{turnedLoad}
 use borrow.Author.Needs.{needs}
 use Rattle.links.proofs.turned_load.Statement.{statement}
 use Rattle.links.proofs.turned_load.Tie as tie
-use Rattle.links.proofs.turned_load.Reads as reads
-use Rattle.links.proofs.turned_load.Lts as lts
 
--- src/lib.rt:286:27
 add-result : tie.Need-add-result
 add-result c = search needs
 
--- src/lib.rt:282:1
 returns : tie.Need-returns
 unfolding turnedLoad
 returns c = (rw (eq-eqb _ _ (c .if1 .taken)), omega arith)
 
--- src/lib.rt:282:1
 returns-2 : tie.Need-returns-2
 unfolding turnedLoad
 returns-2 c = (rw (ne-eqb _ _ (c .if1 .left)), c .before .pre .0)
