@@ -4,3 +4,4 @@ pub mod LowerKinds
 pub mod PlaceLaws
 pub mod Ways
 pub mod EmptyLaws
+pub mod SettleLaws

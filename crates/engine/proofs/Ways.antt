@@ -3,7 +3,7 @@ use Prim.Native.Nat.{ℕ, _+_, _*_}
 use mathlib.Core.Bool.{Bool, true, false, not, _&&_, _||_, true≢false}
 use mathlib.Core.List.{List}
 use mathlib.Core.Path.{_≡_, refl, sym, ap, subst, _∙_}
-use borrow.Author.Tests.{eqb-true}
+use borrow.Author.Tests.{eq-eqb, eqb-true}
 use lib.Dec.{eqb}
 use lib.ListN.{length}
 use Rattle.paper_lower.specs.Checks.{granted}
@@ -29,6 +29,7 @@ use Rattle.engine.specs.Buffers.{Buffers, buffers, productOf, noEngine, 
 use Rattle.engine.specs.Step.{Step}
 use Rattle.engine.specs.Answers.{requestAnswer, Requested, loadAnswer, LoadDone}
 use Rattle.engine.specs.Exports.{LoadExported, RequestExported}
+use Rattle.engine.specs.Settling.{Settling}
 
 -- ---- The reading.
 pub tables-sound : (x : Buffers) → soundOf (x .orders) ≡ true → tablesOf x ≡ productOf x
@@ -79,12 +80,11 @@ module _ (x : Buffers) where
       rw is (record { replies = rw f; places = rw f; tables = rw f (tables-refl (tablesOf x)); lengths = same-lengths refl refl refl; kept = λ _. refl })
 
 -- a step that is the definition's answer
-pub answered : {bytes : Bytes} {x x′ : Buffers} {r : Record} {reply : ℕ} {next : Engine} {j : Judged} → unfit x ≡ false
+pub answered-at : {bytes : Bytes} {x x′ : Buffers} {r : Record} {reply : ℕ} {next : Engine} {j : Judged} → fit x ≡ true
     → request (tablesOf x) bytes ≡ record { reply = reply; tables = granted reply next (tablesOf x) }
     → r ≡ decode bytes → Step (tablesOf x) (tablesOf x′) reply (placeOf (tablesOf x) r reply) next x x′ j → SameLengths x x′ → Requested bytes x x′ j
 unfolding requestAnswer placeTo
-answered {bytes} {x} {x′} {r} {reply} {next} {j} h e is d l =
-    let f = fits x h in
+answered-at {bytes} {x} {x′} {r} {reply} {next} {j} f e is d l =
     let t : request (tablesOf x) bytes .tables ≡ granted reply next (tablesOf x) = ap (λ (y : Answer Engine). y .tables) e in
     record {
       replies = d .replies ∙ rw f (sym (ap (λ (y : Answer Engine). y .reply) e));
@@ -93,6 +93,14 @@ answered {bytes} {x} {x′} {r} {reply} {next} {j} h e is d l =
       lengths = l;
       kept = d .kept;
     }
+
+pub answered : {bytes : Bytes} {x x′ : Buffers} {r : Record} {reply : ℕ} {next : Engine} {j : Judged} → unfit x ≡ false
+    → request (tablesOf x) bytes ≡ record { reply = reply; tables = granted reply next (tablesOf x) }
+    → r ≡ decode bytes → Step (tablesOf x) (tablesOf x′) reply (placeOf (tablesOf x) r reply) next x x′ j → SameLengths x x′ → Requested bytes x x′ j
+answered {bytes} {x} h = answered-at (fits x h)
+
+pub fitting : (x : Buffers) → Settling x → fit x ≡ true
+fitting x h = rw (eq-eqb _ _ (h .0), eq-eqb _ _ (h .1 .0), eq-eqb _ _ (h .1 .1 .0))
 
 -- ---- The load.
 pub no-load : (bytes : Bytes) (x : Buffers) → unfit x ≡ true → LoadDone bytes x x Room 0

@@ -11,6 +11,7 @@ ghost use Rattle.entries.specs.Acts.{Ready};
 ghost use Rattle.engine.specs.Buffers.{buffers, noEngine, tablesOf};
 ghost use Rattle.engine.specs.Step.{StepOf, SoundStep};
 ghost use Rattle.engine.specs.Answers.{Requested, LoadDone};
+ghost use Rattle.engine.specs.Settling.{Settling, Settled, SettledAs, SettledRequest, SettledExported};
 ghost use Rattle.engine.specs.Exports.{LoadExported, RequestExported, wordsOf};
 use links::ORDERS_WORDS;
 use loading::Loaded;
@@ -83,6 +84,42 @@ pub fn request(bytes: &[u8], policy: &mut [u64], sessions: &mut [u64], orders: &
     act(records::decode(bytes), policy, sessions, orders)
 }
 
+// For those who own their buffers: once, so that the links are sound and the tables the same.
+pub fn settle(policy: &mut [u64], sessions: &mut [u64], orders: &mut [u64]) -> Reply
+    ensures { λ r. ⌜ Settled (buffers (now (policy .entry)) (now (sessions .entry)) (now (orders .entry))) (buffers (now (policy .exit)) (now (sessions .exit)) (now (orders .exit))) r ⌝ }
+{
+    if (policy.len() != POLICY_WORDS)
+        | (sessions.len() != SESSIONS_WORDS)
+        | (orders.len() != ORDERS_WORDS)
+    {
+        return Reply::Room;
+    }
+    if links::is_sound(orders) {
+        return Reply::Granted;
+    }
+    policy::clear(policy);
+    sessions::clear(sessions);
+    entries::clear(orders);
+    Reply::Granted
+}
+
+// And then any bytes as a request, without another look at the links.
+pub fn settled_request(
+    bytes: &[u8],
+    policy: &mut [u64],
+    sessions: &mut [u64],
+    orders: &mut [u64],
+) -> Judged
+    requires { ⌜ Settling (buffers (now policy) (now sessions) (now orders)) ⌝ }
+    ensures { λ r. ⌜ SettledRequest (now (bytes .entry)) (buffers (now (policy .entry)) (now (sessions .entry)) (now (orders .entry))) (buffers (now (policy .exit)) (now (sessions .exit)) (now (orders .exit))) r ⌝ }
+{
+    let r = records::judge(Call::Request, bytes);
+    if !replies::accepted(r) {
+        return plain(r);
+    }
+    step(records::decode(bytes), policy, sessions, orders)
+}
+
 // Any bytes as a policy: no subject is live afterwards, no order open, no entry in use.
 pub fn load(bytes: &[u8], policy: &mut [u64], sessions: &mut [u64], orders: &mut [u64]) -> Loaded
     ensures { λ x. ⌜ LoadDone (now (bytes .entry)) (buffers (now (policy .entry)) (now (sessions .entry)) (now (orders .entry))) (buffers (now (policy .exit)) (now (sessions .exit)) (now (orders .exit))) (x .reply) (x .place) ⌝ }
@@ -128,6 +165,35 @@ pub extern "C" fn mishantral_request(
     let j = request(bytes, policy, sessions, orders);
     let reply = j.reply;
     replies::number(reply) + 256 * j.place
+}
+
+// No place: the reply.
+#[no_mangle]
+pub extern "C" fn mishantral_settle(
+    policy: &mut [u64],
+    sessions: &mut [u64],
+    orders: &mut [u64],
+) -> u64
+    ensures { λ n. ⌜ SettledAs (buffers (now (policy .entry)) (now (sessions .entry)) (now (orders .entry))) (buffers (now (policy .exit)) (now (sessions .exit)) (now (orders .exit))) n ⌝ }
+{
+    let r = settle(policy, sessions, orders);
+    replies::number(r)
+}
+
+// It asks that the state is settled, by mishantral_settle or a load, and that only settled requests and loads were made of it since.
+#[no_mangle]
+pub extern "C" fn mishantral_settled_request(
+    bytes: &[u8],
+    policy: &mut [u64],
+    sessions: &mut [u64],
+    orders: &mut [u64],
+) -> u64
+    requires { ⌜ Settling (buffers (now policy) (now sessions) (now orders)) ⌝ }
+    ensures { λ n. ⌜ SettledExported (now (bytes .entry)) (buffers (now (policy .entry)) (now (sessions .entry)) (now (orders .entry))) (buffers (now (policy .exit)) (now (sessions .exit)) (now (orders .exit))) n ⌝ }
+{
+    let r = settled_request(bytes, policy, sessions, orders);
+    let reply = r.reply;
+    replies::number(reply) + 256 * r.place
 }
 
 // The length of a buffer in words: 0 the policy's, 1 the sessions', 2 the orders', 4 that of the scratch with which OPL/XML is read.
