@@ -13,7 +13,7 @@
 //   try KIND N A B C M         a request to such buffers: whether it kept to the rule above; the reply is no matter of 01
 ghost use Prim.Native.Nat.{_<_, _≤_};
 ghost use lib.ListN.{length};
-use ledger::ORDERS_WORDS;
+use links::ORDERS_WORDS;
 use loading::Loaded;
 use policy::POLICY_WORDS;
 use replies::Reply;

@@ -1,31 +1,36 @@
 -- What the ways out of the judges rest on, over plain values; and that a granted claim finds room.
 use Prim.Native.Nat.{ℕ, _<_}
-use mathlib.Core.Bool.{Bool, true, false, not, cond, _&&_}
+use mathlib.Core.Bool.{Bool, true, false, not, cond, _&&_, false≢true}
 use mathlib.Core.List.{List, [], _∷_, _++_}
-use mathlib.Core.Path.{_≡_, sym, ap, _∙_}
+use mathlib.Core.Path.{_≡_, refl, sym, ap, _∙_}
 use borrow.Author.Tests.{not-false, leb-false}
 use lib.Dec.{eqb, leb}
 use Rattle.paper_lower.specs.Sets.{meets}
-use Rattle.paper_lower.specs.Lists.{holds, is, some, many}
-use Rattle.paper_lower.specs.Lists.Maybe.{just}
+use Rattle.paper_lower.specs.Lists.{Maybe, holds, there, is, some, many}
+use Rattle.paper_lower.specs.Lists.Maybe.{none, just}
 use Rattle.paper_lower.specs.Checks.{Check, first, FULL}
 use Rattle.paper_lower.proofs.ListLaws.{or-none, both}
 use Rattle.paper_lower.proofs.CheckLaws.{Numbered, passed}
 use Rattle.paper_upper.specs.Orders.{Engine, isHeld, ofTask}
 use Rattle.paper_upper.specs.Rules.{ruleChecks, rulePlace}
-use Rattle.paper_upper.specs.Requests.{unknown, claimChecks, claimPlace}
+use Rattle.paper_upper.specs.Requests.{unknown, holdChecks, claimChecks, claimPlace}
 use Rattle.replies.specs.Replies.{numberOf}
 use Rattle.replies.specs.declared.Reply.{Reply}
 use Rattle.replies.proofs.ReplyLaws.{is-zero}
 use Rattle.replies.proofs.DoneLaws.{stops}
-use Rattle.ledger.specs.Reading.{openedOf}
-use Rattle.ledger.specs.Gathering.{gatheredOf}
-use Rattle.ledger.specs.declared.Instance.{Instance}
-use Rattle.ledger.specs.declared.Gathered.{Gathered}
-use Rattle.ledger.proofs.TableLaws.{holds-opened, gathered-mine, gathered-done, gathered-others, gathered-times, gathered-held}
+use Rattle.entries.specs.Reading.{openedOf}
+use Rattle.entries.specs.Gathering.{gatheredOf}
+use Rattle.entries.specs.declared.Instance.{Instance}
+use Rattle.entries.specs.declared.Gathered.{Gathered}
+use Rattle.entries.proofs.TableLaws.{holds-opened, gathered-mine, gathered-done, gathered-others, gathered-times, gathered-held}
 use Rattle.rules.specs.Judging.{gatheredChecks}
 use Rattle.rules.proofs.JudgeLaws.{gathered}
 use Rattle.orders.proofs.Layers.{one-more}
+
+holds-there : {A : Type 0} (p : A → Bool) (x : Maybe A) → holds p x ≡ true → there x ≡ true
+unfolding holds
+holds-there p none h = absurd (false≢true h)
+holds-there p (just y) h = refl
 
 module _ (t : Engine) (a b c : ℕ) where
   -- the claim rules and FULL, the last checks of a claim
@@ -57,6 +62,25 @@ module _ (t : Engine) (a b c : ℕ) where
   room r {x} judged accepts h =
       let z = sym judged ∙ is-zero r accepts (not-false x h) in
       leb-false _ _ (passed (claimChecks t a b c) (tt, (tt, (tt, (tt, (tt, (tt, (tt, (tt, (tt, (tt, tt)))))))))) z .1 .1 .1 .1 .1 .1 .1 .1 .1 .0)
+
+  -- what is not unknown is of an open instance
+  not-unknown : unknown t a b c ≡ false → there (t .orders .opened b) ≡ true
+  unfolding unknown
+  not-unknown h =
+      let of : ℕ → Bool = λ j. is j (t .lower .policy .tasks .template c) in
+      holds-there of (t .orders .opened b) (not-false (holds of (t .orders .opened b)) (or-none (not (t .lower .sessions .live a)) (not (holds of (t .orders .opened b))) h .1))
+
+  pub claim-opened : (r : Reply) {x : Bool} → numberOf r ≡ first (claimChecks t a b c) → x ≡ eqb (numberOf r) 0 → not x ≡ false → there (t .orders .opened b) ≡ true
+  unfolding claimChecks ruleChecks
+  claim-opened r {x} judged accepts h =
+      let z = sym judged ∙ is-zero r accepts (not-false x h) in
+      not-unknown (passed (claimChecks t a b c) (tt, (tt, (tt, (tt, (tt, (tt, (tt, (tt, (tt, (tt, tt)))))))))) z .0)
+
+  pub hold-opened : (r : Reply) {x : Bool} → numberOf r ≡ first (holdChecks t a b c) → x ≡ eqb (numberOf r) 0 → not x ≡ false → there (t .orders .opened b) ≡ true
+  unfolding holdChecks
+  hold-opened r {x} judged accepts h =
+      let z = sym judged ∙ is-zero r accepts (not-false x h) in
+      not-unknown (passed (holdChecks t a b c) (tt, (tt, tt)) z .0)
 
   rules-numbered : Numbered rulesOf
   unfolding ruleChecks

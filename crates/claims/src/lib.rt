@@ -10,7 +10,7 @@ ghost use Rattle.policy.specs.Reading.{policyOf};
 ghost use Rattle.sessions.specs.Reading.{sessionsWords, sessionsOf};
 ghost use Rattle.orders.specs.Tables.{engineTables};
 ghost use Rattle.claims.specs.Promises.{InLimits, RulesJudged, ClaimJudged, Claimed, HoldJudged, Released, Finished, TaskCheckJudged};
-use ledger::Gathered;
+use entries::Gathered;
 use replies::Reply;
 use replies::accepted;
 use rules::Judged;
@@ -26,7 +26,7 @@ fn is_unknown(p: &[u64], s: &[u64], o: &[u64], a: u64, b: u64, c: u64) -> bool
     requires { ⌜ InLimits (now p) (now s) (now o) a b c ⌝ }
     ensures { λ r. ⌜ r ≡ unknown (engineTables (now (p .entry)) (now (s .entry)) (now (o .entry))) a b c ⌝ }
 {
-    let x = ledger::opened(o, b);
+    let x = entries::opened(o, b);
     let template = x.template;
     !sessions::live(s, a as usize) | !(x.open & policy::task_is_of(p, c as usize, template))
 }
@@ -57,20 +57,20 @@ fn claim_reply(p: &[u64], s: &[u64], o: &[u64], a: u64, b: u64, c: u64) -> Judge
         return plain(Reply::Unknown);
     }
     let user = sessions::user(s, a as usize);
-    let g = ledger::gather(o, b, user, c);
+    let g = entries::gather(o, b, user, c);
     if g.held == 1 {
         return plain(Reply::Taken);
     }
     if !has_role(p, s, a, c) {
         return plain(Reply::NoRole);
     }
-    let x = ledger::opened(o, b);
+    let x = entries::opened(o, b);
     let ruled = rules_reply(p, x.template, g, c);
     let r = ruled.reply;
     if !accepted(r) {
         return ruled;
     }
-    if MOST <= ledger::in_use(o) {
+    if MOST <= entries::in_use(o) {
         return plain(Reply::Full);
     }
     plain(Reply::Granted)
@@ -86,7 +86,7 @@ pub fn claim(p: &[u64], s: &[u64], o: &mut [u64], a: u64, b: u64, c: u64) -> Jud
         return j;
     }
     let user = sessions::user(s, a as usize);
-    ledger::enter(o, b, user, c, a);
+    entries::enter(o, b, user, c, a);
     j
 }
 
@@ -99,7 +99,7 @@ fn hold_reply(p: &[u64], s: &[u64], o: &[u64], a: u64, b: u64, c: u64) -> Reply
     if is_unknown(p, s, o, a, b, c) {
         return Reply::Unknown;
     }
-    if !ledger::holds_task(o, b, c, a) {
+    if !entries::holds_task(o, b, c, a) {
         return Reply::NotYours;
     }
     Reply::Granted
@@ -113,7 +113,7 @@ pub fn release(p: &[u64], s: &[u64], o: &mut [u64], a: u64, b: u64, c: u64) -> R
     if !accepted(r) {
         return r;
     }
-    ledger::release(o, b, c, a);
+    entries::release(o, b, c, a);
     r
 }
 
@@ -125,7 +125,7 @@ pub fn finish(p: &[u64], s: &[u64], o: &mut [u64], a: u64, b: u64, c: u64) -> Re
     if !accepted(r) {
         return r;
     }
-    ledger::finish(o, b, c, a);
+    entries::finish(o, b, c, a);
     r
 }
 

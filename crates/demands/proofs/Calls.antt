@@ -16,7 +16,7 @@ use Rattle.paper_upper.specs.Engine.{request, placeTo, Placed, placedRun, engin
 use Rattle.engine.specs.Buffers.{Buffers, tablesOf, fit, SameLengths}
 use Rattle.engine.specs.Answers.{CallAnswer, requestAnswer, loadAnswer}
 use Rattle.engine.specs.Exports.{LoadExported}
-use Rattle.engine.proofs.SameLaws.{tables-then}
+use Rattle.links.proofs.SameLaws.{tables-then}
 use Rattle.engine.proofs.RespectLaws.{respects}
 use Rattle.engine.proofs.Ways.{load-exported}
 use Rattle.theorems.specs.Replies.{Listed}

@@ -16,7 +16,7 @@ use Rattle.lower.specs.Exports.{inOne}
 use Rattle.engine.specs.Buffers.{Buffers, tablesOf, fit}
 use Rattle.engine.specs.Answers.{loadAnswer, LoadDone}
 use Rattle.engine.specs.Exports.{LoadExported}
-use Rattle.engine.proofs.SameLaws.{tables-refl, tables-sym, tables-then}
+use Rattle.links.proofs.SameLaws.{tables-refl, tables-sym, tables-then}
 use Rattle.engine.proofs.RespectLaws.{respects}
 use Rattle.theorems.specs.Replies.{FirstRefusal, checksOf}
 use Rattle.theorems.specs.Outside.{hear, outside}

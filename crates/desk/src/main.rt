@@ -264,7 +264,7 @@ fn write_load(number: u64, place: u64) -> bool {
 fn main() {
     let mut policy = [0u64; policy::POLICY_WORDS];
     let mut sessions = [0u64; sessions::SESSIONS_WORDS];
-    let mut orders = [0u64; ledger::ORDERS_WORDS];
+    let mut orders = [0u64; links::ORDERS_WORDS];
     let loaded = load_file(&mut policy, &mut sessions, &mut orders);
     let reply = loaded.reply;
     let number = replies::number(reply);

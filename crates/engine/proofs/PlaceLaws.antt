@@ -9,19 +9,21 @@ use lib.Dec.{eqb}
 use lib.ListN.{length}
 use Rattle.paper_lower.specs.Sets.{Set}
 use Rattle.paper_lower.specs.Lists.{some, many, placeFrom, place, firstOf}
-use Rattle.paper_lower.specs.Checks.{Check, first, ROOM, SHAPE, RANGE, BEFORE, SEPARATION, BLOCK, BOUND}
+use Rattle.paper_lower.specs.Checks.{Check, first, ROOM, SHAPE, RANGE, UNKNOWN, BEFORE, SEPARATION, BLOCK, BOUND}
 use Rattle.paper_lower.specs.Records.{Bytes, Record, decode}
 use Rattle.paper_lower.specs.Forms.{Form, formOf, misshapen, outOfRange, formChecks}
-use Rattle.paper_lower.specs.Tables.{Rules}
+use Rattle.paper_lower.specs.Tables.{Rules, noPolicy}
+use Rattle.paper_lower.specs.Sessions.{lowerOf}
 use Rattle.paper_upper.specs.Orders.{Engine}
 use Rattle.paper_upper.specs.Rules.{before, separation, own, strange, blockIn, block, bound, rulePlace}
 use Rattle.paper_upper.specs.Requests.{claimPlace}
-use Rattle.paper_upper.specs.Engine.{request, placeOf, placeTo}
+use Rattle.paper_upper.specs.Engine.{request, placeOf, placeTo, engineOf}
 use Rattle.policy.specs.Layout.{limitCount, blockCount, pairCount}
 use Rattle.policy.specs.Reading.{policyOf}
 use Rattle.policy.proofs.RuleLaws.{limits-many, blocks-many, pairs-many}
 use Rattle.rules.specs.declared.Judged.{Judged}
-use Rattle.engine.specs.Buffers.{Buffers, tablesOf, fit}
+use Rattle.links.specs.Chains.{soundOf}
+use Rattle.engine.specs.Buffers.{Buffers, productOf, noEngine, tablesOf, fit}
 use Rattle.engine.specs.Answers.{CallAnswer, requestAnswer, Requested}
 
 -- ---- small places
@@ -59,14 +61,20 @@ rule-place-within n ru a b c e d finished others t reply =
 
 -- "Rules per policy: .. 64 blocks, 64 bindings, 64 prerequisites"
 pub place-small : (x : Buffers) (s : Bytes) → placeTo (tablesOf x) s ≤ 64
-unfolding placeTo placeOf claimPlace limitCount blockCount pairCount
-place-small x s =
-    let a = limits-many (x .policy) 2 (omega arith) in
-    let b = blocks-many (x .policy) in
-    let c = pairs-many (x .policy) 0 (omega arith) in
-    let e = pairs-many (x .policy) 1 (omega arith) in
-    either-within 64 (eqb (decode s .kind) 50) _ 0
-    (rule-place-within 64 (policyOf (x .policy) .rules) (omega arith) (omega arith) (omega arith) (omega arith) _ _ _ (decode s .c) (request (tablesOf x) s .reply)) (omega arith)
+unfolding tablesOf placeTo placeOf claimPlace limitCount blockCount pairCount noPolicy engineOf lowerOf many
+place-small x s = go (soundOf (x .orders))
+  where
+    go : (b : Bool) → placeTo (cond b (productOf x) noEngine) s ≤ 64
+    go true =
+        let a = limits-many (x .policy) 2 (omega arith) in
+        let b = blocks-many (x .policy) in
+        let c = pairs-many (x .policy) 0 (omega arith) in
+        let e = pairs-many (x .policy) 1 (omega arith) in
+        either-within 64 (eqb (decode s .kind) 50) _ 0
+        (rule-place-within 64 (policyOf (x .policy) .rules) (omega arith) (omega arith) (omega arith) (omega arith) _ _ _ (decode s .c) (request (productOf x) s .reply)) (omega arith)
+    go false =
+        either-within 64 (eqb (decode s .kind) 50) _ 0
+        (rule-place-within 64 (noPolicy .rules) (omega arith) (omega arith) (omega arith) (omega arith) _ _ _ (decode s .c) (request noEngine s .reply)) (omega arith)
 
 pub requested-small : {bytes : Bytes} {x x′ : Buffers} {j : Judged} → Requested bytes x x′ j → j .place ≤ 64
 unfolding requestAnswer
@@ -97,3 +105,11 @@ no-form fs s t r e =
     go false true false = refl
     go false false true = refl
     go false false false = refl
+
+pub no-place : (t : Engine) (r : Record) {reply : ℕ} → reply ≡ UNKNOWN → 0 ≡ placeOf t r reply
+unfolding placeOf claimPlace rulePlace
+no-place t r e = rw e (go (eqb (r .kind) 50))
+  where
+    go : (c : Bool) → 0 ≡ cond c (claimPlace t (r .a) (r .b) (r .c) UNKNOWN) 0
+    go true = refl
+    go false = refl

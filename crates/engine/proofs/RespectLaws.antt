@@ -16,7 +16,7 @@ use Rattle.paper_upper.specs.Rules.{ruleChecks}
 use Rattle.paper_upper.specs.Requests.{deleteAbove, destroyAbove, openChecks, openNext, endChecks, endNext, unknown, claimChecks, claimNext, holdChecks, releaseNext, doneNext, taskCheckChecks, claimPlace, upperKinds}
 use Rattle.paper_upper.specs.Engine.{raised, sharedKinds, requestKinds, request, placeOf, placeTo, placedRun}
 use Rattle.engine.specs.Respects.{Respects, RunsRespect}
-use Rattle.engine.proofs.SameLaws.{some-same, many-same, many-kept, tasks-same, keep-same, each-same}
+use Rattle.links.proofs.SameLaws.{some-same, many-same, many-kept, tasks-same, keep-same, each-same}
 
 -- ---- Tables that differ in the order of their entries alone.
 abbrev engine : Lower → (ℕ → Maybe ℕ) → List Entry → Engine

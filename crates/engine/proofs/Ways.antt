@@ -3,7 +3,7 @@ use Prim.Native.Nat.{ℕ, _+_, _*_}
 use mathlib.Core.Bool.{Bool, true, false, not, _&&_, _||_, true≢false}
 use mathlib.Core.List.{List}
 use mathlib.Core.Path.{_≡_, refl, sym, ap, subst, _∙_}
-use borrow.Author.Tests.{eqb-true}
+use borrow.Author.Tests.{eq-eqb, eqb-true}
 use lib.Dec.{eqb}
 use lib.ListN.{length}
 use Rattle.paper_lower.specs.Checks.{granted}
@@ -20,14 +20,25 @@ use Rattle.rules.specs.declared.Judged.{Judged}
 use Rattle.policy.specs.Layout.{policyWords}
 use Rattle.sessions.specs.Reading.{sessionsWords}
 use Rattle.sessions.specs.Lower.{lowerTables}
-use Rattle.ledger.specs.Reading.{ordersWords, Cleared}
+use Rattle.links.specs.Chains.{ordersWords, soundOf}
+use Rattle.links.proofs.SameLaws.{tables-refl}
+use Rattle.entries.specs.Reading.{Cleared}
 use Rattle.lower.specs.Answers.{Loads, fit as lowerFit}
 use Rattle.lower.specs.Exports.{inOne}
-use Rattle.engine.specs.Buffers.{Buffers, buffers, tablesOf, fit, SameLengths}
+use Rattle.engine.specs.Buffers.{Buffers, buffers, productOf, noEngine, tablesOf, fit, SameLengths}
 use Rattle.engine.specs.Step.{Step}
 use Rattle.engine.specs.Answers.{requestAnswer, Requested, loadAnswer, LoadDone}
 use Rattle.engine.specs.Exports.{LoadExported, RequestExported}
-use Rattle.engine.proofs.SameLaws.{tables-refl}
+use Rattle.engine.specs.Settling.{Settling}
+
+-- ---- The reading.
+pub tables-sound : (x : Buffers) → soundOf (x .orders) ≡ true → tablesOf x ≡ productOf x
+unfolding tablesOf
+tables-sound x h = rw h
+
+pub tables-broken : (x : Buffers) → soundOf (x .orders) ≡ false → tablesOf x ≡ noEngine
+unfolding tablesOf
+tables-broken x h = rw h
 
 -- the code's test of the lengths
 all : (a b c : Bool) → (not a || not b) || not c ≡ false → (a ≡ true) × (b ≡ true) × (c ≡ true)
@@ -69,20 +80,27 @@ module _ (x : Buffers) where
       rw is (record { replies = rw f; places = rw f; tables = rw f (tables-refl (tablesOf x)); lengths = same-lengths refl refl refl; kept = λ _. refl })
 
 -- a step that is the definition's answer
-pub answered : {bytes : Bytes} {x x′ : Buffers} {r : Record} {reply : ℕ} {next : Engine} {j : Judged} → unfit x ≡ false
+pub answered-at : {bytes : Bytes} {x x′ : Buffers} {r : Record} {reply : ℕ} {next : Engine} {j : Judged} → fit x ≡ true
     → request (tablesOf x) bytes ≡ record { reply = reply; tables = granted reply next (tablesOf x) }
-    → r ≡ decode bytes → Step reply (placeOf (tablesOf x) r reply) next x x′ j → SameLengths x x′ → Requested bytes x x′ j
+    → r ≡ decode bytes → Step (tablesOf x) (tablesOf x′) reply (placeOf (tablesOf x) r reply) next x x′ j → SameLengths x x′ → Requested bytes x x′ j
 unfolding requestAnswer placeTo
-answered {bytes} {x} {x′} {r} {reply} {next} {j} h e is d l =
-    let f = fits x h in
+answered-at {bytes} {x} {x′} {r} {reply} {next} {j} f e is d l =
     let t : request (tablesOf x) bytes .tables ≡ granted reply next (tablesOf x) = ap (λ (y : Answer Engine). y .tables) e in
     record {
       replies = d .replies ∙ rw f (sym (ap (λ (y : Answer Engine). y .reply) e));
       places = d .places ∙ rw (f, is) (sym (ap (λ (y : Answer Engine). placeOf (tablesOf x) (decode bytes) (y .reply)) e));
-      tables = rw f (subst (λ (t : Engine). SameTables (tablesOf x′) t) (d .tables ∙ sym t) (tables-refl (tablesOf x′)));
+      tables = rw f (subst (λ (t : Engine). SameTables (tablesOf x′) t) (sym t) (d .tables));
       lengths = l;
       kept = d .kept;
     }
+
+pub answered : {bytes : Bytes} {x x′ : Buffers} {r : Record} {reply : ℕ} {next : Engine} {j : Judged} → unfit x ≡ false
+    → request (tablesOf x) bytes ≡ record { reply = reply; tables = granted reply next (tablesOf x) }
+    → r ≡ decode bytes → Step (tablesOf x) (tablesOf x′) reply (placeOf (tablesOf x) r reply) next x x′ j → SameLengths x x′ → Requested bytes x x′ j
+answered {bytes} {x} h = answered-at (fits x h)
+
+pub fitting : (x : Buffers) → Settling x → fit x ≡ true
+fitting x h = rw (eq-eqb _ _ (h .0), eq-eqb _ _ (h .1 .0), eq-eqb _ _ (h .1 .1 .0))
 
 -- ---- The load.
 pub no-load : (bytes : Bytes) (x : Buffers) → unfit x ≡ true → LoadDone bytes x x Room 0
@@ -103,7 +121,7 @@ loaded {bytes} {p} {s} {o} {p′} {s′} {o′} {r} {place} h c d l =
     record {
       replies = d .replies ∙ rw (e .0, e .1, e .2);
       places = d .places ∙ rw (e .0, e .1, e .2);
-      tables = rw (e .0, e .1, e .2) (λ i. record { lower = t i; orders = c .tables i });
+      tables = tables-sound (buffers p′ s′ o′) (c .sound) ∙ rw (e .0, e .1, e .2) (λ i. record { lower = t i; orders = c .tables i });
       lengths = l;
       room = λ n. absurd (true≢false (sym f ∙ n));
       zeros = λ _ n. record { policy = λ i. d .zeros g n i .0; sessions = λ i. d .zeros g n i .1; orders = c .zeros };

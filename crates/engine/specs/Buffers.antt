@@ -1,14 +1,16 @@
 -- The three lent buffers, and the tables that they read as.
 use Prim.Native.Nat.{ℕ}
-use mathlib.Core.Bool.{Bool, _&&_}
+use mathlib.Core.Bool.{Bool, cond, _&&_}
 use mathlib.Core.List.{List}
 use mathlib.Core.Path.{_≡_}
 use lib.Dec.{eqb}
 use lib.ListN.{length}
+use Rattle.paper_lower.specs.Tables.{noPolicy}
 use Rattle.paper_upper.specs.Orders.{Engine}
+use Rattle.paper_upper.specs.Engine.{engineOf}
 use Rattle.policy.specs.Layout.{policyWords}
 use Rattle.sessions.specs.Reading.{sessionsWords}
-use Rattle.ledger.specs.Reading.{ordersWords}
+use Rattle.links.specs.Chains.{ordersWords, soundOf}
 use Rattle.orders.specs.Tables.{engineTables}
 
 pub record Buffers : Type 0 where
@@ -19,8 +21,17 @@ pub record Buffers : Type 0 where
 abbrev pub buffers : List ℕ → List ℕ → List ℕ → Buffers
 buffers p s o = record { policy = p; sessions = s; orders = o }
 
-abbrev pub tablesOf : Buffers → Engine
-tablesOf x = engineTables (x .policy) (x .sessions) (x .orders)
+-- the three readings side by side
+abbrev pub productOf : Buffers → Engine
+productOf x = engineTables (x .policy) (x .sessions) (x .orders)
+
+abbrev pub noEngine : Engine
+noEngine = engineOf noPolicy
+
+-- Any state content of the right length reads as some tables. Amended by 02, Ask 9: "A state whose links or kept figures break this reads as the
+-- empty engine from now on".
+unfoldable pub tablesOf : Buffers → Engine
+tablesOf x = cond (soundOf (x .orders)) (productOf x) noEngine
 
 -- each has its fixed length
 abbrev pub fit : Buffers → Bool

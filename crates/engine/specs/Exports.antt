@@ -7,7 +7,7 @@ use Rattle.paper_lower.specs.Records.{Bytes}
 use Rattle.paper_upper.specs.Orders.{SameTables}
 use Rattle.policy.specs.Layout.{policyWords}
 use Rattle.sessions.specs.Reading.{sessionsWords}
-use Rattle.ledger.specs.Reading.{ordersWords}
+use Rattle.links.specs.Chains.{ordersWords}
 use Rattle.lower.specs.Exports.{inOne}
 use Rattle.engine.specs.Buffers.{Buffers, tablesOf, fit, SameLengths}
 use Rattle.engine.specs.Answers.{requestAnswer, loadAnswer, Zeros}

@@ -3,3 +3,4 @@ pub mod Step
 pub mod Answers
 pub mod Respects
 pub mod Exports
+pub mod Settling

@@ -1,25 +1,32 @@
 -- What a request that SHAPE and RANGE let pass does to the three buffers.
 use Prim.Native.Nat.{ℕ}
+use mathlib.Core.Bool.{true}
 use mathlib.Core.Path.{_≡_}
 use Rattle.paper_lower.specs.Checks.{first, granted}
 use Rattle.paper_lower.specs.Kinds.{chosen}
-use Rattle.paper_upper.specs.Orders.{Engine}
+use Rattle.paper_upper.specs.Orders.{Engine, SameTables}
 use Rattle.paper_upper.specs.Engine.{requestKinds, placeOf}
 use Rattle.replies.specs.Replies.{numberOf}
 use Rattle.records.specs.Reading.{paperOf}
 use Rattle.records.specs.declared.Record.{Record}
 use Rattle.rules.specs.declared.Judged.{Judged}
-use Rattle.engine.specs.Buffers.{Buffers, tablesOf}
+use Rattle.links.specs.Chains.{soundOf}
+use Rattle.engine.specs.Buffers.{Buffers, productOf}
 
-pub record Step (reply place : ℕ) (next : Engine) (x x′ : Buffers) (j : Judged) : Type 0 where
+-- from tables t to tables u
+pub record Step (t u : Engine) (reply place : ℕ) (next : Engine) (x x′ : Buffers) (j : Judged) : Type 0 where
   pub replies : numberOf (j .reply) ≡ reply
   pub places : j .place ≡ place
-  pub tables : tablesOf x′ ≡ granted reply next (tablesOf x)
+  pub tables : SameTables u (granted reply next t)
   pub kept : (numberOf (j .reply) ≡ 0 → ⊥) → x′ ≡ x
 
 -- the step of a record, by its kind
-abbrev pub StepOf : Record → Buffers → Buffers → Judged → Type 0
-StepOf r x x′ j =
-    Step (first (chosen requestKinds (r .kind) .checks (tablesOf x) (paperOf r)))
-    (placeOf (tablesOf x) (paperOf r) (first (chosen requestKinds (r .kind) .checks (tablesOf x) (paperOf r))))
-    (chosen requestKinds (r .kind) .next (tablesOf x) (paperOf r)) x x′ j
+abbrev pub StepOf : Engine → Engine → Record → Buffers → Buffers → Judged → Type 0
+StepOf t u r x x′ j =
+    Step t u (first (chosen requestKinds (r .kind) .checks t (paperOf r)))
+    (placeOf t (paperOf r) (first (chosen requestKinds (r .kind) .checks t (paperOf r))))
+    (chosen requestKinds (r .kind) .next t (paperOf r)) x x′ j
+
+-- on sound links, which stay so
+abbrev pub SoundStep : Record → Buffers → Buffers → Judged → Type 0
+SoundStep r x x′ j = StepOf (productOf x) (productOf x′) r x x′ j × (soundOf (x′ .orders) ≡ true)

@@ -1,16 +1,19 @@
 // The engine: the load and the request, over the three lent buffers. Any bytes and any buffers have their answer.
 ghost use mathlib.Core.Path.{_≡_};
+ghost use mathlib.Core.Bool.{false};
 ghost use lib.ListN.{length};
 ghost use Rattle.paper_lower.specs.Forms.{requestForms};
 ghost use Rattle.records.specs.Limits.{Limits};
 ghost use Rattle.policy.specs.Layout.{policyWords};
 ghost use Rattle.sessions.specs.Reading.{sessionsWords};
-ghost use Rattle.ledger.specs.Reading.{ordersWords};
-ghost use Rattle.engine.specs.Buffers.{buffers};
-ghost use Rattle.engine.specs.Step.{StepOf};
+ghost use Rattle.links.specs.Chains.{ordersWords, soundOf};
+ghost use Rattle.entries.specs.Acts.{Ready};
+ghost use Rattle.engine.specs.Buffers.{buffers, noEngine, tablesOf};
+ghost use Rattle.engine.specs.Step.{StepOf, SoundStep};
 ghost use Rattle.engine.specs.Answers.{Requested, LoadDone};
+ghost use Rattle.engine.specs.Settling.{Settling, Settled, SettledAs, SettledRequest, SettledExported};
 ghost use Rattle.engine.specs.Exports.{LoadExported, RequestExported, wordsOf};
-use ledger::ORDERS_WORDS;
+use links::ORDERS_WORDS;
 use loading::Loaded;
 use policy::POLICY_WORDS;
 use records::Call;
@@ -22,8 +25,8 @@ use sessions::SESSIONS_WORDS;
 
 // A request that SHAPE and RANGE let pass: the upper part's kinds here, all others by the lower part. A claim alone has a place.
 fn step(r: Record, p: &mut [u64], s: &mut [u64], o: &mut [u64]) -> Judged
-    requires { ⌜ ((length (now p) ≡ policyWords) × ((length (now s) ≡ sessionsWords) × (length (now o) ≡ ordersWords))) × Limits requestForms r ⌝ }
-    ensures { λ x. ⌜ StepOf r (buffers (now (p .entry)) (now (s .entry)) (now (o .entry))) (buffers (now (p .exit)) (now (s .exit)) (now (o .exit))) x ⌝ }
+    requires { ⌜ ((length (now p) ≡ policyWords) × ((length (now s) ≡ sessionsWords) × Ready (now o))) × Limits requestForms r ⌝ }
+    ensures { λ x. ⌜ SoundStep r (buffers (now (p .entry)) (now (s .entry)) (now (o .entry))) (buffers (now (p .exit)) (now (s .exit)) (now (o .exit))) x ⌝ }
 {
     let kind = r.kind;
     match kind {
@@ -39,6 +42,31 @@ fn step(r: Record, p: &mut [u64], s: &mut [u64], o: &mut [u64]) -> Judged
     }
 }
 
+// The same on links that are not sound, which reads as the empty engine: it grants only that a user without roles is added.
+fn as_empty(r: Record, p: &mut [u64], s: &mut [u64], o: &mut [u64]) -> Judged
+    requires { ⌜ ((length (now p) ≡ policyWords) × ((length (now s) ≡ sessionsWords) × (length (now o) ≡ ordersWords))) × (Limits requestForms r × (soundOf (now o) ≡ false)) ⌝ }
+    ensures { λ x. ⌜ StepOf noEngine (tablesOf (buffers (now (p .exit)) (now (s .exit)) (now (o .exit)))) r (buffers (now (p .entry)) (now (s .entry)) (now (o .entry))) (buffers (now (p .exit)) (now (s .exit)) (now (o .exit))) x ⌝ }
+{
+    if (r.kind != 32) | (r.m != 0) {
+        return plain(Reply::Unknown);
+    }
+    policy::clear(p);
+    sessions::clear(s);
+    entries::clear(o);
+    step(r, p, s, o)
+}
+
+// And on any content.
+fn act(r: Record, p: &mut [u64], s: &mut [u64], o: &mut [u64]) -> Judged
+    requires { ⌜ ((length (now p) ≡ policyWords) × ((length (now s) ≡ sessionsWords) × (length (now o) ≡ ordersWords))) × Limits requestForms r ⌝ }
+    ensures { λ x. ⌜ StepOf (tablesOf (buffers (now (p .entry)) (now (s .entry)) (now (o .entry)))) (tablesOf (buffers (now (p .exit)) (now (s .exit)) (now (o .exit)))) r (buffers (now (p .entry)) (now (s .entry)) (now (o .entry))) (buffers (now (p .exit)) (now (s .exit)) (now (o .exit))) x ⌝ }
+{
+    if !links::is_sound(o) {
+        return as_empty(r, p, s, o);
+    }
+    step(r, p, s, o)
+}
+
 // Any bytes as a request.
 pub fn request(bytes: &[u8], policy: &mut [u64], sessions: &mut [u64], orders: &mut [u64]) -> Judged
     ensures { λ r. ⌜ Requested (now (bytes .entry)) (buffers (now (policy .entry)) (now (sessions .entry)) (now (orders .entry))) (buffers (now (policy .exit)) (now (sessions .exit)) (now (orders .exit))) r ⌝ }
@@ -49,6 +77,42 @@ pub fn request(bytes: &[u8], policy: &mut [u64], sessions: &mut [u64], orders: &
     {
         return plain(Reply::Room);
     }
+    let r = records::judge(Call::Request, bytes);
+    if !replies::accepted(r) {
+        return plain(r);
+    }
+    act(records::decode(bytes), policy, sessions, orders)
+}
+
+// For those who own their buffers: once, so that the links are sound and the tables the same.
+pub fn settle(policy: &mut [u64], sessions: &mut [u64], orders: &mut [u64]) -> Reply
+    ensures { λ r. ⌜ Settled (buffers (now (policy .entry)) (now (sessions .entry)) (now (orders .entry))) (buffers (now (policy .exit)) (now (sessions .exit)) (now (orders .exit))) r ⌝ }
+{
+    if (policy.len() != POLICY_WORDS)
+        | (sessions.len() != SESSIONS_WORDS)
+        | (orders.len() != ORDERS_WORDS)
+    {
+        return Reply::Room;
+    }
+    if links::is_sound(orders) {
+        return Reply::Granted;
+    }
+    policy::clear(policy);
+    sessions::clear(sessions);
+    entries::clear(orders);
+    Reply::Granted
+}
+
+// And then any bytes as a request, without another look at the links.
+pub fn settled_request(
+    bytes: &[u8],
+    policy: &mut [u64],
+    sessions: &mut [u64],
+    orders: &mut [u64],
+) -> Judged
+    requires { ⌜ Settling (buffers (now policy) (now sessions) (now orders)) ⌝ }
+    ensures { λ r. ⌜ SettledRequest (now (bytes .entry)) (buffers (now (policy .entry)) (now (sessions .entry)) (now (orders .entry))) (buffers (now (policy .exit)) (now (sessions .exit)) (now (orders .exit))) r ⌝ }
+{
     let r = records::judge(Call::Request, bytes);
     if !replies::accepted(r) {
         return plain(r);
@@ -69,7 +133,7 @@ pub fn load(bytes: &[u8], policy: &mut [u64], sessions: &mut [u64], orders: &mut
             place: 0,
         };
     }
-    ledger::clear(orders);
+    entries::clear(orders);
     lower::load(bytes, policy, sessions)
 }
 
@@ -101,6 +165,35 @@ pub extern "C" fn mishantral_request(
     let j = request(bytes, policy, sessions, orders);
     let reply = j.reply;
     replies::number(reply) + 256 * j.place
+}
+
+// No place: the reply.
+#[no_mangle]
+pub extern "C" fn mishantral_settle(
+    policy: &mut [u64],
+    sessions: &mut [u64],
+    orders: &mut [u64],
+) -> u64
+    ensures { λ n. ⌜ SettledAs (buffers (now (policy .entry)) (now (sessions .entry)) (now (orders .entry))) (buffers (now (policy .exit)) (now (sessions .exit)) (now (orders .exit))) n ⌝ }
+{
+    let r = settle(policy, sessions, orders);
+    replies::number(r)
+}
+
+// It asks that the state is settled, by mishantral_settle or a load, and that only settled requests and loads were made of it since.
+#[no_mangle]
+pub extern "C" fn mishantral_settled_request(
+    bytes: &[u8],
+    policy: &mut [u64],
+    sessions: &mut [u64],
+    orders: &mut [u64],
+) -> u64
+    requires { ⌜ Settling (buffers (now policy) (now sessions) (now orders)) ⌝ }
+    ensures { λ n. ⌜ SettledExported (now (bytes .entry)) (buffers (now (policy .entry)) (now (sessions .entry)) (now (orders .entry))) (buffers (now (policy .exit)) (now (sessions .exit)) (now (orders .exit))) n ⌝ }
+{
+    let r = settled_request(bytes, policy, sessions, orders);
+    let reply = r.reply;
+    replies::number(reply) + 256 * r.place
 }
 
 // The length of a buffer in words: 0 the policy's, 1 the sessions', 2 the orders', 4 that of the scratch with which OPL/XML is read.

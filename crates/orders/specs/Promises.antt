@@ -1,6 +1,7 @@
 -- What requests 33, 41, 48 and 49 promise of the buffers p (policy), s (sessions) and o (orders): a judge the reply of the definition's checks, an act
--- that reply and the tables afterwards, with not one word changed where it refuses. Where a kind does not look at a buffer, its content is whatever it may be.
+-- that reply and the tables afterwards, with not one word changed where it refuses, and sound links again. Where a kind does not look at a buffer, its content is whatever it may be.
 use Prim.Native.Nat.{ℕ}
+use mathlib.Core.Bool.{true}
 use mathlib.Core.List.{List}
 use mathlib.Core.Path.{_≡_}
 use Rattle.paper_lower.specs.Checks.{first}
@@ -8,6 +9,7 @@ use Rattle.paper_upper.specs.Requests.{openChecks, openNext, endChecks, endNext
 use Rattle.replies.specs.Replies.{numberOf}
 use Rattle.replies.specs.Done.{Done}
 use Rattle.replies.specs.declared.Reply.{Reply}
+use Rattle.links.specs.Chains.{soundOf}
 use Rattle.orders.specs.Tables.{engineTables, deleteWhole, deleteWholeNext, destroyWhole, destroyWholeNext}
 
 -- ---- 33
@@ -32,7 +34,8 @@ OpenJudged p o a b r = (s : List ℕ) → numberOf r ≡ first (openChecks (engi
 
 abbrev pub Opened : List ℕ → List ℕ → List ℕ → ℕ → ℕ → Reply → Type 0
 Opened p o o′ a b r =
-    (s : List ℕ) → Done (engineTables p s) (first (openChecks (engineTables p s o) a b)) (openNext (engineTables p s o) a b) o o′ r
+    ((s : List ℕ) → Done (engineTables p s) (first (openChecks (engineTables p s o) a b)) (openNext (engineTables p s o) a b) o o′ r)
+    × (soundOf o′ ≡ true)
 
 -- ---- 49, whatever the policy and the sessions are
 abbrev pub EndJudged : List ℕ → ℕ → Reply → Type 0
@@ -40,4 +43,5 @@ EndJudged o a r = (p s : List ℕ) → numberOf r ≡ first (endChecks (engineTa
 
 abbrev pub Ended : List ℕ → List ℕ → ℕ → Reply → Type 0
 Ended o o′ a r =
-    (p s : List ℕ) → Done (engineTables p s) (first (endChecks (engineTables p s o) a)) (endNext (engineTables p s o) a) o o′ r
+    ((p s : List ℕ) → Done (engineTables p s) (first (endChecks (engineTables p s o) a)) (endNext (engineTables p s o) a) o o′ r)
+    × (soundOf o′ ≡ true)

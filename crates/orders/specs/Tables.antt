@@ -8,7 +8,7 @@ use Rattle.paper_lower.specs.Sessions.{destroyChecks, destroyNext}
 use Rattle.paper_upper.specs.Orders.{Engine, withLower}
 use Rattle.paper_upper.specs.Requests.{deleteAbove, destroyAbove}
 use Rattle.sessions.specs.Lower.{lowerTables}
-use Rattle.ledger.specs.Reading.{ordersOf}
+use Rattle.entries.specs.Reading.{ordersOf}
 
 abbrev pub engineTables : List ℕ → List ℕ → List ℕ → Engine
 engineTables p s o = record { lower = lowerTables p s; orders = ordersOf o }

@@ -5,7 +5,8 @@ ghost use Prim.Native.Nat.{_<_};
 ghost use lib.ListN.{length};
 ghost use Rattle.policy.specs.Layout.{policyWords};
 ghost use Rattle.sessions.specs.Reading.{sessionsWords};
-ghost use Rattle.ledger.specs.Reading.{ordersWords};
+ghost use Rattle.links.specs.Chains.{ordersWords};
+ghost use Rattle.entries.specs.Acts.{Ready};
 ghost use Rattle.orders.specs.Promises.{DeleteJudged, Deleted, DestroyJudged, Destroyed, OpenJudged, Opened, EndJudged, Ended};
 use replies::Reply;
 use replies::accepted;
@@ -13,19 +14,19 @@ use replies::accepted;
 // ---- 33: delete user a, who has no entry in an open instance.
 
 fn delete_reply(p: &[u64], s: &[u64], o: &[u64], a: u64) -> Reply
-    requires { ⌜ (length (now p) ≡ policyWords) × ((length (now s) ≡ sessionsWords) × ((length (now o) ≡ ordersWords) × (a < 1024))) ⌝ }
+    requires { ⌜ (length (now p) ≡ policyWords) × ((length (now s) ≡ sessionsWords) × (Ready (now o) × (a < 1024))) ⌝ }
     ensures { λ r. ⌜ DeleteJudged (now (p .entry)) (now (s .entry)) (now (o .entry)) a r ⌝ }
 {
     let r = roles::delete_reply(p, s, a);
     if !accepted(r) {
         return r;
     }
-    let used = ledger::in_open_order(o, a);
+    let used = entries::in_open_order(o, a);
     if used { Reply::InUse } else { Reply::Granted }
 }
 
 pub fn delete(p: &mut [u64], s: &[u64], o: &[u64], a: u64) -> Reply
-    requires { ⌜ (length (now p) ≡ policyWords) × ((length (now s) ≡ sessionsWords) × ((length (now o) ≡ ordersWords) × (a < 1024))) ⌝ }
+    requires { ⌜ (length (now p) ≡ policyWords) × ((length (now s) ≡ sessionsWords) × (Ready (now o) × (a < 1024))) ⌝ }
     ensures { λ r. ⌜ Deleted (now (p .entry)) (now (p .exit)) (now (s .entry)) (now (o .entry)) a r ⌝ }
 {
     let r = delete_reply(p, s, o, a);
@@ -39,19 +40,19 @@ pub fn delete(p: &mut [u64], s: &[u64], o: &[u64], a: u64) -> Reply
 // ---- 41: destroy subject a, which holds no task.
 
 fn destroy_reply(s: &[u64], o: &[u64], a: u64) -> Reply
-    requires { ⌜ (length (now s) ≡ sessionsWords) × ((length (now o) ≡ ordersWords) × (a < 128)) ⌝ }
+    requires { ⌜ (length (now s) ≡ sessionsWords) × (Ready (now o) × (a < 128)) ⌝ }
     ensures { λ r. ⌜ DestroyJudged (now (s .entry)) (now (o .entry)) a r ⌝ }
 {
     let r = subjects::destroy_reply(s, a);
     if !accepted(r) {
         return r;
     }
-    let holds = ledger::holds_any(o, a);
+    let holds = entries::holds_any(o, a);
     if holds { Reply::InUse } else { Reply::Granted }
 }
 
 pub fn destroy(s: &mut [u64], o: &[u64], a: u64) -> Reply
-    requires { ⌜ (length (now s) ≡ sessionsWords) × ((length (now o) ≡ ordersWords) × (a < 128)) ⌝ }
+    requires { ⌜ (length (now s) ≡ sessionsWords) × (Ready (now o) × (a < 128)) ⌝ }
     ensures { λ r. ⌜ Destroyed (now (s .entry)) (now (s .exit)) (now (o .entry)) a r ⌝ }
 {
     let r = destroy_reply(s, o, a);
@@ -71,7 +72,7 @@ fn open_reply(p: &[u64], o: &[u64], a: u64, b: u64) -> Reply
     if !questions::has_task(p, b) {
         return Reply::Unknown;
     }
-    let x = ledger::opened(o, a);
+    let x = entries::opened(o, a);
     if x.open {
         return Reply::Taken;
     }
@@ -79,39 +80,39 @@ fn open_reply(p: &[u64], o: &[u64], a: u64, b: u64) -> Reply
 }
 
 pub fn open_order(p: &[u64], o: &mut [u64], a: u64, b: u64) -> Reply
-    requires { ⌜ (length (now p) ≡ policyWords) × ((length (now o) ≡ ordersWords) × ((a < 64) × (b < 16))) ⌝ }
+    requires { ⌜ (length (now p) ≡ policyWords) × (Ready (now o) × ((a < 64) × (b < 16))) ⌝ }
     ensures { λ r. ⌜ Opened (now (p .entry)) (now (o .entry)) (now (o .exit)) a b r ⌝ }
 {
     let r = open_reply(p, o, a, b);
     if !accepted(r) {
         return r;
     }
-    ledger::set_opened(o, a, b);
+    entries::set_opened(o, a, b);
     r
 }
 
 // ---- 49: end instance a, whatever the policy and the sessions are.
 
 fn end_reply(o: &[u64], a: u64) -> Reply
-    requires { ⌜ (length (now o) ≡ ordersWords) × (a < 64) ⌝ }
+    requires { ⌜ Ready (now o) × (a < 64) ⌝ }
     ensures { λ r. ⌜ EndJudged (now (o .entry)) a r ⌝ }
 {
-    let x = ledger::opened(o, a);
+    let x = entries::opened(o, a);
     if !x.open {
         return Reply::Unknown;
     }
-    let held = ledger::order_held(o, a);
+    let held = entries::order_held(o, a);
     if held { Reply::InUse } else { Reply::Granted }
 }
 
 pub fn end_order(o: &mut [u64], a: u64) -> Reply
-    requires { ⌜ (length (now o) ≡ ordersWords) × (a < 64) ⌝ }
+    requires { ⌜ Ready (now o) × (a < 64) ⌝ }
     ensures { λ r. ⌜ Ended (now (o .entry)) (now (o .exit)) a r ⌝ }
 {
     let r = end_reply(o, a);
     if !accepted(r) {
         return r;
     }
-    ledger::end_order(o, a);
+    entries::end_order(o, a);
     r
 }

@@ -11,7 +11,7 @@ use Rattle.paper_lower.specs.Kinds.{after}
 use Rattle.paper_upper.specs.Orders.{Engine, SameTables}
 use Rattle.paper_upper.specs.Engine.{request, Placed, placedRun}
 use Rattle.engine.specs.Buffers.{Buffers, tablesOf, fit}
-use Rattle.engine.proofs.SameLaws.{tables-refl, tables-sym, tables-then}
+use Rattle.links.proofs.SameLaws.{tables-refl, tables-sym, tables-then}
 use Rattle.engine.proofs.RespectLaws.{runs-respect}
 use Rattle.demands.specs.Calls.{Called, fitting}
 use Rattle.demands.proofs.Calls.{afterAll, after-all, told, chain-run, reading}

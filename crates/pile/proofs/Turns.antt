@@ -17,7 +17,7 @@ use Rattle.replies.specs.Replies.{numberOf}
 use Rattle.rules.specs.declared.Judged.{Judged}
 use Rattle.engine.specs.Buffers.{Buffers, tablesOf, fit, SameLengths}
 use Rattle.engine.specs.Answers.{requestAnswer, Requested}
-use Rattle.engine.proofs.SameLaws.{tables-refl, tables-sym, tables-then}
+use Rattle.links.proofs.SameLaws.{tables-refl, tables-sym, tables-then}
 use Rattle.engine.proofs.RespectLaws.{runs-respect}
 use Rattle.demands.specs.Calls.Request.{within}
 use Rattle.demands.proofs.Calls.{fit-kept, request-listed, answers}

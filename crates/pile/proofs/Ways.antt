@@ -17,7 +17,7 @@ use Rattle.replies.specs.Replies.{numberOf}
 use Rattle.replies.specs.declared.Reply.{Reply}
 use Rattle.replies.proofs.ReplyLaws.{is-zero, not-zero}
 use Rattle.engine.specs.Buffers.{Buffers, tablesOf, fit}
-use Rattle.engine.proofs.SameLaws.{tables-refl}
+use Rattle.links.proofs.SameLaws.{tables-refl}
 use Rattle.pile.specs.Pile.{count, wholeFrom, whole, MOST, repliesOf, writtenAt, pileChecks, pileOf, pileAnswer}
 use Rattle.pile.specs.Promises.{PileDone, Answers}
 

@@ -8,7 +8,7 @@ ghost use Rattle.replies.specs.Replies.{numberOf};
 ghost use Rattle.engine.specs.Buffers.{buffers, fit};
 ghost use Rattle.pile.specs.Pile.{pileChecks};
 ghost use Rattle.pile.specs.Promises.{PileDone, Answers};
-use ledger::ORDERS_WORDS;
+use links::ORDERS_WORDS;
 use policy::POLICY_WORDS;
 use replies::Reply;
 use sessions::SESSIONS_WORDS;

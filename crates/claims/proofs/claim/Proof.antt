@@ -1,10 +1,17 @@
 -- Judged, and then one entry more: a granted claim finds room.
-use mathlib.Core.Path.{_∙_}
+use mathlib.Core.Path.{_≡_, refl, sym, subst, _∙_}
+use borrow.Author.Tests.{not-false}
 use borrow.Author.Needs.{needs}
-use Rattle.paper_upper.specs.Requests.{claimNext}
-use Rattle.replies.proofs.DoneLaws.{refused, done}
+use Rattle.paper_upper.specs.Requests.{claimChecks, claimNext}
+use Rattle.replies.specs.Replies.{numberOf}
+use Rattle.replies.specs.Done.{Done}
+use Rattle.replies.proofs.ReplyLaws.{is-zero}
+use Rattle.replies.proofs.DoneLaws.{refused}
+use Rattle.links.proofs.SameLaws.{tables-refl}
+use Rattle.paper_lower.specs.Checks.{first}
+use Rattle.paper_upper.specs.Orders.{Engine, SameTables}
 use Rattle.orders.specs.Tables.{engineTables}
-use Rattle.claims.proofs.ClaimLaws.{room}
+use Rattle.claims.proofs.ClaimLaws.{claim-opened, room}
 use Rattle.claims.proofs.claim.Statement.{statement}
 use Rattle.claims.proofs.claim.Tie as tie
 
@@ -18,30 +25,31 @@ same-length : tie.Need-same-length
 same-length c = search needs
 
 returns : tie.Need-returns
-returns c = record {
-  done = refused (c .before .before .claim-reply .ensures .replies) (c .before .accepted .ensures) (c .if1 .taken);
-  places = c .before .before .claim-reply .ensures .places ∙ rw (c .before .before .claim-reply .ensures .replies);
-}
+returns c =
+    let z = c .before .before .before .before .before .before .before .args in
+    let t = engineTables (z .p .now) (z .s .now) (z .o .now) in
+    let d : Done (engineTables (z .p .now) (z .s .now)) (first (claimChecks t (z .a) (z .b) (z .c))) (claimNext t (z .a) (z .b) (z .c)) (z .o .now) (z .o .now) (c .before .before .claim-reply .result .reply) = refused (c .before .before .claim-reply .ensures .replies) (c .before .accepted .ensures) (c .if1 .taken) in
+    record {
+      replies = d .replies;
+      places = c .before .before .claim-reply .ensures .places ∙ rw (c .before .before .claim-reply .ensures .replies);
+      tables = subst (λ (x : Engine). SameTables t x) (d .tables) (tables-refl t);
+      kept = d .kept;
+      sound = c .before .before .before .before .before .before .before .pre .1 .1 .0 .1;
+    }
 
 user-requires : tie.Need-user-requires
 user-requires c κs = search needs
 
 enter-requires : tie.Need-enter-requires
 enter-requires c κs =
-    let z = c .before .before .before .before .before .before .before .before .before .args in (
+    let z = c .before .before .before .before .before .before .before .before .before .args in
+    let t = engineTables (z .p .now) (z .s .now) (z .o .now) in (
       c .before .before .before .before .before .before .before .before .before .pre .1 .1 .0,
       (
-        room (engineTables (z .p .now) (z .s .now) (z .o .now)) (z .a) (z .b) (z .c)
-            (c .before .before .before .before .claim-reply .result .reply) (c .before .before .before .before .claim-reply .ensures .replies) (c .before .before .before .accepted .ensures) (c .before .before .if1 .left),
+        claim-opened t (z .a) (z .b) (z .c) (c .before .before .before .before .claim-reply .result .reply) (c .before .before .before .before .claim-reply .ensures .replies) (c .before .before .before .accepted .ensures) (c .before .before .if1 .left),
         (
-          c .before .user .ensures .1,
-          (
-            c .before .before .before .before .before .before .before .before .before .pre .1 .1 .1 .1 .0,
-            (
-              c .before .before .before .before .before .before .before .before .before .pre .1 .1 .1 .1 .1,
-              c .before .before .before .before .before .before .before .before .before .pre .1 .1 .1 .0,
-            ),
-          ),
+          room t (z .a) (z .b) (z .c) (c .before .before .before .before .claim-reply .result .reply) (c .before .before .before .before .claim-reply .ensures .replies) (c .before .before .before .accepted .ensures) (c .before .before .if1 .left),
+          (c .before .user .ensures .1, (c .before .before .before .before .before .before .before .before .before .pre .1 .1 .1 .1 .0, (c .before .before .before .before .before .before .before .before .before .pre .1 .1 .1 .1 .1, c .before .before .before .before .before .before .before .before .before .pre .1 .1 .1 .0))),
         ),
       ),
     )
@@ -51,11 +59,16 @@ same-length-2 c = search needs
 
 returns-2 : tie.Need-returns-2
 unfolding claimNext
-returns-2 c = record {
-  done = done (c .before .before .before .before .before .before .before .claim-reply .ensures .replies) (c .before .before .before .before .before .before .accepted .ensures) (c .before .before .before .before .before .if1 .left)
-      (rw (c .before .before .enter .ensures, c .before .before .before .before .user .ensures .0));
-  places = c .before .before .before .before .before .before .before .claim-reply .ensures .places ∙ rw (c .before .before .before .before .before .before .before .claim-reply .ensures .replies);
-}
+returns-2 c =
+    let r = c .before .before .before .before .before .before .before .claim-reply .result .reply in
+    let z : numberOf r ≡ 0 = is-zero r (c .before .before .before .before .before .before .accepted .ensures) (not-false _ (c .before .before .before .before .before .if1 .left)) in
+    record {
+      replies = c .before .before .before .before .before .before .before .claim-reply .ensures .replies;
+      places = c .before .before .before .before .before .before .before .claim-reply .ensures .places ∙ rw (c .before .before .before .before .before .before .before .claim-reply .ensures .replies);
+      tables = rw (sym (c .before .before .before .before .before .before .before .claim-reply .ensures .replies) ∙ z, ← c .before .before .before .before .user .ensures .0) (record { lower = refl; opened = c .before .before .enter .ensures .opened; entries = c .before .before .enter .ensures .entries });
+      kept = λ h. absurd (h z);
+      sound = c .before .before .enter .ensures .sound;
+    }
 
 pub claim-spec : {M : Type 1} → statement M
 claim-spec =

@@ -94,7 +94,7 @@ returns-3 c =
 
 opened-requires : tie.Need-opened-requires
 opened-requires c κs = (
-  c .before .before .before .before .before .before .before .before .before .before .before .pre .1 .1 .0,
+  c .before .before .before .before .before .before .before .before .before .before .before .pre .1 .1 .0 .0,
   c .before .before .before .before .before .before .before .before .before .before .before .pre .1 .1 .1 .1 .0,
 )
 

@@ -1,7 +1,7 @@
 -- The tests of the definition, the instance read once.
 use borrow.Author.Needs.{needs}
 use Rattle.paper_upper.specs.Requests.{unknown}
-use Rattle.ledger.proofs.TableLaws.{holds-opened}
+use Rattle.entries.proofs.TableLaws.{holds-opened}
 use Rattle.claims.proofs.is_unknown.Statement.{statement}
 use Rattle.claims.proofs.is_unknown.Tie as tie
 

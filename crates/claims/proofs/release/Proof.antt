@@ -2,6 +2,8 @@
 use borrow.Author.Needs.{needs}
 use Rattle.paper_upper.specs.Requests.{releaseNext}
 use Rattle.replies.proofs.DoneLaws.{refused, done}
+use Rattle.orders.specs.Tables.{engineTables}
+use Rattle.claims.proofs.ClaimLaws.{hold-opened}
 use Rattle.claims.proofs.release.Statement.{statement}
 use Rattle.claims.proofs.release.Tie as tie
 
@@ -15,10 +17,17 @@ same-length : tie.Need-same-length
 same-length c = search needs
 
 returns : tie.Need-returns
-returns c = refused (c .before .before .hold-reply .ensures) (c .before .accepted .ensures) (c .if1 .taken)
+returns c = (refused (c .before .before .hold-reply .ensures) (c .before .accepted .ensures) (c .if1 .taken), c .before .before .before .before .before .before .before .pre .1 .1 .0 .1)
 
 release-requires : tie.Need-release-requires
-release-requires c κs = search needs
+release-requires c κs =
+    let z = c .before .before .before .before .before .before .before .before .args in (
+      c .before .before .before .before .before .before .before .before .pre .1 .1 .0,
+      (
+        hold-opened (engineTables (z .p .now) (z .s .now) (z .o .now)) (z .a) (z .b) (z .c) (c .before .before .before .hold-reply .result) (c .before .before .before .hold-reply .ensures) (c .before .before .accepted .ensures) (c .before .if1 .left),
+        (c .before .before .before .before .before .before .before .before .pre .1 .1 .1 .1 .0, (c .before .before .before .before .before .before .before .before .pre .1 .1 .1 .1 .1, c .before .before .before .before .before .before .before .before .pre .1 .1 .1 .0)),
+      ),
+    )
 
 same-length-2 : tie.Need-same-length-2
 same-length-2 c = search needs
@@ -26,8 +35,7 @@ same-length-2 c = search needs
 returns-2 : tie.Need-returns-2
 unfolding releaseNext
 returns-2 c =
-    done (c .before .before .before .before .before .before .hold-reply .ensures) (c .before .before .before .before .before .accepted .ensures) (c .before .before .before .before .if1 .left)
-    (rw (c .before .before .release .ensures))
+    (done (c .before .before .before .before .before .before .hold-reply .ensures) (c .before .before .before .before .before .accepted .ensures) (c .before .before .before .before .if1 .left) (rw (c .before .before .release .ensures .tables)), c .before .before .release .ensures .sound)
 
 pub release-spec : {M : Type 1} → statement M
 release-spec =

@@ -38,8 +38,8 @@ returns-2 c =
 decode-requires : tie.Need-decode-requires
 decode-requires c κs = sized requestForms (c .before .before .before .before .before .before .before .before .args .bytes .now) (c .before .before .judge .result) (c .before .before .judge .ensures) (c .before .accepted .ensures) (c .if2 .left)
 
-step-requires : tie.Need-step-requires
-step-requires c κs = (
+act-requires : tie.Need-act-requires
+act-requires c κs = (
   lengths (buffers (c .before .before .before .before .before .before .before .before .before .before .before .before .args .policy .now) (c .before .before .before .before .before .before .before .before .before .before .before .before .args .sessions .now) (c .before .before .before .before .before .before .before .before .before .before .before .before .args .orders .now)) (c .before .before .before .before .before .before .before .if1 .left),
   passed requestForms (c .before .before .before .before .before .before .before .before .before .before .before .before .args .bytes .now) (c .before .before .before .before .before .before .judge .result) (c .before .before .before .before .before .before .judge .ensures) (c .before .before .before .before .before .accepted .ensures) (c .before .before .before .before .if2 .left) (c .before .before .before .decode .ensures),
 )
@@ -59,7 +59,7 @@ returns-3 c =
     answered (c .before .before .before .before .before .before .before .before .before .before .before .before .before .before .if1 .left)
     (passed-answer requestForms (c .before .before .before .before .before .before .before .before .before .before .before .before .before .before .before .before .before .before .before .args .bytes .now) (c .before .before .before .before .before .before .before .before .before .before .before .before .before .judge .result) (c .before .before .before .before .before .before .before .before .before .before .before .before .before .judge .ensures) (c .before .before .before .before .before .before .before .before .before .before .before .before .accepted .ensures) (c .before .before .before .before .before .before .before .before .before .before .before .if2 .left) (c .before .before .before .before .before .before .before .before .before .before .decode .ensures) requestKinds (tablesOf (buffers (c .before .before .before .before .before .before .before .before .before .before .before .before .before .before .before .before .before .before .before .args .policy .now) (c .before .before .before .before .before .before .before .before .before .before .before .before .before .before .before .before .before .before .before .args .sessions .now) (c .before .before .before .before .before .before .before .before .before .before .before .before .before .before .before .before .before .before .before .args .orders .now))))
     (c .before .before .before .before .before .before .before .before .before .before .decode .ensures .reads)
-    (c .before .before .before .before .before .before .step .ensures) (same-lengths (same-length c) (same-length-2 c) (same-length-3 c))
+    (c .before .before .before .before .before .before .act .ensures) (same-lengths (same-length c) (same-length-2 c) (same-length-3 c))
 
 pub request-spec : {M : Type 1} → statement M
 request-spec =
@@ -72,7 +72,7 @@ request-spec =
     plain-requires-2
     returns-2
     decode-requires
-    step-requires
+    act-requires
     same-length
     same-length-2
     same-length-3

@@ -83,7 +83,7 @@ same-length-3 c = search needs
 
 returns : tie.Need-returns
 unfolding chosen requestKinds upperKinds placeOf
-returns c = rw (c .before .before .before .before .before .before .before .match .keys1) (of-policy (c .plain .ensures) refl (c .before .before .before .delete .ensures))
+returns c = rw (c .before .before .before .before .before .before .before .match .keys1) (of-policy (c .plain .ensures) refl (c .before .before .before .delete .ensures), c .before .before .before .before .before .before .before .before .before .before .before .pre .0 .1 .1 .1)
 
 same-length-4 : tie.Need-same-length-4
 same-length-4 c = search needs
@@ -93,7 +93,7 @@ same-length-5 c = search needs
 
 returns-2 : tie.Need-returns-2
 unfolding chosen requestKinds upperKinds placeOf
-returns-2 c = rw (c .before .before .before .before .before .before .match .keys2) (of-sessions (c .plain2 .ensures) refl (c .before .before .before .destroy .ensures (c .before .before .before .before .before .before .before .before .before .before .args .p .now)))
+returns-2 c = rw (c .before .before .before .before .before .before .match .keys2) (of-sessions (c .plain2 .ensures) refl (c .before .before .before .destroy .ensures (c .before .before .before .before .before .before .before .before .before .before .args .p .now)), c .before .before .before .before .before .before .before .before .before .before .pre .0 .1 .1 .1)
 
 same-length-6 : tie.Need-same-length-6
 same-length-6 c = search needs
@@ -103,14 +103,14 @@ same-length-7 c = search needs
 
 returns-3 : tie.Need-returns-3
 unfolding chosen requestKinds upperKinds placeOf
-returns-3 c = rw (c .before .before .before .before .before .before .match .keys3) (of-orders (c .plain3 .ensures) refl (c .before .before .before .open-order .ensures (c .before .before .before .before .before .before .before .before .before .before .args .s .now)))
+returns-3 c = rw (c .before .before .before .before .before .before .match .keys3) (of-orders (c .plain3 .ensures) refl (c .before .before .before .open-order .ensures .0 (c .before .before .before .before .before .before .before .before .before .before .args .s .now)), c .before .before .before .open-order .ensures .1)
 
 same-length-8 : tie.Need-same-length-8
 same-length-8 c = search needs
 
 returns-4 : tie.Need-returns-4
 unfolding chosen requestKinds upperKinds placeOf
-returns-4 c = rw (c .before .before .before .before .before .match .keys4) (of-orders (c .plain4 .ensures) refl (c .before .before .before .end-order .ensures (c .before .before .before .before .before .before .before .before .before .args .p .now) (c .before .before .before .before .before .before .before .before .before .args .s .now)))
+returns-4 c = rw (c .before .before .before .before .before .match .keys4) (of-orders (c .plain4 .ensures) refl (c .before .before .before .end-order .ensures .0 (c .before .before .before .before .before .before .before .before .before .args .p .now) (c .before .before .before .before .before .before .before .before .before .args .s .now)), c .before .before .before .end-order .ensures .1)
 
 same-length-9 : tie.Need-same-length-9
 same-length-9 c = search needs
@@ -123,7 +123,7 @@ same-length-11 c = search needs
 
 returns-5 : tie.Need-returns-5
 unfolding chosen requestKinds upperKinds placeOf
-returns-5 c = rw (c .before .before .before .before .before .before .match .keys5) (of-claim (c .before .before .claim .ensures))
+returns-5 c = rw (c .before .before .before .before .before .before .match .keys5) (of-claim (c .before .before .claim .ensures), c .before .before .claim .ensures .sound)
 
 same-length-12 : tie.Need-same-length-12
 same-length-12 c = search needs
@@ -136,7 +136,7 @@ same-length-14 c = search needs
 
 returns-6 : tie.Need-returns-6
 unfolding chosen requestKinds upperKinds placeOf
-returns-6 c = rw (c .before .before .before .before .before .before .before .match .keys6) (of-orders (c .plain5 .ensures) refl (c .before .before .before .release .ensures))
+returns-6 c = rw (c .before .before .before .before .before .before .before .match .keys6) (of-orders (c .plain5 .ensures) refl (c .before .before .before .release .ensures .0), c .before .before .before .release .ensures .1)
 
 same-length-15 : tie.Need-same-length-15
 same-length-15 c = search needs
@@ -149,7 +149,7 @@ same-length-17 c = search needs
 
 returns-7 : tie.Need-returns-7
 unfolding chosen requestKinds upperKinds placeOf
-returns-7 c = rw (c .before .before .before .before .before .before .before .match .keys7) (of-orders (c .plain6 .ensures) refl (c .before .before .before .finish .ensures))
+returns-7 c = rw (c .before .before .before .before .before .before .before .match .keys7) (of-orders (c .plain6 .ensures) refl (c .before .before .before .finish .ensures .0), c .before .before .before .finish .ensures .1)
 
 same-length-18 : tie.Need-same-length-18
 same-length-18 c = search needs
@@ -162,7 +162,7 @@ same-length-20 c = search needs
 
 returns-8 : tie.Need-returns-8
 unfolding chosen requestKinds upperKinds placeOf
-returns-8 c = rw (c .before .before .before .before .before .match .keys8) (of-none (c .plain7 .ensures) refl (c .before .task-check-reply .ensures))
+returns-8 c = rw (c .before .before .before .before .before .match .keys8) (of-none (c .plain7 .ensures) refl (c .before .task-check-reply .ensures), c .before .before .before .before .before .before .before .before .before .pre .0 .1 .1 .1)
 
 same-length-21 : tie.Need-same-length-21
 same-length-21 c = search needs
@@ -172,7 +172,7 @@ same-length-22 c = search needs
 
 returns-9 : tie.Need-returns-9
 unfolding raised
-returns-9 c = rw (lower-row (c .before .before .before .before .before .before .before .before .match .rest)) (of-lower (c .plain8 .ensures) (no-claim _ _ _ (c .before .before .before .before .before .before .before .before .match .rest .0 .0 .0 .1)) (c .before .before .before .before .before .step .ensures))
+returns-9 c = rw (lower-row (c .before .before .before .before .before .before .before .before .match .rest)) (of-lower (c .plain8 .ensures) (no-claim _ _ _ (c .before .before .before .before .before .before .before .before .match .rest .0 .0 .0 .1)) (c .before .before .before .before .before .step .ensures), c .before .before .before .before .before .before .before .before .before .before .before .before .pre .0 .1 .1 .1)
 
 pub step-spec : {M : Type 1} → statement M
 step-spec =

@@ -3,7 +3,7 @@ use mathlib.Core.Path.{ap}
 use borrow.Author.Needs.{needs}
 use Rattle.replies.proofs.DoneLaws.{refused, done}
 use Rattle.sessions.specs.Reading.{sessionsOf}
-use Rattle.ledger.specs.Reading.{ordersOf}
+use Rattle.entries.specs.Reading.{ordersOf}
 use Rattle.orders.proofs.delete.Statement.{statement}
 use Rattle.orders.proofs.delete.Tie as tie
 

@@ -3,7 +3,7 @@ use mathlib.Core.Path.{ap}
 use borrow.Author.Needs.{needs}
 use Rattle.replies.proofs.DoneLaws.{refused, done}
 use Rattle.policy.specs.Reading.{policyOf}
-use Rattle.ledger.specs.Reading.{ordersOf}
+use Rattle.entries.specs.Reading.{ordersOf}
 use Rattle.orders.proofs.destroy.Statement.{statement}
 use Rattle.orders.proofs.destroy.Tie as tie
 

@@ -15,7 +15,7 @@ same-length : tie.Need-same-length
 same-length c = search needs
 
 returns : tie.Need-returns
-returns c = λ p s. refused (c .before .before .end-reply .ensures p s) (c .before .accepted .ensures) (c .if1 .taken)
+returns c = ((λ p s. refused (c .before .before .end-reply .ensures p s) (c .before .accepted .ensures) (c .if1 .taken)), c .before .before .before .before .before .pre .0 .1)
 
 end-order-requires : tie.Need-end-order-requires
 end-order-requires c κs = search needs
@@ -26,8 +26,7 @@ same-length-2 c = search needs
 returns-2 : tie.Need-returns-2
 unfolding endNext
 returns-2 c =
-    λ p s. done (c .before .before .before .before .before .before .end-reply .ensures p s) (c .before .before .before .before .before .accepted .ensures) (c .before .before .before .before .if1 .left)
-    (rw (c .before .before .end-order .ensures))
+    ((λ p s. done (c .before .before .before .before .before .before .end-reply .ensures p s) (c .before .before .before .before .before .accepted .ensures) (c .before .before .before .before .if1 .left) (rw (c .before .before .end-order .ensures .tables))), c .before .before .end-order .ensures .sound)
 
 pub end-order-spec : {M : Type 1} → statement M
 end-order-spec =

@@ -1,7 +1,7 @@
 -- Each way out is the first check of the definition that applies.
 use borrow.Author.Needs.{needs}
 use Rattle.paper_upper.specs.Requests.{endChecks}
-use Rattle.ledger.proofs.TableLaws.{open-there}
+use Rattle.entries.proofs.TableLaws.{open-there}
 use Rattle.orders.proofs.end_reply.Statement.{statement}
 use Rattle.orders.proofs.end_reply.Tie as tie
 

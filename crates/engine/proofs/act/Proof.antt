@@ -1,0 +1,57 @@
+-- A step on sound links, or on the empty engine.
+use mathlib.Core.Path.{sym, _∙_}
+use borrow.Author.Tests.{not-true, not-false}
+use Rattle.engine.specs.Buffers.{buffers}
+use Rattle.engine.proofs.EmptyLaws.{broken-step, sound-step}
+use borrow.Author.Needs.{needs}
+use Rattle.engine.proofs.act.Statement.{statement}
+use Rattle.engine.proofs.act.Tie as tie
+
+is-sound-requires : tie.Need-is-sound-requires
+is-sound-requires c κs = search needs
+
+as-empty-requires : tie.Need-as-empty-requires
+as-empty-requires c κs = (c .before .before .before .before .before .before .before .before .before .pre .0, (c .before .before .before .before .before .before .before .before .before .pre .1, sym (c .before .before .before .before .is-sound .ensures) ∙ not-true _ (c .before .before .before .if1 .taken)))
+
+same-length : tie.Need-same-length
+same-length c = search needs
+
+same-length-2 : tie.Need-same-length-2
+same-length-2 c = search needs
+
+same-length-3 : tie.Need-same-length-3
+same-length-3 c = search needs
+
+returns : tie.Need-returns
+returns c = broken-step (c .before .before .before .before .before .before .before .before .before .before .before .before .before .before .before .before .args .r) (buffers (c .before .before .before .before .before .before .before .before .before .before .before .before .before .before .before .before .args .p .now) (c .before .before .before .before .before .before .before .before .before .before .before .before .before .before .before .before .args .s .now) (c .before .before .before .before .before .before .before .before .before .before .before .before .before .before .before .before .args .o .now)) _ (sym (c .before .before .before .before .before .before .before .before .before .before .before .is-sound .ensures) ∙ not-true _ (c .before .before .before .before .before .before .before .before .before .before .if1 .taken)) (c .before .before .before .before .before .before .as-empty .ensures)
+
+step-requires : tie.Need-step-requires
+step-requires c κs = ((c .before .before .before .before .before .before .before .before .before .pre .0 .0, (c .before .before .before .before .before .before .before .before .before .pre .0 .1 .0, (c .before .before .before .before .before .before .before .before .before .pre .0 .1 .1, sym (c .before .before .before .before .is-sound .ensures) ∙ not-false _ (c .before .before .before .if1 .left)))), c .before .before .before .before .before .before .before .before .before .pre .1)
+
+same-length-4 : tie.Need-same-length-4
+same-length-4 c = search needs
+
+same-length-5 : tie.Need-same-length-5
+same-length-5 c = search needs
+
+same-length-6 : tie.Need-same-length-6
+same-length-6 c = search needs
+
+returns-2 : tie.Need-returns-2
+returns-2 c = sound-step (c .before .before .before .before .before .before .before .before .before .before .before .before .before .before .before .before .args .r) (buffers (c .before .before .before .before .before .before .before .before .before .before .before .before .before .before .before .before .args .p .now) (c .before .before .before .before .before .before .before .before .before .before .before .before .before .before .before .before .args .s .now) (c .before .before .before .before .before .before .before .before .before .before .before .before .before .before .before .before .args .o .now)) _ (sym (c .before .before .before .before .before .before .before .before .before .before .before .is-sound .ensures) ∙ not-false _ (c .before .before .before .before .before .before .before .before .before .before .if1 .left)) (c .before .before .before .before .before .before .step .ensures)
+
+pub act-spec : {M : Type 1} → statement M
+act-spec =
+    tie.close
+    (tie.spec
+    is-sound-requires
+    as-empty-requires
+    same-length
+    same-length-2
+    same-length-3
+    returns
+    step-requires
+    same-length-4
+    same-length-5
+    same-length-6
+    returns-2)

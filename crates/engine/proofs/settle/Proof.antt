@@ -1,0 +1,59 @@
+-- A wrong length, sound links, or three emptied buffers.
+use mathlib.Core.Path.{sym, _∙_}
+use Rattle.engine.specs.Buffers.{buffers}
+use Rattle.engine.proofs.Ways.{lengths}
+use Rattle.engine.proofs.SettleLaws.{no-settle, settled-sound, settled-broken}
+use borrow.Author.Needs.{needs}
+use Rattle.engine.proofs.settle.Statement.{statement}
+use Rattle.engine.proofs.settle.Tie as tie
+use Rattle.policy.proofs.clear.Reads as clear-reads′
+use Rattle.sessions.proofs.clear.Reads as clear-reads′′
+
+returns : tie.Need-returns
+returns c = no-settle (buffers (c .before .before .before .before .args .policy .now) (c .before .before .before .before .args .sessions .now) (c .before .before .before .before .args .orders .now)) (c .if1 .taken)
+
+is-sound-requires : tie.Need-is-sound-requires
+is-sound-requires c κs = lengths (buffers (c .before .before .before .before .before .args .policy .now) (c .before .before .before .before .before .args .sessions .now) (c .before .before .before .before .before .args .orders .now)) (c .before .if1 .left) .1 .1
+
+same-length : tie.Need-same-length
+same-length c = search needs
+
+returns-2 : tie.Need-returns-2
+returns-2 c = settled-sound (buffers (c .before .before .before .before .before .before .before .args .policy .now) (c .before .before .before .before .before .before .before .args .sessions .now) (c .before .before .before .before .before .before .before .args .orders .now)) (c .before .before .before .if1 .left) (sym (c .before .is-sound .ensures) ∙ c .if2 .taken)
+
+clear-requires : tie.Need-clear-requires
+clear-requires c κs = lengths (buffers (c .before .before .before .before .before .before .before .before .args .policy .now) (c .before .before .before .before .before .before .before .before .args .sessions .now) (c .before .before .before .before .before .before .before .before .args .orders .now)) (c .before .before .before .before .if1 .left) .0
+
+clear-requires-2 : tie.Need-clear-requires-2
+clear-requires-2 c κs = lengths (buffers (c .before .before .before .before .before .before .before .before .before .before .before .before .args .policy .now) (c .before .before .before .before .before .before .before .before .before .before .before .before .args .sessions .now) (c .before .before .before .before .before .before .before .before .before .before .before .before .args .orders .now)) (c .before .before .before .before .before .before .before .before .if1 .left) .1 .0
+
+clear-requires-3 : tie.Need-clear-requires-3
+clear-requires-3 c κs = lengths (buffers (c .before .before .before .before .before .before .before .before .before .before .before .before .before .before .before .before .args .policy .now) (c .before .before .before .before .before .before .before .before .before .before .before .before .before .before .before .before .args .sessions .now) (c .before .before .before .before .before .before .before .before .before .before .before .before .before .before .before .before .args .orders .now)) (c .before .before .before .before .before .before .before .before .before .before .before .before .if1 .left) .1 .1
+
+same-length-2 : tie.Need-same-length-2
+same-length-2 c = search needs
+
+same-length-3 : tie.Need-same-length-3
+same-length-3 c = search needs
+
+same-length-4 : tie.Need-same-length-4
+same-length-4 c = search needs
+
+returns-3 : tie.Need-returns-3
+returns-3 c = settled-broken (c .before .before .before .before .before .before .before .before .before .before .before .before .before .before .before .before .before .before .before .args .policy .now) (c .before .before .before .before .before .before .before .before .before .before .before .before .before .before .before .before .before .before .before .args .sessions .now) (c .before .before .before .before .before .before .before .before .before .before .before .before .before .before .before .before .before .before .before .args .orders .now) _ _ _ (c .before .before .before .before .before .before .before .before .before .before .before .before .before .before .before .if1 .left) (sym (c .before .before .before .before .before .before .before .before .before .before .before .before .before .is-sound .ensures) ∙ c .before .before .before .before .before .before .before .before .before .before .before .before .if2 .left) (c .before .before .before .before .before .before .before .before .before .before .clear .ensures) (c .before .before .before .before .before .before .clear2 .ensures) (c .before .before .clear3 .ensures)
+
+pub settle-spec : {M : Type 1} → statement M
+settle-spec =
+    tie.close
+    (tie.spec
+    returns
+    is-sound-requires
+    same-length
+    returns-2
+    clear-requires
+    clear-requires-2
+    clear-requires-3
+    same-length-2
+    same-length-3
+    same-length-4
+    returns-3)

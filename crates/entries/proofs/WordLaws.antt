@@ -1,0 +1,103 @@
+-- One masked compare of an entry's word is a test of the entry.
+use Prim.Native.Nat.{ℕ, zero, suc, _+_, _*_, _/_, _%_, _<_}
+use mathlib.Core.Bool.{Bool, true, false, not, cond, _&&_}
+use mathlib.Core.Path.{_≡_, refl, sym, ap, _∙_}
+use native.Mathlib.Omega.{arith}
+use borrow.Author.Tests.{eq-eqb, ne-eqb, eqb-true, eqb-false}
+use lib.Bits.{bitAnd, and-mask, and-high, and-block}
+use lib.Dec.{eqb, lit<}
+use Rattle.paper_upper.specs.Orders.{isHeld, isHeldBy, inOrder, ofTask, heldBy}
+use Rattle.paper_upper.specs.Orders.Standing.{held, done}
+use Rattle.links.specs.Chains.{standingOf, entryOf}
+use Rattle.entries.specs.Reading.{keyOf, fits}
+
+-- ---- Tests. Two numbers are equal where their two parts are.
+parts : (m k lo hi x y : ℕ) → (m ≡ k → (lo ≡ x) × (hi ≡ y)) → (lo ≡ x → hi ≡ y → m ≡ k) → eqb m k ≡ (eqb lo x && eqb hi y)
+parts m k lo hi x y apart joint = go (eqb lo x) (eqb hi y) refl refl
+  where
+    go : (a b : Bool) → eqb lo x ≡ a → eqb hi y ≡ b → eqb m k ≡ (a && b)
+    go true true e f = eq-eqb m k (joint (eqb-true _ _ e) (eqb-true _ _ f))
+    go true false e f = ne-eqb m k (λ q. eqb-false _ _ f (apart q .1))
+    go false b e f = ne-eqb m k (λ q. eqb-false _ _ e (apart q .0))
+
+regroup : (o h t s : Bool) → ((o && h) && t) && s ≡ ((o && t) && (h && s))
+regroup true true true s = refl
+regroup true true false s = refl
+regroup true false true s = refl
+regroup true false false s = refl
+regroup false h t s = refl
+
+holder-part : (d s a : ℕ) → d < 2 → eqb (s * 8192 + d * 64) (8192 * a) ≡ (eqb d 0 && eqb s a)
+holder-part zero s a h = parts (s * 8192 + 0) (8192 * a) 0 s 0 a (λ e. (refl, omega arith)) (λ e f. omega arith)
+holder-part (suc zero) s a h = ne-eqb (s * 8192 + 64) (8192 * a) (λ e. omega arith)
+holder-part (suc (suc d)) s a h = let z : ⊥ = omega arith in absurd z
+
+module _ (w : ℕ) where
+  not-done-bit : not (eqb (w / 64 % 2) 1) ≡ eqb (w / 64 % 2) 0
+  not-done-bit = go (eqb (w / 64 % 2) 1) refl
+    where
+      go : (b : Bool) → eqb (w / 64 % 2) 1 ≡ b → not b ≡ eqb (w / 64 % 2) 0
+      go true e = let d = eqb-true (w / 64 % 2) 1 e in sym (ne-eqb (w / 64 % 2) 0 (λ q. omega arith))
+      go false e = let d = eqb-false (w / 64 % 2) 1 e in sym (eq-eqb (w / 64 % 2) 0 (omega arith))
+
+  is-held : isHeld (standingOf w) ≡ eqb (w / 64 % 2) 0
+  unfolding isHeld standingOf
+  is-held = rw (← not-done-bit) (go (eqb (w / 64 % 2) 1))
+    where
+      go : (b : Bool) → isHeld (cond b done (held (w / 8192 % 128))) ≡ not b
+      go true = refl
+      go false = refl
+
+  is-held-by : (a : ℕ) → isHeldBy a (standingOf w) ≡ (eqb (w / 64 % 2) 0 && eqb (w / 8192 % 128) a)
+  unfolding isHeldBy standingOf
+  is-held-by a = rw (← not-done-bit) (go (eqb (w / 64 % 2) 1))
+    where
+      go : (b : Bool) → isHeldBy a (cond b done (held (w / 8192 % 128))) ≡ (not b && eqb (w / 8192 % 128) a)
+      go true = refl
+      go false = refl
+
+  -- ---- the word's parts from below: instance, done, task, subject
+  order-part : (i : ℕ) → i < 64 → eqb (w % 128) i ≡ (eqb (w % 64) i && eqb (w / 64 % 2) 0)
+  order-part i hi = parts (w % 128) i (w % 64) (w / 64 % 2) i 0 (λ e. (omega arith, omega arith)) (λ e f. omega arith)
+
+  task-part : (i t : ℕ) → i < 64 → eqb (w % 8192) (i + 128 * t) ≡ (eqb (w % 128) i && eqb (w / 128 % 64) t)
+  task-part i t hi = parts (w % 8192) (i + 128 * t) (w % 128) (w / 128 % 64) i t (λ e. (omega arith, omega arith)) (λ e f. omega arith)
+
+  subject-part : (i t a : ℕ) → i < 64 → t < 64 → eqb (w % 1048576) (keyOf i t a) ≡ (eqb (w % 8192) (i + 128 * t) && eqb (w / 8192 % 128) a)
+  subject-part i t a hi ht = parts (w % 1048576) (keyOf i t a) (w % 8192) (w / 8192 % 128) (i + 128 * t) a (λ e. (omega arith, omega arith)) (λ e f. omega arith)
+
+  -- ---- and the tests
+  pub fits-held : (i : ℕ) → i < 64 → fits 127 i w ≡ (inOrder i (entryOf w) && isHeld (entryOf w .standing))
+  unfolding fits inOrder entryOf
+  fits-held i hi = ap (λ (n : ℕ). eqb n i) (and-mask w 7) ∙ order-part i hi ∙ rw is-held
+
+  pub fits-holding : (i t a : ℕ) → i < 64 → t < 64 → fits 1048575 (keyOf i t a) w ≡ heldBy i t a (entryOf w)
+  unfolding fits heldBy ofTask inOrder entryOf
+  fits-holding i t a hi ht =
+      ap (λ (n : ℕ). eqb n (keyOf i t a)) (and-mask w 20)
+      ∙ subject-part i t a hi ht
+      ∙ rw (task-part i t hi, order-part i hi, is-held-by a) (regroup (eqb (w % 64) i) (eqb (w / 64 % 2) 0) (eqb (w / 128 % 64) t) (eqb (w / 8192 % 128) a))
+
+  -- the done bit and the subject, all else cut away
+  holder : bitAnd w 1040448 ≡ w / 8192 % 128 * 8192 + w / 64 % 2 * 64
+  holder =
+      let e : w ≡ w / 8192 * 8192 + w % 8192 = omega arith in
+      let d : w % 8192 / 64 % 2 ≡ w / 64 % 2 = omega arith in
+      ap (λ (n : ℕ). bitAnd n 1040448) e
+      ∙ and-block 13 (w / 8192) 127 (w % 8192) 64 (omega arith) (lit< tt)
+      ∙ rw (and-mask (w / 8192) 7, and-high (w % 8192) 1 6, d)
+
+  pub fits-holder : (a : ℕ) → fits 1040448 (8192 * a) w ≡ isHeldBy a (entryOf w .standing)
+  unfolding fits entryOf
+  fits-holder a =
+      ap (λ (n : ℕ). eqb n (8192 * a)) holder
+      ∙ holder-part (w / 64 % 2) (w / 8192 % 128) a (omega arith)
+      ∙ sym (is-held-by a)
+
+  pub fits-user : (u : ℕ) → fits 1072693248 (1048576 * u) w ≡ eqb (entryOf w .user) u
+  unfolding fits entryOf
+  fits-user u = ap (λ (n : ℕ). eqb n (1048576 * u)) (and-high w 10 20) ∙ scaled (eqb (w / 1048576 % 1024) u) refl
+    where
+      scaled : (b : Bool) → eqb (w / 1048576 % 1024) u ≡ b → eqb (w / 1048576 % 1024 * 1048576) (1048576 * u) ≡ b
+      scaled true e = let same = eqb-true (w / 1048576 % 1024) u e in eq-eqb (w / 1048576 % 1024 * 1048576) (1048576 * u) (omega arith)
+      scaled false e = let other = eqb-false (w / 1048576 % 1024) u e in ne-eqb (w / 1048576 % 1024 * 1048576) (1048576 * u) (λ (z : w / 1048576 % 1024 * 1048576 ≡ 1048576 * u). other (omega arith))

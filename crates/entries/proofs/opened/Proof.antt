@@ -1,0 +1,26 @@
+-- The set of open instances, and the template.
+use Prim.Native.Nat.{ℕ, _-_}
+use mathlib.Core.Path.{ap, _∙_}
+use native.Mathlib.Omega.{arith}
+use mathlib.Core.Bool.{Bool, cond}
+use Rattle.paper_lower.specs.Sets.{has}
+use Rattle.paper_lower.specs.Lists.Maybe.{none, just}
+use Rattle.links.specs.Chains.{openOf}
+use Rattle.links.proofs.ReadLaws.{template-is}
+use Rattle.entries.specs.Reading.{ordersOf}
+use borrow.Author.Needs.{needs}
+use Rattle.entries.proofs.opened.Statement.{statement}
+use Rattle.entries.proofs.opened.Tie as tie
+
+is-open-requires : tie.Need-is-open-requires
+is-open-requires c κs = search needs
+
+template-requires : tie.Need-template-requires
+template-requires c κs = search needs
+
+returns : tie.Need-returns
+unfolding ordersOf
+returns c = (ap (λ (b : Bool). cond b (just (c .template .result)) none) (c .before .is-open .ensures) ∙ ap (λ (j : ℕ). cond (has (openOf (c .before .before .before .args .o .now)) (c .before .before .before .args .i)) (just j) none) (c .template .ensures) ∙ template-is (c .before .before .before .args .o .now) (c .before .before .before .args .i) (c .before .before .before .pre .1), (let e = c .template .ensures in omega arith))
+
+pub opened-spec : {M : Type 1} → statement M
+opened-spec = tie.close (tie.spec is-open-requires template-requires returns)

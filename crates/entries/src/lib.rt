@@ -1,0 +1,279 @@
+// The ledger: the instances and the entries of all of them, over the linked words of the orders buffer (links).
+// Each function equals what paper_upper defines over the tables that a sound buffer reads as (specs/Reading).
+ghost use mathlib.Core.Path.{_≡_};
+ghost use Prim.Native.Nat.{_+_, _/_, _%_, _<_, _≤_};
+ghost use lib.ListN.{length};
+ghost use mathlib.Core.Bool.{true, false, cond, _&&_};
+ghost use lib.Dec.{eqb};
+ghost use Rattle.paper_lower.specs.Sets.{plus};
+ghost use Rattle.paper_lower.specs.Lists.{someBelow, there, some, many};
+ghost use Rattle.paper_lower.specs.Lists.Maybe.{just};
+ghost use Rattle.paper_upper.specs.Orders.{isHeld, isHeldBy, inOrder, heldBy};
+ghost use Rattle.links.specs.Chains.{ordersWords};
+ghost use Rattle.entries.specs.Reading.{Cleared, ordersOf, withInstance, openedOf, inOpenOrder, keyOf, anyIn};
+ghost use Rattle.entries.specs.Acts.{InLimits, Ready, afterEnter, afterRelease, afterFinish, afterEnd, Acts, Enters};
+ghost use Rattle.entries.specs.Gathering.{gatheredOf, takenIn, figuresOf};
+use links::FREE;
+use links::ORDERS_WORDS;
+use sets::Set;
+use sets::set_of;
+
+// What of an entry's word a test looks at: its instance, and whether it is held; and its task and subject; or only whether it is held, and its subject;
+// or its user.
+const ORDER_HELD: u64 = 127;
+
+const HELD_BY: u64 = 1048575;
+
+const HOLDER: u64 = 1040448;
+
+const USER: u64 = 1072693248;
+
+pub struct Instance {
+    pub open: bool,
+    pub template: u64,
+}
+
+pub fn opened(o: &[u64], i: u64) -> Instance
+    requires { ⌜ (length (now o) ≡ ordersWords) × (i < 64) ⌝ }
+    ensures { λ r. ⌜ (openedOf r ≡ ordersOf (now (o .entry)) .opened i) × (r .template < 16) ⌝ }
+{
+    let open = links::is_open(o, i);
+    let template = links::template(o, i);
+    Instance { open, template }
+}
+
+pub fn set_opened(o: &mut [u64], i: u64, j: u64)
+    requires { ⌜ Ready (now o) × ((there (ordersOf (now o) .opened i) ≡ false) × ((i < 64) × (j < 16))) ⌝ }
+    ensures { λ _. ⌜ Acts (withInstance (ordersOf (now (o .entry))) i (just j)) (now (o .exit)) ⌝ }
+{
+    links::open_chain(o, i, j);
+}
+
+// How many entries there are.
+pub fn in_use(o: &[u64]) -> usize
+    requires { ⌜ Ready (now o) ⌝ }
+    ensures { λ r. ⌜ (r ≡ many (ordersOf (now (o .entry)) .entries)) × (r ≤ 2048) ⌝ }
+{
+    let free = links::chain(o, FREE);
+    let m = links::mark(o);
+    (m - free / 4096 % 4096) as usize
+}
+
+// ---- What a claim asks.
+
+// The tasks of one instance with an entry of the user, with a done entry, with an entry of another user; the entries of one task, and 1 where one of
+// them is held: the padding of a bool would go through memory at each turn.
+pub struct Gathered {
+    pub mine: Set,
+    pub done: Set,
+    pub others: Set,
+    pub times: u64,
+    pub held: u64,
+}
+
+fn pick(c: bool, a: u64, b: u64) -> u64
+    ensures { λ r. ⌜ r ≡ cond c a b ⌝ }
+{
+    if c { a } else { b }
+}
+
+fn more_if(c: bool, n: u64) -> u64
+    requires { ⌜ n < 4096 ⌝ }
+    ensures { λ r. ⌜ r ≡ cond c (n + 1) n ⌝ }
+{
+    if c { n + 1 } else { n }
+}
+
+fn with_if(c: bool, tasks: Set, t: u64) -> Set
+    requires { ⌜ t < 64 ⌝ }
+    ensures { λ r. ⌜ r .bits ≡ cond c (plus (tasks .bits) t) (tasks .bits) ⌝ }
+{
+    let more = tasks.with(t);
+    Set {
+        bits: pick(c, more.bits, tasks.bits),
+    }
+}
+
+// One entry more of the instance, without a branch.
+fn take_in(g: Gathered, w: u64, u: u64, t: u64) -> Gathered
+    requires { ⌜ g .times < 4096 ⌝ }
+    ensures { λ r. ⌜ r ≡ takenIn u t (w / 1048576 % 1024) (w / 128 % 64) (eqb (w / 64 % 2) 1) g ⌝ }
+{
+    let task = w / 128 % 64;
+    let own = w / 1048576 % 1024 == u;
+    let this = task == t;
+    let finished = w / 64 % 2 == 1;
+    let mine = with_if(own, g.mine, task);
+    let done = with_if(finished, g.done, task);
+    let others = with_if(!own, g.others, task);
+    let times = more_if(this, g.times);
+    let held = pick(this & !finished, 1, g.held);
+    Gathered {
+        mine,
+        done,
+        others,
+        times,
+        held,
+    }
+}
+
+// What a claim of task t by user u in instance i asks of the entries: a walk over those of the instance.
+pub fn gather(o: &[u64], i: u64, u: u64, t: u64) -> Gathered
+    requires { ⌜ Ready (now o) × (i < 64) ⌝ }
+    ensures { λ r. ⌜ r ≡ gatheredOf i u t (ordersOf (now (o .entry)) .entries) ⌝ }
+{
+    let x = links::chain(o, i);
+    let mut h = x % 4096;
+    let mut n = x / 4096 % 4096;
+    let mut g = Gathered {
+        mine: Set::EMPTY,
+        done: Set::EMPTY,
+        others: Set::EMPTY,
+        times: 0,
+        held: 0,
+    };
+    while 0 < n {
+        let w = links::word(o, h);
+        g = take_in(g, w, u, t);
+        h = w / 4294967296 % 4096;
+        n -= 1;
+    }
+    g
+}
+
+// ---- A search through the entries.
+
+// Whether the word of some entry of instance i, cut by the mask, is the key.
+fn any_in(o: &[u64], i: u64, mask: u64, key: u64) -> bool
+    requires { ⌜ Ready (now o) × (i < 64) ⌝ }
+    ensures { λ r. ⌜ r ≡ anyIn (now (o .entry)) i mask key ⌝ }
+{
+    let x = links::chain(o, i);
+    let mut h = x % 4096;
+    let mut n = x / 4096 % 4096;
+    let mut found = false;
+    while 0 < n {
+        let w = links::word(o, h);
+        found = (w & mask == key) | found;
+        h = w / 4294967296 % 4096;
+        n -= 1;
+    }
+    found
+}
+
+// Whether that of some entry of any instance is.
+fn any(o: &[u64], mask: u64, key: u64) -> bool
+    requires { ⌜ Ready (now o) ⌝ }
+    ensures { λ r. ⌜ r ≡ someBelow 64 (λ i. anyIn (now (o .entry)) i mask key) ⌝ }
+{
+    let mut i = 0;
+    while i < 64 {
+        if any_in(o, i, mask, key) {
+            return true;
+        }
+        i += 1;
+    }
+    false
+}
+
+// The part of an entry's word below its user: task t of instance i, held by subject a.
+fn key_of(i: u64, t: u64, a: u64) -> u64
+    requires { ⌜ InLimits i t a ⌝ }
+    ensures { λ r. ⌜ r ≡ keyOf i t a ⌝ }
+{
+    i + 128 * t + 8192 * a
+}
+
+pub fn holds_task(o: &[u64], i: u64, t: u64, a: u64) -> bool
+    requires { ⌜ Ready (now o) × InLimits i t a ⌝ }
+    ensures { λ r. ⌜ r ≡ some (heldBy i t a) (ordersOf (now (o .entry)) .entries) ⌝ }
+{
+    let key = key_of(i, t, a);
+    any_in(o, i, HELD_BY, key)
+}
+
+pub fn order_held(o: &[u64], i: u64) -> bool
+    requires { ⌜ Ready (now o) × (i < 64) ⌝ }
+    ensures { λ r. ⌜ r ≡ some (λ e. inOrder i e && isHeld (e .standing)) (ordersOf (now (o .entry)) .entries) ⌝ }
+{
+    any_in(o, i, ORDER_HELD, i)
+}
+
+// Whether the subject holds any task, of whatever instance.
+pub fn holds_any(o: &[u64], a: u64) -> bool
+    requires { ⌜ Ready (now o) × (a < 128) ⌝ }
+    ensures { λ r. ⌜ r ≡ some (λ e. isHeldBy a (e .standing)) (ordersOf (now (o .entry)) .entries) ⌝ }
+{
+    any(o, HOLDER, 8192 * a)
+}
+
+// Whether the user has an entry in an open instance: no other has any.
+pub fn in_open_order(o: &[u64], u: u64) -> bool
+    requires { ⌜ Ready (now o) × (u < 1024) ⌝ }
+    ensures { λ r. ⌜ r ≡ some (inOpenOrder (ordersOf (now (o .entry))) u) (ordersOf (now (o .entry)) .entries) ⌝ }
+{
+    any(o, USER, 1048576 * u)
+}
+
+// ---- Kept figures.
+
+pub struct Figures {
+    pub entries: u64,
+    pub done: Set,
+}
+
+// How many entries instance i has, and which of its tasks are done.
+pub fn figures_of(o: &[u64], i: u64) -> Figures
+    requires { ⌜ Ready (now o) × (i < 64) ⌝ }
+    ensures { λ r. ⌜ r ≡ figuresOf i (ordersOf (now (o .entry)) .entries) ⌝ }
+{
+    let x = links::chain(o, i);
+    let d = links::done(o, i);
+    Figures {
+        entries: x / 4096 % 4096,
+        done: set_of(d),
+    }
+}
+
+// ---- Acts.
+
+// Subject a, of user u, takes task t of instance i.
+pub fn enter(o: &mut [u64], i: u64, u: u64, t: u64, a: u64)
+    requires { ⌜ Ready (now o) × ((there (ordersOf (now o) .opened i) ≡ true) × ((many (ordersOf (now o) .entries) < 2048) × ((u < 1024) × InLimits i t a))) ⌝ }
+    ensures { λ _. ⌜ Enters (afterEnter (ordersOf (now (o .entry))) i u t a) (now (o .exit)) ⌝ }
+{
+    links::enter(o, i, u, t, a);
+}
+
+pub fn release(o: &mut [u64], i: u64, t: u64, a: u64)
+    requires { ⌜ Ready (now o) × ((there (ordersOf (now o) .opened i) ≡ true) × InLimits i t a) ⌝ }
+    ensures { λ _. ⌜ Acts (afterRelease (ordersOf (now (o .entry))) i t a) (now (o .exit)) ⌝ }
+{
+    links::release(o, i, t, a);
+}
+
+pub fn finish(o: &mut [u64], i: u64, t: u64, a: u64)
+    requires { ⌜ Ready (now o) × ((there (ordersOf (now o) .opened i) ≡ true) × InLimits i t a) ⌝ }
+    ensures { λ _. ⌜ Acts (afterFinish (ordersOf (now (o .entry))) i t a) (now (o .exit)) ⌝ }
+{
+    links::finish(o, i, t, a);
+}
+
+// The instance is closed, and its entries go.
+pub fn end_order(o: &mut [u64], i: u64)
+    requires { ⌜ Ready (now o) × (i < 64) ⌝ }
+    ensures { λ _. ⌜ Acts (afterEnd (ordersOf (now (o .entry))) i) (now (o .exit)) ⌝ }
+{
+    links::close_chain(o, i);
+}
+
+pub fn clear(o: &mut [u64])
+    requires { ⌜ length (now o) ≡ ordersWords ⌝ }
+    ensures { λ _. ⌜ Cleared (now (o .exit)) ⌝ }
+{
+    let mut k = 0;
+    while k < ORDERS_WORDS {
+        o[k] = 0;
+        k += 1;
+    }
+}

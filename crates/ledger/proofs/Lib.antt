@@ -1,6 +1,0 @@
-pub mod ListLaws
-pub mod WordLaws
-pub mod OrdersLaws
-pub mod WalkLaws
-pub mod GatherLaws
-pub mod TableLaws

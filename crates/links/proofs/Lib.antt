@@ -1,0 +1,11 @@
+pub mod ReadLaws
+pub mod ChainLaws
+pub mod OnceLaws
+pub mod SoundLaws
+pub mod CheckLaws
+pub mod StackLaws
+pub mod SameLaws
+pub mod EntryLaws
+pub mod CarryLaws
+pub mod ActLaws
+pub mod ZeroLaws

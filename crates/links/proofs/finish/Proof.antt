@@ -1,0 +1,55 @@
+-- Each is turned, and put back in its order.
+use Prim.Native.Nat.{_+_}
+use mathlib.Core.Path.{_∙_}
+use native.Mathlib.Omega.{arith}
+use lib.ListN.{length-set}
+use Rattle.links.proofs.ReadLaws.{read-same, read-open}
+use Rattle.links.proofs.ActLaws.{whole, finished}
+use borrow.Author.Needs.{needs}
+use Rattle.links.proofs.finish.Statement.{statement}
+use Rattle.links.proofs.finish.Tie as tie
+
+mul-turn-held : tie.Need-mul-turn-held
+mul-turn-held c = search needs
+
+mul-turn-held-2 : tie.Need-mul-turn-held-2
+mul-turn-held-2 c = search needs
+
+add-turn-held : tie.Need-add-turn-held
+add-turn-held c = search needs
+
+turn-held-requires : tie.Need-turn-held-requires
+turn-held-requires c κs = (c .before .before .pre .0, (whole (c .before .before .args .o .now) (c .before .before .pre .1 .0) .woven, (c .before .before .pre .1 .1 .1 .0, omega arith)))
+
+put-back-requires : tie.Need-put-back-requires
+put-back-requires c κs = (c .before .before .before .turn-held .ensures .still .beside .room ∙ c .before .before .before .before .before .before .pre .0, (c .before .before .before .turn-held .ensures .still .woven, (c .before .before .before .before .before .before .pre .1 .1 .1 .0, (read-same (c .before .before .before .before .before .before .args .o .now) _ (c .before .before .before .before .before .before .args .i) (c .before .before .before .turn-held .ensures .still .beside .opens) ∙ read-open (c .before .before .before .before .before .before .args .o .now) (c .before .before .before .before .before .before .args .i) (c .before .before .before .before .before .before .pre .1 .1 .0), c .before .before .before .turn-held .ensures .own))))
+
+add-o : tie.Need-add-o
+add-o c = search needs
+
+mul-o : tie.Need-mul-o
+mul-o c = search needs
+
+slice-write-o : tie.Need-slice-write-o
+slice-write-o c = search needs
+
+same-length : tie.Need-same-length
+same-length c = length-set (c .before .before .put-back .last .0) (132 + c .before .before .before .before .before .before .before .before .before .args .i) (c .before .before .put-back .result) ∙ (c .before .before .put-back .ensures .still .beside .room ∙ c .before .before .before .before .before .before .turn-held .ensures .still .beside .room)
+
+returns : tie.Need-returns
+returns c = finished (c .before .before .before .before .before .before .before .before .before .args .o .now) _ _ (c .before .before .before .before .before .before .before .before .before .args .i) (c .before .before .before .before .before .before .before .before .before .args .t) (c .before .before .before .before .before .before .before .before .before .args .a) (c .before .before .put-back .result) (c .before .before .before .before .before .before .before .before .before .pre .0) (whole (c .before .before .before .before .before .before .before .before .before .args .o .now) (c .before .before .before .before .before .before .before .before .before .pre .1 .0)) (c .before .before .before .before .before .before .before .before .before .pre .1 .1 .1 .0) (c .before .before .before .before .before .before .before .before .before .pre .1 .1 .1 .1 .0) (c .before .before .before .before .before .before .before .before .before .pre .1 .1 .1 .1 .1) (c .before .before .before .before .before .before .before .before .before .pre .1 .1 .0) (c .before .before .before .before .before .before .turn-held .ensures) (c .before .before .put-back .ensures)
+
+pub finish-spec : {M : Type 1} → statement M
+finish-spec =
+    tie.close
+    (tie.spec
+    mul-turn-held
+    mul-turn-held-2
+    add-turn-held
+    turn-held-requires
+    put-back-requires
+    add-o
+    mul-o
+    slice-write-o
+    same-length
+    returns)

@@ -1,0 +1,78 @@
+-- Four words anew: the instance stands open and has no entries.
+use Prim.Native.Nat.{ℕ, _+_}
+use mathlib.Core.Path.{sym, ap, subst, _∙_}
+use mathlib.Core.List.{[]}
+use lib.ListN.{set, length-set}
+use native.Mathlib.Omega.{arith}
+use Rattle.paper_lower.specs.Sets.{plus}
+use Rattle.paper_lower.specs.Lists.Maybe.{just}
+use Rattle.links.specs.Acts.{Leaves}
+use Rattle.links.proofs.ActLaws.{whole, newly-opened}
+use borrow.Author.Needs.{needs}
+use Rattle.links.proofs.open_chain.Statement.{statement}
+use Rattle.links.proofs.open_chain.Tie as tie
+
+slice-read-set-of : tie.Need-slice-read-set-of
+slice-read-set-of c = search needs
+
+set-of-requires : tie.Need-set-of-requires
+set-of-requires c κs = search needs
+
+with-requires : tie.Need-with-requires
+with-requires c κs = search needs
+
+add-o : tie.Need-add-o
+add-o c = search needs
+
+mul-o : tie.Need-mul-o
+mul-o c = search needs
+
+slice-write-o : tie.Need-slice-write-o
+slice-write-o c = search needs
+
+add-o-2 : tie.Need-add-o-2
+add-o-2 c = search needs
+
+mul-o-2 : tie.Need-mul-o-2
+mul-o-2 c = search needs
+
+slice-write-o-2 : tie.Need-slice-write-o-2
+slice-write-o-2 c = rw (length-set (c .before .before .before .before .args .o .now) (2 + c .before .before .before .before .args .i) (c .before .before .before .before .args .j)) (omega arith)
+
+add-o-3 : tie.Need-add-o-3
+add-o-3 c = search needs
+
+mul-o-3 : tie.Need-mul-o-3
+mul-o-3 c = search needs
+
+slice-write-o-3 : tie.Need-slice-write-o-3
+slice-write-o-3 c = rw (length-set (set (c .before .before .before .before .args .o .now) (2 + c .before .before .before .before .args .i) (c .before .before .before .before .args .j)) (66 + c .before .before .before .before .args .i) 0, length-set (c .before .before .before .before .args .o .now) (2 + c .before .before .before .before .args .i) (c .before .before .before .before .args .j)) (omega arith)
+
+slice-write-o-4 : tie.Need-slice-write-o-4
+slice-write-o-4 c = search needs
+
+same-length : tie.Need-same-length
+same-length c = search needs
+
+returns : tie.Need-returns
+returns c = subst (λ (x : ℕ). Leaves (c .before .before .before .before .args .i) (just (c .before .before .before .before .args .j)) [] (c .before .before .before .before .args .o .now) (set (set (set (set (c .before .before .before .before .args .o .now) (2 + c .before .before .before .before .args .i) (c .before .before .before .before .args .j)) (66 + c .before .before .before .before .args .i) 0) (132 + c .before .before .before .before .args .i) 0) 1 x)) (sym (c .with .ensures ∙ ap (λ (m : ℕ). plus m (c .before .before .before .before .args .i)) (c .before .set-of .ensures))) (newly-opened (c .before .before .before .before .args .o .now) (c .before .before .before .before .args .i) (c .before .before .before .before .args .j) (c .before .before .before .before .pre .0) (whole (c .before .before .before .before .args .o .now) (c .before .before .before .before .pre .1 .0)) (c .before .before .before .before .pre .1 .1 .1 .0) (c .before .before .before .before .pre .1 .1 .1 .1) (c .before .before .before .before .pre .1 .1 .0))
+
+pub open-chain-spec : {M : Type 1} → statement M
+open-chain-spec =
+    tie.close
+    (tie.spec
+    slice-read-set-of
+    set-of-requires
+    with-requires
+    add-o
+    mul-o
+    slice-write-o
+    add-o-2
+    mul-o-2
+    slice-write-o-2
+    add-o-3
+    mul-o-3
+    slice-write-o-3
+    slice-write-o-4
+    same-length
+    returns)

@@ -1,0 +1,18 @@
+-- What an act on instance i of a sound buffer leaves.
+use Prim.Native.Nat.{ℕ, _<_}
+use mathlib.Core.Bool.{true}
+use mathlib.Core.List.{List}
+use mathlib.Core.Path.{_≡_}
+use lib.ListN.{length}
+use Rattle.paper_lower.specs.Lists.{Maybe}
+use Rattle.paper_upper.specs.Orders.{Entry}
+use Rattle.links.specs.Chains.{ordersWords, templateAt, entriesIn, soundOf}
+
+-- sound links; instance i with this template and these entries, the oldest first; every other as it was
+pub record Leaves (i : ℕ) (template : Maybe ℕ) (es : List Entry) (l l′ : List ℕ) : Type 0 where
+  pub room : length l′ ≡ ordersWords
+  pub sound : soundOf l′ ≡ true
+  pub opened : templateAt l′ i ≡ template
+  pub entries : entriesIn l′ i ≡ es
+  pub others : (j : ℕ) → (j ≡ i → ⊥) → templateAt l′ j ≡ templateAt l j
+  pub orders : (j : ℕ) → j < 64 → (j ≡ i → ⊥) → entriesIn l′ j ≡ entriesIn l j
