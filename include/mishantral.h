@@ -36,7 +36,7 @@ extern "C" {
  * library that is linked tells its own by mishantral_words; with another length than that it answers ROOM. */
 #define MISHANTRAL_POLICY_WORDS 4504
 #define MISHANTRAL_SESSIONS_WORDS 384
-#define MISHANTRAL_ORDERS_WORDS 2113
+#define MISHANTRAL_ORDERS_WORDS 2244
 #define MISHANTRAL_OPL_WORDS 397495
 
 /* The last number of each thing: users are 0 to MISHANTRAL_LAST_USER, and so on. */
