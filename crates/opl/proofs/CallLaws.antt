@@ -1,25 +1,25 @@
 -- The call's ways: a text that is refused, a scratch of another length, a name that is too long; and one answer.
 use Prim.Native.Nat.{ℕ, zero, suc, _+_, _-_, _≤_, _<_}
 use mathlib.Core.Path.{_≡_, refl, sym, ap, _∙_}
-use mathlib.Core.Bool.{Bool, true, false, cond, false≢true, true≢false}
+use mathlib.Core.Bool.{true, false≢true, true≢false}
 use mathlib.Core.List.{List, [], _∷_}
 use native.Mathlib.Omega.{arith}
 use lib.Dec.{eqb, leb}
 use lib.ListN.{length, drop, length-drop}
 use borrow.Author.Tests.{eq-eqb, ne-eqb}
-use Rattle.paper_lower.specs.Lists.{Maybe, every, Every}
-use Rattle.paper_lower.specs.Lists.Maybe.{none, just}
-use Rattle.paper_lower.specs.Records.{Bytes, Record}
+use Rattle.paper_lower.specs.Lists.{every, Every}
+use Rattle.paper_lower.specs.Checks.{GRANTED}
+use Rattle.paper_lower.specs.Records.{Bytes}
 use Rattle.paper_opl.specs.Reading.{Text, Read}
 use Rattle.paper_opl.specs.Reading.Read.{got, bad}
-use Rattle.paper_opl.specs.Tree.{Tag, Elements, if-found, prolog, document}
-use Rattle.paper_opl.specs.Naming.{Line, lines, recordsOf, written, translate, Answer as Translated}
+use Rattle.paper_opl.specs.Tree.{Tag, prolog, document}
+use Rattle.paper_opl.specs.Naming.{lines, recordsOf, written, translate, Answer as Translated}
 use Rattle.paper_opl.specs.Walk.{recordsIn, tags}
 use Rattle.paper_opl.proofs.Inversion.{on, on-test, on-found, bad≢got}
-use Rattle.paper_opl.proofs.Cardinalities.{Small, value-small}
+use Rattle.paper_opl.proofs.Cardinalities.{value-small}
 use Rattle.paper_opl.proofs.LeftToRight.{walk-gives}
 use Rattle.paper_opl.proofs.ShortNames.{ShortNames, short-names}
-use Rattle.opl_text.specs.Steps.{Reads, stepOf, placeOf}
+use Rattle.opl_text.specs.Steps.{Reads, stepOf}
 use Rattle.opl_text.specs.declared.Step.{Step}
 use Rattle.opl_text.specs.declared.Step.the-variants.{Next, Bad}
 use Rattle.opl_reader.specs.Grammar.{forget}
@@ -33,7 +33,7 @@ use Rattle.opl_said.proofs.HeldLaws.{AllCardinal, all-cardinal}
 use Rattle.opl_turns.specs.Turning.{SmallTag}
 use Rattle.opl_naming.specs.Naming.{declaredOf, LongName}
 use Rattle.opl.specs.declared.Answer.{Answer}
-use Rattle.opl.specs.Call.{answer, answered, Answers, inOne, Exported, AnswersAsDefined, OneAnswer}
+use Rattle.opl.specs.Call.{answer, answered, Answers, inOne, Exported, AnswersAsDefined, OneAnswer, RefusalsKeep}
 use Rattle.opl.specs.Steps.{refusal, badText, Accepts, recordsAnswer, acceptedAnswer, Gives, Ready}
 use Rattle.opl.proofs.JoinLaws.{unnamed}
 
@@ -165,6 +165,24 @@ fields-are r₁ r₂ out₁ out₂ e = (ap (λ (a : Translated). record { reply 
 -- no second answer fits
 pub one-answer : OneAnswer
 one-answer s t words out out₁ out₂ r₁ r₂ a b = fields-are r₁ r₂ out₁ out₂ (a .answer-is ∙ sym (b .answer-is))
+
+refusal-keeps : (words : ℕ) (s t : Text) (out : Bytes) → (answer words s t out .reply ≡ GRANTED → ⊥) → answer words s t out .output ≡ out
+unfolding answer
+refusal-keeps words s t out n =
+    on (document s)
+    (λ es z u. on (lines (length t) t)
+    (λ ls y v. on-test (eqb words scratchWords)
+    (λ q. on-found (recordsOf es ls)
+    (λ rs p. on-test (leb (length (written rs)) (length out)) (λ f. absurd (n (rw (u, v, q, p, f)))) (λ f. rw (u, v, q, p, f)))
+    (λ p. rw (u, v, q, p)))
+    (λ q. rw (u, v, q)))
+    (λ y v. rw (u, v)))
+    (λ z u. rw u)
+
+pub refusals-keep : RefusalsKeep
+refusals-keep s t words out out′ r a n =
+    ap (λ (x : Translated). x .output) (a .answer-is)
+    ∙ refusal-keeps words s t out (λ e. n (ap (λ (x : Translated). x .reply) (a .answer-is) ∙ e))
 
 -- ---- As one number.
 small-answer : (words : ℕ) (s t : Text) (out : Bytes) → (answer words s t out .reply < 256) × (answer words s t out .which < 4)

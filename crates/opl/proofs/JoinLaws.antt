@@ -1,35 +1,32 @@
 -- What the walks promise, joined to the answer by the definitions.
-use Prim.Native.Nat.{ℕ, zero, suc, _+_, _*_, _-_, _/_, _≤_, _<_}
+use Prim.Native.Nat.{ℕ, zero, suc, _*_, _/_, _≤_, _<_}
 use mathlib.Core.Path.{_≡_, refl, sym, ap, _∙_}
-use mathlib.Core.Bool.{Bool, true, false, _&&_, cond, false≢true, true≢false}
-use mathlib.Core.List.{List, [], _∷_, _++_}
+use mathlib.Core.Bool.{Bool, true, false, _&&_, false≢true, true≢false}
+use mathlib.Core.List.{List, _++_}
 use native.Mathlib.Omega.{arith}
 use lib.Dec.{eqb, leb}
-use lib.ListN.{length, getD, set, drop, replicate, length-set}
+use lib.ListN.{length, set, drop, replicate, length-set}
 use lib.Seq.{getD-set-same, getD-set-other}
-use borrow.Author.Tests.{eqb-true, eqb-false, eq-eqb, ne-eqb, le-leb, lt-leb}
-use Rattle.paper_lower.specs.Lists.{Maybe, upd, holds, there, every, many, keep, Every}
+use borrow.Author.Tests.{eqb-true, eqb-false, le-leb, lt-leb}
+use Rattle.paper_lower.specs.Lists.{Maybe, upd, holds, there, many, keep}
 use Rattle.paper_lower.specs.Lists.Maybe.{none, just}
-use Rattle.paper_lower.specs.Checks.{ROOM, GRANTED}
 use Rattle.paper_lower.specs.Records.{Bytes, Record}
-use Rattle.paper_lower.proofs.ListLaws.{both, upd-same, upd-other}
-use Rattle.paper_opl.specs.Reading.{Text, Read}
-use Rattle.paper_opl.specs.Reading.Read.{got, bad}
-use Rattle.paper_opl.specs.Tree.{Tag, Elements, if-found, prolog, document}
-use Rattle.paper_opl.specs.Naming.{Line, lines, written, writes, refused, NAMES, TEXT, Answer as Translated}
-use Rattle.paper_opl.specs.Walk.{called, start, sayings, recordsIn, tags, tagsFrom}
+use Rattle.paper_lower.proofs.ListLaws.{upd-same, upd-other}
+use Rattle.paper_opl.specs.Reading.{Text}
+use Rattle.paper_opl.specs.Tree.{Tag}
+use Rattle.paper_opl.specs.Naming.{written}
+use Rattle.paper_opl.specs.Walk.{called, start, sayings, recordsIn, tags}
 use Rattle.paper_opl.specs.Filling.{fill, fillLines, startOf, tally}
-use Rattle.paper_opl.proofs.Inversion.{on, on-test, on-found, none≢just, bad≢got}
+use Rattle.paper_opl.proofs.Inversion.{on-test}
 use Rattle.paper_opl.proofs.Judging.{judged}
 use Rattle.paper_opl.proofs.Filled.{fill-writes}
 use Rattle.opl_lines.specs.Lines.{linesIn}
-use Rattle.opl_declared.specs.Names.{walkAt, accepted}
+use Rattle.opl_declared.specs.Names.{walkAt}
 use Rattle.opl_said.specs.Said.{allNames}
 use Rattle.opl_passes.specs.Lines.{linesAt, linesThere, LinesFit}
 use Rattle.opl_passes.specs.Tags.{of, allThere, ChecksAll, begins, Begun, FitsAll}
 use Rattle.opl_passes.proofs.TagLaws.{begins-upto}
-use Rattle.opl.specs.Call.{answered}
-use Rattle.opl.specs.Steps.{refusal, recordsAnswer, Gives, Ready}
+use Rattle.opl.specs.Steps.{refusal, recordsAnswer, Gives}
 use Rattle.opl.proofs.CountLaws.{counted, begins-are, tally-ends, lines-end, fill-agree}
 
 -- ---- Not all records are there.

@@ -2,10 +2,9 @@
 use Prim.Native.Nat.{ℕ, _+_, _*_, _%_}
 use mathlib.Core.Path.{_≡_}
 use mathlib.Core.Bool.{cond}
-use mathlib.Core.List.{List}
 use lib.Dec.{eqb}
 use lib.ListN.{length}
-use Rattle.paper_lower.specs.Checks.{ROOM}
+use Rattle.paper_lower.specs.Checks.{GRANTED, ROOM}
 use Rattle.paper_lower.specs.Records.{Bytes}
 use Rattle.paper_opl.specs.Reading.{Text}
 use Rattle.paper_opl.specs.Tree.{if-found, document}
@@ -47,3 +46,7 @@ AnswersAsDefined = (s t : Text) (out : Bytes) → answer scratchWords s t out �
 abbrev pub OneAnswer : Type 0
 OneAnswer =
     (s t : Text) (words : ℕ) (out out₁ out₂ : Bytes) (r₁ r₂ : Answer) → Answers s t words out out₁ r₁ → Answers s t words out out₂ r₂ → (r₁ ≡ r₂) × (out₁ ≡ out₂)
+
+-- "Refusals, nothing written"
+abbrev pub RefusalsKeep : Type 0
+RefusalsKeep = (s t : Text) (words : ℕ) (out out′ : Bytes) (r : Answer) → Answers s t words out out′ r → (r .reply ≡ GRANTED → ⊥) → out′ ≡ out

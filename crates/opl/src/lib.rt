@@ -127,7 +127,12 @@ fn shown(reply: u64, place: u64, count: u64) -> u64
 }
 
 #[no_mangle]
-pub extern "C" fn mishantral_opl(policy: &[u8], lines: &[u8], output: &mut [u8], scratch: &mut [u64]) -> u64
+pub extern "C" fn mishantral_opl(
+    policy: &[u8],
+    lines: &[u8],
+    output: &mut [u8],
+    scratch: &mut [u64],
+) -> u64
     ensures { λ n. ⌜ Exported (now (policy .entry)) (now (lines .entry)) (length (now (scratch .entry))) (now (output .entry)) (now (output .exit)) n ⌝ }
 {
     let a = translate(policy, lines, output, scratch);

@@ -2,7 +2,7 @@
 // names that tags declare, too.
 ghost use mathlib.Core.Path.{_≡_};
 ghost use mathlib.Core.Bool.{true};
-ghost use Prim.Native.Nat.{_≤_, _<_};
+ghost use Prim.Native.Nat.{_<_};
 ghost use lib.ListN.{length, drop};
 ghost use Rattle.paper_opl.specs.Naming.{lines};
 ghost use Rattle.opl_names.specs.Table.{Sound};

@@ -1,10 +1,10 @@
 -- Laws of the walk that declares names, all five spaces at once.
 use Prim.Native.Nat.{ℕ, zero, suc, _+_, _-_, _≤_, _<_}
 use mathlib.Core.Path.{_≡_, refl, sym, ap, _∙_}
-use mathlib.Core.Bool.{Bool, true, false, not, cond}
+use mathlib.Core.Bool.{Bool, true, false, not}
 use mathlib.Core.List.{List, []}
 use native.Mathlib.Omega.{arith}
-use lib.Dec.{eqb, ltb}
+use lib.Dec.{eqb}
 use lib.ListN.{length, take, drop}
 use borrow.Author.Tests.{ne-eqb, eq-eqb, eqb-true, eqb-false, lt-ltb, le-ltb}
 use Rattle.paper_lower.specs.Lists.{every}
@@ -19,8 +19,8 @@ use Rattle.opl_tags.specs.Tags.{givenAt, Valued, Opens, ReadsTag}
 use Rattle.opl_tags.specs.declared.Tag.{Tag}
 use Rattle.opl_tags.specs.declared.Tag.the-variants.{Start, End, Halt}
 use Rattle.opl_tags.specs.declared.Part.{Part}
-use Rattle.opl_spaces.specs.Spaces.{limitOf, scratchWords, tableOf, Empties, DeclaresIn, Apart}
-use Rattle.opl_declared.specs.Names.{attributeOf, declaredAt, short, walkAt, tagNames, lineNames, filled, Onward, Walking, DeclaresAll}
+use Rattle.opl_spaces.specs.Spaces.{limitOf, scratchWords, tableOf, Empties, DeclaresIn}
+use Rattle.opl_declared.specs.Names.{attributeOf, declaredAt, short, walkAt, tagNames, lineNames, filled, Onward, DeclaresAll}
 use Rattle.opl_declared.specs.declared.Walked.{Walked}
 use Rattle.opl_declared.specs.declared.Walked.the-variants.{Next, Long, Done}
 use Rattle.opl_declared.proofs.DeclaredLaws.{walked-halt, walked-end, walked-other, walked-long, walked-on, start-stands, no-tags}
@@ -28,7 +28,7 @@ use Rattle.opl_said.specs.Said.{allNames, Held}
 use Rattle.opl_said.proofs.HeldLaws.{held}
 use Rattle.opl_turns.specs.Meaning.{elementOf}
 use Rattle.opl_turns.proofs.MeaningLaws.{declares-by}
-use Rattle.opl_naming.specs.Naming.{Keeps, Onwards, LongFrom, Goes, AllSound, Filled, AllFilled, Fills, AllEmptied, declaredOf, LongName, Names}
+use Rattle.opl_naming.specs.Naming.{Keeps, Onwards, LongFrom, Goes, AllSound, AllFilled, Fills, AllEmptied, declaredOf, LongName, Names}
 
 -- the attributes of the five spaces, in a word
 pub attribute-is : (i : ℕ) → i < 5 → digit 250068088373 i ≡ attributeOf i
@@ -104,8 +104,8 @@ module _ (s : Text) (at : ℕ) (r : Tag) (reads : ReadsTag s (tag (drop at s)) r
             inside = o .inside;
             room = d .apart .room;
             keeps = λ j a. on-test (eqb j i)
-            (λ u. let z = eqb-true j i u in rw z (keeps s i at next l l′ l′ o refl))
-            (λ u. let z = eqb-false j i u in keeps s j at next l l l′ (other j a (λ w. z (omega (arith, is, w)))) (d .apart .others j (omega arith) z));
+                (λ u. let z = eqb-true j i u in rw z (keeps s i at next l l′ l′ o refl))
+                (λ u. let z = eqb-false j i u in keeps s j at next l l l′ (other j a (λ w. z (omega (arith, is, w)))) (d .apart .others j (omega arith) z));
             others = λ j a b. d .apart .others j b (λ w. omega (arith, w));
           }
 
@@ -133,8 +133,8 @@ module _ (s : Text) (from : ℕ) (l : List ℕ) where
         record {
           room = left .room;
           each-space = λ i h.
-          let a = left .spaces i h in
-          record { shorts = a .shorts ∙ ap (every short) (e i h); sound = a .sound; names = sym (a .fills ∙ ap (filled (limitOf i) (namesIn s (tableOf i l′))) (e i h)) };
+              let a = left .spaces i h in
+              record { shorts = a .shorts ∙ ap (every short) (e i h); sound = a .sound; names = sym (a .fills ∙ ap (filled (limitOf i) (namesIn s (tableOf i l′))) (e i h)) };
           others = left .others;
         }
 
@@ -182,8 +182,8 @@ empty-on l l′ l″ i h left e =
       few = omega arith;
       room = e .apart .room ∙ left .room;
       emptied = λ j a. on-test (eqb j i)
-      (λ u. let z = eqb-true j i u in rw z (e .emptied))
-      (λ u. let z = eqb-false j i u in rw (e .apart .others j (omega arith) z) (left .emptied j (omega (arith, z))));
+          (λ u. let z = eqb-true j i u in rw z (e .emptied))
+          (λ u. let z = eqb-false j i u in rw (e .apart .others j (omega arith) z) (left .emptied j (omega (arith, z))));
     }
 
 pub empty-end : (l l′ : List ℕ) (i : ℕ) → 7 ≤ i → EmptyLeft l l′ i → AllEmptied l l′
@@ -230,21 +230,27 @@ module _ (s t : Text) (from : ℕ) (same-tags : tags s ≡ walkAt s from) where
           tasks-stay = templates .apart .others 5 (omega arith) (λ e. omega (arith, e))
 
           tags-held : (i : ℕ) → i < 5 → Sound s (limitOf i) (tableOf i l₄) × (namesIn s (tableOf i l₄) ≡ filled (limitOf i) [] (declaredAt i (tags s)))
-          tags-held i h =
-              (rw (tags-stay i h) (filled-tags .each-space i h .sound), ap (namesIn s) (tags-stay i h) ∙ filled-tags .each-space i h .names
-              ∙ ap (λ (x : List Text). filled (limitOf i) x (tagNames s i from)) (emptied .emptied i (omega arith) .empty s)
-              ∙ ap (λ ts. filled (limitOf i) [] (declaredAt i ts)) (sym same-tags))
+          tags-held i h = (
+            rw (tags-stay i h) (filled-tags .each-space i h .sound),
+            ap (namesIn s) (tags-stay i h) ∙ filled-tags .each-space i h .names
+                ∙ ap (λ (x : List Text). filled (limitOf i) x (tagNames s i from)) (emptied .emptied i (omega arith) .empty s)
+                ∙ ap (λ ts. filled (limitOf i) [] (declaredAt i ts)) (sym same-tags),
+          )
 
           tasks-held : Sound t (limitOf 5) (tableOf 5 l₄) × (namesIn t (tableOf 5 l₄) ≡ filled (limitOf 5) [] (lineNames t 5 0))
-          tasks-held =
-              (rw tasks-stay (tasks .ends .1 .0), ap (namesIn t) tasks-stay ∙ tasks .ends .1 .1
-              ∙ ap (λ (x : List Text). filled (limitOf 5) x (lineNames t 5 0)) (ap (namesIn t) (filled-tags .others 5 (omega arith) (omega arith)) ∙ emptied .emptied 5 (omega arith) .empty t))
+          tasks-held = (
+            rw tasks-stay (tasks .ends .1 .0),
+            ap (namesIn t) tasks-stay ∙ tasks .ends .1 .1
+                ∙ ap (λ (x : List Text). filled (limitOf 5) x (lineNames t 5 0)) (ap (namesIn t) (filled-tags .others 5 (omega arith) (omega arith)) ∙ emptied .emptied 5 (omega arith) .empty t),
+          )
 
           templates-held : Sound t (limitOf 6) (tableOf 6 l₄) × (namesIn t (tableOf 6 l₄) ≡ filled (limitOf 6) [] (lineNames t 6 0))
-          templates-held =
-              (templates .ends .1 .0, templates .ends .1 .1
-              ∙ ap (λ (x : List Text). filled (limitOf 6) x (lineNames t 6 0))
-              (ap (namesIn t) (tasks .apart .others 6 (omega arith) (λ e. omega (arith, e)) ∙ filled-tags .others 6 (omega arith) (omega arith)) ∙ emptied .emptied 6 (omega arith) .empty t))
+          templates-held = (
+            templates .ends .1 .0,
+            templates .ends .1 .1
+                ∙ ap (λ (x : List Text). filled (limitOf 6) x (lineNames t 6 0))
+                (ap (namesIn t) (tasks .apart .others 6 (omega arith) (λ e. omega (arith, e)) ∙ filled-tags .others 6 (omega arith) (omega arith)) ∙ emptied .emptied 6 (omega arith) .empty t),
+          )
 
           lines-held : (i : ℕ) → 4 < i → i < 7 → Sound t (limitOf i) (tableOf i l₄) × (namesIn t (tableOf i l₄) ≡ filled (limitOf i) [] (lineNames t i 0))
           lines-held i a b =

@@ -2,11 +2,10 @@
 // opl_turns, and on the tables of opl_spaces.
 ghost use mathlib.Core.Path.{_≡_};
 ghost use mathlib.Core.Bool.{true};
-ghost use Prim.Native.Nat.{ℕ, _≤_, _<_};
+ghost use Prim.Native.Nat.{_≤_, _<_};
 ghost use lib.ListN.{length};
 ghost use Rattle.paper_opl.specs.Naming.{lines};
 ghost use Rattle.paper_opl.specs.Walk.{tags};
-ghost use Rattle.opl_tags.specs.Tags.{Opens};
 ghost use Rattle.opl_spaces.specs.Spaces.{scratchWords};
 ghost use Rattle.opl_declared.specs.Names.{attributeOf, walkAt, accepted};
 ghost use Rattle.opl_naming.specs.Naming.{AllSound, Goes, Fills, AllEmptied, Names};

@@ -1,10 +1,10 @@
 -- Laws of the task lines' records, line by line.
-use Prim.Native.Nat.{ℕ, suc, _+_, _*_, _-_, _≤_, _<_}
+use Prim.Native.Nat.{ℕ, suc, _+_, _≤_, _<_}
 use mathlib.Core.Path.{_≡_, refl, sym, ap, _∙_}
-use mathlib.Core.Bool.{Bool, true, false, _&&_, false≢true}
+use mathlib.Core.Bool.{true, false, false≢true}
 use mathlib.Core.List.{List, [], _∷_}
 use native.Mathlib.Omega.{arith}
-use lib.ListN.{length, take, drop, length-drop}
+use lib.ListN.{length, drop, length-drop}
 use Rattle.paper_lower.specs.Lists.{Maybe, holds, every, many}
 use Rattle.paper_lower.specs.Lists.Maybe.{none, just}
 use Rattle.paper_lower.specs.Records.{Bytes, Record}
@@ -21,7 +21,7 @@ use Rattle.opl_lines.proofs.LineLaws.{judge-past, judge-on, lines-step, lines-n
 use Rattle.opl_output.specs.Output.{Fits}
 use Rattle.opl_spaces.specs.Spaces.{limitOf}
 use Rattle.opl_declared.specs.Names.{accepted}
-use Rattle.opl_said.specs.Said.{spaceAt, NumberIs, Below}
+use Rattle.opl_said.specs.Said.{spaceAt, NumberIs}
 use Rattle.opl_passes.specs.Lines.{linesAt, linesGood, linesThere, pairRecord, lineBetween, Pairs, LineSteps, Paired, RowIs, LinesAre, LineWritten, LinesFit}
 use Rattle.opl_passes.specs.declared.Row.{Row}
 use Rattle.opl_passes.specs.declared.Row.the-variants.{Pair, Nameless}
@@ -155,9 +155,9 @@ module _ (ns : Names) (t : Text) (at : ℕ) (there-all : linesThere ns (linesAt 
           there-too = rw (p .lines-are, p .record-is) at there-all;
           fewer = one-less;
           fills = ap (λ (ls : List Line). fillLines ns place ls out) (p .lines-are)
-          ∙ ap (λ (r : Maybe Record). fillLines ns (suc place) (linesAt t next) (putAt out place (valued r))) (p .record-is)
-          ∙ ap (λ (o : Bytes). fillLines ns (suc place) (linesAt t next) o) (sym e)
-          ∙ ap (λ (k : ℕ). fillLines ns k (linesAt t next) out′) z;
+              ∙ ap (λ (r : Maybe Record). fillLines ns (suc place) (linesAt t next) (putAt out place (valued r))) (p .record-is)
+              ∙ ap (λ (o : Bytes). fillLines ns (suc place) (linesAt t next) o) (sym e)
+              ∙ ap (λ (k : ℕ). fillLines ns k (linesAt t next) out′) z;
           room = l;
         }
 

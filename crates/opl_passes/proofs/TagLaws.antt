@@ -2,10 +2,10 @@
 use Prim.Native.Nat.{ℕ, zero, suc, _+_, _*_, _-_, _≤_, _<_}
 use mathlib.Core.Path.{_≡_, refl, sym, ap, _∙_}
 use mathlib.Core.Bool.{Bool, true, false, _&&_, false≢true}
-use mathlib.Core.List.{List, [], _∷_}
+use mathlib.Core.List.{List, []}
 use native.Mathlib.Omega.{arith}
 use lib.Dec.{eqb, leb}
-use lib.ListN.{length, getD, set, drop, length-set, drop-of-length-le}
+use lib.ListN.{length, set, drop, length-set, drop-of-length-le}
 use lib.Seq.{getD-set-same, getD-set-other}
 use borrow.Author.Tests.{eqb-true, eqb-false}
 use Rattle.paper_lower.specs.Lists.{upd, holds, every, many, keep, Every}
@@ -15,7 +15,7 @@ use Rattle.paper_lower.proofs.ListLaws.{upd-same, upd-other}
 use Rattle.paper_opl.specs.Reading.{Text}
 use Rattle.paper_opl.specs.Tree.{Tag}
 use Rattle.paper_opl.specs.Naming.{Names}
-use Rattle.paper_opl.specs.Walk.{called, Context, start, sayings, recordSaid, tagsFrom}
+use Rattle.paper_opl.specs.Walk.{called, start, sayings, recordSaid, tagsFrom}
 use Rattle.paper_opl.specs.Filling.{putAt, fill, tally}
 use Rattle.paper_opl.proofs.Inversion.{on-test}
 use Rattle.paper_opl.proofs.Tallied.{tally-is}
@@ -26,7 +26,7 @@ use Rattle.opl_said.specs.declared.Fields.{Fields}
 use Rattle.opl_said.specs.declared.Fields.the-variants.{Numbers, Unnamed}
 use Rattle.opl_turns.specs.Turning.{contextOf, tagsAt, Stood, partitionings, Passes, Tells, SmallTag, sayingAt}
 use Rattle.opl_turns.specs.declared.Cursor.{Cursor}
-use Rattle.opl_passes.specs.Tags.{of, allThere, thereFrom, tallied, Counts, Checks, ChecksAll, begins, Begun, Sums, TagsFit, FitsAll, Puts, Writes}
+use Rattle.opl_passes.specs.Tags.{of, allThere, thereFrom, tallied, Counts, Checks, ChecksAll, begins, Begun, TagsFit, FitsAll, Puts, Writes}
 use Rattle.opl_passes.specs.declared.Checked.{Checked}
 use Rattle.opl_passes.specs.declared.Checked.the-variants.{Next, Unnamed as Nameless, Done}
 use Rattle.opl_passes.specs.declared.Wrote.{Wrote}
@@ -327,8 +327,8 @@ module _ (l₀ : List ℕ) (cap : ℕ) (l : List ℕ) (sum k : ℕ) (b : BeginLe
           sum-is = sym next-is;
           fits = omega (arith, b .fits);
           done = λ j p r. on-test (eqb j k)
-          (λ e. let u = eqb-true j k e in rw u (getD-set-same l k sum 0 w ∙ b .sum-is))
-          (λ e. let u = eqb-false j k e in getD-set-other l k j sum 0 u ∙ b .done j p (omega (arith, u)));
+              (λ e. let u = eqb-true j k e in rw u (getD-set-same l k sum 0 w ∙ b .sum-is))
+              (λ e. let u = eqb-false j k e in getD-set-other l k j sum 0 u ∙ b .done j p (omega (arith, u)));
           left = λ j p. getD-set-other l k j sum 0 (λ v. omega (arith, v)) ∙ b .left j (omega arith);
           room = length-set l k sum ∙ b .room;
         }

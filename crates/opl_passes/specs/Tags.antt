@@ -2,18 +2,17 @@
 use Prim.Native.Nat.{ℕ, zero, suc, _+_, _*_, _≤_, _<_}
 use mathlib.Core.Path.{_≡_}
 use mathlib.Core.Bool.{Bool, true, false, _&&_}
-use mathlib.Core.List.{List, [], _∷_}
+use mathlib.Core.List.{List, []}
 use lib.Dec.{leb}
 use lib.ListN.{length, getD}
-use Rattle.paper_lower.specs.Lists.{there, every, many, keep, Every}
+use Rattle.paper_lower.specs.Lists.{there, every, many, keep}
 use Rattle.paper_lower.specs.Records.{Bytes}
 use Rattle.paper_opl.specs.Reading.{Text}
 use Rattle.paper_opl.specs.Tree.{Tag}
 use Rattle.paper_opl.specs.Naming.{Names}
 use Rattle.paper_opl.specs.Walk.{called, Context, start, sayings, recordSaid}
 use Rattle.paper_opl.specs.Filling.{fill, tally}
-use Rattle.opl_declared.specs.Names.{walkAt}
-use Rattle.opl_turns.specs.Turning.{contextOf, tagsAt, Stood, Steps, SmallTag}
+use Rattle.opl_turns.specs.Turning.{contextOf, tagsAt, Steps}
 use Rattle.opl_turns.specs.declared.Cursor.{Cursor}
 use Rattle.opl_passes.specs.declared.Checked.{Checked}
 use Rattle.opl_passes.specs.declared.Checked.the-variants.{Next, Unnamed, Done}

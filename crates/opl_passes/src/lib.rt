@@ -2,10 +2,9 @@
 // output. It rests on opl_turns, opl_said and opl_output.
 ghost use mathlib.Core.Path.{_≡_};
 ghost use mathlib.Core.Bool.{true};
-ghost use Prim.Native.Nat.{ℕ, _+_, _*_, _≤_, _<_};
-ghost use lib.ListN.{length, drop};
+ghost use Prim.Native.Nat.{ℕ, _+_, _≤_, _<_};
+ghost use lib.ListN.{length};
 ghost use Rattle.paper_lower.specs.Lists.{Every};
-ghost use Rattle.paper_opl.specs.Naming.{lines};
 ghost use Rattle.paper_opl.specs.Walk.{start};
 ghost use Rattle.paper_opl.specs.Filling.{fill, fillLines};
 ghost use Rattle.opl_lines.specs.Lines.{Apart, linesIn};
@@ -27,11 +26,7 @@ use opl_turns::turn;
 
 // The numbers of a task and its template, and where the next line begins; or a name in the line has no number.
 pub enum Row {
-    Pair {
-        a: u64,
-        b: u64,
-        next: usize,
-    },
+    Pair { a: u64, b: u64, next: usize },
     Nameless,
 }
 
@@ -62,7 +57,15 @@ pub enum Sum {
 // ---- The task lines.
 
 // The numbers of the names of a line, from `at` to `task` and from behind it to `template`.
-fn numbers(s: &[u8], t: &[u8], w: &[u64], at: usize, task: usize, template: usize, next: usize) -> Row
+fn numbers(
+    s: &[u8],
+    t: &[u8],
+    w: &[u64],
+    at: usize,
+    task: usize,
+    template: usize,
+    next: usize,
+) -> Row
     requires { ⌜ Held (now s) (now t) (allNames (now s) (now t)) (now w) × Apart (now t) at task template next ⌝ }
     ensures { λ r. ⌜ Pairs (allNames (now (s .entry)) (now (t .entry))) (lineBetween (now (t .entry)) at task template) next r ⌝ }
 {
@@ -172,7 +175,8 @@ fn check_at(s: &[u8], t: &[u8], w: &[u64], counts: &mut [usize; 17], c: Cursor) 
                 b: _,
                 c: _,
                 m: _,
-            } = f else {
+            } = f
+            else {
                 return Checked::Unnamed;
             };
             let k = kind as usize;
@@ -229,7 +233,14 @@ pub fn begin(counts: &mut [usize; 17], cap: usize) -> Sum
 }
 
 // The next tag's record into the output, at the next place of its kind.
-fn write_at(s: &[u8], t: &[u8], w: &[u64], next: &mut [usize; 17], out: &mut [u8], c: Cursor) -> Wrote
+fn write_at(
+    s: &[u8],
+    t: &[u8],
+    w: &[u64],
+    next: &mut [usize; 17],
+    out: &mut [u8],
+    c: Cursor,
+) -> Wrote
     requires { ⌜ (Held (now s) (now t) (allNames (now s) (now t)) (now w) × Stood (now s) c) × ((thereFrom (allNames (now s) (now t)) (now s) c ≡ true) × ((length (now next) ≡ 17) × TagsFit (now s) c (now next) (now out))) ⌝ }
     ensures { λ r. ⌜ Writes (allNames (now (s .entry)) (now (t .entry))) (now (s .entry)) c (now (next .entry)) (now (next .exit)) (now (out .entry)) (now (out .exit)) r ⌝ }
 {
@@ -257,7 +268,14 @@ fn write_at(s: &[u8], t: &[u8], w: &[u64], next: &mut [usize; 17], out: &mut [u8
 }
 
 // All tags' records from `from` on.
-pub fn write_tags(s: &[u8], t: &[u8], w: &[u64], next: &mut [usize; 17], out: &mut [u8], from: usize)
+pub fn write_tags(
+    s: &[u8],
+    t: &[u8],
+    w: &[u64],
+    next: &mut [usize; 17],
+    out: &mut [u8],
+    from: usize,
+)
     requires { ⌜ (Held (now s) (now t) (allNames (now s) (now t)) (now w) × ((from ≤ length (now s)) × Every SmallTag (walkAt (now s) from))) × ((allThere (allNames (now s) (now t)) start (walkAt (now s) from) ≡ true) × ((length (now next) ≡ 17) × FitsAll (walkAt (now s) from) (now next) (now out))) ⌝ }
     ensures { λ _. ⌜ now (out .exit) ≡ fill (allNames (now (s .entry)) (now (t .entry))) start (of (now (next .entry))) (walkAt (now (s .entry)) from) (now (out .entry)) ⌝ }
 {

@@ -12,11 +12,11 @@ use Rattle.paper_lower.proofs.ListLaws.{both}
 use Rattle.paper_opl.specs.Reading.{Text, text, same, readingOpen}
 use Rattle.paper_opl.specs.Elements.{elementsOpen}
 use Rattle.paper_opl.specs.Tree.{Tag}
-use Rattle.paper_opl.specs.Walk.{called, Context, turn, kinds, kindIn, kindAt}
+use Rattle.paper_opl.specs.Walk.{Context, turn, kinds, kindIn, kindAt}
 use Rattle.paper_opl.proofs.Inversion.{on-test}
 use Rattle.paper_opl.proofs.Conforms.{same-true}
 use Rattle.opl_table.specs.Numbers.{names, nameOf, packed, wordAt, numberAt}
-use Rattle.opl_turns.specs.Meaning.{guesses, guessOf, elementOf, kindList, kindBy, setsBy, partsBy, numberBy}
+use Rattle.opl_turns.specs.Meaning.{guesses, guessOf, elementOf, kindList, kindBy, setsBy, partsBy}
 
 -- ---- The two tables, computed.
 

@@ -1,6 +1,6 @@
 -- Laws of the walk: over a tag, to the next cursor.
 use Prim.Native.Nat.{ℕ, suc, _+_, _-_, _≤_, _<_}
-use mathlib.Core.Path.{_≡_, refl, sym, ap, _∙_}
+use mathlib.Core.Path.{_≡_, refl, ap, _∙_}
 use mathlib.Core.Bool.{Bool, true, false, cond}
 use mathlib.Core.List.{List, [], _∷_}
 use native.Mathlib.Omega.{arith}
@@ -9,7 +9,7 @@ use lib.ListN.{length, take, drop, length-drop}
 use borrow.Author.Tests.{eqb-false}
 use Rattle.paper_lower.specs.Lists.{upd, many, keep, Every}
 use Rattle.paper_lower.specs.Records.{Bytes}
-use Rattle.paper_opl.specs.Reading.{Text, text, Read, same}
+use Rattle.paper_opl.specs.Reading.{Text, Read}
 use Rattle.paper_opl.specs.Reading.Read.{got, bad}
 use Rattle.paper_opl.specs.Tree.{Tag as Tagged}
 use Rattle.paper_opl.specs.Naming.{Names}
@@ -24,10 +24,9 @@ use Rattle.opl_tags.specs.declared.Tag.the-variants.{Start, End, Halt}
 use Rattle.opl_tags.proofs.AttributeLaws.{placed}
 use Rattle.opl_declared.specs.Names.{walkAt}
 use Rattle.opl_turns.specs.Meaning.{elementOf, kindBy, setsBy, partsBy, numberBy}
-use Rattle.opl_turns.specs.Turning.{contextOf, tagsAt, behind, turnedBy, SmallTag, sayingAt, Stood, partitionings, Steps, Passes, Tells, Turns}
+use Rattle.opl_turns.specs.Turning.{contextOf, tagsAt, behind, turnedBy, SmallTag, Stood, partitionings, Steps, Passes, Turns}
 use Rattle.opl_turns.specs.declared.Cursor.{Cursor}
-use Rattle.opl_turns.specs.declared.Turned.{Turned}
-use Rattle.opl_turns.specs.declared.Turned.the-variants.{Says, Silent, Done}
+use Rattle.opl_turns.specs.declared.Turned.the-variants.{Says, Silent}
 use Rattle.opl_turns.proofs.MeaningLaws.{meant, kind-is, turn-is, kind-small}
 
 -- ---- One tag of a list.

@@ -1,5 +1,5 @@
 -- What the name of a tag's element tells, by one guess at its number and one comparison.
-use Prim.Native.Nat.{ℕ, suc, _+_, _*_, _-_, _%_}
+use Prim.Native.Nat.{ℕ, _+_, _*_, _-_, _%_}
 use mathlib.Core.Bool.{cond}
 use mathlib.Core.List.{List, [], _∷_}
 use lib.Dec.{eqb}

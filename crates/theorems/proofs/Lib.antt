@@ -26,3 +26,4 @@ pub mod Places
 pub mod Meeting
 pub mod Joining
 pub mod Stuck
+pub mod NeverStuck

@@ -1,23 +1,22 @@
 -- The list that takes the lowest at each place has exactly the free tasks.
 use Prim.Native.Nat.{ℕ, zero, suc, _+_, _<_, _≤_, _^_}
 use mathlib.Core.Path.{_≡_, refl, sym, ap, subst, _∙_}
-use mathlib.Core.Logic.{⊎-elim, _↔_}
-use mathlib.Core.Bool.{Bool, true, false, not, cond, _&&_, _||_, true≢false, false≢true}
+use mathlib.Core.Logic.{⊎-elim}
+use mathlib.Core.Bool.{Bool, true, false, not, cond, _&&_, _||_, false≢true}
 use mathlib.Core.List.{List, [], _∷_, _++_}
-use native.Mathlib.Nat.{not-suc-le-zero}
 use native.Mathlib.Omega.{arith}
-use borrow.Author.Tests.{eqb-true, eqb-false, eq-eqb, leb-true, leb-false, not-true, not-false}
+use borrow.Author.Tests.{eqb-true, leb-true, leb-false, not-true, not-false}
 use lib.Dec.{eqb, leb}
-use Rattle.paper_lower.specs.Sets.{Set, empty, has, plus, minus, size, within, overlap, collect}
-use Rattle.paper_lower.specs.Lists.{Maybe, some, Every}
+use Rattle.paper_lower.specs.Sets.{Set, empty, has, plus, size, within, overlap, collect}
+use Rattle.paper_lower.specs.Lists.{Maybe, some}
 use Rattle.paper_lower.specs.Lists.Maybe.{none, just}
 use Rattle.paper_lower.specs.Tables.{Pair}
 use Rattle.paper_lower.proofs.ListLaws.{both, not-both, every-map, some-none, none-some}
 use Rattle.sets.proofs.Bits.{same-or-other}
-use Rattle.sets.proofs.SetLaws.{Part, part-empty, part-has, part-refl, has-part, has-empty, has-plus, has-above, plus-member, within-refl, collect-above, collect-below, minus-out, overlap-in, overlap-empty, overlap-part}
+use Rattle.sets.proofs.SetLaws.{Part, part-empty, part-has, has-part, has-empty, has-plus, has-above, plus-member, within-refl, collect-above, collect-below, minus-out, overlap-in, overlap-empty, overlap-part}
 use Rattle.paper_upper.specs.Rules.{missing}
 use Rattle.theorems.specs.Joining.{gathered}
-use Rattle.theorems.specs.Stuck.{ready, Orderly, Free, may, Lowest, lowestFrom, goOn, freeFrom, freeTasks, stuckTasks, Answered, StuckAreTold}
+use Rattle.theorems.specs.Stuck.{ready, Orderly, may, Lowest, lowestFrom, goOn, freeFrom, freeTasks, stuckTasks, Answered, StuckAreTold}
 
 -- ---- the lowest with a property
 abbrev Found : (ℕ → Bool) → ℕ → ℕ → Maybe ℕ → Type 0
@@ -112,7 +111,7 @@ module _ (m : Set) (rs : List Pair) (small : m < 2 ^ 64) where
           rest (plus had s) (with-one had s p (x .0)) (omega arith) t
 
   -- ---- every list that ends in a task is within what the list has
-  unfoldable had-all : Set
+  unfoldable pub had-all : Set
   had-all = gathered empty (freeTasks m rs)
 
   as-many : overlap m m ≡ size m
@@ -126,7 +125,7 @@ module _ (m : Set) (rs : List Pair) (small : m < 2 ^ 64) where
       let o = overlap-empty m in
       ended (size m) empty (part-empty m) (omega arith) t
 
-  one-had : (had all : Set) (t : ℕ) → Part had all → (x : Pair) → missing had t x ≡ false → missing all t x ≡ false
+  pub one-had : (had all : Set) (t : ℕ) → Part had all → (x : Pair) → missing had t x ≡ false → missing all t x ≡ false
   unfolding missing
   one-had had all t p x h = go (eqb (x .b) t) refl
     where
@@ -139,7 +138,7 @@ module _ (m : Set) (rs : List Pair) (small : m < 2 ^ 64) where
   ready-more had all t p h =
       ap not (none-some (missing all t) rs (every-map rs (one-had had all t p) (some-none (missing had t) rs (not-true _ h))))
 
-  is-had : (t : ℕ) → has m t ≡ true → ready m rs had-all t ≡ true → has had-all t ≡ true
+  pub is-had : (t : ℕ) → has m t ≡ true → ready m rs had-all t ≡ true → has had-all t ≡ true
   unfolding may
   is-had t h r = not-false _ (not-both (ready m rs had-all t) (not (has had-all t)) (turned (has m t) (not (has had-all t)) (ready m rs had-all t) h (none-follows t)) r)
     where
@@ -167,7 +166,7 @@ module _ (m : Set) (rs : List Pair) (small : m < 2 ^ 64) where
       go true e h rest = ([], subst (λ (s : ℕ). Orderly m rs had (s ∷ [])) (sym (eqb-true _ _ e)) (o .0, o .1, o .2, tt))
       go false e h rest = let r = rest h in (u ∷ r .0, (o .0, o .1, o .2, r .1))
 
-  member : (t : ℕ) → has had-all t ≡ some (eqb t) (freeTasks m rs)
+  pub member : (t : ℕ) → has had-all t ≡ some (eqb t) (freeTasks m rs)
   unfolding had-all
   member t = has-gathered empty (freeTasks m rs) t ∙ rw (has-empty t)
 

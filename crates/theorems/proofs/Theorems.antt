@@ -63,7 +63,7 @@ pub ledger-is-sound : LedgerIsSound
 ledger-is-sound policy accepted ss = kept-after policy accepted ss .1 .ledger
 
 -- ---- no request writes roles, tasks or rules
-lower-rows : Every (λ k. (t : Lower) (r : Record) → fixed (k .next t r .policy) ≡ fixed (t .policy)) lowerKinds
+pub lower-rows : Every (λ k. (t : Lower) (r : Record) → fixed (k .next t r .policy) ≡ fixed (t .policy)) lowerKinds
 unfolding lowerKinds roleKinds sessionKinds joinNext assignNext giveNext deleteNext takeBackNext withdrawNext
 lower-rows =
     (λ t r. refl) ⨾ (λ t r. refl) ⨾ (λ t r. refl) ⨾ (λ t r. refl) ⨾ (λ t r. refl) ⨾ (λ t r. refl)

@@ -1,15 +1,3 @@
--- Written from Proof.tmpl by 'prove expand': edit that file.
-use Rattle.claims.proofs.claim_reply.Reads as reads
-use Rattle.claims.proofs.claim_reply.Lts as lts
-use Rattle.claims.proofs.has_role.Reads as has-role-reads
-use Rattle.claims.proofs.is_unknown.Reads as is-unknown-reads
-use Rattle.claims.proofs.rules_reply.Reads as rules-reply-reads
-use Rattle.ledger.proofs.gather.Reads as gather-reads
-use Rattle.ledger.proofs.in_use.Reads as in-use-reads
-use Rattle.ledger.proofs.opened.Reads as opened-reads
-use Rattle.replies.proofs.accepted.Reads as accepted-reads
-use Rattle.rules.proofs.plain.Reads as plain-reads
-use Rattle.sessions.proofs.user.Reads as user-reads
 -- Each way out is the first check of the definition that applies; the rules are judged over what one walk gathered.
 use mathlib.Core.Path.{_≡_, refl, sym}
 use mathlib.Core.List.{_++_}
@@ -53,32 +41,25 @@ judged c =
     (c .before .before .before .before .before .before .before .before .before .is-unknown .ensures) (c .before .before .before .before .before .before .before .before .if1 .left))
     (c .rules-reply .ensures .replies)
 
--- src/lib.rt:56:8
 is-unknown-requires : tie.Need-is-unknown-requires
 is-unknown-requires c κs = search needs
 
--- src/lib.rt:57:9
 plain-requires : tie.Need-plain-requires
 plain-requires c κs = search needs
 
--- src/lib.rt:57:9
 returns : tie.Need-returns
 unfolding claimChecks claimPlace rulePlace
 returns c = plainly Unknown (c .plain .ensures) (simp (← c .before .before .is-unknown .ensures, c .before .if1 .taken)) refl
 
--- src/lib.rt:59:9
 user-requires : tie.Need-user-requires
 user-requires c κs = search needs
 
--- src/lib.rt:60:9
 gather-requires : tie.Need-gather-requires
 gather-requires c κs = search needs
 
--- src/lib.rt:62:9
 plain-requires-2 : tie.Need-plain-requires-2
 plain-requires-2 c κs = search needs
 
--- src/lib.rt:62:9
 returns-2 : tie.Need-returns-2
 unfolding claimChecks claimPlace rulePlace
 returns-2 c =
@@ -91,15 +72,12 @@ returns-2 c =
       held-is t (z .a) (z .b) (z .c) (c .before .before .before .before .user .ensures .0) (c .before .before .before .gather .ensures) (eq-eqb _ _ (c .before .if2 .taken)),
     )) refl
 
--- src/lib.rt:64:9
 has-role-requires : tie.Need-has-role-requires
 has-role-requires c κs = search needs
 
--- src/lib.rt:65:9
 plain-requires-3 : tie.Need-plain-requires-3
 plain-requires-3 c κs = search needs
 
--- src/lib.rt:65:9
 returns-3 : tie.Need-returns-3
 unfolding claimChecks claimPlace rulePlace
 returns-3 c =
@@ -114,14 +92,12 @@ returns-3 c =
       c .before .if3 .taken,
     )) refl
 
--- src/lib.rt:67:9
 opened-requires : tie.Need-opened-requires
 opened-requires c κs = (
   c .before .before .before .before .before .before .before .before .before .before .before .pre .1 .1 .0,
   c .before .before .before .before .before .before .before .before .before .before .before .pre .1 .1 .1 .1 .0,
 )
 
--- src/lib.rt:68:9
 rules-reply-requires : tie.Need-rules-reply-requires
 rules-reply-requires c κs = (
   c .before .before .before .before .before .before .before .before .before .before .before .before .pre .0,
@@ -131,11 +107,9 @@ rules-reply-requires c κs = (
   ),
 )
 
--- src/lib.rt:70:9
 accepted-requires : tie.Need-accepted-requires
 accepted-requires c κs = search needs
 
--- src/lib.rt:71:9
 returns-4 : tie.Need-returns-4
 returns-4 c =
     let z = c .before .before .before .before .before .before .before .before .before .before .before .before .before .before .before .args in
@@ -146,15 +120,12 @@ returns-4 c =
       places = place-by-entries t (z .a) (z .b) (z .c) (c .before .before .before .before .before .before .before .before .before .user .ensures .0) (c .before .before .before .before .before .before .before .before .gather .ensures) _ (c .before .before .rules-reply .ensures .places);
     }
 
--- src/lib.rt:73:16
 in-use-requires : tie.Need-in-use-requires
 in-use-requires c κs = c .before .before .before .before .before .before .before .before .before .before .before .before .before .before .before .pre .1 .1 .0
 
--- src/lib.rt:74:9
 plain-requires-4 : tie.Need-plain-requires-4
 plain-requires-4 c κs = search needs
 
--- src/lib.rt:74:9
 returns-5 : tie.Need-returns-5
 unfolding claimPlace rulePlace
 returns-5 c =
@@ -165,11 +136,9 @@ returns-5 c =
     (sym (by-room t (z .a) (z .b) (z .c) (c .before .before .before .before .before .rules-reply .result .reply) (passes k) (judged k)
     (c .before .before .before .before .accepted .ensures) (c .before .before .before .if4 .left) (c .before .before .in-use .ensures .0) (le-leb _ _ (c .before .if5 .taken)))) refl
 
--- src/lib.rt:76:5
 plain-requires-5 : tie.Need-plain-requires-5
 plain-requires-5 c κs = search needs
 
--- src/lib.rt:52:1
 returns-6 : tie.Need-returns-6
 unfolding claimPlace rulePlace
 returns-6 c =

@@ -1,4 +1,3 @@
--- Written from Proof.tmpl by 'prove expand': edit that file.
 -- The judge's reply.
 use borrow.Author.Needs.{needs}
 use Rattle.claims.proofs.rules_reply.Statement.{statement}

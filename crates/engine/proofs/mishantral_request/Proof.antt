@@ -1,4 +1,3 @@
--- Written from Proof.tmpl by 'prove expand': edit that file.
 -- The request's reply and place as one number.
 use native.Mathlib.Omega.{arith}
 use borrow.Author.Needs.{needs}

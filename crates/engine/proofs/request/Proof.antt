@@ -1,4 +1,3 @@
--- Written from Proof.tmpl by 'prove expand': edit that file.
 -- Buffers of another length are ROOM; SHAPE and RANGE store nothing; any other record is a step.
 use mathlib.Core.Path.{refl}
 use borrow.Author.Needs.{needs}

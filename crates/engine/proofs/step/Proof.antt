@@ -1,4 +1,3 @@
--- Written from Proof.tmpl by 'prove expand': edit that file.
 -- Each kind of the upper part, as a step of the three buffers; any other kind is the lower part's.
 use mathlib.Core.Path.{refl}
 use borrow.Author.Needs.{needs}

@@ -1,79 +1,55 @@
--- Written from Proof.tmpl by 'prove expand': edit that file.
+-- A wrong scratch, a name that is too long, or the records.
 use Rattle.opl.proofs.CallLaws.{no-scratch, never-begun, begins-inside, begins-there, with-scratch, too-long, ready}
 use Rattle.opl.specs.Steps.{refusal}
-use Prim.Native.Nat.{_-_, _<_, _≤_, _+_, _/_}
-use lib.ListN.{length, replicate, set}
+use lib.ListN.{length}
 use borrow.Author.Tests.{not-true, not-false}
-use mathlib.Core.Path.{refl, _∙_}
-use native.Mathlib.Omega.{arith}
 use denote.Ref.{now}
 use borrow.Author.Needs.{needs}
 use Rattle.opl.proofs.accepted.Statement.{statement}
 use Rattle.opl.proofs.accepted.Tie as tie
-use Rattle.opl.proofs.accepted.Reads as reads
-use Rattle.opl.proofs.accepted.Lts as lts
-use Rattle.opl.proofs.records.Reads as records-reads
-use Rattle.opl.proofs.refused.Reads as refused-reads
-use Rattle.opl_naming.proofs.name_all.Reads as name-all-reads
-use Rattle.opl_reader.proofs.prolog.Reads as prolog-reads
 
--- src/lib.rt:89:9
 refused-requires : tie.Need-refused-requires
 refused-requires c κs = search needs
 
--- src/lib.rt:89:9
 returns : tie.Need-returns
 returns c = rw (c .refused .ensures) (no-scratch (now (c .before .before .before .before .before .before .args .s)) (now (c .before .before .before .before .before .before .args .t)) (length (now (c .before .before .before .before .before .before .args .w))) (now (c .before .before .before .before .before .before .args .out)) (c .before .if1 .taken))
 
--- src/lib.rt:91:9
 prolog-requires : tie.Need-prolog-requires
 prolog-requires c κs = search needs
 
--- src/lib.rt:92:20
 enum-known-p : tie.Need-enum-known-p
 enum-known-p c = search needs
 
--- src/lib.rt:93:9
 enum-told : tie.Need-enum-told
 enum-told c = search needs
 
--- src/lib.rt:93:9
 refused-requires-2 : tie.Need-refused-requires-2
 refused-requires-2 c κs = search needs
 
--- src/lib.rt:93:9
 returns-2 : tie.Need-returns-2
 returns-2 c = never-begun (now (c .before .before .before .before .before .before .before .before .before .args .s)) (now (c .before .before .before .before .before .before .before .before .before .args .t)) (c .before .before .before .before .before .before .before .before .before .pre) (c .before .before .before .prolog .result) (c .before .before .before .prolog .ensures) (c .before .enum-told .given .0 .0) (c .before .enum-told .given .1)
 
--- src/lib.rt:95:9
 name-all-requires : tie.Need-name-all-requires
 name-all-requires c κs = (c .before .before .before .before .before .if1 .left, (begins-inside (now (c .before .before .before .before .before .before .before .before .before .before .args .s)) (now (c .before .before .before .before .before .before .before .before .before .before .args .t)) (c .before .before .before .before .before .before .before .before .before .before .pre) (c .before .before .before .before .prolog .result) (c .before .before .before .before .prolog .ensures) (c .before .before .p .given .0 .0) (c .before .before .p .given .1), (begins-there (now (c .before .before .before .before .before .before .before .before .before .before .args .s)) (now (c .before .before .before .before .before .before .before .before .before .before .args .t)) (c .before .before .before .before .before .before .before .before .before .before .pre) (c .before .before .before .before .prolog .result) (c .before .before .before .before .prolog .ensures) (c .before .before .p .given .0 .0) (c .before .before .p .given .1), c .before .before .before .before .before .before .before .before .before .before .pre .task-lines)))
 
--- src/lib.rt:96:9
 refused-requires-3 : tie.Need-refused-requires-3
 refused-requires-3 c κs = search needs
 
--- src/lib.rt:96:9
 same-length : tie.Need-same-length
 same-length c = search needs
 
--- src/lib.rt:96:9
 returns-3 : tie.Need-returns-3
 returns-3 c = rw (c .refused3 .ensures) (with-scratch (now (c .before .before .before .before .before .before .before .before .before .before .before .before .before .before .before .args .s)) (now (c .before .before .before .before .before .before .before .before .before .before .before .before .before .before .before .args .t)) (length (now (c .before .before .before .before .before .before .before .before .before .before .before .before .before .before .before .args .w))) (now (c .before .before .before .before .before .before .before .before .before .before .before .before .before .before .before .args .out)) (now (c .before .before .before .before .before .before .before .before .before .before .before .before .before .before .before .args .out)) (refusal 22) (c .before .before .before .before .before .before .before .before .before .before .if1 .left) (too-long (now (c .before .before .before .before .before .before .before .before .before .before .before .before .before .before .before .args .s)) (now (c .before .before .before .before .before .before .before .before .before .before .before .before .before .before .before .args .t)) (now (c .before .before .before .before .before .before .before .before .before .before .before .before .before .before .before .args .out)) (c .before .before .before .before .before .before .before .before .before .before .before .before .before .before .before .pre) (rw (not-true (c .before .before .before .before .name-all .result) (c .before .if2 .taken)) at (c .before .before .before .before .name-all .ensures))))
 
--- src/lib.rt:98:5
 records-requires : tie.Need-records-requires
 records-requires c κs = ready (now (c .before .before .before .before .before .before .before .before .before .before .before .before .before .before .before .before .args .s)) (now (c .before .before .before .before .before .before .before .before .before .before .before .before .before .before .before .before .args .t)) (c .before .before .before .before .before .before .before .before .before .before .before .before .before .before .before .before .pre) (c .before .before .before .before .before .before .before .before .before .before .prolog .result) (c .before .before .before .before .before .before .before .before .before .before .prolog .ensures) (c .before .before .before .before .before .before .before .before .p .given .0 .0) (c .before .before .before .before .before .before .before .before .p .given .1) (c .before .before .before .before .before .name-all .last .1 .1 .0) (rw (not-false (c .before .before .before .before .before .name-all .result) (c .before .before .if2 .left)) at (c .before .before .before .before .before .name-all .ensures))
 
--- src/lib.rt:84:1
 same-length-2 : tie.Need-same-length-2
 same-length-2 c = search needs
 
--- src/lib.rt:84:1
 same-length-3 : tie.Need-same-length-3
 same-length-3 c = search needs
 
--- src/lib.rt:84:1
 returns-4 : tie.Need-returns-4
 returns-4 c = with-scratch (now (c .before .before .before .before .before .before .before .before .before .before .before .before .before .before .before .before .before .before .before .args .s)) (now (c .before .before .before .before .before .before .before .before .before .before .before .before .before .before .before .before .before .before .before .args .t)) (length (now (c .before .before .before .before .before .before .before .before .before .before .before .before .before .before .before .before .before .before .before .args .w))) (now (c .before .before .before .before .before .before .before .before .before .before .before .before .before .before .before .before .before .before .before .args .out)) (c .before .before .records .last .1 .1 .0) (c .before .before .records .result) (c .before .before .before .before .before .before .before .before .before .before .before .before .before .before .if1 .left) (c .before .before .records .ensures)
 

@@ -1,97 +1,68 @@
--- Written from Proof.tmpl by 'prove expand': edit that file.
+-- Counted, begun, written, as the definition has them.
 use Rattle.opl_declared.specs.Names.{walkAt}
 use Rattle.opl.proofs.JoinLaws.{no-line, zeros-at, no-tag, room₂, no-room, lines-fit, tags-there, tags-fit, all-written}
-use Prim.Native.Nat.{_-_, _<_, _≤_, _+_, _/_}
-use lib.ListN.{length, replicate, set}
+use lib.ListN.{replicate}
 use borrow.Author.Tests.{not-true, not-false}
-use mathlib.Core.Path.{refl, _∙_}
-use native.Mathlib.Omega.{arith}
+use mathlib.Core.Path.{refl}
 use denote.Ref.{now}
 use borrow.Author.Needs.{needs}
 use Rattle.opl.proofs.records.Statement.{statement}
 use Rattle.opl.proofs.records.Tie as tie
-use Rattle.opl.proofs.records.Reads as reads
-use Rattle.opl.proofs.records.Lts as lts
-use Rattle.opl.proofs.refused.Reads as refused-reads
-use Rattle.opl_passes.proofs.begin.Reads as begin-reads
-use Rattle.opl_passes.proofs.check_lines.Reads as check-lines-reads
-use Rattle.opl_passes.proofs.check_tags.Reads as check-tags-reads
-use Rattle.opl_passes.proofs.write_lines.Reads as write-lines-reads
-use Rattle.opl_passes.proofs.write_tags.Reads as write-tags-reads
 
--- src/lib.rt:59:9
 check-lines-requires : tie.Need-check-lines-requires
 check-lines-requires c κs = search needs
 
--- src/lib.rt:60:24
 enum-known-l : tie.Need-enum-known-l
 enum-known-l c = search needs
 
--- src/lib.rt:61:9
 enum-told : tie.Need-enum-told
 enum-told c = search needs
 
--- src/lib.rt:61:9
 refused-requires : tie.Need-refused-requires
 refused-requires c κs = search needs
 
--- src/lib.rt:61:9
 returns : tie.Need-returns
 returns c = rw (c .refused .ensures) (no-line (now (c .before .before .before .before .before .before .before .before .args .s)) (now (c .before .before .before .before .before .before .before .before .args .t)) (now (c .before .before .before .before .before .before .before .before .args .out)) (rw (c .before .enum-told .given .1) at (c .before .before .before .check-lines .ensures)))
 
--- src/lib.rt:64:9
 check-tags-requires : tie.Need-check-tags-requires
 check-tags-requires c κs = (c .before .before .before .before .before .before .before .before .before .pre .held, (c .before .before .before .before .before .before .before .before .before .pre .inside, (c .before .before .before .before .before .before .before .before .before .pre .small, (refl, zeros-at 17))))
 
--- src/lib.rt:65:9
 refused-requires-2 : tie.Need-refused-requires-2
 refused-requires-2 c κs = search needs
 
--- src/lib.rt:65:9
 returns-2 : tie.Need-returns-2
 returns-2 c = rw (c .refused2 .ensures) (no-tag (now (c .before .before .before .before .before .before .before .before .before .before .before .before .args .s)) (now (c .before .before .before .before .before .before .before .before .before .before .before .before .args .t)) (now (c .before .before .before .before .before .before .before .before .before .before .before .before .args .out)) (c .before .before .before .before .before .before .before .before .before .before .before .before .args .from) (c .before .before .before .before .before .before .before .before .before .before .before .before .pre .tags-are) (replicate 17 0) (c .before .before .check-tags .last .1 .1 .1 .0) (rw (not-true (c .before .before .check-tags .result) (c .before .if1 .taken)) at (c .before .before .check-tags .ensures)))
 
--- src/lib.rt:67:5
 array-write-counts : tie.Need-array-write-counts
 array-write-counts c = search needs
 
--- src/lib.rt:68:9
 begin-requires : tie.Need-begin-requires
 begin-requires c κs = room₂ (now (c .before .before .before .before .before .before .before .before .before .before .before .before .args .s)) (now (c .before .before .before .before .before .before .before .before .before .before .before .before .args .t)) (now (c .before .before .before .before .before .before .before .before .before .before .before .before .args .out)) (c .before .before .before .before .before .before .before .before .before .before .before .before .args .from) (c .before .before .before .before .before .before .before .before .before .before .before .before .pre .tags-are) (replicate 17 0) (c .before .before .check-tags .last .1 .1 .1 .0) ((rw (c .before .before .before .before .before .l .given .1) at (c .before .before .before .before .before .before .before .check-lines .ensures)) .0) refl (zeros-at 17) (rw (not-false (c .before .before .check-tags .result) (c .before .if1 .left)) at (c .before .before .check-tags .ensures)) (c .before .before .before .before .before .l .given .0 .0) ((rw (c .before .before .before .before .before .l .given .1) at (c .before .before .before .before .before .before .before .check-lines .ensures)) .1 .0)
 
--- src/lib.rt:69:20
 enum-known-b : tie.Need-enum-known-b
 enum-known-b c = search needs
 
--- src/lib.rt:70:9
 enum-told-2 : tie.Need-enum-told-2
 enum-told-2 c = search needs
 
--- src/lib.rt:70:9
 refused-requires-3 : tie.Need-refused-requires-3
 refused-requires-3 c κs = search needs
 
--- src/lib.rt:70:9
 returns-3 : tie.Need-returns-3
 returns-3 c = rw (c .refused3 .ensures) (no-room (now (c .before .before .before .before .before .before .before .before .before .before .before .before .before .before .before .before .args .s)) (now (c .before .before .before .before .before .before .before .before .before .before .before .before .before .before .before .before .args .t)) (now (c .before .before .before .before .before .before .before .before .before .before .before .before .before .before .before .before .args .out)) (c .before .before .before .before .before .before .before .before .before .before .before .before .before .before .before .before .args .from) (c .before .before .before .before .before .before .before .before .before .before .before .before .before .before .before .before .pre .tags-are) (replicate 17 0) (c .before .before .before .before .before .before .check-tags .last .1 .1 .1 .0) ((rw (c .before .before .before .before .before .before .before .before .before .l .given .1) at (c .before .before .before .before .before .before .before .before .before .before .before .check-lines .ensures)) .0) refl (zeros-at 17) (rw (not-false (c .before .before .before .before .before .before .check-tags .result) (c .before .before .before .before .before .if1 .left)) at (c .before .before .before .before .before .before .check-tags .ensures)) (c .before .before .before .before .before .before .before .before .before .l .given .0 .0) ((rw (c .before .before .before .before .before .before .before .before .before .l .given .1) at (c .before .before .before .before .before .before .before .before .before .before .before .check-lines .ensures)) .1 .0) (rw (c .before .enum-told2 .given .1) at (c .before .before .before .begin .ensures)))
 
--- src/lib.rt:72:17
 array-read-first : tie.Need-array-read-first
 array-read-first c = search needs
 
--- src/lib.rt:73:5
 write-lines-requires : tie.Need-write-lines-requires
 write-lines-requires c κs = ((c .before .before .before .before .before .before .before .before .before .before .before .before .before .before .before .before .before .pre .held, c .before .before .before .before .before .before .before .before .before .before .before .before .before .before .before .before .before .pre .task-lines), ((rw (c .before .before .before .before .before .before .before .before .before .before .l .given .1) at (c .before .before .before .before .before .before .before .before .before .before .before .before .check-lines .ensures)) .0, lines-fit (now (c .before .before .before .before .before .before .before .before .before .before .before .before .before .before .before .before .before .args .s)) (now (c .before .before .before .before .before .before .before .before .before .before .before .before .before .before .before .before .before .args .t)) (now (c .before .before .before .before .before .before .before .before .before .before .before .before .before .before .before .before .before .args .out)) (c .before .before .before .before .before .before .before .before .before .before .before .before .before .before .before .before .before .args .from) (c .before .before .before .before .before .before .before .before .before .before .before .before .before .before .before .before .before .pre .tags-are) (replicate 17 0) (c .before .before .before .before .before .before .before .check-tags .last .1 .1 .1 .0) ((rw (c .before .before .before .before .before .before .before .before .before .before .l .given .1) at (c .before .before .before .before .before .before .before .before .before .before .before .before .check-lines .ensures)) .0) refl (zeros-at 17) (rw (not-false (c .before .before .before .before .before .before .before .check-tags .result) (c .before .before .before .before .before .before .if1 .left)) at (c .before .before .before .before .before .before .before .check-tags .ensures)) (c .before .before .before .before .before .before .before .before .before .before .l .given .0 .0) ((rw (c .before .before .before .before .before .before .before .before .before .before .l .given .1) at (c .before .before .before .before .before .before .before .before .before .before .before .before .check-lines .ensures)) .1 .0) (c .before .before .before .before .begin .last .0) (c .before .before .b .given .0 .0) (rw (c .before .before .b .given .1) at (c .before .before .before .before .begin .ensures))))
 
--- src/lib.rt:74:5
 write-tags-requires : tie.Need-write-tags-requires
 write-tags-requires c κs = ((c .before .before .before .before .before .before .before .before .before .before .before .before .before .before .before .before .before .before .before .before .before .before .pre .held, (c .before .before .before .before .before .before .before .before .before .before .before .before .before .before .before .before .before .before .before .before .before .before .pre .inside, c .before .before .before .before .before .before .before .before .before .before .before .before .before .before .before .before .before .before .before .before .before .before .pre .small)), (tags-there (now (c .before .before .before .before .before .before .before .before .before .before .before .before .before .before .before .before .before .before .before .before .before .before .args .s)) (now (c .before .before .before .before .before .before .before .before .before .before .before .before .before .before .before .before .before .before .before .before .before .before .args .t)) (walkAt (now (c .before .before .before .before .before .before .before .before .before .before .before .before .before .before .before .before .before .before .before .before .before .before .args .s)) (c .before .before .before .before .before .before .before .before .before .before .before .before .before .before .before .before .before .before .before .before .before .before .args .from)) (replicate 17 0) (c .before .before .before .before .before .before .before .before .before .before .before .before .check-tags .last .1 .1 .1 .0) (rw (not-false (c .before .before .before .before .before .before .before .before .before .before .before .before .check-tags .result) (c .before .before .before .before .before .before .before .before .before .before .before .if1 .left)) at (c .before .before .before .before .before .before .before .before .before .before .before .before .check-tags .ensures)), ((rw (c .before .before .before .before .before .before .before .b .given .1) at (c .before .before .before .before .before .before .before .before .before .begin .ensures)) .kinds, tags-fit (now (c .before .before .before .before .before .before .before .before .before .before .before .before .before .before .before .before .before .before .before .before .before .before .args .s)) (now (c .before .before .before .before .before .before .before .before .before .before .before .before .before .before .before .before .before .before .before .before .before .before .args .t)) (now (c .before .before .before .before .before .before .before .before .before .before .before .before .before .before .before .before .before .before .before .before .before .before .args .out)) (c .before .before .before .before .before .before .before .before .before .before .before .before .before .before .before .before .before .before .before .before .before .before .args .from) (c .before .before .before .before .before .before .before .before .before .before .before .before .before .before .before .before .before .before .before .before .before .before .pre .tags-are) (replicate 17 0) (c .before .before .before .before .before .before .before .before .before .before .before .before .check-tags .last .1 .1 .1 .0) ((rw (c .before .before .before .before .before .before .before .before .before .before .before .before .before .before .before .l .given .1) at (c .before .before .before .before .before .before .before .before .before .before .before .before .before .before .before .before .before .check-lines .ensures)) .0) refl (zeros-at 17) (rw (not-false (c .before .before .before .before .before .before .before .before .before .before .before .before .check-tags .result) (c .before .before .before .before .before .before .before .before .before .before .before .if1 .left)) at (c .before .before .before .before .before .before .before .before .before .before .before .before .check-tags .ensures)) (c .before .before .before .before .before .before .before .before .before .before .before .before .before .before .before .l .given .0 .0) ((rw (c .before .before .before .before .before .before .before .before .before .before .before .before .before .before .before .l .given .1) at (c .before .before .before .before .before .before .before .before .before .before .before .before .before .before .before .before .before .check-lines .ensures)) .1 .0) (c .before .before .before .before .before .before .before .before .before .begin .last .0) (c .before .before .before .before .before .before .before .b .given .0 .0) (rw (c .before .before .before .before .before .before .before .b .given .1) at (c .before .before .before .before .before .before .before .before .before .begin .ensures)) (c .before .before .before .before .write-lines .last .1 .1 .1 .0) (c .before .before .before .before .write-lines .kept .1 .1 .1 .0) (c .before .before .before .before .write-lines .ensures))))
 
--- src/lib.rt:55:1
 same-length : tie.Need-same-length
 same-length c = search needs
 
--- src/lib.rt:55:1
 returns-4 : tie.Need-returns-4
 returns-4 c = all-written (now (c .before .before .before .before .before .before .before .before .before .before .before .before .before .before .before .before .before .before .before .before .before .before .before .before .before .args .s)) (now (c .before .before .before .before .before .before .before .before .before .before .before .before .before .before .before .before .before .before .before .before .before .before .before .before .before .args .t)) (now (c .before .before .before .before .before .before .before .before .before .before .before .before .before .before .before .before .before .before .before .before .before .before .before .before .before .args .out)) (c .before .before .before .before .before .before .before .before .before .before .before .before .before .before .before .before .before .before .before .before .before .before .before .before .before .args .from) (c .before .before .before .before .before .before .before .before .before .before .before .before .before .before .before .before .before .before .before .before .before .before .before .before .before .pre .tags-are) (replicate 17 0) (c .before .before .before .before .before .before .before .before .before .before .before .before .before .before .before .check-tags .last .1 .1 .1 .0) ((rw (c .before .before .before .before .before .before .before .before .before .before .before .before .before .before .before .before .before .before .l .given .1) at (c .before .before .before .before .before .before .before .before .before .before .before .before .before .before .before .before .before .before .before .before .check-lines .ensures)) .0) refl (zeros-at 17) (rw (not-false (c .before .before .before .before .before .before .before .before .before .before .before .before .before .before .before .check-tags .result) (c .before .before .before .before .before .before .before .before .before .before .before .before .before .before .if1 .left)) at (c .before .before .before .before .before .before .before .before .before .before .before .before .before .before .before .check-tags .ensures)) (c .before .before .before .before .before .before .before .before .before .before .before .before .before .before .before .before .before .before .l .given .0 .0) ((rw (c .before .before .before .before .before .before .before .before .before .before .before .before .before .before .before .before .before .before .l .given .1) at (c .before .before .before .before .before .before .before .before .before .before .before .before .before .before .before .before .before .before .before .before .check-lines .ensures)) .1 .0) (c .before .before .before .before .before .before .before .before .before .before .before .before .begin .last .0) (c .before .before .before .before .before .before .before .before .before .before .b .given .0 .0) (rw (c .before .before .before .before .before .before .before .before .before .before .b .given .1) at (c .before .before .before .before .before .before .before .before .before .before .before .before .begin .ensures)) (c .before .before .before .before .before .before .before .write-lines .last .1 .1 .1 .0) (c .before .before .before .before .before .before .before .write-lines .kept .1 .1 .1 .0) (c .before .before .before .before .before .before .before .write-lines .ensures) (c .before .before .write-tags .last .1 .1 .1 .1 .0) (c .before .before .write-tags .kept .1 .1 .1 .1 .0) (c .before .before .write-tags .ensures)
 

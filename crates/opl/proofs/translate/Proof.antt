@@ -1,74 +1,51 @@
--- Written from Proof.tmpl by 'prove expand': edit that file.
+-- The policy text, then the lines, then the records.
 use Rattle.opl.proofs.CallLaws.{bad-inside, line-inside, both-accepted, bad-policy, bad-lines, accepted-is}
-use Prim.Native.Nat.{_-_, _<_, _≤_, _+_, _/_}
-use lib.ListN.{length, replicate, set}
-use borrow.Author.Tests.{not-true, not-false}
-use mathlib.Core.Path.{refl, _∙_}
+use lib.ListN.{length}
 use native.Mathlib.Omega.{arith}
 use denote.Ref.{now}
 use borrow.Author.Needs.{needs}
 use Rattle.opl.proofs.translate.Statement.{statement}
 use Rattle.opl.proofs.translate.Tie as tie
-use Rattle.opl.proofs.translate.Reads as reads
-use Rattle.opl.proofs.translate.Lts as lts
-use Rattle.opl.proofs.accepted.Reads as accepted-reads
-use Rattle.opl.proofs.bad_text.Reads as bad-text-reads
-use Rattle.opl_lines.proofs.judge.Reads as judge-reads
-use Rattle.opl_reader.proofs.document.Reads as document-reads
 
--- src/lib.rt:105:9
 document-requires : tie.Need-document-requires
 document-requires c κs = search needs
 
--- src/lib.rt:107:19
 enum-known-d : tie.Need-enum-known-d
 enum-known-d c = search needs
 
--- src/lib.rt:107:25
 bad-text-requires : tie.Need-bad-text-requires
 bad-text-requires c κs = omega (arith, bad-inside (now (c .before .before .before .before .before .before .before .before .args .s)) (now (c .before .before .before .before .before .before .before .before .args .t)) (length (now (c .before .before .before .before .before .before .before .before .args .w))) (now (c .before .before .before .before .before .before .before .before .args .out)) (c .before .before .before .document .result) (c .before .before .before .document .ensures) (c .before .d .given .0 .0) (c .before .d .given .1), c .before .before .before .before .before .before .before .before .good .0 .1)
 
--- src/lib.rt:109:17
 enum-told : tie.Need-enum-told
 enum-told c = search needs
 
--- src/lib.rt:109:17
 judge-requires : tie.Need-judge-requires
 judge-requires c κs = search needs
 
--- src/lib.rt:111:27
 enum-known-l : tie.Need-enum-known-l
 enum-known-l c = search needs
 
--- src/lib.rt:111:33
 bad-text-requires-2 : tie.Need-bad-text-requires-2
 bad-text-requires-2 c κs = omega (arith, line-inside (now (c .before .before .before .before .before .before .before .before .before .before .before .args .s)) (now (c .before .before .before .before .before .before .before .before .before .before .before .args .t)) (length (now (c .before .before .before .before .before .before .before .before .before .before .before .args .w))) (now (c .before .before .before .before .before .before .before .before .before .before .before .args .out)) (c .before .before .before .before .before .before .document .result) (c .before .before .before .before .before .before .document .ensures) (c .before .before .before .before .enum-told .given .0 .0) (c .before .before .before .before .enum-told .given .1) (c .before .before .before .judge .result) (c .before .before .before .judge .ensures) (c .before .l .given .0 .0) (c .before .l .given .1), c .before .before .before .before .before .before .before .before .before .before .before .good .1 .0 .1)
 
--- src/lib.rt:112:49
 enum-told-2 : tie.Need-enum-told-2
 enum-told-2 c = search needs
 
--- src/lib.rt:112:34
 accepted-requires : tie.Need-accepted-requires
 accepted-requires c κs = both-accepted (now (c .before .before .before .before .before .before .before .before .before .before .before .before .args .s)) (now (c .before .before .before .before .before .before .before .before .before .before .before .before .args .t)) (length (now (c .before .before .before .before .before .before .before .before .before .before .before .before .args .w))) (now (c .before .before .before .before .before .before .before .before .before .before .before .before .args .out)) (c .before .before .before .before .before .before .before .document .result) (c .before .before .before .before .before .before .before .document .ensures) (c .before .before .before .before .before .enum-told .given .0 .0) (c .before .before .before .before .before .enum-told .given .1) (c .before .before .before .before .judge .result) (c .before .before .before .before .judge .ensures) (c .before .before .enum-told2 .given .0 .0) (c .before .before .enum-told2 .given .1)
 
--- src/lib.rt:102:1
 returns : tie.Need-returns
 returns c = rw (c .bad-text .ensures) (bad-policy (now (c .before .before .before .before .before .before .before .before .before .args .s)) (now (c .before .before .before .before .before .before .before .before .before .args .t)) (length (now (c .before .before .before .before .before .before .before .before .before .args .w))) (now (c .before .before .before .before .before .before .before .before .before .args .out)) (c .before .before .before .before .document .result) (c .before .before .before .before .document .ensures) (c .before .before .d .given .0 .0) (c .before .before .d .given .1))
 
--- src/lib.rt:102:1
 returns-2 : tie.Need-returns-2
 returns-2 c = rw (c .bad-text2 .ensures) (bad-lines (now (c .before .before .before .before .before .before .before .before .before .before .before .before .args .s)) (now (c .before .before .before .before .before .before .before .before .before .before .before .before .args .t)) (length (now (c .before .before .before .before .before .before .before .before .before .before .before .before .args .w))) (now (c .before .before .before .before .before .before .before .before .before .before .before .before .args .out)) (c .before .before .before .before .before .before .before .document .result) (c .before .before .before .before .before .before .before .document .ensures) (c .before .before .before .before .before .enum-told .given .0 .0) (c .before .before .before .before .before .enum-told .given .1) (c .before .before .before .before .judge .result) (c .before .before .before .before .judge .ensures) (c .before .before .l .given .0 .0) (c .before .before .l .given .1))
 
--- src/lib.rt:102:1
 same-length : tie.Need-same-length
 same-length c = search needs
 
--- src/lib.rt:102:1
 same-length-2 : tie.Need-same-length-2
 same-length-2 c = search needs
 
--- src/lib.rt:102:1
 returns-3 : tie.Need-returns-3
 returns-3 c = accepted-is (now (c .before .before .before .before .before .before .before .before .before .before .before .before .before .before .before .before .before .args .s)) (now (c .before .before .before .before .before .before .before .before .before .before .before .before .before .before .before .before .before .args .t)) (length (now (c .before .before .before .before .before .before .before .before .before .before .before .before .before .before .before .before .before .args .w))) (now (c .before .before .before .before .before .before .before .before .before .before .before .before .before .before .before .before .before .args .out)) (c .before .before .before .before .accepted .last .1 .1 .0) (c .before .before .before .before .accepted .result) (both-accepted (now (c .before .before .before .before .before .before .before .before .before .before .before .before .before .before .before .before .before .args .s)) (now (c .before .before .before .before .before .before .before .before .before .before .before .before .before .before .before .before .before .args .t)) (length (now (c .before .before .before .before .before .before .before .before .before .before .before .before .before .before .before .before .before .args .w))) (now (c .before .before .before .before .before .before .before .before .before .before .before .before .before .before .before .before .before .args .out)) (c .before .before .before .before .before .before .before .before .before .before .before .before .document .result) (c .before .before .before .before .before .before .before .before .before .before .before .before .document .ensures) (c .before .before .before .before .before .before .before .before .before .before .enum-told .given .0 .0) (c .before .before .before .before .before .before .before .before .before .before .enum-told .given .1) (c .before .before .before .before .before .before .before .before .before .judge .result) (c .before .before .before .before .before .before .before .before .before .judge .ensures) (c .before .before .before .before .before .before .before .enum-told2 .given .0 .0) (c .before .before .before .before .before .before .before .enum-told2 .given .1)) (c .before .before .before .before .accepted .ensures)
 

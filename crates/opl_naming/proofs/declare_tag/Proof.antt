@@ -1,93 +1,66 @@
--- Written from Proof.tmpl by 'prove expand': edit that file.
+-- A tag says nothing here, or the name that it declares goes into its space.
 use Rattle.opl_naming.proofs.NamingLaws.{goes-stands, goes-other, goes-long, goes-halt, goes-end, goes-on}
-use Prim.Native.Nat.{_-_, _<_, _≤_, _+_}
-use lib.ListN.{length}
+use Prim.Native.Nat.{_-_}
 use native.Mathlib.Omega.{arith}
 use denote.Ref.{now}
 use borrow.Author.Needs.{needs}
 use Rattle.opl_naming.proofs.declare_tag.Statement.{statement}
 use Rattle.opl_naming.proofs.declare_tag.Tie as tie
-use Rattle.opl_naming.proofs.declare_tag.Reads as reads
-use Rattle.opl_naming.proofs.declare_tag.Lts as lts
-use Rattle.opl_naming.proofs.attribute.Reads as attribute-reads
-use Rattle.opl_spaces.proofs.declare.Reads as declare-reads
-use Rattle.opl_tags.proofs.read_tag.Reads as read-tag-reads
-use Rattle.opl_tags.proofs.value_of.Reads as value-of-reads
-use Rattle.opl_turns.proofs.element.Reads as element-reads
 
--- src/lib.rt:36:9
 read-tag-requires : tie.Need-read-tag-requires
 read-tag-requires c κs = search needs
 
--- src/lib.rt:38:22
 enum-told : tie.Need-enum-told
 enum-told c = search needs
 
--- src/lib.rt:39:18
 enum-known-t : tie.Need-enum-known-t
 enum-known-t c = search needs
 
--- src/lib.rt:40:22
 enum-known-t-2 : tie.Need-enum-known-t-2
 enum-known-t-2 c = search needs
 
--- src/lib.rt:41:30
 sub-element : tie.Need-sub-element
 sub-element c = let o = goes-stands (now (c .before .before .before .before .before .before .args .s)) (c .before .before .before .before .before .before .args .at) (c .before .before .before .read-tag .result) (c .before .before .before .read-tag .ensures) (now (c .before .before .before .before .before .before .args .w)) (c .before .before .before .before .before .before .pre .1 .0) (c .before .t2 .given .0 .0) (c .before .t2 .given .0 .1 .0) (c .before .t2 .given .0 .1 .1 .0) (c .before .t2 .given .1) in omega (arith, o .named)
 
--- src/lib.rt:41:30
 part-element-start : tie.Need-part-element-start
 part-element-start c = let o = goes-stands (now (c .before .before .before .before .before .before .args .s)) (c .before .before .before .before .before .before .args .at) (c .before .before .before .read-tag .result) (c .before .before .before .read-tag .ensures) (now (c .before .before .before .before .before .before .args .w)) (c .before .before .before .before .before .before .pre .1 .0) (c .before .t2 .given .0 .0) (c .before .t2 .given .0 .1 .0) (c .before .t2 .given .0 .1 .1 .0) (c .before .t2 .given .1) in search needs
 
--- src/lib.rt:41:30
 part-element-end : tie.Need-part-element-end
 part-element-end c = let o = goes-stands (now (c .before .before .before .before .before .before .args .s)) (c .before .before .before .before .before .before .args .at) (c .before .before .before .read-tag .result) (c .before .before .before .read-tag .ensures) (now (c .before .before .before .before .before .before .args .w)) (c .before .before .before .before .before .before .pre .1 .0) (c .before .t2 .given .0 .0) (c .before .t2 .given .0 .1 .0) (c .before .t2 .given .0 .1 .1 .0) (c .before .t2 .given .1) in search needs
 
--- src/lib.rt:41:22
 element-requires : tie.Need-element-requires
 element-requires c κs = search needs
 
--- src/lib.rt:43:17
 returns : tie.Need-returns
 returns c = goes-other (now (c .before .before .before .before .before .before .before .before .before .args .s)) (c .before .before .before .before .before .before .before .before .before .args .at) (c .before .before .before .before .before .before .read-tag .result) (c .before .before .before .before .before .before .read-tag .ensures) (now (c .before .before .before .before .before .before .before .before .before .args .w)) (c .before .before .before .before .before .before .before .before .before .pre .1 .0) (c .before .before .before .before .t2 .given .0 .0) (c .before .before .before .before .t2 .given .0 .1 .0) (c .before .before .before .before .t2 .given .0 .1 .1 .0) (c .before .before .before .before .t2 .given .1) (λ i h u. omega (arith, u, c .before .element .ensures, c .if1 .taken))
 
--- src/lib.rt:46:17
 returns-2 : tie.Need-returns-2
 returns-2 c = goes-other (now (c .before .before .before .before .before .before .before .before .before .before .args .s)) (c .before .before .before .before .before .before .before .before .before .before .args .at) (c .before .before .before .before .before .before .before .read-tag .result) (c .before .before .before .before .before .before .before .read-tag .ensures) (now (c .before .before .before .before .before .before .before .before .before .before .args .w)) (c .before .before .before .before .before .before .before .before .before .before .pre .1 .0) (c .before .before .before .before .before .t2 .given .0 .0) (c .before .before .before .before .before .t2 .given .0 .1 .0) (c .before .before .before .before .before .t2 .given .0 .1 .1 .0) (c .before .before .before .before .before .t2 .given .1) (λ i h u. omega (arith, u, c .before .before .element .ensures, c .if2 .taken))
 
--- src/lib.rt:49:38
 attribute-requires : tie.Need-attribute-requires
 attribute-requires c κs = search needs
 
--- src/lib.rt:49:17
 value-of-requires : tie.Need-value-of-requires
 value-of-requires c κs = let o = goes-stands (now (c .before .before .before .before .before .before .before .before .before .before .before .args .s)) (c .before .before .before .before .before .before .before .before .before .before .before .args .at) (c .before .before .before .before .before .before .before .before .read-tag .result) (c .before .before .before .before .before .before .before .before .read-tag .ensures) (now (c .before .before .before .before .before .before .before .before .before .before .before .args .w)) (c .before .before .before .before .before .before .before .before .before .before .before .pre .1 .0) (c .before .before .before .before .before .before .t2 .given .0 .0) (c .before .before .before .before .before .before .t2 .given .0 .1 .0) (c .before .before .before .before .before .before .t2 .given .0 .1 .1 .0) (c .before .before .before .before .before .before .t2 .given .1) in omega (arith, o .past, o .inside)
 
--- src/lib.rt:51:24
 sub-size : tie.Need-sub-size
 sub-size c = search needs
 
--- src/lib.rt:53:17
 returns-3 : tie.Need-returns-3
 returns-3 c = goes-long (now (c .before .before .before .before .before .before .before .before .before .before .before .before .before .before .args .s)) (c .before .before .before .before .before .before .before .before .before .before .before .before .before .before .args .at) (c .before .before .before .before .before .before .before .before .before .before .before .read-tag .result) (c .before .before .before .before .before .before .before .before .before .before .before .read-tag .ensures) (now (c .before .before .before .before .before .before .before .before .before .before .before .before .before .before .args .w)) (c .before .before .before .before .before .before .before .before .before .before .before .before .before .before .pre .1 .0) (c .before .before .before .before .before .before .before .before .before .t2 .given .0 .0) (c .before .before .before .before .before .before .before .before .before .t2 .given .0 .1 .0) (c .before .before .before .before .before .before .before .before .before .t2 .given .0 .1 .1 .0) (c .before .before .before .before .before .before .before .before .before .t2 .given .1) (c .before .before .before .before .before .before .element .result - 12) (omega (arith, c .before .before .before .before .before .if1 .left, c .before .before .before .before .if2 .left)) (omega (arith, c .before .before .before .before .before .before .element .ensures, c .before .before .before .before .before .if1 .left)) (c .before .before .value-of .result) (rw (c .before .before .before .attribute .ensures) at (c .before .before .value-of .ensures)) (c .if3 .taken)
 
--- src/lib.rt:55:13
 declare-requires : tie.Need-declare-requires
 declare-requires c κs = ((c .before .before .before .before .before .before .before .before .before .before .before .before .before .before .before .pre .0, omega (arith, c .before .before .before .before .before .before .if1 .left, c .before .before .before .before .before .if2 .left)), (c .before .before .before .before .before .before .before .before .before .before .before .before .before .before .before .pre .1 .0 (c .before .before .before .before .before .before .before .element .result - 12) (omega (arith, c .before .before .before .before .before .before .if1 .left, c .before .before .before .before .before .if2 .left)), (omega (arith, c .before .before .before .value-of .ensures .inside, c .before .before .before .value-of .ensures .order), c .before .if3 .left)))
 
--- src/lib.rt:32:1
 returns-4 : tie.Need-returns-4
 returns-4 c = goes-halt (now (c .before .before .before .before .before .args .s)) (c .before .before .before .before .before .args .at) (c .before .before .read-tag .result) (c .before .before .read-tag .ensures) (now (c .before .before .before .before .before .args .w)) (c .before .before .before .before .before .pre .1 .0) (c .enum-told .given .1)
 
--- src/lib.rt:32:1
 returns-5 : tie.Need-returns-5
 returns-5 c = goes-end (now (c .before .before .before .before .before .before .args .s)) (c .before .before .before .before .before .before .args .at) (c .before .before .before .read-tag .result) (c .before .before .before .read-tag .ensures) (now (c .before .before .before .before .before .before .args .w)) (c .before .before .before .before .before .before .pre .1 .0) (c .before .t .given .0 .0) (c .before .t .given .1)
 
--- src/lib.rt:32:1
 same-length : tie.Need-same-length
 same-length c = search needs
 
--- src/lib.rt:32:1
 returns-6 : tie.Need-returns-6
 returns-6 c = goes-on (now (c .before .before .before .before .before .before .before .before .before .before .before .before .before .before .before .before .before .before .args .s)) (c .before .before .before .before .before .before .before .before .before .before .before .before .before .before .before .before .before .before .args .at) (c .before .before .before .before .before .before .before .before .before .before .before .before .before .before .before .read-tag .result) (c .before .before .before .before .before .before .before .before .before .before .before .before .before .before .before .read-tag .ensures) (now (c .before .before .before .before .before .before .before .before .before .before .before .before .before .before .before .before .before .before .args .w)) (c .before .before .before .before .before .before .before .before .before .before .before .before .before .before .before .before .before .before .pre .1 .0) (c .before .before .before .before .before .before .before .before .before .before .before .before .before .t2 .given .0 .0) (c .before .before .before .before .before .before .before .before .before .before .before .before .before .t2 .given .0 .1 .0) (c .before .before .before .before .before .before .before .before .before .before .before .before .before .t2 .given .0 .1 .1 .0) (c .before .before .before .before .before .before .before .before .before .before .before .before .before .t2 .given .1) (c .before .before .before .before .before .before .before .before .before .before .element .result - 12) (omega (arith, c .before .before .before .before .before .before .before .before .before .if1 .left, c .before .before .before .before .before .before .before .before .if2 .left)) (omega (arith, c .before .before .before .before .before .before .before .before .before .before .element .ensures, c .before .before .before .before .before .before .before .before .before .if1 .left)) (c .before .before .before .before .before .before .value-of .result) (rw (c .before .before .before .before .before .before .before .attribute .ensures) at (c .before .before .before .before .before .before .value-of .ensures)) (c .before .before .declare .last .1 .0) (c .before .before .declare .result) (c .before .before .before .before .if3 .left) (c .before .before .declare .ensures)
 

@@ -1,16 +1,13 @@
--- Written from Proof.tmpl by 'prove expand': edit that file.
+-- What is left of the tags fills each space as the whole does.
 use borrow.Author.Needs.{needs}
 use Rattle.opl_naming.proofs.NamingLaws.{NamesLeft, names-first, names-done, names-long, names-past, names-on, names-end}
 use mathlib.Core.Path.{_∙_}
-use Prim.Native.Nat.{_-_, _<_, _≤_, _+_}
+use Prim.Native.Nat.{_-_}
 use lib.ListN.{length}
 use native.Mathlib.Omega.{arith}
 use denote.Ref.{now}
 use Rattle.opl_naming.proofs.declare_tags.Statement.{statement}
 use Rattle.opl_naming.proofs.declare_tags.Tie as tie
-use Rattle.opl_naming.proofs.declare_tags.Reads as reads
-use Rattle.opl_naming.proofs.declare_tags.Lts as lts
-use Rattle.opl_naming.proofs.declare_tag.Reads as declare-tag-reads
 
 abbrev Inv-loop : tie.InvT-loop
 Inv-loop s w₀ from at₀ w at = NamesLeft s from at w₀ w
@@ -18,55 +15,42 @@ Inv-loop s w₀ from at₀ w at = NamesLeft s from at w₀ w
 abbrev μ-loop : tie.MeasureT-loop
 μ-loop s w₀ from at₀ w at = length s - at
 
--- src/lib.rt:67:5
 loop-holds : tie.Need-loop-holds Inv-loop μ-loop
 loop-holds c = names-first (now (c .before .before .args .s)) (c .before .before .args .from) (now (c .before .before .args .w)) (c .before .before .pre .1 .1) (c .before .before .pre .1 .0)
 
--- src/lib.rt:68:13
 declare-tag-requires : tie.Need-declare-tag-requires Inv-loop μ-loop
 declare-tag-requires c κs = (c .before .before .loop .inv .room ∙ c .before .before .before .before .before .pre .0, (λ i h. c .before .before .loop .inv .spaces i h .sound, c .before .before .loop .inv .inside))
 
--- src/lib.rt:71:17
 enum-told : tie.Need-enum-told Inv-loop μ-loop
 enum-told c = search needs
 
--- src/lib.rt:71:17
 same-length : tie.Need-same-length Inv-loop μ-loop
 same-length c = c .before .before .before .before .declare-tag .kept .1 .0 ∙ c .before .before .before .before .before .before .before .loop .inv .room
 
--- src/lib.rt:71:17
 returns : tie.Need-returns Inv-loop μ-loop
 returns c = names-done (now (c .before .before .before .before .before .before .before .before .before .before .args .s)) (c .before .before .before .before .before .before .before .before .before .before .args .from) (now (c .before .before .before .before .before .before .before .before .before .before .args .w)) (c .before .before .before .before .before .before .before .loop .at) (c .before .before .before .before .before .before .before .loop .w) (c .before .before .before .before .before .before .before .loop .inv) (c .before .before .before .before .declare-tag .result) (c .before .before .before .before .declare-tag .last .1 .0) (c .before .before .before .before .declare-tag .ensures) (c .enum-told .given .1)
 
--- src/lib.rt:74:17
 enum-told-2 : tie.Need-enum-told-2 Inv-loop μ-loop
 enum-told-2 c = search needs
 
--- src/lib.rt:74:17
 same-length-2 : tie.Need-same-length-2 Inv-loop μ-loop
 same-length-2 c = c .before .before .before .before .declare-tag .kept .1 .0 ∙ c .before .before .before .before .before .before .before .loop .inv .room
 
--- src/lib.rt:74:17
 returns-2 : tie.Need-returns-2 Inv-loop μ-loop
 returns-2 c = names-long (now (c .before .before .before .before .before .before .before .before .before .before .args .s)) (c .before .before .before .before .before .before .before .before .before .before .args .from) (now (c .before .before .before .before .before .before .before .before .before .before .args .w)) (c .before .before .before .before .before .before .before .loop .at) (c .before .before .before .before .before .before .before .loop .w) (c .before .before .before .before .before .before .before .loop .inv) (c .before .before .before .before .declare-tag .result) (c .before .before .before .before .declare-tag .last .1 .0) (c .before .before .before .before .declare-tag .ensures) (c .enum-told2 .given .1)
 
--- src/lib.rt:76:26
 enum-known-r : tie.Need-enum-known-r Inv-loop μ-loop
 enum-known-r c = search needs
 
--- src/lib.rt:67:5
 loop-less : tie.Need-loop-less Inv-loop μ-loop
 loop-less c = let p = names-past (now (c .before .before .before .before .before .before .before .before .before .before .before .args .s)) (c .before .before .before .before .before .before .before .before .before .before .before .args .from) (now (c .before .before .before .before .before .before .before .before .before .before .before .args .w)) (c .before .before .before .before .before .before .before .before .loop .at) (c .before .before .before .before .before .before .before .before .loop .w) (c .before .before .before .before .before .before .before .before .loop .inv) (c .before .before .before .before .before .declare-tag .result) (c .before .before .before .before .before .declare-tag .last .1 .0) (c .before .before .before .before .before .declare-tag .ensures) (c .before .r .given .0 .0) (c .before .r .given .1) in omega (arith, p .0, p .1)
 
--- src/lib.rt:67:5
 loop-again : tie.Need-loop-again Inv-loop μ-loop
 loop-again c = names-on (now (c .before .before .before .before .before .before .before .before .before .before .before .args .s)) (c .before .before .before .before .before .before .before .before .before .before .before .args .from) (now (c .before .before .before .before .before .before .before .before .before .before .before .args .w)) (c .before .before .before .before .before .before .before .before .loop .at) (c .before .before .before .before .before .before .before .before .loop .w) (c .before .before .before .before .before .before .before .before .loop .inv) (c .before .before .before .before .before .declare-tag .result) (c .before .before .before .before .before .declare-tag .last .1 .0) (c .before .before .before .before .before .declare-tag .ensures) (c .before .r .given .0 .0) (c .before .r .given .1)
 
--- src/lib.rt:62:1
 same-length-3 : tie.Need-same-length-3 Inv-loop μ-loop
 same-length-3 c = c .before .loop .inv .room
 
--- src/lib.rt:62:1
 returns-3 : tie.Need-returns-3 Inv-loop μ-loop
 returns-3 c = names-end (now (c .before .before .before .before .args .s)) (c .before .before .before .before .args .from) (now (c .before .before .before .before .args .w)) (c .before .loop .at) (c .before .loop .w) (c .before .loop .inv) (c .loop-test .left)
 

@@ -1,15 +1,11 @@
--- Written from Proof.tmpl by 'prove expand': edit that file.
+-- The sum so far is where the kind begins.
 use borrow.Author.Needs.{needs}
 use denote.Ref.{now}
 use native.Mathlib.Omega.{arith}
-use lib.ListN.{length, take, drop}
-use Prim.Native.Nat.{_+_, _-_, _≤_, _<_}
-use Rattle.opl_said.specs.Said.{allNames}
+use Prim.Native.Nat.{_-_}
 use Rattle.opl_passes.proofs.TagLaws.{BeginLeft, begin-first, begin-over, begin-on, begin-end}
 use Rattle.opl_passes.proofs.begin.Statement.{statement}
 use Rattle.opl_passes.proofs.begin.Tie as tie
-use Rattle.opl_passes.proofs.begin.Reads as reads
-use Rattle.opl_passes.proofs.begin.Lts as lts
 
 abbrev Inv-loop : tie.InvT-loop
 Inv-loop counts₀ cap sum₀ k₀ counts sum k = BeginLeft counts₀ cap counts sum k
@@ -17,51 +13,39 @@ Inv-loop counts₀ cap sum₀ k₀ counts sum k = BeginLeft counts₀ cap counts
 abbrev μ-loop : tie.MeasureT-loop
 μ-loop counts₀ cap sum₀ k₀ counts sum k = 17 - k
 
--- src/lib.rt:218:5
 loop-holds : tie.Need-loop-holds Inv-loop μ-loop
 loop-holds c = begin-first (now (c .args .counts)) (c .args .cap) (c .pre)
 
--- src/lib.rt:219:17
 mul-n : tie.Need-mul-n Inv-loop μ-loop
 mul-n c = search needs
 
--- src/lib.rt:219:17
 element-copy-out-n : tie.Need-element-copy-out-n Inv-loop μ-loop
 element-copy-out-n c = search needs
 
--- src/lib.rt:220:12
 sub-if1 : tie.Need-sub-if1 Inv-loop μ-loop
 sub-if1 c = c .before .before .loop .inv .fits
 
--- src/lib.rt:221:13
 returns : tie.Need-returns Inv-loop μ-loop
 returns c = begin-over (now (c .before .before .before .before .args .counts)) (c .before .before .before .before .args .cap) (c .before .before .before .loop .counts) (c .before .before .before .loop .sum) (c .before .before .before .loop .k) (c .before .before .before .loop .inv) (c .before .before .loop-test .taken) (c .if1 .taken)
 
--- src/lib.rt:223:9
 mul-counts : tie.Need-mul-counts Inv-loop μ-loop
 mul-counts c = search needs
 
--- src/lib.rt:223:9
 element-write-counts : tie.Need-element-write-counts Inv-loop μ-loop
 element-write-counts c = search needs
 
--- src/lib.rt:224:9
 add-sum : tie.Need-add-sum Inv-loop μ-loop
 add-sum c = search needs
 
--- src/lib.rt:225:9
 add-k : tie.Need-add-k Inv-loop μ-loop
 add-k c = search needs
 
--- src/lib.rt:218:5
 loop-less : tie.Need-loop-less Inv-loop μ-loop
 loop-less c = omega (arith, c .before .before .loop-test .taken)
 
--- src/lib.rt:218:5
 loop-again : tie.Need-loop-again Inv-loop μ-loop
 loop-again c = begin-on (now (c .before .before .before .before .args .counts)) (c .before .before .before .before .args .cap) (c .before .before .before .loop .counts) (c .before .before .before .loop .sum) (c .before .before .before .loop .k) (c .before .before .before .loop .inv) (c .before .before .loop-test .taken) (c .if1 .left)
 
--- src/lib.rt:213:1
 returns-2 : tie.Need-returns-2 Inv-loop μ-loop
 returns-2 c = begin-end (now (c .before .before .args .counts)) (c .before .before .args .cap) (c .before .loop .counts) (c .before .loop .sum) (c .before .loop .k) (c .before .loop .inv) (c .loop-test .left)
 

@@ -1,16 +1,13 @@
--- Written from Proof.tmpl by 'prove expand': edit that file.
+-- What is left of the lines is there as the whole is.
 use borrow.Author.Needs.{needs}
 use denote.Ref.{now}
 use native.Mathlib.Omega.{arith}
-use lib.ListN.{length, take, drop}
-use Prim.Native.Nat.{_+_, _-_, _≤_, _<_}
+use lib.ListN.{length}
+use Prim.Native.Nat.{_-_}
 use Rattle.opl_said.specs.Said.{allNames}
 use Rattle.opl_passes.proofs.LineLaws.{LinesLeft, lines-first, lines-on, lines-unnamed, lines-end, paired-past}
 use Rattle.opl_passes.proofs.check_lines.Statement.{statement}
 use Rattle.opl_passes.proofs.check_lines.Tie as tie
-use Rattle.opl_passes.proofs.check_lines.Reads as reads
-use Rattle.opl_passes.proofs.check_lines.Lts as lts
-use Rattle.opl_passes.proofs.row_at.Reads as row-at-reads
 
 abbrev Inv-loop : tie.InvT-loop
 Inv-loop s t w n₀ at₀ n at = LinesLeft (allNames s t) t n at
@@ -18,39 +15,30 @@ Inv-loop s t w n₀ at₀ n at = LinesLeft (allNames s t) t n at
 abbrev μ-loop : tie.MeasureT-loop
 μ-loop s t w n₀ at₀ n at = length t - at
 
--- src/lib.rt:108:5
 loop-holds : tie.Need-loop-holds Inv-loop μ-loop
 loop-holds c = lines-first (allNames (now (c .before .before .before .args .s)) (now (c .before .before .before .args .t))) (now (c .before .before .before .args .t)) (c .before .before .before .pre .1)
 
--- src/lib.rt:109:13
 row-at-requires : tie.Need-row-at-requires Inv-loop μ-loop
 row-at-requires c κs = (c .before .before .before .before .before .pre .0, (c .loop-test .taken, c .before .loop .inv .good))
 
--- src/lib.rt:112:17
 enum-told : tie.Need-enum-told Inv-loop μ-loop
 enum-told c = search needs
 
--- src/lib.rt:112:17
 returns : tie.Need-returns Inv-loop μ-loop
 returns c = lines-unnamed (allNames (now (c .before .before .before .before .before .before .before .before .args .s)) (now (c .before .before .before .before .before .before .before .before .args .t))) (now (c .before .before .before .before .before .before .before .before .args .t)) (c .before .before .before .before .loop .n) (c .before .before .before .before .loop .at) (c .before .before .before .before .loop .inv) (rw (c .enum-told .given .1) at (c .before .before .row-at .ensures))
 
--- src/lib.rt:114:37
 enum-known-r : tie.Need-enum-known-r Inv-loop μ-loop
 enum-known-r c = search needs
 
--- src/lib.rt:115:17
 add-n : tie.Need-add-n Inv-loop μ-loop
 add-n c = omega (arith, c .before .before .before .before .before .loop .inv .few, c .before .before .before .before .before .loop .inv .inside)
 
--- src/lib.rt:108:5
 loop-less : tie.Need-loop-less Inv-loop μ-loop
 loop-less c = let o = lines-on (allNames (now (c .before .before .before .before .before .before .before .before .before .args .s)) (now (c .before .before .before .before .before .before .before .before .before .args .t))) (now (c .before .before .before .before .before .before .before .before .before .args .t)) (c .before .before .before .before .before .loop .n) (c .before .before .before .before .before .loop .at) (c .before .before .before .before .before .loop .inv) (c .before .r .given .0 .0) (c .before .r .given .0 .1 .0) (c .before .r .given .0 .1 .1 .0) (rw (c .before .r .given .1) at (c .before .before .before .row-at .ensures)) in omega (arith, o .inside, paired-past (c .before .r .given .0 .0) (c .before .r .given .0 .1 .0) (c .before .r .given .0 .1 .1 .0) (rw (c .before .r .given .1) at (c .before .before .before .row-at .ensures)))
 
--- src/lib.rt:108:5
 loop-again : tie.Need-loop-again Inv-loop μ-loop
 loop-again c = lines-on (allNames (now (c .before .before .before .before .before .before .before .before .before .args .s)) (now (c .before .before .before .before .before .before .before .before .before .args .t))) (now (c .before .before .before .before .before .before .before .before .before .args .t)) (c .before .before .before .before .before .loop .n) (c .before .before .before .before .before .loop .at) (c .before .before .before .before .before .loop .inv) (c .before .r .given .0 .0) (c .before .r .given .0 .1 .0) (c .before .r .given .0 .1 .1 .0) (rw (c .before .r .given .1) at (c .before .before .before .row-at .ensures))
 
--- src/lib.rt:102:1
 returns-2 : tie.Need-returns-2 Inv-loop μ-loop
 returns-2 c = lines-end (allNames (now (c .before .before .before .before .before .args .s)) (now (c .before .before .before .before .before .args .t))) (now (c .before .before .before .before .before .args .t)) (c .before .loop .n) (c .before .loop .at) (c .before .loop .inv) (c .loop-test .left)
 

@@ -1,19 +1,15 @@
--- Written from Proof.tmpl by 'prove expand': edit that file.
+-- What is left of the tags is there, and is counted, as the whole is.
 use borrow.Author.Needs.{needs}
 use denote.Ref.{now}
 use native.Mathlib.Omega.{arith}
-use lib.ListN.{length, take, drop}
-use Prim.Native.Nat.{_+_, _-_, _≤_, _<_}
+use lib.ListN.{length}
+use Prim.Native.Nat.{_-_}
 use Rattle.opl_said.specs.Said.{allNames}
-use Rattle.opl_turns.specs.Turning.{Tells}
 use mathlib.Core.Path.{_∙_}
 use Rattle.opl_declared.specs.Names.{walkAt}
 use Rattle.opl_passes.proofs.TagLaws.{CheckLeft, check-first, check-done, check-unnamed, check-past, check-on, check-end}
 use Rattle.opl_passes.proofs.check_tags.Statement.{statement}
 use Rattle.opl_passes.proofs.check_tags.Tie as tie
-use Rattle.opl_passes.proofs.check_tags.Reads as reads
-use Rattle.opl_passes.proofs.check_tags.Lts as lts
-use Rattle.opl_passes.proofs.check_at.Reads as check-at-reads
 
 abbrev Inv-loop : tie.InvT-loop
 Inv-loop s t w counts₀ from c₀ counts c = CheckLeft (allNames s t) s (walkAt s from) counts₀ c counts
@@ -21,43 +17,33 @@ Inv-loop s t w counts₀ from c₀ counts c = CheckLeft (allNames s t) s (walkAt
 abbrev μ-loop : tie.MeasureT-loop
 μ-loop s t w counts₀ from c₀ counts c = length s - c .at
 
--- src/lib.rt:195:5
 loop-holds : tie.Need-loop-holds Inv-loop μ-loop
 loop-holds c = check-first (allNames (now (c .before .before .before .args .s)) (now (c .before .before .before .args .t))) (now (c .before .before .before .args .s)) (c .before .before .before .args .from) (now (c .before .before .before .args .counts)) (c .before .before .before .pre .1 .0) (c .before .before .before .pre .1 .1 .0) (c .before .before .before .pre .1 .1 .1 .1)
 
--- src/lib.rt:196:13
 check-at-requires : tie.Need-check-at-requires Inv-loop μ-loop
 check-at-requires c κs = (c .before .before .before .before .before .before .before .pre .0, (c .before .before .before .loop .inv .stood, (c .before .before .before .loop .inv .room ∙ c .before .before .before .before .before .before .before .pre .1 .1 .1 .0, c .before .before .before .loop .inv .few)))
 
--- src/lib.rt:199:17
 enum-told : tie.Need-enum-told Inv-loop μ-loop
 enum-told c = search needs
 
--- src/lib.rt:199:17
 returns : tie.Need-returns Inv-loop μ-loop
 returns c = check-done (allNames (now (c .before .before .before .before .before .before .before .before .before .before .before .args .s)) (now (c .before .before .before .before .before .before .before .before .before .before .before .args .t))) (now (c .before .before .before .before .before .before .before .before .before .before .before .args .s)) (c .before .before .before .before .before .before .before .before .before .before .before .args .from) (now (c .before .before .before .before .before .before .before .before .before .before .before .args .counts)) (c .before .before .before .before .before .before .before .loop .c) (c .before .before .before .before .before .before .before .loop .counts) (c .before .before .before .before .before .before .before .loop .inv) (c .before .before .before .check-at .result) (c .before .before .before .check-at .last .1 .1 .1 .0) (c .before .before .before .check-at .ensures) (c .before .enum-told .given .1)
 
--- src/lib.rt:202:17
 enum-told-2 : tie.Need-enum-told-2 Inv-loop μ-loop
 enum-told-2 c = search needs
 
--- src/lib.rt:202:17
 returns-2 : tie.Need-returns-2 Inv-loop μ-loop
 returns-2 c = check-unnamed (allNames (now (c .before .before .before .before .before .before .before .before .before .before .args .s)) (now (c .before .before .before .before .before .before .before .before .before .before .args .t))) (now (c .before .before .before .before .before .before .before .before .before .before .args .s)) (c .before .before .before .before .before .before .before .before .before .before .args .from) (now (c .before .before .before .before .before .before .before .before .before .before .args .counts)) (c .before .before .before .before .before .before .loop .c) (c .before .before .before .before .before .before .loop .counts) (c .before .before .before .before .before .before .loop .inv) (c .before .before .check-at .result) (c .before .before .check-at .last .1 .1 .1 .0) (c .before .before .check-at .ensures) (c .enum-told2 .given .1)
 
--- src/lib.rt:204:27
 enum-known-r : tie.Need-enum-known-r Inv-loop μ-loop
 enum-known-r c = search needs
 
--- src/lib.rt:195:5
 loop-less : tie.Need-loop-less Inv-loop μ-loop
 loop-less c = let p = check-past (allNames (now (c .before .before .before .before .before .before .before .before .before .before .before .args .s)) (now (c .before .before .before .before .before .before .before .before .before .before .before .args .t))) (now (c .before .before .before .before .before .before .before .before .before .before .before .args .s)) (c .before .before .before .before .before .before .before .before .before .before .before .args .from) (now (c .before .before .before .before .before .before .before .before .before .before .before .args .counts)) (c .before .before .before .before .before .before .before .loop .c) (c .before .before .before .before .before .before .before .loop .counts) (c .before .before .before .before .before .before .before .loop .inv) (c .before .before .before .check-at .result) (c .before .before .before .check-at .last .1 .1 .1 .0) (c .before .before .before .check-at .ensures) (c .before .r .given .0 .0) (c .before .r .given .1) in omega (arith, p .0, p .1)
 
--- src/lib.rt:195:5
 loop-again : tie.Need-loop-again Inv-loop μ-loop
 loop-again c = check-on (allNames (now (c .before .before .before .before .before .before .before .before .before .before .before .args .s)) (now (c .before .before .before .before .before .before .before .before .before .before .before .args .t))) (now (c .before .before .before .before .before .before .before .before .before .before .before .args .s)) (c .before .before .before .before .before .before .before .before .before .before .before .args .from) (now (c .before .before .before .before .before .before .before .before .before .before .before .args .counts)) (c .before .before .before .before .before .before .before .loop .c) (c .before .before .before .before .before .before .before .loop .counts) (c .before .before .before .before .before .before .before .loop .inv) (c .before .before .before .check-at .result) (c .before .before .before .check-at .last .1 .1 .1 .0) (c .before .before .before .check-at .ensures) (c .before .r .given .0 .0) (c .before .r .given .1)
 
--- src/lib.rt:186:1
 returns-3 : tie.Need-returns-3 Inv-loop μ-loop
 returns-3 c = check-end (allNames (now (c .before .before .before .before .before .before .before .args .s)) (now (c .before .before .before .before .before .before .before .args .t))) (now (c .before .before .before .before .before .before .before .args .s)) (c .before .before .before .before .before .before .before .args .from) (now (c .before .before .before .before .before .before .before .args .counts)) (c .before .before .before .loop .c) (c .before .before .before .loop .counts) (c .before .before .before .loop .inv) (c .before .if1 .left)
 

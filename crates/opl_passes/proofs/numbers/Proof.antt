@@ -1,78 +1,58 @@
--- Written from Proof.tmpl by 'prove expand': edit that file.
+-- Both names have numbers, or one has none.
 use denote.Ref.{now}
-use native.Mathlib.Omega.{arith}
-use lib.ListN.{length, take, drop}
-use Prim.Native.Nat.{_+_, _-_, _≤_, _<_}
+use lib.ListN.{take, drop}
+use Prim.Native.Nat.{_+_, _-_}
 use Rattle.opl_said.specs.Said.{allNames}
 use Rattle.opl_passes.proofs.LineLaws.{no-task, no-template, both-named}
 use borrow.Author.Needs.{needs}
 use Rattle.opl_passes.proofs.numbers.Statement.{statement}
 use Rattle.opl_passes.proofs.numbers.Tie as tie
-use Rattle.opl_passes.proofs.numbers.Reads as reads
-use Rattle.opl_passes.proofs.numbers.Lts as lts
-use Rattle.opl_said.proofs.number_of.Reads as number-of-reads
 
--- src/lib.rt:69:35
 sub-number-of : tie.Need-sub-number-of
 sub-number-of c = search needs
 
--- src/lib.rt:69:35
 part-number-of-start : tie.Need-part-number-of-start
 part-number-of-start c = search needs
 
--- src/lib.rt:69:35
 part-number-of-end : tie.Need-part-number-of-end
 part-number-of-end c = search needs
 
--- src/lib.rt:69:9
 number-of-requires : tie.Need-number-of-requires
 number-of-requires c κs = search needs
 
--- src/lib.rt:70:19
 enum-known-x : tie.Need-enum-known-x
 enum-known-x c = search needs
 
--- src/lib.rt:71:9
 enum-told : tie.Need-enum-told
 enum-told c = search needs
 
--- src/lib.rt:71:9
 returns : tie.Need-returns
 returns c = no-task (allNames (now (c .before .before .before .before .before .before .before .args .s)) (now (c .before .before .before .before .before .before .before .args .t))) (take (c .before .before .before .before .before .before .before .args .task - c .before .before .before .before .before .before .before .args .at) (drop (c .before .before .before .before .before .before .before .args .at) (now (c .before .before .before .before .before .before .before .args .t)))) (take (c .before .before .before .before .before .before .before .args .template - (c .before .before .before .before .before .before .before .args .task + 1)) (drop (c .before .before .before .before .before .before .before .args .task + 1) (now (c .before .before .before .before .before .before .before .args .t)))) (c .before .before .number-of .result) (c .before .before .number-of .ensures) (c .enum-told .given .1)
 
--- src/lib.rt:73:16
 add-from : tie.Need-add-from
 add-from c = search needs
 
--- src/lib.rt:74:35
 sub-number-of-2 : tie.Need-sub-number-of-2
 sub-number-of-2 c = search needs
 
--- src/lib.rt:74:35
 part-number-of-start-2 : tie.Need-part-number-of-start-2
 part-number-of-start-2 c = search needs
 
--- src/lib.rt:74:35
 part-number-of-end-2 : tie.Need-part-number-of-end-2
 part-number-of-end-2 c = search needs
 
--- src/lib.rt:74:9
 number-of-requires-2 : tie.Need-number-of-requires-2
 number-of-requires-2 c κs = search needs
 
--- src/lib.rt:75:19
 enum-known-y : tie.Need-enum-known-y
 enum-known-y c = search needs
 
--- src/lib.rt:76:9
 enum-told-2 : tie.Need-enum-told-2
 enum-told-2 c = search needs
 
--- src/lib.rt:76:9
 returns-2 : tie.Need-returns-2
 returns-2 c = no-template (allNames (now (c .before .before .before .before .before .before .before .before .before .before .before .before .args .s)) (now (c .before .before .before .before .before .before .before .before .before .before .before .before .args .t))) (take (c .before .before .before .before .before .before .before .before .before .before .before .before .args .task - c .before .before .before .before .before .before .before .before .before .before .before .before .args .at) (drop (c .before .before .before .before .before .before .before .before .before .before .before .before .args .at) (now (c .before .before .before .before .before .before .before .before .before .before .before .before .args .t)))) (take (c .before .before .before .before .before .before .before .before .before .before .before .before .args .template - (c .before .before .before .before .before .before .before .before .before .before .before .before .args .task + 1)) (drop (c .before .before .before .before .before .before .before .before .before .before .before .before .args .task + 1) (now (c .before .before .before .before .before .before .before .before .before .before .before .before .args .t)))) (c .before .before .before .before .before .before .before .number-of .result) (c .before .before .before .before .before .before .before .number-of .ensures) (c .before .before .before .before .before .x .given .0 .0) (c .before .before .before .before .before .x .given .1) (c .before .before .number-of2 .result) (c .before .before .number-of2 .ensures) (c .enum-told2 .given .1)
 
--- src/lib.rt:65:1
 returns-3 : tie.Need-returns-3
 returns-3 c = both-named (allNames (now (c .before .before .before .before .before .before .before .before .before .before .before .before .before .args .s)) (now (c .before .before .before .before .before .before .before .before .before .before .before .before .before .args .t))) (take (c .before .before .before .before .before .before .before .before .before .before .before .before .before .args .task - c .before .before .before .before .before .before .before .before .before .before .before .before .before .args .at) (drop (c .before .before .before .before .before .before .before .before .before .before .before .before .before .args .at) (now (c .before .before .before .before .before .before .before .before .before .before .before .before .before .args .t)))) (take (c .before .before .before .before .before .before .before .before .before .before .before .before .before .args .template - (c .before .before .before .before .before .before .before .before .before .before .before .before .before .args .task + 1)) (drop (c .before .before .before .before .before .before .before .before .before .before .before .before .before .args .task + 1) (now (c .before .before .before .before .before .before .before .before .before .before .before .before .before .args .t)))) (c .before .before .before .before .before .before .before .before .number-of .result) (c .before .before .before .before .before .before .before .before .number-of .ensures) (c .before .before .before .before .before .before .x .given .0 .0) (c .before .before .before .before .before .before .x .given .1) (c .before .before .before .number-of2 .result) (c .before .before .before .number-of2 .ensures) (c .before .y .given .0 .0) (c .before .before .before .before .before .before .before .before .before .before .before .before .before .args .next) (c .before .y .given .1)
 

@@ -1,39 +1,26 @@
--- Written from Proof.tmpl by 'prove expand': edit that file.
+-- An accepted text has a line here.
 use denote.Ref.{now}
-use native.Mathlib.Omega.{arith}
-use lib.ListN.{length, take, drop}
-use Prim.Native.Nat.{_+_, _-_, _≤_, _<_}
 use Rattle.opl_said.specs.Said.{allNames}
 use Rattle.opl_passes.proofs.LineLaws.{row-never, row-apart, row-is}
 use borrow.Author.Needs.{needs}
 use Rattle.opl_passes.proofs.row_at.Statement.{statement}
 use Rattle.opl_passes.proofs.row_at.Tie as tie
-use Rattle.opl_passes.proofs.row_at.Reads as reads
-use Rattle.opl_passes.proofs.row_at.Lts as lts
-use Rattle.opl_lines.proofs.read_line.Reads as read-line-reads
-use Rattle.opl_passes.proofs.numbers.Reads as numbers-reads
 
--- src/lib.rt:90:9
 read-line-requires : tie.Need-read-line-requires
 read-line-requires c κs = search needs
 
--- src/lib.rt:92:25
 enum-told : tie.Need-enum-told
 enum-told c = search needs
 
--- src/lib.rt:94:13
 enum-known-r : tie.Need-enum-known-r
 enum-known-r c = search needs
 
--- src/lib.rt:97:14
 numbers-requires : tie.Need-numbers-requires
 numbers-requires c κs = (c .before .before .before .before .before .before .before .pre .0, row-apart (allNames (now (c .before .before .before .before .before .before .before .args .s)) (now (c .before .before .before .before .before .before .before .args .t))) (now (c .before .before .before .before .before .before .before .args .t)) (c .before .before .before .before .before .before .before .args .at) (c .before .before .before .before .before .before .before .pre .1 .0) (c .before .before .before .before .before .before .before .pre .1 .1) (c .before .before .before .read-line .result) (c .before .before .before .read-line .ensures) (c .before .r .given .0 .0) (c .before .r .given .0 .1 .0) (c .before .r .given .0 .1 .1 .0) (c .before .r .given .1))
 
--- src/lib.rt:86:1
 returns : tie.Need-returns
 returns c = row-never (allNames (now (c .before .before .before .before .before .before .args .s)) (now (c .before .before .before .before .before .before .args .t))) (now (c .before .before .before .before .before .before .args .t)) (c .before .before .before .before .before .before .args .at) (c .before .before .before .before .before .before .pre .1 .0) (c .before .before .before .before .before .before .pre .1 .1) (c .before .before .read-line .result) (c .before .before .read-line .ensures) (c .enum-told .given .0 .0) (c .enum-told .given .1)
 
--- src/lib.rt:86:1
 returns-2 : tie.Need-returns-2
 returns-2 c = row-is (allNames (now (c .before .before .before .before .before .before .before .before .args .s)) (now (c .before .before .before .before .before .before .before .before .args .t))) (now (c .before .before .before .before .before .before .before .before .args .t)) (c .before .before .before .before .before .before .before .before .args .at) (c .before .before .before .before .before .before .before .before .pre .1 .0) (c .before .before .before .before .before .before .before .before .pre .1 .1) (c .before .before .before .before .read-line .result) (c .before .before .before .before .read-line .ensures) (c .before .before .r .given .0 .0) (c .before .before .r .given .0 .1 .0) (c .before .before .r .given .0 .1 .1 .0) (c .before .before .r .given .1) (c .numbers .result) (c .numbers .ensures)
 

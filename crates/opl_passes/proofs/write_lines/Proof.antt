@@ -1,15 +1,12 @@
--- Written from Proof.tmpl by 'prove expand': edit that file.
+-- What is left of the lines fills the output as the whole does.
 use denote.Ref.{now}
 use native.Mathlib.Omega.{arith}
-use lib.ListN.{length, take, drop}
-use Prim.Native.Nat.{_+_, _-_, _≤_, _<_}
+use lib.ListN.{length}
+use Prim.Native.Nat.{_-_}
 use Rattle.opl_said.specs.Said.{allNames}
 use Rattle.opl_passes.proofs.LineLaws.{LinesPut, put-first, put-on, put-end}
 use Rattle.opl_passes.proofs.write_lines.Statement.{statement}
 use Rattle.opl_passes.proofs.write_lines.Tie as tie
-use Rattle.opl_passes.proofs.write_lines.Reads as reads
-use Rattle.opl_passes.proofs.write_lines.Lts as lts
-use Rattle.opl_passes.proofs.write_line.Reads as write-line-reads
 
 abbrev Inv-loop : tie.InvT-loop
 Inv-loop s t w out₀ place p₀ at₀ out p at = LinesPut (allNames s t) t place out₀ at p out
@@ -17,31 +14,24 @@ Inv-loop s t w out₀ place p₀ at₀ out p at = LinesPut (allNames s t) t plac
 abbrev μ-loop : tie.MeasureT-loop
 μ-loop s t w out₀ place p₀ at₀ out p at = length t - at
 
--- src/lib.rt:145:5
 loop-holds : tie.Need-loop-holds Inv-loop μ-loop
 loop-holds c = put-first (allNames (now (c .before .before .before .before .args .s)) (now (c .before .before .before .before .args .t))) (now (c .before .before .before .before .args .t)) (c .before .before .before .before .args .place) (now (c .before .before .before .before .args .out)) (c .before .before .before .before .pre .0 .1) (c .before .before .before .before .pre .1 .0) (c .before .before .before .before .pre .1 .1)
 
--- src/lib.rt:146:9
 write-line-requires : tie.Need-write-line-requires Inv-loop μ-loop
 write-line-requires c κs = ((c .before .before .before .before .before .before .before .pre .0 .0, (c .before .loop-test .taken, c .before .before .loop .inv .good)), (c .before .before .loop .inv .there-all, c .before .before .loop .inv .fit))
 
--- src/lib.rt:147:9
 add-p : tie.Need-add-p Inv-loop μ-loop
 add-p c = omega (arith, c .before .before .before .before .before .loop .inv .fit, c .before .before .write-line .ensures .fewer, c .before .before .before .before .before .loop .inv .room)
 
--- src/lib.rt:145:5
 loop-less : tie.Need-loop-less Inv-loop μ-loop
 loop-less c = omega (arith, c .before .before .write-line .ensures .steps .past, c .before .before .write-line .ensures .steps .inside)
 
--- src/lib.rt:145:5
 loop-again : tie.Need-loop-again Inv-loop μ-loop
 loop-again c = put-on (allNames (now (c .before .before .before .before .before .before .before .before .before .before .args .s)) (now (c .before .before .before .before .before .before .before .before .before .before .args .t))) (now (c .before .before .before .before .before .before .before .before .before .before .args .t)) (c .before .before .before .before .before .before .before .before .before .before .args .place) (now (c .before .before .before .before .before .before .before .before .before .before .args .out)) (c .before .before .before .before .before .loop .at) (c .before .before .before .before .before .loop .p) (c .before .before .before .before .before .loop .out) (c .before .before .before .before .before .loop .inv) (c .before .before .write-line .result) (c .before .before .write-line .last .1 .1 .1 .0) (c .before .before .write-line .ensures)
 
--- src/lib.rt:139:1
 same-length : tie.Need-same-length Inv-loop μ-loop
 same-length c = c .before .loop .inv .room
 
--- src/lib.rt:139:1
 returns : tie.Need-returns Inv-loop μ-loop
 returns c = put-end (allNames (now (c .before .before .before .before .before .before .args .s)) (now (c .before .before .before .before .before .before .args .t))) (now (c .before .before .before .before .before .before .args .t)) (c .before .before .before .before .before .before .args .place) (now (c .before .before .before .before .before .before .args .out)) (c .before .loop .at) (c .before .loop .p) (c .before .loop .out) (c .before .loop .inv) (c .loop-test .left)
 

@@ -1,19 +1,15 @@
--- Written from Proof.tmpl by 'prove expand': edit that file.
+-- What is left of the tags fills the output as the whole does.
 use borrow.Author.Needs.{needs}
 use Rattle.opl_passes.proofs.TagLaws.{WriteLeft, write-first, write-ended, write-past, write-on, write-end}
 use Rattle.opl_declared.specs.Names.{walkAt}
 use mathlib.Core.Path.{_∙_}
-use Rattle.opl_turns.specs.Turning.{Tells}
 use Rattle.opl_said.specs.Said.{allNames}
-use Prim.Native.Nat.{_+_, _-_, _≤_, _<_}
-use lib.ListN.{length, take, drop}
+use Prim.Native.Nat.{_-_}
+use lib.ListN.{length}
 use native.Mathlib.Omega.{arith}
 use denote.Ref.{now}
 use Rattle.opl_passes.proofs.write_tags.Statement.{statement}
 use Rattle.opl_passes.proofs.write_tags.Tie as tie
-use Rattle.opl_passes.proofs.write_tags.Reads as reads
-use Rattle.opl_passes.proofs.write_tags.Lts as lts
-use Rattle.opl_passes.proofs.write_at.Reads as write-at-reads
 
 abbrev Inv-loop : tie.InvT-loop
 Inv-loop s t w next₀ out₀ from c₀ next out c = WriteLeft (allNames s t) s (walkAt s from) next₀ out₀ c next out
@@ -21,43 +17,33 @@ Inv-loop s t w next₀ out₀ from c₀ next out c = WriteLeft (allNames s t) s 
 abbrev μ-loop : tie.MeasureT-loop
 μ-loop s t w next₀ out₀ from c₀ next out c = length s - c .at
 
--- src/lib.rt:269:5
 loop-holds : tie.Need-loop-holds Inv-loop μ-loop
 loop-holds c = write-first (allNames (now (c .before .before .before .before .args .s)) (now (c .before .before .before .before .args .t))) (now (c .before .before .before .before .args .s)) (c .before .before .before .before .args .from) (now (c .before .before .before .before .args .next)) (now (c .before .before .before .before .args .out)) (c .before .before .before .before .pre .0 .1 .0) (c .before .before .before .before .pre .0 .1 .1) (c .before .before .before .before .pre .1 .0) (c .before .before .before .before .pre .1 .1 .1)
 
--- src/lib.rt:270:13
 write-at-requires : tie.Need-write-at-requires Inv-loop μ-loop
 write-at-requires c κs = ((c .before .before .before .before .before .before .before .before .before .pre .0 .0, c .before .before .before .before .loop .inv .stood), (c .before .before .before .before .loop .inv .there-all, (c .before .before .before .before .loop .inv .kinds ∙ c .before .before .before .before .before .before .before .before .before .pre .1 .1 .0, c .before .before .before .before .loop .inv .fit)))
 
--- src/lib.rt:271:27
 enum-known-r : tie.Need-enum-known-r Inv-loop μ-loop
 enum-known-r c = search needs
 
--- src/lib.rt:272:13
 enum-told : tie.Need-enum-told Inv-loop μ-loop
 enum-told c = search needs
 
--- src/lib.rt:272:13
 same-length : tie.Need-same-length Inv-loop μ-loop
 same-length c = c .before .before .before .before .write-at .kept .1 .1 .1 .1 .0 ∙ c .before .before .before .before .before .before .before .before .before .loop .inv .room
 
--- src/lib.rt:272:13
 returns : tie.Need-returns Inv-loop μ-loop
 returns c = write-ended (allNames (now (c .before .before .before .before .before .before .before .before .before .before .before .before .before .before .args .s)) (now (c .before .before .before .before .before .before .before .before .before .before .before .before .before .before .args .t))) (now (c .before .before .before .before .before .before .before .before .before .before .before .before .before .before .args .s)) (c .before .before .before .before .before .before .before .before .before .before .before .before .before .before .args .from) (now (c .before .before .before .before .before .before .before .before .before .before .before .before .before .before .args .next)) (now (c .before .before .before .before .before .before .before .before .before .before .before .before .before .before .args .out)) (c .before .before .before .before .before .before .before .before .before .loop .c) (c .before .before .before .before .before .before .before .before .before .loop .next) (c .before .before .before .before .before .before .before .before .before .loop .out) (c .before .before .before .before .before .before .before .before .before .loop .inv) (c .before .before .before .before .write-at .result) (c .before .before .before .before .write-at .last .1 .1 .1 .0) (c .before .before .before .before .write-at .last .1 .1 .1 .1 .0) (c .before .before .before .before .write-at .ensures) (c .enum-told .given .1)
 
--- src/lib.rt:269:5
 loop-less : tie.Need-loop-less Inv-loop μ-loop
 loop-less c = let p = write-past (allNames (now (c .before .before .before .before .before .before .before .before .before .before .before .before .before .before .before .args .s)) (now (c .before .before .before .before .before .before .before .before .before .before .before .before .before .before .before .args .t))) (now (c .before .before .before .before .before .before .before .before .before .before .before .before .before .before .before .args .s)) (c .before .before .before .before .before .before .before .before .before .before .before .before .before .before .before .args .from) (now (c .before .before .before .before .before .before .before .before .before .before .before .before .before .before .before .args .next)) (now (c .before .before .before .before .before .before .before .before .before .before .before .before .before .before .before .args .out)) (c .before .before .before .before .before .before .before .before .before .before .loop .c) (c .before .before .before .before .before .before .before .before .before .before .loop .next) (c .before .before .before .before .before .before .before .before .before .before .loop .out) (c .before .before .before .before .before .before .before .before .before .before .loop .inv) (c .before .r .given .0 .0) (c .before .before .before .before .before .write-at .last .1 .1 .1 .0) (c .before .before .before .before .before .write-at .last .1 .1 .1 .1 .0) (rw (c .before .r .given .1) at (c .before .before .before .before .before .write-at .ensures)) in omega (arith, p .0, p .1)
 
--- src/lib.rt:269:5
 loop-again : tie.Need-loop-again Inv-loop μ-loop
 loop-again c = write-on (allNames (now (c .before .before .before .before .before .before .before .before .before .before .before .before .before .before .before .args .s)) (now (c .before .before .before .before .before .before .before .before .before .before .before .before .before .before .before .args .t))) (now (c .before .before .before .before .before .before .before .before .before .before .before .before .before .before .before .args .s)) (c .before .before .before .before .before .before .before .before .before .before .before .before .before .before .before .args .from) (now (c .before .before .before .before .before .before .before .before .before .before .before .before .before .before .before .args .next)) (now (c .before .before .before .before .before .before .before .before .before .before .before .before .before .before .before .args .out)) (c .before .before .before .before .before .before .before .before .before .before .loop .c) (c .before .before .before .before .before .before .before .before .before .before .loop .next) (c .before .before .before .before .before .before .before .before .before .before .loop .out) (c .before .before .before .before .before .before .before .before .before .before .loop .inv) (c .before .r .given .0 .0) (c .before .before .before .before .before .write-at .last .1 .1 .1 .0) (c .before .before .before .before .before .write-at .last .1 .1 .1 .1 .0) (rw (c .before .r .given .1) at (c .before .before .before .before .before .write-at .ensures))
 
--- src/lib.rt:260:1
 same-length-2 : tie.Need-same-length-2 Inv-loop μ-loop
 same-length-2 c = c .before .before .loop .inv .room
 
--- src/lib.rt:260:1
 returns-2 : tie.Need-returns-2 Inv-loop μ-loop
 returns-2 c = write-end (allNames (now (c .before .before .before .before .before .before .before .args .s)) (now (c .before .before .before .before .before .before .before .args .t))) (now (c .before .before .before .before .before .before .before .args .s)) (c .before .before .before .before .before .before .before .args .from) (now (c .before .before .before .before .before .before .before .args .next)) (now (c .before .before .before .before .before .before .before .args .out)) (c .before .before .loop .c) (c .before .before .loop .next) (c .before .before .loop .out) (c .before .before .loop .inv) (c .if1 .left)
 

@@ -1,4 +1,4 @@
--- Written from Proof.tmpl by 'prove expand': edit that file.
+-- As the table has it, a set of roles apart.
 use Rattle.opl_turns.specs.Meaning.{kindBy}
 use Rattle.opl_table.specs.Numbers.{numberAt}
 use borrow.Author.Tests.{eq-eqb, ne-eqb}
@@ -6,25 +6,17 @@ use mathlib.Core.Path.{_∙_}
 use borrow.Author.Needs.{needs}
 use Rattle.opl_turns.proofs.kind_by.Statement.{statement}
 use Rattle.opl_turns.proofs.kind_by.Tie as tie
-use Rattle.opl_turns.proofs.kind_by.Reads as reads
-use Rattle.opl_turns.proofs.kind_by.Lts as lts
-use Rattle.opl_turns.proofs.digit.Reads as digit-reads
-use Rattle.opl_turns.proofs.kind_word.Reads as kind-word-reads
 
--- src/lib.rt:102:9
 returns : tie.Need-returns
 unfolding kindBy
 returns c = simp (eq-eqb _ _ (c .if1 .taken))
 
--- src/lib.rt:104:11
 kind-word-requires : tie.Need-kind-word-requires
 kind-word-requires c κs = search needs
 
--- src/lib.rt:104:5
 digit-requires : tie.Need-digit-requires
 digit-requires c κs = search needs
 
--- src/lib.rt:98:1
 returns-2 : tie.Need-returns-2
 unfolding kindBy numberAt
 returns-2 c = c .digit .ensures ∙ rw (c .before .kind-word .ensures, ne-eqb _ 23 (c .before .before .if1 .left))

@@ -1,24 +1,18 @@
--- Written from Proof.tmpl by 'prove expand': edit that file.
+-- By cases of the element.
 use borrow.Author.Tests.{eq-eqb, ne-eqb}
 use borrow.Author.Needs.{needs}
 use Rattle.opl_turns.proofs.number_by.Statement.{statement}
 use Rattle.opl_turns.proofs.number_by.Tie as tie
-use Rattle.opl_turns.proofs.number_by.Reads as reads
-use Rattle.opl_turns.proofs.number_by.Lts as lts
 
--- src/lib.rt:101:9
 returns : tie.Need-returns
 returns c = simp (ne-eqb _ _ (c .if1 .taken))
 
--- src/lib.rt:104:9
 returns-2 : tie.Need-returns-2
 returns-2 c = simp (eq-eqb _ _ (c .before .if1 .left), c .if2 .taken)
 
--- src/lib.rt:106:6
 sub-result : tie.Need-sub-result
 sub-result c = search needs
 
--- src/lib.rt:97:1
 returns-3 : tie.Need-returns-3
 returns-3 c = simp (eq-eqb _ _ (c .before .if1 .left))
 

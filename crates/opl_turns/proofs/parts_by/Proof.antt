@@ -1,20 +1,15 @@
--- Written from Proof.tmpl by 'prove expand': edit that file.
+-- By cases of the element.
 use borrow.Author.Tests.{eq-eqb, ne-eqb}
 use borrow.Author.Needs.{needs}
 use Rattle.opl_turns.proofs.parts_by.Statement.{statement}
 use Rattle.opl_turns.proofs.parts_by.Tie as tie
-use Rattle.opl_turns.proofs.parts_by.Reads as reads
-use Rattle.opl_turns.proofs.parts_by.Lts as lts
 
--- src/lib.rt:92:16
 add-result : tie.Need-add-result
 add-result c = search needs
 
--- src/lib.rt:92:9
 returns : tie.Need-returns
 returns c = simp (eq-eqb _ _ (c .if1 .taken))
 
--- src/lib.rt:87:1
 returns-2 : tie.Need-returns-2
 returns-2 c = simp (ne-eqb _ _ (c .if1 .left))
 

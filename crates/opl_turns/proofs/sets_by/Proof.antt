@@ -1,19 +1,14 @@
--- Written from Proof.tmpl by 'prove expand': edit that file.
+-- By cases of the element.
 use borrow.Author.Tests.{eq-eqb, ne-eqb}
 use Rattle.opl_turns.proofs.sets_by.Statement.{statement}
 use Rattle.opl_turns.proofs.sets_by.Tie as tie
-use Rattle.opl_turns.proofs.sets_by.Reads as reads
-use Rattle.opl_turns.proofs.sets_by.Lts as lts
 
--- src/lib.rt:79:9
 returns : tie.Need-returns
 returns c = simp (eq-eqb _ _ (c .if1 .taken))
 
--- src/lib.rt:82:9
 returns-2 : tie.Need-returns-2
 returns-2 c = simp (ne-eqb _ _ (c .before .if1 .left), eq-eqb _ _ (c .if2 .taken))
 
--- src/lib.rt:75:1
 returns-3 : tie.Need-returns-3
 returns-3 c = simp (ne-eqb _ _ (c .before .if1 .left), ne-eqb _ _ (c .if2 .left))
 

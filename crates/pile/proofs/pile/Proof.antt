@@ -1,4 +1,3 @@
--- Written from Proof.tmpl by 'prove expand': edit that file.
 -- A pile is refused, with nothing written; or its requests are made, and their replies stand in the middle of the answer buffer.
 use native.Mathlib.Omega.{arith}
 use denote.Ref.{now}

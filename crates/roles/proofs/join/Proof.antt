@@ -1,4 +1,3 @@
--- Written from Proof.tmpl by 'prove expand': edit that file.
 -- Refused by the judge, or the next policy.
 use borrow.Author.Needs.{needs}
 use Rattle.paper_lower.specs.Roles.{joinNext}

@@ -1,4 +1,3 @@
--- Written from Proof.tmpl by 'prove expand': edit that file.
 -- A template without a ban is told apart before its tasks are looked at, and they are looked for last.
 use mathlib.Core.Path.{sym, _∙_}
 use borrow.Author.Needs.{needs}

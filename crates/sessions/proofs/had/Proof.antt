@@ -1,4 +1,3 @@
--- Written from Proof.tmpl by 'prove expand': edit that file.
 -- The word with the active roles.
 use mathlib.Core.Path.{sym, _∙_}
 use borrow.Author.Needs.{needs}

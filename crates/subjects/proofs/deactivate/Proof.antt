@@ -1,4 +1,3 @@
--- Written from Proof.tmpl by 'prove expand': edit that file.
 -- Judged, and then the subject's roles with one less; those that it has had stay.
 use mathlib.Core.Path.{_∙_}
 use borrow.Author.Needs.{needs}
