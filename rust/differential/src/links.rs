@@ -3,7 +3,7 @@
 
 use crate::cases::{Case, Step};
 use crate::compare::compare;
-use crate::desks::{Desk, Panel};
+use crate::desks::{Checked, Desk, Panel};
 use crate::slow::{Entry, Slow};
 use mishantral::{Engine, Set};
 use random::Random;
@@ -212,6 +212,7 @@ pub fn links(seed: u64, number: u64) -> Result<bool, String> {
         None => Slow::default(),
     };
     let panel = Panel::of(vec![
+        Box::new(Checked(state.clone())),
         Box::new(Engine::from_state(state)),
         Box::new(expected),
     ]);
