@@ -98,6 +98,22 @@ uint64_t mishantral_request(const uint8_t *record, size_t length,
                             uint64_t *sessions, size_t sessions_words,
                             uint64_t *orders, size_t orders_words);
 
+/* For callers who keep the buffers to themselves: mishantral_request looks through the links of the orders buffer at each call, since it takes
+ * any content; these two look once. mishantral_settle makes a state whose links are broken, which reads as the empty engine, one of zeros,
+ * and leaves every other as it is; its answer is the reply, GRANTED, or ROOM where a buffer has not its fixed length and nothing is written.
+ *
+ * mishantral_settled_request answers as mishantral_request does, for a state that mishantral_settle has granted or mishantral_load was not
+ * answered with ROOM for, and that nothing but the calls of this library has written to since. It is the one call that asks something of
+ * the state: with another one its answer means nothing, and it may read and write past the buffers' ends. */
+uint64_t mishantral_settle(uint64_t *policy, size_t policy_words,
+                           uint64_t *sessions, size_t sessions_words,
+                           uint64_t *orders, size_t orders_words);
+
+uint64_t mishantral_settled_request(const uint8_t *record, size_t length,
+                                    uint64_t *policy, size_t policy_words,
+                                    uint64_t *sessions, size_t sessions_words,
+                                    uint64_t *orders, size_t orders_words);
+
 /* Answers a pile of requests in one call: `length` bytes, sixteen a record, at most MISHANTRAL_MOST_PILED records. They are made one
  * after the other, and a refused one does not end the pile. The reply to each is one byte of `answers`, from the place `at` on, counted from
  * 0; the other bytes of `answers` stay. Replies and state afterwards are those of mishantral_request for each record.

@@ -55,7 +55,7 @@ fn link(archive: &Archive, found: &Path) {
 }
 
 /// Functions of the whole engine's archive that one made earlier has not: `mishantral_opl` and so on.
-const LATER: [&str; 2] = ["opl", "pile"];
+const LATER: [&str; 3] = ["opl", "pile", "settled_request"];
 
 /// Whether an archive has a name in it: one that was made before there was a function has it not.
 fn has(archive: &Path, name: &[u8]) -> bool {

@@ -138,6 +138,44 @@ proved_desk!(
 #[cfg(mishantral_lower)]
 proved_desk!(mishantral::lower::Engine);
 
+/// The proved engine by the request that takes any content of the state.
+#[cfg(mishantral_engine)]
+pub(crate) struct Checked(pub mishantral::State);
+
+#[cfg(mishantral_engine)]
+impl Desk for Checked {
+    fn name(&self) -> &'static str {
+        "checked"
+    }
+
+    fn load(&mut self, policy: &[u8]) -> Answer {
+        match self.0.load(policy) {
+            Ok(()) => (0, 0),
+            Err(refused) => (refused.reply.number(), refused.place),
+        }
+    }
+
+    fn request(&mut self, record: &[u8]) -> Answer {
+        let answer = self.0.request(record);
+        (answer.reply.number(), answer.place)
+    }
+
+    fn copy(&self) -> Box<dyn Desk> {
+        Box::new(Checked(self.0.clone()))
+    }
+}
+
+/// The proved engine once more, by that request.
+#[cfg(mishantral_engine)]
+fn checked() -> Option<Box<dyn Desk>> {
+    Some(Box::new(Checked(mishantral::State::zeroed())))
+}
+
+#[cfg(not(mishantral_engine))]
+fn checked() -> Option<Box<dyn Desk>> {
+    None
+}
+
 /// What the lower part of an engine answers: the kinds that are about orders are none of its kinds.
 struct Lowered(Box<dyn Desk>);
 
@@ -237,6 +275,7 @@ impl Panel {
             Box::new(OneByOne(plain("flat", Engine::<FlatLedger>::new()))),
         ];
         desks.extend(proved());
+        desks.extend(checked());
         desks.push(Box::new(Slow::default()));
         Panel(desks)
     }

@@ -12,6 +12,8 @@ mod coverage;
 mod desks;
 #[cfg(mishantral_engine)]
 mod garbage;
+#[cfg(mishantral_engine)]
+mod links;
 mod pools;
 mod slow;
 mod walk;
@@ -23,6 +25,8 @@ pub use coverage::{possible, Coverage};
 pub use desks::{plain, proved, Answer, Desk, Difference, Panel};
 #[cfg(mishantral_engine)]
 pub use garbage::garbage;
+#[cfg(mishantral_engine)]
+pub use links::links;
 pub use slow::Slow;
 
 /// Whether the proved library takes part.

@@ -69,17 +69,23 @@ fn run(options: &Options) -> Result<Coverage, String> {
         coverage.join(&compare(&panel, &case, fill).map_err(report)?);
         compare(&lower, &case, false).map_err(report)?;
         garbage(options.seed, number)?;
+        links(options.seed, number)?;
     }
     Ok(coverage)
 }
 
 #[cfg(mishantral_engine)]
-use differential::garbage;
+use differential::{garbage, links};
 
 /// Without the library there is no state to spoil.
 #[cfg(not(mishantral_engine))]
 fn garbage(_seed: u64, _number: u64) -> Result<(), String> {
     Ok(())
+}
+
+#[cfg(not(mishantral_engine))]
+fn links(_seed: u64, _number: u64) -> Result<bool, String> {
+    Ok(true)
 }
 
 fn tell(options: &Options) -> Result<(), String> {

@@ -8,12 +8,12 @@ type Numbers = BTreeSet<u16>;
 type Pairs = BTreeSet<(u16, u16)>;
 
 #[derive(Clone)]
-struct Entry {
-    instance: u16,
-    user: u16,
-    task: u16,
+pub(crate) struct Entry {
+    pub instance: u16,
+    pub user: u16,
+    pub task: u16,
     /// The claiming subject; none where the task is done.
-    holder: Option<u16>,
+    pub holder: Option<u16>,
 }
 
 /// The engine: sets, pairs and lists, each as the rules name them.
@@ -147,6 +147,16 @@ impl Slow {
         match well_formed(bytes, false) {
             Ok(record) => self.serve(record),
             Err(reply) => (reply, 0),
+        }
+    }
+
+    /// The engine with other open orders, each with its template, and other entries.
+    #[cfg(mishantral_engine)]
+    pub(crate) fn with_orders(self, orders: Vec<(u16, u16)>, entries: Vec<Entry>) -> Slow {
+        Slow {
+            instances: orders.into_iter().collect(),
+            entries,
+            ..self
         }
     }
 

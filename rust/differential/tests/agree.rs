@@ -52,3 +52,16 @@ fn the_proved_library_answers_over_garbage() {
         }
     }
 }
+
+#[cfg(mishantral_engine)]
+#[test]
+fn the_proved_library_reads_links_as_they_are() {
+    let mut seen = [0, 0];
+    for number in 0..200 {
+        match differential::links(SEED, number) {
+            Ok(sound) => seen[usize::from(sound)] += 1,
+            Err(report) => panic!("{report}"),
+        }
+    }
+    assert!(seen[0] > 50 && seen[1] > 50, "{seen:?}");
+}

@@ -45,6 +45,27 @@ extern "C" {
         orders: *mut u64,
         orders_words: usize,
     ) -> u64;
+    #[cfg(mishantral_settled_request)]
+    fn mishantral_settle(
+        policy: *mut u64,
+        policy_words: usize,
+        sessions: *mut u64,
+        sessions_words: usize,
+        orders: *mut u64,
+        orders_words: usize,
+    ) -> u64;
+    /// Asks for a state that was settled, and keeps it so.
+    #[cfg(mishantral_settled_request)]
+    fn mishantral_settled_request(
+        bytes: *const u8,
+        length: usize,
+        policy: *mut u64,
+        policy_words: usize,
+        sessions: *mut u64,
+        sessions_words: usize,
+        orders: *mut u64,
+        orders_words: usize,
+    ) -> u64;
     #[cfg(mishantral_pile)]
     fn mishantral_pile(
         records: *const u8,
@@ -61,12 +82,21 @@ extern "C" {
     ) -> u64;
 }
 
+/// The request of a settled state: it does not look through the links of the orders buffer.
+#[cfg(mishantral_settled_request)]
+const SETTLED_REQUEST: Call = mishantral_settled_request;
+#[cfg(not(mishantral_settled_request))]
+const SETTLED_REQUEST: Call = mishantral_request;
+
 /// How many records a pile has at most.
 #[cfg(mishantral_pile)]
 pub const PILE: usize = 4096;
 
 /// The three buffers that the library works on. Every content is a state: what is written in docs/STATE.md
 /// says how it reads. Buffers of other lengths are answered with ROOM, and are not written to.
+///
+/// Its own `request` takes any content, and therefore looks through the links of the orders buffer at each call. An [`Engine`], which keeps its
+/// buffers to itself, does so once.
 #[derive(Clone, PartialEq, Eq)]
 pub struct State {
     /// Users, roles, permissions, tasks and rules.
@@ -87,6 +117,42 @@ impl State {
             sessions: buffer(1),
             orders: buffer(2),
         }
+    }
+
+    /// As [`Engine::load`].
+    pub fn load(&mut self, policy: &[u8]) -> Result<(), Refused> {
+        loaded(self.call(mishantral_load, policy))
+    }
+
+    /// As [`Engine::request`], over any content.
+    pub fn request<R: AsRef<[u8]> + ?Sized>(&mut self, record: &R) -> Answer {
+        answered(self.call(mishantral_request, record.as_ref()))
+    }
+
+    /// Makes a state whose links are broken, which reads as the empty engine, one of zeros; whether the buffers have their lengths and the
+    /// links are sound now.
+    #[cfg(mishantral_settled_request)]
+    fn settle(&mut self) -> bool {
+        let (policy, sessions, orders) = (&mut self.policy, &mut self.sessions, &mut self.orders);
+        // SAFETY: each pointer is a slice's own, with its length in elements behind it; the three slices are
+        // apart, and the library keeps none of them.
+        let number = unsafe {
+            mishantral_settle(
+                policy.as_mut_ptr(),
+                policy.len(),
+                sessions.as_mut_ptr(),
+                sessions.len(),
+                orders.as_mut_ptr(),
+                orders.len(),
+            )
+        };
+        answered(number).is_granted()
+    }
+
+    /// A library without that call looks through the links at each request.
+    #[cfg(not(mishantral_settled_request))]
+    fn settle(&mut self) -> bool {
+        false
     }
 
     /// The library's answer to these bytes.
@@ -141,6 +207,8 @@ impl fmt::Debug for State {
 #[derive(Clone, PartialEq, Eq, Debug)]
 pub struct Engine {
     state: State,
+    /// Whether the state is settled: its buffers have their lengths, and its links are sound. Every call keeps that.
+    settled: bool,
 }
 
 impl Default for Engine {
@@ -157,9 +225,10 @@ impl Engine {
         engine
     }
 
-    /// Goes on from a state, as one that `state` gave.
-    pub fn from_state(state: State) -> Engine {
-        Engine { state }
+    /// Goes on from a state, as one that `state` gave. A state whose links are broken reads as the empty engine, and is made one of zeros.
+    pub fn from_state(mut state: State) -> Engine {
+        let settled = state.settle();
+        Engine { state, settled }
     }
 
     /// The state, to look at or to keep.
@@ -174,7 +243,7 @@ impl Engine {
 
     /// Loads a policy's bytes in the place of all that was there. A refused load leaves the engine empty.
     pub fn load(&mut self, policy: &[u8]) -> Result<(), Refused> {
-        loaded(self.state.call(mishantral_load, policy))
+        self.state.load(policy)
     }
 
     /// As `load`, of records.
@@ -211,7 +280,10 @@ impl Engine {
     /// # Ok::<(), mishantral::Refused>(())
     /// ```
     pub fn request<R: AsRef<[u8]> + ?Sized>(&mut self, record: &R) -> Answer {
-        answered(self.state.call(mishantral_request, record.as_ref()))
+        if !self.settled {
+            return self.state.request(record);
+        }
+        answered(self.state.call(SETTLED_REQUEST, record.as_ref()))
     }
 
     /// Answers up to 4,096 requests in one call, one after the other, refused ones among them: the number of each reply is written to
