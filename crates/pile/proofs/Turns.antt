@@ -6,6 +6,7 @@ use mathlib.Core.Path.{_≡_, refl, sym, ap, subst, _∙_}
 use native.Mathlib.Nat.{not-suc-le-zero}
 use native.Mathlib.Numerals.{add-one, sub-one}
 use native.Mathlib.Omega.{arith}
+use borrow.Author.Tests.{eq-eqb}
 use lib.ListN.{length, take, drop, set, take-append-drop}
 use lib.Seq.{drop-drop, take-suc-set, drop-set-lt, append-snoc}
 use Rattle.paper_lower.specs.Lists.{each}
@@ -17,10 +18,11 @@ use Rattle.replies.specs.Replies.{numberOf}
 use Rattle.rules.specs.declared.Judged.{Judged}
 use Rattle.engine.specs.Buffers.{Buffers, tablesOf, fit, SameLengths}
 use Rattle.engine.specs.Answers.{requestAnswer, Requested}
+use Rattle.engine.specs.Settling.{Settling, SettledRequest}
 use Rattle.links.proofs.SameLaws.{tables-refl, tables-sym, tables-then}
 use Rattle.engine.proofs.RespectLaws.{runs-respect}
 use Rattle.demands.specs.Calls.Request.{within}
-use Rattle.demands.proofs.Calls.{fit-kept, request-listed, answers}
+use Rattle.demands.proofs.Calls.{request-listed, answers}
 use Rattle.pile.specs.Pile.{wholeFrom, repliesOf}
 use Rattle.pile.specs.Promises.{Answers}
 
@@ -28,15 +30,19 @@ use Rattle.pile.specs.Promises.{Answers}
 pub small : {bytes : Bytes} {x y : Buffers} {j : Judged} → Requested bytes x y j → numberOf (j .reply) ≤ 255
 small {bytes} {x} q = let e = q .replies in let l = request-listed bytes x in omega arith
 
+-- what settled requests ask for
+pub settling-fits : (x : Buffers) → Settling x → fit x ≡ true
+settling-fits x h = rw (eq-eqb _ _ (h .0), eq-eqb _ _ (h .1 .0), eq-eqb _ _ (h .1 .1 .0))
+
 -- i of n requests are done, and the next record stands at a place
 pub record Left (n : ℕ) (bytes : Bytes) (x₀ x : Buffers) (i at : ℕ) (out₀ out : Bytes) : Type 0 where
   pub replies : take i out ++ repliesOf (placedRun (tablesOf x) (wholeFrom (n - i) (drop at bytes))) ≡ repliesOf (placedRun (tablesOf x₀) (wholeFrom n bytes))
   pub tables : SameTables (after request (tablesOf x) (wholeFrom (n - i) (drop at bytes))) (after request (tablesOf x₀) (wholeFrom n bytes))
   pub rest : drop i out ≡ drop i out₀
   pub lengths : SameLengths x₀ x
-  pub fits : fit x ≡ true
+  pub settled : Settling x
 
-pub begun : (n : ℕ) (bytes : Bytes) (x : Buffers) (out : Bytes) → fit x ≡ true → Left n bytes x x 0 0 out out
+pub begun : (n : ℕ) (bytes : Bytes) (x : Buffers) (out : Bytes) → Settling x → Left n bytes x x 0 0 out out
 begun n bytes x out f =
     let z : n - 0 ≡ n = omega arith in
     record {
@@ -44,7 +50,7 @@ begun n bytes x out f =
       tables = rw z (tables-refl _);
       rest = refl;
       lengths = record { policy = refl; sessions = refl; orders = refl };
-      fits = f;
+      settled = f;
     }
 
 module _ (bytes : Bytes) (at : ℕ) {k : ℕ} {x y : Buffers} {j : Judged} (k16 : k ≡ 16) (q : Requested (take k (drop at bytes)) x y j) (f : fit x ≡ true) where
@@ -78,12 +84,14 @@ untouched out₀ out i v e =
     drop-set-lt (i + 1) out i v l ∙ sym (drop-drop 1 i out) ∙ ap (drop 1) e ∙ drop-drop 1 i out₀
 
 pub turned : {n : ℕ} {bytes : Bytes} {x₀ x y : Buffers} {i at k : ℕ} {out₀ out : Bytes} {j : Judged} {v : ℕ}
-    → Left n bytes x₀ x i at out₀ out → k ≡ 16 → Requested (take k (drop at bytes)) x y j → v ≡ numberOf (j .reply) → i < n → i < length out
+    → Left n bytes x₀ x i at out₀ out → k ≡ 16 → SettledRequest (take k (drop at bytes)) x y j → v ≡ numberOf (j .reply) → i < n → i < length out
     → Left n bytes x₀ y (i + 1) (at + 16) out₀ (set out i v)
-turned {n} {bytes} {x₀} {x} {y} {i} {at} {k} {out₀} {out} {j} {v} l k16 q e m h =
+turned {n} {bytes} {x₀} {x} {y} {i} {at} {k} {out₀} {out} {j} {v} l k16 r e m h =
     let z : n - i - 1 ≡ n - (i + 1) = omega arith in
-    let a = next-replies bytes at k16 q (l .fits) (n - i) (omega arith) in
-    let b = next-tables bytes at k16 q (l .fits) (n - i) (omega arith) in
+    let f = settling-fits x (l .settled) in
+    let q = r .0 in
+    let a = next-replies bytes at k16 q f (n - i) (omega arith) in
+    let b = next-tables bytes at k16 q f (n - i) (omega arith) in
     record {
       replies = put-one out i v h _ ∙ rw (e, ← z, ← a) (l .replies);
       tables = rw (← z) (tables-then b (l .tables));
@@ -93,7 +101,7 @@ turned {n} {bytes} {x₀} {x} {y} {i} {at} {k} {out₀} {out} {j} {v} l k16 q e 
         sessions = q .lengths .sessions ∙ l .lengths .sessions;
         orders = q .lengths .orders ∙ l .lengths .orders;
       };
-      fits = fit-kept (q .lengths) ∙ l .fits;
+      settled = r .1;
     }
 
 pub ended : {n : ℕ} {bytes : Bytes} {x₀ x : Buffers} {i at : ℕ} {out₀ out : Bytes} → Left n bytes x₀ x i at out₀ out → i ≡ n → Answers n bytes x₀ x out₀ out

@@ -17,6 +17,7 @@ use Rattle.replies.specs.Replies.{numberOf}
 use Rattle.replies.specs.declared.Reply.{Reply}
 use Rattle.replies.proofs.ReplyLaws.{is-zero, not-zero}
 use Rattle.engine.specs.Buffers.{Buffers, tablesOf, fit}
+use Rattle.engine.specs.Settling.{SettledAs}
 use Rattle.links.proofs.SameLaws.{tables-refl}
 use Rattle.pile.specs.Pile.{count, wholeFrom, whole, MOST, repliesOf, writtenAt, pileChecks, pileOf, pileAnswer}
 use Rattle.pile.specs.Promises.{PileDone, Answers}
@@ -72,18 +73,23 @@ laid at n l last rs h m e =
     let e′ : last ≡ rs ++ drop n (drop at l) = rw t at e in
     rw (d, append-nil, e′, drop-drop n at l, m)
 
-pub done : {s answers : Bytes} {at : ℕ} {x y : Buffers} {last : Bytes} → Taken s answers at x
-    → Answers (count s) s x y (take (length answers - at) (drop at answers)) last
+pub done : {s answers : Bytes} {at k : ℕ} {x z y : Buffers} {last : Bytes} → Taken s answers at x → SettledAs x z k
+    → Answers (count s) s z y (take (length answers - at) (drop at answers)) last
     → PileDone s answers at (take at answers ++ (last ++ drop (length answers - at) (drop at answers))) x y 0
 unfolding pileOf
-done {s} {answers} {at} {x} {y} {last} k a =
-    let z = k .none-applies in
+done {s} {answers} {at} {x = x} {z} {y} {last} k m a =
+    let n = k .none-applies in
+    let r : last ≡ repliesOf (placedRun (tablesOf x) (whole s)) ++ drop (count s) (take (length answers - at) (drop at answers)) = rw (m .tables) at (a .replies) in
     record {
-      replies = rw z;
-      written = laid at (count s) answers last (repliesOf (placedRun (tablesOf x) (whole s))) (k .room) (replies-count (count s) s (tablesOf x)) (a .replies) ∙ rw z;
-      tables = rw z (a .tables);
-      lengths = a .lengths;
-      kept = λ n. absurd (n refl);
+      replies = rw n;
+      written = laid at (count s) answers last (repliesOf (placedRun (tablesOf x) (whole s))) (k .room) (replies-count (count s) s (tablesOf x)) r ∙ rw n;
+      tables = rw n (rw (m .tables) at (a .tables));
+      lengths = record {
+        policy = a .lengths .policy ∙ m .lengths .policy;
+        sessions = a .lengths .sessions ∙ m .lengths .sessions;
+        orders = a .lengths .orders ∙ m .lengths .orders;
+      };
+      kept = λ h. absurd (h refl);
     }
 
 -- ---- The same, as a number.

@@ -21,23 +21,23 @@ loop-holds c = (refl, (omega arith, (refl, begun _ _ _ _ (c .before .before .bef
 add-end : tie.Need-add-end Inv-loop μ-loop
 add-end c = search needs
 
-sub-request : tie.Need-sub-request Inv-loop μ-loop
-sub-request c = search needs
+sub-settled-request : tie.Need-sub-settled-request Inv-loop μ-loop
+sub-settled-request c = search needs
 
-part-request-start : tie.Need-part-request-start Inv-loop μ-loop
-part-request-start c = search needs
+part-settled-request-start : tie.Need-part-settled-request-start Inv-loop μ-loop
+part-settled-request-start c = search needs
 
-part-request-end : tie.Need-part-request-end Inv-loop μ-loop
-part-request-end c = search needs
+part-settled-request-end : tie.Need-part-settled-request-end Inv-loop μ-loop
+part-settled-request-end c = search needs
 
-request-requires : tie.Need-request-requires Inv-loop μ-loop
-request-requires c κs = search needs
+settled-request-requires : tie.Need-settled-request-requires Inv-loop μ-loop
+settled-request-requires c κs = search needs
 
 number-requires : tie.Need-number-requires Inv-loop μ-loop
 number-requires c κs = search needs
 
 cast-out : tie.Need-cast-out Inv-loop μ-loop
-cast-out c = let h = small (c .before .before .before .before .before .before .before .request .ensures) in search needs
+cast-out c = let h = small (c .before .before .before .before .before .before .before .settled-request .ensures .0) in search needs
 
 slice-write-out : tie.Need-slice-write-out Inv-loop μ-loop
 slice-write-out c = search needs
@@ -51,7 +51,7 @@ loop-less c = search needs
 loop-again : tie.Need-loop-again Inv-loop μ-loop
 loop-again c =
     let h : c .before .before .before .before .before .before .before .before .before .before .before .before .before .loop .at + 16 - c .before .before .before .before .before .before .before .before .before .before .before .before .before .loop .at ≡ 16 = omega arith in
-    (omega arith, (omega arith, (length-set (c .before .before .before .before .before .before .before .before .before .before .before .before .before .loop .out) (c .before .before .before .before .before .before .before .before .before .before .before .before .before .loop .i) (c .number .result) ∙ c .before .before .before .before .before .before .before .before .before .before .before .before .before .loop .inv .1 .1 .0, turned (c .before .before .before .before .before .before .before .before .before .before .before .before .before .loop .inv .1 .1 .1) h (c .before .before .before .before .before .before .before .request .ensures) (c .number .ensures) (omega arith) (omega arith))))
+    (omega arith, (omega arith, (length-set (c .before .before .before .before .before .before .before .before .before .before .before .before .before .loop .out) (c .before .before .before .before .before .before .before .before .before .before .before .before .before .loop .i) (c .number .result) ∙ c .before .before .before .before .before .before .before .before .before .before .before .before .before .loop .inv .1 .1 .0, turned (c .before .before .before .before .before .before .before .before .before .before .before .before .before .loop .inv .1 .1 .1) h (c .before .before .before .before .before .before .before .settled-request .ensures) (c .number .ensures) (omega arith) (omega arith))))
 
 same-length : tie.Need-same-length Inv-loop μ-loop
 same-length c = search needs
@@ -76,10 +76,10 @@ answer-all-spec =
     μ-loop
     loop-holds
     add-end
-    sub-request
-    part-request-start
-    part-request-end
-    request-requires
+    sub-settled-request
+    part-settled-request-start
+    part-settled-request-end
+    settled-request-requires
     number-requires
     cast-out
     slice-write-out
