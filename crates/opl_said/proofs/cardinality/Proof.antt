@@ -1,4 +1,3 @@
--- Written from Proof.tmpl by 'prove expand': edit that file.
 -- The value of the attribute, as a number.
 use borrow.Author.Needs.{needs}
 use Rattle.paper_lower.specs.Lists.{each}

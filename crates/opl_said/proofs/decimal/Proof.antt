@@ -1,4 +1,3 @@
--- Written from Proof.tmpl by 'prove expand': edit that file.
 -- Digit by digit: what is left ends in the number.
 use Prim.Native.Nat.{_-_}
 use lib.ListN.{length, drop}

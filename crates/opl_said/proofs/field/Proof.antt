@@ -1,4 +1,3 @@
--- Written from Proof.tmpl by 'prove expand': edit that file.
 -- The name stands in the text, as the value of the attribute.
 use borrow.Author.Needs.{needs}
 use Rattle.opl_said.proofs.field.Statement.{statement}

@@ -1,4 +1,3 @@
--- Written from Proof.tmpl by 'prove expand': edit that file.
 -- As the next of them says.
 use borrow.Author.Needs.{needs}
 use denote.Ref.{now}

@@ -1,4 +1,3 @@
--- Written from Proof.tmpl by 'prove expand': edit that file.
 -- One of six names.
 use borrow.Author.Needs.{needs}
 use denote.Ref.{now}

@@ -1,4 +1,3 @@
--- Written from Proof.tmpl by 'prove expand': edit that file.
 -- By the tag that is read.
 use borrow.Author.Needs.{needs}
 use native.Mathlib.Omega.{arith}

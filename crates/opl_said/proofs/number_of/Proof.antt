@@ -1,4 +1,3 @@
--- Written from Proof.tmpl by 'prove expand': edit that file.
 -- The five spaces of the tags, and the two of the lines.
 use native.Mathlib.Omega.{arith}
 use denote.Ref.{now}

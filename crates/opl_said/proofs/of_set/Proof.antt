@@ -1,4 +1,3 @@
--- Written from Proof.tmpl by 'prove expand': edit that file.
 -- The set, where each number is found.
 use borrow.Author.Needs.{needs}
 use Rattle.opl_said.proofs.FormLaws.{set-none, set-is}

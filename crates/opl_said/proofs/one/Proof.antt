@@ -1,4 +1,3 @@
--- Written from Proof.tmpl by 'prove expand': edit that file.
 -- The number, where it is found.
 use borrow.Author.Needs.{needs}
 use native.Mathlib.Omega.{arith}

@@ -1,4 +1,3 @@
--- Written from Proof.tmpl by 'prove expand': edit that file.
 -- A partitioning has a number below 16.
 use native.Mathlib.Omega.{arith}
 use Rattle.opl_said.proofs.FormLaws.{partition-none, partition-is, partition-inner, few-tasks}

@@ -1,4 +1,3 @@
--- Written from Proof.tmpl by 'prove expand': edit that file.
 -- The three numbers, where they are found.
 use borrow.Author.Needs.{needs}
 use native.Mathlib.Omega.{arith}

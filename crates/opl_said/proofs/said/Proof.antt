@@ -1,4 +1,3 @@
--- Written from Proof.tmpl by 'prove expand': edit that file.
 -- Kind by kind; no other has a row.
 use denote.Ref.{now}
 use native.Mathlib.Omega.{arith}

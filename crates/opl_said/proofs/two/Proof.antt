@@ -1,4 +1,3 @@
--- Written from Proof.tmpl by 'prove expand': edit that file.
 -- Both numbers, where they are found.
 use borrow.Author.Needs.{needs}
 use Rattle.opl_said.proofs.FormLaws.{number-none, number-some, number-fits, unnamed-are, two-are}

@@ -1,4 +1,3 @@
--- Written from Proof.tmpl by 'prove expand': edit that file.
 -- As a set has it.
 use borrow.Author.Needs.{needs}
 use mathlib.Core.Path.{_∙_}
