@@ -6,6 +6,10 @@ fn main() {
         ("DEP_MISHANTRAL_ENGINE", "mishantral_engine"),
         ("DEP_MISHANTRAL_LOWER", "mishantral_lower"),
         ("DEP_MISHANTRAL_PILE", "mishantral_pile"),
+        (
+            "DEP_MISHANTRAL_SETTLED_REQUEST",
+            "mishantral_settled_request",
+        ),
     ] {
         println!("cargo:rustc-check-cfg=cfg({cfg})");
         if std::env::var_os(told).is_some() {

@@ -1,6 +1,6 @@
 //! All measurements of a run: every workload raced, the stack that calls use, the size of the state.
 
-use crate::race::{Race, FLAT, LISTS, PROVED};
+use crate::race::{Race, CHECKED, FLAT, LISTS, PROVED};
 use crate::reading::{reading_stack, readings, Reading};
 use crate::workloads::{checks, day, day_among, load, Workload};
 use crate::{kinds, stack};
@@ -70,6 +70,8 @@ pub struct Figures {
     pub kinds: Vec<Line>,
     /// Requests in piles, where the library takes them, each behind the same in calls of their own.
     pub piles: Vec<Line>,
+    /// Requests by the call that takes any content, where the library has another for settled states.
+    pub checked: Vec<Line>,
     /// A line for each text of OPL/XML.
     pub readings: Vec<Reading>,
     /// The stack, where the library is linked.
@@ -97,7 +99,7 @@ fn line(race: &Race) -> Line {
         name: race.workload.name.clone(),
         records,
         granted: records - refused,
-        proved: of(PROVED),
+        proved: of(PROVED).or(of(CHECKED)),
         lists: of(LISTS).expect("the plain engine always takes part"),
         flat: of(FLAT),
     }
@@ -158,6 +160,11 @@ fn workloads() -> Vec<Workload> {
     if piled() {
         all.extend([checks(256).in_piles(), day().in_piles()]);
     }
+    if differential::SETTLED {
+        let (checks, growth) = (checks(256), ENTRIES.map(day_among));
+        let streams = [checks, day()].into_iter().chain(growth);
+        all.extend(streams.map(Workload::of_any_content));
+    }
     all
 }
 
@@ -194,9 +201,11 @@ impl Figures {
         main.splice(..0, permissions.lines.last().cloned());
         let kinds = take(kinds().len());
         let alone = main[..2].iter().cloned();
-        let piles = alone.zip(take(2)).flat_map(|(alone, piled)| [alone, piled]);
+        let piled = take(if piled() { 2 } else { 0 });
+        let piles = alone.zip(piled).flat_map(|(alone, piled)| [alone, piled]);
         Ok(Figures {
             piles: piles.collect(),
+            checked: take(workloads.len()),
             main,
             entries,
             permissions,

@@ -86,8 +86,10 @@ fn print(figures: &Figures) {
         .iter()
         .for_each(|growth| print!("\n{}", table(&growth.lines)));
     print!("\n{}", table(&figures.kinds));
-    if !figures.piles.is_empty() {
-        print!("\n{}", table(&figures.piles));
+    for further in [&figures.piles, &figures.checked] {
+        if !further.is_empty() {
+            print!("\n{}", table(further));
+        }
     }
     print!("\n{}", reading_table(&figures.readings));
     if let Some(stack) = &figures.stack {

@@ -1,12 +1,13 @@
 //! Times one workload on several engines in turn, and compares every reply of every pass.
 
 use crate::workloads::{Timed, Workload, LENGTH};
-use differential::{plain, proved, Desk};
+use differential::{checked, plain, proved, Desk};
 use plain::{Engine, FlatLedger, OrderLists};
 use std::time::{Duration, Instant};
 
 /// The engines by name, in the order of the tables.
 pub const PROVED: &str = "proved";
+pub const CHECKED: &str = "checked";
 pub const LISTS: &str = "lists";
 pub const FLAT: &str = "flat";
 
@@ -33,12 +34,15 @@ pub struct Race<'a> {
 }
 
 /// The plain engine has two ledgers, which make a difference where entries are looked at.
-fn engines(both_ledgers: bool) -> Vec<Box<dyn Desk>> {
+fn engines(workload: &Workload) -> Vec<Box<dyn Desk>> {
     let mut desks = vec![plain(LISTS, Engine::<OrderLists>::new())];
-    if both_ledgers {
+    if workload.asks_entries() {
         desks.push(plain(FLAT, Engine::<FlatLedger>::new()));
     }
-    desks.extend(proved());
+    desks.extend(match workload.timed {
+        Timed::Checked(_) => checked(),
+        _ => proved(),
+    });
     desks
 }
 
@@ -55,7 +59,7 @@ impl<'a> Race<'a> {
             expected: Vec::new(),
             runners: Vec::new(),
         };
-        for mut desk in engines(workload.asks_entries()) {
+        for mut desk in engines(workload) {
             race.prepare(&mut *desk)?;
             let best = Duration::MAX;
             race.runners.push(Runner { desk, best });
@@ -85,7 +89,9 @@ impl<'a> Race<'a> {
     }
 
     fn expect(&mut self) {
-        if let Timed::Requests(stream) | Timed::Piles(stream) = &self.workload.timed {
+        if let Timed::Requests(stream) | Timed::Piles(stream) | Timed::Checked(stream) =
+            &self.workload.timed
+        {
             self.expected = vec![0; stream.len()];
             let first = &mut self.runners[0];
             first.desk.answer_all(stream, &mut self.expected);
@@ -105,7 +111,7 @@ impl<'a> Race<'a> {
                 replies.fill(u8::MAX);
                 let taken = match &self.workload.timed {
                     Timed::Load => time_load(&mut *runner.desk, &self.policy)?,
-                    Timed::Requests(stream) => {
+                    Timed::Requests(stream) | Timed::Checked(stream) => {
                         let begin = Instant::now();
                         runner.desk.answer_all(stream, &mut replies);
                         begin.elapsed()

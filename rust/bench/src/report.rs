@@ -155,7 +155,7 @@ Rust side in release mode with all crates optimized as one.
 
 Times are nanoseconds a record: the best of {repeats} passes over a stream of some thousand records, the engines in turn in every pass, all
 in cache. Every reply of every pass is compared, and a difference ends the run. Compare times within a run: machines differ, and the ratio
-says more. \"plain\" keeps a list of entries for each order; \"plain, flat ledger\" keeps one list of all entries, as the proved engine does.
+says more. \"plain\" keeps a list of entries for each order, as the proved engine does; \"plain, flat ledger\" keeps one list of all entries.
 "
     )
 }
@@ -194,11 +194,28 @@ proved one; all records are compared. libxml2 is asked for none of its events: i
 In the last text 65,536 permissions declare as many operations and objects, under 256 names.
 ";
 
+/// Requests by the call that takes any content.
+fn checked(figures: &Figures) -> String {
+    if figures.checked.is_empty() {
+        return String::new();
+    }
+    let table = table(&figures.checked);
+    format!(
+        "
+## Any content
+
+`mishantral::Engine` settles its state once and then asks `mishantral_settled_request`. The same requests by `mishantral_request`, which takes any content of the
+state and looks through the links of the orders buffer at each call:
+
+{table}"
+    )
+}
+
 /// docs/BENCH.md
 pub fn page(figures: &Figures, effort: Effort) -> String {
     let head = head(effort);
     let (main, kinds, space) = (table(&figures.main), table(&figures.kinds), space(figures));
-    let piles = piles(figures);
+    let piles = piles(figures) + &checked(figures);
     let entries = table(&figures.entries.lines);
     let permissions = table(&figures.permissions.lines);
     let readings = reading_table(&figures.readings);

@@ -21,6 +21,8 @@ pub enum Timed {
     Requests(Vec<Record>),
     /// Requests in piles of 4,096.
     Piles(Vec<Record>),
+    /// Requests by the call that takes any content of the state.
+    Checked(Vec<Record>),
 }
 
 /// A stream of records that is timed, and what comes before it.
@@ -40,7 +42,7 @@ impl Workload {
     pub fn length(&self) -> usize {
         match &self.timed {
             Timed::Load => self.policy.len(),
-            Timed::Requests(stream) | Timed::Piles(stream) => stream.len(),
+            Timed::Requests(stream) | Timed::Piles(stream) | Timed::Checked(stream) => stream.len(),
         }
     }
 
@@ -57,12 +59,25 @@ impl Workload {
         }
     }
 
+    /// The same by the call that takes any content of the state.
+    pub fn of_any_content(self) -> Workload {
+        let timed = match self.timed {
+            Timed::Requests(stream) => Timed::Checked(stream),
+            timed => timed,
+        };
+        Workload {
+            name: format!("{}, any content", self.name),
+            timed,
+            ..self
+        }
+    }
+
     /// Whether a timed request looks at entries.
     pub fn asks_entries(&self) -> bool {
         let kinds = [33, 41, 49, 50, 51, 52, 57];
         match &self.timed {
             Timed::Load => false,
-            Timed::Requests(stream) | Timed::Piles(stream) => {
+            Timed::Requests(stream) | Timed::Piles(stream) | Timed::Checked(stream) => {
                 stream.iter().any(|r| kinds.contains(&r.kind()))
             }
         }
@@ -77,7 +92,9 @@ impl Workload {
     pub fn requests(&self) -> Vec<Record> {
         match &self.timed {
             Timed::Load => self.setup.clone(),
-            Timed::Requests(stream) | Timed::Piles(stream) => [&self.setup[..], stream].concat(),
+            Timed::Requests(stream) | Timed::Piles(stream) | Timed::Checked(stream) => {
+                [&self.setup[..], stream].concat()
+            }
         }
     }
 }

@@ -167,12 +167,13 @@ impl Desk for Checked {
 
 /// The proved engine once more, by that request.
 #[cfg(mishantral_engine)]
-fn checked() -> Option<Box<dyn Desk>> {
+pub fn checked() -> Option<Box<dyn Desk>> {
     Some(Box::new(Checked(mishantral::State::zeroed())))
 }
 
+/// The proved engine once more, where the library is linked: it is not.
 #[cfg(not(mishantral_engine))]
-fn checked() -> Option<Box<dyn Desk>> {
+pub fn checked() -> Option<Box<dyn Desk>> {
     None
 }
 

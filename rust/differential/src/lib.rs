@@ -22,7 +22,7 @@ pub use cases::{Case, Pile, Step};
 pub use command::command;
 pub use compare::{compare, Failure};
 pub use coverage::{possible, Coverage};
-pub use desks::{plain, proved, Answer, Desk, Difference, Panel};
+pub use desks::{checked, plain, proved, Answer, Desk, Difference, Panel};
 #[cfg(mishantral_engine)]
 pub use garbage::garbage;
 #[cfg(mishantral_engine)]
@@ -37,6 +37,9 @@ pub const PROVED_LOWER: bool = cfg!(mishantral_lower);
 
 /// Whether the proved library has a call for piles.
 pub const PILED: bool = cfg!(mishantral_pile);
+
+/// Whether the proved library has a request for states that are settled, beside the one that takes any content.
+pub const SETTLED: bool = cfg!(mishantral_settled_request);
 
 /// The seed and the number of cases where none are given.
 pub const SEED: u64 = 1;
