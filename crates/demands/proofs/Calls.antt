@@ -13,9 +13,11 @@ use Rattle.paper_lower.specs.Kinds.{Answer, Said, after}
 use Rattle.paper_lower.specs.Load.{load}
 use Rattle.paper_upper.specs.Orders.{Engine, SameTables}
 use Rattle.paper_upper.specs.Engine.{request, placeTo, Placed, placedRun, engineOf}
+use Rattle.rules.specs.declared.Judged.{Judged}
+use Rattle.replies.specs.Replies.{numberOf}
 use Rattle.engine.specs.Buffers.{Buffers, tablesOf, fit, SameLengths}
-use Rattle.engine.specs.Answers.{CallAnswer, requestAnswer, loadAnswer}
-use Rattle.engine.specs.Exports.{LoadExported}
+use Rattle.engine.specs.Answers.{CallAnswer, requestAnswer, Requested, loadAnswer}
+use Rattle.engine.specs.Exports.{RequestExported, LoadExported}
 use Rattle.links.proofs.SameLaws.{tables-then}
 use Rattle.engine.proofs.RespectLaws.{respects}
 use Rattle.engine.proofs.Ways.{load-exported}
@@ -23,7 +25,7 @@ use Rattle.theorems.specs.Replies.{Listed}
 use Rattle.theorems.specs.Outside.{followed}
 use Rattle.theorems.proofs.Replies.{replies-are-listed}
 use Rattle.demands.specs.Calls.{Request, Load, Chain, Called, allSaid, fitting, asked}
-use Rattle.demands.specs.Calls.Request.{within, exported}
+use Rattle.demands.specs.Calls.Request.{within, exported, settled, settled-exported}
 use Rattle.demands.specs.Calls.Load.{within as load-within, exported as load-exported-here}
 use Rattle.demands.specs.Calls.Chain.{no-more, one, misfit}
 
@@ -55,9 +57,11 @@ pub record Answered (bytes : Bytes) (x y : Buffers) (reply place : ℕ) : Type 0
   pub lengths : SameLengths x y
   pub kept : (reply ≡ 0 → ⊥) → y ≡ x
 
-pub answered : {bytes : Bytes} {x y : Buffers} {reply place : ℕ} → Request bytes x y reply place → Answered bytes x y reply place
-answered (within d) = record { replies = d .replies; places = d .places; tables = d .tables; lengths = d .lengths; kept = d .kept }
-answered {bytes} {x} (exported {n} d) =
+from-call : {bytes : Bytes} {x y : Buffers} {j : Judged} → Requested bytes x y j → Answered bytes x y (numberOf (j .reply)) (j .place)
+from-call d = record { replies = d .replies; places = d .places; tables = d .tables; lengths = d .lengths; kept = d .kept }
+
+from-number : {bytes : Bytes} {x y : Buffers} (n : ℕ) → RequestExported bytes x y n → Answered bytes x y (n % 256) (n / 256)
+from-number {bytes} {x} n d =
     let e = first-byte _ _ n (request-listed bytes x) (d .answers) in
     record {
       replies = e;
@@ -66,6 +70,12 @@ answered {bytes} {x} (exported {n} d) =
       lengths = d .lengths;
       kept = λ z. d .kept (λ w. z (e ∙ w));
     }
+
+pub answered : {bytes : Bytes} {x y : Buffers} {reply place : ℕ} → Request bytes x y reply place → Answered bytes x y reply place
+answered (within d) = from-call d
+answered (exported {n} d) = from-number n d
+answered (settled d) = from-call (d .0)
+answered (settled-exported {n} d) = from-number n (d .0)
 
 module _ {bytes : Bytes} {x y : Buffers} {reply place : ℕ} (r : Request bytes x y reply place) where
   pub answers : fit x ≡ true

@@ -15,13 +15,16 @@ use Rattle.replies.specs.declared.Reply.{Reply}
 use Rattle.rules.specs.declared.Judged.{Judged}
 use Rattle.engine.specs.Buffers.{Buffers, fit}
 use Rattle.engine.specs.Answers.{Requested, LoadDone}
+use Rattle.engine.specs.Settling.{SettledRequest, SettledExported}
 use Rattle.engine.specs.Exports.{RequestExported, LoadExported}
 
--- A request by either function: the bytes, the buffers before and after, the reply and the place. The exported one's number is the reply +
--- 256 times the place.
+-- A request by any of the four functions, those for settled buffers among them: the bytes, the buffers before and after, the reply and the
+-- place. The exported ones' number is the reply + 256 times the place.
 pub data Request (bytes : Bytes) (x y : Buffers) : ℕ → ℕ → Type 0 where
   within : {j : Judged} → Requested bytes x y j → Request bytes x y (numberOf (j .reply)) (j .place)
   exported : {n : ℕ} → RequestExported bytes x y n → Request bytes x y (n % 256) (n / 256)
+  settled : {j : Judged} → SettledRequest bytes x y j → Request bytes x y (numberOf (j .reply)) (j .place)
+  settled-exported : {n : ℕ} → SettledExported bytes x y n → Request bytes x y (n % 256) (n / 256)
 
 -- A load by either function.
 pub data Load (bytes : Bytes) (x y : Buffers) : ℕ → Type 0 where
