@@ -1,6 +1,6 @@
 -- The rows of a four, and the walk over the fours of a pair.
 use Prim.Native.Nat.{ℕ, zero, suc, _+_, _*_, _/_, _<_}
-use mathlib.Core.Bool.{Bool, true, false, _&&_, _||_}
+use mathlib.Core.Bool.{Bool, true, false, _&&_, _||_, or-true}
 use mathlib.Core.List.{List}
 use mathlib.Core.Path.{_≡_, refl, sym, ap, _∙_, fun-ext}
 use native.Mathlib.Omega.{arith}
@@ -78,6 +78,14 @@ module _ (w : Set) (row : ℕ → Bool) where
           let none : inFour row k ≡ false = ap (inFour row) (eqb-true k t e) ∙ out in
           rw none (and-false (has w k) ∙ sym (and-false (has (minus w t) k)))
       at k false e = ap (λ h. h && inFour row k) (sym (has-kept w t k (eqb-false k t e)))
+
+  -- and the same without an end at the first that is found
+  pub four-taken : (t : ℕ) → t < 64 → has w t ≡ true → (found : Bool) → found || inFours w row ≡ (inFour row t || found) || inFours (minus w t) row
+  four-taken t h e found = go (inFour row t) refl
+    where
+      go : (here : Bool) → inFour row t ≡ here → found || inFours w row ≡ (inFour row t || found) || inFours (minus w t) row
+      go true f = rw (four-found t h e f, f) (or-true found)
+      go false f = rw (f, four-past t f)
 
   pub no-fours : w ≡ 0 → inFours w row ≡ false
   no-fours z = below-none 64 (λ t. has w t && inFour row t) (λ t _. rw (z, has-empty t))

@@ -60,20 +60,20 @@ fn four_opens(p: &[u64], four: usize, m: Set, operation: u64, object: u64) -> bo
         | row_opens(p, b + 3, m, operation, object)
 }
 
-// Whether one of the roles m may do this operation on this object.
+// Whether one of the roles m may do this operation on this object. It goes through all fours of the pair, mostly one: whether one was found could not be
+// foretold.
 pub fn allowed(p: &[u64], m: Set, operation: u64, object: u64) -> bool
     requires { ⌜ (length (now p) ≡ policyWords) × ((operation < 65536) × (object < 65536)) ⌝ }
     ensures { λ r. ⌜ r ≡ allowed (policyOf (now (p .entry)) .permissions) (m .bits) operation object ⌝ }
 {
     let mut left = policy::fours_for(p, operation, object);
+    let mut found = false;
     while left.bits != 0 {
         let four = left.member();
-        if four_opens(p, four as usize, m, operation, object) {
-            return true;
-        }
+        found = four_opens(p, four as usize, m, operation, object) | found;
         left = left.without(four);
     }
-    false
+    found
 }
 
 // Whether row b is for this operation on this object, and task t carries it.

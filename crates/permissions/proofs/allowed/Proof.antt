@@ -1,21 +1,22 @@
--- Over the fours of the pair; one that was passed has no such row.
+-- Over the fours of the pair; what those found that were passed is kept.
 use borrow.Author.Needs.{needs}
-use mathlib.Core.Path.{_≡_, sym, _∙_}
+use mathlib.Core.Bool.{_||_, or-false}
+use mathlib.Core.Path.{_≡_, sym, ap, _∙_}
 use native.Mathlib.Omega.{arith}
 use Rattle.paper_lower.specs.Sets.{meets}
 use Rattle.paper_lower.specs.Sessions.{allowed}
 use Rattle.policy.specs.Reading.{policyOf}
 use Rattle.permissions.specs.Rows.{opens}
-use Rattle.permissions.proofs.Fours.{inFours, four-found, four-past, no-fours, more-by-fours}
+use Rattle.permissions.proofs.Fours.{inFours, four-taken, no-fours, more-by-fours}
 use Rattle.sets.proofs.SetLaws.{minus-less}
 use Rattle.permissions.proofs.allowed.Statement.{statement}
 use Rattle.permissions.proofs.allowed.Tie as tie
 
 abbrev Inv-loop : tie.InvT-loop
-Inv-loop p m operation object left₀ left = allowed (policyOf p .permissions) (m .bits) operation object ≡ inFours (left .bits) (opens p (m .bits) operation object)
+Inv-loop p m operation object left₀ found₀ left found = allowed (policyOf p .permissions) (m .bits) operation object ≡ found || inFours (left .bits) (opens p (m .bits) operation object)
 
 abbrev μ-loop : tie.MeasureT-loop
-μ-loop p m operation object left₀ left = left .bits
+μ-loop p m operation object left₀ found₀ left found = left .bits
 
 fours-for-requires : tie.Need-fours-for-requires Inv-loop μ-loop
 fours-for-requires c κs = search needs
@@ -30,20 +31,19 @@ member-requires c κs = search needs
 four-opens-requires : tie.Need-four-opens-requires Inv-loop μ-loop
 four-opens-requires c κs = search needs
 
-returns : tie.Need-returns Inv-loop μ-loop
-returns c = sym (c .before .before .before .before .before .loop .inv ∙ four-found _ _ (c .before .before .member .result) (c .before .before .member .ensures .1) (c .before .before .member .ensures .0) (sym (c .before .four-opens .ensures) ∙ c .if2 .taken))
-
 without-requires : tie.Need-without-requires Inv-loop μ-loop
 without-requires c κs = search needs
 
 loop-less : tie.Need-loop-less Inv-loop μ-loop
-loop-less c = rw (c .without .ensures) (minus-less _ _ (c .before .before .before .member .ensures .0))
+loop-less c = rw (c .without .ensures) (minus-less _ _ (c .before .before .member .ensures .0))
 
 loop-again : tie.Need-loop-again Inv-loop μ-loop
-loop-again c = rw (c .without .ensures) (c .before .before .before .before .before .before .loop .inv ∙ four-past _ _ (c .before .before .before .member .result) (sym (c .before .before .four-opens .ensures) ∙ c .before .if2 .left))
+loop-again c =
+    rw (c .without .ensures, c .before .four-opens .ensures)
+    (c .before .before .before .before .before .loop .inv ∙ four-taken _ _ (c .before .before .member .result) (c .before .before .member .ensures .1) (c .before .before .member .ensures .0) (c .before .before .before .before .before .loop .found))
 
-returns-2 : tie.Need-returns-2 Inv-loop μ-loop
-returns-2 c = sym (c .before .before .loop .inv ∙ no-fours _ _ (omega arith))
+returns : tie.Need-returns Inv-loop μ-loop
+returns c = let z : c .before .before .loop .left .bits ≡ 0 = omega arith in sym (c .before .before .loop .inv ∙ ap (λ b. c .before .before .loop .found || b) (no-fours _ _ z) ∙ or-false (c .before .before .loop .found))
 
 pub allowed-spec : {M : Type 1} → statement M
 allowed-spec =
@@ -55,8 +55,7 @@ allowed-spec =
     loop-holds
     member-requires
     four-opens-requires
-    returns
     without-requires
     loop-less
     loop-again
-    returns-2)
+    returns)
