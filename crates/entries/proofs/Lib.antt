@@ -1,6 +1,7 @@
 pub mod WordLaws
 pub mod OwnLaws
 pub mod GatherLaws
+pub mod FlatLaws
 pub mod SearchLaws
 pub mod FigureLaws
 pub mod ActLaws

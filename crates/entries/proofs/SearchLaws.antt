@@ -1,4 +1,4 @@
--- A search along chains, and one through all entries.
+-- A search along a chain, and one through all entries.
 use Prim.Native.Nat.{ℕ, zero, suc, _*_, _<_}
 use mathlib.Core.Bool.{Bool, true, false, _&&_, _||_}
 use mathlib.Core.List.{List, [], _∷_}
@@ -15,9 +15,11 @@ use Rattle.links.specs.Stacks.{Woven}
 use Rattle.links.proofs.ReadLaws.{there-open}
 use Rattle.links.proofs.ChainLaws.{walk-fuse}
 use Rattle.links.proofs.EntryLaws.{held-other}
-use Rattle.entries.specs.Reading.{ordersOf, inOpenOrder, keyOf, fits, takeFit, anyIn}
+use Rattle.links.proofs.SoundLaws.{Sound}
+use Rattle.entries.specs.Reading.{ordersOf, inOpenOrder, keyOf, fits, takeFit, anyIn, anyUpTo}
 use Rattle.entries.proofs.WordLaws.{fits-held, fits-holding, fits-holder, fits-user}
 use Rattle.entries.proofs.OwnLaws.{own-alone, entries-own, entries-other, closed-none, some-joined}
+use Rattle.entries.proofs.FlatLaws.{flat}
 
 -- ---- Along one chain.
 none-some : (p : Entry → Bool) → false ≡ some p []
@@ -56,17 +58,15 @@ any-other i e h = rw h
 pub one-held : (l : List ℕ) → Woven l → (i : ℕ) → i < 64 → anyIn l i 127 i ≡ some (λ e. inOrder i e && isHeld (e .standing)) (ordersOf l .entries)
 one-held l s i hi = any-entries l s i 127 i (λ e. inOrder i e && isHeld (e .standing)) hi (λ w. fits-held w i hi) ∙ own-some i (λ e. inOrder i e && isHeld (e .standing)) (any-other i) l s hi
 
--- ---- Along all of them.
+-- ---- Among all of them.
 below-same : (n : ℕ) (f g : ℕ → Bool) → ((i : ℕ) → i < n → f i ≡ g i) → someBelow n f ≡ someBelow n g
 unfolding someBelow
 below-same zero f g h = refl
 below-same (suc n) f g h = rw (h n (omega arith), below-same n f g (λ i l. h i (omega arith)))
 
-pub any-held : (l : List ℕ) → Woven l → (a : ℕ) → someBelow 64 (λ i. anyIn l i 1040448 (8192 * a)) ≡ some (λ e. isHeldBy a (e .standing)) (ordersOf l .entries)
+pub any-held : (l : List ℕ) → Sound l → (a : ℕ) → a < 128 → anyUpTo l (markOf l) 1074782272 (8192 * a) ≡ some (λ e. isHeldBy a (e .standing)) (ordersOf l .entries)
 unfolding ordersOf
-any-held l s a =
-    below-same 64 (λ i. anyIn l i 1040448 (8192 * a)) (λ i. some (λ e. isHeldBy a (e .standing)) (entriesIn l i)) (λ i h. any-entries l s i 1040448 (8192 * a) (λ e. isHeldBy a (e .standing)) h (λ w. fits-holder w a))
-    ∙ sym (some-joined (λ e. isHeldBy a (e .standing)) (entriesIn l) 64)
+any-held l s a h = flat l s 1074782272 (8192 * a) (λ e. isHeldBy a (e .standing)) (λ w. fits-holder w a h)
 
 -- an instance that has entries is open
 some-every : (p q : Entry → Bool) (es : List Entry) → Every (λ e. p e ≡ q e) es → some p es ≡ some q es
@@ -91,9 +91,10 @@ in-open l s u i h = go (has (openOf l) i) refl
         none : (p q : Entry → Bool) → some p [] ≡ some q []
         none p q = sym (none-some p) ∙ none-some q
 
-pub any-open : (l : List ℕ) → Woven l → (u : ℕ) → someBelow 64 (λ i. anyIn l i 1072693248 (1048576 * u)) ≡ some (inOpenOrder (ordersOf l) u) (ordersOf l .entries)
+pub any-open : (l : List ℕ) → Sound l → (u : ℕ) → u < 1024 → anyUpTo l (markOf l) 2146435072 (1048576 * u) ≡ some (inOpenOrder (ordersOf l) u) (ordersOf l .entries)
 unfolding ordersOf
-any-open l s u =
-    below-same 64 (λ i. anyIn l i 1072693248 (1048576 * u)) (λ i. some (λ e. eqb (e .user) u && there (templateAt l (e .instance))) (entriesIn l i))
-    (λ i h. any-entries l s i 1072693248 (1048576 * u) (λ e. eqb (e .user) u) h (λ w. fits-user w u) ∙ in-open l s u i h)
+any-open l s u h =
+    flat l s 2146435072 (1048576 * u) (λ e. eqb (e .user) u) (λ w. fits-user w u h)
+    ∙ some-joined (λ e. eqb (e .user) u) (entriesIn l) 64
+    ∙ below-same 64 (λ i. some (λ e. eqb (e .user) u) (entriesIn l i)) (λ i. some (λ e. eqb (e .user) u && there (templateAt l (e .instance))) (entriesIn l i)) (λ i less. in-open l (s .woven) u i less)
     ∙ sym (some-joined (λ e. eqb (e .user) u && there (templateAt l (e .instance))) (entriesIn l) 64)

@@ -1,6 +1,6 @@
 -- One masked compare of an entry's word is a test of the entry.
 use Prim.Native.Nat.{ℕ, zero, suc, _+_, _*_, _/_, _%_, _<_}
-use mathlib.Core.Bool.{Bool, true, false, not, cond, _&&_}
+use mathlib.Core.Bool.{Bool, true, false, not, cond, _&&_, and-true, and-false}
 use mathlib.Core.Path.{_≡_, refl, sym, ap, _∙_}
 use native.Mathlib.Omega.{arith}
 use borrow.Author.Tests.{eq-eqb, ne-eqb, eqb-true, eqb-false}
@@ -31,6 +31,19 @@ holder-part : (d s a : ℕ) → d < 2 → eqb (s * 8192 + d * 64) (8192 * a) ≡
 holder-part zero s a h = parts (s * 8192 + 0) (8192 * a) 0 s 0 a (λ e. (refl, omega arith)) (λ e f. omega arith)
 holder-part (suc zero) s a h = ne-eqb (s * 8192 + 64) (8192 * a) (λ e. omega arith)
 holder-part (suc (suc d)) s a h = let z : ⊥ = omega arith in absurd z
+
+-- and the flag of the free ones above
+free-part : (b d s a : ℕ) → b < 2 → d < 2 → s < 128 → a < 128 → eqb ((b * 131072 + s) * 8192 + d * 64) (8192 * a) ≡ ((eqb d 0 && eqb s a) && eqb b 0)
+free-part zero d s a hb hd hs ha = let e : 0 * 131072 + s ≡ s = omega arith in ap (λ (n : ℕ). eqb (n * 8192 + d * 64) (8192 * a)) e ∙ holder-part d s a hd ∙ sym (and-true (eqb d 0 && eqb s a))
+free-part (suc zero) d s a hb hd hs ha = ne-eqb ((131072 + s) * 8192 + d * 64) (8192 * a) (λ e. omega arith) ∙ sym (and-false (eqb d 0 && eqb s a))
+free-part (suc (suc b)) d s a hb hd hs ha = let z : ⊥ = omega arith in absurd z
+
+user-part : (x u : ℕ) → u < 1024 → eqb (x % 2048 * 1048576) (1048576 * u) ≡ (eqb (x % 1024) u && eqb (x / 1024 % 2) 0)
+user-part x u h = scaled (x % 2048) (eqb (x % 2048) u) refl ∙ parts (x % 2048) u (x % 1024) (x / 1024 % 2) u 0 (λ e. (omega arith, omega arith)) (λ e f. omega arith)
+  where
+    scaled : (y : ℕ) (b : Bool) → eqb y u ≡ b → eqb (y * 1048576) (1048576 * u) ≡ eqb y u
+    scaled y true e = let same = eqb-true y u e in eq-eqb (y * 1048576) (1048576 * u) (omega arith) ∙ sym e
+    scaled y false e = let other = eqb-false y u e in ne-eqb (y * 1048576) (1048576 * u) (λ (z : y * 1048576 ≡ 1048576 * u). other (omega arith)) ∙ sym e
 
 module _ (w : ℕ) where
   not-done-bit : not (eqb (w / 64 % 2) 1) ≡ eqb (w / 64 % 2) 0
@@ -78,26 +91,32 @@ module _ (w : ℕ) where
       ∙ subject-part i t a hi ht
       ∙ rw (task-part i t hi, order-part i hi, is-held-by a) (regroup (eqb (w % 64) i) (eqb (w / 64 % 2) 0) (eqb (w / 128 % 64) t) (eqb (w / 8192 % 128) a))
 
-  -- the done bit and the subject, all else cut away
-  holder : bitAnd w 1040448 ≡ w / 8192 % 128 * 8192 + w / 64 % 2 * 64
+  -- the flag of the free ones, the subject and the done bit, all else cut away
+  holder : bitAnd w 1074782272 ≡ (w / 1073741824 % 2 * 131072 + w / 8192 % 128) * 8192 + w / 64 % 2 * 64
   holder =
       let e : w ≡ w / 8192 * 8192 + w % 8192 = omega arith in
       let d : w % 8192 / 64 % 2 ≡ w / 64 % 2 = omega arith in
-      ap (λ (n : ℕ). bitAnd n 1040448) e
-      ∙ and-block 13 (w / 8192) 127 (w % 8192) 64 (omega arith) (lit< tt)
-      ∙ rw (and-mask (w / 8192) 7, and-high (w % 8192) 1 6, d)
-
-  pub fits-holder : (a : ℕ) → fits 1040448 (8192 * a) w ≡ isHeldBy a (entryOf w .standing)
-  unfolding fits entryOf
-  fits-holder a =
-      ap (λ (n : ℕ). eqb n (8192 * a)) holder
-      ∙ holder-part (w / 64 % 2) (w / 8192 % 128) a (omega arith)
-      ∙ sym (is-held-by a)
-
-  pub fits-user : (u : ℕ) → fits 1072693248 (1048576 * u) w ≡ eqb (entryOf w .user) u
-  unfolding fits entryOf
-  fits-user u = ap (λ (n : ℕ). eqb n (1048576 * u)) (and-high w 10 20) ∙ scaled (eqb (w / 1048576 % 1024) u) refl
+      ap (λ (n : ℕ). bitAnd n 1074782272) e
+      ∙ and-block 13 (w / 8192) 131199 (w % 8192) 64 (omega arith) (lit< tt)
+      ∙ rw (flagged, and-high (w % 8192) 1 6, d)
     where
-      scaled : (b : Bool) → eqb (w / 1048576 % 1024) u ≡ b → eqb (w / 1048576 % 1024 * 1048576) (1048576 * u) ≡ b
-      scaled true e = let same = eqb-true (w / 1048576 % 1024) u e in eq-eqb (w / 1048576 % 1024 * 1048576) (1048576 * u) (omega arith)
-      scaled false e = let other = eqb-false (w / 1048576 % 1024) u e in ne-eqb (w / 1048576 % 1024 * 1048576) (1048576 * u) (λ (z : w / 1048576 % 1024 * 1048576 ≡ 1048576 * u). other (omega arith))
+      flagged : bitAnd (w / 8192) 131199 ≡ w / 1073741824 % 2 * 131072 + w / 8192 % 128
+      flagged =
+          let e : w / 8192 ≡ w / 1073741824 * 131072 + w / 8192 % 131072 = omega arith in
+          let s : w / 8192 % 131072 % 128 ≡ w / 8192 % 128 = omega arith in
+          ap (λ (n : ℕ). bitAnd n 131199) e
+          ∙ and-block 17 (w / 1073741824) 1 (w / 8192 % 131072) 127 (omega arith) (lit< tt)
+          ∙ rw (and-mask (w / 1073741824) 1, and-mask (w / 8192 % 131072) 7, s)
+
+  pub fits-holder : (a : ℕ) → a < 128 → fits 1074782272 (8192 * a) w ≡ (isHeldBy a (entryOf w .standing) && eqb (w / 1073741824 % 2) 0)
+  unfolding fits entryOf
+  fits-holder a h =
+      ap (λ (n : ℕ). eqb n (8192 * a)) holder
+      ∙ free-part (w / 1073741824 % 2) (w / 64 % 2) (w / 8192 % 128) a (omega arith) (omega arith) (omega arith) h
+      ∙ ap (λ (b : Bool). b && eqb (w / 1073741824 % 2) 0) (sym (is-held-by a))
+
+  pub fits-user : (u : ℕ) → u < 1024 → fits 2146435072 (1048576 * u) w ≡ (eqb (entryOf w .user) u && eqb (w / 1073741824 % 2) 0)
+  unfolding fits entryOf
+  fits-user u h =
+      let e : w / 1073741824 % 2 ≡ w / 1048576 / 1024 % 2 = omega arith in
+      ap (λ (n : ℕ). eqb n (1048576 * u)) (and-high w 11 20) ∙ rw e (user-part (w / 1048576) u h)

@@ -6,10 +6,10 @@ use mathlib.Core.Path.{_≡_}
 use lib.Dec.{eqb}
 use lib.ListN.{length, getD}
 use lib.Bits.{bitAnd}
-use Rattle.paper_lower.specs.Lists.{Maybe, there, upd}
+use Rattle.paper_lower.specs.Lists.{Maybe, someBelow, there, upd}
 use Rattle.paper_lower.specs.Lists.Maybe.{none, just}
 use Rattle.paper_upper.specs.Orders.{Entry, Orders, noOrders}
-use Rattle.links.specs.Chains.{ordersWords, templateAt, headOf, countOf, chainWord, walkOver, entriesIn, soundOf, joined}
+use Rattle.links.specs.Chains.{ordersWords, templateAt, headOf, countOf, chainWord, wordAt, walkOver, entriesIn, soundOf, joined}
 use Rattle.entries.specs.declared.Instance.{Instance}
 
 -- the entries of all instances, each instance's in order of entry; the order of the instances means nothing
@@ -53,3 +53,7 @@ takeFit mask key h w b = fits mask key w || b
 
 abbrev pub anyIn : List ℕ → ℕ → ℕ → ℕ → Bool
 anyIn l i mask key = walkOver (takeFit mask key) l (headOf (chainWord l i)) (countOf (chainWord l i)) false
+
+-- the same of the first n entries by number, whatever their chain
+abbrev pub anyUpTo : List ℕ → ℕ → ℕ → ℕ → Bool
+anyUpTo l n mask key = someBelow n (λ k. fits mask key (wordAt l (k + 1)))

@@ -6,11 +6,11 @@ ghost use lib.ListN.{length};
 ghost use mathlib.Core.Bool.{true, false, cond, _&&_};
 ghost use lib.Dec.{eqb};
 ghost use Rattle.paper_lower.specs.Sets.{plus};
-ghost use Rattle.paper_lower.specs.Lists.{someBelow, there, some, many};
+ghost use Rattle.paper_lower.specs.Lists.{there, some, many};
 ghost use Rattle.paper_lower.specs.Lists.Maybe.{just};
 ghost use Rattle.paper_upper.specs.Orders.{isHeld, isHeldBy, inOrder, heldBy};
-ghost use Rattle.links.specs.Chains.{ordersWords};
-ghost use Rattle.entries.specs.Reading.{Cleared, ordersOf, withInstance, openedOf, inOpenOrder, keyOf, anyIn};
+ghost use Rattle.links.specs.Chains.{ordersWords, markOf};
+ghost use Rattle.entries.specs.Reading.{Cleared, ordersOf, withInstance, openedOf, inOpenOrder, keyOf, anyIn, anyUpTo};
 ghost use Rattle.entries.specs.Acts.{InLimits, Ready, afterEnter, afterRelease, afterFinish, afterEnd, Acts, Enters};
 ghost use Rattle.entries.specs.Gathering.{gatheredOf, takenIn, figuresOf};
 use links::FREE;
@@ -18,15 +18,15 @@ use links::ORDERS_WORDS;
 use sets::Set;
 use sets::set_of;
 
-// What of an entry's word a test looks at: its instance, and whether it is held; and its task and subject; or only whether it is held, and its subject;
-// or its user.
+// What of an entry's word a test looks at: its instance, and whether it is held; and its task and subject. Where all words are asked: whether it is held,
+// its subject, and whether it is free; or its user, and whether it is free.
 const ORDER_HELD: u64 = 127;
 
 const HELD_BY: u64 = 1048575;
 
-const HOLDER: u64 = 1040448;
+const HOLDER: u64 = 1074782272;
 
-const USER: u64 = 1072693248;
+const USER: u64 = 2146435072;
 
 pub struct Instance {
     pub open: bool,
@@ -161,19 +161,20 @@ fn any_in(o: &[u64], i: u64, mask: u64, key: u64) -> bool
     found
 }
 
-// Whether that of some entry of any instance is.
+// Whether that of some entry up to the mark is: side by side, without a look at the links.
 fn any(o: &[u64], mask: u64, key: u64) -> bool
     requires { ⌜ Ready (now o) ⌝ }
-    ensures { λ r. ⌜ r ≡ someBelow 64 (λ i. anyIn (now (o .entry)) i mask key) ⌝ }
+    ensures { λ r. ⌜ r ≡ anyUpTo (now (o .entry)) (markOf (now (o .entry))) mask key ⌝ }
 {
-    let mut i = 0;
-    while i < 64 {
-        if any_in(o, i, mask, key) {
-            return true;
-        }
-        i += 1;
+    let m = links::mark(o);
+    let mut k = 0;
+    let mut found = false;
+    while k < m {
+        let w = links::word(o, k + 1);
+        found = (w & mask == key) | found;
+        k += 1;
     }
-    false
+    found
 }
 
 // The part of an entry's word below its user: task t of instance i, held by subject a.

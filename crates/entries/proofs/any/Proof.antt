@@ -1,41 +1,46 @@
--- None of the instances so far has one.
-use Prim.Native.Nat.{_≤_, _-_}
-use mathlib.Core.Path.{_≡_, refl, sym, _∙_}
+-- None but what was found is among the words so far.
+use Prim.Native.Nat.{ℕ, _≤_, _-_}
+use mathlib.Core.Path.{_≡_, refl, sym, ap, _∙_}
 use native.Mathlib.Omega.{arith}
-use mathlib.Core.Bool.{false}
+use borrow.Author.Needs.{needs}
 use Rattle.paper_lower.specs.Lists.{someBelow}
-use Rattle.replies.proofs.SearchLaws.{below-more, below-found}
-use Rattle.entries.specs.Reading.{anyIn}
+use Rattle.links.proofs.ActLaws.{whole}
+use Rattle.links.specs.Chains.{markOf}
+use Rattle.entries.specs.Reading.{anyUpTo}
+use Rattle.entries.proofs.FlatLaws.{up-more}
 use Rattle.entries.proofs.any.Statement.{statement}
 use Rattle.entries.proofs.any.Tie as tie
 
 abbrev Inv-loop : tie.InvT-loop
-Inv-loop o mask key i₀ i = (i ≤ 64) × (someBelow i (λ i. anyIn o i mask key) ≡ false)
+Inv-loop o mask key m k₀ found₀ k found = (k ≤ m) × (found ≡ anyUpTo o k mask key)
 
 abbrev μ-loop : tie.MeasureT-loop
-μ-loop o mask key i₀ i = 64 - i
+μ-loop o mask key m k₀ found₀ k found = m - k
+
+mark-requires : tie.Need-mark-requires Inv-loop μ-loop
+mark-requires c κs = search needs
 
 loop-holds : tie.Need-loop-holds Inv-loop μ-loop
 unfolding someBelow
 loop-holds c = (omega arith, refl)
 
-any-in-requires : tie.Need-any-in-requires Inv-loop μ-loop
-any-in-requires c κs = (c .before .before .before .pre, c .loop-test .taken)
+add-word : tie.Need-add-word Inv-loop μ-loop
+add-word c = let m = (whole (c .before .before .before .before .args .o .now) (c .before .before .before .before .pre .1) .woven) .mark in omega arith
 
-returns : tie.Need-returns Inv-loop μ-loop
-returns c = sym (below-found (λ i. anyIn (c .before .before .before .before .before .args .o .now) i (c .before .before .before .before .before .args .mask) (c .before .before .before .before .before .args .key)) (c .before .before .before .loop .i) 64 (c .before .before .loop-test .taken) (sym (c .before .any-in .ensures) ∙ c .if1 .taken))
+word-requires : tie.Need-word-requires Inv-loop μ-loop
+word-requires c κs = (c .before .before .before .before .pre .0, (let m = (whole (c .before .before .before .before .args .o .now) (c .before .before .before .before .pre .1) .woven) .mark in omega arith))
 
-add-i : tie.Need-add-i Inv-loop μ-loop
-add-i c = omega arith
+add-k : tie.Need-add-k Inv-loop μ-loop
+add-k c = omega arith
 
 loop-less : tie.Need-loop-less Inv-loop μ-loop
 loop-less c = omega arith
 
 loop-again : tie.Need-loop-again Inv-loop μ-loop
-loop-again c = (omega arith, below-more (λ i. anyIn (c .before .before .before .before .before .args .o .now) i (c .before .before .before .before .before .args .mask) (c .before .before .before .before .before .args .key)) (c .before .before .before .loop .i) (c .before .before .before .loop .inv .1) (sym (c .before .any-in .ensures) ∙ c .if1 .left))
+loop-again c = (omega arith, rw (c .word .ensures, c .before .before .loop .inv .1) (sym (up-more (c .before .before .before .before .before .args .o .now) (c .before .before .loop .k) (c .before .before .before .before .before .args .mask) (c .before .before .before .before .before .args .key))))
 
-returns-2 : tie.Need-returns-2 Inv-loop μ-loop
-returns-2 c = let e : c .before .loop .i ≡ 64 = omega arith in rw e at (sym (c .before .loop .inv .1))
+returns : tie.Need-returns Inv-loop μ-loop
+returns c = let e : c .before .loop .k ≡ markOf (c .before .before .before .before .args .o .now) = omega arith in c .before .loop .inv .1 ∙ ap (λ (n : ℕ). anyUpTo (c .before .before .before .before .args .o .now) n (c .before .before .before .before .args .mask) (c .before .before .before .before .args .key)) e
 
 pub any-spec : {M : Type 1} → statement M
 any-spec =
@@ -43,10 +48,11 @@ any-spec =
     (tie.spec
     Inv-loop
     μ-loop
+    mark-requires
     loop-holds
-    any-in-requires
-    returns
-    add-i
+    add-word
+    word-requires
+    add-k
     loop-less
     loop-again
-    returns-2)
+    returns)

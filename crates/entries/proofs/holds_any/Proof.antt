@@ -1,6 +1,6 @@
--- A search along all chains.
+-- A search through all words.
 use mathlib.Core.Path.{_∙_}
-use Rattle.links.proofs.ActLaws.{whole}
+use Rattle.links.proofs.SoundLaws.{sound}
 use Rattle.entries.proofs.SearchLaws.{any-held}
 use borrow.Author.Needs.{needs}
 use Rattle.entries.proofs.holds_any.Statement.{statement}
@@ -13,7 +13,7 @@ any-requires : tie.Need-any-requires
 any-requires c κs = search needs
 
 returns : tie.Need-returns
-returns c = c .any .ensures ∙ any-held (c .before .before .args .o .now) (whole (c .before .before .args .o .now) (c .before .before .pre .0 .1) .woven) (c .before .before .args .a)
+returns c = c .any .ensures ∙ any-held (c .before .before .args .o .now) (sound (c .before .before .args .o .now) (c .before .before .pre .0 .1)) (c .before .before .args .a) (c .before .before .pre .1)
 
 pub holds-any-spec : {M : Type 1} → statement M
 holds-any-spec = tie.close (tie.spec mul-any any-requires returns)
