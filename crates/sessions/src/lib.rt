@@ -87,19 +87,18 @@ pub fn set_roles(s: &mut [u64], a: usize, active: Set, had: Set)
     s[HAD + a] = had.bits;
 }
 
-// Whether user u has a live subject.
+// Whether user u has a live subject. It asks all of them, side by side.
 pub fn has_subject(s: &[u64], u: u64) -> bool
     requires { ⌜ (length (now s) ≡ sessionsWords) × (u < 1024) ⌝ }
     ensures { λ r. ⌜ r ≡ someBelow 128 (subjectOf (sessionsOf (now (s .entry))) u) ⌝ }
 {
     let mut a = 0;
+    let mut found = false;
     while a < SUBJECTS {
-        if of_user(s, u, a) {
-            return true;
-        }
+        found = of_user(s, u, a) | found;
         a += 1;
     }
-    false
+    found
 }
 
 // The active roles of subject a where it is a live one of user u, else none: both words are read before the choice.
