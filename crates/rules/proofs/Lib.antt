@@ -1,3 +1,4 @@
+mod Looks
 mod BlockLaws
 mod Chain
 pub mod JudgeLaws

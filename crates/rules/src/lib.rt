@@ -8,7 +8,7 @@ ghost use Rattle.paper_lower.specs.Lists.Maybe.{just};
 ghost use Rattle.paper_upper.specs.Rules.{missing, before, crowded, separation, own, strange, block, alone, tied, bound};
 ghost use Rattle.policy.specs.Layout.{policyWords, limitAt, blockAt, pairAt};
 ghost use Rattle.policy.specs.Reading.{policyOf};
-ghost use Rattle.rules.specs.Blocks.{apart};
+ghost use Rattle.rules.specs.Blocks.{after, apart};
 ghost use Rattle.rules.specs.Judging.{Judging};
 use replies::Reply;
 use sets::Set;
@@ -25,10 +25,29 @@ fn is_missing(p: &[u64], k: usize, finished: Set, t: u64) -> bool
     (b == t) & !finished.has(a)
 }
 
+// One walk, side by side, that ends most searches before they begin: whether anything is required before t.
+fn has_before(p: &[u64], t: u64) -> bool
+    requires { ⌜ length (now p) ≡ policyWords ⌝ }
+    ensures { λ r. ⌜ r ≡ some (after t) (policyOf (now (p .entry)) .rules .befores) ⌝ }
+{
+    let count = policy::pair_count(p, 1);
+    let mut k = 0;
+    let mut found = false;
+    while k < count {
+        let b = policy::pair_b(p, 1, k);
+        found = (b == t) | found;
+        k += 1;
+    }
+    found
+}
+
 fn before(p: &[u64], finished: Set, t: u64) -> u64
     requires { ⌜ length (now p) ≡ policyWords ⌝ }
     ensures { λ r. ⌜ r ≡ before (policyOf (now (p .entry)) .rules) (finished .bits) t ⌝ }
 {
+    if !has_before(p, t) {
+        return 0;
+    }
     let count = policy::pair_count(p, 1);
     let mut k = 0;
     while k < count {
@@ -47,10 +66,13 @@ fn is_crowded(p: &[u64], k: usize, d: Set, t: u64) -> bool
     requires { ⌜ (length (now p) ≡ policyWords) × ((k < 32) × (t < 64)) ⌝ }
     ensures { λ r. ⌜ r ≡ crowded (d .bits) t (limitAt 2 (now (p .entry)) k) ⌝ }
 {
-    let n = policy::limit_n(p, 2, k);
     let members = policy::limit_members(p, 2, k);
+    if !members.has(t) {
+        return false;
+    }
+    let n = policy::limit_n(p, 2, k);
     let others = d.without(t);
-    members.has(t) & (n <= members.overlap(others))
+    n <= members.overlap(others)
 }
 
 fn separation(p: &[u64], d: Set, t: u64) -> u64
@@ -113,20 +135,22 @@ fn is_apart(p: &[u64], k: usize, d: Set, t: u64) -> bool
     !tasks.has(t) & tasks.meets(d)
 }
 
-// One walk that ends most searches before they begin: without such a block no partitioning has a strange one.
+// One walk, side by side, that ends most searches before they begin: without such a block no partitioning has a strange one.
 fn has_apart(p: &[u64], d: Set, t: u64) -> bool
     requires { ⌜ (length (now p) ≡ policyWords) × (t < 64) ⌝ }
     ensures { λ r. ⌜ r ≡ some (apart (d .bits) t) (policyOf (now (p .entry)) .rules .blocks) ⌝ }
 {
+    if d.is_empty() {
+        return false;
+    }
     let count = policy::block_count(p);
     let mut k = 0;
+    let mut found = false;
     while k < count {
-        if is_apart(p, k, d, t) {
-            return true;
-        }
+        found = is_apart(p, k, d, t) | found;
         k += 1;
     }
-    false
+    found
 }
 
 // The search ends at the first strange block of the first partitioning that has one beside a block of t.
@@ -181,6 +205,9 @@ fn is_tied(p: &[u64], k: usize, others: Set, t: u64) -> bool
 {
     let a = policy::pair_a(p, 0, k);
     let b = policy::pair_b(p, 0, k);
+    if (a != t) & (b != t) {
+        return false;
+    }
     ((a == t) & others.has(b)) | ((b == t) & others.has(a))
 }
 
@@ -188,6 +215,9 @@ fn bound(p: &[u64], others: Set, t: u64) -> u64
     requires { ⌜ length (now p) ≡ policyWords ⌝ }
     ensures { λ r. ⌜ r ≡ bound (policyOf (now (p .entry)) .rules) (others .bits) t ⌝ }
 {
+    if others.is_empty() {
+        return 0;
+    }
     let count = policy::pair_count(p, 0);
     let mut k = 0;
     while k < count {

@@ -10,6 +10,7 @@ use Rattle.policy.specs.Reading.{policyOf}
 use Rattle.policy.proofs.RuleLaws.{pairs-are}
 use Rattle.replies.specs.Cells.{rowsFrom}
 use Rattle.replies.proofs.SearchLaws.{place-start, place-here, place-later, place-end}
+use Rattle.rules.proofs.Looks.{none-before}
 use Rattle.rules.proofs.before.Statement.{statement}
 use Rattle.rules.proofs.before.Tie as tie
 
@@ -18,6 +19,12 @@ Inv-loop p finished t count k₀ k = (k ≤ count) × (place (missing (finished 
 
 abbrev μ-loop : tie.MeasureT-loop
 μ-loop p finished t count k₀ k = count - k
+
+has-before-requires : tie.Need-has-before-requires Inv-loop μ-loop
+has-before-requires c κs = search needs
+
+returns : tie.Need-returns Inv-loop μ-loop
+returns c = none-before _ _ _ (c .before .has-before .ensures) (c .if1 .taken)
 
 pair-count-requires : tie.Need-pair-count-requires Inv-loop μ-loop
 pair-count-requires c κs = search needs
@@ -31,9 +38,9 @@ is-missing-requires c κs = search needs
 add-result : tie.Need-add-result Inv-loop μ-loop
 add-result c = search needs
 
-returns : tie.Need-returns Inv-loop μ-loop
+returns-2 : tie.Need-returns-2 Inv-loop μ-loop
 unfolding before
-returns c = sym (c .before .before .before .loop .inv .1 ∙ place-here _ _ _ _ (search needs) (sym (c .before .is-missing .ensures) ∙ c .if1 .taken))
+returns-2 c = sym (c .before .before .before .loop .inv .1 ∙ place-here _ _ _ _ (search needs) (sym (c .before .is-missing .ensures) ∙ c .if2 .taken))
 
 add-k : tie.Need-add-k Inv-loop μ-loop
 add-k c = search needs
@@ -42,11 +49,11 @@ loop-less : tie.Need-loop-less Inv-loop μ-loop
 loop-less c = search needs
 
 loop-again : tie.Need-loop-again Inv-loop μ-loop
-loop-again c = (search needs, c .before .before .before .loop .inv .1 ∙ place-later _ _ _ _ (search needs) (sym (c .before .is-missing .ensures) ∙ c .if1 .left))
+loop-again c = (search needs, c .before .before .before .loop .inv .1 ∙ place-later _ _ _ _ (search needs) (sym (c .before .is-missing .ensures) ∙ c .if2 .left))
 
-returns-2 : tie.Need-returns-2 Inv-loop μ-loop
+returns-3 : tie.Need-returns-3 Inv-loop μ-loop
 unfolding before
-returns-2 c = sym (c .before .loop .inv .1 ∙ place-end _ _ _ _ (search needs))
+returns-3 c = sym (c .before .loop .inv .1 ∙ place-end _ _ _ _ (search needs))
 
 pub before-spec : {M : Type 1} → statement M
 before-spec =
@@ -54,12 +61,14 @@ before-spec =
     (tie.spec
     Inv-loop
     μ-loop
+    has-before-requires
+    returns
     pair-count-requires
     loop-holds
     is-missing-requires
     add-result
-    returns
+    returns-2
     add-k
     loop-less
     loop-again
-    returns-2)
+    returns-3)

@@ -1,4 +1,5 @@
--- A search over the kept rows.
+-- A look at all kept rows: what those passed answered is kept.
+use mathlib.Core.Bool.{_||_}
 use mathlib.Core.Path.{_≡_, sym, _∙_}
 use Prim.Native.Nat.{_-_, _≤_}
 use borrow.Author.Needs.{needs}
@@ -7,16 +8,23 @@ use Rattle.policy.specs.Layout.{blockAt}
 use Rattle.policy.specs.Reading.{policyOf}
 use Rattle.policy.proofs.RuleLaws.{blocks-are}
 use Rattle.replies.specs.Cells.{rowsFrom}
-use Rattle.replies.proofs.SearchLaws.{some-start, some-here, some-later, some-end}
+use Rattle.replies.proofs.SearchLaws.{some-start}
 use Rattle.rules.specs.Blocks.{apart}
+use Rattle.rules.proofs.Looks.{look-on, look-end, none-met}
 use Rattle.rules.proofs.has_apart.Statement.{statement}
 use Rattle.rules.proofs.has_apart.Tie as tie
 
 abbrev Inv-loop : tie.InvT-loop
-Inv-loop p d t count k₀ k = (k ≤ count) × (some (apart (d .bits) t) (policyOf p .rules .blocks) ≡ some (apart (d .bits) t) (rowsFrom (blockAt p) k (count - k)))
+Inv-loop p d t count k₀ found₀ k found = (k ≤ count) × (some (apart (d .bits) t) (policyOf p .rules .blocks) ≡ found || some (apart (d .bits) t) (rowsFrom (blockAt p) k (count - k)))
 
 abbrev μ-loop : tie.MeasureT-loop
-μ-loop p d t count k₀ k = count - k
+μ-loop p d t count k₀ found₀ k found = count - k
+
+is-empty-requires : tie.Need-is-empty-requires Inv-loop μ-loop
+is-empty-requires c κs = search needs
+
+returns : tie.Need-returns Inv-loop μ-loop
+returns c = none-met (policyOf (c .before .before .before .args .p .now) .rules) _ _ (sym (c .before .is-empty .ensures) ∙ c .if1 .taken)
 
 block-count-requires : tie.Need-block-count-requires Inv-loop μ-loop
 block-count-requires c κs = search needs
@@ -27,9 +35,6 @@ loop-holds c = (search needs, some-start _ (blocks-are _) (c .block-count .ensur
 is-apart-requires : tie.Need-is-apart-requires Inv-loop μ-loop
 is-apart-requires c κs = search needs
 
-returns : tie.Need-returns Inv-loop μ-loop
-returns c = sym (c .before .before .before .loop .inv .1 ∙ some-here _ _ _ _ (search needs) (sym (c .before .is-apart .ensures) ∙ c .if1 .taken))
-
 add-k : tie.Need-add-k Inv-loop μ-loop
 add-k c = search needs
 
@@ -37,10 +42,10 @@ loop-less : tie.Need-loop-less Inv-loop μ-loop
 loop-less c = search needs
 
 loop-again : tie.Need-loop-again Inv-loop μ-loop
-loop-again c = (search needs, c .before .before .before .loop .inv .1 ∙ some-later _ _ _ _ (search needs) (sym (c .before .is-apart .ensures) ∙ c .if1 .left))
+loop-again c = (search needs, rw (c .is-apart .ensures) (c .before .before .loop .inv .1 ∙ look-on (apart (c .before .before .before .before .before .before .before .args .d .bits) (c .before .before .before .before .before .before .before .args .t)) (blockAt (c .before .before .before .before .before .before .before .args .p .now)) (c .before .before .before .block-count .result) (c .before .before .loop .k) (c .before .before .loop .found) (search needs)))
 
 returns-2 : tie.Need-returns-2 Inv-loop μ-loop
-returns-2 c = sym (c .before .loop .inv .1 ∙ some-end _ _ _ _ (search needs))
+returns-2 c = sym (c .before .loop .inv .1 ∙ look-end _ _ _ _ _ (search needs))
 
 pub has-apart-spec : {M : Type 1} → statement M
 has-apart-spec =
@@ -48,10 +53,11 @@ has-apart-spec =
     (tie.spec
     Inv-loop
     μ-loop
+    is-empty-requires
+    returns
     block-count-requires
     loop-holds
     is-apart-requires
-    returns
     add-k
     loop-less
     loop-again

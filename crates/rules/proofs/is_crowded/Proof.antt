@@ -1,27 +1,38 @@
 -- The tests of one task set.
 use borrow.Author.Needs.{needs}
-use Rattle.paper_upper.specs.Rules.{crowded}
+use Rattle.rules.proofs.Looks.{none-crowded, one-crowded}
 use Rattle.rules.proofs.is_crowded.Statement.{statement}
 use Rattle.rules.proofs.is_crowded.Tie as tie
-
-limit-n-requires : tie.Need-limit-n-requires
-limit-n-requires c κs = search needs
 
 limit-members-requires : tie.Need-limit-members-requires
 limit-members-requires c κs = search needs
 
-without-requires : tie.Need-without-requires
-without-requires c κs = search needs
-
 has-requires : tie.Need-has-requires
 has-requires c κs = search needs
+
+returns : tie.Need-returns
+returns c = none-crowded _ _ _ (c .before .before .limit-members .ensures) (c .before .has .ensures) (c .if1 .taken)
+
+limit-n-requires : tie.Need-limit-n-requires
+limit-n-requires c κs = search needs
+
+without-requires : tie.Need-without-requires
+without-requires c κs = search needs
 
 overlap-requires : tie.Need-overlap-requires
 overlap-requires c κs = search needs
 
-returns : tie.Need-returns
-unfolding crowded
-returns c = rw (c .before .has .ensures, c .overlap .ensures, c .before .before .without .ensures, c .before .before .before .before .limit-n .ensures, c .before .before .before .limit-members .ensures)
+returns-2 : tie.Need-returns-2
+returns-2 c = one-crowded _ _ _ (c .before .before .before .before .before .limit-members .ensures) (c .before .before .before .before .has .ensures) (c .before .before .before .if1 .left) (rw (c .overlap .ensures, c .before .without .ensures, c .before .before .limit-n .ensures, c .before .before .before .before .before .limit-members .ensures))
 
 pub is-crowded-spec : {M : Type 1} → statement M
-is-crowded-spec = tie.close (tie.spec limit-n-requires limit-members-requires without-requires has-requires overlap-requires returns)
+is-crowded-spec =
+    tie.close
+    (tie.spec
+    limit-members-requires
+    has-requires
+    returns
+    limit-n-requires
+    without-requires
+    overlap-requires
+    returns-2)
