@@ -3,7 +3,7 @@ use Prim.Native.Nat.{ℕ}
 use mathlib.Core.Bool.{Bool, true, false, not, cond, _||_, false≢true}
 use mathlib.Core.List.{List, [], _∷_, _++_}
 use mathlib.Core.Path.{_≡_, refl, sym, ap, _∙_}
-use borrow.Author.Tests.{eqb-true, ne-eqb}
+use borrow.Author.Tests.{eqb-true, eqb-false, ne-eqb}
 use lib.Dec.{eqb}
 use Rattle.paper_lower.specs.Lists.{Maybe, Every, keep, each}
 use Rattle.paper_lower.specs.Lists.Maybe.{none, just}
@@ -11,20 +11,15 @@ use Rattle.paper_lower.specs.Forms.{Form, lowerForms, upperForms, requestForms,
 use Rattle.paper_lower.specs.Kinds.{Kind, chosen}
 use Rattle.paper_lower.specs.Tables.{Lower}
 use Rattle.paper_lower.specs.Sessions.{lowerKinds}
-use Rattle.paper_lower.proofs.ListLaws.{_⨾_}
 use Rattle.paper_upper.specs.Requests.{upperKinds}
 use Rattle.paper_upper.specs.Engine.{raised, sharedKinds, requestKinds}
 use Rattle.records.specs.Limits.{Limits, limitN, limitA, limitB, limitC, limitM}
 use Rattle.records.specs.declared.Record.{Record}
-use Rattle.records.proofs.Span.{Rest, oneEach}
+use Rattle.records.proofs.Span.{Rest, oneEach, others}
 
 -- the kinds that the upper part answers
 abbrev pub upperNumbers : List ℕ
-upperNumbers = 33 ∷ 41 ∷ 48 ∷ 49 ∷ 50 ∷ 51 ∷ 52 ∷ 57 ∷ []
-
--- a number that is not an arm's key
-other : (k : ℕ) {n : ℕ} → (n ≡ k → ⊥) → eqb k n ≡ false
-other k {n} h = ne-eqb k n (λ e. h (sym e))
+upperNumbers = 33 ∷ 41 ∷ 48 ∷ 49 ∷ 50 ∷ 51 ∷ 52 ∷ 57 ∷ 58 ∷ []
 
 -- ---- rows
 skip : {T : Type 0} (ks js : List (Kind T)) (n : ℕ) → Every (λ k. eqb (k .kind) n ≡ false) ks → chosen (ks ++ js) n ≡ chosen js n
@@ -42,6 +37,11 @@ raised-chosen (k ∷ ks) n = go (eqb (k .kind) n) (raised-chosen ks n)
     go false e = e
 
 -- ---- forms
+no-forms : (fs : List Form) (n : ℕ) → Every (λ f. eqb (f .kind) n ≡ false) fs → formOf fs n ≡ none
+unfolding formOf
+no-forms [] n h = refl
+no-forms (f ∷ fs) n h = rw (h .0) (no-forms fs n (h .1))
+
 behind : (fs gs : List Form) (n : ℕ) → formOf gs n ≡ none → formOf (fs ++ gs) n ≡ formOf fs n
 unfolding formOf
 behind [] gs n h = h
@@ -64,18 +64,26 @@ kept-chosen {T} p n f (k ∷ ks) = go (p k) (f k) (kept-chosen p n f ks)
     go false h e = left-out (eqb (k .kind) n) h e
 
 module _ {n : ℕ} (h : Rest (oneEach upperNumbers) n) where
+  none-of-them : Every (λ k. eqb k n ≡ false) upperNumbers
+  none-of-them = others upperNumbers n h
+
+  pub no-claim-number : n ≡ 50 → ⊥
+  no-claim-number e = eqb-false 50 n (none-of-them .1 .1 .1 .1 .0) (sym e)
+
+  turned : (k : ℕ) → eqb k n ≡ false → eqb n k ≡ false
+  turned k e = ne-eqb n k (λ q. eqb-false k n e (sym q))
+
   pub lower-row : chosen requestKinds n ≡ raised (chosen lowerKinds n)
   unfolding requestKinds sharedKinds upperKinds
   lower-row =
-      skip upperKinds (each raised sharedKinds) n
-      (other 33 (h .0 .0 .0 .0 .0 .0 .0 .1) ⨾ other 41 (h .0 .0 .0 .0 .0 .0 .1) ⨾ other 48 (h .0 .0 .0 .0 .0 .1) ⨾ other 49 (h .0 .0 .0 .0 .1) ⨾ other 50 (h .0 .0 .0 .1) ⨾ other 51 (h .0 .0 .1) ⨾ other 52 (h .0 .1) ⨾ other 57 (h .1) ⨾ tt)
+      skip upperKinds (each raised sharedKinds) n none-of-them
       ∙ raised-chosen sharedKinds n
-      ∙ ap raised (kept-chosen _ n (λ k e. rw (eqb-true (k .kind) n e) (simp (ne-eqb n 33 (h .0 .0 .0 .0 .0 .0 .0 .1), ne-eqb n 41 (h .0 .0 .0 .0 .0 .0 .1)))) lowerKinds)
+      ∙ ap raised (kept-chosen _ n (λ k e. rw (eqb-true (k .kind) n e) (simp (turned 33 (none-of-them .0), turned 41 (none-of-them .1 .0)))) lowerKinds)
 
-  -- ---- limits
+  -- ---- limits: 33 and 41 have the lower part's forms
   no-form : formOf upperForms n ≡ none
-  unfolding upperForms formOf
-  no-form = simp (other 48 (h .0 .0 .0 .0 .0 .1), other 49 (h .0 .0 .0 .0 .1), other 50 (h .0 .0 .0 .1), other 51 (h .0 .0 .1), other 52 (h .0 .1), other 57 (h .1))
+  unfolding upperForms
+  no-form = no-forms upperForms n (none-of-them .1 .1)
 
   form-is : formOf requestForms n ≡ formOf lowerForms n
   unfolding requestForms

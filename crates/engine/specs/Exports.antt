@@ -5,6 +5,7 @@ use mathlib.Core.Path.{_≡_}
 use lib.Dec.{eqb}
 use Rattle.paper_lower.specs.Records.{Bytes}
 use Rattle.paper_upper.specs.Orders.{SameTables}
+use Rattle.paper_upper.specs.Questions.{answerWords}
 use Rattle.policy.specs.Layout.{policyWords}
 use Rattle.sessions.specs.Reading.{sessionsWords}
 use Rattle.links.specs.Chains.{ordersWords}
@@ -29,8 +30,8 @@ pub record RequestExported (bytes : Bytes) (x x′ : Buffers) (number : ℕ) : T
 abbrev pub readerWords : ℕ
 readerWords = 7 + 3 * (1024 + 64 + 256 + 65536 + 65536 + 64 + 16)
 
--- the length of a buffer: policy 0, sessions 1, orders 2, the reader's scratch 4
+-- the length of a buffer: policy 0, sessions 1, orders 2, a question's answer 3, the reader's scratch 4
 abbrev pub wordsOf : ℕ → ℕ
 wordsOf group =
     cond (eqb group 0) policyWords
-    (cond (eqb group 1) sessionsWords (cond (eqb group 2) ordersWords (cond (eqb group 4) readerWords 0)))
+    (cond (eqb group 1) sessionsWords (cond (eqb group 2) ordersWords (cond (eqb group 3) answerWords (cond (eqb group 4) readerWords 0))))

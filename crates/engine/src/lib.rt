@@ -38,6 +38,7 @@ fn step(r: Record, p: &mut [u64], s: &mut [u64], o: &mut [u64]) -> Judged
         51 => plain(claims::release(p, s, o, r.a, r.b, r.c)),
         52 => plain(claims::finish(p, s, o, r.a, r.b, r.c)),
         57 => plain(claims::task_check_reply(p, s, o, r.a, r.b, r.c, r.m)),
+        58 => plain(orders::figures_reply(o, r.a)),
         _ => plain(lower::step(r, p, s)),
     }
 }
@@ -196,7 +197,7 @@ pub extern "C" fn mishantral_settled_request(
     replies::number(reply) + 256 * r.place
 }
 
-// The length of a buffer in words: 0 the policy's, 1 the sessions', 2 the orders', 4 that of the scratch with which OPL/XML is read.
+// The length of a buffer in words: 0 the policy's, 1 the sessions', 2 the orders', 3 that of a question's answer, 4 that of the scratch with which OPL/XML is read.
 #[no_mangle]
 pub extern "C" fn mishantral_words(group: u64) -> u64
     ensures { λ n. ⌜ n ≡ wordsOf group ⌝ }
@@ -209,6 +210,9 @@ pub extern "C" fn mishantral_words(group: u64) -> u64
     }
     if group == 2 {
         return ORDERS_WORDS as u64;
+    }
+    if group == 3 {
+        return 66;
     }
     if group == 4 {
         return 397495;

@@ -7,13 +7,14 @@ use native.Mathlib.Omega.{arith}
 use Rattle.paper_lower.specs.Lists.{many, keep, Every}
 use Rattle.paper_lower.specs.Sets.{plus}
 use Rattle.paper_upper.specs.Orders.{Entry, isDone, inOrder, tasksWhere, tasksDone}
+use Rattle.paper_upper.specs.Questions.{figuresOf}
 use Rattle.links.specs.Chains.{markOf, doneWord, countOf, chainWord, entriesIn, sumTo}
 use Rattle.links.proofs.OnceLaws.{sum-more, sum-same, many-joined}
 use Rattle.links.proofs.EntryLaws.{many-own}
 use Rattle.links.proofs.ActLaws.{Whole}
 use Rattle.entries.specs.declared.Figures.{Figures}
 use Rattle.entries.specs.Reading.{ordersOf}
-use Rattle.entries.specs.Gathering.{setOf, figuresOf}
+use Rattle.entries.specs.Gathering.{setOf, kept}
 use Rattle.entries.proofs.OwnLaws.{own-alone, entries-own, entries-other}
 
 module _ (i : ℕ) where
@@ -38,7 +39,7 @@ unfolding keep
 keep-own i [] h = refl
 keep-own i (e ∷ es) h = rw (h .0) (ap (_∷_ e) (keep-own i es (h .1)))
 
-pub kept-figures : (l : List ℕ) → Whole l → (i : ℕ) → i < 64 → _≡_ {A = Figures} (record { entries = countOf (chainWord l i); done = setOf (doneWord l i) }) (figuresOf i (ordersOf l .entries))
+pub kept-figures : (l : List ℕ) → Whole l → (i : ℕ) → i < 64 → _≡_ {A = Figures} (record { entries = countOf (chainWord l i); done = setOf (doneWord l i) }) (kept (figuresOf i (ordersOf l .entries)))
 unfolding figuresOf ordersOf
 kept-figures l s i h =
     let others : (j : ℕ) → j < 64 → (j ≡ i → ⊥) → Every (λ e. inOrder i e ≡ false) (entriesIn l j) = λ j less d. entries-other l (s .woven) i j less d in

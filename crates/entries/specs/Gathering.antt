@@ -5,7 +5,8 @@ use mathlib.Core.List.{List}
 use lib.Dec.{eqb}
 use Rattle.paper_lower.specs.Sets.{plus}
 use Rattle.paper_lower.specs.Lists.{some, many, keep}
-use Rattle.paper_upper.specs.Orders.{Entry, isHeld, inOrder, ofTask, tasksBy, tasksDone, tasksOthers}
+use Rattle.paper_upper.specs.Orders.{Entry, isHeld, ofTask, tasksBy, tasksDone, tasksOthers}
+use Rattle.paper_upper.specs.Questions.{Figures as PaperFigures}
 use Rattle.sets.specs.declared.Set.{Set}
 use Rattle.entries.specs.declared.Gathered.{Gathered}
 use Rattle.entries.specs.declared.Figures.{Figures}
@@ -42,6 +43,6 @@ takenIn u t user task finished g =
 abbrev pub takeIn : ℕ → ℕ → ℕ → ℕ → Gathered → Gathered
 takeIn u t h w g = takenIn u t (w / 1048576 % 1024) (w / 128 % 64) (eqb (w / 64 % 2) 1) g
 
--- "how many entries, which tasks done" of instance i, over the whole ledger
-unfoldable pub figuresOf : ℕ → List Entry → Figures
-figuresOf i es = record { entries = many (keep (inOrder i) es); done = setOf (tasksDone i es) }
+-- an instance's figures, as the code has them
+abbrev pub kept : PaperFigures → Figures
+kept f = record { entries = f .entries; done = setOf (f .done) }

@@ -9,10 +9,11 @@ ghost use Rattle.paper_lower.specs.Sets.{plus};
 ghost use Rattle.paper_lower.specs.Lists.{there, some, many};
 ghost use Rattle.paper_lower.specs.Lists.Maybe.{just};
 ghost use Rattle.paper_upper.specs.Orders.{isHeld, isHeldBy, inOrder, heldBy};
+ghost use Rattle.paper_upper.specs.Questions.{figuresOf};
 ghost use Rattle.links.specs.Chains.{ordersWords, markOf};
 ghost use Rattle.entries.specs.Reading.{Cleared, ordersOf, withInstance, openedOf, inOpenOrder, keyOf, anyIn, anyUpTo};
 ghost use Rattle.entries.specs.Acts.{InLimits, Ready, afterEnter, afterRelease, afterFinish, afterEnd, Acts, Enters};
-ghost use Rattle.entries.specs.Gathering.{gatheredOf, takenIn, figuresOf};
+ghost use Rattle.entries.specs.Gathering.{gatheredOf, takenIn, kept};
 use links::FREE;
 use links::ORDERS_WORDS;
 use sets::Set;
@@ -226,7 +227,7 @@ pub struct Figures {
 // How many entries instance i has, and which of its tasks are done.
 pub fn figures_of(o: &[u64], i: u64) -> Figures
     requires { ⌜ Ready (now o) × (i < 64) ⌝ }
-    ensures { λ r. ⌜ r ≡ figuresOf i (ordersOf (now (o .entry)) .entries) ⌝ }
+    ensures { λ r. ⌜ r ≡ kept (figuresOf i (ordersOf (now (o .entry)) .entries)) ⌝ }
 {
     let x = links::chain(o, i);
     let d = links::done(o, i);

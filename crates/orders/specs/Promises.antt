@@ -1,11 +1,11 @@
--- What requests 33, 41, 48 and 49 promise of the buffers p (policy), s (sessions) and o (orders): a judge the reply of the definition's checks, an act
+-- What requests 33, 41, 48, 49 and 58 promise of the buffers p (policy), s (sessions) and o (orders): a judge the reply of the definition's checks, an act
 -- that reply and the tables afterwards, with not one word changed where it refuses, and sound links again. Where a kind does not look at a buffer, its content is whatever it may be.
 use Prim.Native.Nat.{ℕ}
 use mathlib.Core.Bool.{true}
 use mathlib.Core.List.{List}
 use mathlib.Core.Path.{_≡_}
 use Rattle.paper_lower.specs.Checks.{first}
-use Rattle.paper_upper.specs.Requests.{openChecks, openNext, endChecks, endNext}
+use Rattle.paper_upper.specs.Requests.{openChecks, openNext, endChecks, endNext, figuresChecks}
 use Rattle.replies.specs.Replies.{numberOf}
 use Rattle.replies.specs.Done.{Done}
 use Rattle.replies.specs.declared.Reply.{Reply}
@@ -45,3 +45,7 @@ abbrev pub Ended : List ℕ → List ℕ → ℕ → Reply → Type 0
 Ended o o′ a r =
     ((p s : List ℕ) → Done (engineTables p s) (first (endChecks (engineTables p s o) a)) (endNext (engineTables p s o) a) o o′ r)
     × (soundOf o′ ≡ true)
+
+-- ---- 58, whatever the policy and the sessions are
+abbrev pub FiguresJudged : List ℕ → ℕ → Reply → Type 0
+FiguresJudged o a r = (p s : List ℕ) → numberOf r ≡ first (figuresChecks (engineTables p s o) a)

@@ -1,4 +1,4 @@
-// Requests 48 and 49, and 33 and 41 of the whole engine, whose IN USE looks at the entries.
+// Requests 48, 49 and 58, and 33 and 41 of the whole engine, whose IN USE looks at the entries.
 // Each is judged over what is only read, and then done; specs/Promises says what each promises.
 ghost use mathlib.Core.Path.{_≡_};
 ghost use Prim.Native.Nat.{_<_};
@@ -7,7 +7,7 @@ ghost use Rattle.policy.specs.Layout.{policyWords};
 ghost use Rattle.sessions.specs.Reading.{sessionsWords};
 ghost use Rattle.links.specs.Chains.{ordersWords};
 ghost use Rattle.entries.specs.Acts.{Ready};
-ghost use Rattle.orders.specs.Promises.{DeleteJudged, Deleted, DestroyJudged, Destroyed, OpenJudged, Opened, EndJudged, Ended};
+ghost use Rattle.orders.specs.Promises.{DeleteJudged, Deleted, DestroyJudged, Destroyed, OpenJudged, Opened, EndJudged, Ended, FiguresJudged};
 use replies::Reply;
 use replies::accepted;
 
@@ -115,4 +115,18 @@ pub fn end_order(o: &mut [u64], a: u64) -> Reply
     }
     entries::end_order(o, a);
     r
+}
+
+// ---- 58: the figures of instance a, whatever the policy and the sessions are. It changes nothing.
+
+pub fn figures_reply(o: &[u64], a: u64) -> Reply
+    requires { ⌜ (length (now o) ≡ ordersWords) × (a < 64) ⌝ }
+    ensures { λ r. ⌜ FiguresJudged (now (o .entry)) a r ⌝ }
+{
+    let x = entries::opened(o, a);
+    if x.open {
+        Reply::Granted
+    } else {
+        Reply::Unknown
+    }
 }

@@ -99,6 +99,8 @@ upperForms =
     ∷ form 51 · aSubject anOrder aTask ·
     ∷ form 52 · aSubject anOrder aTask ·
     ∷ form 57 · aSubject anOrder aTask pair
+    -- 02, Ask 9: "kind 58 with instance a"
+    ∷ form 58 · anOrder · · ·
     ∷ []
 
 unfoldable pub requestForms : List Form

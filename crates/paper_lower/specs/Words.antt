@@ -117,6 +117,9 @@ check s operation object = record-of 56 0 s operation object 0
 abbrev pub taskCheck : ℕ → ℕ → ℕ → ℕ → ℕ → Bytes
 taskCheck s i a operation object = record-of 57 0 s i a (operation + 65536 * object)
 
+abbrev pub figures : ℕ → Bytes
+figures i = record-of 58 0 i 0 0 0
+
 -- ---- Cases.
 
 infix 70 _⇒_

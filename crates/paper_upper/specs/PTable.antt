@@ -1,5 +1,5 @@
 -- 01's cases marked P, one table and one statement; its first row is 01's listing. A row is a policy with what its load gives, and
--- requests with the reply that each is given. A table of its own has the places of 02's Ask 2.
+-- requests with the reply that each is given. Tables of their own have the places of 02's Ask 2 and the figures of Ask 9.
 use Prim.Native.Nat.{ℕ, _+_, _^_}
 use mathlib.Core.Bool.{Bool, true, false, _&&_}
 use mathlib.Core.Path.{_≡_, refl}
@@ -7,10 +7,11 @@ use mathlib.Core.List.{List, [], _∷_, _++_}
 use lib.Dec.{eqb}
 use Rattle.paper_lower.specs.Lists.{every, each}
 use Rattle.paper_lower.specs.Records.{Bytes}
-use Rattle.paper_lower.specs.Kinds.{Said}
+use Rattle.paper_lower.specs.Kinds.{Said, after}
 use Rattle.paper_lower.specs.Checks.{GRANTED, SHAPE, RANGE, UNKNOWN, TAKEN, IN-USE, RULE, NOT-ASSIGNED, STATIC, DYNAMIC, NO-ROLE, NOT-YOURS, DENIED, BEFORE, SEPARATION, BLOCK, ALONE, BOUND, COUNT}
-use Rattle.paper_lower.specs.Words.{Case, refuses, accepts, _⇒_, joined, comesOut, wordsOpen, record-of, user, role, permission, userHas, roleHas, task, openTo, carries, staticSet, dynamicSet, taskSet, block, ban, atMost, bound, isBefore, addUser, deleteUser, assign, takeBack, give, withdraw, create, destroy, activate, deactivate, openOrder, endOrder, claim, release, done, check, taskCheck}
+use Rattle.paper_lower.specs.Words.{Case, refuses, accepts, _⇒_, joined, comesOut, wordsOpen, record-of, user, role, permission, userHas, roleHas, task, openTo, carries, staticSet, dynamicSet, taskSet, block, ban, atMost, bound, isBefore, addUser, deleteUser, assign, takeBack, give, withdraw, create, destroy, activate, deactivate, openOrder, endOrder, claim, release, done, check, taskCheck, figures}
 use Rattle.paper_lower.specs.Load.{load}
+use Rattle.paper_upper.specs.Questions.{figuresOf, questionsOpen}
 use Rattle.paper_upper.specs.Engine.{request, Placed, placedRun, engineOf, engineOpen}
 
 -- ---- What many rows begin with.
@@ -194,7 +195,47 @@ further =
     ∷ accepts (clerks 300 301 ++ (block 15 1 ∷ block 15 2 ∷ [])) (desks 300 301 ++ (claim 5 0 0 ⇒ GRANTED ∷ claim 5 0 1 ⇒ BLOCK ∷ []))
     ∷ accepts (clerks 300 301 ++ (ban 0 ∷ bound 0 1 ∷ []))
     (desks 300 301 ++ (claim 6 0 0 ⇒ GRANTED ∷ done 6 0 0 ⇒ GRANTED ∷ claim 5 0 0 ⇒ GRANTED ∷ claim 5 0 1 ⇒ ALONE ∷ []))
+    -- 02, Ask 9, kind 58: SHAPE before RANGE before UNKNOWN; granted while the order is open, with entries and without, and nothing changes
+    ∷ accepts (clerks 300 301)
+    (desks 300 301 ++ (record-of 58 0 64 1 0 0 ⇒ SHAPE ∷ record-of 58 1 0 0 0 0 ⇒ SHAPE ∷ record-of 58 0 0 0 1 0 ⇒ SHAPE ∷ record-of 58 0 0 0 0 1 ⇒ SHAPE ∷ figures 64 ⇒ RANGE ∷ figures 63 ⇒ UNKNOWN ∷ figures 1 ⇒ UNKNOWN ∷ figures 0 ⇒ GRANTED
+    ∷ claim 5 0 0 ⇒ GRANTED ∷ figures 0 ⇒ GRANTED ∷ figures 5 ⇒ UNKNOWN ∷ claim 6 0 0 ⇒ TAKEN ∷ done 5 0 0 ⇒ GRANTED ∷ figures 0 ⇒ GRANTED ∷ endOrder 0 ⇒ GRANTED ∷ figures 0 ⇒ UNKNOWN ∷ []))
     ∷ []
+
+-- ---- 02, Ask 9: "how many entries, which tasks done"
+pub record Figured : Type 0 where
+  pub of : Case
+  pub instance : ℕ
+  pub entries : ℕ
+  pub done : ℕ
+
+-- after the case, the instance has so many entries and these tasks done
+abbrev pub counts : Case → ℕ → ℕ → ℕ → Figured
+counts c i n m = record { of = c; instance = i; entries = n; done = m }
+
+-- order 0: task 0 done twice and held once more, task 1 held; order 2: task 1 done
+unfoldable pub twoOrders : Case
+twoOrders =
+    accepts (clerks 300 301)
+    (desks 300 301 ++ (openOrder 2 0 ⇒ GRANTED ∷ openOrder 3 0 ⇒ GRANTED ∷ claim 5 0 0 ⇒ GRANTED ∷ done 5 0 0 ⇒ GRANTED ∷ claim 6 2 1 ⇒ GRANTED ∷ claim 6 0 0 ⇒ GRANTED ∷ done 6 0 0 ⇒ GRANTED
+    ∷ done 6 2 1 ⇒ GRANTED ∷ claim 5 0 0 ⇒ GRANTED ∷ claim 6 0 1 ⇒ GRANTED ∷ claim 5 2 0 ⇒ GRANTED ∷ release 5 2 0 ⇒ GRANTED ∷ []))
+
+unfoldable pub figured : List Figured
+figured =
+    counts twoOrders 0 4 1
+    ∷ counts twoOrders 2 1 2
+    -- open, with no entry; not open
+    ∷ counts twoOrders 3 0 0
+    ∷ counts twoOrders 1 0 0
+    -- the listing ends its order
+    ∷ counts listing 0 0 0
+    ∷ []
+
+unfoldable pub figuresComeOut : Figured → Bool
+figuresComeOut c =
+    comesOut request engineOf (c .of)
+    && (let t = after request (engineOf (load (joined (c .of .policy)) .tables)) (each (λ x. x .request) (c .of .requests)) in
+    let f = figuresOf (c .instance) (t .orders .entries) in
+    eqb (f .entries) (c .entries) && eqb (f .done) (c .done))
 
 -- ---- 02, Ask 2: the place beside each reply. "each request line of 01's listing gains " 0", but for requests 4, 6 and 8, which gain " 1""
 pub record Places : Type 0 where
@@ -263,3 +304,7 @@ further-come-out = refl
 pub places-come-out : every placesComeOut placed ≡ true
 unfolding engineOpen wordsOpen clerks desks listing countLimit clerksOfThree placed samePlaces placesComeOut
 places-come-out = refl
+
+pub figures-come-out : every figuresComeOut figured ≡ true
+unfolding engineOpen questionsOpen wordsOpen clerks desks listing twoOrders figured figuresComeOut after
+figures-come-out = refl

@@ -1,4 +1,4 @@
--- Requests 48 to 52 and 57, and what 33 and 41 ask of the entries.
+-- Requests 48 to 52, 57 and 58, and what 33 and 41 ask of the entries.
 use Prim.Native.Nat.{ℕ, _/_, _%_}
 use mathlib.Core.Bool.{Bool, not, cond, _&&_, _||_}
 use mathlib.Core.List.{List, [], _∷_, _++_}
@@ -89,6 +89,10 @@ carried p t operation object = someBelow 256 (λ i. holds (isFor operation objec
 unfoldable pub taskCheckChecks : Engine → ℕ → ℕ → ℕ → ℕ → List Check
 taskCheckChecks t a b c m = holdChecks t a b c ++ ((not (carried (t .lower .policy .permissions) c (m % 65536) (m / 65536)), DENIED) ∷ [])
 
+-- ---- 02, Ask 9: "Refusals of the new question, kind 58 with instance a: SHAPE, RANGE, UNKNOWN." What it answers beside the reply stands in Questions.
+unfoldable pub figuresChecks : Engine → ℕ → List Check
+figuresChecks t a = (not (there (t .orders .opened a)), UNKNOWN) ∷ []
+
 -- ---- All of them; 33 and 41 with the lower part's checks first.
 unfoldable pub upperKinds : List (Kind Engine)
 upperKinds =
@@ -102,9 +106,10 @@ upperKinds =
     ∷ on 51 (λ t r. holdChecks t (r .a) (r .b) (r .c)) (λ t r. releaseNext t (r .a) (r .b) (r .c))
     ∷ on 52 (λ t r. holdChecks t (r .a) (r .b) (r .c)) (λ t r. doneNext t (r .a) (r .b) (r .c))
     ∷ on 57 (λ t r. taskCheckChecks t (r .a) (r .b) (r .c) (r .m)) (λ t r. t)
+    ∷ on 58 (λ t r. figuresChecks t (r .a)) (λ t r. t)
     ∷ []
 
 -- What this page defines, opened together where a case is computed.
 unfoldable pub requestsOpen : Unit {0}
-unfolding deleteAbove destroyAbove openChecks openNext endChecks endNext unknown claimChecks claimPlace claimNext holdChecks releaseNext turned doneNext carried taskCheckChecks upperKinds
+unfolding deleteAbove destroyAbove openChecks openNext endChecks endNext unknown claimChecks claimPlace claimNext holdChecks releaseNext turned doneNext carried taskCheckChecks figuresChecks upperKinds
 requestsOpen = tt

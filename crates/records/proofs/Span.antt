@@ -1,5 +1,5 @@
 -- A `match` over numbers against a definition over the same numbers: what an arm's keys and the default know, turned into the
--- definition's value by one test that antt computes, the `tt` at each use. Rests on no definition of the project.
+-- definition's value by one test that antt computes, the `tt` at each use.
 use mathlib.Core.Path.{_≡_, refl, _∙_, subst, sym, ap}
 use mathlib.Core.Bool.{Bool, true, false, not}
 use mathlib.Core.List.{List, [], _∷_}
@@ -8,6 +8,8 @@ use Prim.Native.Nat.{ℕ, zero, suc, _<_, _≤_}
 use native.Mathlib.Nat.{not-suc-le-zero, eq-or-lt-of-le, le-of-suc-le-suc}
 use lib.Dec.{T, leb, eqb, eqb→eq, le→leb, not-T}
 use types.Run.{OneOf}
+use borrow.Author.Tests.{ne-eqb}
+use Rattle.paper_lower.specs.Lists.{Every}
 
 -- ---- Tests over lists and spans of numbers.
 
@@ -97,6 +99,14 @@ no-hits : (arms : List (List ℕ)) (k : ℕ) → Rest arms k → T (hits arms k)
 no-hits [] k r t = t
 no-hits (ks ∷ arms) k r t =
     ⊎-elim (λ (h : T (hit ks k)). r .1 (one-of ks k h)) (λ (u : T (hits arms k)). no-hits arms k (r .0) u) (split (hit ks k) (hits arms k) t)
+
+-- the default's number is none of the keys, each by its test
+pub others : (ks : List ℕ) (k : ℕ) → Rest (oneEach ks) k → Every (λ x. eqb x k ≡ false) ks
+others ks k r = go ks [] r .1
+  where
+    go : (ks : List ℕ) (arms : List (List ℕ)) → Rest (onto ks arms) k → Rest arms k × Every (λ x. eqb x k ≡ false) ks
+    go [] arms r = (r, tt)
+    go (x ∷ xs) arms r = let p = go xs ((x ∷ []) ∷ arms) r in (p .0 .0, (ne-eqb x k (λ e. p .0 .1 (sym e)), p .1))
 
 -- a default that is never come to: each number that passes the test has a key; `key k` is what the `match` goes by
 pub no-other : (test : ℕ → Bool) (key : ℕ → ℕ) (arms : List (List ℕ)) (hi : ℕ) → T (allTo (λ k. imp (test k) (hits arms (key k))) hi)

@@ -159,6 +159,7 @@ rows policy =
     tally-release (t .orders) y h (r .a) (r .b) (r .c) (is-open t (r .a) (r .b) (r .c) (p .0)) (i .1 .ledger .one-holder (r .b) (r .c)) (not-false _ (p .1 .0)))
     ⨾ (λ t r g p i y h. tally-finish (t .orders) y h (r .a) (r .b) (r .c))
     ⨾ (λ t r g p i y h. h)
+    ⨾ (λ t r g p i y h. h)
     ⨾ (λ t r g p i y h. h) ⨾ (λ t r g p i y h. h) ⨾ (λ t r g p i y h. h) ⨾ (λ t r g p i y h. h) ⨾ (λ t r g p i y h. h) ⨾ (λ t r g p i y h. h)
     ⨾ (λ t r g p i y h. h) ⨾ (λ t r g p i y h. h) ⨾ (λ t r g p i y h. h) ⨾ tt
 

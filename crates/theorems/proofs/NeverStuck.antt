@@ -99,6 +99,7 @@ upper-rows policy =
     ap (onList (fixed (t .lower .policy)) j) (turned-same (λ e. e .task) (r .b) (r .c) (r .a) e refl)
     ∙ v j (sym (ap (t .orders .opened) (turned-same (λ e. e .instance) (r .b) (r .c) (r .a) e refl)) ∙ h)) (i .1)))
     ⨾ (λ t r g p i. i .1)
+    ⨾ (λ t r g p i. i .1)
     ⨾ tt
 
 rows : (policy : List Record) → Rows requestForms (λ n t r x. Unstuck policy t → Unstuck policy x) requestKinds

@@ -14,11 +14,27 @@ returns-3 c = simp (ne-eqb _ 0 (c .before .before .if1 .left), ne-eqb _ 1 (c .be
 
 returns-4 : tie.Need-returns-4
 returns-4 c =
-    simp (ne-eqb _ 0 (c .before .before .before .if1 .left), ne-eqb _ 1 (c .before .before .if2 .left), ne-eqb _ 2 (c .before .if3 .left), eq-eqb _ 4 (c .if4 .taken))
+    simp (ne-eqb _ 0 (c .before .before .before .if1 .left), ne-eqb _ 1 (c .before .before .if2 .left), ne-eqb _ 2 (c .before .if3 .left), eq-eqb _ 3 (c .if4 .taken))
 
 returns-5 : tie.Need-returns-5
 returns-5 c =
-    simp (ne-eqb _ 0 (c .before .before .before .if1 .left), ne-eqb _ 1 (c .before .before .if2 .left), ne-eqb _ 2 (c .before .if3 .left), ne-eqb _ 4 (c .if4 .left))
+    simp (
+      ne-eqb _ 0 (c .before .before .before .before .if1 .left),
+      ne-eqb _ 1 (c .before .before .before .if2 .left),
+      ne-eqb _ 2 (c .before .before .if3 .left),
+      ne-eqb _ 3 (c .before .if4 .left),
+      eq-eqb _ 4 (c .if5 .taken),
+    )
+
+returns-6 : tie.Need-returns-6
+returns-6 c =
+    simp (
+      ne-eqb _ 0 (c .before .before .before .before .if1 .left),
+      ne-eqb _ 1 (c .before .before .before .if2 .left),
+      ne-eqb _ 2 (c .before .before .if3 .left),
+      ne-eqb _ 3 (c .before .if4 .left),
+      ne-eqb _ 4 (c .if5 .left),
+    )
 
 pub mishantral-words-spec : {M : Type 1} → statement M
-mishantral-words-spec = tie.close (tie.spec returns returns-2 returns-3 returns-4 returns-5)
+mishantral-words-spec = tie.close (tie.spec returns returns-2 returns-3 returns-4 returns-5 returns-6)

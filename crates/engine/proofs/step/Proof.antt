@@ -1,3 +1,4 @@
+-- Written from Proof.tmpl by 'prove expand': edit that file.
 -- Each kind of the upper part, as a step of the three buffers; any other kind is the lower part's.
 use mathlib.Core.Path.{refl}
 use borrow.Author.Needs.{needs}
@@ -9,7 +10,7 @@ use Rattle.records.specs.Limits.{limitA, limitB, limitC, limitM, limitsOpen}
 use Rattle.records.proofs.Passing.{below}
 use Rattle.engine.proofs.Lifts.{of-policy, of-sessions, of-orders, of-claim, of-none, of-lower}
 use Rattle.engine.proofs.PlaceLaws.{no-claim}
-use Rattle.engine.proofs.LowerKinds.{lower-row, lower-limits}
+use Rattle.engine.proofs.LowerKinds.{lower-row, lower-limits, no-claim-number}
 use Rattle.engine.proofs.step.Statement.{statement}
 use Rattle.engine.proofs.step.Tie as tie
 
@@ -66,11 +67,18 @@ task-check-reply-requires c κs = ((c .before .before .before .before .before .b
 plain-requires-7 : tie.Need-plain-requires-7
 plain-requires-7 c κs = search needs
 
-step-requires : tie.Need-step-requires
-step-requires c κs = (c .before .before .before .before .before .before .pre .0 .0, (c .before .before .before .before .before .before .pre .0 .1 .0, lower-limits (c .before .before .match .rest) (c .before .before .before .before .before .before .pre .1)))
+figures-reply-requires : tie.Need-figures-reply-requires
+unfolding limitsOpen
+figures-reply-requires c κs = (c .before .before .before .before .before .pre .0 .1 .1 .0, below (limitA requestForms) (c .before .before .before .before .before .pre .1 .a) (c .before .match .keys9) 64 tt)
 
 plain-requires-8 : tie.Need-plain-requires-8
 plain-requires-8 c κs = search needs
+
+step-requires : tie.Need-step-requires
+step-requires c κs = (c .before .before .before .before .before .before .pre .0 .0, (c .before .before .before .before .before .before .pre .0 .1 .0, lower-limits (c .before .before .match .rest) (c .before .before .before .before .before .before .pre .1)))
+
+plain-requires-9 : tie.Need-plain-requires-9
+plain-requires-9 c κs = search needs
 
 same-length : tie.Need-same-length
 same-length c = search needs
@@ -167,12 +175,19 @@ returns-8 c = rw (c .before .before .before .before .before .match .keys8) (of-n
 same-length-21 : tie.Need-same-length-21
 same-length-21 c = search needs
 
+returns-9 : tie.Need-returns-9
+unfolding chosen requestKinds upperKinds placeOf
+returns-9 c = rw (c .before .before .before .match .keys9) (of-none (c .plain8 .ensures) refl (c .before .figures-reply .ensures (c .before .before .before .before .before .before .before .args .p .now) (c .before .before .before .before .before .before .before .args .s .now)), c .before .before .before .before .before .before .before .pre .0 .1 .1 .1)
+
 same-length-22 : tie.Need-same-length-22
 same-length-22 c = search needs
 
-returns-9 : tie.Need-returns-9
+same-length-23 : tie.Need-same-length-23
+same-length-23 c = search needs
+
+returns-10 : tie.Need-returns-10
 unfolding raised
-returns-9 c = rw (lower-row (c .before .before .before .before .before .before .before .before .match .rest)) (of-lower (c .plain8 .ensures) (no-claim _ _ _ (c .before .before .before .before .before .before .before .before .match .rest .0 .0 .0 .1)) (c .before .before .before .before .before .step .ensures), c .before .before .before .before .before .before .before .before .before .before .before .before .pre .0 .1 .1 .1)
+returns-10 c = rw (lower-row (c .before .before .before .before .before .before .before .before .match .rest)) (of-lower (c .plain9 .ensures) (no-claim _ _ _ (no-claim-number (c .before .before .before .before .before .before .before .before .match .rest))) (c .before .before .before .before .before .step .ensures), c .before .before .before .before .before .before .before .before .before .before .before .before .pre .0 .1 .1 .1)
 
 pub step-spec : {M : Type 1} → statement M
 step-spec =
@@ -193,8 +208,10 @@ step-spec =
     plain-requires-6
     task-check-reply-requires
     plain-requires-7
-    step-requires
+    figures-reply-requires
     plain-requires-8
+    step-requires
+    plain-requires-9
     same-length
     same-length-2
     same-length-3
@@ -224,5 +241,7 @@ step-spec =
     same-length-20
     returns-8
     same-length-21
+    returns-9
     same-length-22
-    returns-9)
+    same-length-23
+    returns-10)
