@@ -23,10 +23,11 @@ use Rattle.sets.proofs.Bits.{same-or-other}
 use Rattle.sets.proofs.SetLaws.{Part, part-has, collect-below, collect-lt}
 use Rattle.paper_upper.specs.Orders.{isDone, Engine, noOrders, inOrder, tasksDone}
 use Rattle.paper_upper.specs.Rules.{missing, before, ruleChecks}
+use Rattle.paper_upper.specs.Stuck.{ready, Orderly, freeTasks}
 use Rattle.paper_upper.specs.Requests.{unknown, openChecks, openNext, endNext, claimChecks, claimNext, releaseNext, doneNext, turned, upperKinds}
 use Rattle.paper_upper.specs.Engine.{requestKinds, request, engineOf}
 use Rattle.theorems.specs.Theorems.{tablesAfter, Fixed, fixed}
-use Rattle.theorems.specs.Stuck.{ready, Orderly, freeTasks, onList, NoneStuck, StuckAreNeverEntered, Passes, TheListPasses}
+use Rattle.theorems.specs.Stuck.{onList, NoneStuck, StuckAreNeverEntered, Passes, TheListPasses}
 use Rattle.theorems.proofs.EntryLaws.{has-where, turned-same}
 use Rattle.theorems.proofs.Replies.{engine-order}
 use Rattle.theorems.proofs.Rows.{Rows, run-keeps, engine-rows}
