@@ -1,7 +1,7 @@
 -- Templates and their prerequisites by computing: what 02's Ask 13 tells of each. A row is a policy, a template of it, and the answer's figures.
 use Prim.Native.Nat.{ℕ}
 use mathlib.Core.Bool.{Bool, true, false, _&&_, true≢false, false≢true}
-use mathlib.Core.Path.{_≡_, refl, sym}
+use mathlib.Core.Path.{_≡_, refl}
 use mathlib.Core.List.{List, [], _∷_, _++_}
 use lib.Dec.{eqb, lit<}
 use Rattle.paper_lower.specs.Sets.{empty}
