@@ -8,9 +8,8 @@ use lib.Dec.{eqb}
 use Rattle.paper_lower.specs.Sets.{Set, empty, has, plus, collect}
 use Rattle.paper_lower.specs.Lists.{Maybe, some, many}
 use Rattle.paper_lower.specs.Lists.Maybe.{none, just}
-use Rattle.paper_lower.specs.Checks.{Check, UNKNOWN}
 use Rattle.paper_lower.specs.Tables.{Tasks, Pair, Rules}
-use Rattle.paper_lower.specs.Policy.{tasksOf, hasTask}
+use Rattle.paper_lower.specs.Policy.{tasksOf}
 use Rattle.paper_upper.specs.Rules.{missing}
 
 -- every task required before t is had
@@ -64,11 +63,7 @@ stuckFigures m befores = stuckTasks m befores ∷ many (freeTasks m befores) ∷
 unfoldable pub stuckOf : Tasks → Rules → ℕ → List ℕ
 stuckOf k rules a = stuckFigures (tasksOf k a) (rules .befores)
 
--- ---- "Refusals: SHAPE, RANGE, UNKNOWN.": "a template has no task"
-unfoldable pub stuckChecks : Tasks → ℕ → List Check
-stuckChecks k a = (not (hasTask k a), UNKNOWN) ∷ []
-
 -- What this page defines, opened together where a case is computed.
 unfoldable pub stuckOpen : Unit {0}
-unfolding ready may lowestFrom goOn freeFrom freeTasks stuckTasks stuckOf stuckChecks
+unfolding ready may lowestFrom goOn freeFrom freeTasks stuckTasks stuckOf
 stuckOpen = tt

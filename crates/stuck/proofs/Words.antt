@@ -1,12 +1,12 @@
 -- The words of the answer, from a list written into zeros; and the stuck tasks as the others.
 use Prim.Native.Nat.{ℕ, zero, suc, _+_, _-_, _≤_, _^_, _<_}
 use mathlib.Core.Bool.{Bool, true, false, not, _&&_, _||_}
-use mathlib.Core.List.{List, [], _∷_, _++_, append-nil}
+use mathlib.Core.List.{List, [], _∷_, _++_}
 use mathlib.Core.Path.{_≡_, refl, sym, ap, _∙_}
 use native.Mathlib.Omega.{arith}
 use lib.Dec.{eqb, ltb}
 use lib.Bits.{bitAnd}
-use lib.ListN.{length, drop, set, replicate, length-replicate, drop-of-length-le}
+use lib.ListN.{length, drop, set, replicate, length-replicate}
 use lib.Seq.{sets, sets-eq}
 use borrow.Author.Tests.{ltb-true, ltb-false}
 use Rattle.paper_lower.specs.Sets.{Set, empty, has, plus, collect}
@@ -19,7 +19,8 @@ use Rattle.sets.proofs.Bits.{bit-and, bit-not, bit-above}
 use Rattle.sets.proofs.SetLaws.{has-empty, has-plus, same-members, collect-same, collect-below, collect-above, has-bit, hasnt-bit, bit-has, bit-hasnt}
 use Rattle.replies.proofs.SearchLaws.{collect-more}
 use Rattle.paper_upper.specs.Stuck.{may, lowestFrom, goOn, freeFrom, freeTasks, stuckTasks, stuckFigures, stuckOf}
-use Rattle.stuck.specs.Listing.{answerWords, padded, having, Listed}
+use Rattle.paper_upper.specs.Questions.{answerWords, padded}
+use Rattle.stuck.specs.Listing.{having, Listed}
 
 -- ---- the members of one set that are not in another, as the code takes them
 pub others-are : (m k : Set) → m < 2 ^ 64 → k < 2 ^ 64 → bitAnd m (2 ^ 64 - 1 - k) ≡ collect 64 (λ t. has m t && not (has k t))
@@ -90,12 +91,6 @@ zeros-left : (k n : ℕ) → drop k (zeros n) ≡ zeros (n - k)
 zeros-left zero n = let e : n - 0 ≡ n = omega arith in rw e
 zeros-left (suc k) zero = let e : 0 - suc k ≡ 0 = omega arith in rw e
 zeros-left (suc k) (suc n) = let e : suc n - suc k ≡ n - k = omega arith in rw e (zeros-left k n)
-
--- zeros to the end
-pub cleared : (l l₀ : List ℕ) (i : ℕ) → length l₀ ≡ answerWords → i ≡ answerWords → l ≡ zeros i ++ drop i l₀ → l ≡ zeros answerWords
-cleared l l₀ i n e h =
-    let d : drop answerWords l₀ ≡ [] = drop-of-length-le l₀ {i = answerWords} (omega arith) in
-    h ∙ ap (λ (k : ℕ). zeros k ++ drop k l₀) e ∙ ap (λ (r : List ℕ). zeros answerWords ++ r) d ∙ append-nil (zeros answerWords)
 
 pub written : (m : Set) (befores : List Pair) (l l′ : List ℕ) (had stuck : Set) → l ≡ replicate answerWords 0 → Listed m befores l l′ had
     → stuck ≡ collect 64 (λ t. has m t && not (has had t)) → set l′ 0 stuck ≡ padded (stuckFigures m befores)

@@ -1,21 +1,15 @@
 -- How the code finds the list: the tasks that wait, a number for a task or none, and what a walk along the list leaves.
-use Prim.Native.Nat.{ℕ, _-_}
+use Prim.Native.Nat.{ℕ}
 use mathlib.Core.Bool.{cond}
 use mathlib.Core.Path.{_≡_}
-use mathlib.Core.List.{List, [], _∷_, _++_}
-use lib.ListN.{length, set, replicate}
+use mathlib.Core.List.{List, [], _∷_}
+use lib.ListN.{set}
 use lib.Seq.{sets}
 use Rattle.paper_lower.specs.Sets.{Set, empty, has, plus}
 use Rattle.paper_lower.specs.Lists.{Maybe, many}
 use Rattle.paper_lower.specs.Lists.Maybe.{none, just}
 use Rattle.paper_lower.specs.Tables.{Pair}
 use Rattle.paper_upper.specs.Stuck.{freeTasks}
-
-abbrev pub answerWords : ℕ
-answerWords = 66
-
-unfoldable pub padded : List ℕ → List ℕ
-padded ws = ws ++ replicate (answerWords - length ws) 0
 
 -- the tasks that wait for one that is not had, one prerequisite more
 abbrev pub waits : Set → Pair → Set → Set

@@ -6,16 +6,15 @@ ghost use Prim.Native.Nat.{_<_};
 ghost use lib.ListN.{length, replicate};
 ghost use Rattle.paper_lower.specs.Sets.{has, collect};
 ghost use Rattle.paper_lower.specs.Policy.{tasksOf};
-ghost use Rattle.paper_upper.specs.Stuck.{may, lowestFrom, stuckOf, stuckChecks};
+ghost use Rattle.paper_upper.specs.Stuck.{may, lowestFrom, stuckOf};
+ghost use Rattle.paper_upper.specs.Requests.{stuckChecks};
+ghost use Rattle.paper_upper.specs.Questions.{answerWords, padded};
 ghost use Rattle.policy.specs.Layout.{policyWords, pairAt};
 ghost use Rattle.policy.specs.Reading.{policyOf};
 ghost use Rattle.policy.specs.Promises.{Judged};
-ghost use Rattle.stuck.specs.Listing.{waits, waiting, orElse, Listed, answerWords, padded};
+ghost use Rattle.stuck.specs.Listing.{waits, waiting, orElse, Listed};
 use replies::Reply;
 use sets::Set;
-
-// How many words an answer has: the set of stuck tasks, the number of free ones, and place for all.
-const WORDS: usize = 66;
 
 // ---- The reply.
 
@@ -121,23 +120,11 @@ fn tasks_of(p: &[u64], j: u64) -> Set
     all
 }
 
-fn clear(out: &mut [u64])
-    requires { ⌜ length (now out) ≡ answerWords ⌝ }
-    ensures { λ _. ⌜ now (out .exit) ≡ replicate answerWords 0 ⌝ }
-{
-    let mut i = 0;
-    while i < WORDS {
-        out[i] = 0;
-        i += 1;
-    }
-}
-
-// The answer about template j: its stuck tasks, the number of free ones, and these in their order.
+// The answer about template j, into words that are 0: its stuck tasks, the number of free ones, and these in their order.
 pub fn answer(p: &[u64], j: u64, out: &mut [u64])
-    requires { ⌜ (length (now p) ≡ policyWords) × ((j < 16) × (length (now out) ≡ answerWords)) ⌝ }
+    requires { ⌜ (length (now p) ≡ policyWords) × ((j < 16) × (now out ≡ replicate answerWords 0)) ⌝ }
     ensures { λ _. ⌜ now (out .exit) ≡ padded (stuckOf (policyOf (now (p .entry)) .tasks) (policyOf (now (p .entry)) .rules) j) ⌝ }
 {
-    clear(out);
     let m = tasks_of(p, j);
     let had = list(p, m, out);
     out[0] = others(m, had).bits;

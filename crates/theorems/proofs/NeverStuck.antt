@@ -104,6 +104,7 @@ upper-rows policy =
     ∙ v j (sym (ap (t .orders .opened) (turned-same (λ e. e .instance) (r .b) (r .c) (r .a) e refl)) ∙ h)) (i .1)))
     ⨾ (λ t r g p i. i .1)
     ⨾ (λ t r g p i. i .1)
+    ⨾ (λ t r g p i. i .1)
     ⨾ tt
 
 rows : (policy : List Record) → Rows requestForms (λ n t r x. Unstuck policy t → Unstuck policy x) requestKinds

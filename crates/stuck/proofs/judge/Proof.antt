@@ -1,6 +1,6 @@
 -- The one check.
 use borrow.Author.Needs.{needs}
-use Rattle.paper_upper.specs.Stuck.{stuckChecks}
+use Rattle.paper_upper.specs.Requests.{stuckChecks}
 use Rattle.stuck.proofs.judge.Statement.{statement}
 use Rattle.stuck.proofs.judge.Tie as tie
 

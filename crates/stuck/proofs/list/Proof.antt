@@ -6,7 +6,7 @@ use native.Mathlib.Omega.{arith}
 use borrow.Author.Needs.{needs}
 use lib.ListN.{length, length-set}
 use Rattle.policy.specs.Reading.{policyOf}
-use Rattle.stuck.specs.Listing.{answerWords}
+use Rattle.paper_upper.specs.Questions.{answerWords}
 use Rattle.stuck.proofs.Zeros.{found-below}
 use Rattle.stuck.proofs.Walk.{Going, begin, turn, none-left, all-done}
 use Rattle.stuck.proofs.list.Statement.{statement}
