@@ -28,8 +28,9 @@ use Rattle.theorems.proofs.Replies.{checks-in-order, refused-loads-are-empty}
 use Rattle.theorems.proofs.Theorems.{orders-keep-the-rules, clerks-keep-the-limits, first-rule-broken}
 use Rattle.theorems.proofs.Places.{places-are-true, placed-said}
 use Rattle.theorems.proofs.Meeting.{claims-do-not-meet}
+use Rattle.theorems.proofs.NeverStuck.{stuck-are-never-entered, before-refuses-nobody}
 use Rattle.demands.specs.Calls.{Request, Load, Called, Requests, allSaid, fitting, asked}
-use Rattle.demands.specs.Demands.{DemandOne, DemandTwo, OneAnswer, Upheld, DemandThree, EitherFirst, ClaimsDoNotMeet}
+use Rattle.demands.specs.Demands.{DemandOne, DemandTwo, OneAnswer, Upheld, DemandThree, EitherFirst, ClaimsDoNotMeet, CanFinish, StuckAreNeverEntered}
 use Rattle.demands.proofs.Calls.{fit-kept, request-listed, answered, answers, no-room, as-load, load-listed, load-reply, after-all, chain-run, told-fitting, said-fitting, told, reading}
 
 -- ---- loads
@@ -167,8 +168,17 @@ module _ {policy : Bytes} {x y z : Buffers} {reply : ℕ} {said : List Placed} (
     places = λ {claim} e r. let n = claimed r in rw (n .0, n .1) (rw heard at (places-are-true policy accepted ss claim e));
   }
 
+  can-finish : CanFinish policy said z
+  can-finish = record {
+    entries = rw heard at (stuck-are-never-entered policy accepted ss);
+    along = λ {claim} e n r q. before-refuses-nobody policy accepted ss claim e (rw (← heard) at n) (sym (claimed r .0) ∙ q);
+  }
+
 pub demand-three : DemandThree
 demand-three = record { upheld = λ l g c. upheld l g c }
+
+pub calls-never-enter-stuck : StuckAreNeverEntered
+calls-never-enter-stuck = record { upheld = λ l g c. can-finish l g c }
 
 -- ---- two claims, in either order
 call-on : {s : Bytes} {x y : Buffers} {q i : ℕ} → Request s x y q i → fit x ≡ true → (t : Engine) → SameTables (tablesOf x) t

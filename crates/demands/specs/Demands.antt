@@ -20,10 +20,11 @@ use Rattle.engine.specs.Exports.{LoadExported}
 use Rattle.theorems.specs.Replies.{FirstRefusal, checksOf, ChecksInOrder}
 use Rattle.theorems.specs.Outside.{hear, outside}
 use Rattle.theorems.specs.OverEntries.{claimRules, RoleLimits}
-use Rattle.theorems.specs.Theorems.{tablesAfter, Reaches, FirstBroken}
+use Rattle.theorems.specs.Theorems.{tablesAfter, Reaches, FirstBroken, fixed}
 use Rattle.theorems.specs.InUse.{inUse}
 use Rattle.theorems.specs.Places.{placedAfter, RuleAt}
 use Rattle.theorems.specs.Meeting.{Apart}
+use Rattle.theorems.specs.Stuck.{NoneStuck, NextOnList}
 use Rattle.demands.specs.Calls.{Request, Load, Requests, allSaid, fitting, asked}
 
 -- ---- Demand 1
@@ -114,3 +115,16 @@ pub record EitherFirst (c d : Bytes) (z : Buffers) : Type 0 where
 pub record ClaimsDoNotMeet : Type 0 where
   pub upheld : {policy : Bytes} {x y z : Buffers} {reply : ℕ} {said : List Placed} → Load policy x y reply → reply ≡ GRANTED → Requests y said z
       → (c d : Bytes) → Apart c d → inUse (allSaid said) + 2 ≤ 2048 → EitherFirst c d z
+
+-- ---- 02, Ask 13: "which of its tasks can never be claimed because of prerequisites"
+pub record CanFinish (policy : Bytes) (said : List Placed) (z : Buffers) : Type 0 where
+  -- no task with an entry is stuck, in any open order, from the requests and answers alone
+  pub entries : NoneStuck (fixed (load policy .tables)) (outside policy (allSaid said) .orders)
+  -- and along the list of the free ones BEFORE refuses nobody
+  pub along : {claim : Bytes} {w : Buffers} {reply place : ℕ} → decode claim .kind ≡ 50
+      → NextOnList (fixed (load policy .tables)) (outside policy (allSaid said) .orders) (decode claim)
+      → Request claim z w reply place → reply ≡ BEFORE → ⊥
+
+pub record StuckAreNeverEntered : Type 0 where
+  pub upheld : {policy : Bytes} {x y z : Buffers} {reply : ℕ} {said : List Placed} → Load policy x y reply → reply ≡ GRANTED → Requests y said z
+      → CanFinish policy said z

@@ -20,7 +20,7 @@ use Rattle.paper_lower.specs.Policy.{tasksOf, hasTask, assignChecks, giveChecks
 use Rattle.paper_lower.specs.Roles.{joinChecks, deleteChecks, takeBackChecks, withdrawChecks, roleKinds}
 use Rattle.paper_lower.specs.Sessions.{createChecks, destroyChecks, activateChecks, deactivateChecks, checkChecks, sessionKinds, lowerKinds, lowerOf}
 use Rattle.paper_upper.specs.Orders.{Engine, noOrders}
-use Rattle.paper_upper.specs.Requests.{deleteAbove, destroyAbove, openChecks, endChecks, unknown, claimChecks, holdChecks, taskCheckChecks, figuresChecks, upperKinds}
+use Rattle.paper_upper.specs.Requests.{deleteAbove, destroyAbove, openChecks, endChecks, unknown, claimChecks, holdChecks, taskCheckChecks, figuresChecks, stuckChecks, upperKinds}
 use Rattle.paper_upper.specs.Engine.{raised, sharedKinds, requestKinds, engineOf}
 use Rattle.policy.specs.Reading.{policyOf}
 use Rattle.sessions.specs.Reading.{sessionsOf}
@@ -54,10 +54,14 @@ lone-open : (a b : ℕ) → first (openChecks noEngine a b) ≡ UNKNOWN
 unfolding openChecks engineOf lowerOf
 lone-open a b = rw (no-task b)
 
+lone-stuck : (a : ℕ) → first (stuckChecks (noPolicy .tasks) a) ≡ UNKNOWN
+unfolding stuckChecks
+lone-stuck a = rw (no-task a)
+
 all-lone : Every Lone requestKinds
 unfolding requestKinds upperKinds sharedKinds raised lowerKinds roleKinds sessionKinds keep each engineOf lowerOf noPolicy noSessions noOrders deleteChecks destroyChecks deleteAbove destroyAbove endChecks unknown claimChecks holdChecks taskCheckChecks figuresChecks assignChecks takeBackChecks giveChecks withdrawChecks createChecks activateChecks deactivateChecks checkChecks holds
 all-lone =
-    (λ r h. refl) ⨾ (λ r h. refl) ⨾ (λ r h. lone-open (r .a) (r .b)) ⨾ (λ r h. refl) ⨾ (λ r h. refl) ⨾ (λ r h. refl) ⨾ (λ r h. refl) ⨾ (λ r h. refl) ⨾ (λ r h. refl)
+    (λ r h. refl) ⨾ (λ r h. refl) ⨾ (λ r h. lone-open (r .a) (r .b)) ⨾ (λ r h. refl) ⨾ (λ r h. refl) ⨾ (λ r h. refl) ⨾ (λ r h. refl) ⨾ (λ r h. refl) ⨾ (λ r h. refl) ⨾ (λ r h. lone-stuck (r .a))
     ⨾ (λ r h. absurd (h refl)) ⨾ (λ r h. refl) ⨾ (λ r h. refl) ⨾ (λ r h. rw (has-empty (r .a))) ⨾ (λ r h. rw (has-empty (r .a))) ⨾ (λ r h. refl) ⨾ (λ r h. refl) ⨾ (λ r h. refl) ⨾ (λ r h. refl) ⨾ tt
 
 -- a kind that has a form has a row
@@ -82,7 +86,7 @@ known-row p (f ∷ fs) h n t = go (eqb (f .kind) n) refl t (known-row p fs (h .1
 
 all-rows : Every (λ f. some (λ k. eqb (k .kind) (f .kind)) requestKinds ≡ true) requestForms
 unfolding requestForms lowerForms upperForms requestKinds upperKinds sharedKinds raised lowerKinds roleKinds sessionKinds keep each some
-all-rows = refl ⨾ refl ⨾ refl ⨾ refl ⨾ refl ⨾ refl ⨾ refl ⨾ refl ⨾ refl ⨾ refl ⨾ refl ⨾ refl ⨾ refl ⨾ refl ⨾ refl ⨾ refl ⨾ refl ⨾ refl ⨾ tt
+all-rows = refl ⨾ refl ⨾ refl ⨾ refl ⨾ refl ⨾ refl ⨾ refl ⨾ refl ⨾ refl ⨾ refl ⨾ refl ⨾ refl ⨾ refl ⨾ refl ⨾ refl ⨾ refl ⨾ refl ⨾ refl ⨾ refl ⨾ tt
 
 -- ---- 32
 no-roles : (r : Record) → (r .m ≡ 0 → ⊥) → first (chosen requestKinds 32 .checks noEngine r) ≡ UNKNOWN

@@ -19,7 +19,7 @@ use Rattle.records.proofs.Span.{Rest, oneEach, others}
 
 -- the kinds that the upper part answers
 abbrev pub upperNumbers : List ℕ
-upperNumbers = 33 ∷ 41 ∷ 48 ∷ 49 ∷ 50 ∷ 51 ∷ 52 ∷ 57 ∷ 58 ∷ []
+upperNumbers = 33 ∷ 41 ∷ 48 ∷ 49 ∷ 50 ∷ 51 ∷ 52 ∷ 57 ∷ 58 ∷ 60 ∷ []
 
 -- ---- rows
 skip : {T : Type 0} (ks js : List (Kind T)) (n : ℕ) → Every (λ k. eqb (k .kind) n ≡ false) ks → chosen (ks ++ js) n ≡ chosen js n

@@ -13,7 +13,7 @@ use Rattle.paper_lower.proofs.KindLaws.{of-chosen}
 use Rattle.paper_upper.specs.Orders.{Entry, Same, Engine, SameTables, tasksBy, tasksDone, tasksOthers}
 use Rattle.paper_upper.specs.Orders.Same.{one}
 use Rattle.paper_upper.specs.Rules.{ruleChecks}
-use Rattle.paper_upper.specs.Requests.{deleteAbove, destroyAbove, openChecks, openNext, endChecks, endNext, unknown, claimChecks, claimNext, holdChecks, releaseNext, doneNext, taskCheckChecks, claimPlace, figuresChecks, upperKinds}
+use Rattle.paper_upper.specs.Requests.{deleteAbove, destroyAbove, openChecks, openNext, endChecks, endNext, unknown, claimChecks, claimNext, holdChecks, releaseNext, doneNext, taskCheckChecks, claimPlace, figuresChecks, stuckChecks, upperKinds}
 use Rattle.paper_upper.specs.Engine.{raised, sharedKinds, requestKinds, request, placeOf, placeTo, placedRun}
 use Rattle.engine.specs.Respects.{Respects, RunsRespect}
 use Rattle.links.proofs.SameLaws.{some-same, many-same, many-kept, tasks-same, keep-same, each-same}
@@ -45,7 +45,7 @@ unfolding raised
 lower-row k x opened es es′ h r = (refl, left h)
 
 upper-rows : Every InAnyOrder upperKinds
-unfolding upperKinds deleteAbove destroyAbove openChecks openNext endChecks endNext claimChecks claimNext holdChecks releaseNext doneNext taskCheckChecks figuresChecks ruleChecks tasksBy tasksDone tasksOthers unknown
+unfolding upperKinds deleteAbove destroyAbove openChecks openNext endChecks endNext claimChecks claimNext holdChecks releaseNext doneNext taskCheckChecks figuresChecks stuckChecks ruleChecks tasksBy tasksDone tasksOthers unknown
 upper-rows =
     (λ x opened es es′ h r. (rw (some-same _ h), left h))
     ⨾ (λ x opened es es′ h r. (rw (some-same _ h), left h))
@@ -55,6 +55,7 @@ upper-rows =
     ⨾ (λ x opened es es′ h r. (rw (some-same _ h), left (keep-same _ h)))
     ⨾ (λ x opened es es′ h r. (rw (some-same _ h), left (each-same _ h)))
     ⨾ (λ x opened es es′ h r. (rw (some-same _ h), left h))
+    ⨾ (λ x opened es es′ h r. (refl, left h))
     ⨾ (λ x opened es es′ h r. (refl, left h))
     ⨾ tt
 

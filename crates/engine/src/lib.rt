@@ -39,6 +39,7 @@ fn step(r: Record, p: &mut [u64], s: &mut [u64], o: &mut [u64]) -> Judged
         52 => plain(claims::finish(p, s, o, r.a, r.b, r.c)),
         57 => plain(claims::task_check_reply(p, s, o, r.a, r.b, r.c, r.m)),
         58 => plain(orders::figures_reply(o, r.a)),
+        60 => plain(stuck::judge(p, r.a)),
         _ => plain(lower::step(r, p, s)),
     }
 }

@@ -101,6 +101,8 @@ upperForms =
     ∷ form 57 · aSubject anOrder aTask pair
     -- 02, Ask 9: "kind 58 with instance a"
     ∷ form 58 · anOrder · · ·
+    -- Ask 13: "kind 60, a question about template a"
+    ∷ form 60 · aTemplate · · ·
     ∷ []
 
 unfoldable pub requestForms : List Form

@@ -120,6 +120,9 @@ taskCheck s i a operation object = record-of 57 0 s i a (operation + 65536 * obj
 abbrev pub figures : ℕ → Bytes
 figures i = record-of 58 0 i 0 0 0
 
+abbrev pub stuckTasks : ℕ → Bytes
+stuckTasks j = record-of 60 0 j 0 0 0
+
 -- ---- Cases.
 
 infix 70 _⇒_

@@ -9,7 +9,7 @@ use Rattle.paper_lower.specs.Lists.{every, each}
 use Rattle.paper_lower.specs.Records.{Bytes}
 use Rattle.paper_lower.specs.Kinds.{Said, after}
 use Rattle.paper_lower.specs.Checks.{GRANTED, SHAPE, RANGE, UNKNOWN, TAKEN, IN-USE, RULE, NOT-ASSIGNED, STATIC, DYNAMIC, NO-ROLE, NOT-YOURS, DENIED, BEFORE, SEPARATION, BLOCK, ALONE, BOUND, COUNT}
-use Rattle.paper_lower.specs.Words.{Case, refuses, accepts, _⇒_, joined, comesOut, wordsOpen, record-of, user, role, permission, userHas, roleHas, task, openTo, carries, staticSet, dynamicSet, taskSet, block, ban, atMost, bound, isBefore, addUser, deleteUser, assign, takeBack, give, withdraw, create, destroy, activate, deactivate, openOrder, endOrder, claim, release, done, check, taskCheck, figures}
+use Rattle.paper_lower.specs.Words.{Case, refuses, accepts, _⇒_, joined, comesOut, wordsOpen, record-of, user, role, permission, userHas, roleHas, task, openTo, carries, staticSet, dynamicSet, taskSet, block, ban, atMost, bound, isBefore, addUser, deleteUser, assign, takeBack, give, withdraw, create, destroy, activate, deactivate, openOrder, endOrder, claim, release, done, check, taskCheck, figures, stuckTasks}
 use Rattle.paper_lower.specs.Load.{load}
 use Rattle.paper_upper.specs.Questions.{figuresOf, questionsOpen}
 use Rattle.paper_upper.specs.Engine.{request, Placed, placedRun, engineOf, engineOpen}
@@ -199,6 +199,10 @@ further =
     ∷ accepts (clerks 300 301)
     (desks 300 301 ++ (record-of 58 0 64 1 0 0 ⇒ SHAPE ∷ record-of 58 1 0 0 0 0 ⇒ SHAPE ∷ record-of 58 0 0 0 1 0 ⇒ SHAPE ∷ record-of 58 0 0 0 0 1 ⇒ SHAPE ∷ figures 64 ⇒ RANGE ∷ figures 63 ⇒ UNKNOWN ∷ figures 1 ⇒ UNKNOWN ∷ figures 0 ⇒ GRANTED
     ∷ claim 5 0 0 ⇒ GRANTED ∷ figures 0 ⇒ GRANTED ∷ figures 5 ⇒ UNKNOWN ∷ claim 6 0 0 ⇒ TAKEN ∷ done 5 0 0 ⇒ GRANTED ∷ figures 0 ⇒ GRANTED ∷ endOrder 0 ⇒ GRANTED ∷ figures 0 ⇒ UNKNOWN ∷ []))
+    -- Ask 13, kind 60: SHAPE before RANGE before UNKNOWN; granted of a template that has a task, with stuck ones and without, and nothing changes
+    ∷ accepts (clerks 300 301 ++ (task 2 15 ∷ task 3 15 ∷ isBefore 2 3 ∷ isBefore 3 2 ∷ []))
+    (record-of 60 0 16 1 0 0 ⇒ SHAPE ∷ record-of 60 1 0 0 0 0 ⇒ SHAPE ∷ record-of 60 0 0 0 1 0 ⇒ SHAPE ∷ record-of 60 0 0 0 0 1 ⇒ SHAPE ∷ stuckTasks 16 ⇒ RANGE ∷ stuckTasks 1 ⇒ UNKNOWN ∷ stuckTasks 0 ⇒ GRANTED
+    ∷ stuckTasks 15 ⇒ GRANTED ∷ openOrder 0 15 ⇒ GRANTED ∷ create 5 300 1 ⇒ GRANTED ∷ claim 5 0 2 ⇒ NO-ROLE ∷ openOrder 1 0 ⇒ GRANTED ∷ claim 5 1 0 ⇒ GRANTED ∷ stuckTasks 0 ⇒ GRANTED ∷ [])
     ∷ []
 
 -- ---- 02, Ask 9: "how many entries, which tasks done"

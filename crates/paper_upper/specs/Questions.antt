@@ -8,6 +8,7 @@ use Rattle.paper_lower.specs.Sets.{Set}
 use Rattle.paper_lower.specs.Lists.{some, many, keep}
 use Rattle.paper_lower.specs.Records.{Record}
 use Rattle.paper_upper.specs.Orders.{Entry, Engine, inOrder, tasksDone}
+use Rattle.paper_upper.specs.Stuck.{stuckOf, stuckOpen}
 
 -- ---- Document 02, Ask 9: "the question "how many entries, which tasks done" for an instance, .. equal to a walk of the whole ledger"
 pub record Figures : Type 0 where
@@ -29,7 +30,7 @@ padded ws = ws ++ replicate (answerWords - length ws) 0
 
 -- the kinds that are questions
 abbrev pub questionNumbers : List ℕ
-questionNumbers = 58 ∷ []
+questionNumbers = 58 ∷ 60 ∷ []
 
 unfoldable pub asks : ℕ → Bool
 asks k = some (eqb k) questionNumbers
@@ -38,12 +39,12 @@ asks k = some (eqb k) questionNumbers
 unfoldable pub answered : Engine → Record → List ℕ
 answered t r =
     cond (eqb (r .kind) 58) (figureWords (figuresOf (r .a) (t .orders .entries)))
-    []
+    (cond (eqb (r .kind) 60) (stuckOf (t .lower .policy .tasks) (t .lower .policy .rules) (r .a)) [])
 
 unfoldable pub answerTo : Engine → Record → List ℕ
 answerTo t r = padded (answered t r)
 
 -- What this page defines, opened together where a case is computed.
 unfoldable pub questionsOpen : Unit {0}
-unfolding figuresOf padded asks answered answerTo
+unfolding stuckOpen figuresOf padded asks answered answerTo
 questionsOpen = tt

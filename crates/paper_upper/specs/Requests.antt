@@ -1,4 +1,4 @@
--- Requests 48 to 52, 57 and 58, and what 33 and 41 ask of the entries.
+-- Requests 48 to 52, 57, 58 and 60, and what 33 and 41 ask of the entries.
 use Prim.Native.Nat.{ℕ, _/_, _%_}
 use mathlib.Core.Bool.{Bool, not, cond, _&&_, _||_}
 use mathlib.Core.List.{List, [], _∷_, _++_}
@@ -8,7 +8,7 @@ use Rattle.paper_lower.specs.Lists.{upd, someBelow, holds, there, is, some, man
 use Rattle.paper_lower.specs.Lists.Maybe.{none, just}
 use Rattle.paper_lower.specs.Checks.{Check, UNKNOWN, TAKEN, IN-USE, NO-ROLE, NOT-YOURS, DENIED, FULL}
 use Rattle.paper_lower.specs.Kinds.{Kind, on}
-use Rattle.paper_lower.specs.Tables.{Permissions, withPolicy, withSessions}
+use Rattle.paper_lower.specs.Tables.{Permissions, Tasks, withPolicy, withSessions}
 use Rattle.paper_lower.specs.Policy.{hasTask, isFor}
 use Rattle.paper_lower.specs.Roles.{deleteChecks, deleteNext}
 use Rattle.paper_lower.specs.Sessions.{destroyChecks, destroyNext}
@@ -93,6 +93,10 @@ taskCheckChecks t a b c m = holdChecks t a b c ++ ((not (carried (t .lower .poli
 unfoldable pub figuresChecks : Engine → ℕ → List Check
 figuresChecks t a = (not (there (t .orders .opened a)), UNKNOWN) ∷ []
 
+-- ---- Ask 13: "kind 60, a question about template a .. Refusals: SHAPE, RANGE, UNKNOWN." UNKNOWN: "a template has no task". What it answers stands in Stuck.
+unfoldable pub stuckChecks : Tasks → ℕ → List Check
+stuckChecks k a = (not (hasTask k a), UNKNOWN) ∷ []
+
 -- ---- All of them; 33 and 41 with the lower part's checks first.
 unfoldable pub upperKinds : List (Kind Engine)
 upperKinds =
@@ -107,9 +111,10 @@ upperKinds =
     ∷ on 52 (λ t r. holdChecks t (r .a) (r .b) (r .c)) (λ t r. doneNext t (r .a) (r .b) (r .c))
     ∷ on 57 (λ t r. taskCheckChecks t (r .a) (r .b) (r .c) (r .m)) (λ t r. t)
     ∷ on 58 (λ t r. figuresChecks t (r .a)) (λ t r. t)
+    ∷ on 60 (λ t r. stuckChecks (t .lower .policy .tasks) (r .a)) (λ t r. t)
     ∷ []
 
 -- What this page defines, opened together where a case is computed.
 unfoldable pub requestsOpen : Unit {0}
-unfolding deleteAbove destroyAbove openChecks openNext endChecks endNext unknown claimChecks claimPlace claimNext holdChecks releaseNext turned doneNext carried taskCheckChecks figuresChecks upperKinds
+unfolding deleteAbove destroyAbove openChecks openNext endChecks endNext unknown claimChecks claimPlace claimNext holdChecks releaseNext turned doneNext carried taskCheckChecks figuresChecks stuckChecks upperKinds
 requestsOpen = tt

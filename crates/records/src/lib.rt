@@ -157,6 +157,7 @@ fn form_of(kind: u64) -> Form
         56 => Form(LOWER, NO_N, NO_M, SUBJECT, ANY, ANY),
         57 => Form(UPPER, NO_N, PAIR, SUBJECT, ORDER, TASK),
         58 => Form(UPPER, NO_N | NO_B | NO_C, NO_M, ORDER, 0, 0),
+        60 => Form(UPPER, NO_N | NO_B | NO_C, NO_M, TEMPLATE, 0, 0),
         _ => Form(0, 0, 0, 0, 0, 0),
     }
 }

@@ -160,6 +160,7 @@ rows policy =
     ⨾ (λ t r g p i y h. tally-finish (t .orders) y h (r .a) (r .b) (r .c))
     ⨾ (λ t r g p i y h. h)
     ⨾ (λ t r g p i y h. h)
+    ⨾ (λ t r g p i y h. h)
     ⨾ (λ t r g p i y h. h) ⨾ (λ t r g p i y h. h) ⨾ (λ t r g p i y h. h) ⨾ (λ t r g p i y h. h) ⨾ (λ t r g p i y h. h) ⨾ (λ t r g p i y h. h)
     ⨾ (λ t r g p i y h. h) ⨾ (λ t r g p i y h. h) ⨾ (λ t r g p i y h. h) ⨾ tt
 

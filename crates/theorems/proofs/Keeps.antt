@@ -107,6 +107,7 @@ upper-rows policy =
     ⨾ (λ t r g p i. (i .0, sound-finish policy (t .orders) (i .1) (r .a) (r .b) (r .c), i .2))
     ⨾ (λ t r g p i. i)
     ⨾ (λ t r g p i. i)
+    ⨾ (λ t r g p i. i)
     ⨾ tt
 
 pub kept-rows : (policy : List Record) → Rows requestForms (λ n t r x. Kept policy t → Kept policy x) requestKinds

@@ -2,14 +2,16 @@
 use Prim.Native.Nat.{ℕ, _<_, _^_}
 use mathlib.Core.Path.{_≡_, refl, sym, ap, subst, _∙_}
 use mathlib.Core.Logic.{⊎-elim}
-use mathlib.Core.Bool.{Bool, true, false, not, _&&_, true≢false}
-use mathlib.Core.List.{List, [], _∷_}
-use borrow.Author.Tests.{eqb-true, eqb-false, not-true, not-false}
+use mathlib.Core.Bool.{Bool, true, false, not, _&&_, _||_, or-true, true≢false, false≢true}
+use mathlib.Core.List.{List, [], _∷_, _++_}
+use native.Mathlib.Omega.{arith}
+use borrow.Author.Tests.{eqb-true, eqb-false, eq-eqb, not-true, not-false}
 use lib.Dec.{eqb}
 use Rattle.paper_lower.specs.Sets.{Set, empty, has, plus}
-use Rattle.paper_lower.specs.Lists.{holds, there, is, Every}
+use Rattle.paper_lower.specs.Lists.{holds, there, is, some, Every}
 use Rattle.paper_lower.specs.Lists.Maybe.{none, just}
-use Rattle.paper_lower.specs.Records.{Bytes, Record}
+use Rattle.paper_lower.specs.Checks.{BEFORE}
+use Rattle.paper_lower.specs.Records.{Bytes, Record, decode}
 use Rattle.paper_lower.specs.Forms.{requestForms}
 use Rattle.paper_lower.specs.Tables.{Pair, Rules}
 use Rattle.paper_lower.specs.Policy.{tasksOf}
@@ -20,15 +22,17 @@ use Rattle.paper_lower.specs.Sessions.{lowerKinds, lowerOf}
 use Rattle.paper_lower.proofs.ListLaws.{or-none, both, upd-other, every-map, every-both, every-kept, every-each, some-elim, some-none, none-some, place-none, none-place, _⨾_}
 use Rattle.paper_lower.proofs.CheckLaws.{Passed}
 use Rattle.sets.proofs.Bits.{same-or-other}
-use Rattle.sets.proofs.SetLaws.{Part, part-has, collect-below, collect-lt}
+use Rattle.sets.proofs.SetLaws.{Part, part-has, collect-below, collect-lt, has-empty, plus-member}
 use Rattle.paper_upper.specs.Orders.{isDone, Engine, noOrders, inOrder, tasksDone}
 use Rattle.paper_upper.specs.Rules.{missing, before, ruleChecks}
+use Rattle.paper_upper.specs.Stuck.{ready, Orderly, freeTasks}
 use Rattle.paper_upper.specs.Requests.{unknown, openChecks, openNext, endNext, claimChecks, claimNext, releaseNext, doneNext, turned, upperKinds}
 use Rattle.paper_upper.specs.Engine.{requestKinds, request, engineOf}
 use Rattle.theorems.specs.Theorems.{tablesAfter, Fixed, fixed}
-use Rattle.theorems.specs.Stuck.{ready, Orderly, freeTasks, onList, NoneStuck, StuckAreNeverEntered, Passes, TheListPasses}
+use Rattle.theorems.specs.Stuck.{onList, NoneStuck, StuckAreNeverEntered, Passes, TheListPasses, BeforeRefusesNobody}
 use Rattle.theorems.proofs.EntryLaws.{has-where, turned-same}
 use Rattle.theorems.proofs.Replies.{engine-order}
+use Rattle.theorems.proofs.FirstRule.{rules-say}
 use Rattle.theorems.proofs.Rows.{Rows, run-keeps, engine-rows}
 use Rattle.theorems.proofs.WellMade.{is-just}
 use Rattle.theorems.proofs.Keeps.{Kept, kept-rows, kept-load}
@@ -100,6 +104,7 @@ upper-rows policy =
     ∙ v j (sym (ap (t .orders .opened) (turned-same (λ e. e .instance) (r .b) (r .c) (r .a) e refl)) ∙ h)) (i .1)))
     ⨾ (λ t r g p i. i .1)
     ⨾ (λ t r g p i. i .1)
+    ⨾ (λ t r g p i. i .1)
     ⨾ tt
 
 rows : (policy : List Record) → Rows requestForms (λ n t r x. Unstuck policy t → Unstuck policy x) requestKinds
@@ -136,3 +141,36 @@ orderly-passes m k l had (t ∷ ts) o = (
 
 pub the-list-passes : TheListPasses
 the-list-passes m k l = orderly-passes m k l empty (freeTasks m (k .befores)) (answered m (k .befores) l .orderly)
+
+-- at one place of a list
+passes-at : (k : Rules) (had : Set) (front : List ℕ) (t : ℕ) (back : List ℕ) → Passes k had (front ++ (t ∷ back)) → (finished : Set)
+    → ((x : ℕ) → has had x ≡ true → has finished x ≡ true) → ((x : ℕ) → some (eqb x) front ≡ true → has finished x ≡ true) → before k finished t ≡ 0
+unfolding some
+passes-at k had [] t back p finished h d = p .0 finished h
+passes-at k had (s ∷ front) t back p finished h d =
+    passes-at k (plus had s) front t back (p .1) finished
+    (λ x e. ⊎-elim (λ (q : x ≡ s). d x (ap (λ (b : Bool). b || some (eqb x) front) (eq-eqb x s q))) (λ q. h x q) (plus-member had s x e))
+    (λ x e. d x (ap (λ (b : Bool). eqb x s || b) e ∙ or-true (eqb x s)))
+
+-- a claim that BEFORE refuses, by its check
+refused-before : (t : Engine) (s : Bytes) → decode s .kind ≡ 50 → request t s .reply ≡ BEFORE
+    → before (t .lower .policy .rules) (tasksDone (decode s .b) (t .orders .entries)) (decode s .c) ≡ 0 → ⊥
+unfolding ruleChecks
+refused-before t s e q z =
+    let says = rules-say t s e (λ l. let n : ⊥ = omega arith in absurd n) in
+    false≢true (ap (λ (k : ℕ). not (eqb k 0)) (sym z) ∙ says .0 .1 q)
+
+pub before-refuses-nobody : BeforeRefusesNobody
+unfolding engineOf lowerOf
+before-refuses-nobody policy accepted ss claim e n q =
+    let t = tablesAfter policy ss in
+    let f : fixed (t .lower .policy) ≡ fixed (load policy .tables) = fixed-after (engineOf (load policy .tables)) ss in
+    let k : Rules = load policy .tables .rules in
+    let m : Set = tasksOf (load policy .tables .tasks) (n .template) in
+    let passes : Passes k empty (freeTasks m (k .befores)) = the-list-passes m k (unfold tasksOf in collect-lt 64 _) in
+    let told : (x : ℕ) → some (eqb x) (n .front) ≡ true → has (tasksDone (decode claim .b) (t .orders .entries)) x ≡ true =
+    (rw (told-is-true policy accepted ss) at (n .done)) in
+    refused-before t claim e q
+    (ap (λ (x : Fixed). before (x .rules) (tasksDone (decode claim .b) (t .orders .entries)) (decode claim .c)) f
+    ∙ passes-at k empty (n .front) (decode claim .c) (n .back) (rw (n .list) at passes) (tasksDone (decode claim .b) (t .orders .entries))
+    (λ x h. absurd (false≢true (sym (has-empty x) ∙ h))) told)

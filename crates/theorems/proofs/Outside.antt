@@ -37,7 +37,7 @@ Heard k = (t : Engine) (r : Record) → chosen telling (k .kind) .next (shown t)
 upper-rows : Every Heard upperKinds
 unfolding upperKinds telling chosen deleteNext destroyNext openNext endNext claimNext releaseNext doneNext turned
 upper-rows =
-    (λ t r. refl) ⨾ (λ t r. refl) ⨾ (λ t r. refl) ⨾ (λ t r. refl) ⨾ (λ t r. refl) ⨾ (λ t r. refl) ⨾ (λ t r. refl) ⨾ (λ t r. refl) ⨾ (λ t r. refl) ⨾ tt
+    (λ t r. refl) ⨾ (λ t r. refl) ⨾ (λ t r. refl) ⨾ (λ t r. refl) ⨾ (λ t r. refl) ⨾ (λ t r. refl) ⨾ (λ t r. refl) ⨾ (λ t r. refl) ⨾ (λ t r. refl) ⨾ (λ t r. refl) ⨾ tt
 
 request-rows : Every Heard requestKinds
 unfolding raised

@@ -22,7 +22,7 @@ use Rattle.paper_lower.proofs.ListLaws.{both, every-map, every-append, every-ea
 use Rattle.paper_lower.proofs.CheckLaws.{none-applies}
 use Rattle.paper_lower.proofs.KindLaws.{AllNumbered, of-chosen}
 use Rattle.paper_upper.specs.Rules.{ruleChecks}
-use Rattle.paper_upper.specs.Requests.{deleteAbove, destroyAbove, openChecks, endChecks, claimChecks, holdChecks, taskCheckChecks, figuresChecks, upperKinds}
+use Rattle.paper_upper.specs.Requests.{deleteAbove, destroyAbove, openChecks, endChecks, claimChecks, holdChecks, taskCheckChecks, figuresChecks, stuckChecks, upperKinds}
 use Rattle.paper_upper.specs.Orders.{Engine}
 use Rattle.paper_upper.specs.Engine.{raised, sharedKinds, requestKinds, request}
 use Rattle.theorems.specs.Replies.{rising, InOrder, FirstRefusal, checksOf, ChecksInOrder, Listed, RepliesAreListed, RefusedLoadsAreEmpty}
@@ -48,9 +48,9 @@ lower-order =
     ⨾ (λ t r. refl) ⨾ (λ t r. refl) ⨾ (λ t r. refl) ⨾ (λ t r. refl) ⨾ (λ t r. refl) ⨾ tt
 
 upper-order : InOrder upperKinds
-unfolding rising upperKinds deleteChecks deleteAbove destroyChecks destroyAbove openChecks endChecks claimChecks ruleChecks holdChecks taskCheckChecks figuresChecks
+unfolding rising upperKinds deleteChecks deleteAbove destroyChecks destroyAbove openChecks endChecks claimChecks ruleChecks holdChecks taskCheckChecks figuresChecks stuckChecks
 upper-order =
-    (λ t r. refl) ⨾ (λ t r. refl) ⨾ (λ t r. refl) ⨾ (λ t r. refl) ⨾ (λ t r. refl) ⨾ (λ t r. refl) ⨾ (λ t r. refl) ⨾ (λ t r. refl) ⨾ (λ t r. refl) ⨾ tt
+    (λ t r. refl) ⨾ (λ t r. refl) ⨾ (λ t r. refl) ⨾ (λ t r. refl) ⨾ (λ t r. refl) ⨾ (λ t r. refl) ⨾ (λ t r. refl) ⨾ (λ t r. refl) ⨾ (λ t r. refl) ⨾ (λ t r. refl) ⨾ tt
 
 pub engine-order : InOrder requestKinds
 unfolding requestKinds raised
@@ -178,7 +178,7 @@ lower-forms = refl ⨾ refl ⨾ refl ⨾ refl ⨾ refl ⨾ refl ⨾ refl ⨾ ref
 
 request-forms : Every (λ f. takes requestKinds (f .kind) ≡ true) requestForms
 unfolding some requestForms lowerForms upperForms requestKinds upperKinds sharedKinds lowerKinds roleKinds sessionKinds keep each raised
-request-forms = refl ⨾ refl ⨾ refl ⨾ refl ⨾ refl ⨾ refl ⨾ refl ⨾ refl ⨾ refl ⨾ refl ⨾ refl ⨾ refl ⨾ refl ⨾ refl ⨾ refl ⨾ refl ⨾ refl ⨾ refl ⨾ tt
+request-forms = refl ⨾ refl ⨾ refl ⨾ refl ⨾ refl ⨾ refl ⨾ refl ⨾ refl ⨾ refl ⨾ refl ⨾ refl ⨾ refl ⨾ refl ⨾ refl ⨾ refl ⨾ refl ⨾ refl ⨾ refl ⨾ refl ⨾ tt
 
 pub checks-in-order : ChecksInOrder
 checks-in-order = record {

@@ -6,6 +6,7 @@ use mathlib.Core.Bool.{Bool, true, false, not, cond, _&&_, _||_, false≢true}
 use mathlib.Core.List.{List, [], _∷_, _++_}
 use native.Mathlib.Omega.{arith}
 use borrow.Author.Tests.{eqb-true, leb-true, leb-false, not-true, not-false}
+use lib.Count.{ones-le}
 use lib.Dec.{eqb, leb}
 use Rattle.paper_lower.specs.Sets.{Set, empty, has, plus, size, within, overlap, collect}
 use Rattle.paper_lower.specs.Lists.{Maybe, some}
@@ -13,10 +14,11 @@ use Rattle.paper_lower.specs.Lists.Maybe.{none, just}
 use Rattle.paper_lower.specs.Tables.{Pair}
 use Rattle.paper_lower.proofs.ListLaws.{both, not-both, every-map, some-none, none-some}
 use Rattle.sets.proofs.Bits.{same-or-other}
-use Rattle.sets.proofs.SetLaws.{Part, part-empty, part-has, has-part, has-empty, has-plus, has-above, plus-member, within-refl, collect-above, collect-below, minus-out, overlap-in, overlap-empty, overlap-part}
+use Rattle.sets.proofs.SetLaws.{Part, part-empty, part-has, has-part, has-empty, has-plus, has-above, plus-member, within-refl, collect-above, collect-below, minus-out, overlap-in, overlap-empty, overlap-part, size-ones}
 use Rattle.paper_upper.specs.Rules.{missing}
+use Rattle.paper_upper.specs.Stuck.{ready, Orderly, may, Lowest, lowestFrom, goOn, freeFrom, freeTasks, stuckTasks}
 use Rattle.theorems.specs.Joining.{gathered}
-use Rattle.theorems.specs.Stuck.{ready, Orderly, may, Lowest, lowestFrom, goOn, freeFrom, freeTasks, stuckTasks, Answered, StuckAreTold}
+use Rattle.theorems.specs.Stuck.{Answered, StuckAreTold}
 
 -- ---- the lowest with a property
 abbrev Found : (ℕ → Bool) → ℕ → ℕ → Maybe ℕ → Type 0
@@ -50,10 +52,10 @@ has-gathered d (s ∷ ts) t = has-gathered (plus d s) ts t ∙ ap (λ (b : Bool)
     assoc false b c = refl
 
 module _ (m : Set) (rs : List Pair) (small : m < 2 ^ 64) where
-  may-parts : (had : Set) (t : ℕ) → may m rs had t ≡ true → (has m t ≡ true) × (has had t ≡ false) × (ready m rs had t ≡ true)
+  may-parts : (had : Set) (t : ℕ) → may m rs had t ≡ true → (has m t ≡ true) × (has had t ≡ false) × (ready rs had t ≡ true)
   unfolding may
   may-parts had t h =
-      let x = both (has m t && not (has had t)) (ready m rs had t) h in
+      let x = both (has m t && not (has had t)) (ready rs had t) h in
       let y = both (has m t) (not (has had t)) (x .0) in
       (y .0, not-true _ (y .1), x .1)
 
@@ -83,7 +85,7 @@ module _ (m : Set) (rs : List Pair) (small : m < 2 ^ 64) where
   unfolding may
   everywhere had h t = go (leb 64 t) refl
     where
-      go : (b : Bool) → leb 64 t ≡ b → has m t && not (has had t) && ready m rs had t ≡ false
+      go : (b : Bool) → leb 64 t ≡ b → has m t && not (has had t) && ready rs had t ≡ false
       go true e = rw (has-above 64 m t small (leb-true 64 t e))
       go false e = h t (leb-false 64 t e)
 
@@ -122,8 +124,10 @@ module _ (m : Set) (rs : List Pair) (small : m < 2 ^ 64) where
   unfolding had-all freeTasks
   none-follows t =
       let a = as-many in
+      let l = ones-le 64 m small in
+      let s = size-ones m in
       let o = overlap-empty m in
-      ended (size m) empty (part-empty m) (omega arith) t
+      ended 64 empty (part-empty m) (omega arith) t
 
   pub one-had : (had all : Set) (t : ℕ) → Part had all → (x : Pair) → missing had t x ≡ false → missing all t x ≡ false
   unfolding missing
@@ -133,14 +137,14 @@ module _ (m : Set) (rs : List Pair) (small : m < 2 ^ 64) where
       go true e = ap not (has-part had all (x .a) p (not-false _ (not-both (eqb (x .b) t) (not (has had (x .a))) h e)))
       go false e = refl
 
-  ready-more : (had all : Set) (t : ℕ) → Part had all → ready m rs had t ≡ true → ready m rs all t ≡ true
+  ready-more : (had all : Set) (t : ℕ) → Part had all → ready rs had t ≡ true → ready rs all t ≡ true
   unfolding ready
   ready-more had all t p h =
       ap not (none-some (missing all t) rs (every-map rs (one-had had all t p) (some-none (missing had t) rs (not-true _ h))))
 
-  pub is-had : (t : ℕ) → has m t ≡ true → ready m rs had-all t ≡ true → has had-all t ≡ true
+  pub is-had : (t : ℕ) → has m t ≡ true → ready rs had-all t ≡ true → has had-all t ≡ true
   unfolding may
-  is-had t h r = not-false _ (not-both (ready m rs had-all t) (not (has had-all t)) (turned (has m t) (not (has had-all t)) (ready m rs had-all t) h (none-follows t)) r)
+  is-had t h r = not-false _ (not-both (ready rs had-all t) (not (has had-all t)) (turned (has m t) (not (has had-all t)) (ready rs had-all t) h (none-follows t)) r)
     where
       turned : (a b c : Bool) → a ≡ true → a && b && c ≡ false → c && b ≡ false
       turned true true true e h = h
@@ -173,7 +177,7 @@ module _ (m : Set) (rs : List Pair) (small : m < 2 ^ 64) where
   pub answered : Answered m rs
   unfolding freeTasks stuckTasks
   answered =
-      let k = kept (size m) empty in
+      let k = kept 64 empty in
       record {
         orderly = k .0;
         lowest = k .1;

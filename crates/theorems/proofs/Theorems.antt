@@ -72,7 +72,7 @@ lower-rows =
 upper-rows : Rows requestForms (λ n t r x. fixed (x .lower .policy) ≡ fixed (t .lower .policy)) upperKinds
 unfolding upperKinds deleteNext openNext endNext claimNext releaseNext doneNext
 upper-rows =
-    (λ t r g p. refl) ⨾ (λ t r g p. refl) ⨾ (λ t r g p. refl) ⨾ (λ t r g p. refl)
+    (λ t r g p. refl) ⨾ (λ t r g p. refl) ⨾ (λ t r g p. refl) ⨾ (λ t r g p. refl) ⨾ (λ t r g p. refl)
     ⨾ (λ t r g p. refl) ⨾ (λ t r g p. refl) ⨾ (λ t r g p. refl) ⨾ (λ t r g p. refl) ⨾ (λ t r g p. refl) ⨾ tt
 
 rows : Rows requestForms (λ n t r x. fixed (x .lower .policy) ≡ fixed (t .lower .policy)) requestKinds

@@ -1,4 +1,3 @@
--- Written from Proof.tmpl by 'prove expand': edit that file.
 -- Each kind of the upper part, as a step of the three buffers; any other kind is the lower part's.
 use mathlib.Core.Path.{refl}
 use borrow.Author.Needs.{needs}
@@ -74,11 +73,18 @@ figures-reply-requires c κs = (c .before .before .before .before .before .pre .
 plain-requires-8 : tie.Need-plain-requires-8
 plain-requires-8 c κs = search needs
 
-step-requires : tie.Need-step-requires
-step-requires c κs = (c .before .before .before .before .before .before .pre .0 .0, (c .before .before .before .before .before .before .pre .0 .1 .0, lower-limits (c .before .before .match .rest) (c .before .before .before .before .before .before .pre .1)))
+judge-requires : tie.Need-judge-requires
+unfolding limitsOpen
+judge-requires c κs = (c .before .before .before .before .before .pre .0 .0, below (limitA requestForms) (c .before .before .before .before .before .pre .1 .a) (c .before .match .keys10) 16 tt)
 
 plain-requires-9 : tie.Need-plain-requires-9
 plain-requires-9 c κs = search needs
+
+step-requires : tie.Need-step-requires
+step-requires c κs = (c .before .before .before .before .before .before .pre .0 .0, (c .before .before .before .before .before .before .pre .0 .1 .0, lower-limits (c .before .before .match .rest) (c .before .before .before .before .before .before .pre .1)))
+
+plain-requires-10 : tie.Need-plain-requires-10
+plain-requires-10 c κs = search needs
 
 same-length : tie.Need-same-length
 same-length c = search needs
@@ -182,12 +188,19 @@ returns-9 c = rw (c .before .before .before .match .keys9) (of-none (c .plain8 .
 same-length-22 : tie.Need-same-length-22
 same-length-22 c = search needs
 
+returns-10 : tie.Need-returns-10
+unfolding chosen requestKinds upperKinds placeOf
+returns-10 c = rw (c .before .before .before .match .keys10) (of-none (c .plain9 .ensures) refl (c .before .judge .ensures), c .before .before .before .before .before .before .before .pre .0 .1 .1 .1)
+
 same-length-23 : tie.Need-same-length-23
 same-length-23 c = search needs
 
-returns-10 : tie.Need-returns-10
+same-length-24 : tie.Need-same-length-24
+same-length-24 c = search needs
+
+returns-11 : tie.Need-returns-11
 unfolding raised
-returns-10 c = rw (lower-row (c .before .before .before .before .before .before .before .before .match .rest)) (of-lower (c .plain9 .ensures) (no-claim _ _ _ (no-claim-number (c .before .before .before .before .before .before .before .before .match .rest))) (c .before .before .before .before .before .step .ensures), c .before .before .before .before .before .before .before .before .before .before .before .before .pre .0 .1 .1 .1)
+returns-11 c = rw (lower-row (c .before .before .before .before .before .before .before .before .match .rest)) (of-lower (c .plain10 .ensures) (no-claim _ _ _ (no-claim-number (c .before .before .before .before .before .before .before .before .match .rest))) (c .before .before .before .before .before .step .ensures), c .before .before .before .before .before .before .before .before .before .before .before .before .pre .0 .1 .1 .1)
 
 pub step-spec : {M : Type 1} → statement M
 step-spec =
@@ -210,8 +223,10 @@ step-spec =
     plain-requires-7
     figures-reply-requires
     plain-requires-8
-    step-requires
+    judge-requires
     plain-requires-9
+    step-requires
+    plain-requires-10
     same-length
     same-length-2
     same-length-3
@@ -243,5 +258,7 @@ step-spec =
     same-length-21
     returns-9
     same-length-22
+    returns-10
     same-length-23
-    returns-10)
+    same-length-24
+    returns-11)

@@ -1,0 +1,4 @@
+mod WaitLaws
+mod Zeros
+mod Walk
+mod Words
