@@ -98,6 +98,7 @@ copies (suc k) x = x ∷ copies k x
 unfoldable pub standing : ℕ → Policy
 standing k = record {
   people = record { users = λ _. false; roles = 3; assigned = λ _. empty };
+  seniority = noPolicy .seniority;
   permissions = noPolicy .permissions;
   tasks = record { template = λ t. cond (ltb t 2) (just 0) none; openTo = λ _. empty; banned = λ _. false; most = λ _. none };
   rules = record {
