@@ -10,7 +10,7 @@ use Rattle.records.proofs.form_of.Tie as tie
 -- the keys of the arms
 abbrev kinds : List ℕ
 kinds =
-    1 ∷ 2 ∷ 3 ∷ 4 ∷ 5 ∷ 6 ∷ 7 ∷ 8 ∷ 9 ∷ 10 ∷ 11 ∷ 12 ∷ 13 ∷ 14 ∷ 15 ∷ 16 ∷ 32 ∷ 33 ∷ 34 ∷ 35 ∷ 36 ∷ 37 ∷ 40 ∷ 41 ∷ 42 ∷ 43 ∷ 48 ∷ 49 ∷ 50 ∷ 51 ∷ 52 ∷ 56 ∷ 57 ∷ []
+    1 ∷ 2 ∷ 3 ∷ 4 ∷ 5 ∷ 6 ∷ 7 ∷ 8 ∷ 9 ∷ 10 ∷ 11 ∷ 12 ∷ 13 ∷ 14 ∷ 15 ∷ 16 ∷ 17 ∷ 32 ∷ 33 ∷ 34 ∷ 35 ∷ 36 ∷ 37 ∷ 40 ∷ 41 ∷ 42 ∷ 43 ∷ 48 ∷ 49 ∷ 50 ∷ 51 ∷ 52 ∷ 56 ∷ 57 ∷ []
 
 returns : tie.Need-returns
 unfolding tableOpen
@@ -146,7 +146,11 @@ returns-33 c = rw (c .match .keys33)
 
 returns-34 : tie.Need-returns-34
 unfolding tableOpen
-returns-34 c = rest same same-sound tableAt (record { 0 = 0; 1 = 0; 2 = 0; 3 = 0; 4 = 0; 5 = 0 }) (oneEach kinds) 0 256 tt (c .before .args .kind) (c .match .rest) zero-le (c .before .pre)
+returns-34 c = rw (c .match .keys34)
+
+returns-35 : tie.Need-returns-35
+unfolding tableOpen
+returns-35 c = rest same same-sound tableAt (record { 0 = 0; 1 = 0; 2 = 0; 3 = 0; 4 = 0; 5 = 0 }) (oneEach kinds) 0 256 tt (c .before .args .kind) (c .match .rest) zero-le (c .before .pre)
 
 pub form-of-spec : {M : Type 1} → statement M
 form-of-spec =
@@ -185,4 +189,5 @@ form-of-spec =
     returns-31
     returns-32
     returns-33
-    returns-34)
+    returns-34
+    returns-35)
