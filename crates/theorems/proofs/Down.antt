@@ -1,28 +1,18 @@
--- The roles m with all roles below them: members, parts, and the whole where nothing is below.
-use Prim.Native.Nat.{ℕ, zero, suc, _<_, min}
+-- The roles m with all roles below them: members and parts; and what is lost with one role.
+use Prim.Native.Nat.{ℕ, _<_, min}
 use mathlib.Core.Path.{_≡_, refl, sym, ap, ap₂, _∙_}
 use mathlib.Core.Logic.{_⊎_, inl, inr, ⊎-elim}
 use mathlib.Core.Bool.{Bool, true, false, not, cond, _&&_, _||_, true≢false, false≢true}
-use native.Mathlib.Omega.{arith}
 use borrow.Author.Tests.{not-true}
 use lib.Bits.{bitAnd, differ}
-use Rattle.paper_lower.specs.Sets.{Set, empty, has, minus, cut, meets, without, unionBelow}
+use Rattle.paper_lower.specs.Sets.{Set, empty, has, minus, cut, meets, without}
 use Rattle.paper_lower.specs.Tables.{Seniority}
 use Rattle.paper_lower.specs.Policy.{down}
 use Rattle.paper_lower.proofs.ListLaws.{both}
 use Rattle.sets.proofs.Bits.{same-or-other, bit-and, bit-xor}
-use Rattle.sets.proofs.SetLaws.{digit, digit-has, has-digit, has-empty, has-union, has-gone, has-kept, common-meets, meets-none, Part, part-refl, part-trans, part-same, part-empty, has-part, part-has, part-left, part-right, part-union, union-le, union-ge}
-
--- a member of a union is one of some part
-pub in-union : (n : ℕ) (f : ℕ → Set) (x : ℕ) → has (unionBelow n f) x ≡ true → (k : ℕ) × (k < n) × (has (f k) x ≡ true)
-unfolding unionBelow
-in-union zero f x h = absurd (false≢true (sym (has-empty x) ∙ h))
-in-union (suc n) f x h = go (has (unionBelow n f) x) refl (in-union n f x) (sym (has-union (unionBelow n f) (f n) x) ∙ h)
-  where
-    go : (b : Bool) → has (unionBelow n f) x ≡ b → (has (unionBelow n f) x ≡ true → (k : ℕ) × (k < n) × (has (f k) x ≡ true))
-        → b || has (f n) x ≡ true → (k : ℕ) × (k < suc n) × (has (f k) x ≡ true)
-    go true e rest q = let r = rest e in let l = r .1 in (r .0, omega arith, r .2)
-    go false e rest q = (n, omega arith, q)
+use Rattle.sets.proofs.SetLaws.{digit, digit-has, has-digit, has-empty, has-gone, has-kept, common-meets, meets-none, Part, part-refl, part-trans, part-empty, has-part, part-has, part-left, part-right, part-union, union-le, union-ge}
+use Rattle.sets.proofs.DownLaws.{isBelow, has-down}
+use Rattle.theorems.proofs.WellMade.{below-some}
 
 module _ (s : Seniority) where
   abbrev under : Set → ℕ → Set
@@ -41,17 +31,14 @@ module _ (s : Seniority) where
 
   -- a member is one of m, or below one
   pub down-member : (m : Set) (b : ℕ) → has (down s m) b ≡ true → (has m b ≡ true) ⊎ ((r : ℕ) × (has m r ≡ true) × (has (s .below r) b ≡ true))
-  unfolding down
-  down-member m b h = go (has m b) refl (sym (has-union m (unionBelow 64 (under m)) b) ∙ h)
+  down-member m b h = go (has m b) refl (sym (has-down s m b) ∙ h)
     where
-      below : (r : ℕ) (x : Bool) → has m r ≡ x → has (cond x (s .below r) empty) b ≡ true → (r : ℕ) × (has m r ≡ true) × (has (s .below r) b ≡ true)
-      below r true e q = (r, e, q)
-      below r false e q = absurd (false≢true (sym (has-empty b) ∙ q))
-
-      go : (x : Bool) → has m b ≡ x → x || has (unionBelow 64 (under m)) b ≡ true
-          → (has m b ≡ true) ⊎ ((r : ℕ) × (has m r ≡ true) × (has (s .below r) b ≡ true))
+      go : (x : Bool) → has m b ≡ x → x || isBelow s m b ≡ true → (has m b ≡ true) ⊎ ((r : ℕ) × (has m r ≡ true) × (has (s .below r) b ≡ true))
       go true e q = inl e
-      go false e q = let r = in-union 64 (under m) b q in inr (below (r .0) (has m (r .0)) refl (r .2))
+      go false e q =
+          let r = below-some 64 (λ r. has m r && has (s .below r) b) q in
+          let x = both (has m (r .0)) _ (r .1) in
+          inr (r .0, x .0, x .1)
 
   -- more roles, more below them
   pub down-part : (m k : Set) → Part m k → Part (down s m) (down s k)
@@ -63,16 +50,6 @@ module _ (s : Seniority) where
       go : (r : ℕ) → r < 64 → (b : Bool) → has m r ≡ b → Part (cond b (s .below r) empty) (down s k)
       go r l true e = down-below k r l (has-part m k r p e)
       go r l false e = part-empty _
-
-  -- nothing below: the roles alone
-  pub down-alone : ((r : ℕ) → s .below r ≡ empty) → (m : Set) → down s m ≡ m
-  unfolding down
-  down-alone none m =
-      part-same (down s m) m (part-union m _ m (part-refl m) (union-le 64 (under m) m (λ r l. go r (has m r)))) (down-has m)
-    where
-      go : (r : ℕ) (b : Bool) → Part (cond b (s .below r) empty) m
-      go r true = rw (none r) (part-empty m)
-      go r false = part-empty m
 
   -- of no role, none
   pub down-nothing : Part (down s empty) empty

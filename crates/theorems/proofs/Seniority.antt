@@ -29,7 +29,8 @@ use Rattle.theorems.specs.Theorems.{fixed, Fixed}
 use Rattle.theorems.specs.Seniority.{SeniorityIsRecorded, assignBefore, staticBefore, joinBefore, takeBackBefore, createBefore, activateBefore, checkBefore, claimBefore, policyRowsBefore, lowerRowsBefore, rowsBefore, policyAnswerBefore, lowerRequestBefore, requestBefore, loadFromBefore, loadBefore, NoneBelow, AsBefore}
 use Rattle.theorems.proofs.Replies.{policy-order, lower-order}
 use Rattle.theorems.proofs.Rows.{answer-rows}
-use Rattle.theorems.proofs.Down.{down-alone, meets-lost}
+use Rattle.sets.proofs.DownLaws.{down-alone}
+use Rattle.theorems.proofs.Down.{meets-lost}
 use Rattle.theorems.proofs.Ranks.{step-rows}
 use Rattle.theorems.proofs.Keeps.{kept-after, lower-kept-after}
 use Rattle.theorems.proofs.Theorems as theorems
@@ -69,7 +70,7 @@ same-answer fs new ks t s rows =
 
 -- ---- the nine kinds
 flat : (p : Policy) → NoneBelow p → down (p .seniority) ≡ (λ m. m)
-flat p none = λ i m. down-alone (p .seniority) none m i
+flat p none = λ i m. down-alone (p .seniority) m (λ r l h. none r) i
 
 module _ (p : Policy) (none : NoneBelow p) where
   same-assign : (a b : ℕ) → first (assignBefore p a b) ≡ first (assignChecks p a b)

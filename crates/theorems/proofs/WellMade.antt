@@ -32,7 +32,7 @@ holds-just p (just y) h = (y, refl, h)
 pub is-just : (j : ℕ) (x : Maybe ℕ) → is j x ≡ true → x ≡ just j
 is-just j x h = let y = holds-just (λ n. eqb n j) x h in y .1 ∙ ap (λ (n : ℕ). just n) (eqb-true _ _ (y .2))
 
-below-some : (n : ℕ) (f : ℕ → Bool) → someBelow n f ≡ true → (k : ℕ) × (f k ≡ true)
+pub below-some : (n : ℕ) (f : ℕ → Bool) → someBelow n f ≡ true → (k : ℕ) × (f k ≡ true)
 unfolding someBelow
 below-some zero f h = absurd (false≢true h)
 below-some (suc n) f h = go (f n) refl h (below-some n f)
