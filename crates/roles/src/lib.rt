@@ -99,7 +99,11 @@ fn take_back_reply(p: &[u64], s: &[u64], a: u64, b: u64) -> Reply
     {
         return Reply::Unknown;
     }
-    if sessions::active_of(s, a).meets(lost_by(p, a, b)) { Reply::InUse } else { Reply::Granted }
+    if sessions::active_of(s, a).meets(lost_by(p, a, b)) {
+        Reply::InUse
+    } else {
+        Reply::Granted
+    }
 }
 
 pub fn take_back(p: &mut [u64], s: &[u64], a: u64, b: u64) -> Reply

@@ -1,4 +1,3 @@
--- Written from Proof.tmpl by 'prove expand': edit that file.
 -- Each test of the code is the check of its place.
 use borrow.Author.Needs.{needs}
 use Rattle.paper_lower.specs.Policy.{assignChecks}

@@ -1,4 +1,3 @@
--- Written from Proof.tmpl by 'prove expand': edit that file.
 -- The user's flag, and n against the size of the overlap with the user's roles and those below.
 use borrow.Author.Needs.{needs}
 use Rattle.paper_lower.specs.Policy.{breaks}

@@ -1,4 +1,3 @@
--- Written from Proof.tmpl by 'prove expand': edit that file.
 -- The user's flag, and a search of the static sets with the roles as they would count.
 use borrow.Author.Needs.{needs}
 use borrow.Author.Tests.{not-true, not-false}
@@ -9,7 +8,7 @@ user-declared-requires : tie.Need-user-declared-requires
 user-declared-requires c κs = search needs
 
 returns : tie.Need-returns
-returns c = rw (← c .before .user-declared .ensures, not-true _ (c .if1 .taken))
+returns c = rw (← c .before .user-declared .ensures, not-true (c .before .user-declared .result) (c .if1 .taken))
 
 assigned-requires : tie.Need-assigned-requires
 assigned-requires c κs = search needs
@@ -21,7 +20,7 @@ broken-requires : tie.Need-broken-requires
 broken-requires c κs = search needs
 
 returns-2 : tie.Need-returns-2
-returns-2 c = rw (← c .before .before .before .before .user-declared .ensures, not-false _ (c .before .before .before .if1 .left), ← c .before .before .assigned .ensures, ← c .before .down-with .ensures) (c .broken .ensures)
+returns-2 c = rw (← c .before .before .before .before .user-declared .ensures, not-false (c .before .before .before .before .user-declared .result) (c .before .before .before .if1 .left), ← c .before .before .assigned .ensures, ← c .before .down-with .ensures) (c .broken .ensures)
 
 pub user-would-break-spec : {M : Type 1} → statement M
 user-would-break-spec =
