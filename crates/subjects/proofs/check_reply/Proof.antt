@@ -1,0 +1,33 @@
+-- Each way out is the first check of the definition that applies.
+use borrow.Author.Needs.{needs}
+use Rattle.paper_lower.specs.Sessions.{checkChecks}
+use Rattle.subjects.proofs.check_reply.Statement.{statement}
+use Rattle.subjects.proofs.check_reply.Tie as tie
+
+live-requires : tie.Need-live-requires
+live-requires c κs = search needs
+
+returns : tie.Need-returns
+unfolding checkChecks
+returns c = simp (← c .before .live .ensures, c .if1 .taken)
+
+active-requires : tie.Need-active-requires
+active-requires c κs = search needs
+
+down-requires : tie.Need-down-requires
+down-requires c κs = search needs
+
+allowed-requires : tie.Need-allowed-requires
+allowed-requires c κs = search needs
+
+returns-2 : tie.Need-returns-2
+unfolding checkChecks
+returns-2 c = simp (← c .before .before .before .before .before .live .ensures, c .before .before .before .before .if1 .left, ← c .before .before .before .active .ensures, ← c .before .before .down .ensures, ← c .before .allowed .ensures, c .if2 .taken)
+
+returns-3 : tie.Need-returns-3
+unfolding checkChecks
+returns-3 c = simp (← c .before .before .before .before .before .live .ensures, c .before .before .before .before .if1 .left, ← c .before .before .before .active .ensures, ← c .before .before .down .ensures, ← c .before .allowed .ensures, c .if2 .left)
+
+pub check-reply-spec : {M : Type 1} → statement M
+check-reply-spec =
+    tie.close (tie.spec live-requires returns active-requires down-requires allowed-requires returns-2 returns-3)
