@@ -86,7 +86,10 @@ fn lost_by(p: &[u64], a: u64, b: u64) -> Set
     ensures { λ r. ⌜ r .bits ≡ lostBy (policyOf (now (p .entry))) a b ⌝ }
 {
     let roles = policy::assigned(p, a as usize);
-    seniors::down(p, roles).beyond(seniors::down(p, roles.without(b)))
+    let left = roles.without(b);
+    let before = seniors::down(p, roles);
+    let after = seniors::down(p, left);
+    before.beyond(after)
 }
 
 fn take_back_reply(p: &[u64], s: &[u64], a: u64, b: u64) -> Reply

@@ -28,8 +28,9 @@ fn create_reply(p: &[u64], s: &[u64], a: u64, b: u64, m: Set) -> Reply
     if !m.within(seniors::down(p, policy::assigned(p, b as usize))) {
         return Reply::NotAssigned;
     }
-    let all = sessions::counted_of(s, b);
-    if questions::broken(p, DYNAMIC, seniors::down(p, all.union(m))) {
+    let all = sessions::counted_of(s, b).union(m);
+    let counted = seniors::down(p, all);
+    if questions::broken(p, DYNAMIC, counted) {
         return Reply::Dynamic;
     }
     Reply::Granted
