@@ -9,6 +9,7 @@ use Rattle.paper_lower.specs.Sets.{meets}
 use Rattle.paper_lower.specs.Lists.{Maybe, holds, there, is, some, many}
 use Rattle.paper_lower.specs.Lists.Maybe.{none, just}
 use Rattle.paper_lower.specs.Checks.{Check, first, FULL}
+use Rattle.paper_lower.specs.Policy.{down}
 use Rattle.paper_lower.proofs.ListLaws.{or-none, both}
 use Rattle.paper_lower.proofs.CheckLaws.{Numbered, passed}
 use Rattle.paper_upper.specs.Orders.{Engine, isHeld, ofTask}
@@ -52,7 +53,7 @@ module _ (t : Engine) (a b c : ℕ) where
 
   pub rules-next : {w m : Bool} → w ≡ unknown t a b c → w ≡ false
       → some (λ e. ofTask b c e && isHeld (e .standing)) (t .orders .entries) ≡ false
-      → m ≡ meets (t .lower .policy .tasks .openTo c) (t .lower .sessions .active a) → not m ≡ false
+      → m ≡ meets (t .lower .policy .tasks .openTo c) (down (t .lower .policy .seniority) (t .lower .sessions .active a)) → not m ≡ false
       → first (claimChecks t a b c) ≡ first (rulesOf ++ fullOf)
   unfolding claimChecks
   rules-next k h i e j = rw (sym k ∙ h, i, ← e, j)

@@ -4,6 +4,7 @@ ghost use mathlib.Core.Path.{_≡_};
 ghost use Prim.Native.Nat.{_<_};
 ghost use lib.ListN.{length};
 ghost use Rattle.paper_lower.specs.Sets.{meets};
+ghost use Rattle.paper_lower.specs.Policy.{down};
 ghost use Rattle.paper_upper.specs.Requests.{unknown};
 ghost use Rattle.policy.specs.Layout.{policyWords};
 ghost use Rattle.policy.specs.Reading.{policyOf};
@@ -31,12 +32,13 @@ fn is_unknown(p: &[u64], s: &[u64], o: &[u64], a: u64, b: u64, c: u64) -> bool
     !sessions::live(s, a as usize) | !(x.open & policy::task_is_of(p, c as usize, template))
 }
 
-// Whether an active role of the subject opens the task.
+// Whether an active role of the subject, or one below it, opens the task.
 fn has_role(p: &[u64], s: &[u64], a: u64, c: u64) -> bool
     requires { ⌜ (length (now p) ≡ policyWords) × ((length (now s) ≡ sessionsWords) × ((a < 128) × (c < 64))) ⌝ }
-    ensures { λ r. ⌜ r ≡ meets (policyOf (now (p .entry)) .tasks .openTo c) (sessionsOf (now (s .entry)) .active a) ⌝ }
+    ensures { λ r. ⌜ r ≡ meets (policyOf (now (p .entry)) .tasks .openTo c) (down (policyOf (now (p .entry)) .seniority) (sessionsOf (now (s .entry)) .active a)) ⌝ }
 {
-    policy::open_to(p, c as usize).meets(sessions::active(s, a as usize))
+    let roles = seniors::down(p, sessions::active(s, a as usize));
+    policy::open_to(p, c as usize).meets(roles)
 }
 
 // The claim rules for task t of an instance of the template, over what was gathered of its entries.

@@ -95,7 +95,7 @@ fn assign_reply(p: &[u64], a: u64, b: u64) -> Reply
     if roles.has(b) {
         return Reply::Taken;
     }
-    let next = roles.with(b);
+    let next = seniors::down(p, roles.with(b));
     if questions::broken(p, 0, next) {
         return Reply::Static;
     }

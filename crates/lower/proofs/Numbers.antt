@@ -3,9 +3,9 @@ use Prim.Native.Nat.{_≤_}
 use native.Mathlib.Omega.{arith}
 use Rattle.replies.specs.Replies.{numberOf}
 use Rattle.replies.specs.declared.Reply.{Reply}
-use Rattle.replies.specs.declared.Reply.the-variants.{Granted, Room, Shape, Range, Unknown, Taken, InUse, Rule, NotAssigned, Static, Dynamic, NoRole, NotYours, Denied, Before, Separation, Block, Alone, Bound, Count, Full}
+use Rattle.replies.specs.declared.Reply.the-variants.{Granted, Room, Shape, Range, Unknown, Taken, InUse, Rule, NotAssigned, Static, Dynamic, NoRole, NotYours, Denied, Before, Separation, Block, Alone, Bound, Count, Full, Loop}
 
-pub number-small : (r : Reply) → numberOf r ≤ 20
+pub number-small : (r : Reply) → numberOf r ≤ 23
 number-small Granted = omega arith
 number-small Room = omega arith
 number-small Shape = omega arith
@@ -27,3 +27,4 @@ number-small Alone = omega arith
 number-small Bound = omega arith
 number-small Count = omega arith
 number-small Full = omega arith
+number-small Loop = omega arith

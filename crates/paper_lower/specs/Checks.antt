@@ -67,6 +67,10 @@ COUNT = 19
 abbrev pub FULL : ℕ
 FULL = 20
 
+-- 02, Ask 7: "LOOP (23) after RULE"
+abbrev pub LOOP : ℕ
+LOOP = 23
+
 -- A check: when it applies, and the refusal that it gives.
 abbrev pub Check : Type 0
 Check = Bool × ℕ

@@ -72,6 +72,7 @@ policyForms =
     ∷ form 14 any aTask · · ·
     ∷ form 15 · aTask aTask · ·
     ∷ form 16 · aTask aTask · ·
+    ∷ form 17 · aRole aRole · ·
     ∷ []
 
 -- "Request kinds:", those of the lower part

@@ -1,5 +1,5 @@
 -- Tables as functions of a number, what may be there or not, and lists in policy order.
-use Prim.Native.Nat.{ℕ, zero, suc}
+use Prim.Native.Nat.{ℕ, zero, suc, _+_}
 use mathlib.Core.Bool.{Bool, true, false, cond, _&&_, _||_}
 use mathlib.Core.List.{List, [], _∷_}
 use lib.Dec.{eqb}
@@ -15,6 +15,11 @@ upd f i x k = cond (eqb k i) x (f k)
 unfoldable pub someBelow : ℕ → (ℕ → Bool) → Bool
 someBelow zero f = false
 someBelow (suc n) f = f n || someBelow n f
+
+-- all rows below n together
+unfoldable pub sumBelow : ℕ → (ℕ → ℕ) → ℕ
+sumBelow zero f = 0
+sumBelow (suc n) f = f n + sumBelow n f
 
 -- ---- What may be there or not.
 
@@ -83,5 +88,5 @@ Every P (x ∷ xs) = P x × Every P xs
 
 -- What this page defines, and those before it, opened together where a case is computed.
 unfoldable pub listsOpen : Unit {0}
-unfolding setsOpen upd someBelow holds some every many add keep each placeFrom place firstOf
+unfolding setsOpen upd someBelow sumBelow holds some every many add keep each placeFrom place firstOf
 listsOpen = tt

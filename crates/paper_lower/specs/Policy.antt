@@ -1,16 +1,20 @@
--- The sixteen policy kinds: for each its checks, in the order of their numbers, and the next tables.
+-- The seventeen policy kinds: for each its checks, in the order of their numbers, and the next tables.
 use Prim.Native.Nat.{ℕ}
 use mathlib.Core.Bool.{Bool, true, not, cond, _&&_, _||_}
 use mathlib.Core.List.{List, [], _∷_}
 use lib.Dec.{eqb, ltb, leb}
-use Rattle.paper_lower.specs.Sets.{Set, empty, has, plus, union, size, overlap, meets, within, collect}
-use Rattle.paper_lower.specs.Lists.{upd, someBelow, holds, there, is, some, many, add}
+use Rattle.paper_lower.specs.Sets.{Set, empty, has, plus, union, size, overlap, meets, within, collect, unionBelow}
+use Rattle.paper_lower.specs.Lists.{upd, someBelow, sumBelow, holds, there, is, some, many, add}
 use Rattle.paper_lower.specs.Lists.Maybe.{just}
-use Rattle.paper_lower.specs.Checks.{Check, UNKNOWN, TAKEN, RULE, STATIC, FULL}
+use Rattle.paper_lower.specs.Checks.{Check, UNKNOWN, TAKEN, RULE, STATIC, FULL, LOOP}
 use Rattle.paper_lower.specs.Kinds.{Kind, on}
-use Rattle.paper_lower.specs.Tables.{Permission, Tasks, Limit, Block, Pair, Policy, withPeople, withPermissions, withTasks, withRules, withAssigned, withHolders, withStatics, withDynamics, withTaskSets, withBlocks, withBindings, withBefores}
+use Rattle.paper_lower.specs.Tables.{Seniority, Permission, Tasks, Limit, Block, Pair, Policy, withPeople, withSeniority, withPermissions, withTasks, withRules, withAssigned, withHolders, withStatics, withDynamics, withTaskSets, withBlocks, withBindings, withBefores}
 
 -- ---- Questions to the tables.
+
+-- 02, Ask 7: "Roles count with all roles below them". Roles m, and all roles below one of them:
+unfoldable pub down : Seniority → Set → Set
+down s m = union m (unionBelow 64 (λ r. cond (has m r) (s .below r) empty))
 
 -- "A static set allows a user at most n of its roles among those assigned." Whether roles m are more than that:
 unfoldable pub breaks : Set → Limit → Bool
@@ -87,7 +91,7 @@ unfoldable pub assignChecks : Policy → ℕ → ℕ → List Check
 assignChecks p a b =
     (not (p .people .users a) || not (has (p .people .roles) b), UNKNOWN)
     ∷ (has (p .people .assigned a) b, TAKEN)
-    ∷ (some (breaks (plus (p .people .assigned a) b)) (p .rules .statics), STATIC)
+    ∷ (some (breaks (down (p .seniority) (plus (p .people .assigned a) b))) (p .rules .statics), STATIC)
     ∷ []
 
 unfoldable pub assignNext : Policy → ℕ → ℕ → Policy
@@ -146,7 +150,7 @@ staticChecks p n m =
     (not (within m (p .people .roles)), UNKNOWN)
     ∷ (some (sameLimit n m) (p .rules .statics), TAKEN)
     ∷ (illMade n m, RULE)
-    ∷ (someBelow 1024 (λ u. p .people .users u && breaks (p .people .assigned u) (record { n = n; members = m })), STATIC)
+    ∷ (someBelow 1024 (λ u. p .people .users u && breaks (down (p .seniority) (p .people .assigned u)) (record { n = n; members = m })), STATIC)
     ∷ (leb 32 (many (p .rules .statics)), FULL)
     ∷ []
 
@@ -246,6 +250,35 @@ beforeChecks p a b =
 unfoldable pub beforeNext : Policy → ℕ → ℕ → Policy
 beforeNext p a b = withRules p (withBefores (p .rules) (add (p .rules .befores) (record { a = a; b = b })))
 
+-- ---- 02, Ask 7: "Add policy kind 17: role a stands above role b". From then on b, and all roles below b, are below a and every role above a.
+unfoldable pub raised : Seniority → ℕ → ℕ → Seniority
+raised s a b =
+    record {
+      juniors = upd (s .juniors) a (plus (s .juniors a) b);
+      below = λ r. cond (eqb r a || has (s .below r) a) (union (s .below r) (plus (s .below b) b)) (s .below r);
+    }
+
+-- "Limit 64 records": as many as stand now
+unfoldable pub raisings : Seniority → ℕ
+raisings s = sumBelow 64 (λ r. size (s .juniors r))
+
+-- "RULE for a = b, LOOP (23) after RULE if b already stands above a, STATIC if a user's set would break, FULL."
+unfoldable pub raiseChecks : Policy → ℕ → ℕ → List Check
+raiseChecks p a b =
+    (not (has (p .people .roles) a) || not (has (p .people .roles) b), UNKNOWN)
+    ∷ (has (p .seniority .juniors a) b, TAKEN)
+    ∷ (eqb a b, RULE)
+    ∷ (has (p .seniority .below b) a, LOOP)
+    ∷ (
+      someBelow 1024 (λ u. p .people .users u && some (breaks (down (raised (p .seniority) a b) (p .people .assigned u))) (p .rules .statics)),
+      STATIC,
+    )
+    ∷ (leb 64 (raisings (p .seniority)), FULL)
+    ∷ []
+
+unfoldable pub raiseNext : Policy → ℕ → ℕ → Policy
+raiseNext p a b = withSeniority p (raised (p .seniority) a b)
+
 -- ---- All of them.
 unfoldable pub policyKinds : List (Kind Policy)
 policyKinds =
@@ -265,9 +298,10 @@ policyKinds =
     ∷ on 14 (λ p r. mostChecks p (r .n) (r .a)) (λ p r. mostNext p (r .n) (r .a))
     ∷ on 15 (λ p r. bindChecks p (r .a) (r .b)) (λ p r. bindNext p (r .a) (r .b))
     ∷ on 16 (λ p r. beforeChecks p (r .a) (r .b)) (λ p r. beforeNext p (r .a) (r .b))
+    ∷ on 17 (λ p r. raiseChecks p (r .a) (r .b)) (λ p r. raiseNext p (r .a) (r .b))
     ∷ []
 
 -- What this page defines, opened together where a case is computed.
 unfoldable pub policyOpen : Unit {0}
-unfolding breaks isFor declaredTasks tasksOf hasTask oneTemplate together sameLimit sameBlock samePair illMade userChecks userNext roleChecks roleNext permissionChecks permissionNext assignChecks assignNext giveChecks giveNext taskChecks taskNext openToChecks openToNext carriesChecks carriesNext staticChecks staticNext dynamicChecks dynamicNext taskSetChecks taskSetNext partitioned blockChecks blockNext banChecks banNext mostChecks mostNext bindChecks bindNext beforeChecks beforeNext policyKinds
+unfolding down breaks isFor declaredTasks tasksOf hasTask oneTemplate together sameLimit sameBlock samePair illMade userChecks userNext roleChecks roleNext permissionChecks permissionNext assignChecks assignNext giveChecks giveNext taskChecks taskNext openToChecks openToNext carriesChecks carriesNext staticChecks staticNext dynamicChecks dynamicNext taskSetChecks taskSetNext partitioned blockChecks blockNext banChecks banNext mostChecks mostNext bindChecks bindNext beforeChecks beforeNext raised raisings raiseChecks raiseNext policyKinds
 policyOpen = tt

@@ -3,12 +3,12 @@ use Prim.Native.Nat.{ℕ}
 use mathlib.Core.Bool.{Bool, true, false, not, cond, _&&_, _||_}
 use mathlib.Core.List.{List, [], _∷_}
 use lib.Dec.{eqb}
-use Rattle.paper_lower.specs.Sets.{Set, empty, has, minus, within, unionBelow}
+use Rattle.paper_lower.specs.Sets.{Set, empty, has, minus, meets, within, without, unionBelow}
 use Rattle.paper_lower.specs.Lists.{upd, someBelow, there, some}
 use Rattle.paper_lower.specs.Checks.{Check, UNKNOWN, TAKEN, IN-USE, STATIC}
 use Rattle.paper_lower.specs.Kinds.{Kind, on}
 use Rattle.paper_lower.specs.Tables.{Policy, Sessions, Lower, withPeople, withPermissions, withPolicy, withAssigned, withHolders}
-use Rattle.paper_lower.specs.Policy.{breaks, assignChecks, assignNext, giveChecks, giveNext}
+use Rattle.paper_lower.specs.Policy.{down, breaks, assignChecks, assignNext, giveChecks, giveNext}
 
 -- subject k is a live one of user u
 unfoldable pub subjectOf : Sessions → ℕ → ℕ → Bool
@@ -33,7 +33,7 @@ unfoldable pub joinChecks : Policy → ℕ → Set → List Check
 joinChecks p a m =
     (not (within m (p .people .roles)), UNKNOWN)
     ∷ (p .people .users a, TAKEN)
-    ∷ (some (breaks m) (p .rules .statics), STATIC)
+    ∷ (some (breaks (down (p .seniority) m)) (p .rules .statics), STATIC)
     ∷ []
 
 unfoldable pub joinNext : Policy → ℕ → Set → Policy
@@ -49,11 +49,16 @@ unfoldable pub deleteNext : Policy → ℕ → Policy
 deleteNext p a =
     withPeople p (record { users = upd (p .people .users) a false; roles = p .people .roles; assigned = upd (p .people .assigned) a empty })
 
--- ---- "35 take it back": role b from user a. IN USE: "while the role is active in a subject of that user".
+-- the roles that user a would no longer have without role b, those below counted
+unfoldable pub lostBy : Policy → ℕ → ℕ → Set
+lostBy p a b = without (down (p .seniority) (p .people .assigned a)) (down (p .seniority) (minus (p .people .assigned a) b))
+
+-- ---- "35 take it back": role b from user a. IN USE: "while the role is active in a subject of that user". Amended by 02, Ask 7: "kind 35 is IN USE
+-- when an active role would no longer stand at or below an assigned one".
 unfoldable pub takeBackChecks : Lower → ℕ → ℕ → List Check
 takeBackChecks t a b =
     (not (t .policy .people .users a) || not (has (t .policy .people .roles) b) || not (has (t .policy .people .assigned a) b), UNKNOWN)
-    ∷ (has (activeOf (t .sessions) a) b, IN-USE)
+    ∷ (meets (activeOf (t .sessions) a) (lostBy (t .policy) a b), IN-USE)
     ∷ []
 
 unfoldable pub takeBackNext : Policy → ℕ → ℕ → Policy
@@ -82,5 +87,5 @@ roleKinds =
 
 -- What this page defines, opened together where a case is computed.
 unfoldable pub rolesOpen : Unit {0}
-unfolding subjectOf ofSubjects activeOf countedOf joinChecks joinNext deleteChecks deleteNext takeBackChecks takeBackNext withdrawChecks withdrawNext roleKinds
+unfolding subjectOf ofSubjects activeOf countedOf joinChecks joinNext deleteChecks deleteNext lostBy takeBackChecks takeBackNext withdrawChecks withdrawNext roleKinds
 rolesOpen = tt

@@ -1,15 +1,16 @@
 -- Cases of the lower part alone, one table and one statement. 01's own cases, those marked P, stand with the whole engine.
-use Prim.Native.Nat.{ℕ, zero, suc, _+_, _^_}
+use Prim.Native.Nat.{ℕ, zero, suc, _+_, _-_, _^_}
 use mathlib.Core.Bool.{true, false, cond}
 use mathlib.Core.Path.{_≡_, refl}
-use mathlib.Core.List.{List, [], _∷_}
-use lib.Dec.{ltb}
+use mathlib.Core.List.{List, [], _∷_, _++_}
+use lib.Dec.{eqb, ltb}
 use Rattle.paper_lower.specs.Sets.{empty}
 use Rattle.paper_lower.specs.Lists.{every, each}
 use Rattle.paper_lower.specs.Lists.Maybe.{none, just}
-use Rattle.paper_lower.specs.Checks.{GRANTED, SHAPE, RANGE, UNKNOWN, TAKEN, IN-USE, RULE, NOT-ASSIGNED, STATIC, DYNAMIC, DENIED, FULL}
-use Rattle.paper_lower.specs.Words.{Case, refuses, accepts, _⇒_, comesOut, wordsOpen, record-of, user, role, permission, userHas, roleHas, task, openTo, carries, staticSet, dynamicSet, taskSet, block, ban, atMost, bound, isBefore, addUser, join, deleteUser, assign, takeBack, give, withdraw, create, destroy, activate, deactivate, openOrder, check}
+use Rattle.paper_lower.specs.Checks.{GRANTED, SHAPE, RANGE, UNKNOWN, TAKEN, IN-USE, RULE, NOT-ASSIGNED, STATIC, DYNAMIC, DENIED, FULL, LOOP}
+use Rattle.paper_lower.specs.Words.{Case, refuses, accepts, _⇒_, comesOut, wordsOpen, record-of, user, role, permission, userHas, roleHas, task, openTo, carries, staticSet, dynamicSet, taskSet, block, ban, atMost, bound, isBefore, standsAbove, addUser, join, deleteUser, assign, takeBack, give, withdraw, create, destroy, activate, deactivate, openOrder, check}
 use Rattle.paper_lower.specs.Tables.{Policy, noPolicy}
+use Rattle.paper_lower.specs.Records.{Bytes}
 use Rattle.paper_lower.specs.Load.{policyAnswer}
 use Rattle.paper_lower.specs.Sessions.{lowerRequest, lowerOf, lowerOpen}
 
@@ -81,6 +82,50 @@ policies =
     ∷ refuses (record-of 8 0 0 0 1 0 ∷ []) SHAPE 1
     ∷ []
 
+-- ---- 02, Ask 7: "role a stands above role b". Role 2 stands above role 1, and that above role 0; role 3 stands apart.
+unfoldable pub ranks : List Bytes
+ranks = role 0 ∷ role 1 ∷ role 2 ∷ role 3 ∷ standsAbove 2 1 ∷ standsAbove 1 0 ∷ []
+
+unfoldable pub seniors : List Case
+seniors =
+    -- the refusals of kind 17, in their order: SHAPE, RANGE, UNKNOWN before RULE, TAKEN, RULE, LOOP directly and at a distance of two
+    refuses (role 0 ∷ record-of 17 0 0 1 1 0 ∷ []) SHAPE 2
+    ∷ refuses (role 0 ∷ standsAbove 64 0 ∷ []) RANGE 2
+    ∷ refuses (role 0 ∷ standsAbove 0 64 ∷ []) RANGE 2
+    ∷ refuses (role 0 ∷ standsAbove 0 63 ∷ []) UNKNOWN 2
+    ∷ refuses (role 0 ∷ standsAbove 63 0 ∷ []) UNKNOWN 2
+    ∷ refuses (role 0 ∷ standsAbove 1 1 ∷ []) UNKNOWN 2
+    ∷ refuses (ranks ++ (standsAbove 2 1 ∷ [])) TAKEN 7
+    ∷ refuses (ranks ++ (standsAbove 3 3 ∷ [])) RULE 7
+    ∷ refuses (ranks ++ (standsAbove 0 1 ∷ [])) LOOP 7
+    ∷ refuses (ranks ++ (standsAbove 0 2 ∷ [])) LOOP 7
+    -- "above" by name is no TAKEN at a distance: a pair that a chain has already is accepted once
+    ∷ refuses (ranks ++ (standsAbove 2 0 ∷ standsAbove 2 0 ∷ [])) TAKEN 8
+    -- STATIC: for a user of the role that is raised, and of one above it; LOOP before it
+    ∷ refuses (ranks ++ (user 300 ∷ userHas 300 3 ∷ staticSet 1 9 ∷ standsAbove 2 3 ∷ standsAbove 3 1 ∷ [])) STATIC 11
+    ∷ refuses (ranks ++ (user 300 ∷ userHas 300 2 ∷ staticSet 1 9 ∷ standsAbove 0 3 ∷ [])) STATIC 10
+    ∷ refuses (ranks ++ (user 300 ∷ userHas 300 0 ∷ staticSet 1 5 ∷ standsAbove 0 2 ∷ [])) LOOP 10
+    -- static sets of kinds 4 and 9
+    ∷ refuses (ranks ++ (user 300 ∷ staticSet 1 5 ∷ userHas 300 1 ∷ userHas 300 2 ∷ [])) STATIC 10
+    ∷ refuses (ranks ++ (user 300 ∷ userHas 300 2 ∷ staticSet 2 7 ∷ [])) STATIC 9
+    ∷ accepts (ranks ++ (user 300 ∷ userHas 300 2 ∷ staticSet 1 12 ∷ [])) []
+    -- static sets of 32 and 34; a role below an assigned one is assigned by its name
+    ∷ accepts (ranks ++ (user 300 ∷ userHas 300 1 ∷ staticSet 1 5 ∷ []))
+    (join 44 4 ⇒ STATIC ∷ join 44 2 ⇒ GRANTED ∷ assign 300 2 ⇒ STATIC ∷ assign 300 1 ⇒ TAKEN ∷ assign 300 0 ⇒ GRANTED ∷ assign 300 0 ⇒ TAKEN ∷ takeBack 300 2 ⇒ UNKNOWN ∷ [])
+    -- activating a role below an assigned one, and none above it; active is active by name
+    ∷ accepts (ranks ++ (user 300 ∷ userHas 300 1 ∷ []))
+    (create 5 300 1 ⇒ GRANTED ∷ create 6 300 4 ⇒ NOT-ASSIGNED ∷ create 6 300 2 ⇒ GRANTED ∷ activate 6 0 ⇒ GRANTED ∷ activate 6 0 ⇒ TAKEN ∷ activate 6 2 ⇒ NOT-ASSIGNED ∷ deactivate 5 1 ⇒ UNKNOWN ∷ [])
+    -- permissions: what a role two below has, a senior has, and not the other way
+    ∷ accepts (ranks ++ (user 300 ∷ userHas 300 2 ∷ permission 0 1 2 ∷ permission 1 1 3 ∷ permission 2 1 4 ∷ roleHas 0 0 ∷ roleHas 2 1 ∷ roleHas 3 2 ∷ []))
+    (create 5 300 4 ⇒ GRANTED ∷ check 5 1 2 ⇒ GRANTED ∷ check 5 1 3 ⇒ GRANTED ∷ check 5 1 4 ⇒ DENIED ∷ create 6 300 1 ⇒ GRANTED ∷ check 6 1 2 ⇒ GRANTED ∷ check 6 1 3 ⇒ DENIED ∷ [])
+    -- dynamic sets: 40 and 42 count the roles below, and those below what a subject has had
+    ∷ accepts (ranks ++ (user 300 ∷ userHas 300 2 ∷ userHas 300 3 ∷ dynamicSet 1 9 ∷ []))
+    (create 5 300 12 ⇒ DYNAMIC ∷ create 5 300 4 ⇒ GRANTED ∷ create 6 300 8 ⇒ DYNAMIC ∷ activate 5 3 ⇒ DYNAMIC ∷ deactivate 5 2 ⇒ GRANTED ∷ activate 5 3 ⇒ DYNAMIC ∷ destroy 5 ⇒ GRANTED ∷ create 6 300 8 ⇒ GRANTED ∷ activate 6 1 ⇒ DYNAMIC ∷ [])
+    -- 35 is IN USE when an active role would no longer stand at or below an assigned one, and not while another covers it
+    ∷ accepts (ranks ++ (user 300 ∷ userHas 300 1 ∷ userHas 300 2 ∷ userHas 300 3 ∷ []))
+    (create 5 300 3 ⇒ GRANTED ∷ takeBack 300 0 ⇒ UNKNOWN ∷ takeBack 300 1 ⇒ GRANTED ∷ takeBack 300 2 ⇒ IN-USE ∷ takeBack 300 3 ⇒ GRANTED ∷ deactivate 5 1 ⇒ GRANTED ∷ takeBack 300 2 ⇒ IN-USE ∷ assign 300 0 ⇒ GRANTED ∷ takeBack 300 2 ⇒ GRANTED ∷ takeBack 300 0 ⇒ IN-USE ∷ [])
+    ∷ []
+
 pub all-come-out : every (comesOut lowerRequest lowerOf) samples ≡ true
 unfolding lowerOpen wordsOpen samples
 all-come-out = refl
@@ -88,6 +133,10 @@ all-come-out = refl
 pub policies-come-out : every (comesOut lowerRequest lowerOf) policies ≡ true
 unfolding lowerOpen wordsOpen policies
 policies-come-out = refl
+
+pub seniors-come-out : every (comesOut lowerRequest lowerOf) seniors ≡ true
+unfolding lowerOpen wordsOpen ranks seniors
+seniors-come-out = refl
 
 -- ---- "Rules per policy: 32 of each of kinds 9, 10, 11; 64 blocks; 64 bindings; 64 prerequisites."
 unfoldable pub copies : {A : Type 0} → ℕ → A → List A
@@ -98,6 +147,7 @@ copies (suc k) x = x ∷ copies k x
 unfoldable pub standing : ℕ → Policy
 standing k = record {
   people = record { users = λ _. false; roles = 3; assigned = λ _. empty };
+  seniority = noPolicy .seniority;
   permissions = noPolicy .permissions;
   tasks = record { template = λ t. cond (ltb t 2) (just 0) none; openTo = λ _. empty; banned = λ _. false; most = λ _. none };
   rules = record {
@@ -122,3 +172,24 @@ pub rules-per-policy : each oneMore (31 ∷ 32 ∷ 63 ∷ 64 ∷ []) ≡
     ∷ []
 unfolding lowerOpen copies standing oneMore
 rules-per-policy = refl
+
+-- ---- 02, Ask 7: "Limit 64 records." So many stand, 32 of them above role 40; role 1 stands above role 0, and user 7 has role 2, of which and role 3 he may have one.
+unfoldable pub raisedSo : ℕ → Policy
+raisedSo k = record {
+  people = record { users = λ u. eqb u 7; roles = 2 ^ 64 - 1; assigned = λ u. cond (eqb u 7) 4 empty };
+  seniority = record {
+    juniors = λ r. cond (eqb r 40) (2 ^ 32 - 1) (cond (eqb r 1) 1 (cond (eqb r 41) (2 ^ (k - 33) - 1) empty));
+    below = λ r. cond (eqb r 1) 1 empty;
+  };
+  permissions = noPolicy .permissions;
+  tasks = noPolicy .tasks;
+  rules = record { statics = record { n = 1; members = 12 } ∷ []; dynamics = []; taskSets = []; blocks = []; bindings = []; befores = [] };
+}
+
+-- the replies to one more: taken, ill made, in a circle, against a set, and well made
+unfoldable pub oneAbove : ℕ → List ℕ
+oneAbove k = each (λ s. policyAnswer (raisedSo k) s .reply) (standsAbove 40 31 ∷ standsAbove 0 0 ∷ standsAbove 0 1 ∷ standsAbove 2 3 ∷ standsAbove 2 4 ∷ [])
+
+pub raisings-per-policy : each oneAbove (63 ∷ 64 ∷ []) ≡ (TAKEN ∷ RULE ∷ LOOP ∷ STATIC ∷ GRANTED ∷ []) ∷ (TAKEN ∷ RULE ∷ LOOP ∷ STATIC ∷ FULL ∷ []) ∷ []
+unfolding lowerOpen raisedSo oneAbove
+raisings-per-policy = refl

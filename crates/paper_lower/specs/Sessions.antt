@@ -9,17 +9,17 @@ use Rattle.paper_lower.specs.Records.{Bytes, recordsOpen}
 use Rattle.paper_lower.specs.Forms.{lowerForms, formsOpen}
 use Rattle.paper_lower.specs.Kinds.{Kind, on, Answer, answer, kindsOpen}
 use Rattle.paper_lower.specs.Tables.{Permissions, Policy, Sessions, Lower, noSessions, withSessions, withActive, withHad}
-use Rattle.paper_lower.specs.Policy.{breaks, isFor, policyOpen}
+use Rattle.paper_lower.specs.Policy.{down, breaks, isFor, policyOpen}
 use Rattle.paper_lower.specs.Load.{loadOpen}
 use Rattle.paper_lower.specs.Roles.{countedOf, roleKinds, rolesOpen}
 
--- ---- "40 create subject a for user b with active roles m."
+-- ---- "40 create subject a for user b with active roles m." 02, Ask 7: "Activating a role below an assigned one is allowed".
 unfoldable pub createChecks : Lower → ℕ → ℕ → Set → List Check
 createChecks t a b m =
     (not (t .policy .people .users b) || not (within m (t .policy .people .roles)), UNKNOWN)
     ∷ (t .sessions .live a, TAKEN)
-    ∷ (not (within m (t .policy .people .assigned b)), NOT-ASSIGNED)
-    ∷ (some (breaks (union (countedOf (t .sessions) b) m)) (t .policy .rules .dynamics), DYNAMIC)
+    ∷ (not (within m (down (t .policy .seniority) (t .policy .people .assigned b))), NOT-ASSIGNED)
+    ∷ (some (breaks (down (t .policy .seniority) (union (countedOf (t .sessions) b) m))) (t .policy .rules .dynamics), DYNAMIC)
     ∷ []
 
 unfoldable pub createNext : Sessions → ℕ → ℕ → Set → Sessions
@@ -38,8 +38,8 @@ unfoldable pub activateChecks : Lower → ℕ → ℕ → List Check
 activateChecks t a b =
     (not (t .sessions .live a) || not (has (t .policy .people .roles) b), UNKNOWN)
     ∷ (has (t .sessions .active a) b, TAKEN)
-    ∷ (not (has (t .policy .people .assigned (t .sessions .user a)) b), NOT-ASSIGNED)
-    ∷ (some (breaks (plus (countedOf (t .sessions) (t .sessions .user a)) b)) (t .policy .rules .dynamics), DYNAMIC)
+    ∷ (not (has (down (t .policy .seniority) (t .policy .people .assigned (t .sessions .user a))) b), NOT-ASSIGNED)
+    ∷ (some (breaks (down (t .policy .seniority) (plus (countedOf (t .sessions) (t .sessions .user a)) b))) (t .policy .rules .dynamics), DYNAMIC)
     ∷ []
 
 unfoldable pub activateNext : Sessions → ℕ → ℕ → Sessions
@@ -54,14 +54,14 @@ deactivateChecks t a b =
 unfoldable pub deactivateNext : Sessions → ℕ → ℕ → Sessions
 deactivateNext s a b = withActive s (upd (s .active) a (minus (s .active a) b))
 
--- ---- "56 check: subject a, operation b, object c." DENIED: "no active role of the subject has the permission", "an undeclared pair is denied".
+-- ---- "56 check: subject a, operation b, object c." DENIED: "no active role of the subject has the permission", nor one below an active role; "an undeclared pair is denied".
 unfoldable pub allowed : Permissions → Set → ℕ → ℕ → Bool
 allowed p m operation object = someBelow 256 (λ i. holds (isFor operation object) (p .declared i) && meets (p .holders i) m)
 
 unfoldable pub checkChecks : Lower → ℕ → ℕ → ℕ → List Check
 checkChecks t a b c =
     (not (t .sessions .live a), UNKNOWN)
-    ∷ (not (allowed (t .policy .permissions) (t .sessions .active a) b c), DENIED)
+    ∷ (not (allowed (t .policy .permissions) (down (t .policy .seniority) (t .sessions .active a)) b c), DENIED)
     ∷ []
 
 -- ---- All of them.

@@ -48,6 +48,10 @@ meets m k = not (eqb (cut m k) empty)
 unfoldable pub within : Set → Set → Bool
 within m k = eqb (cut m k) m
 
+-- the members of m that are none of k
+unfoldable pub without : Set → Set → Set
+without m k = bitXor m (cut m k)
+
 -- the numbers below n that have the property
 unfoldable pub collect : ℕ → (ℕ → Bool) → Set
 collect zero f = empty
@@ -60,5 +64,5 @@ unionBelow (suc n) f = union (unionBelow n f) (f n)
 
 -- What this page defines, opened together where a case is computed.
 unfoldable pub setsOpen : Unit {0}
-unfolding has plus minus union cut onesIn size overlap meets within collect unionBelow
+unfolding has plus minus union cut onesIn size overlap meets within without collect unionBelow
 setsOpen = tt

@@ -14,6 +14,11 @@ pub record People : Type 0 where
   pub roles : Set
   pub assigned : ℕ → Set
 
+-- 02, Ask 7: "role a stands above role b". Of each role, the roles that it was put above by name, and all roles below it.
+pub record Seniority : Type 0 where
+  pub juniors : ℕ → Set
+  pub below : ℕ → Set
+
 -- "permission a = operation b on object c"
 pub record Permission : Type 0 where
   pub operation : ℕ
@@ -57,6 +62,7 @@ pub record Rules : Type 0 where
 
 pub record Policy : Type 0 where
   pub people : People
+  pub seniority : Seniority
   pub permissions : Permissions
   pub tasks : Tasks
   pub rules : Rules
@@ -77,6 +83,7 @@ unfoldable pub noPolicy : Policy
 noPolicy =
     record {
       people = record { users = λ _. false; roles = empty; assigned = λ _. empty };
+      seniority = record { juniors = λ _. empty; below = λ _. empty };
       permissions = record { declared = λ _. none; holders = λ _. empty; carriers = λ _. empty };
       tasks = record { template = λ _. none; openTo = λ _. empty; banned = λ _. false; most = λ _. none };
       rules = record { statics = []; dynamics = []; taskSets = []; blocks = []; bindings = []; befores = [] };
@@ -87,16 +94,19 @@ noSessions = record { live = λ _. false; user = λ _. 0; active = λ _. empty; 
 
 -- ---- The tables with one of them anew.
 abbrev pub withPeople : Policy → People → Policy
-withPeople p x = record { people = x; permissions = p .permissions; tasks = p .tasks; rules = p .rules }
+withPeople p x = record { people = x; seniority = p .seniority; permissions = p .permissions; tasks = p .tasks; rules = p .rules }
+
+abbrev pub withSeniority : Policy → Seniority → Policy
+withSeniority p x = record { people = p .people; seniority = x; permissions = p .permissions; tasks = p .tasks; rules = p .rules }
 
 abbrev pub withPermissions : Policy → Permissions → Policy
-withPermissions p x = record { people = p .people; permissions = x; tasks = p .tasks; rules = p .rules }
+withPermissions p x = record { people = p .people; seniority = p .seniority; permissions = x; tasks = p .tasks; rules = p .rules }
 
 abbrev pub withTasks : Policy → Tasks → Policy
-withTasks p x = record { people = p .people; permissions = p .permissions; tasks = x; rules = p .rules }
+withTasks p x = record { people = p .people; seniority = p .seniority; permissions = p .permissions; tasks = x; rules = p .rules }
 
 abbrev pub withRules : Policy → Rules → Policy
-withRules p x = record { people = p .people; permissions = p .permissions; tasks = p .tasks; rules = x }
+withRules p x = record { people = p .people; seniority = p .seniority; permissions = p .permissions; tasks = p .tasks; rules = x }
 
 abbrev pub withPolicy : Lower → Policy → Lower
 withPolicy t p = record { policy = p; sessions = t .sessions }

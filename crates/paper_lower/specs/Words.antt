@@ -62,6 +62,10 @@ bound a b = record-of 15 0 a b 0 0
 abbrev pub isBefore : ℕ → ℕ → Bytes
 isBefore a b = record-of 16 0 a b 0 0
 
+-- 02, Ask 7: "kind 17: role a stands above role b"
+abbrev pub standsAbove : ℕ → ℕ → Bytes
+standsAbove a b = record-of 17 0 a b 0 0
+
 -- ---- "Request kinds:"
 abbrev pub addUser : ℕ → Bytes
 addUser a = record-of 32 0 a 0 0 0

@@ -8,8 +8,8 @@ use lib.Dec.{eqb}
 use Rattle.paper_lower.specs.Lists.{every, each}
 use Rattle.paper_lower.specs.Records.{Bytes}
 use Rattle.paper_lower.specs.Kinds.{Said, after}
-use Rattle.paper_lower.specs.Checks.{GRANTED, SHAPE, RANGE, UNKNOWN, TAKEN, IN-USE, RULE, NOT-ASSIGNED, STATIC, DYNAMIC, NO-ROLE, NOT-YOURS, DENIED, BEFORE, SEPARATION, BLOCK, ALONE, BOUND, COUNT}
-use Rattle.paper_lower.specs.Words.{Case, refuses, accepts, _⇒_, joined, comesOut, wordsOpen, record-of, user, role, permission, userHas, roleHas, task, openTo, carries, staticSet, dynamicSet, taskSet, block, ban, atMost, bound, isBefore, addUser, deleteUser, assign, takeBack, give, withdraw, create, destroy, activate, deactivate, openOrder, endOrder, claim, release, done, check, taskCheck, figures, stuckTasks}
+use Rattle.paper_lower.specs.Checks.{GRANTED, SHAPE, RANGE, UNKNOWN, TAKEN, IN-USE, RULE, NOT-ASSIGNED, STATIC, DYNAMIC, NO-ROLE, NOT-YOURS, DENIED, BEFORE, SEPARATION, BLOCK, ALONE, BOUND, COUNT, LOOP}
+use Rattle.paper_lower.specs.Words.{Case, refuses, accepts, _⇒_, joined, comesOut, wordsOpen, record-of, user, role, permission, userHas, roleHas, task, openTo, carries, staticSet, dynamicSet, taskSet, block, ban, atMost, bound, isBefore, standsAbove, addUser, deleteUser, assign, takeBack, give, withdraw, create, destroy, activate, deactivate, openOrder, endOrder, claim, release, done, check, taskCheck, figures, stuckTasks}
 use Rattle.paper_lower.specs.Load.{load}
 use Rattle.paper_upper.specs.Questions.{figuresOf, questionsOpen}
 use Rattle.paper_upper.specs.Engine.{request, Placed, placedRun, engineOf, engineOpen}
@@ -241,6 +241,19 @@ figuresComeOut c =
     let f = figuresOf (c .instance) (t .orders .entries) in
     eqb (f .entries) (c .entries) && eqb (f .done) (c .done))
 
+-- ---- 02, Ask 7: "Team leads should have what clerks have." Role 2 stands above role 1, and that above the clerks' role 0.
+unfoldable pub leads : List Bytes
+leads = clerks 300 301 ++ (role 1 ∷ role 2 ∷ standsAbove 2 1 ∷ standsAbove 1 0 ∷ user 302 ∷ userHas 302 2 ∷ task 2 0 ∷ openTo 2 2 ∷ [])
+
+unfoldable pub seniors : List Case
+seniors =
+    -- a lead opens the clerks' tasks, under the same rules, and a clerk not the lead's; the role that counts is an active one
+    accepts (leads ++ (taskSet 1 3 ∷ []))
+    (desks 300 301 ++ (create 7 302 4 ⇒ GRANTED ∷ claim 7 0 0 ⇒ GRANTED ∷ claim 7 0 1 ⇒ SEPARATION ∷ claim 5 0 2 ⇒ NO-ROLE ∷ claim 7 0 2 ⇒ GRANTED ∷ create 8 302 0 ⇒ GRANTED ∷ claim 8 0 1 ⇒ NO-ROLE
+    ∷ activate 8 0 ⇒ GRANTED ∷ claim 8 0 1 ⇒ SEPARATION ∷ claim 8 0 2 ⇒ TAKEN ∷ takeBack 302 2 ⇒ IN-USE ∷ claim 6 0 1 ⇒ GRANTED ∷ []))
+    ∷ refuses (leads ++ (standsAbove 0 2 ∷ [])) LOOP 18
+    ∷ []
+
 -- ---- 02, Ask 2: the place beside each reply. "each request line of 01's listing gains " 0", but for requests 4, 6 and 8, which gain " 1""
 pub record Places : Type 0 where
   pub of : Case
@@ -304,6 +317,10 @@ all-come-out = refl
 pub further-come-out : every (comesOut request engineOf) further ≡ true
 unfolding engineOpen wordsOpen clerks desks further
 further-come-out = refl
+
+pub seniors-come-out : every (comesOut request engineOf) seniors ≡ true
+unfolding engineOpen wordsOpen clerks desks leads seniors
+seniors-come-out = refl
 
 pub places-come-out : every placesComeOut placed ≡ true
 unfolding engineOpen wordsOpen clerks desks listing countLimit clerksOfThree placed samePlaces placesComeOut

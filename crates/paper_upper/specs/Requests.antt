@@ -9,7 +9,7 @@ use Rattle.paper_lower.specs.Lists.Maybe.{none, just}
 use Rattle.paper_lower.specs.Checks.{Check, UNKNOWN, TAKEN, IN-USE, NO-ROLE, NOT-YOURS, DENIED, FULL}
 use Rattle.paper_lower.specs.Kinds.{Kind, on}
 use Rattle.paper_lower.specs.Tables.{Permissions, Tasks, withPolicy, withSessions}
-use Rattle.paper_lower.specs.Policy.{hasTask, isFor}
+use Rattle.paper_lower.specs.Policy.{down, hasTask, isFor}
 use Rattle.paper_lower.specs.Roles.{deleteChecks, deleteNext}
 use Rattle.paper_lower.specs.Sessions.{destroyChecks, destroyNext}
 use Rattle.paper_upper.specs.Orders.{isHeld, isHeldBy, Entry, entry, Engine, withLower, withOrders, withEntries, inOrder, ofTask, heldBy, tasksBy, tasksDone, tasksOthers}
@@ -48,12 +48,12 @@ endNext t a =
 unfoldable pub unknown : Engine → ℕ → ℕ → ℕ → Bool
 unknown t a b c = not (t .lower .sessions .live a) || not (holds (λ j. is j (t .lower .policy .tasks .template c)) (t .orders .opened b))
 
--- 50. TAKEN: "a task now held by someone". NO ROLE: "no active role of the subject opens the task". FULL: "no ledger entry free".
+-- 50. TAKEN: "a task now held by someone". NO ROLE: "no active role of the subject opens the task", nor (02, Ask 7) one below an active role. FULL: "no ledger entry free".
 unfoldable pub claimChecks : Engine → ℕ → ℕ → ℕ → List Check
 claimChecks t a b c =
     (unknown t a b c, UNKNOWN)
     ∷ (some (λ e. ofTask b c e && isHeld (e .standing)) (t .orders .entries), TAKEN)
-    ∷ (not (meets (t .lower .policy .tasks .openTo c) (t .lower .sessions .active a)), NO-ROLE)
+    ∷ (not (meets (t .lower .policy .tasks .openTo c) (down (t .lower .policy .seniority) (t .lower .sessions .active a))), NO-ROLE)
     ∷ ruleChecks (t .lower .policy .tasks) (t .lower .policy .rules) (t .orders .opened b) (t .orders .entries) b (t .lower .sessions .user a) c
     ++ ((leb 2048 (many (t .orders .entries)), FULL) ∷ [])
 

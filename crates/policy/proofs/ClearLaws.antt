@@ -1,17 +1,19 @@
 -- A buffer of zeros reads as the empty policy.
 use Prim.Native.Nat.{ℕ, _+_, _≤_}
 use mathlib.Core.List.{List, [], _++_, append-nil}
-use mathlib.Core.Path.{_≡_, refl, ap, _∙_}
+use mathlib.Core.Bool.{Bool, true, false, cond}
+use mathlib.Core.Path.{_≡_, refl, ap, _∙_, fun-ext}
 use native.Mathlib.Omega.{arith}
 use lib.ListN.{length, getD, replicate, drop, drop-of-length-le}
+use Rattle.paper_lower.specs.Sets.{empty, has}
 use Rattle.paper_lower.specs.Lists.{holds}
 use Rattle.paper_lower.specs.Lists.Maybe.{none}
 use Rattle.paper_lower.specs.Tables.{noPolicy}
 use Rattle.replies.specs.Cells.{rows}
 use Rattle.replies.proofs.CellLaws.{column-zeros, zeros-at}
 use Rattle.replies.proofs.RowLaws.{rows-end}
-use Rattle.policy.specs.Layout.{policyWords, permissionOf, templateOf, mostOf, Table, tableIn, rolesWord, limitsKept, blocksKept, pairsKept, userTable, assignedTable, permissionTable, holderTable, carrierTable, templateTable, openToTable, mostTable, bannedTable, bucketTable, listed, limitCount, limitsIn, blockCount, blocksIn, pairCount, pairsIn}
-use Rattle.policy.specs.Reading.{peopleIn, permissionsIn, tasksIn, rulesIn, policyOf, Cleared}
+use Rattle.policy.specs.Layout.{policyWords, permissionOf, templateOf, mostOf, Table, tableIn, rolesWord, limitsKept, blocksKept, pairsKept, userTable, assignedTable, permissionTable, holderTable, carrierTable, templateTable, openToTable, mostTable, bannedTable, bucketTable, juniorTable, belowTable, seniorsWord, seniorsIn, belowIn, listed, limitCount, limitsIn, blockCount, blocksIn, pairCount, pairsIn}
+use Rattle.policy.specs.Reading.{peopleIn, seniorityIn, permissionsIn, tasksIn, rulesIn, policyOf, Cleared}
 
 table-zeros : {A : Type 0} (t : Table A) (n : ℕ) → t .read 0 ≡ t .past → tableIn t (replicate n 0) ≡ (λ i. t .past)
 table-zeros t n e = rw (← e) (column-zeros (t .read) (t .first) (t .height) n)
@@ -36,11 +38,20 @@ module _ (n : ℕ) where
   unfolding permissionsIn permissionOf
   listed-zeros = ap (λ rows. listed rows (tableIn bucketTable (replicate n 0))) (table-zeros permissionTable n refl) ∙ unfold listed holds in refl
 
+  below-zeros : belowIn (replicate n 0) ≡ (λ r. empty)
+  unfolding belowIn seniorsIn
+  below-zeros = (λ x r. cond (has (zeros-at n seniorsWord x) r) (table-zeros belowTable n refl x r) empty) ∙ fun-ext (λ r. same (has 0 r))
+    where
+      same : (t : Bool) → cond t empty empty ≡ empty
+      same true = refl
+      same false = refl
+
   policy-zeros : policyOf (replicate n 0) ≡ noPolicy
-  unfolding policyOf peopleIn permissionsIn tasksIn rulesIn permissionOf templateOf mostOf noPolicy
+  unfolding policyOf peopleIn seniorityIn permissionsIn tasksIn rulesIn permissionOf templateOf mostOf noPolicy
   policy-zeros = λ x.
       record {
         people = record { users = table-zeros userTable n refl x; roles = zeros-at n rolesWord x; assigned = table-zeros assignedTable n refl x };
+        seniority = record { juniors = table-zeros juniorTable n refl x; below = below-zeros x };
         permissions =
             record {
               declared = listed-zeros x;

@@ -5,3 +5,4 @@ mod StoreLaws
 mod AddLaws
 mod ClearLaws
 pub mod RuleLaws
+pub mod SeniorLaws

@@ -2,23 +2,24 @@
 use Prim.Native.Nat.{ℕ, _+_, _*_, _/_, _≤_, _<_}
 use mathlib.Core.Bool.{Bool, true, false, cond, true≢false}
 use mathlib.Core.List.{List}
-use mathlib.Core.Path.{_≡_, refl, sym, ap, _∙_}
+use mathlib.Core.Path.{_≡_, refl, sym, ap, _∙_, fun-ext}
 use native.Mathlib.Omega.{arith}
 use borrow.Author.Tests.{eqb-true, eqb-false}
 use lib.Dec.{eqb}
 use lib.ListN.{length, getD, set, length-set}
 use lib.Seq.{getD-set-same, getD-set-other}
-use Rattle.paper_lower.specs.Sets.{has, plus}
+use Rattle.paper_lower.specs.Sets.{empty, has, plus}
 use Rattle.paper_lower.specs.Lists.{Maybe, upd}
 use Rattle.paper_lower.specs.Lists.Maybe.{none, just}
-use Rattle.paper_lower.specs.Tables.{Permission, Policy, withPermissions}
+use Rattle.paper_lower.specs.Tables.{Permission, Policy, withSeniority, withPermissions}
 use Rattle.paper_lower.proofs.ListLaws.{upd-same, upd-other}
+use Rattle.sets.proofs.SetLaws.{has-new, has-other}
 use Rattle.replies.proofs.CellLaws.{column-at}
-use Rattle.policy.specs.Layout.{policyWords, flagOf, Table, behind, tableIn, rolesWord, userTable, assignedTable, permissionTable, holderTable, carrierTable, templateTable, openToTable, mostTable, bannedTable, bucketTable, permissionOf, bucketOf, listed, inBucket, unlessIn}
-use Rattle.policy.specs.Reading.{peopleIn, permissionsIn, tasksIn, policyOf, Ready, rolesAnew, userAnew, assignedAnew, permissionAnew, holdersAnew, carriersAnew, templateAnew, openToAnew, bannedAnew, mostAnew}
+use Rattle.policy.specs.Layout.{policyWords, flagOf, Table, behind, tableIn, rolesWord, userTable, assignedTable, permissionTable, holderTable, carrierTable, templateTable, openToTable, mostTable, bannedTable, bucketTable, juniorTable, belowTable, seniorsWord, seniorsIn, belowIn, permissionOf, bucketOf, listed, inBucket, unlessIn}
+use Rattle.policy.specs.Reading.{peopleIn, seniorityIn, permissionsIn, tasksIn, policyOf, Ready, rolesAnew, userAnew, assignedAnew, juniorsAnew, belowAnew, permissionAnew, holdersAnew, carriersAnew, templateAnew, openToAnew, bannedAnew, mostAnew}
 use Rattle.policy.proofs.WordLaws.{permission-word, template-word, most-word}
 use Rattle.policy.proofs.BucketLaws.{emptied-out, listed-emptied, listing, listed-set, bucket-small}
-use Rattle.policy.proofs.TableLaws.{Outside, narrow, table-same, table-off, people-off, declared-off, permissions-off, tasks-off, rules-off}
+use Rattle.policy.proofs.TableLaws.{Outside, narrow, table-same, table-off, people-off, below-off, seniority-off, declared-off, permissions-off, tasks-off, rules-off}
 
 -- the word b + i is the table's row i if the table starts at b, and else none of its words
 abbrev Beside : {A : Type 0} → Table A → ℕ → ℕ → Type 0
@@ -51,6 +52,7 @@ rowAnew b i v t =
             roles = t .people .roles;
             assigned = rowIf assignedTable b (t .people .assigned) i v;
           };
+      seniority = t .seniority;
       permissions =
           record {
             declared = t .permissions .declared;
@@ -87,6 +89,7 @@ module _ (l : List ℕ) (room : length l ≡ policyWords) where
               roles = getD-set-other l (b + i) rolesWord v 0 (omega arith) x;
               assigned = table-after assignedTable b i v (h .assigned) (omega arith) x;
             };
+        seniority = seniority-off l (b + i) v (omega (arith, h .first, h .last)) x;
         permissions =
             record {
               declared = declared-off l (b + i) v (h .declared, omega (arith, h .last)) x;
@@ -113,6 +116,7 @@ module _ (l : List ℕ) (room : length l ≡ policyWords) where
               roles = getD-set-same l rolesWord v 0 (omega arith) x;
               assigned = table-off assignedTable l rolesWord v (omega arith) x;
             };
+        seniority = seniority-off l rolesWord v (omega arith) x;
         permissions = permissions-off l rolesWord v (omega arith) x;
         tasks = tasks-off l rolesWord v (omega arith) x;
         rules = rules-off l rolesWord v (omega arith) x;
@@ -145,23 +149,81 @@ user-set l room i v m h =
     let next : length (set l (userTable .first + i) v) ≡ policyWords = rw length-set room in
     assigned-set (set l (userTable .first + i) v) next i m h ∙ ap (λ t. assignedAnew t i m) (row-set l room (userTable .first) i v (omega arith))
 
+-- ---- Senior roles: a store in one of their tables, or among the roles with some role below them.
+in-seniority : (l : List ℕ) (j v : ℕ) → Outside (seniorsWord + 1) (juniorTable .first) j × (seniorsWord ≤ j) → policyOf (set l j v) ≡ withSeniority (policyOf l) (seniorityIn (set l j v))
+unfolding policyOf
+in-seniority l j v h = λ x.
+    record {
+      people = people-off l j v (omega arith, narrow (h .0) (omega arith)) x;
+      seniority = seniorityIn (set l j v);
+      permissions = permissions-off l j v (narrow (h .0) (omega arith), narrow (h .0) (omega arith)) x;
+      tasks = tasks-off l j v (narrow (h .0) (omega arith)) x;
+      rules = rules-off l j v (omega arith, narrow (h .0) (omega arith)) x;
+    }
+
+module _ (l : List ℕ) (room : length l ≡ policyWords) (i m : ℕ) (h : i < 64) where
+  pub juniors-set : policyOf (set l (juniorTable .first + i) m) ≡ juniorsAnew (policyOf l) i m
+  unfolding policyOf seniorityIn
+  juniors-set =
+      in-seniority l (juniorTable .first + i) m (omega arith)
+      ∙ ap (withSeniority (policyOf l)) (λ x.
+      record {
+        juniors = table-same juniorTable l i m h (omega arith) x;
+        below = below-off l (juniorTable .first + i) m (omega arith) x;
+      })
+
+  -- the row, and the role among those with some role below them
+  below-now : (v : ℕ) → v ≡ plus (seniorsIn l) i → belowIn (set (set l (belowTable .first + i) m) seniorsWord v) ≡ upd (belowIn l) i m
+  unfolding belowIn seniorsIn
+  below-now v more =
+      let l₁ = set l (belowTable .first + i) m in
+      let room₁ : length l₁ ≡ policyWords = rw length-set room in
+      let word : getD (set l₁ seniorsWord v) seniorsWord 0 ≡ plus (getD l seniorsWord 0) i =
+      getD-set-same l₁ seniorsWord v 0 (omega arith) ∙ more in
+      let rows : tableIn belowTable (set l₁ seniorsWord v) ≡ upd (tableIn belowTable l) i m =
+      table-off belowTable l₁ seniorsWord v (omega arith) ∙ table-same belowTable l i m h (omega arith) in
+      (λ x r. cond (has (word x) r) (rows x r) empty)
+      ∙ fun-ext (λ r. at r (eqb r i) refl)
+    where
+      at : (r : ℕ) (here : Bool) → eqb r i ≡ here → cond (has (plus (getD l seniorsWord 0) i) r) (upd (tableIn belowTable l) i m r) empty ≡ upd (λ r. cond (has (getD l seniorsWord 0) r) (tableIn belowTable l r) empty) i m r
+      at r true e =
+          let q = eqb-true r i e in
+          rw (upd-same (tableIn belowTable l) i r m q, upd-same (λ r. cond (has (getD l seniorsWord 0) r) (tableIn belowTable l r) empty) i r m q, q, has-new (getD l seniorsWord 0) i)
+      at r false e =
+          let q = eqb-false r i e in
+          rw (upd-other (tableIn belowTable l) i r m q, upd-other (λ r. cond (has (getD l seniorsWord 0) r) (tableIn belowTable l r) empty) i r m q, has-other (getD l seniorsWord 0) i r q)
+
+  pub below-set : (v : ℕ) → v ≡ plus (seniorsIn l) i → policyOf (set (set l (belowTable .first + i) m) seniorsWord v) ≡ belowAnew (policyOf l) i m
+  unfolding policyOf seniorityIn
+  below-set v more =
+      let l₁ = set l (belowTable .first + i) m in
+      let l₂ = set l₁ seniorsWord v in
+      in-seniority l₁ seniorsWord v (omega arith)
+      ∙ ap (λ t. withSeniority t (seniorityIn l₂)) (in-seniority l (belowTable .first + i) m (omega arith))
+      ∙ ap (withSeniority (policyOf l)) (λ x.
+      record {
+        juniors = (table-off juniorTable l₁ seniorsWord v (omega arith) ∙ table-off juniorTable l (belowTable .first + i) m (omega arith)) x;
+        below = below-now v more x;
+      })
+
 -- ---- The permissions: a store in their rows or buckets.
 abbrev declaredAnew : Policy → (ℕ → Maybe Permission) → Policy
 declaredAnew t f = withPermissions t (record { declared = f; holders = t .permissions .holders; carriers = t .permissions .carriers })
 
-in-declared : (l : List ℕ) (j v : ℕ) → (permissionTable .first ≤ j) × Outside (behind permissionTable) (bucketTable .first) j → policyOf (set l j v) ≡ declaredAnew (policyOf l) (permissionsIn (set l j v) .declared)
+in-declared : (l : List ℕ) (j v : ℕ) → (permissionTable .first ≤ j) × (Outside (behind permissionTable) (bucketTable .first) j × (j < behind bucketTable)) → policyOf (set l j v) ≡ declaredAnew (policyOf l) (permissionsIn (set l j v) .declared)
 unfolding policyOf permissionsIn
 in-declared l j v h = λ x.
     record {
       people = people-off l j v (omega arith) x;
+      seniority = seniority-off l j v (omega arith) x;
       permissions =
           record {
             declared = permissionsIn (set l j v) .declared;
-            holders = table-off holderTable l j v (narrow (h .1) (omega arith)) x;
-            carriers = table-off carrierTable l j v (narrow (h .1) (omega arith)) x;
+            holders = table-off holderTable l j v (narrow (h .1 .0) (omega arith)) x;
+            carriers = table-off carrierTable l j v (narrow (h .1 .0) (omega arith)) x;
           };
-      tasks = tasks-off l j v (narrow (h .1) (omega arith)) x;
-      rules = rules-off l j v (omega arith, narrow (h .1) (omega arith)) x;
+      tasks = tasks-off l j v (narrow (h .1 .0) (omega arith)) x;
+      rules = rules-off l j v (omega arith, narrow (h .1 .0) (omega arith)) x;
     }
 
 -- rows of four t up to b emptied that have a pair of bucket h
@@ -237,6 +299,7 @@ module _ (l after : List ℕ) (room : length after ≡ policyWords) (i operation
   unfolding policyOf
   permission-set =
       let w = 4294967296 + operation + 65536 * object in
+      let low = bucket-small operation object in
       let l₁ = set after (permissionTable .first + i) w in
       let l₂ = set l₁ (bucketTable .first + bucketOf operation object) v in
       in-declared l₁ (bucketTable .first + bucketOf operation object) v (omega arith)

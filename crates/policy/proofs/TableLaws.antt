@@ -1,6 +1,6 @@
 -- A store at one word: a row anew of the table that it is in; each other table, group of tables and kind of rules is kept.
 use Prim.Native.Nat.{ℕ, _+_, _≤_, _<_, _/_, _%_, min}
-use mathlib.Core.Bool.{Bool, true, false}
+use mathlib.Core.Bool.{Bool, true, false, cond}
 use mathlib.Core.List.{List}
 use mathlib.Core.Path.{_≡_, refl}
 use native.Mathlib.Omega.{arith}
@@ -8,12 +8,13 @@ use borrow.Author.Tests.{leb-true, leb-false}
 use lib.Dec.{leb}
 use lib.ListN.{length, set}
 use lib.Seq.{getD-set-other}
+use Rattle.paper_lower.specs.Sets.{empty, has}
 use Rattle.paper_lower.specs.Lists.{upd}
 use Rattle.paper_lower.specs.Tables.{withRules}
 use Rattle.replies.specs.Cells.{rows}
 use Rattle.replies.proofs.CellLaws.{column-same, column-below, column-above}
-use Rattle.policy.specs.Layout.{same, Table, behind, tableIn, rolesWord, limitsKept, blocksKept, pairsKept, userTable, assignedTable, permissionTable, holderTable, carrierTable, templateTable, openToTable, mostTable, bannedTable, bucketTable, listed, limitTable, memberTable, limitCount, limitAt, limitsIn, partitioningTable, blockTable, blockCount, blockAt, blocksIn, pairTable, pairCount, pairAt, pairsIn}
-use Rattle.policy.specs.Reading.{peopleIn, permissionsIn, tasksIn, rulesIn, policyOf}
+use Rattle.policy.specs.Layout.{same, Table, behind, tableIn, rolesWord, limitsKept, blocksKept, pairsKept, userTable, assignedTable, permissionTable, holderTable, carrierTable, templateTable, openToTable, mostTable, bannedTable, bucketTable, juniorTable, belowTable, seniorsWord, seniorsIn, belowIn, listed, limitTable, memberTable, limitCount, limitAt, limitsIn, partitioningTable, blockTable, blockCount, blockAt, blocksIn, pairTable, pairCount, pairAt, pairsIn}
+use Rattle.policy.specs.Reading.{peopleIn, seniorityIn, permissionsIn, tasksIn, rulesIn, policyOf}
 
 -- not one of the words from first to before last
 abbrev pub Outside : ℕ → ℕ → ℕ → Type 0
@@ -68,7 +69,7 @@ pairs-off which l j v h = λ x.
 
 -- in the rules, if in a table at all
 abbrev pub InRules : ℕ → Type 0
-InRules j = (rolesWord < j) × (Outside (userTable .first) (behind bannedTable) j × Outside (bucketTable .first) (behind bucketTable) j)
+InRules j = (rolesWord < j) × (Outside seniorsWord (behind bannedTable) j × Outside (bucketTable .first) (behind belowTable) j)
 
 -- ---- The groups of tables.
 module _ (l : List ℕ) (j v : ℕ) where
@@ -79,6 +80,18 @@ module _ (l : List ℕ) (j v : ℕ) where
         users = table-off userTable l j v (narrow (h .1) (omega arith)) x;
         roles = getD-set-other l j rolesWord v 0 (omega arith) x;
         assigned = table-off assignedTable l j v (narrow (h .1) (omega arith)) x;
+      }
+
+  pub below-off : Outside seniorsWord (seniorsWord + 1) j × Outside (belowTable .first) (behind belowTable) j → belowIn (set l j v) ≡ belowIn l
+  unfolding belowIn seniorsIn
+  below-off h = λ x r. cond (has (getD-set-other l j seniorsWord v 0 (λ e. omega (arith, h .0 (omega arith))) x) r) (table-off belowTable l j v (h .1) x r) empty
+
+  pub seniority-off : Outside seniorsWord (seniorsWord + 1) j × Outside (juniorTable .first) (behind belowTable) j → seniorityIn (set l j v) ≡ seniorityIn l
+  unfolding seniorityIn
+  seniority-off h = λ x.
+      record {
+        juniors = table-off juniorTable l j v (narrow (h .1) (omega arith)) x;
+        below = below-off (h .0, narrow (h .1) (omega arith)) x;
       }
 
   pub declared-off : Outside (permissionTable .first) (behind permissionTable) j × Outside (bucketTable .first) (behind bucketTable) j → permissionsIn (set l j v) .declared ≡ permissionsIn l .declared
@@ -121,7 +134,8 @@ module _ (l : List ℕ) (j v : ℕ) where
   in-rules h = λ x.
       record {
         people = people-off (h .0, narrow (h .1 .0) (omega arith)) x;
-        permissions = permissions-off (narrow (h .1 .0) (omega arith), h .1 .1) x;
+        seniority = seniority-off (narrow (h .1 .0) (omega arith), narrow (h .1 .1) (omega arith)) x;
+        permissions = permissions-off (narrow (h .1 .0) (omega arith), narrow (h .1 .1) (omega arith)) x;
         tasks = tasks-off (narrow (h .1 .0) (omega arith)) x;
         rules = rulesIn (set l j v);
       }

@@ -44,7 +44,7 @@ behind t = t .first + t .height
 abbrev pub tableIn : {A : Type 0} → Table A → List ℕ → ℕ → A
 tableIn t l = column (t .read) (t .past) (t .first) (t .height) l
 
--- ---- Words of their own: the declared roles, and the numbers of kept rules of each kind. Word 7 is free.
+-- ---- Words of their own: the declared roles, the numbers of kept rules of each kind, and the roles with some role below them.
 abbrev pub rolesWord : ℕ
 rolesWord = 0
 
@@ -56,6 +56,9 @@ blocksKept = 4
 
 abbrev pub pairsKept : ℕ → ℕ
 pairsKept which = 5 + which
+
+abbrev pub seniorsWord : ℕ
+seniorsWord = 7
 
 -- ---- The tables, each behind the one before. A new one goes to the end, so that it moves no other.
 abbrev pub userTable : Table Bool
@@ -162,6 +165,21 @@ inBucket h r = holds (λ x. eqb (bucketOf (x .operation) (x .object)) h) r
 unfoldable pub unlessIn : ℕ → Maybe Permission → Maybe Permission
 unlessIn h r = cond (inBucket h r) none r
 
+-- ---- Senior roles (02, Ask 7): of each role, the roles put below it by name, and all roles below it.
+abbrev pub juniorTable : Table Set
+juniorTable = record { first = behind bucketTable; height = 64; read = same; past = empty }
+
+abbrev pub belowTable : Table Set
+belowTable = record { first = behind juniorTable; height = 64; read = same; past = empty }
+
+-- the roles with some role below them
+unfoldable pub seniorsIn : List ℕ → Set
+seniorsIn l = getD l seniorsWord 0
+
+-- The row of a role that is none of them is not looked at: so one test tells that no role of a set has any below.
+unfoldable pub belowIn : List ℕ → ℕ → Set
+belowIn l r = cond (has (seniorsIn l) r) (tableIn belowTable l r) empty
+
 -- ---- The length of the buffer: behind the last table.
 abbrev pub policyWords : ℕ
-policyWords = behind bucketTable
+policyWords = behind belowTable

@@ -8,11 +8,14 @@ use lib.ListN.{getD, length}
 use Rattle.paper_lower.specs.Sets.{Set, empty, has}
 use Rattle.paper_lower.specs.Lists.{upd, add}
 use Rattle.paper_lower.specs.Lists.Maybe.{just}
-use Rattle.paper_lower.specs.Tables.{People, Permissions, Tasks, Limit, Pair, Rules, Policy, noPolicy, withPeople, withPermissions, withTasks, withRules, withAssigned, withHolders, withBlocks}
-use Rattle.policy.specs.Layout.{policyWords, rolesWord, tableIn, userTable, assignedTable, permissionTable, holderTable, carrierTable, templateTable, openToTable, mostTable, bannedTable, bucketTable, listed, inBucket, limitsIn, blocksIn, pairsIn}
+use Rattle.paper_lower.specs.Tables.{People, Seniority, Permissions, Tasks, Limit, Pair, Rules, Policy, noPolicy, withPeople, withSeniority, withPermissions, withTasks, withRules, withAssigned, withHolders, withBlocks}
+use Rattle.policy.specs.Layout.{policyWords, rolesWord, tableIn, userTable, assignedTable, permissionTable, holderTable, carrierTable, templateTable, openToTable, mostTable, bannedTable, bucketTable, juniorTable, belowIn, listed, inBucket, limitsIn, blocksIn, pairsIn}
 
 unfoldable pub peopleIn : List ℕ → People
 peopleIn l = record { users = tableIn userTable l; roles = getD l rolesWord 0; assigned = tableIn assignedTable l }
+
+unfoldable pub seniorityIn : List ℕ → Seniority
+seniorityIn l = record { juniors = tableIn juniorTable l; below = belowIn l }
 
 unfoldable pub permissionsIn : List ℕ → Permissions
 permissionsIn l = record { declared = listed (tableIn permissionTable l) (tableIn bucketTable l); holders = tableIn holderTable l; carriers = tableIn carrierTable l }
@@ -24,7 +27,7 @@ unfoldable pub rulesIn : List ℕ → Rules
 rulesIn l = record { statics = limitsIn 0 l; dynamics = limitsIn 1 l; taskSets = limitsIn 2 l; blocks = blocksIn l; bindings = pairsIn 0 l; befores = pairsIn 1 l }
 
 unfoldable pub policyOf : List ℕ → Policy
-policyOf l = record { people = peopleIn l; permissions = permissionsIn l; tasks = tasksIn l; rules = rulesIn l }
+policyOf l = record { people = peopleIn l; seniority = seniorityIn l; permissions = permissionsIn l; tasks = tasksIn l; rules = rulesIn l }
 
 -- the emptied buffer: the empty policy, and not one word besides
 pub record Cleared (l : List ℕ) : Type 0 where
@@ -78,6 +81,12 @@ userAnew t a declared m = withPeople t (record { users = upd (t .people .users) 
 
 abbrev pub assignedAnew : Policy → ℕ → Set → Policy
 assignedAnew t a m = withPeople t (withAssigned (t .people) (upd (t .people .assigned) a m))
+
+abbrev pub juniorsAnew : Policy → ℕ → Set → Policy
+juniorsAnew t r m = withSeniority t (record { juniors = upd (t .seniority .juniors) r m; below = t .seniority .below })
+
+abbrev pub belowAnew : Policy → ℕ → Set → Policy
+belowAnew t r m = withSeniority t (record { juniors = t .seniority .juniors; below = upd (t .seniority .below) r m })
 
 abbrev pub permissionAnew : Policy → ℕ → ℕ → ℕ → Policy
 permissionAnew t a operation object =

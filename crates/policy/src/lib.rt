@@ -5,11 +5,12 @@ ghost use lib.Dec.{leb};
 ghost use lib.ListN.{length};
 ghost use Rattle.paper_lower.specs.Lists.{holds, there, is};
 ghost use Rattle.paper_lower.specs.Policy.{together};
-ghost use Rattle.policy.specs.Layout.{policyWords, flagOf, permissionOf, tableIn, bucketTable, bucketOf, foursFor, rowIs, unlessIn, limitCount, limitAt, blockCount, blockAt, pairCount, pairAt};
-ghost use Rattle.policy.specs.Reading.{policyOf, Cleared, Ready, rolesAnew, userAnew, assignedAnew, permissionAnew, holdersAnew, carriersAnew, templateAnew, openToAnew, bannedAnew, mostAnew, limitAdded, blockAdded, pairAdded};
+ghost use Rattle.policy.specs.Layout.{policyWords, seniorsIn, flagOf, permissionOf, tableIn, bucketTable, bucketOf, foursFor, rowIs, unlessIn, limitCount, limitAt, blockCount, blockAt, pairCount, pairAt};
+ghost use Rattle.policy.specs.Reading.{policyOf, Cleared, Ready, rolesAnew, userAnew, assignedAnew, juniorsAnew, belowAnew, permissionAnew, holdersAnew, carriersAnew, templateAnew, openToAnew, bannedAnew, mostAnew, limitAdded, blockAdded, pairAdded};
 use sets::Set;
 
-// ---- Where each table starts: word 0 has the declared roles, the next ones the numbers of kept rules; then one table behind the other.
+// ---- Where each table starts: word 0 has the declared roles, the next ones the numbers of kept rules, word 7 the roles with some role below
+// them; then one table behind the other.
 const ROLES: usize = 0;
 
 const LIMIT_COUNTS: usize = 1;
@@ -17,6 +18,8 @@ const LIMIT_COUNTS: usize = 1;
 const BLOCK_COUNT: usize = 4;
 
 const PAIR_COUNTS: usize = 5;
+
+const SENIORS: usize = 7;
 
 const USERS: usize = 8;
 
@@ -48,8 +51,12 @@ const PAIRS: usize = BLOCKS + 64;
 
 const BUCKETS: usize = PAIRS + 128;
 
+const JUNIORS: usize = BUCKETS + 1024;
+
+const BELOW: usize = JUNIORS + 64;
+
 // The length of the buffer. A new table stands here, and moves no other.
-pub const POLICY_WORDS: usize = BUCKETS + 1024;
+pub const POLICY_WORDS: usize = BELOW + 64;
 
 // ---- People.
 
@@ -97,6 +104,54 @@ pub fn set_assigned(p: &mut [u64], a: usize, roles: Set)
     ensures { λ _. ⌜ policyOf (now (p .exit)) ≡ assignedAnew (policyOf (now (p .entry))) a (roles .bits) ⌝ }
 {
     p[ASSIGNED + a] = roles.bits;
+}
+
+// ---- Senior roles.
+
+// The roles put below role r by name.
+pub fn juniors(p: &[u64], r: usize) -> Set
+    requires { ⌜ (length (now p) ≡ policyWords) × (r < 64) ⌝ }
+    ensures { λ x. ⌜ x .bits ≡ policyOf (now (p .entry)) .seniority .juniors r ⌝ }
+{
+    Set {
+        bits: p[JUNIORS + r],
+    }
+}
+
+pub fn set_juniors(p: &mut [u64], r: usize, roles: Set)
+    requires { ⌜ (length (now p) ≡ policyWords) × (r < 64) ⌝ }
+    ensures { λ _. ⌜ policyOf (now (p .exit)) ≡ juniorsAnew (policyOf (now (p .entry))) r (roles .bits) ⌝ }
+{
+    p[JUNIORS + r] = roles.bits;
+}
+
+// The roles with some role below them: no other has one.
+pub fn seniors(p: &[u64]) -> Set
+    requires { ⌜ length (now p) ≡ policyWords ⌝ }
+    ensures { λ x. ⌜ x .bits ≡ seniorsIn (now (p .entry)) ⌝ }
+{
+    Set { bits: p[SENIORS] }
+}
+
+// All roles below role r.
+pub fn below(p: &[u64], r: usize) -> Set
+    requires { ⌜ (length (now p) ≡ policyWords) × (r < 64) ⌝ }
+    ensures { λ x. ⌜ x .bits ≡ policyOf (now (p .entry)) .seniority .below r ⌝ }
+{
+    if !seniors(p).has(r as u64) {
+        return Set::EMPTY;
+    }
+    Set { bits: p[BELOW + r] }
+}
+
+// All roles below role r anew: the row outright, whatever stood there, and the role among those that have one.
+pub fn set_below(p: &mut [u64], r: usize, roles: Set)
+    requires { ⌜ (length (now p) ≡ policyWords) × (r < 64) ⌝ }
+    ensures { λ _. ⌜ policyOf (now (p .exit)) ≡ belowAnew (policyOf (now (p .entry))) r (roles .bits) ⌝ }
+{
+    let more = seniors(p).with(r as u64);
+    p[BELOW + r] = roles.bits;
+    p[SENIORS] = more.bits;
 }
 
 // ---- Permissions.

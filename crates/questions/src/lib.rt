@@ -1,5 +1,5 @@
 // What the kinds ask of the policy's tasks, users and rules: searches and folds over its rows, each equal to the rules' question (docs/RULES.md) of the policy's tables.
-// It rests on the getters of the policy buffer and on nothing of its layout.
+// It rests on the getters of the policy buffer, on nothing of its layout, and on senior roles.
 ghost use mathlib.Core.Path.{_≡_};
 ghost use mathlib.Core.Bool.{cond, _&&_};
 ghost use Prim.Native.Nat.{_<_};
@@ -7,7 +7,7 @@ ghost use lib.Dec.{leb};
 ghost use lib.ListN.{length};
 ghost use Rattle.paper_lower.specs.Sets.{plus, minus, size, within};
 ghost use Rattle.paper_lower.specs.Lists.{someBelow, some};
-ghost use Rattle.paper_lower.specs.Policy.{breaks, declaredTasks, tasksOf, hasTask, oneTemplate, sameLimit, sameBlock, samePair, partitioned};
+ghost use Rattle.paper_lower.specs.Policy.{down, breaks, declaredTasks, tasksOf, hasTask, oneTemplate, sameLimit, sameBlock, samePair, partitioned};
 ghost use Rattle.policy.specs.Layout.{policyWords, limitAt, blockAt, pairAt};
 ghost use Rattle.policy.specs.Reading.{policyOf, limitsOf, pairsOf};
 ghost use Rattle.questions.specs.Rows.{strays, lacks, exceeds, joined};
@@ -178,18 +178,18 @@ pub fn limit_repeated(p: &[u64], which: usize, n: u64, m: Set) -> bool
     false
 }
 
-// Whether user u is declared and has more than n of the roles m.
+// Whether user u is declared and has more than n of the roles m, those below the user's roles counted.
 fn user_exceeds(p: &[u64], u: usize, n: u64, m: Set) -> bool
     requires { ⌜ (length (now p) ≡ policyWords) × (u < 1024) ⌝ }
-    ensures { λ r. ⌜ r ≡ exceeds (policyOf (now (p .entry)) .people) n (m .bits) u ⌝ }
+    ensures { λ r. ⌜ r ≡ exceeds (policyOf (now (p .entry))) n (m .bits) u ⌝ }
 {
-    policy::user_declared(p, u) & (n < m.overlap(policy::assigned(p, u)))
+    policy::user_declared(p, u) & (n < m.overlap(seniors::down(p, policy::assigned(p, u))))
 }
 
 // Whether some user has more than n of the roles m.
 pub fn user_breaks(p: &[u64], n: u64, m: Set) -> bool
     requires { ⌜ length (now p) ≡ policyWords ⌝ }
-    ensures { λ r. ⌜ r ≡ someBelow 1024 (λ u. policyOf (now (p .entry)) .people .users u && breaks (policyOf (now (p .entry)) .people .assigned u) (record { n = n; members = m .bits })) ⌝ }
+    ensures { λ r. ⌜ r ≡ someBelow 1024 (λ u. policyOf (now (p .entry)) .people .users u && breaks (down (policyOf (now (p .entry)) .seniority) (policyOf (now (p .entry)) .people .assigned u)) (record { n = n; members = m .bits })) ⌝ }
 {
     let mut u = 0;
     while u < 1024 {

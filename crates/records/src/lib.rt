@@ -139,6 +139,7 @@ fn form_of(kind: u64) -> Form
         14 => Form(LOAD, NO_B | NO_C, NO_M, TASK, 0, 0),
         15 => Form(LOAD, NO_N | NO_C, NO_M, TASK, TASK, 0),
         16 => Form(LOAD, NO_N | NO_C, NO_M, TASK, TASK, 0),
+        17 => Form(LOAD, NO_N | NO_C, NO_M, ROLE, ROLE, 0),
         32 => Form(LOWER, NO_N | NO_B | NO_C, ANY_M, USER, 0, 0),
         33 => Form(LOWER, NO_N | NO_B | NO_C, NO_M, USER, 0, 0),
         34 => Form(LOWER, NO_N | NO_C, NO_M, USER, ROLE, 0),

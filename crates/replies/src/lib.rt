@@ -25,6 +25,7 @@ pub enum Reply {
     Bound,
     Count,
     Full,
+    Loop,
 }
 
 // The table's number of a reply.
@@ -53,6 +54,7 @@ pub fn number(r: Reply) -> u64
         Reply::Bound => 18,
         Reply::Count => 19,
         Reply::Full => 20,
+        Reply::Loop => 23,
     }
 }
 

@@ -3,7 +3,7 @@
 ghost use mathlib.Core.Path.{_≡_};
 ghost use Prim.Native.Nat.{_<_};
 ghost use lib.ListN.{length};
-ghost use Rattle.paper_lower.specs.Roles.{deleteNext};
+ghost use Rattle.paper_lower.specs.Roles.{deleteNext, lostBy};
 ghost use Rattle.policy.specs.Layout.{policyWords};
 ghost use Rattle.policy.specs.Reading.{policyOf};
 ghost use Rattle.sessions.specs.Reading.{sessionsWords};
@@ -27,7 +27,7 @@ fn join_reply(p: &[u64], a: u64, m: Set) -> Reply
     if policy::user_declared(p, a as usize) {
         return Reply::Taken;
     }
-    if questions::broken(p, STATIC, m) {
+    if questions::broken(p, STATIC, seniors::down(p, m)) {
         return Reply::Static;
     }
     Reply::Granted
@@ -80,6 +80,18 @@ pub fn delete(p: &mut [u64], s: &[u64], a: u64) -> Reply
 
 // ---- 35: take role b back from user a.
 
+// The roles that user a would no longer have without role b, those below counted.
+fn lost_by(p: &[u64], a: u64, b: u64) -> Set
+    requires { ⌜ (length (now p) ≡ policyWords) × ((a < 1024) × (b < 64)) ⌝ }
+    ensures { λ r. ⌜ r .bits ≡ lostBy (policyOf (now (p .entry))) a b ⌝ }
+{
+    let roles = policy::assigned(p, a as usize);
+    let left = roles.without(b);
+    let before = seniors::down(p, roles);
+    let after = seniors::down(p, left);
+    before.beyond(after)
+}
+
 fn take_back_reply(p: &[u64], s: &[u64], a: u64, b: u64) -> Reply
     requires { ⌜ (length (now p) ≡ policyWords) × ((length (now s) ≡ sessionsWords) × ((a < 1024) × (b < 64))) ⌝ }
     ensures { λ r. ⌜ TakeBackJudged (now (p .entry)) (now (s .entry)) a b r ⌝ }
@@ -90,8 +102,11 @@ fn take_back_reply(p: &[u64], s: &[u64], a: u64, b: u64) -> Reply
     {
         return Reply::Unknown;
     }
-    let active = sessions::active_of(s, a).has(b);
-    if active { Reply::InUse } else { Reply::Granted }
+    if sessions::active_of(s, a).meets(lost_by(p, a, b)) {
+        Reply::InUse
+    } else {
+        Reply::Granted
+    }
 }
 
 pub fn take_back(p: &mut [u64], s: &[u64], a: u64, b: u64) -> Reply

@@ -10,7 +10,7 @@ use lib.Arith.{half-le}
 use lib.Dec.{eqb, ltb}
 use lib.Pow.{pow-lt, pow-pos}
 use lib.Bits.{bitAnd, bitOr, bitXor, differ, and-zero-r, or-lt}
-use lib.Count.{ones, ones-step}
+use lib.Count.{ones, ones-step, ones-le}
 use Rattle.paper_lower.specs.Lists.{someBelow}
 use Rattle.paper_lower.specs.Sets.{Set, empty, has, plus, minus, union, cut, onesIn, size, overlap, meets, within, collect, unionBelow}
 use Rattle.paper_lower.proofs.ListLaws.{none-below, below-none}
@@ -397,6 +397,9 @@ pub size-ones : (m : Set) → size m ≡ ones m
 unfolding size
 size-ones m = onesIn-ones m m (le-refl m)
 
+pub size-le : (n : ℕ) (m : Set) → m < 2 ^ n → size m ≤ n
+size-le n m h = let x = size-ones m in let l = ones-le n m h in omega arith
+
 pub size-part : (a b : Set) → Part a b → size a ≤ size b
 unfolding Part
 size-part a b h = let x = size-ones a in let y = size-ones b in let l = ones-bits a b h in omega arith
@@ -510,3 +513,14 @@ pub unionBelow-lt : (b n : ℕ) (f : ℕ → Set) → ((k : ℕ) → k < n → f
 unfolding unionBelow
 unionBelow-lt b zero f h = pow-pos b
 unionBelow-lt b (suc n) f h = union-lt b _ _ (unionBelow-lt b n f (λ k l. h k (omega arith))) (h n (omega arith))
+
+pub has-unionBelow : (n : ℕ) (f : ℕ → Set) (x : ℕ) → has (unionBelow n f) x ≡ someBelow n (λ k. has (f k) x)
+unfolding unionBelow someBelow
+has-unionBelow zero f x = has-empty x
+has-unionBelow (suc n) f x = has-union (unionBelow n f) (f n) x ∙ ap (λ b. b || has (f n) x) (has-unionBelow n f x) ∙ swap (someBelow n (λ k. has (f k) x)) (has (f n) x)
+  where
+    swap : (a b : Bool) → (a || b) ≡ (b || a)
+    swap true true = refl
+    swap true false = refl
+    swap false true = refl
+    swap false false = refl

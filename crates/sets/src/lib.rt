@@ -4,7 +4,7 @@ ghost use mathlib.Core.Path.{_≡_};
 ghost use mathlib.Core.Bool.{true};
 ghost use Prim.Native.Nat.{_<_};
 ghost use lib.Dec.{eqb};
-ghost use Rattle.paper_lower.specs.Sets.{empty, has, plus, minus, union, cut, size, overlap, meets, within};
+ghost use Rattle.paper_lower.specs.Sets.{empty, has, plus, minus, union, cut, size, overlap, meets, within, without};
 
 pub struct Set {
     pub bits: u64,
@@ -70,6 +70,15 @@ impl Set {
         ensures { λ r. ⌜ r ≡ within (self .bits) (other .bits) ⌝ }
     {
         self.bits & other.bits == self.bits
+    }
+
+    // The members that are none of the other's.
+    pub fn beyond(self, other: Set) -> Set
+        ensures { λ r. ⌜ r .bits ≡ without (self .bits) (other .bits) ⌝ }
+    {
+        Set {
+            bits: self.bits ^ (self.bits & other.bits),
+        }
     }
 
     pub fn count(self) -> u64

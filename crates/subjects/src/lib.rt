@@ -25,11 +25,12 @@ fn create_reply(p: &[u64], s: &[u64], a: u64, b: u64, m: Set) -> Reply
     if sessions::live(s, a as usize) {
         return Reply::Taken;
     }
-    if !m.within(policy::assigned(p, b as usize)) {
+    if !m.within(seniors::down(p, policy::assigned(p, b as usize))) {
         return Reply::NotAssigned;
     }
-    let all = sessions::counted_of(s, b);
-    if questions::broken(p, DYNAMIC, all.union(m)) {
+    let all = sessions::counted_of(s, b).union(m);
+    let counted = seniors::down(p, all);
+    if questions::broken(p, DYNAMIC, counted) {
         return Reply::Dynamic;
     }
     Reply::Granted
@@ -85,11 +86,11 @@ fn activate_reply(p: &[u64], s: &[u64], a: u64, b: u64) -> Reply
         return Reply::Taken;
     }
     let user = sessions::user(s, a as usize);
-    if !policy::assigned(p, user as usize).has(b) {
+    if !seniors::down(p, policy::assigned(p, user as usize)).has(b) {
         return Reply::NotAssigned;
     }
     let all = sessions::counted_of(s, user);
-    if questions::broken(p, DYNAMIC, all.with(b)) {
+    if questions::broken(p, DYNAMIC, seniors::down(p, all.with(b))) {
         return Reply::Dynamic;
     }
     Reply::Granted
@@ -147,7 +148,8 @@ pub fn check_reply(p: &[u64], s: &[u64], a: u64, operation: u64, object: u64) ->
     if !sessions::live(s, a as usize) {
         return Reply::Unknown;
     }
-    if !permissions::allowed(p, sessions::active(s, a as usize), operation, object) {
+    let roles = seniors::down(p, sessions::active(s, a as usize));
+    if !permissions::allowed(p, roles, operation, object) {
         return Reply::Denied;
     }
     Reply::Granted

@@ -11,6 +11,7 @@ use Rattle.paper_lower.specs.Checks.{Check, first, UNKNOWN, TAKEN, NO-ROLE, BEF
 use Rattle.paper_lower.specs.Records.{Bytes, Record, decode}
 use Rattle.paper_lower.specs.Forms.{requestForms, formChecks}
 use Rattle.paper_lower.specs.Kinds.{chosen, replyTo, answer}
+use Rattle.paper_lower.specs.Policy.{down}
 use Rattle.paper_lower.proofs.ListLaws.{every-left}
 use Rattle.paper_lower.proofs.CheckLaws.{first-passed}
 use Rattle.paper_upper.specs.Orders.{Engine, isHeld, ofTask}
@@ -35,7 +36,7 @@ module _ (t : Engine) (s : Bytes) (e : decode s .kind ≡ 50) where
       formChecks requestForms s
       ++ ((unknown t (r .a) (r .b) (r .c), UNKNOWN)
       ∷ (some (λ e. ofTask (r .b) (r .c) e && isHeld (e .standing)) (t .orders .entries), TAKEN)
-      ∷ (not (meets (t .lower .policy .tasks .openTo (r .c)) (t .lower .sessions .active (r .a))), NO-ROLE)
+      ∷ (not (meets (t .lower .policy .tasks .openTo (r .c)) (down (t .lower .policy .seniority) (t .lower .sessions .active (r .a)))), NO-ROLE)
       ∷ [])
 
   abbrev rules : List Check

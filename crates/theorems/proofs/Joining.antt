@@ -14,7 +14,7 @@ use Rattle.paper_lower.specs.Records.{bytes, encode}
 use Rattle.paper_lower.specs.Forms.{lowerForms, requestForms, formOf, misplaced, above, misshapen, outOfRange, formChecks}
 use Rattle.paper_lower.specs.Kinds.{Answer, chosen, replyTo, answer, run, after}
 use Rattle.paper_lower.specs.Tables.{Limit, Policy, withPeople, withPolicy}
-use Rattle.paper_lower.specs.Policy.{breaks, userChecks, userNext, assignChecks, assignNext}
+use Rattle.paper_lower.specs.Policy.{down, breaks, userChecks, userNext, assignChecks, assignNext}
 use Rattle.paper_lower.specs.Roles.{joinChecks, joinNext, roleKinds}
 use Rattle.paper_lower.specs.Sessions.{sessionKinds, lowerKinds}
 use Rattle.paper_lower.specs.Words.{addUser, join, assign}
@@ -26,7 +26,8 @@ use Rattle.paper_upper.specs.Requests.{upperKinds}
 use Rattle.paper_upper.specs.Engine.{raised, sharedKinds, requestKinds, request}
 use Rattle.sets.proofs.SetLaws.{same-members, has-new, collect-above, collect-below, has-above, plus-lt, plus-member, within-has, has-within, within-trans, within-plus, within-refl, within-empty, within-part}
 use Rattle.theorems.specs.Joining.{gathered, EachOnce, EverySetIsListed, oneByOne, AllGranted, AsOneByOne, JoinedAsOneByOne, JoinedWithoutRoles}
-use Rattle.theorems.proofs.Roles.{Within, within-none, within-less, not-broken}
+use Rattle.theorems.proofs.Down.{down-part}
+use Rattle.theorems.proofs.Roles.{Within, within-less, not-broken, nothing-down}
 
 -- ---- what is asked of each request
 abbrev answered : ℕ → Engine → Engine → Answer Engine
@@ -56,7 +57,7 @@ none-broken ls m h = none-some (breaks m) ls (every-map ls (λ l x. le-ltb (l .n
 
 pub joined-without-roles : JoinedWithoutRoles
 unfolding joinChecks joinNext userChecks userNext
-joined-without-roles p a = (rw (within-empty (p .people .roles)) (rw (none-broken (p .rules .statics) empty (within-none (p .rules .statics))) refl), refl)
+joined-without-roles p a = (rw (within-empty (p .people .roles)) (rw (none-broken (p .rules .statics) _ (nothing-down (p .rules .statics) (p .seniority))) refl), refl)
 
 -- ---- the roles gathered
 gathered-more : (m : Set) (rs : List ℕ) → within m (gathered m rs) ≡ true
@@ -92,7 +93,7 @@ module _ (t : Engine) (a : ℕ) (small : a < 1024) where
       (ap (λ (x : Set). upd (upd (p .people .assigned) a m) a (plus x r)) (upd-same (p .people .assigned) a a m refl) ∙ upd-twice (p .people .assigned) a m (plus m r))
 
   assign-checks : (m : Set) (r : ℕ) → first (assignChecks (joinNext p a m) a r)
-      ≡ first ((not (has (p .people .roles) r), UNKNOWN) ∷ (has m r, TAKEN) ∷ (some (breaks (plus m r)) (p .rules .statics), STATIC) ∷ [])
+      ≡ first ((not (has (p .people .roles) r), UNKNOWN) ∷ (has m r, TAKEN) ∷ (some (breaks (down (p .seniority) (plus m r))) (p .rules .statics), STATIC) ∷ [])
   unfolding assignChecks joinNext
   assign-checks m r = rw (upd-same (p .people .users) a a true refl) (rw (upd-same (p .people .assigned) a a m refl) refl)
 
@@ -101,28 +102,29 @@ module _ (t : Engine) (a : ℕ) (small : a < 1024) where
       → (request (having m) (assign a r) .reply ≡ 0) × (request (having m) (assign a r) .tables ≡ having (plus m r))
   assign-answer m r k e = let q = asked-assign (having m) a r small k in (ap (λ x. x .reply) q ∙ e, ap (λ x. x .tables) q ∙ rw e (assigned-next m r))
 
-  forward : (m : Set) (rs : List ℕ) → EachOnce m rs → within (gathered m rs) (p .people .roles) ≡ true → Within (p .rules .statics) (gathered m rs)
+  forward : (m : Set) (rs : List ℕ) → EachOnce m rs → within (gathered m rs) (p .people .roles) ≡ true
+      → Within (p .rules .statics) (down (p .seniority) (gathered m rs))
       → AllGranted (run request (having m) (each (assign a) rs)) × (after request (having m) (each (assign a) rs) ≡ having (gathered m rs))
   unfolding gathered run after each
   forward m [] o known fits = (tt, refl)
   forward m (r ∷ rs) o known fits =
       let more = gathered-more (plus m r) rs in
       let declared = within-has _ (p .people .roles) r known (within-has (plus m r) _ r more (has-new m r)) in
-      let unbroken = none-broken (p .rules .statics) (plus m r) (within-less (p .rules .statics) (plus m r) _ (within-part _ _ more) fits) in
+      let unbroken = none-broken (p .rules .statics) _ (within-less (p .rules .statics) _ _ (down-part (p .seniority) (plus m r) _ (within-part _ _ more)) fits) in
       let e = assign-answer m r (o .0) (assign-checks m r ∙ rw declared (rw (o .1) (rw unbroken refl))) in
       let rest = forward (plus m r) rs (o .2) known fits in
       ((e .0, rw (e .1) (rest .0)), ap (λ x. after request x (each (assign a) rs)) (e .1) ∙ rest .1)
 
   backward : (m : Set) (rs : List ℕ) → EachOnce m rs → AllGranted (run request (having m) (each (assign a) rs))
-      → within m (p .people .roles) ≡ true → Within (p .rules .statics) m
-      → (within (gathered m rs) (p .people .roles) ≡ true) × Within (p .rules .statics) (gathered m rs)
+      → within m (p .people .roles) ≡ true → Within (p .rules .statics) (down (p .seniority) m)
+      → (within (gathered m rs) (p .people .roles) ≡ true) × Within (p .rules .statics) (down (p .seniority) (gathered m rs))
   unfolding gathered run each
   backward m [] o all known fits = (known, fits)
   backward m (r ∷ rs) o all known fits =
       let q = sym (assign-checks m r) ∙ sym (ap (λ x. x .reply) (asked-assign (having m) a r small (o .0))) ∙ all .0 in
-      let c = passed ((not (has (p .people .roles) r), UNKNOWN) ∷ (has m r, TAKEN) ∷ (some (breaks (plus m r)) (p .rules .statics), STATIC) ∷ []) (tt, (tt, (tt, tt))) q in
+      let c = passed ((not (has (p .people .roles) r), UNKNOWN) ∷ (has m r, TAKEN) ∷ (some (breaks (down (p .seniority) (plus m r))) (p .rules .statics), STATIC) ∷ []) (tt, (tt, (tt, tt))) q in
       let e = assign-answer m r (o .0) (assign-checks m r ∙ q) in
-      backward (plus m r) rs (o .2) (rw (e .1) at (all .1)) (declares (not-false _ (c .0))) (not-broken (p .rules .statics) (plus m r) (c .1 .1 .0))
+      backward (plus m r) rs (o .2) (rw (e .1) at (all .1)) (declares (not-false _ (c .0))) (not-broken (p .rules .statics) _ (c .1 .1 .0))
     where
       declares : has (p .people .roles) r ≡ true → within (plus m r) (p .people .roles) ≡ true
       declares h = has-within (plus m r) _ (λ i k. ⊎-elim (λ (e : i ≡ r). rw e h) (λ (e : has m i ≡ true). within-has m _ i known e) (plus-member m r i k))
@@ -153,7 +155,7 @@ module _ (t : Engine) (a : ℕ) (small : a < 1024) where
   whole rs o all =
       let new : first (joinChecks p a empty) ≡ 0 = sym (joins empty (omega arith)) ∙ all .0 in
       let c = passed ((p .people .users a, TAKEN) ∷ []) (tt, tt) (sym alone ∙ new) in
-      let b = backward empty rs o (rw (added new) at (all .1)) (within-empty (p .people .roles)) (within-none (p .rules .statics)) in
+      let b = backward empty rs o (rw (added new) at (all .1)) (within-empty (p .people .roles)) (nothing-down (p .rules .statics) (p .seniority)) in
       rw (b .0) (rw (c .0) (rw (none-broken (p .rules .statics) _ (b .1)) refl))
 
 pub joined-as-one-by-one : JoinedAsOneByOne

@@ -15,6 +15,8 @@ pub mod Prerequisites
 pub mod Ledger
 pub mod Meets
 pub mod Sound
+pub mod Down
+pub mod Ranks
 pub mod Roles
 pub mod LoadedRoles
 pub mod Keeps
@@ -25,5 +27,6 @@ pub mod Theorems
 pub mod Places
 pub mod Meeting
 pub mod Joining
+pub mod Seniority
 pub mod Stuck
 pub mod NeverStuck

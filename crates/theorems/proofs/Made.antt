@@ -13,7 +13,7 @@ use Rattle.paper_lower.specs.Records.{Bytes, Record}
 use Rattle.paper_lower.specs.Forms.{policyForms}
 use Rattle.paper_lower.specs.Kinds.{chosen}
 use Rattle.paper_lower.specs.Tables.{Tasks, Limit, Block, Pair, Rules, Policy, noPolicy}
-use Rattle.paper_lower.specs.Policy.{userNext, roleNext, permissionNext, assignNext, giveNext, taskChecks, taskNext, openToNext, carriesNext, staticNext, dynamicNext, taskSetNext, blockNext, banNext, mostChecks, mostNext, bindNext, beforeNext, policyKinds}
+use Rattle.paper_lower.specs.Policy.{userNext, roleNext, permissionNext, assignNext, giveNext, taskChecks, taskNext, openToNext, carriesNext, staticNext, dynamicNext, taskSetNext, blockNext, banNext, mostChecks, mostNext, bindNext, beforeNext, raiseNext, policyKinds}
 use Rattle.paper_lower.specs.Load.{load, recordsOf}
 use Rattle.paper_lower.proofs.ListLaws.{every-each, place-none, none-place, _⨾_}
 use Rattle.paper_lower.proofs.CheckLaws.{Passed}
@@ -61,12 +61,12 @@ setTask n r k = record {
 }
 
 rows : Rows policyForms (λ n p r x. (x .rules ≡ addRule n r (p .rules)) × (x .tasks ≡ setTask n r (p .tasks))) policyKinds
-unfolding policyKinds userNext roleNext permissionNext assignNext giveNext taskNext openToNext carriesNext staticNext dynamicNext taskSetNext blockNext banNext mostNext bindNext beforeNext
+unfolding policyKinds userNext roleNext permissionNext assignNext giveNext taskNext openToNext carriesNext staticNext dynamicNext taskSetNext blockNext banNext mostNext bindNext beforeNext raiseNext
 rows =
     (λ p r g c. (refl, refl)) ⨾ (λ p r g c. (refl, refl)) ⨾ (λ p r g c. (refl, refl)) ⨾ (λ p r g c. (refl, refl)) ⨾ (λ p r g c. (refl, refl))
     ⨾ (λ p r g c. (refl, refl)) ⨾ (λ p r g c. (refl, refl)) ⨾ (λ p r g c. (refl, refl)) ⨾ (λ p r g c. (refl, refl)) ⨾ (λ p r g c. (refl, refl))
     ⨾ (λ p r g c. (refl, refl)) ⨾ (λ p r g c. (refl, refl)) ⨾ (λ p r g c. (refl, refl)) ⨾ (λ p r g c. (refl, refl)) ⨾ (λ p r g c. (refl, refl))
-    ⨾ (λ p r g c. (refl, refl)) ⨾ tt
+    ⨾ (λ p r g c. (refl, refl)) ⨾ (λ p r g c. (refl, refl)) ⨾ tt
 
 made-step : (p : Policy) (r : Record) → Fits p r
     → (step p r .rules ≡ addRule (r .kind) r (p .rules)) × (step p r .tasks ≡ setTask (r .kind) r (p .tasks))

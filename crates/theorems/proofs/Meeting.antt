@@ -12,6 +12,7 @@ use Rattle.paper_lower.specs.Checks.{Check, first, granted, UNKNOWN, TAKEN, NO-
 use Rattle.paper_lower.specs.Records.{Bytes, Record, decode}
 use Rattle.paper_lower.specs.Forms.{requestForms, formChecks}
 use Rattle.paper_lower.specs.Kinds.{chosen, replyTo, answer}
+use Rattle.paper_lower.specs.Policy.{down}
 use Rattle.paper_lower.proofs.ListLaws.{every-left}
 use Rattle.paper_lower.proofs.CheckLaws.{passed, first-passed}
 use Rattle.paper_upper.specs.Orders.{Entry, entry, Same, Engine, SameTables, withEntries, isHeld, inOrder, ofTask, ofUser, tasksWhere, tasksBy, tasksDone, tasksOthers}
@@ -33,7 +34,7 @@ abbrev early : Engine → ℕ → ℕ → ℕ → List Check
 early t a b c =
     (unknown t a b c, UNKNOWN)
     ∷ (some (λ e. ofTask b c e && isHeld (e .standing)) (t .orders .entries), TAKEN)
-    ∷ (not (meets (t .lower .policy .tasks .openTo c) (t .lower .sessions .active a)), NO-ROLE)
+    ∷ (not (meets (t .lower .policy .tasks .openTo c) (down (t .lower .policy .seniority) (t .lower .sessions .active a))), NO-ROLE)
     ∷ ruleChecks (t .lower .policy .tasks) (t .lower .policy .rules) (t .orders .opened b) (t .orders .entries) b (t .lower .sessions .user a) c
 
 abbrev full : ℕ → List Check

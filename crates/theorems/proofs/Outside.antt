@@ -6,7 +6,7 @@ use Rattle.paper_lower.specs.Records.{Bytes, Record}
 use Rattle.paper_lower.specs.Forms.{lowerForms, requestForms}
 use Rattle.paper_lower.specs.Kinds.{Kind, chosen}
 use Rattle.paper_lower.specs.Tables.{Policy, Lower, noPolicy}
-use Rattle.paper_lower.specs.Policy.{userNext, roleNext, permissionNext, assignNext, giveNext, taskNext, openToNext, carriesNext, staticNext, dynamicNext, taskSetNext, blockNext, banNext, mostNext, bindNext, beforeNext, policyKinds}
+use Rattle.paper_lower.specs.Policy.{userNext, roleNext, permissionNext, assignNext, giveNext, taskNext, openToNext, carriesNext, staticNext, dynamicNext, taskSetNext, blockNext, banNext, mostNext, bindNext, beforeNext, raiseNext, policyKinds}
 use Rattle.paper_lower.specs.Load.{load, recordsOf}
 use Rattle.paper_lower.specs.Roles.{joinNext, deleteNext, takeBackNext, withdrawNext, roleKinds}
 use Rattle.paper_lower.specs.Sessions.{createNext, destroyNext, activateNext, deactivateNext, sessionKinds, lowerKinds, lowerRequest, lowerOf}
@@ -45,10 +45,10 @@ request-rows = of-both Heard upper-rows (every-map lowerKinds (λ k h t r. h (t 
 
 -- ---- the load
 load-rows : Every (λ k. (p : Policy) (r : Record) → chosen telling (k .kind) .next (shown (engineOf p)) r ≡ shown (engineOf (k .next p r))) policyKinds
-unfolding policyKinds engineOf lowerOf telling chosen userNext roleNext permissionNext assignNext giveNext taskNext openToNext carriesNext staticNext dynamicNext taskSetNext blockNext banNext mostNext bindNext beforeNext
+unfolding policyKinds engineOf lowerOf telling chosen userNext roleNext permissionNext assignNext giveNext taskNext openToNext carriesNext staticNext dynamicNext taskSetNext blockNext banNext mostNext bindNext beforeNext raiseNext
 load-rows =
     (λ p r. refl) ⨾ (λ p r. refl) ⨾ (λ p r. refl) ⨾ (λ p r. refl) ⨾ (λ p r. refl) ⨾ (λ p r. refl) ⨾ (λ p r. refl) ⨾ (λ p r. refl)
-    ⨾ (λ p r. refl) ⨾ (λ p r. refl) ⨾ (λ p r. refl) ⨾ (λ p r. refl) ⨾ (λ p r. refl) ⨾ (λ p r. refl) ⨾ (λ p r. refl) ⨾ (λ p r. refl) ⨾ tt
+    ⨾ (λ p r. refl) ⨾ (λ p r. refl) ⨾ (λ p r. refl) ⨾ (λ p r. refl) ⨾ (λ p r. refl) ⨾ (λ p r. refl) ⨾ (λ p r. refl) ⨾ (λ p r. refl) ⨾ (λ p r. refl) ⨾ tt
 
 heard-records : (p : Policy) (rs : List Record) → Accepted p rs → hearAll (shown (engineOf p)) rs ≡ shown (engineOf (filled p rs))
 unfolding hearAll hear filled

@@ -1,5 +1,5 @@
 -- The checks of every kind have rising numbers; so the first that applies is the lowest, and no reply is outside the table.
-use Prim.Native.Nat.{ℕ, zero, suc, _≤_, _/_}
+use Prim.Native.Nat.{ℕ, zero, suc, _+_, _*_, _≤_, _/_}
 use mathlib.Core.Path.{_≡_, refl, sym, ap, _∙_}
 use mathlib.Core.Bool.{Bool, true, false, not, cond, _&&_, _||_, true≢false, false≢true, or-true}
 use mathlib.Core.List.{List, [], _∷_, _++_}
@@ -9,12 +9,12 @@ use lib.Dec.{eqb, leb}
 use lib.ListN.{length, take, drop}
 use Rattle.paper_lower.specs.Lists.{some, keep, each, Every}
 use Rattle.paper_lower.specs.Lists.Maybe.{none, just}
-use Rattle.paper_lower.specs.Checks.{Check, first, granted, SHAPE, RANGE, UNKNOWN, FULL}
+use Rattle.paper_lower.specs.Checks.{Check, first, granted, SHAPE, RANGE, UNKNOWN, RULE, LOOP}
 use Rattle.paper_lower.specs.Records.{Bytes, Record, decode}
 use Rattle.paper_lower.specs.Forms.{Form, policyForms, lowerForms, upperForms, requestForms, formOf, misshapen, formChecks}
 use Rattle.paper_lower.specs.Kinds.{Kind, chosen, replyTo, answer}
 use Rattle.paper_lower.specs.Tables.{Policy, noPolicy}
-use Rattle.paper_lower.specs.Policy.{userChecks, roleChecks, permissionChecks, assignChecks, giveChecks, taskChecks, openToChecks, carriesChecks, staticChecks, dynamicChecks, taskSetChecks, blockChecks, banChecks, mostChecks, bindChecks, beforeChecks, policyKinds}
+use Rattle.paper_lower.specs.Policy.{userChecks, roleChecks, permissionChecks, assignChecks, giveChecks, taskChecks, openToChecks, carriesChecks, staticChecks, dynamicChecks, taskSetChecks, blockChecks, banChecks, mostChecks, bindChecks, beforeChecks, raiseChecks, policyKinds}
 use Rattle.paper_lower.specs.Load.{Loaded, accepted, refused, policyAnswer, loadFrom, load}
 use Rattle.paper_lower.specs.Roles.{joinChecks, deleteChecks, takeBackChecks, withdrawChecks, roleKinds}
 use Rattle.paper_lower.specs.Sessions.{createChecks, destroyChecks, activateChecks, deactivateChecks, checkChecks, sessionKinds, lowerKinds, lowerRequest}
@@ -25,7 +25,7 @@ use Rattle.paper_upper.specs.Rules.{ruleChecks}
 use Rattle.paper_upper.specs.Requests.{deleteAbove, destroyAbove, openChecks, endChecks, claimChecks, holdChecks, taskCheckChecks, figuresChecks, stuckChecks, upperKinds}
 use Rattle.paper_upper.specs.Orders.{Engine}
 use Rattle.paper_upper.specs.Engine.{raised, sharedKinds, requestKinds, request}
-use Rattle.theorems.specs.Replies.{rising, InOrder, FirstRefusal, checksOf, ChecksInOrder, Listed, RepliesAreListed, RefusedLoadsAreEmpty}
+use Rattle.theorems.specs.Replies.{rank, inTable, rising, InOrder, FirstRefusal, checksOf, ChecksInOrder, Listed, RepliesAreListed, RefusedLoadsAreEmpty}
 
 -- ---- what holds of the upper part's kinds, and of the lower part's over the whole engine, holds of all
 pub of-both : (P : Kind Engine → Type 0) → Every P upperKinds → Every (λ k. P (raised k)) lowerKinds → Every P requestKinds
@@ -36,19 +36,19 @@ of-both P upper lower =
 
 -- ---- by computing
 pub policy-order : InOrder policyKinds
-unfolding rising policyKinds userChecks roleChecks permissionChecks assignChecks giveChecks taskChecks openToChecks carriesChecks staticChecks dynamicChecks taskSetChecks blockChecks banChecks mostChecks bindChecks beforeChecks
+unfolding rising rank inTable policyKinds userChecks roleChecks permissionChecks assignChecks giveChecks taskChecks openToChecks carriesChecks staticChecks dynamicChecks taskSetChecks blockChecks banChecks mostChecks bindChecks beforeChecks raiseChecks
 policy-order =
     (λ t r. refl) ⨾ (λ t r. refl) ⨾ (λ t r. refl) ⨾ (λ t r. refl) ⨾ (λ t r. refl) ⨾ (λ t r. refl) ⨾ (λ t r. refl) ⨾ (λ t r. refl)
-    ⨾ (λ t r. refl) ⨾ (λ t r. refl) ⨾ (λ t r. refl) ⨾ (λ t r. refl) ⨾ (λ t r. refl) ⨾ (λ t r. refl) ⨾ (λ t r. refl) ⨾ (λ t r. refl) ⨾ tt
+    ⨾ (λ t r. refl) ⨾ (λ t r. refl) ⨾ (λ t r. refl) ⨾ (λ t r. refl) ⨾ (λ t r. refl) ⨾ (λ t r. refl) ⨾ (λ t r. refl) ⨾ (λ t r. refl) ⨾ (λ t r. refl) ⨾ tt
 
 pub lower-order : InOrder lowerKinds
-unfolding rising lowerKinds roleKinds sessionKinds joinChecks assignChecks giveChecks deleteChecks takeBackChecks withdrawChecks createChecks destroyChecks activateChecks deactivateChecks checkChecks
+unfolding rising rank inTable lowerKinds roleKinds sessionKinds joinChecks assignChecks giveChecks deleteChecks takeBackChecks withdrawChecks createChecks destroyChecks activateChecks deactivateChecks checkChecks
 lower-order =
     (λ t r. refl) ⨾ (λ t r. refl) ⨾ (λ t r. refl) ⨾ (λ t r. refl) ⨾ (λ t r. refl) ⨾ (λ t r. refl)
     ⨾ (λ t r. refl) ⨾ (λ t r. refl) ⨾ (λ t r. refl) ⨾ (λ t r. refl) ⨾ (λ t r. refl) ⨾ tt
 
 upper-order : InOrder upperKinds
-unfolding rising upperKinds deleteChecks deleteAbove destroyChecks destroyAbove openChecks endChecks claimChecks ruleChecks holdChecks taskCheckChecks figuresChecks stuckChecks
+unfolding rising rank inTable upperKinds deleteChecks deleteAbove destroyChecks destroyAbove openChecks endChecks claimChecks ruleChecks holdChecks taskCheckChecks figuresChecks stuckChecks
 upper-order =
     (λ t r. refl) ⨾ (λ t r. refl) ⨾ (λ t r. refl) ⨾ (λ t r. refl) ⨾ (λ t r. refl) ⨾ (λ t r. refl) ⨾ (λ t r. refl) ⨾ (λ t r. refl) ⨾ (λ t r. refl) ⨾ (λ t r. refl) ⨾ tt
 
@@ -57,59 +57,78 @@ unfolding requestKinds raised
 engine-order =
     of-both (λ k. (t : Engine) (r : Record) → rising UNKNOWN (k .checks t r) ≡ true) upper-order (every-map lowerKinds (λ k h t r. h (t .lower) r) lower-order)
 
+-- ---- where a number stands among the checks
+not-granted : (k : ℕ) → 1 ≤ rank k → k ≡ 0 → ⊥
+unfolding rank
+not-granted k l e = let q = ap rank e in omega arith
+
+-- a number that stands behind RANGE is none of the first
+from-shape : (k : ℕ) → rank SHAPE ≤ rank k → SHAPE ≤ k
+unfolding rank
+from-shape k l = go (eqb k LOOP) refl l
+  where
+    go : (b : Bool) → eqb k LOOP ≡ b → rank SHAPE ≤ cond b (2 * RULE + 1) (2 * k) → SHAPE ≤ k
+    go true e l = let q = eqb-true k LOOP e in omega arith
+    go false e l = omega arith
+
+unknown-behind : (rank SHAPE ≤ rank UNKNOWN) × (rank RANGE ≤ rank UNKNOWN) × (1 ≤ rank SHAPE)
+unfolding rank
+unknown-behind = (omega arith, omega arith, omega arith)
+
 -- ---- what rising numbers say
 Within : ℕ → Check → Type 0
-Within k x = (k ≤ x .1) × (x .1 ≤ FULL)
+Within k x = (rank k ≤ rank (x .1)) × (inTable (x .1) ≡ true)
 
-all-within : (j k : ℕ) (xs : List Check) → j ≤ k → rising k xs ≡ true → Every (Within j) xs
+all-within : (j k : ℕ) (xs : List Check) → rank j ≤ rank k → rising k xs ≡ true → Every (Within j) xs
 unfolding rising Within
 all-within j k [] l h = tt
 all-within j k (x ∷ xs) l h =
-    let a = both (leb k (x .1) && leb (x .1) FULL) _ h in
-    let b = both (leb k (x .1)) _ (a .0) in
-    let m = leb-true k (x .1) (b .0) in
-    ((omega arith, leb-true (x .1) FULL (b .1)), all-within j (x .1) xs (omega arith) (a .1))
+    let a = both (leb (rank k) (rank (x .1)) && inTable (x .1)) _ h in
+    let b = both (leb (rank k) (rank (x .1))) _ (a .0) in
+    let m = leb-true (rank k) (rank (x .1)) (b .0) in
+    ((omega arith, b .1), all-within j (x .1) xs (omega arith) (a .1))
 
 pub numbered : {A : Type 0} (ks : List (Kind A)) → InOrder ks → AllNumbered ks
 unfolding Within
 numbered ks order =
     every-map ks (λ k h t r.
-    every-map (k .checks t r) (λ x w. rw (ne-eqb (x .1) 0 (λ e. absurd (omega arith))) tt)
+    every-map (k .checks t r) (λ x w. let u = unknown-behind in let l = u .0 in let m = u .2 in let q = w .0 in rw (ne-eqb (x .1) 0 (not-granted (x .1) (omega arith))) tt)
     (all-within UNKNOWN UNKNOWN (k .checks t r) (omega arith) (h t r))) order
 
 -- every check that a record meets has a number of the table
 all-listed : {A : Type 0} (fs : List Form) (ks : List (Kind A)) → InOrder ks → (t : A) (s : Bytes) → Every (Within SHAPE) (checksOf fs ks t s)
-unfolding chosen formChecks Within
+unfolding chosen formChecks Within rank inTable
 all-listed fs ks order t s =
     let w = of-chosen (λ n k. (t : _) (r : Record) → Every (Within SHAPE) (k .checks t r)) ks
-    (every-map ks (λ k h t r. all-within SHAPE UNKNOWN (k .checks t r) (omega arith) (h t r)) order)
-    (λ n t r. ((omega arith, omega arith), tt)) (decode s .kind) t (decode s) in
-    ((omega arith, omega arith), ((omega arith, omega arith), w))
+    (every-map ks (λ k h t r. all-within SHAPE UNKNOWN (k .checks t r) (unknown-behind .0) (h t r)) order)
+    (λ n t r. ((omega arith, refl), tt)) (decode s .kind) t (decode s) in
+    ((omega arith, refl), ((omega arith, refl), w))
 
--- ---- the lowest number of those that apply
-lowest : (k : ℕ) (xs : List Check) → 1 ≤ k → rising k xs ≡ true → Every (λ x. x .0 ≡ true → (first xs ≡ 0 → ⊥) × (first xs ≤ x .1)) xs
+-- ---- the first in their order of those that apply
+lowest : (k : ℕ) (xs : List Check) → 1 ≤ rank k → rising k xs ≡ true → Every (λ x. x .0 ≡ true → (first xs ≡ 0 → ⊥) × (rank (first xs) ≤ rank (x .1))) xs
 unfolding rising Within
 lowest k [] l h = tt
 lowest k (x ∷ xs) l h =
-    let a = both (leb k (x .1) && leb (x .1) FULL) _ h in
-    let b = both (leb k (x .1)) _ (a .0) in
-    let m = leb-true k (x .1) (b .0) in
+    let a = both (leb (rank k) (rank (x .1)) && inTable (x .1)) _ h in
+    let b = both (leb (rank k) (rank (x .1))) _ (a .0) in
+    let m = leb-true (rank k) (rank (x .1)) (b .0) in
     go (x .0) (omega arith) (lowest (x .1) xs (omega arith) (a .1)) (all-within (x .1) (x .1) xs (omega arith) (a .1))
   where
-    go : (b : Bool) → 1 ≤ x .1 → Every (λ y. y .0 ≡ true → (first xs ≡ 0 → ⊥) × (first xs ≤ y .1)) xs → Every (Within (x .1)) xs
-        → (b ≡ true → (cond b (x .1) (first xs) ≡ 0 → ⊥) × (cond b (x .1) (first xs) ≤ x .1))
-        × Every (λ y. y .0 ≡ true → (cond b (x .1) (first xs) ≡ 0 → ⊥) × (cond b (x .1) (first xs) ≤ y .1)) xs
-    go true p rest above = (λ _. (λ z. omega arith, omega arith), every-map xs (λ y q _. (λ z. omega arith, q .0)) above)
+    go : (b : Bool) → 1 ≤ rank (x .1) → Every (λ y. y .0 ≡ true → (first xs ≡ 0 → ⊥) × (rank (first xs) ≤ rank (y .1))) xs → Every (Within (x .1)) xs
+        → (b ≡ true → (cond b (x .1) (first xs) ≡ 0 → ⊥) × (rank (cond b (x .1) (first xs)) ≤ rank (x .1)))
+        × Every (λ y. y .0 ≡ true → (cond b (x .1) (first xs) ≡ 0 → ⊥) × (rank (cond b (x .1) (first xs)) ≤ rank (y .1))) xs
+    go true p rest above = (λ _. (not-granted (x .1) p, omega arith), every-map xs (λ y q _. (not-granted (x .1) p, q .0)) above)
     go false p rest above = (λ e. absurd (false≢true e), rest)
 
 from-range : (xs : List Check) → rising UNKNOWN xs ≡ true → rising RANGE xs ≡ true
 unfolding rising
 from-range [] h = refl
 from-range (x ∷ xs) h =
-    let a = both (leb UNKNOWN (x .1) && leb (x .1) FULL) _ h in
-    let b = both (leb UNKNOWN (x .1)) _ (a .0) in
-    let m = leb-true UNKNOWN (x .1) (b .0) in
-    rw (le-leb RANGE (x .1) (omega arith), b .1) (a .1)
+    let a = both (leb (rank UNKNOWN) (rank (x .1)) && inTable (x .1)) _ h in
+    let b = both (leb (rank UNKNOWN) (rank (x .1))) _ (a .0) in
+    let m = leb-true (rank UNKNOWN) (rank (x .1)) (b .0) in
+    let u = unknown-behind .1 in
+    rw (le-leb (rank RANGE) (rank (x .1)) (omega arith), b .1) (a .1)
 
 given : (xs : List Check) → (first xs ≡ 0 → ⊥) → some (λ x. x .0 && eqb (x .1) (first xs)) xs ≡ true
 unfolding some
@@ -145,7 +164,7 @@ no-form ks (f ∷ fs) n h e = go (eqb (f .kind) n) refl (no-form ks fs n (h .1) 
 
 module _ {A : Type 0} (fs : List Form) (ks : List (Kind A)) (order : InOrder ks) (forms : Every (λ f. takes ks (f .kind) ≡ true) fs) (t : A) (s : Bytes) where
   rises : takes ks (decode s .kind) ≡ true → rising SHAPE (checksOf fs ks t s) ≡ true
-  unfolding formChecks rising
+  unfolding formChecks rising rank inTable
   rises e = from-range (chosen ks (decode s .kind) .checks t (decode s)) (taken (λ k. (t : A) (r : Record) → rising UNKNOWN (k .checks t r) ≡ true) ks (decode s .kind) order e t (decode s))
 
   misshapes : takes ks (decode s .kind) ≡ false → first (checksOf fs ks t s) ≡ SHAPE
@@ -153,12 +172,12 @@ module _ {A : Type 0} (fs : List Form) (ks : List (Kind A)) (order : InOrder ks)
   misshapes e = rw (no-form ks fs (decode s .kind) forms e, or-true (not (eqb (length s) 16)))
 
   lowest-of : (b : Bool) → takes ks (decode s .kind) ≡ b
-      → Every (λ x. x .0 ≡ true → (first (checksOf fs ks t s) ≡ 0 → ⊥) × (first (checksOf fs ks t s) ≤ x .1)) (checksOf fs ks t s)
+      → Every (λ x. x .0 ≡ true → (first (checksOf fs ks t s) ≡ 0 → ⊥) × (rank (first (checksOf fs ks t s)) ≤ rank (x .1))) (checksOf fs ks t s)
   unfolding Within
-  lowest-of true e = lowest SHAPE (checksOf fs ks t s) (omega arith) (rises e)
+  lowest-of true e = lowest SHAPE (checksOf fs ks t s) (unknown-behind .2) (rises e)
   lowest-of false e =
       let m = misshapes e in
-      every-map (checksOf fs ks t s) (λ x w _. (λ z. omega arith, omega arith)) (all-listed fs ks order t s)
+      every-map (checksOf fs ks t s) (λ x w _. (λ z. omega arith, rw m (w .0))) (all-listed fs ks order t s)
 
   first-refusal : FirstRefusal (checksOf fs ks t s) (answer fs ks t s .reply)
   unfolding answer replyTo
@@ -170,7 +189,7 @@ module _ {A : Type 0} (fs : List Form) (ks : List (Kind A)) (order : InOrder ks)
 
 policy-forms : Every (λ f. takes policyKinds (f .kind) ≡ true) policyForms
 unfolding some policyForms policyKinds
-policy-forms = refl ⨾ refl ⨾ refl ⨾ refl ⨾ refl ⨾ refl ⨾ refl ⨾ refl ⨾ refl ⨾ refl ⨾ refl ⨾ refl ⨾ refl ⨾ refl ⨾ refl ⨾ refl ⨾ tt
+policy-forms = refl ⨾ refl ⨾ refl ⨾ refl ⨾ refl ⨾ refl ⨾ refl ⨾ refl ⨾ refl ⨾ refl ⨾ refl ⨾ refl ⨾ refl ⨾ refl ⨾ refl ⨾ refl ⨾ refl ⨾ tt
 
 lower-forms : Every (λ f. takes lowerKinds (f .kind) ≡ true) lowerForms
 unfolding some lowerForms lowerKinds roleKinds sessionKinds
@@ -189,12 +208,12 @@ checks-in-order = record {
 
 -- ---- replies of the table
 first-listed : (xs : List Check) → Every (Within SHAPE) xs → Listed (first xs)
-unfolding Within
-first-listed [] h = (omega arith, λ n. absurd (n refl))
+unfolding Within inTable
+first-listed [] h = (refl, λ n. absurd (n refl))
 first-listed (x ∷ xs) h = go (x .0) (first-listed xs (h .1))
   where
     go : (b : Bool) → Listed (first xs) → Listed (cond b (x .1) (first xs))
-    go true rest = (h .0 .1, λ n. h .0 .0)
+    go true rest = (h .0 .1, λ n. from-shape (x .1) (h .0 .0))
     go false rest = rest
 
 answer-listed : {A : Type 0} (fs : List Form) (ks : List (Kind A)) → InOrder ks → (t : A) (s : Bytes) → Listed (answer fs ks t s .reply)
@@ -207,12 +226,12 @@ record Outcome (x : Loaded) : Type 0 where
   empty : (x .reply ≡ 0 → ⊥) → x .tables ≡ noPolicy
 
 outcome : (n place : ℕ) (s : Bytes) (p : Policy) → Outcome (loadFrom n place s p)
-unfolding loadFrom policyAnswer
+unfolding loadFrom policyAnswer inTable
 outcome zero place s p = go (eqb (length s) 0)
   where
     go : (b : Bool) → Outcome (cond b (accepted p) (refused SHAPE place))
-    go true = record { reply = (omega arith, λ n. absurd (n refl)); empty = λ n. absurd (n refl) }
-    go false = record { reply = (omega arith, λ n. omega arith); empty = λ n. refl }
+    go true = record { reply = (refl, λ n. absurd (n refl)); empty = λ n. absurd (n refl) }
+    go false = record { reply = (refl, λ n. omega arith); empty = λ n. refl }
 outcome (suc n) place s p =
     go (policyAnswer p (take 16 s) .reply) (answer-listed policyForms policyKinds policy-order p (take 16 s)) (outcome n (suc place) (drop 16 s) _)
   where

@@ -7,15 +7,16 @@ use mathlib.Core.Logic.{⊎-elim}
 use native.Mathlib.Omega.{arith}
 use borrow.Author.Tests.{eqb-true, eq-eqb, ltb-false}
 use lib.Dec.{eqb}
-use Rattle.paper_lower.specs.Sets.{Set, empty, has, plus, minus, union, overlap, within}
+use Rattle.paper_lower.specs.Sets.{Set, empty, has, plus, minus, union, overlap, meets, within, without}
 use Rattle.paper_lower.specs.Lists.{upd, someBelow, some, Every}
-use Rattle.paper_lower.specs.Tables.{Limit, Rules, People, Sessions, noSessions, withAssigned}
-use Rattle.paper_lower.specs.Policy.{breaks}
+use Rattle.paper_lower.specs.Tables.{Limit, Rules, People, Seniority, Sessions, noSessions, withAssigned}
+use Rattle.paper_lower.specs.Policy.{down, breaks}
 use Rattle.paper_lower.specs.Roles.{subjectOf, ofSubjects, activeOf, countedOf}
 use Rattle.paper_lower.specs.Sessions.{createNext, destroyNext, activateNext, deactivateNext}
 use Rattle.paper_lower.proofs.ListLaws.{both, upd-same, upd-other, none-below, every-map, every-all, some-none}
 use Rattle.sets.proofs.Bits.{same-or-other}
-use Rattle.sets.proofs.SetLaws.{has-kept, Part, part-refl, part-empty, part-plus, part-more, part-trans, part-minus, part-left, part-right, has-part, within-has, has-within, within-plus, within-trans, within-minus, overlap-empty, overlap-part, union-le, union-ge, plus-member}
+use Rattle.sets.proofs.SetLaws.{Part, part-refl, part-empty, part-plus, part-more, part-trans, part-minus, part-left, part-right, has-part, part-within, within-has, has-within, within-trans, within-minus, overlap-empty, overlap-part, none-common, union-le, union-ge, plus-member}
+use Rattle.theorems.proofs.Down.{down-part, down-nothing, has-without}
 
 -- no set of the list has more than n of the roles m
 abbrev pub Within : List Limit → Set → Type 0
@@ -32,12 +33,13 @@ pub not-broken : (ls : List Limit) (m : Set) → some (breaks m) ls ≡ false �
 unfolding breaks
 not-broken ls m h = every-map ls (λ l x. ltb-false (l .n) (overlap (l .members) m) x) (some-none (breaks m) ls h)
 
-pub record Limited (p : People) (s : Sessions) (ru : Rules) : Type 0 where
-  pub statics : (u : ℕ) → Within (ru .statics) (p .assigned u)
-  pub dynamics : (u : ℕ) → Within (ru .dynamics) (countedOf s u)
+-- the roles counted with those below them
+pub record Limited (p : People) (se : Seniority) (s : Sessions) (ru : Rules) : Type 0 where
+  pub statics : (u : ℕ) → Within (ru .statics) (down se (p .assigned u))
+  pub dynamics : (u : ℕ) → Within (ru .dynamics) (down se (countedOf s u))
   pub small : (k : ℕ) → s .live k ≡ true → k < 128
   pub known : (k : ℕ) → s .live k ≡ true → p .users (s .user k) ≡ true
-  pub active : (k : ℕ) → s .live k ≡ true → within (s .active k) (p .assigned (s .user k)) ≡ true
+  pub active : (k : ℕ) → s .live k ≡ true → within (s .active k) (down se (p .assigned (s .user k))) ≡ true
 
 -- ---- the roles of a user's subjects, by some column
 of-user : (s : Sessions) (u k : ℕ) → s .live k ≡ true → s .user k ≡ u → subjectOf s u k ≡ true
@@ -64,15 +66,18 @@ counted-le s u z h = union-le 128 (λ k. cond (subjectOf s u k) (s .had k) empty
     go k l true e = let x = both (s .live k) (eqb (s .user k) u) e in h k l (x .0) (eqb-true _ _ (x .1))
     go k l false e = part-empty z
 
-pub none-counted : (ls : List Limit) (u : ℕ) → Within ls (countedOf noSessions u)
+pub nothing-down : (ls : List Limit) (se : Seniority) → Within ls (down se empty)
+nothing-down ls se = within-less ls _ empty (down-nothing se) (within-none ls)
+
+pub none-counted : (ls : List Limit) (se : Seniority) (u : ℕ) → Within ls (down se (countedOf noSessions u))
 unfolding noSessions
-none-counted ls u = within-less ls _ empty (counted-le noSessions u empty (λ k b l e. absurd (false≢true l))) (within-none ls)
+none-counted ls se u = within-less ls _ (down se empty) (down-part se _ empty (counted-le noSessions u empty (λ k b l e. absurd (false≢true l)))) (nothing-down ls se)
 
 -- ---- people: one user's roles anew
-module _ (p : People) (s : Sessions) (ru : Rules) (h : Limited p s ru) where
-  reassigned : (users : ℕ → Bool) (a : ℕ) (m : Set) → ((k : ℕ) → s .live k ≡ true → users (s .user k) ≡ true) → Within (ru .statics) m
-      → ((k : ℕ) → s .live k ≡ true → s .user k ≡ a → within (s .active k) m ≡ true)
-      → Limited (record { users = users; roles = p .roles; assigned = upd (p .assigned) a m }) s ru
+module _ (p : People) (se : Seniority) (s : Sessions) (ru : Rules) (h : Limited p se s ru) where
+  reassigned : (users : ℕ → Bool) (a : ℕ) (m : Set) → ((k : ℕ) → s .live k ≡ true → users (s .user k) ≡ true) → Within (ru .statics) (down se m)
+      → ((k : ℕ) → s .live k ≡ true → s .user k ≡ a → within (s .active k) (down se m) ≡ true)
+      → Limited (record { users = users; roles = p .roles; assigned = upd (p .assigned) a m }) se s ru
   reassigned users a m known w own = record {
     statics = λ u. ⊎-elim (λ e. rw (upd-same (p .assigned) a u m e) w) (λ n. rw (upd-other (p .assigned) a u m n) (h .statics u)) (same-or-other u a);
     dynamics = h .dynamics;
@@ -82,36 +87,45 @@ module _ (p : People) (s : Sessions) (ru : Rules) (h : Limited p s ru) where
         (λ n. rw (upd-other (p .assigned) a (s .user k) m n) (h .active k l)) (same-or-other (s .user k) a);
   }
 
-  pub joins : (a : ℕ) (m : Set) → p .users a ≡ false → some (breaks m) (ru .statics) ≡ false
-      → Limited (record { users = upd (p .users) a true; roles = p .roles; assigned = upd (p .assigned) a m }) s ru
+  pub joins : (a : ℕ) (m : Set) → p .users a ≡ false → some (breaks (down se m)) (ru .statics) ≡ false
+      → Limited (record { users = upd (p .users) a true; roles = p .roles; assigned = upd (p .assigned) a m }) se s ru
   joins a m new fits =
       reassigned (upd (p .users) a true) a m (λ k l. upd-other (p .users) a (s .user k) true (other k l) ∙ h .known k l)
-      (not-broken (ru .statics) m fits) (λ k l e. absurd (other k l e))
+      (not-broken (ru .statics) _ fits) (λ k l e. absurd (other k l e))
     where
       other : (k : ℕ) → s .live k ≡ true → s .user k ≡ a → ⊥
       other k l e = true≢false (sym (h .known k l) ∙ ap (p .users) e ∙ new)
 
   pub deletes : (a : ℕ) → someBelow 128 (subjectOf s a) ≡ false
-      → Limited (record { users = upd (p .users) a false; roles = p .roles; assigned = upd (p .assigned) a empty }) s ru
+      → Limited (record { users = upd (p .users) a false; roles = p .roles; assigned = upd (p .assigned) a empty }) se s ru
   deletes a gone =
       reassigned (upd (p .users) a false) a empty (λ k l. upd-other (p .users) a (s .user k) false (other k l) ∙ h .known k l)
-      (within-none (ru .statics)) (λ k l e. absurd (other k l e))
+      (nothing-down (ru .statics) se) (λ k l e. absurd (other k l e))
     where
       other : (k : ℕ) → s .live k ≡ true → s .user k ≡ a → ⊥
       other k l e = true≢false (sym (of-user s a k l e) ∙ none-below 128 (subjectOf s a) gone k (h .small k l))
 
-  pub assigns : (a b : ℕ) → some (breaks (plus (p .assigned a) b)) (ru .statics) ≡ false
-      → Limited (withAssigned p (upd (p .assigned) a (plus (p .assigned a) b))) s ru
+  pub assigns : (a b : ℕ) → some (breaks (down se (plus (p .assigned a) b))) (ru .statics) ≡ false
+      → Limited (withAssigned p (upd (p .assigned) a (plus (p .assigned a) b))) se s ru
   assigns a b c =
       reassigned (p .users) a (plus (p .assigned a) b) (h .known) (not-broken (ru .statics) _ c)
-      (λ k l e. within-plus (s .active k) (p .assigned a) b (rw (← e) (h .active k l)))
+      (λ k l e. within-trans (s .active k) (down se (p .assigned a)) _ (rw (← e) (h .active k l))
+      (part-within _ _ (down-part se _ _ (part-more _ _ b (part-refl (p .assigned a))))))
 
-  pub takes : (a b : ℕ) → has (activeOf s a) b ≡ false → Limited (withAssigned p (upd (p .assigned) a (minus (p .assigned a) b))) s ru
+  -- what is not lost stays
+  pub takes : (a b : ℕ) → meets (activeOf s a) (without (down se (p .assigned a)) (down se (minus (p .assigned a) b))) ≡ false
+      → Limited (withAssigned p (upd (p .assigned) a (minus (p .assigned a) b))) se s ru
   takes a b c =
-      reassigned (p .users) a (minus (p .assigned a) b) (h .known) (within-less (ru .statics) _ _ (part-minus (p .assigned a) b) (h .statics a))
-      (λ k l e. has-within (s .active k) (minus (p .assigned a) b) (λ t x.
-      has-kept (p .assigned a) b t (λ q. true≢false (sym (has-part _ _ t (own-active s a k (h .small k l) l e) x) ∙ ap (has (activeOf s a)) q ∙ c))
-      ∙ within-has (s .active k) (p .assigned a) t (rw (← e) (h .active k l)) x))
+      reassigned (p .users) a (minus (p .assigned a) b) (h .known)
+      (within-less (ru .statics) _ _ (down-part se _ _ (part-minus (p .assigned a) b)) (h .statics a))
+      (λ k l e. has-within (s .active k) _ (λ t x. go k l e t x (has (down se (minus (p .assigned a) b)) t) refl))
+    where
+      go : (k : ℕ) → s .live k ≡ true → s .user k ≡ a → (t : ℕ) → has (s .active k) t ≡ true
+          → (x : Bool) → has (down se (minus (p .assigned a) b)) t ≡ x → has (down se (minus (p .assigned a) b)) t ≡ true
+      go k l e t x true q = q
+      go k l e t x false q =
+          let stood : has (down se (p .assigned a)) t ≡ true = within-has (s .active k) (down se (p .assigned a)) t (rw (← e) (h .active k l)) x in
+          absurd (none-common (activeOf s a) _ t c (has-part _ _ t (own-active s a k (h .small k l) l e) x) (has-without _ _ t ∙ rw (stood, q) refl))
 
 -- ---- subjects: one subject's row anew
 record Elsewhere (a : ℕ) (s z : Sessions) : Type 0 where
@@ -126,11 +140,11 @@ seated-part a s z same u m h own = counted-le z u m (λ k b l e. ⊎-elim
     (λ (q : k ≡ a). rw q (own (rw q at l) (rw q at e)))
     (λ n. rw (same .had k n) (part-trans _ _ _ (own-had s u k b (sym (same .live k n) ∙ l) (sym (same .user k n) ∙ e)) h)) (same-or-other k a))
 
-module _ (p : People) (s : Sessions) (ru : Rules) (h : Limited p s ru) (a : ℕ) where
+module _ (p : People) (se : Seniority) (s : Sessions) (ru : Rules) (h : Limited p se s ru) (a : ℕ) where
   -- the set z was checked for the subject's user; everybody else's roles are no more than before
   seated : (z : Sessions) → Elsewhere a s z
-      → (z .live a ≡ true → (a < 128) × (p .users (z .user a) ≡ true) × (within (z .active a) (p .assigned (z .user a)) ≡ true))
-      → (m : Set) → (z .live a ≡ true → Within (ru .dynamics) m × Part (countedOf s (z .user a)) m × Part (z .had a) m) → Limited p z ru
+      → (z .live a ≡ true → (a < 128) × (p .users (z .user a) ≡ true) × (within (z .active a) (down se (p .assigned (z .user a))) ≡ true))
+      → (m : Set) → (z .live a ≡ true → Within (ru .dynamics) (down se m) × Part (countedOf s (z .user a)) m × Part (z .had a) m) → Limited p se z ru
   seated z same row m checked = record {
     statics = h .statics;
     dynamics = λ u. go u (z .live a) refl;
@@ -141,17 +155,19 @@ module _ (p : People) (s : Sessions) (ru : Rules) (h : Limited p s ru) (a : ℕ)
         (same-or-other k a);
   }
     where
-      others : (u : ℕ) → (z .live a ≡ true → z .user a ≡ u → ⊥) → Within (ru .dynamics) (countedOf z u)
-      others u n = within-less (ru .dynamics) _ _ (seated-part a s z same u (countedOf s u) (part-refl _) (λ l e. absurd (n l e))) (h .dynamics u)
+      others : (u : ℕ) → (z .live a ≡ true → z .user a ≡ u → ⊥) → Within (ru .dynamics) (down se (countedOf z u))
+      others u n =
+          within-less (ru .dynamics) _ _ (down-part se _ _ (seated-part a s z same u (countedOf s u) (part-refl _) (λ l e. absurd (n l e)))) (h .dynamics u)
 
-      go : (u : ℕ) (b : Bool) → z .live a ≡ b → Within (ru .dynamics) (countedOf z u)
+      go : (u : ℕ) (b : Bool) → z .live a ≡ b → Within (ru .dynamics) (down se (countedOf z u))
       go u true l = ⊎-elim
-          (λ (e : z .user a ≡ u). let c = checked l in within-less (ru .dynamics) _ m (seated-part a s z same u m (rw e at (c .1)) (λ _ _. c .2)) (c .0))
+          (λ (e : z .user a ≡ u). let c = checked l in
+          within-less (ru .dynamics) _ (down se m) (down-part se _ _ (seated-part a s z same u m (rw e at (c .1)) (λ _ _. c .2))) (c .0))
           (λ n. others u (λ _ e. n e)) (same-or-other (z .user a) u)
       go u false l = others u (λ i e. true≢false (sym i ∙ l))
 
-  pub creates : (b : ℕ) (m : Set) → a < 128 → p .users b ≡ true → within m (p .assigned b) ≡ true
-      → some (breaks (union (countedOf s b) m)) (ru .dynamics) ≡ false → Limited p (createNext s a b m) ru
+  pub creates : (b : ℕ) (m : Set) → a < 128 → p .users b ≡ true → within m (down se (p .assigned b)) ≡ true
+      → some (breaks (down se (union (countedOf s b) m))) (ru .dynamics) ≡ false → Limited p se (createNext s a b m) ru
   unfolding createNext
   creates b m small user mine c =
       seated _
@@ -165,7 +181,7 @@ module _ (p : People) (s : Sessions) (ru : Rules) (h : Limited p s ru) (a : ℕ)
       (union (countedOf s b) m)
       (λ l. (not-broken (ru .dynamics) _ c, rw (upd-same (s .user) a a b refl) (part-left _ _), rw (upd-same (s .had) a a m refl) (part-right _ _)))
 
-  pub destroys : Limited p (destroyNext s a) ru
+  pub destroys : Limited p se (destroyNext s a) ru
   unfolding destroyNext
   destroys =
       seated _
@@ -180,8 +196,8 @@ module _ (p : People) (s : Sessions) (ru : Rules) (h : Limited p s ru) (a : ℕ)
       gone : upd (s .live) a false a ≡ true → ⊥
       gone l = false≢true (sym (upd-same (s .live) a a false refl) ∙ l)
 
-  pub activates : (b : ℕ) → s .live a ≡ true → has (p .assigned (s .user a)) b ≡ true
-      → some (breaks (plus (countedOf s (s .user a)) b)) (ru .dynamics) ≡ false → Limited p (activateNext s a b) ru
+  pub activates : (b : ℕ) → s .live a ≡ true → has (down se (p .assigned (s .user a))) b ≡ true
+      → some (breaks (down se (plus (countedOf s (s .user a)) b))) (ru .dynamics) ≡ false → Limited p se (activateNext s a b) ru
   unfolding activateNext
   activates b live mine c =
       seated _
@@ -200,7 +216,7 @@ module _ (p : People) (s : Sessions) (ru : Rules) (h : Limited p s ru) (a : ℕ)
             (part-plus _ _ b (own-had s (s .user a) a (h .small a live) live refl)),
       ))
 
-  pub deactivates : (b : ℕ) → s .live a ≡ true → Limited p (deactivateNext s a b) ru
+  pub deactivates : (b : ℕ) → s .live a ≡ true → Limited p se (deactivateNext s a b) ru
   unfolding deactivateNext
   deactivates b live =
       seated _ (record { live = λ k n. refl; user = λ k n. refl; active = λ k. upd-other (s .active) a k (minus (s .active a) b); had = λ k n. refl })

@@ -1,18 +1,19 @@
 -- The theorems.
-use Prim.Native.Nat.{ℕ, _≤_}
+use Prim.Native.Nat.{ℕ, _≤_, _<_}
 use mathlib.Core.Path.{_≡_, refl, sym, ap, _∙_}
 use mathlib.Core.Bool.{Bool, true, false, cond}
-use mathlib.Core.List.{List}
+use mathlib.Core.Logic.{inl, inr, ⊎-elim, _↔_}
+use mathlib.Core.List.{List, [], _∷_}
 use borrow.Author.Tests.{leb-true, le-leb}
 use native.Mathlib.Omega.{arith}
 use lib.Dec.{leb}
-use Rattle.paper_lower.specs.Sets.{overlap}
-use Rattle.paper_lower.specs.Lists.{many, Every}
+use Rattle.paper_lower.specs.Sets.{Set, has, overlap}
+use Rattle.paper_lower.specs.Lists.{many, each, Every}
 use Rattle.paper_lower.specs.Checks.{FULL}
 use Rattle.paper_lower.specs.Records.{Record}
 use Rattle.paper_lower.specs.Forms.{requestForms}
-use Rattle.paper_lower.specs.Tables.{Lower}
-use Rattle.paper_lower.specs.Policy.{assignNext, giveNext}
+use Rattle.paper_lower.specs.Tables.{Seniority, Limit, Lower}
+use Rattle.paper_lower.specs.Policy.{down, assignNext, giveNext}
 use Rattle.paper_lower.specs.Load.{recordsOf}
 use Rattle.paper_lower.specs.Roles.{countedOf, joinNext, deleteNext, takeBackNext, withdrawNext, roleKinds}
 use Rattle.paper_lower.specs.Sessions.{sessionKinds, lowerKinds}
@@ -21,13 +22,18 @@ use Rattle.paper_upper.specs.Orders.{Orders}
 use Rattle.paper_upper.specs.Requests.{openNext, endNext, claimNext, releaseNext, doneNext, upperKinds}
 use Rattle.paper_upper.specs.Engine.{requestKinds, request}
 use Rattle.theorems.specs.Outside.{Told}
-use Rattle.theorems.specs.OverEntries.{ofKind, RoleLimits}
+use Rattle.theorems.specs.OverEntries.{ofKind, Leads, AtOrBelow, Allowed, RoleLimits}
 use Rattle.theorems.specs.InUse.{inUse}
 use Rattle.theorems.specs.Theorems.{tablesAfter, saidAfter, lowerAfter, shown, OrdersKeepTheRules, ClerksKeepTheLimits, DealersKeepTheLimits, FirstRuleBroken, EntriesInUse, RulesAreWellMade, LedgerIsSound, fixed, RequestsChangeNoRule}
+use Rattle.theorems.specs.Seniority.{AsRecorded}
+use Rattle.sets.proofs.SetLaws.{has-part, within-has}
 use Rattle.theorems.proofs.Replies.{engine-order}
 use Rattle.theorems.proofs.Rows.{Rows, answer-rows, engine-rows}
 use Rattle.theorems.proofs.Made.{aLimit, of-each}
 use Rattle.theorems.proofs.Sound.{kept}
+use Rattle.theorems.proofs.Down.{down-has, down-below, down-member}
+use Rattle.theorems.proofs.Ranks.{Ranked}
+use Rattle.theorems.proofs.Roles.{Within}
 use Rattle.theorems.proofs.Keeps.{LowerKept, kept-after, lower-kept-after}
 use Rattle.theorems.proofs.Outside.{over, told-is-true, lower-told}
 use Rattle.theorems.proofs.FirstRule.{first-of-six, full-reply}
@@ -37,14 +43,35 @@ pub orders-keep-the-rules : OrdersKeepTheRules
 orders-keep-the-rules policy accepted ss =
     rw (told-is-true policy accepted ss) (kept (recordsOf policy) (tablesAfter policy ss .orders) (kept-after policy accepted ss .1))
 
+-- the roles with those below them: what the chains of records say
+counted-exactly : (policy : List Record) (se : Seniority) → Ranked se → AsRecorded policy se → (m : Set) (b : ℕ)
+    → (has (down se m) b ≡ true) ↔ AtOrBelow policy m b
+counted-exactly policy se r x m b = (
+  λ h. ⊎-elim (λ e. inl e) (λ q. inr (q .0, q .1, x .below (q .0) b .0 (q .2))) (down-member se m b h),
+  λ h. ⊎-elim (λ e. has-part m (down se m) b (down-has se m) e)
+      (λ q. has-part _ _ b (down-below se m (q .0) (senior (q .0) b (r .chains (q .0) b .0 (x .below (q .0) b .1 (q .2)))) (q .1)) (x .below (q .0) b .1 (q .2))) h,
+)
+  where
+    senior : (a b : ℕ) → (between : List ℕ) × Leads (λ a b. has (se .juniors a) b) a between b → a < 64
+    senior a b ([], l) = r .small a b l
+    senior a b (c ∷ cs, l) = r .small a c (l .0)
+
 role-limits : (policy : List Record) (o : Orders) (t : Lower) → LowerKept policy t → RoleLimits policy (shown (over o t))
 role-limits policy o t k =
     record {
-      statics = λ u. of-each (λ l. overlap (l .members) (t .policy .people .assigned u) ≤ l .n) aLimit (ofKind 9 policy)
-          (rw (k .0 .made .statics) at (k .1 .statics u));
-      dynamics = λ u. of-each (λ l. overlap (l .members) (countedOf (t .sessions) u) ≤ l .n) aLimit (ofKind 10 policy)
-          (rw (k .0 .made .dynamics) at (k .1 .dynamics u));
-      active = k .1 .active;
+      statics = λ u. sets 9 (t .policy .rules .statics) (t .policy .people .assigned u) (k .0 .made .statics) (k .1 .statics u);
+      dynamics = λ u. sets 10 (t .policy .rules .dynamics) (countedOf (t .sessions) u) (k .0 .made .dynamics) (k .1 .dynamics u);
+      active = λ s l r e. exactly (t .policy .people .assigned (t .sessions .user s)) r .0 (within-has (t .sessions .active s) _ r (k .1 .active s l) e);
+    }
+  where
+    exactly : (m : Set) (b : ℕ) → (has (down (t .policy .seniority) m) b ≡ true) ↔ AtOrBelow policy m b
+    exactly = counted-exactly policy (t .policy .seniority) (k .0 .ranked) (k .0 .recorded)
+
+    sets : (kind : ℕ) (ls : List Limit) (m : Set) → ls ≡ each aLimit (ofKind kind policy) → Within ls (down (t .policy .seniority) m) → Allowed policy kind m
+    sets kind ls m e w = record {
+      counted = down (t .policy .seniority) m;
+      exactly = exactly m;
+      allows = of-each (λ l. overlap (l .members) (down (t .policy .seniority) m) ≤ l .n) aLimit (ofKind kind policy) (rw e at w);
     }
 
 pub clerks-keep-the-limits : ClerksKeepTheLimits

@@ -13,7 +13,7 @@ use Rattle.paper_lower.specs.Lists.Maybe.{none, just}
 use Rattle.paper_lower.specs.Records.{Bytes}
 use Rattle.paper_lower.specs.Forms.{policyForms, formOf, above, outOfRange}
 use Rattle.paper_lower.specs.Tables.{Tasks, Limit, Block, Pair, Rules, noPolicy, withStatics, withDynamics, withTaskSets, withBlocks, withBindings, withBefores}
-use Rattle.paper_lower.specs.Policy.{tasksOf, oneTemplate, together, illMade, userNext, roleNext, permissionNext, assignNext, giveNext, taskChecks, taskNext, openToNext, carriesNext, staticChecks, staticNext, dynamicChecks, dynamicNext, taskSetChecks, taskSetNext, partitioned, blockChecks, blockNext, banNext, mostChecks, mostNext, bindChecks, bindNext, beforeChecks, beforeNext, policyKinds}
+use Rattle.paper_lower.specs.Policy.{tasksOf, oneTemplate, together, illMade, userNext, roleNext, permissionNext, assignNext, giveNext, taskChecks, taskNext, openToNext, carriesNext, staticChecks, staticNext, dynamicChecks, dynamicNext, taskSetChecks, taskSetNext, partitioned, blockChecks, blockNext, banNext, mostChecks, mostNext, bindChecks, bindNext, beforeChecks, beforeNext, raiseNext, policyKinds}
 use Rattle.paper_lower.specs.Load.{load, recordsOf}
 use Rattle.paper_lower.proofs.ListLaws.{or-none, both, upd-same, upd-other, every-map, every-added, _⨾_}
 use Rattle.sets.proofs.Bits.{same-or-other}
@@ -32,7 +32,7 @@ holds-just p (just y) h = (y, refl, h)
 pub is-just : (j : ℕ) (x : Maybe ℕ) → is j x ≡ true → x ≡ just j
 is-just j x h = let y = holds-just (λ n. eqb n j) x h in y .1 ∙ ap (λ (n : ℕ). just n) (eqb-true _ _ (y .2))
 
-below-some : (n : ℕ) (f : ℕ → Bool) → someBelow n f ≡ true → (k : ℕ) × (f k ≡ true)
+pub below-some : (n : ℕ) (f : ℕ → Bool) → someBelow n f ≡ true → (k : ℕ) × (f k ≡ true)
 unfolding someBelow
 below-some zero f h = absurd (false≢true h)
 below-some (suc n) f h = go (f n) refl h (below-some n f)
@@ -201,7 +201,7 @@ pub a-within : (k a : ℕ) (b : Bool) → false || ltb k a || b || false || fals
 a-within k a b g = ltb-false k a (or-none (ltb k a) b (or-none _ _ (or-none _ _ g .0) .0) .0)
 
 rows : Rows policyForms (λ n p r x. WellMade (p .tasks .template) (p .tasks .most) (p .rules) → WellMade (x .tasks .template) (x .tasks .most) (x .rules)) policyKinds
-unfolding policyKinds policyForms formOf outOfRange above userNext roleNext permissionNext assignNext giveNext taskChecks taskNext openToNext carriesNext staticChecks staticNext dynamicChecks dynamicNext taskSetChecks taskSetNext blockChecks blockNext banNext mostChecks mostNext bindChecks bindNext beforeChecks beforeNext
+unfolding policyKinds policyForms formOf outOfRange above userNext roleNext permissionNext assignNext giveNext taskChecks taskNext openToNext carriesNext staticChecks staticNext dynamicChecks dynamicNext taskSetChecks taskSetNext blockChecks blockNext banNext mostChecks mostNext bindChecks bindNext beforeChecks beforeNext raiseNext
 rows =
     (λ p r g c i. i) ⨾ (λ p r g c i. i) ⨾ (λ p r g c i. i) ⨾ (λ p r g c i. i) ⨾ (λ p r g c i. i)
     ⨾ (λ p r g c i. task-more _ (r .a) (r .b) (c .0) _ (p .rules) (let l = a-within 63 (r .a) (ltb 15 (r .b)) g in omega arith) i)
@@ -220,6 +220,7 @@ rows =
     ⨾ (λ p r g c i. with-bindings _ _ (p .rules) i _
     (every-added _ (p .rules .bindings) _ (i .bindings) (linked (p .tasks) (r .a) (r .b) (c .1 .1 .0))))
     ⨾ (λ p r g c i. with-befores _ _ (p .rules) i _ (every-added _ (p .rules .befores) _ (i .befores) (linked (p .tasks) (r .a) (r .b) (c .1 .1 .0))))
+    ⨾ (λ p r g c i. i)
     ⨾ tt
 
 start : WellMade (noPolicy .tasks .template) (noPolicy .tasks .most) (noPolicy .rules)

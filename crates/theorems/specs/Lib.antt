@@ -7,5 +7,6 @@ pub mod Theorems
 pub mod Places
 pub mod Meeting
 pub mod Joining
+pub mod Seniority
 pub mod Stuck
 pub mod Listing

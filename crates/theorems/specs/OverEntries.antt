@@ -1,11 +1,12 @@
 -- The rules over an order's entries, "without any claim", and the limits over roles: read from the policy's records and from what is told.
 use Prim.Native.Nat.{ℕ, _≤_}
 use mathlib.Core.Path.{_≡_}
-use mathlib.Core.Bool.{true, cond}
+use mathlib.Core.Logic.{_⊎_, _↔_}
+use mathlib.Core.Bool.{Bool, true, cond, _&&_}
 use mathlib.Core.List.{List, [], _∷_}
 use lib.Dec.{eqb}
-use Rattle.paper_lower.specs.Sets.{Set, empty, has, plus, size, overlap, meets, within}
-use Rattle.paper_lower.specs.Lists.{Maybe, many, keep, Every}
+use Rattle.paper_lower.specs.Sets.{Set, empty, has, plus, size, overlap, meets}
+use Rattle.paper_lower.specs.Lists.{Maybe, some, many, keep, Every}
 use Rattle.paper_lower.specs.Lists.Maybe.{just}
 use Rattle.paper_lower.specs.Checks.{BEFORE, SEPARATION, BLOCK, ALONE, BOUND, COUNT}
 use Rattle.paper_lower.specs.Records.{Record}
@@ -96,12 +97,36 @@ claimRules =
     ∷ rule COUNT CountLimits
     ∷ []
 
--- ---- Roles.
+-- ---- Roles. 02, Ask 7: "role a stands above role b", and "Roles count with all roles below them".
+
+-- a record puts role a above role b
+unfoldable pub puts : List Record → ℕ → ℕ → Bool
+puts policy a b = some (λ r. eqb (r .a) a && eqb (r .b) b) (ofKind 17 policy)
+
+-- one pair after the other leads from a, over the roles between, to b
+abbrev pub Leads : (ℕ → ℕ → Bool) → ℕ → List ℕ → ℕ → Type 0
+Leads pairs a [] b = pairs a b ≡ true
+Leads pairs a (c ∷ cs) b = (pairs a c ≡ true) × Leads pairs c cs b
+
+-- role a stands above role b: a chain of records leads from a to b
+abbrev pub Above : List Record → ℕ → ℕ → Type 0
+Above policy a b = (between : List ℕ) × Leads (puts policy) a between b
+
+-- role b is one of the roles m, or stands below one of them
+abbrev pub AtOrBelow : List Record → Set → ℕ → Type 0
+AtOrBelow policy m b = (has m b ≡ true) ⊎ ((a : ℕ) × (has m a ≡ true) × Above policy a b)
+
+-- the policy's sets of a kind allow the roles m, counted with all roles below them
+pub record Allowed (policy : List Record) (kind : ℕ) (m : Set) : Type 0 where
+  pub counted : Set
+  pub exactly : (b : ℕ) → (has counted b ≡ true) ↔ AtOrBelow policy m b
+  pub allows : Every (λ r. Allows r counted) (ofKind kind policy)
+
 pub record RoleLimits (policy : List Record) (x : Told) : Type 0 where
   -- "A static set allows a user at most n of its roles among those assigned."
-  pub statics : (u : ℕ) → Every (λ r. Allows r (x .assigned u)) (ofKind 9 policy)
+  pub statics : (u : ℕ) → Allowed policy 9 (x .assigned u)
   -- "A dynamic set allows a user at most n of its roles active at a time, over all the user's subjects together." Amended by 02, Ask 5: "a dynamic
   -- set counts the union over the user's live subjects" of "every role it has had active"
-  pub dynamics : (u : ℕ) → Every (λ r. Allows r (countedOf (x .sessions) u)) (ofKind 10 policy)
-  -- "Active roles are always assigned ones."
-  pub active : (s : ℕ) → x .sessions .live s ≡ true → within (x .sessions .active s) (x .assigned (x .sessions .user s)) ≡ true
+  pub dynamics : (u : ℕ) → Allowed policy 10 (countedOf (x .sessions) u)
+  -- "Active roles are always assigned ones." Amended by 02, Ask 7: "Activating a role below an assigned one is allowed"
+  pub active : (s : ℕ) → x .sessions .live s ≡ true → (r : ℕ) → has (x .sessions .active s) r ≡ true → AtOrBelow policy (x .assigned (x .sessions .user s)) r

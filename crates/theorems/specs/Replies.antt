@@ -1,11 +1,11 @@
 -- The replies: of the table, and the first refusal in the order of the numbers. A refused load leaves the empty engine's tables.
-use Prim.Native.Nat.{ℕ, _≤_}
+use Prim.Native.Nat.{ℕ, _+_, _*_, _≤_}
 use mathlib.Core.Path.{_≡_}
-use mathlib.Core.Bool.{Bool, true, false, _&&_}
+use mathlib.Core.Bool.{Bool, true, false, cond, _&&_, _||_}
 use mathlib.Core.List.{List, [], _∷_, _++_}
 use lib.Dec.{eqb, leb}
 use Rattle.paper_lower.specs.Lists.{some, Every}
-use Rattle.paper_lower.specs.Checks.{Check, GRANTED, SHAPE, UNKNOWN, FULL}
+use Rattle.paper_lower.specs.Checks.{Check, GRANTED, SHAPE, UNKNOWN, RULE, FULL, LOOP}
 use Rattle.paper_lower.specs.Records.{Bytes, Record, decode}
 use Rattle.paper_lower.specs.Forms.{Form, policyForms, lowerForms, requestForms, formChecks}
 use Rattle.paper_lower.specs.Kinds.{Kind, chosen, answer}
@@ -18,19 +18,27 @@ use Rattle.paper_upper.specs.Engine.{requestKinds, request}
 
 -- ---- "Checks run in the order of their numbers"
 
--- numbers of the table, none below k, and none below the one before it
+-- where a number stands among them: by its size, but "LOOP (23) after RULE" (02, Ask 7)
+unfoldable pub rank : ℕ → ℕ
+rank k = cond (eqb k LOOP) (2 * RULE + 1) (2 * k)
+
+-- a number of 01's table, or LOOP
+unfoldable pub inTable : ℕ → Bool
+inTable k = leb k FULL || eqb k LOOP
+
+-- numbers of the table, none before k, and none before the one that it stands behind
 unfoldable pub rising : ℕ → List Check → Bool
 rising k [] = true
-rising k (x ∷ xs) = leb k (x .1) && leb (x .1) FULL && rising (x .1) xs
+rising k (x ∷ xs) = leb (rank k) (rank (x .1)) && inTable (x .1) && rising (x .1) xs
 
 -- Of every kind the checks have rising numbers; those that each record meets before them, SHAPE and RANGE, have lower ones.
 abbrev pub InOrder : {T : Type 0} → List (Kind T) → Type 0
 InOrder {T} ks = Every (λ k. (t : T) (r : Record) → rising UNKNOWN (k .checks t r) ≡ true) ks
 
--- "the first that applies is given, and none is given otherwise": it is the lowest number of those that apply
+-- "the first that applies is given, and none is given otherwise": it is the first in that order of those that apply
 pub record FirstRefusal (checks : List Check) (reply : ℕ) : Type 0 where
   pub grants : Every (λ x. x .0 ≡ false) checks → reply ≡ GRANTED
-  pub refuses : Every (λ x. x .0 ≡ true → (reply ≡ GRANTED → ⊥) × (reply ≤ x .1)) checks
+  pub refuses : Every (λ x. x .0 ≡ true → (reply ≡ GRANTED → ⊥) × (rank reply ≤ rank (x .1))) checks
   pub given : (reply ≡ GRANTED → ⊥) → some (λ x. x .0 && eqb (x .1) reply) checks ≡ true
 
 -- the checks that a record meets
@@ -47,7 +55,7 @@ pub record ChecksInOrder : Type 0 where
 
 -- ---- Granted, or a refusal of the table other than ROOM, which is for the lengths of buffers.
 abbrev pub Listed : ℕ → Type 0
-Listed reply = (reply ≤ FULL) × ((reply ≡ GRANTED → ⊥) → SHAPE ≤ reply)
+Listed reply = (inTable reply ≡ true) × ((reply ≡ GRANTED → ⊥) → SHAPE ≤ reply)
 
 pub record RepliesAreListed : Type 0 where
   pub requests : (t : Engine) (s : Bytes) → Listed (request t s .reply)

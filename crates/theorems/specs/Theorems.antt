@@ -8,7 +8,7 @@ use Rattle.paper_lower.specs.Lists.{Maybe, many, Every}
 use Rattle.paper_lower.specs.Checks.{GRANTED, BEFORE, FULL}
 use Rattle.paper_lower.specs.Records.{Bytes, Record, decode}
 use Rattle.paper_lower.specs.Kinds.{Said, run, after}
-use Rattle.paper_lower.specs.Tables.{Permission, Tasks, Rules, Policy, Lower}
+use Rattle.paper_lower.specs.Tables.{Seniority, Permission, Tasks, Rules, Policy, Lower}
 use Rattle.paper_lower.specs.Load.{load, recordsOf}
 use Rattle.paper_lower.specs.Sessions.{lowerRequest, lowerOf}
 use Rattle.paper_upper.specs.Orders.{Orders, Engine}
@@ -110,9 +110,10 @@ RulesAreWellMade =
 abbrev pub LedgerIsSound : Type 0
 LedgerIsSound = AfterEvery (λ policy requests. Ledger (tablesAfter policy requests .orders))
 
--- "Deleting roles and changing rules after a load are not offered.": the declared roles, the tasks, what they carry, and the rules
+-- "Deleting roles and changing rules after a load are not offered.": the declared roles, which stands above which, the tasks, what they carry, and the rules
 pub record Fixed : Type 0 where
   pub roles : Set
+  pub seniority : Seniority
   pub tasks : Tasks
   pub declared : ℕ → Maybe Permission
   pub carriers : ℕ → Set
@@ -121,6 +122,7 @@ pub record Fixed : Type 0 where
 abbrev pub fixed : Policy → Fixed
 fixed p = record {
   roles = p .people .roles;
+  seniority = p .seniority;
   tasks = p .tasks;
   declared = p .permissions .declared;
   carriers = p .permissions .carriers;

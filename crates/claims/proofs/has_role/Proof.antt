@@ -4,17 +4,20 @@ use borrow.Author.Needs.{needs}
 use Rattle.claims.proofs.has_role.Statement.{statement}
 use Rattle.claims.proofs.has_role.Tie as tie
 
-open-to-requires : tie.Need-open-to-requires
-open-to-requires c κs = search needs
-
 active-requires : tie.Need-active-requires
 active-requires c κs = search needs
+
+down-requires : tie.Need-down-requires
+down-requires c κs = search needs
+
+open-to-requires : tie.Need-open-to-requires
+open-to-requires c κs = search needs
 
 meets-requires : tie.Need-meets-requires
 meets-requires c κs = search needs
 
 returns : tie.Need-returns
-returns c = c .meets .ensures ∙ rw (c .before .before .open-to .ensures, c .before .active .ensures)
+returns c = c .meets .ensures ∙ rw (c .before .open-to .ensures, c .before .before .down .ensures, c .before .before .before .active .ensures)
 
 pub has-role-spec : {M : Type 1} → statement M
-has-role-spec = tie.close (tie.spec open-to-requires active-requires meets-requires returns)
+has-role-spec = tie.close (tie.spec active-requires down-requires open-to-requires meets-requires returns)

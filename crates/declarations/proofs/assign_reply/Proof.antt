@@ -30,16 +30,19 @@ returns-2 c = simp (← c .before .before .before .before .before .before .user-
 with-requires : tie.Need-with-requires
 with-requires c κs = search needs
 
+down-requires : tie.Need-down-requires
+down-requires c κs = search needs
+
 broken-requires : tie.Need-broken-requires
 broken-requires c κs = search needs
 
 returns-3 : tie.Need-returns-3
 unfolding assignChecks
-returns-3 c = simp (← c .before .before .before .before .before .before .before .before .before .user-declared .ensures, ← c .before .before .before .before .before .before .before .before .declared-roles .ensures, ← c .before .before .before .before .before .before .before .has .ensures, c .before .before .before .before .before .before .if1 .left, ← c .before .before .before .before .before .assigned .ensures, ← c .before .before .before .before .has2 .ensures, c .before .before .before .if2 .left, ← c .before .before .with .ensures, ← c .before .broken .ensures, c .if3 .taken)
+returns-3 c = simp (← c .before .before .before .before .before .before .before .before .before .before .user-declared .ensures, ← c .before .before .before .before .before .before .before .before .before .declared-roles .ensures, ← c .before .before .before .before .before .before .before .before .has .ensures, c .before .before .before .before .before .before .before .if1 .left, ← c .before .before .before .before .before .before .assigned .ensures, ← c .before .before .before .before .before .has2 .ensures, c .before .before .before .before .if2 .left, ← c .before .before .before .with .ensures, ← c .before .before .down .ensures, ← c .before .broken .ensures, c .if3 .taken)
 
 returns-4 : tie.Need-returns-4
 unfolding assignChecks
-returns-4 c = simp (← c .before .before .before .before .before .before .before .before .before .user-declared .ensures, ← c .before .before .before .before .before .before .before .before .declared-roles .ensures, ← c .before .before .before .before .before .before .before .has .ensures, c .before .before .before .before .before .before .if1 .left, ← c .before .before .before .before .before .assigned .ensures, ← c .before .before .before .before .has2 .ensures, c .before .before .before .if2 .left, ← c .before .before .with .ensures, ← c .before .broken .ensures, c .if3 .left)
+returns-4 c = simp (← c .before .before .before .before .before .before .before .before .before .before .user-declared .ensures, ← c .before .before .before .before .before .before .before .before .before .declared-roles .ensures, ← c .before .before .before .before .before .before .before .before .has .ensures, c .before .before .before .before .before .before .before .if1 .left, ← c .before .before .before .before .before .before .assigned .ensures, ← c .before .before .before .before .before .has2 .ensures, c .before .before .before .before .if2 .left, ← c .before .before .before .with .ensures, ← c .before .before .down .ensures, ← c .before .broken .ensures, c .if3 .left)
 
 pub assign-reply-spec : {M : Type 1} → statement M
 assign-reply-spec =
@@ -53,6 +56,7 @@ assign-reply-spec =
     has-requires-2
     returns-2
     with-requires
+    down-requires
     broken-requires
     returns-3
     returns-4)

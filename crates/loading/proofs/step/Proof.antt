@@ -74,6 +74,10 @@ before-requires : tie.Need-before-requires
 unfolding limitsOpen
 before-requires c κs = (c .before .before .before .before .pre .0, (below (limitA policyForms) (c .before .before .before .before .pre .1 .a) (c .before .match .keys16) 64 tt, below (limitB policyForms) (c .before .before .before .before .pre .1 .b) (c .before .match .keys16) 64 tt))
 
+raise-requires : tie.Need-raise-requires
+unfolding limitsOpen
+raise-requires c κs = (c .before .before .before .before .pre .0, (below (limitA policyForms) (c .before .before .before .before .pre .1 .a) (c .before .match .keys17) 64 tt, below (limitB policyForms) (c .before .before .before .before .pre .1 .b) (c .before .match .keys17) 64 tt))
+
 same-length : tie.Need-same-length
 same-length c = search needs
 
@@ -186,9 +190,16 @@ returns-16 : tie.Need-returns-16
 unfolding chosen policyKinds
 returns-16 c = rw (c .before .before .before .before .match .keys16) (c .before .before .before2 .ensures)
 
+same-length-17 : tie.Need-same-length-17
+same-length-17 c = search needs
+
 returns-17 : tie.Need-returns-17
 unfolding chosen policyKinds
-returns-17 c = simp (apart _ _ (c .match .rest .0 .0 .0 .0 .0 .0 .0 .0 .0 .0 .0 .0 .0 .0 .0 .1), apart _ _ (c .match .rest .0 .0 .0 .0 .0 .0 .0 .0 .0 .0 .0 .0 .0 .0 .1), apart _ _ (c .match .rest .0 .0 .0 .0 .0 .0 .0 .0 .0 .0 .0 .0 .0 .1), apart _ _ (c .match .rest .0 .0 .0 .0 .0 .0 .0 .0 .0 .0 .0 .0 .1), apart _ _ (c .match .rest .0 .0 .0 .0 .0 .0 .0 .0 .0 .0 .0 .1), apart _ _ (c .match .rest .0 .0 .0 .0 .0 .0 .0 .0 .0 .0 .1), apart _ _ (c .match .rest .0 .0 .0 .0 .0 .0 .0 .0 .0 .1), apart _ _ (c .match .rest .0 .0 .0 .0 .0 .0 .0 .0 .1), apart _ _ (c .match .rest .0 .0 .0 .0 .0 .0 .0 .1), apart _ _ (c .match .rest .0 .0 .0 .0 .0 .0 .1), apart _ _ (c .match .rest .0 .0 .0 .0 .0 .1), apart _ _ (c .match .rest .0 .0 .0 .0 .1), apart _ _ (c .match .rest .0 .0 .0 .1), apart _ _ (c .match .rest .0 .0 .1), apart _ _ (c .match .rest .0 .1), apart _ _ (c .match .rest .1)) (record { replies = refl; tables = refl; kept = λ _. refl })
+returns-17 c = rw (c .before .before .before .before .match .keys17) (c .before .before .raise .ensures)
+
+returns-18 : tie.Need-returns-18
+unfolding chosen policyKinds
+returns-18 c = simp (apart _ _ (c .match .rest .0 .0 .0 .0 .0 .0 .0 .0 .0 .0 .0 .0 .0 .0 .0 .0 .1), apart _ _ (c .match .rest .0 .0 .0 .0 .0 .0 .0 .0 .0 .0 .0 .0 .0 .0 .0 .1), apart _ _ (c .match .rest .0 .0 .0 .0 .0 .0 .0 .0 .0 .0 .0 .0 .0 .0 .1), apart _ _ (c .match .rest .0 .0 .0 .0 .0 .0 .0 .0 .0 .0 .0 .0 .0 .1), apart _ _ (c .match .rest .0 .0 .0 .0 .0 .0 .0 .0 .0 .0 .0 .0 .1), apart _ _ (c .match .rest .0 .0 .0 .0 .0 .0 .0 .0 .0 .0 .0 .1), apart _ _ (c .match .rest .0 .0 .0 .0 .0 .0 .0 .0 .0 .0 .1), apart _ _ (c .match .rest .0 .0 .0 .0 .0 .0 .0 .0 .0 .1), apart _ _ (c .match .rest .0 .0 .0 .0 .0 .0 .0 .0 .1), apart _ _ (c .match .rest .0 .0 .0 .0 .0 .0 .0 .1), apart _ _ (c .match .rest .0 .0 .0 .0 .0 .0 .1), apart _ _ (c .match .rest .0 .0 .0 .0 .0 .1), apart _ _ (c .match .rest .0 .0 .0 .0 .1), apart _ _ (c .match .rest .0 .0 .0 .1), apart _ _ (c .match .rest .0 .0 .1), apart _ _ (c .match .rest .0 .1), apart _ _ (c .match .rest .1)) (record { replies = refl; tables = refl; kept = λ _. refl })
 
 pub step-spec : {M : Type 1} → statement M
 step-spec =
@@ -211,6 +222,7 @@ step-spec =
     most-requires
     bind-requires
     before-requires
+    raise-requires
     same-length
     returns
     same-length-2
@@ -243,4 +255,6 @@ step-spec =
     returns-15
     same-length-16
     returns-16
-    returns-17)
+    same-length-17
+    returns-17
+    returns-18)

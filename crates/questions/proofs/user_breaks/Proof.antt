@@ -12,7 +12,7 @@ use Rattle.questions.proofs.user_breaks.Statement.{statement}
 use Rattle.questions.proofs.user_breaks.Tie as tie
 
 abbrev Inv-loop : tie.InvT-loop
-Inv-loop p n m u₀ u = (u ≤ 1024) × (someBelow u (exceeds (policyOf p .people) n (m .bits)) ≡ false)
+Inv-loop p n m u₀ u = (u ≤ 1024) × (someBelow u (exceeds (policyOf p) n (m .bits)) ≡ false)
 
 abbrev μ-loop : tie.MeasureT-loop
 μ-loop p n m u₀ u = 1024 - u

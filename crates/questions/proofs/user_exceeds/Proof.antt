@@ -1,4 +1,4 @@
--- The user's flag, and n against the size of the overlap with the user's roles.
+-- The user's flag, and n against the size of the overlap with the user's roles and those below.
 use borrow.Author.Needs.{needs}
 use Rattle.paper_lower.specs.Policy.{breaks}
 use Rattle.questions.proofs.user_exceeds.Statement.{statement}
@@ -10,13 +10,16 @@ user-declared-requires c κs = search needs
 assigned-requires : tie.Need-assigned-requires
 assigned-requires c κs = search needs
 
+down-requires : tie.Need-down-requires
+down-requires c κs = search needs
+
 overlap-requires : tie.Need-overlap-requires
 overlap-requires c κs = search needs
 
 returns : tie.Need-returns
 unfolding breaks
-returns c = rw (c .before .before .user-declared .ensures, c .overlap .ensures, c .before .assigned .ensures)
+returns c = rw (c .before .before .before .user-declared .ensures, c .overlap .ensures, c .before .down .ensures, c .before .before .assigned .ensures)
 
 pub user-exceeds-spec : {M : Type 1} → statement M
 user-exceeds-spec =
-    tie.close (tie.spec user-declared-requires assigned-requires overlap-requires returns)
+    tie.close (tie.spec user-declared-requires assigned-requires down-requires overlap-requires returns)

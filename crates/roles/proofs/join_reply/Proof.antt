@@ -21,16 +21,19 @@ returns-2 : tie.Need-returns-2
 unfolding joinChecks
 returns-2 c = simp (← c .before .before .before .before .declared-roles .ensures, ← c .before .before .before .within .ensures, c .before .before .if1 .left, ← c .before .user-declared .ensures, c .if2 .taken)
 
+down-requires : tie.Need-down-requires
+down-requires c κs = search needs
+
 broken-requires : tie.Need-broken-requires
 broken-requires c κs = search needs
 
 returns-3 : tie.Need-returns-3
 unfolding joinChecks
-returns-3 c = simp (← c .before .before .before .before .before .before .declared-roles .ensures, ← c .before .before .before .before .before .within .ensures, c .before .before .before .before .if1 .left, ← c .before .before .before .user-declared .ensures, c .before .before .if2 .left, ← c .before .broken .ensures, c .if3 .taken)
+returns-3 c = simp (← c .before .before .before .before .before .before .before .declared-roles .ensures, ← c .before .before .before .before .before .before .within .ensures, c .before .before .before .before .before .if1 .left, ← c .before .before .before .before .user-declared .ensures, c .before .before .before .if2 .left, ← c .before .before .down .ensures, ← c .before .broken .ensures, c .if3 .taken)
 
 returns-4 : tie.Need-returns-4
 unfolding joinChecks
-returns-4 c = simp (← c .before .before .before .before .before .before .declared-roles .ensures, ← c .before .before .before .before .before .within .ensures, c .before .before .before .before .if1 .left, ← c .before .before .before .user-declared .ensures, c .before .before .if2 .left, ← c .before .broken .ensures, c .if3 .left)
+returns-4 c = simp (← c .before .before .before .before .before .before .before .declared-roles .ensures, ← c .before .before .before .before .before .before .within .ensures, c .before .before .before .before .before .if1 .left, ← c .before .before .before .before .user-declared .ensures, c .before .before .before .if2 .left, ← c .before .before .down .ensures, ← c .before .broken .ensures, c .if3 .left)
 
 pub join-reply-spec : {M : Type 1} → statement M
 join-reply-spec =
@@ -41,6 +44,7 @@ join-reply-spec =
     returns
     user-declared-requires
     returns-2
+    down-requires
     broken-requires
     returns-3
     returns-4)

@@ -26,16 +26,19 @@ returns c = simp (← c .before .before .before .before .before .user-declared .
 active-of-requires : tie.Need-active-of-requires
 active-of-requires c κs = search needs
 
-has-requires-3 : tie.Need-has-requires-3
-has-requires-3 c κs = search needs
+lost-by-requires : tie.Need-lost-by-requires
+lost-by-requires c κs = search needs
+
+meets-requires : tie.Need-meets-requires
+meets-requires c κs = search needs
 
 returns-2 : tie.Need-returns-2
 unfolding takeBackChecks
-returns-2 c = simp (← c .before .before .before .before .before .before .before .before .user-declared .ensures, ← c .before .before .before .before .before .before .before .declared-roles .ensures, ← c .before .before .before .before .before .before .has .ensures, ← c .before .before .before .before .before .assigned .ensures, ← c .before .before .before .before .has2 .ensures, c .before .before .before .if1 .left, ← c .before .before .active-of .ensures, ← c .before .has3 .ensures, c .if2 .taken)
+returns-2 c = simp (← c .before .before .before .before .before .before .before .before .before .user-declared .ensures, ← c .before .before .before .before .before .before .before .before .declared-roles .ensures, ← c .before .before .before .before .before .before .before .has .ensures, ← c .before .before .before .before .before .before .assigned .ensures, ← c .before .before .before .before .before .has2 .ensures, c .before .before .before .before .if1 .left, ← c .before .before .before .active-of .ensures, ← c .before .before .lost-by .ensures, ← c .before .meets .ensures, c .if2 .taken)
 
 returns-3 : tie.Need-returns-3
 unfolding takeBackChecks
-returns-3 c = simp (← c .before .before .before .before .before .before .before .before .user-declared .ensures, ← c .before .before .before .before .before .before .before .declared-roles .ensures, ← c .before .before .before .before .before .before .has .ensures, ← c .before .before .before .before .before .assigned .ensures, ← c .before .before .before .before .has2 .ensures, c .before .before .before .if1 .left, ← c .before .before .active-of .ensures, ← c .before .has3 .ensures, c .if2 .left)
+returns-3 c = simp (← c .before .before .before .before .before .before .before .before .before .user-declared .ensures, ← c .before .before .before .before .before .before .before .before .declared-roles .ensures, ← c .before .before .before .before .before .before .before .has .ensures, ← c .before .before .before .before .before .before .assigned .ensures, ← c .before .before .before .before .before .has2 .ensures, c .before .before .before .before .if1 .left, ← c .before .before .before .active-of .ensures, ← c .before .before .lost-by .ensures, ← c .before .meets .ensures, c .if2 .left)
 
 pub take-back-reply-spec : {M : Type 1} → statement M
 take-back-reply-spec =
@@ -48,6 +51,7 @@ take-back-reply-spec =
     has-requires-2
     returns
     active-of-requires
-    has-requires-3
+    lost-by-requires
+    meets-requires
     returns-2
     returns-3)

@@ -1,6 +1,7 @@
 -- Each way out is the first check of the definition that applies.
 use mathlib.Core.Bool.{cond}
 use mathlib.Core.Path.{_≡_}
+use native.Mathlib.Omega.{arith}
 use borrow.Author.Needs.{needs}
 use Rattle.paper_lower.specs.Checks.{first, DYNAMIC}
 use Rattle.paper_lower.specs.Sessions.{activateChecks}
@@ -37,12 +38,15 @@ user-requires c κs = search needs
 assigned-requires : tie.Need-assigned-requires
 assigned-requires c κs = search needs
 
+down-requires : tie.Need-down-requires
+down-requires c κs = search needs
+
 has-requires-3 : tie.Need-has-requires-3
 has-requires-3 c κs = search needs
 
 returns-3 : tie.Need-returns-3
 unfolding activateChecks
-returns-3 c = simp (← c .before .before .before .before .before .before .before .before .before .before .live .ensures, ← c .before .before .before .before .before .before .before .before .before .declared-roles .ensures, ← c .before .before .before .before .before .before .before .before .has .ensures, c .before .before .before .before .before .before .before .if1 .left, ← c .before .before .before .before .before .before .active .ensures, ← c .before .before .before .before .before .has2 .ensures, c .before .before .before .before .if2 .left, ← c .before .before .before .user .ensures .0, ← c .before .before .assigned .ensures, ← c .before .has3 .ensures, c .if3 .taken)
+returns-3 c = simp (← c .before .before .before .before .before .before .before .before .before .before .before .live .ensures, ← c .before .before .before .before .before .before .before .before .before .before .declared-roles .ensures, ← c .before .before .before .before .before .before .before .before .before .has .ensures, c .before .before .before .before .before .before .before .before .if1 .left, ← c .before .before .before .before .before .before .before .active .ensures, ← c .before .before .before .before .before .before .has2 .ensures, c .before .before .before .before .before .if2 .left, ← c .before .before .before .before .user .ensures .0, ← c .before .before .before .assigned .ensures, ← c .before .before .down .ensures, ← c .before .has3 .ensures, c .if3 .taken)
 
 counted-of-requires : tie.Need-counted-of-requires
 counted-of-requires c κs = search needs
@@ -50,27 +54,32 @@ counted-of-requires c κs = search needs
 with-requires : tie.Need-with-requires
 with-requires c κs = search needs
 
+down-requires-2 : tie.Need-down-requires-2
+down-requires-2 c κs = search needs
+
 broken-requires : tie.Need-broken-requires
-broken-requires c κs = search needs
+broken-requires c κs = (c .before .before .before .before .before .before .before .before .before .before .before .before .before .before .before .before .before .pre .0, omega arith)
 
 -- the checks before DYNAMIC have passed
-last : (c : tie.After-broken) → let z = c .before .before .before .before .before .before .before .before .before .before .before .before .before .before .before .before .args in first (activateChecks (lowerTables (z .p .now) (z .s .now)) (z .a) (z .b)) ≡ cond (c .broken .result) DYNAMIC 0
+last : (c : tie.After-broken) → let z = c .before .before .before .before .before .before .before .before .before .before .before .before .before .before .before .before .before .before .args in first (activateChecks (lowerTables (z .p .now) (z .s .now)) (z .a) (z .b)) ≡ cond (c .broken .result) DYNAMIC 0
 unfolding activateChecks
 last c =
     simp (
-      ← c .before .before .before .before .before .before .before .before .before .before .before .before .before .live .ensures,
-      ← c .before .before .before .before .before .before .before .before .before .before .before .before .declared-roles .ensures,
-      ← c .before .before .before .before .before .before .before .before .before .before .before .has .ensures,
-      c .before .before .before .before .before .before .before .before .before .before .if1 .left,
-      ← c .before .before .before .before .before .before .before .before .before .active .ensures,
-      ← c .before .before .before .before .before .before .before .before .has2 .ensures,
-      c .before .before .before .before .before .before .before .if2 .left,
-      ← c .before .before .before .before .before .before .user .ensures .0,
-      ← c .before .before .before .before .before .assigned .ensures,
-      ← c .before .before .before .before .has3 .ensures,
-      c .before .before .before .if3 .left,
-      ← c .before .before .counted-of .ensures,
-      ← c .before .with .ensures,
+      ← c .before .before .before .before .before .before .before .before .before .before .before .before .before .before .before .live .ensures,
+      ← c .before .before .before .before .before .before .before .before .before .before .before .before .before .before .declared-roles .ensures,
+      ← c .before .before .before .before .before .before .before .before .before .before .before .before .before .has .ensures,
+      c .before .before .before .before .before .before .before .before .before .before .before .before .if1 .left,
+      ← c .before .before .before .before .before .before .before .before .before .before .before .active .ensures,
+      ← c .before .before .before .before .before .before .before .before .before .before .has2 .ensures,
+      c .before .before .before .before .before .before .before .before .before .if2 .left,
+      ← c .before .before .before .before .before .before .before .before .user .ensures .0,
+      ← c .before .before .before .before .before .before .before .assigned .ensures,
+      ← c .before .before .before .before .before .before .down .ensures,
+      ← c .before .before .before .before .before .has3 .ensures,
+      c .before .before .before .before .if3 .left,
+      ← c .before .before .before .counted-of .ensures,
+      ← c .before .before .with .ensures,
+      ← c .before .down2 .ensures,
       ← c .broken .ensures,
     )
 
@@ -93,10 +102,12 @@ activate-reply-spec =
     returns-2
     user-requires
     assigned-requires
+    down-requires
     has-requires-3
     returns-3
     counted-of-requires
     with-requires
+    down-requires-2
     broken-requires
     returns-4
     returns-5)

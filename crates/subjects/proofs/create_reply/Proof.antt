@@ -31,12 +31,15 @@ returns-2 c = simp (← c .before .before .before .before .before .user-declared
 assigned-requires : tie.Need-assigned-requires
 assigned-requires c κs = search needs
 
+down-requires : tie.Need-down-requires
+down-requires c κs = search needs
+
 within-requires-2 : tie.Need-within-requires-2
 within-requires-2 c κs = search needs
 
 returns-3 : tie.Need-returns-3
 unfolding createChecks
-returns-3 c = simp (← c .before .before .before .before .before .before .before .before .user-declared .ensures, ← c .before .before .before .before .before .before .before .declared-roles .ensures, ← c .before .before .before .before .before .before .within .ensures, c .before .before .before .before .before .if1 .left, ← c .before .before .before .before .live .ensures, c .before .before .before .if2 .left, ← c .before .before .assigned .ensures, ← c .before .within2 .ensures, c .if3 .taken)
+returns-3 c = simp (← c .before .before .before .before .before .before .before .before .before .user-declared .ensures, ← c .before .before .before .before .before .before .before .before .declared-roles .ensures, ← c .before .before .before .before .before .before .before .within .ensures, c .before .before .before .before .before .before .if1 .left, ← c .before .before .before .before .before .live .ensures, c .before .before .before .before .if2 .left, ← c .before .before .before .assigned .ensures, ← c .before .before .down .ensures, ← c .before .within2 .ensures, c .if3 .taken)
 
 counted-of-requires : tie.Need-counted-of-requires
 counted-of-requires c κs = search needs
@@ -44,25 +47,30 @@ counted-of-requires c κs = search needs
 union-requires : tie.Need-union-requires
 union-requires c κs = search needs
 
+down-requires-2 : tie.Need-down-requires-2
+down-requires-2 c κs = search needs
+
 broken-requires : tie.Need-broken-requires
 broken-requires c κs = search needs
 
 -- the checks before DYNAMIC have passed
-last : (c : tie.After-broken) → let z = c .before .before .before .before .before .before .before .before .before .before .before .before .before .before .args in first (createChecks (lowerTables (z .p .now) (z .s .now)) (z .a) (z .b) (z .m .bits)) ≡ cond (c .broken .result) DYNAMIC 0
+last : (c : tie.After-broken) → let z = c .before .before .before .before .before .before .before .before .before .before .before .before .before .before .before .before .args in first (createChecks (lowerTables (z .p .now) (z .s .now)) (z .a) (z .b) (z .m .bits)) ≡ cond (c .broken .result) DYNAMIC 0
 unfolding createChecks
 last c =
     simp (
-      ← c .before .before .before .before .before .before .before .before .before .before .before .user-declared .ensures,
-      ← c .before .before .before .before .before .before .before .before .before .before .declared-roles .ensures,
-      ← c .before .before .before .before .before .before .before .before .before .within .ensures,
-      c .before .before .before .before .before .before .before .before .if1 .left,
-      ← c .before .before .before .before .before .before .before .live .ensures,
-      c .before .before .before .before .before .before .if2 .left,
-      ← c .before .before .before .before .before .assigned .ensures,
-      ← c .before .before .before .before .within2 .ensures,
-      c .before .before .before .if3 .left,
-      ← c .before .before .counted-of .ensures,
-      ← c .before .union .ensures,
+      ← c .before .before .before .before .before .before .before .before .before .before .before .before .before .user-declared .ensures,
+      ← c .before .before .before .before .before .before .before .before .before .before .before .before .declared-roles .ensures,
+      ← c .before .before .before .before .before .before .before .before .before .before .before .within .ensures,
+      c .before .before .before .before .before .before .before .before .before .before .if1 .left,
+      ← c .before .before .before .before .before .before .before .before .before .live .ensures,
+      c .before .before .before .before .before .before .before .before .if2 .left,
+      ← c .before .before .before .before .before .before .before .assigned .ensures,
+      ← c .before .before .before .before .before .before .down .ensures,
+      ← c .before .before .before .before .before .within2 .ensures,
+      c .before .before .before .before .if3 .left,
+      ← c .before .before .before .counted-of .ensures,
+      ← c .before .before .union .ensures,
+      ← c .before .down2 .ensures,
       ← c .broken .ensures,
     )
 
@@ -83,10 +91,12 @@ create-reply-spec =
     live-requires
     returns-2
     assigned-requires
+    down-requires
     within-requires-2
     returns-3
     counted-of-requires
     union-requires
+    down-requires-2
     broken-requires
     returns-4
     returns-5)
