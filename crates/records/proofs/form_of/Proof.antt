@@ -154,7 +154,11 @@ returns-35 c = rw (c .match .keys35)
 
 returns-36 : tie.Need-returns-36
 unfolding tableOpen
-returns-36 c = rest same same-sound tableAt (record { 0 = 0; 1 = 0; 2 = 0; 3 = 0; 4 = 0; 5 = 0 }) (oneEach kinds) 0 256 tt (c .before .args .kind) (c .match .rest) zero-le (c .before .pre)
+returns-36 c = rw (c .match .keys36)
+
+returns-37 : tie.Need-returns-37
+unfolding tableOpen
+returns-37 c = rest same same-sound tableAt (record { 0 = 0; 1 = 0; 2 = 0; 3 = 0; 4 = 0; 5 = 0 }) (oneEach kinds) 0 256 tt (c .before .args .kind) (c .match .rest) zero-le (c .before .pre)
 
 pub form-of-spec : {M : Type 1} → statement M
 form-of-spec =
@@ -195,4 +199,5 @@ form-of-spec =
     returns-33
     returns-34
     returns-35
-    returns-36)
+    returns-36
+    returns-37)
