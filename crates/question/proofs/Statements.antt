@@ -14,7 +14,7 @@ use Rattle.engine.specs.Buffers.{tablesOf, fit}
 use Rattle.engine.specs.Answers.{CallAnswer, requestAnswer}
 use Rattle.engine.proofs.RespectLaws.{respects}
 use Rattle.question.specs.Question.{questionChecks, questionReply, questionOf}
-use Rattle.question.specs.Promises.{AsRequested, AnswersAsDefined, FiguresOfTheLedger, RefusalsKeep, OneAnswer}
+use Rattle.question.specs.Promises.{AsRequested, AnswersAsDefined, FiguresOfTheLedger, StuckOfTheTemplate, RefusalsKeep, OneAnswer}
 
 pub as-requested : AsRequested
 unfolding questionOf questionReply questionChecks requestAnswer
@@ -35,6 +35,10 @@ pub figures-of-the-ledger : FiguresOfTheLedger
 unfolding answerTo answered
 figures-of-the-ledger bytes answer answer′ x k q = answers-as-defined bytes answer answer′ x q ∙ rw (eq-eqb _ _ k)
 
+pub stuck-of-the-template : StuckOfTheTemplate
+unfolding answerTo answered
+stuck-of-the-template bytes answer answer′ x k q = answers-as-defined bytes answer answer′ x q ∙ rw k
+
 pub refusals-keep : RefusalsKeep
 unfolding questionOf
 refusals-keep bytes answer answer′ x number q n = q .written ∙ sym (granted-old _ answer _ (λ z. n (q .replies ∙ z)))
@@ -44,7 +48,7 @@ refusals-keep bytes answer answer′ x number q n = q .written ∙ sym (granted-
 -- the words do not depend on the order of the entries
 answered-same : (t t′ : Engine) → SameTables t t′ → (r : Record) → answerTo t r ≡ answerTo t′ r
 unfolding answerTo answered figuresOf tasksDone
-answered-same t t′ h r = rw (many-kept _ (h .entries), tasks-same _ (h .entries))
+answered-same t t′ h r = rw (many-kept _ (h .entries), tasks-same _ (h .entries), h .lower)
 
 pub one-answer : OneAnswer
 unfolding questionOf questionReply

@@ -14,8 +14,9 @@ use Rattle.paper_lower.specs.Kinds.{chosen, replyTo, answer, Answer}
 use Rattle.paper_lower.proofs.ListLaws.{both}
 use Rattle.paper_lower.proofs.CheckLaws.{Numbered, passed, first-stops, none-applies}
 use Rattle.paper_upper.specs.Orders.{Engine}
-use Rattle.paper_upper.specs.Requests.{upperKinds}
-use Rattle.paper_upper.specs.Questions.{figuresOf, answerWords, questionNumbers, asks, answered, answerTo}
+use Rattle.paper_upper.specs.Stuck.{stuckOf}
+use Rattle.paper_upper.specs.Requests.{stuckChecks, upperKinds}
+use Rattle.paper_upper.specs.Questions.{figuresOf, answerWords, padded, questionNumbers, asks, answered, answerTo}
 use Rattle.paper_upper.specs.Engine.{requestKinds, request}
 use Rattle.replies.specs.Replies.{numberOf}
 use Rattle.replies.specs.declared.Reply.{Reply}
@@ -29,6 +30,8 @@ use Rattle.records.specs.declared.Record.{Record}
 use Rattle.records.proofs.Passing.{sized, passed as within-limits, passed-answer}
 use Rattle.records.proofs.Span.{Rest, oneEach, others}
 use Rattle.policy.specs.Layout.{policyWords}
+use Rattle.policy.specs.Reading.{policyOf}
+use Rattle.policy.specs.Promises.{Judged}
 use Rattle.sessions.specs.Reading.{sessionsWords}
 use Rattle.links.specs.Chains.{ordersWords, soundOf}
 use Rattle.entries.specs.Reading.{ordersOf}
@@ -40,7 +43,7 @@ use Rattle.engine.specs.Buffers.{Buffers, tablesOf, fit}
 use Rattle.engine.proofs.Ways.{unfit, fits-not, tables-sound, tables-broken}
 use Rattle.engine.proofs.EmptyLaws.{all-unknown}
 use Rattle.question.specs.Question.{questionChecks, questionReply, questionOf}
-use Rattle.question.specs.Promises.{FiguresAnswered, Answered, Questioned}
+use Rattle.question.specs.Promises.{FiguresAnswered, StuckAnswered, Answered, Questioned}
 use Rattle.question.proofs.Words.{two-words}
 
 -- checks in two lists, one behind the other
@@ -80,6 +83,18 @@ module _ {o : List ℕ} {a : ℕ} {old : List ℕ} {r : Reply} {b : Bool} (judge
 pub of-figures : (p o : List ℕ) (r : Record) {old new : List ℕ} {y : Reply} → r .kind ≡ 58 → FiguresAnswered o (r .a) old new y → Answered p o r old new y
 unfolding chosen requestKinds upperKinds answerTo answered
 of-figures p o r k d = record { replies = λ s. rw k (d .replies p s); written = λ s. rw k (d .written) }
+
+-- ---- 60
+module _ {p : List ℕ} {a : ℕ} {old : List ℕ} {r : Reply} {b : Bool} (judged : Judged (λ k. stuckChecks (k .tasks) a) p r) (accepts : b ≡ eqb (numberOf r) 0) where
+  pub not-told : not b ≡ true → StuckAnswered p a old old r
+  not-told n = record { replies = judged; written = granted-old _ old _ (not-zero r accepts (not-true b n)) }
+
+  pub told : not b ≡ false → {l : List ℕ} → l ≡ padded (stuckOf (policyOf p .tasks) (policyOf p .rules) a) → StuckAnswered p a old l r
+  told n e = record { replies = judged; written = rw (is-zero r accepts (not-false b n)) e }
+
+pub of-stuck : (p o : List ℕ) (r : Record) {old new : List ℕ} {y : Reply} → r .kind ≡ 60 → StuckAnswered p (r .a) old new y → Answered p o r old new y
+unfolding chosen requestKinds upperKinds answerTo answered
+of-stuck p o r k d = record { replies = λ s. rw k (d .replies); written = λ s. rw k (d .written) }
 
 -- ---- the whole
 lengths : (x : Buffers) → fit x ≡ true → (length (x .policy) ≡ policyWords) × ((length (x .sessions) ≡ sessionsWords) × (length (x .orders) ≡ ordersWords))

@@ -8,13 +8,15 @@ use Rattle.paper_lower.specs.Checks.{first, granted}
 use Rattle.paper_lower.specs.Records.{Bytes, decode}
 use Rattle.paper_lower.specs.Kinds.{chosen}
 use Rattle.paper_upper.specs.Orders.{SameTables}
-use Rattle.paper_upper.specs.Requests.{figuresChecks}
+use Rattle.paper_upper.specs.Stuck.{stuckOf}
+use Rattle.paper_upper.specs.Requests.{figuresChecks, stuckChecks}
 use Rattle.paper_upper.specs.Questions.{figuresOf, figureWords, answerWords, padded, asks, answerTo}
 use Rattle.paper_upper.specs.Engine.{requestKinds}
 use Rattle.replies.specs.Replies.{numberOf}
 use Rattle.replies.specs.declared.Reply.{Reply}
 use Rattle.records.specs.Reading.{paperOf}
 use Rattle.records.specs.declared.Record.{Record}
+use Rattle.policy.specs.Reading.{policyOf}
 use Rattle.entries.specs.Reading.{ordersOf}
 use Rattle.rules.specs.declared.Judged.{Judged}
 use Rattle.orders.specs.Tables.{engineTables}
@@ -30,6 +32,11 @@ pub record Questioned (bytes : Bytes) (answer answer′ : List ℕ) (x : Buffers
 pub record FiguresAnswered (o : List ℕ) (a : ℕ) (answer answer′ : List ℕ) (reply : Reply) : Type 0 where
   pub replies : (p s : List ℕ) → numberOf reply ≡ first (figuresChecks (engineTables p s o) a)
   pub written : answer′ ≡ granted (numberOf reply) (padded (figureWords (figuresOf a (ordersOf o .entries)))) answer
+
+-- 60, whatever the sessions and the orders are
+pub record StuckAnswered (p : List ℕ) (a : ℕ) (answer answer′ : List ℕ) (reply : Reply) : Type 0 where
+  pub replies : numberOf reply ≡ first (stuckChecks (policyOf p .tasks) a)
+  pub written : answer′ ≡ granted (numberOf reply) (padded (stuckOf (policyOf p .tasks) (policyOf p .rules) a)) answer
 
 -- and any question, by its kind, whatever the sessions are
 pub record Answered (p o : List ℕ) (r : Record) (answer answer′ : List ℕ) (reply : Reply) : Type 0 where
@@ -54,6 +61,12 @@ abbrev pub FiguresOfTheLedger : Type 0
 FiguresOfTheLedger =
     (bytes : Bytes) (answer answer′ : List ℕ) (x : Buffers) → decode bytes .kind ≡ 58 → Questioned bytes answer answer′ x 0
     → answer′ ≡ padded (figureWords (figuresOf (decode bytes .a) (tablesOf x .orders .entries)))
+
+-- Ask 13: "The reply gives the stuck ones as a set and such a list of all free ones"
+abbrev pub StuckOfTheTemplate : Type 0
+StuckOfTheTemplate =
+    (bytes : Bytes) (answer answer′ : List ℕ) (x : Buffers) → decode bytes .kind ≡ 60 → Questioned bytes answer answer′ x 0
+    → answer′ ≡ padded (stuckOf (tablesOf x .lower .policy .tasks) (tablesOf x .lower .policy .rules) (decode bytes .a))
 
 abbrev pub RefusalsKeep : Type 0
 RefusalsKeep =

@@ -8,7 +8,7 @@ use Rattle.paper_lower.specs.Checks.{GRANTED, ROOM, SHAPE, RANGE, UNKNOWN}
 use Rattle.paper_lower.specs.Records.{Bytes}
 use Rattle.paper_lower.specs.Kinds.{after}
 use Rattle.paper_lower.specs.Load.{load, loadOpen}
-use Rattle.paper_lower.specs.Words.{joined, record-of, user, role, userHas, task, openTo, create, openOrder, claim, done, figures, wordsOpen}
+use Rattle.paper_lower.specs.Words.{joined, record-of, user, role, userHas, task, openTo, isBefore, create, openOrder, claim, done, figures, stuckTasks, wordsOpen}
 use Rattle.paper_upper.specs.Orders.{Engine}
 use Rattle.paper_upper.specs.Questions.{questionsOpen}
 use Rattle.paper_upper.specs.Engine.{request, engineOf, engineOpen}
@@ -36,6 +36,22 @@ answered = refl
 no-entry : questionOf true desk (figures 6) (nines 66) ≡ record { reply = GRANTED; answer = replicate 66 0 }
 unfolding sampleOpen
 no-entry = refl
+
+-- "Planning wrote task 4 before 5, 5 before 6, 6 before 4": they are stuck, and 7 beside them is free
+unfoldable circle : Engine
+circle = engineOf (load (joined (task 4 0 ∷ task 5 0 ∷ task 6 0 ∷ task 7 0 ∷ isBefore 4 5 ∷ isBefore 5 6 ∷ isBefore 6 4 ∷ [])) .tables)
+
+stuck : questionOf true circle (stuckTasks 0) (nines 66) ≡ record { reply = GRANTED; answer = 112 ∷ 1 ∷ 7 ∷ replicate 63 0 }
+unfolding sampleOpen circle
+stuck = refl
+
+no-task : questionOf true circle (stuckTasks 1) (nines 66) ≡ record { reply = UNKNOWN; answer = nines 66 }
+unfolding sampleOpen circle
+no-task = refl
+
+no-template : questionOf true circle (stuckTasks 16) (nines 66) ≡ record { reply = RANGE; answer = nines 66 }
+unfolding sampleOpen circle
+no-template = refl
 
 -- UNKNOWN, RANGE, SHAPE, each before those that follow it; the words stay
 not-open : questionOf true desk (figures 7) (nines 66) ≡ record { reply = UNKNOWN; answer = nines 66 }

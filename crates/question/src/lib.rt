@@ -1,4 +1,4 @@
-// Questions that answer more than a reply (document 02, Ask 9): over the lent state, which is only read, into a lent answer of a fixed number of words.
+// Questions that answer more than a reply (document 02, Asks 9 and 13): over the lent state, which is only read, into a lent answer of a fixed number of words.
 // The reply is the one that the engine's request gives to the same record.
 ghost use mathlib.Core.Path.{_≡_};
 ghost use mathlib.Core.Bool.{true};
@@ -14,7 +14,7 @@ ghost use Rattle.policy.specs.Layout.{policyWords};
 ghost use Rattle.entries.specs.Acts.{Ready};
 ghost use Rattle.engine.specs.Buffers.{buffers, fit};
 ghost use Rattle.question.specs.Question.{questionChecks};
-ghost use Rattle.question.specs.Promises.{FiguresAnswered, Answered, Questioned};
+ghost use Rattle.question.specs.Promises.{FiguresAnswered, StuckAnswered, Answered, Questioned};
 use links::ORDERS_WORDS;
 use policy::POLICY_WORDS;
 use records::Call;
@@ -29,7 +29,7 @@ pub const ANSWER_WORDS: usize = 66;
 fn is_question(kind: u64) -> bool
     ensures { λ r. ⌜ r ≡ asks kind ⌝ }
 {
-    kind == 58
+    (kind == 58) | (kind == 60)
 }
 
 // What a question is refused for before its kind is looked into.
@@ -83,6 +83,20 @@ fn figures(answer: &mut [u64], o: &[u64], a: u64) -> Reply
     r
 }
 
+// 60: the stuck tasks of template a, and the list of the free ones.
+fn stuck_tasks(answer: &mut [u64], p: &[u64], a: u64) -> Reply
+    requires { ⌜ (length (now answer) ≡ answerWords) × ((length (now p) ≡ policyWords) × (a < 16)) ⌝ }
+    ensures { λ r. ⌜ StuckAnswered (now (p .entry)) a (now (answer .entry)) (now (answer .exit)) r ⌝ }
+{
+    let r = stuck::judge(p, a);
+    if !accepted(r) {
+        return r;
+    }
+    clear(answer);
+    stuck::answer(p, a, answer);
+    r
+}
+
 // A question by its kind. No other kind comes here.
 fn answer_to(r: Record, answer: &mut [u64], p: &[u64], o: &[u64]) -> Reply
     requires { ⌜ ((length (now answer) ≡ answerWords) × ((length (now p) ≡ policyWords) × Ready (now o))) × (Limits requestForms r × (asks (r .kind) ≡ true)) ⌝ }
@@ -91,6 +105,7 @@ fn answer_to(r: Record, answer: &mut [u64], p: &[u64], o: &[u64]) -> Reply
     let kind = r.kind;
     match kind {
         58 => figures(answer, o, r.a),
+        60 => stuck_tasks(answer, p, r.a),
         _ => Reply::Shape,
     }
 }
