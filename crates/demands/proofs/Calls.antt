@@ -1,5 +1,5 @@
 -- What every call gives, by whichever function; and a chain of requests as a run of the definition.
-use Prim.Native.Nat.{ℕ, _+_, _*_, _/_, _%_, _≤_}
+use Prim.Native.Nat.{ℕ, _+_, _*_, _/_, _%_}
 use mathlib.Core.Bool.{Bool, true, false, not, cond}
 use mathlib.Core.List.{List, [], _∷_}
 use mathlib.Core.Path.{_≡_, refl, sym, ap, subst, _∙_}
@@ -7,7 +7,7 @@ use native.Mathlib.Omega.{arith}
 use borrow.Author.Tests.{eqb-true, eq-eqb, ne-eqb}
 use lib.Dec.{eqb}
 use Rattle.paper_lower.specs.Lists.{keep, each}
-use Rattle.paper_lower.specs.Checks.{ROOM, FULL, granted}
+use Rattle.paper_lower.specs.Checks.{ROOM, granted}
 use Rattle.paper_lower.specs.Records.{Bytes, Record, decode}
 use Rattle.paper_lower.specs.Kinds.{Answer, Said, after}
 use Rattle.paper_lower.specs.Load.{load}
@@ -21,9 +21,9 @@ use Rattle.engine.specs.Exports.{RequestExported, LoadExported}
 use Rattle.links.proofs.SameLaws.{tables-then}
 use Rattle.engine.proofs.RespectLaws.{respects}
 use Rattle.engine.proofs.Ways.{load-exported}
-use Rattle.theorems.specs.Replies.{Listed}
+use Rattle.theorems.specs.Replies.{inTable, Listed}
 use Rattle.theorems.specs.Outside.{followed}
-use Rattle.theorems.proofs.Replies.{replies-are-listed}
+use Rattle.theorems.proofs.Replies.{in-byte, replies-are-listed}
 use Rattle.demands.specs.Calls.{Request, Load, Chain, Called, allSaid, fitting, asked}
 use Rattle.demands.specs.Calls.Request.{within, exported, settled, settled-exported}
 use Rattle.demands.specs.Calls.Load.{within as load-within, exported as load-exported-here}
@@ -32,22 +32,23 @@ use Rattle.demands.specs.Calls.Chain.{no-more, one, misfit}
 pub fit-kept : {x y : Buffers} → SameLengths x y → fit y ≡ fit x
 fit-kept l = rw (l .policy, l .sessions, l .orders)
 
-pub first-byte : (q k n : ℕ) → q ≤ 20 → n ≡ q + 256 * k → n % 256 ≡ q
-first-byte q k n l e = omega arith
+pub first-byte : (q k n : ℕ) → inTable q ≡ true → n ≡ q + 256 * k → n % 256 ≡ q
+first-byte q k n l e = let b = in-byte q l in omega arith
 
-rest-of : (q k n : ℕ) → q ≤ 20 → n ≡ q + 256 * k → n / 256 ≡ k
-rest-of q k n l e = omega arith
+rest-of : (q k n : ℕ) → inTable q ≡ true → n ≡ q + 256 * k → n / 256 ≡ k
+rest-of q k n l e = let b = in-byte q l in omega arith
 
 -- ---- one request
-pub request-listed : (bytes : Bytes) (x : Buffers) → requestAnswer bytes x .reply ≤ FULL
-unfolding requestAnswer
+pub request-listed : (bytes : Bytes) (x : Buffers) → inTable (requestAnswer bytes x .reply) ≡ true
+unfolding requestAnswer inTable
 request-listed bytes x = go (fit x)
   where
     go : (b : Bool)
-        → cond {A = CallAnswer} b (record { reply = request (tablesOf x) bytes .reply; place = placeTo (tablesOf x) bytes; tables = request (tablesOf x) bytes .tables })
-        (record { reply = ROOM; place = 0; tables = tablesOf x }) .reply ≤ FULL
+        → inTable (cond {A = CallAnswer} b
+        (record { reply = request (tablesOf x) bytes .reply; place = placeTo (tablesOf x) bytes; tables = request (tablesOf x) bytes .tables })
+        (record { reply = ROOM; place = 0; tables = tablesOf x }) .reply) ≡ true
     go true = replies-are-listed .requests (tablesOf x) bytes .0
-    go false = omega arith
+    go false = refl
 
 -- by whichever function
 pub record Answered (bytes : Bytes) (x y : Buffers) (reply place : ℕ) : Type 0 where
@@ -95,13 +96,15 @@ pub as-load : {bytes : Bytes} {x y : Buffers} {reply : ℕ} → Load bytes x y r
 as-load (load-within d) = (_, load-exported d refl)
 as-load (load-exported-here {n} d) = (n, d)
 
-pub load-listed : (bytes : Bytes) (x : Buffers) → loadAnswer bytes x .reply ≤ FULL
-unfolding loadAnswer
+pub load-listed : (bytes : Bytes) (x : Buffers) → inTable (loadAnswer bytes x .reply) ≡ true
+unfolding loadAnswer inTable
 load-listed bytes x = go (fit x)
   where
-    go : (b : Bool) → cond {A = CallAnswer} b (record { reply = load bytes .reply; place = load bytes .place; tables = engineOf (load bytes .tables) }) (record { reply = ROOM; place = 0; tables = tablesOf x }) .reply ≤ FULL
+    go : (b : Bool)
+        → inTable (cond {A = CallAnswer} b (record { reply = load bytes .reply; place = load bytes .place; tables = engineOf (load bytes .tables) })
+        (record { reply = ROOM; place = 0; tables = tablesOf x }) .reply) ≡ true
     go true = replies-are-listed .loads bytes .0
-    go false = omega arith
+    go false = refl
 
 pub load-reply : {bytes : Bytes} {x y : Buffers} {reply : ℕ} → Load bytes x y reply → reply ≡ loadAnswer bytes x .reply
 load-reply (load-within d) = d .replies

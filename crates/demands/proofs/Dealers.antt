@@ -1,28 +1,31 @@
--- The lower part alone: one answer, and the role limits.
-use Prim.Native.Nat.{ℕ, _≤_}
+-- The lower part alone: one answer, the role limits, and senior roles.
+use Prim.Native.Nat.{ℕ}
 use mathlib.Core.Bool.{Bool, true, false, cond}
-use mathlib.Core.List.{List}
-use mathlib.Core.Path.{_≡_, refl, sym, ap, _∙_}
+use mathlib.Core.List.{List, []}
+use mathlib.Core.Path.{_≡_, refl, sym, ap, subst, _∙_}
 use native.Mathlib.Omega.{arith}
-use Rattle.paper_lower.specs.Checks.{GRANTED, ROOM, FULL}
+use Rattle.paper_lower.specs.Checks.{GRANTED, ROOM}
 use Rattle.paper_lower.specs.Records.{Bytes}
-use Rattle.paper_lower.specs.Kinds.{Said, run}
+use Rattle.paper_lower.specs.Kinds.{Answer, Said, run}
 use Rattle.paper_lower.specs.Tables.{Lower}
-use Rattle.paper_lower.specs.Load.{load, recordsOf}
+use Rattle.paper_lower.specs.Load.{Loaded, load, recordsOf}
 use Rattle.paper_lower.specs.Sessions.{lowerRequest, lowerOf}
 use Rattle.replies.specs.declared.Reply.{Reply}
 use Rattle.lower.specs.Answers as lower
 use Rattle.lower.specs.Exports as exports
 use Rattle.lower.proofs.Ways.{request-exported, load-exported}
 use Rattle.theorems.specs.Outside.{hear, outside}
-use Rattle.theorems.specs.OverEntries.{RoleLimits}
+use Rattle.theorems.specs.Replies.{inTable}
+use Rattle.theorems.specs.OverEntries.{ofKind, RoleLimits}
+use Rattle.theorems.specs.Seniority.{AsRecorded, lowerRequestBefore, loadBefore, NoneBelow}
 use Rattle.theorems.proofs.Replies.{replies-are-listed}
 use Rattle.theorems.proofs.Theorems.{dealers-keep-the-limits}
+use Rattle.theorems.proofs.Seniority.{seniority-is-recorded, as-before}
 use Rattle.demands.specs.Calls.{Chain, fitting, asked}
-use Rattle.demands.specs.Dealers.{Buffers, tablesOf, fit, Request, Called, Load, OneAnswer, LimitsHold}
+use Rattle.demands.specs.Dealers.{Buffers, tablesOf, fit, Request, Called, Load, OneAnswer, LimitsHold, SeniorRoles}
 use Rattle.demands.specs.Dealers.Request.{within, exported}
 use Rattle.demands.specs.Dealers.Load.{within as load-within, exported as load-exported-here}
-use Rattle.demands.proofs.Calls.{first-byte, Reading, chain-run, told-fitting}
+use Rattle.demands.proofs.Calls.{first-byte, Reading, after-all, chain-run, told-fitting}
 
 -- ---- requests
 as-number : {bytes : Bytes} {x y : Buffers} {reply : ℕ} → Request bytes x y reply
@@ -64,12 +67,15 @@ as-load : {bytes : Bytes} {x y : Buffers} {reply : ℕ} → Load bytes x y reply
 as-load (load-within d) = (_, load-exported d refl)
 as-load (load-exported-here {n} d) = (n, d)
 
-load-listed : (bytes : Bytes) (x : Buffers) → lower.loadAnswer bytes (x .policy) (x .sessions) .reply ≤ FULL
+load-listed : (bytes : Bytes) (x : Buffers) → inTable (lower.loadAnswer bytes (x .policy) (x .sessions) .reply) ≡ true
+unfolding inTable
 load-listed bytes x = go (fit x)
   where
-    go : (b : Bool) → cond {A = lower.LoadAnswer} b (record { reply = load bytes .reply; place = load bytes .place; tables = lowerOf (load bytes .tables) }) (record { reply = ROOM; place = 0; tables = tablesOf x }) .reply ≤ FULL
+    go : (b : Bool)
+        → inTable (cond {A = lower.LoadAnswer} b (record { reply = load bytes .reply; place = load bytes .place; tables = lowerOf (load bytes .tables) })
+        (record { reply = ROOM; place = 0; tables = tablesOf x }) .reply) ≡ true
     go true = replies-are-listed .loads bytes .0
-    go false = omega arith
+    go false = refl
 
 load-reply : {bytes : Bytes} {x y : Buffers} {reply : ℕ} → Load bytes x y reply → reply ≡ lower.loadAnswer bytes (x .policy) (x .sessions) .reply
 load-reply (load-within d) = d .replies
@@ -129,5 +135,35 @@ module _ {policy : Bytes} {x y z : Buffers} {reply : ℕ} {said : List Said} (l 
       let heard = ap (outside policy) (sym (a .0)) ∙ told-fitting hear _ said in
       rw heard at (dealers-keep-the-limits policy accepted (asked (λ y. y) (fitting (λ y. y) said)))
 
+  recorded : AsRecorded (recordsOf policy) (tablesOf z .policy .seniority)
+  recorded =
+      let a = chain-run Called fit tablesOf (λ t s. lowerRequest t s .tables) (λ y. y) told (run lowerRequest) (λ t u. t ≡ u) reading c still-fits
+      (lowerOf (load policy .tables)) (loads l fits .1) in
+      subst (λ (t : Lower). AsRecorded (recordsOf policy) (t .policy .seniority))
+      (sym (a .1 ∙ after-all lowerRequest (lowerOf (load policy .tables)) (asked (λ y. y) (fitting (λ y. y) said))))
+      (seniority-is-recorded .dealers policy accepted (asked (λ y. y) (fitting (λ y. y) said)))
+
 pub limits-hold : LimitsHold
 limits-hold = record { upheld = λ l g c. limits l g c }
+
+-- ---- senior roles
+request-as-before : {bytes : Bytes} {x y : Buffers} {reply : ℕ} → fit x ≡ true → NoneBelow (tablesOf x .policy) → Request bytes x y reply
+    → (reply ≡ lowerRequestBefore (tablesOf x) bytes .reply) × (tablesOf y ≡ lowerRequestBefore (tablesOf x) bytes .tables)
+request-as-before {bytes} {x} f none r =
+    let a = answers r f in
+    let b = as-before .lowerRequests (tablesOf x) none bytes .0 in
+    (a .0 ∙ ap (λ (q : Answer Lower). q .reply) b, a .1 ∙ ap (λ (q : Answer Lower). q .tables) b)
+
+load-as-before : {policy : Bytes} {x y : Buffers} {reply : ℕ} → fit x ≡ true → ofKind 17 (recordsOf policy) ≡ [] → Load policy x y reply
+    → (reply ≡ loadBefore policy .reply) × (tablesOf y ≡ lowerOf (loadBefore policy .tables))
+load-as-before {policy} f h l =
+    let a = loads l f in
+    let b = as-before .loads policy h .0 in
+    (a .0 ∙ ap (λ (q : Loaded). q .reply) b, a .1 ∙ ap (λ (q : Loaded). lowerOf (q .tables)) b)
+
+pub senior-roles : SeniorRoles
+senior-roles = record {
+  recorded = λ l g c. recorded l g c;
+  requests = λ f none r. request-as-before f none r;
+  loads = λ f h l. load-as-before f h l;
+}

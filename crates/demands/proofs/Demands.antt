@@ -1,13 +1,16 @@
 -- The demands.
 use Prim.Native.Nat.{ℕ, _+_, _≤_}
 use mathlib.Core.Bool.{Bool, true, false}
-use mathlib.Core.List.{List}
+use mathlib.Core.List.{List, []}
 use mathlib.Core.Path.{_≡_, refl, sym, ap, subst, _∙_}
 use native.Mathlib.Omega.{arith}
 use Rattle.paper_lower.specs.Checks.{GRANTED, ROOM, BEFORE}
 use Rattle.paper_lower.specs.Records.{Bytes}
 use Rattle.paper_lower.specs.Forms.{requestForms}
-use Rattle.paper_lower.specs.Load.{load}
+use Rattle.paper_lower.specs.Kinds.{Answer, run}
+use Rattle.paper_lower.specs.Tables.{Lower}
+use Rattle.paper_lower.specs.Load.{Loaded, load, recordsOf}
+use Rattle.paper_lower.specs.Sessions.{lowerOf}
 use Rattle.paper_upper.specs.Orders.{Engine, SameTables}
 use Rattle.paper_upper.specs.Engine.{requestKinds, request, placeTo, Placed, placedRun, engineOf}
 use Rattle.replies.specs.declared.Reply.{Reply}
@@ -20,17 +23,20 @@ use Rattle.links.proofs.SameLaws.{tables-refl, tables-sym, tables-then}
 use Rattle.engine.proofs.RespectLaws.{respects}
 use Rattle.theorems.specs.Replies.{FirstRefusal, checksOf}
 use Rattle.theorems.specs.Outside.{hear, outside}
+use Rattle.theorems.specs.OverEntries.{ofKind}
 use Rattle.theorems.specs.Theorems.{tablesAfter, saidAfter, replyAfter, Reaches}
 use Rattle.theorems.specs.InUse.{noTally, count, inUse}
 use Rattle.theorems.specs.Places.{placedAfter, placeAfter}
 use Rattle.theorems.specs.Meeting.{Apart}
+use Rattle.theorems.specs.Seniority.{AsRecorded, requestBefore, loadBefore, NoneBelow}
 use Rattle.theorems.proofs.Replies.{checks-in-order, refused-loads-are-empty}
 use Rattle.theorems.proofs.Theorems.{orders-keep-the-rules, clerks-keep-the-limits, first-rule-broken}
 use Rattle.theorems.proofs.Places.{places-are-true, placed-said}
 use Rattle.theorems.proofs.Meeting.{claims-do-not-meet}
 use Rattle.theorems.proofs.NeverStuck.{stuck-are-never-entered, before-refuses-nobody}
+use Rattle.theorems.proofs.Seniority.{seniority-is-recorded, as-before}
 use Rattle.demands.specs.Calls.{Request, Load, Called, Requests, allSaid, fitting, asked}
-use Rattle.demands.specs.Demands.{DemandOne, DemandTwo, OneAnswer, Upheld, DemandThree, EitherFirst, ClaimsDoNotMeet, CanFinish, StuckAreNeverEntered}
+use Rattle.demands.specs.Demands.{DemandOne, DemandTwo, OneAnswer, Upheld, DemandThree, EitherFirst, ClaimsDoNotMeet, CanFinish, SeniorRoles, StuckAreNeverEntered}
 use Rattle.demands.proofs.Calls.{fit-kept, request-listed, answered, answers, no-room, as-load, load-listed, load-reply, after-all, chain-run, told-fitting, said-fitting, told, reading}
 
 -- ---- loads
@@ -168,6 +174,11 @@ module _ {policy : Bytes} {x y z : Buffers} {reply : ℕ} {said : List Placed} (
     places = λ {claim} e r. let n = claimed r in rw (n .0, n .1) (rw heard at (places-are-true policy accepted ss claim e));
   }
 
+  recorded : AsRecorded (recordsOf policy) (tablesOf z .lower .policy .seniority)
+  recorded =
+      subst (λ (t : Lower). AsRecorded (recordsOf policy) (t .policy .seniority)) (sym (runs (fits l g) l c .1 .lower))
+      (seniority-is-recorded .engine policy accepted ss)
+
   can-finish : CanFinish policy said z
   can-finish = record {
     entries = rw heard at (stuck-are-never-entered policy accepted ss);
@@ -213,3 +224,40 @@ module _ {policy : Bytes} {x y z : Buffers} {reply : ℕ} {said : List Placed} (
 
 pub calls-do-not-meet : ClaimsDoNotMeet
 calls-do-not-meet = record { upheld = λ l g k c d a room. either l g k c d a room }
+
+-- ---- senior roles
+request-as-before : {bytes : Bytes} {x y : Buffers} {reply place : ℕ} → fit x ≡ true → NoneBelow (tablesOf x .lower .policy) → Request bytes x y reply place
+    → (reply ≡ requestBefore (tablesOf x) bytes .reply) × SameTables (tablesOf y) (requestBefore (tablesOf x) bytes .tables)
+request-as-before {bytes} {x} {y} f none r =
+    let a = answers r f in
+    let b = as-before .requests (tablesOf x) none bytes .0 in
+    (a .0 ∙ ap (λ (q : Answer Engine). q .reply) b, subst (λ (q : Answer Engine). SameTables (tablesOf y) (q .tables)) b (a .2))
+
+module _ (policy : Bytes) (h : ofKind 17 (recordsOf policy) ≡ []) where
+  loaded : load policy ≡ loadBefore policy
+  loaded = as-before .loads policy h .0
+
+  none-below : NoneBelow (engineOf (load policy .tables) .lower .policy)
+  unfolding engineOf lowerOf
+  none-below = as-before .loads policy h .1
+
+  load-as-before : {x y : Buffers} {reply : ℕ} → fit x ≡ true → Load policy x y reply
+      → (reply ≡ loadBefore policy .reply) × (tablesOf y ≡ engineOf (loadBefore policy .tables))
+  load-as-before f l = let a = loads l f in (a .0 ∙ ap (λ (q : Loaded). q .reply) loaded, a .1 ∙ ap (λ (q : Loaded). engineOf (q .tables)) loaded)
+
+  run-as-before : {x y z : Buffers} {reply : ℕ} {said : List Placed} → fit x ≡ true → Load policy x y reply → Requests y said z
+      → allSaid (fitted said) ≡ run requestBefore (engineOf (loadBefore policy .tables)) (requestsIn said)
+  run-as-before {said = said} f l c =
+      ap allSaid (runs f l c .0)
+      ∙ placed-said (engineOf (load policy .tables)) (requestsIn said)
+      ∙ as-before .runs (engineOf (load policy .tables)) none-below (requestsIn said) .0
+      ∙ ap (λ (q : Loaded). run requestBefore (engineOf (q .tables)) (requestsIn said)) loaded
+
+pub senior-roles : SeniorRoles
+senior-roles = record {
+  recorded = λ l g c. recorded l g c;
+  requests = λ f none r. request-as-before f none r;
+  loads = λ {policy} f h l. load-as-before policy h f l;
+  places = λ {policy} f h d. place-of f d ∙ ap (λ (q : Loaded). q .place) (loaded policy h);
+  runs = λ {policy} f h l c. run-as-before policy h f l c;
+}

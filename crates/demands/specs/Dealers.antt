@@ -2,12 +2,13 @@
 -- role limits. (What demands 1 and 2 say of a call is its contract itself: lower/specs/Answers.)
 use Prim.Native.Nat.{ℕ, _%_}
 use mathlib.Core.Bool.{Bool, true}
-use mathlib.Core.List.{List}
+use mathlib.Core.List.{List, []}
 use mathlib.Core.Path.{_≡_}
 use Rattle.paper_lower.specs.Checks.{GRANTED}
 use Rattle.paper_lower.specs.Records.{Bytes}
 use Rattle.paper_lower.specs.Kinds.{Said}
 use Rattle.paper_lower.specs.Load.{recordsOf}
+use Rattle.paper_lower.specs.Sessions.{lowerOf}
 use Rattle.paper_lower.specs.Tables.{Lower}
 use Rattle.replies.specs.Replies.{numberOf}
 use Rattle.replies.specs.declared.Reply.{Reply}
@@ -15,7 +16,8 @@ use Rattle.sessions.specs.Lower.{lowerTables}
 use Rattle.lower.specs.Answers as lower
 use Rattle.lower.specs.Exports as exports
 use Rattle.theorems.specs.Outside.{outside}
-use Rattle.theorems.specs.OverEntries.{RoleLimits}
+use Rattle.theorems.specs.OverEntries.{ofKind, RoleLimits}
+use Rattle.theorems.specs.Seniority.{AsRecorded, lowerRequestBefore, loadBefore, NoneBelow}
 use Rattle.demands.specs.Calls.{Chain}
 
 -- its two buffers, the tables that they read as, and whether each has its length
@@ -56,3 +58,13 @@ pub record OneAnswer : Type 0 where
 pub record LimitsHold : Type 0 where
   pub upheld : {policy : Bytes} {x y z : Buffers} {reply : ℕ} {said : List Said} → Load policy x y reply → reply ≡ GRANTED → Chain Called fit y said z
       → RoleLimits (recordsOf policy) (outside policy said)
+
+-- ---- 02, Ask 7: senior roles, here too.
+pub record SeniorRoles : Type 0 where
+  pub recorded : {policy : Bytes} {x y z : Buffers} {reply : ℕ} {said : List Said} → Load policy x y reply → reply ≡ GRANTED → Chain Called fit y said z
+      → AsRecorded (recordsOf policy) (tablesOf z .policy .seniority)
+  -- "With no kind 17 record every reply is as before"
+  pub requests : {bytes : Bytes} {x y : Buffers} {reply : ℕ} → fit x ≡ true → NoneBelow (tablesOf x .policy) → Request bytes x y reply
+      → (reply ≡ lowerRequestBefore (tablesOf x) bytes .reply) × (tablesOf y ≡ lowerRequestBefore (tablesOf x) bytes .tables)
+  pub loads : {policy : Bytes} {x y : Buffers} {reply : ℕ} → fit x ≡ true → ofKind 17 (recordsOf policy) ≡ [] → Load policy x y reply
+      → (reply ≡ loadBefore policy .reply) × (tablesOf y ≡ lowerOf (loadBefore policy .tables))

@@ -1,12 +1,13 @@
 -- The three demands on the engine, each statement under its sentence: of any bytes, on buffers of any content and any lengths.
 use Prim.Native.Nat.{ℕ, _+_, _≤_}
 use mathlib.Core.Bool.{true, false}
-use mathlib.Core.List.{List}
+use mathlib.Core.List.{List, []}
 use mathlib.Core.Path.{_≡_}
 use Rattle.paper_lower.specs.Lists.{Every}
-use Rattle.paper_lower.specs.Checks.{GRANTED, ROOM, BEFORE, FULL}
+use Rattle.paper_lower.specs.Checks.{GRANTED, ROOM, BEFORE}
 use Rattle.paper_lower.specs.Records.{Bytes, decode}
 use Rattle.paper_lower.specs.Forms.{requestForms}
+use Rattle.paper_lower.specs.Kinds.{run}
 use Rattle.paper_lower.specs.Tables.{noPolicy}
 use Rattle.paper_lower.specs.Load.{load, recordsOf}
 use Rattle.paper_upper.specs.Orders.{SameTables}
@@ -17,22 +18,23 @@ use Rattle.lower.specs.Exports.{inOne}
 use Rattle.engine.specs.Buffers.{Buffers, tablesOf, fit}
 use Rattle.engine.specs.Answers.{LoadDone, Zeros}
 use Rattle.engine.specs.Exports.{LoadExported}
-use Rattle.theorems.specs.Replies.{FirstRefusal, checksOf, ChecksInOrder}
+use Rattle.theorems.specs.Replies.{inTable, FirstRefusal, checksOf, ChecksInOrder}
 use Rattle.theorems.specs.Outside.{hear, outside}
-use Rattle.theorems.specs.OverEntries.{claimRules, RoleLimits}
+use Rattle.theorems.specs.OverEntries.{ofKind, claimRules, RoleLimits}
 use Rattle.theorems.specs.Theorems.{tablesAfter, Reaches, FirstBroken, fixed}
 use Rattle.theorems.specs.InUse.{inUse}
 use Rattle.theorems.specs.Places.{placedAfter, RuleAt}
 use Rattle.theorems.specs.Meeting.{Apart}
 use Rattle.theorems.specs.Stuck.{NoneStuck, NextOnList}
+use Rattle.theorems.specs.Seniority.{AsRecorded, requestBefore, loadBefore, NoneBelow}
 use Rattle.demands.specs.Calls.{Request, Load, Requests, allSaid, fitting, asked}
 
 -- ---- Demand 1
 pub record DemandOne : Type 0 where
   -- "Every record and every state, of any length or content, gets an answer from the published table, and the engine always returns.":
   -- the calls have no `requires`, and a function that is proved returns
-  pub request-answers : {bytes : Bytes} {x y : Buffers} {reply place : ℕ} → Request bytes x y reply place → reply ≤ FULL
-  pub load-answers : {bytes : Bytes} {x y : Buffers} {reply : ℕ} → Load bytes x y reply → reply ≤ FULL
+  pub request-answers : {bytes : Bytes} {x y : Buffers} {reply place : ℕ} → Request bytes x y reply place → inTable reply ≡ true
+  pub load-answers : {bytes : Bytes} {x y : Buffers} {reply : ℕ} → Load bytes x y reply → inTable reply ≡ true
   -- "A refused request changes no table.": no word
   pub refused-request : {bytes : Bytes} {x y : Buffers} {reply place : ℕ} → Request bytes x y reply place → (reply ≡ GRANTED → ⊥) → y ≡ x
   -- "A refused load leaves an empty engine.": in zero words
@@ -65,7 +67,7 @@ pub record DemandTwo : Type 0 where
   pub runs : {policy : Bytes} {x y z : Buffers} {reply : ℕ} {said : List Placed} → fit x ≡ true → Load policy x y reply → Requests y said z
       → let fitted = fitting (λ a. a .said) said in
       (fitted ≡ placedAfter policy (asked (λ a. a .said) fitted)) × SameTables (tablesOf z) (tablesAfter policy (asked (λ a. a .said) fitted))
-  -- the first refusal is the lowest number of the checks that apply, and none applies to what is granted
+  -- the first refusal is, in the order of the numbers, the first of the checks that apply, and none applies to what is granted
   pub first-refusal : {bytes : Bytes} {x y : Buffers} {reply place : ℕ} → fit x ≡ true → Request bytes x y reply place
       → FirstRefusal (checksOf requestForms requestKinds (tablesOf x) bytes) reply
   -- "Checks run in the order of their numbers", those of a policy's records too
@@ -115,6 +117,26 @@ pub record EitherFirst (c d : Bytes) (z : Buffers) : Type 0 where
 pub record ClaimsDoNotMeet : Type 0 where
   pub upheld : {policy : Bytes} {x y z : Buffers} {reply : ℕ} {said : List Placed} → Load policy x y reply → reply ≡ GRANTED → Requests y said z
       → (c d : Bytes) → Apart c d → inUse (allSaid said) + 2 ≤ 2048 → EitherFirst c d z
+
+-- ---- 02, Ask 7: senior roles.
+pub record SeniorRoles : Type 0 where
+  -- after an accepted load and any requests a role stands below another exactly where a chain of the policy's records leads to it, and none stands
+  -- below itself (that the role limits count the roles below is demand 3's `clerks`)
+  pub recorded : {policy : Bytes} {x y z : Buffers} {reply : ℕ} {said : List Placed} → Load policy x y reply → reply ≡ GRANTED → Requests y said z
+      → AsRecorded (recordsOf policy) (tablesOf z .lower .policy .seniority)
+  -- "With no kind 17 record every reply is as before, and that is to be shown.": of a request, on buffers of any content with no role below another;
+  pub requests : {bytes : Bytes} {x y : Buffers} {reply place : ℕ} → fit x ≡ true → NoneBelow (tablesOf x .lower .policy) → Request bytes x y reply place
+      → (reply ≡ requestBefore (tablesOf x) bytes .reply) × SameTables (tablesOf y) (requestBefore (tablesOf x) bytes .tables)
+  -- of a load, with its place;
+  pub loads : {policy : Bytes} {x y : Buffers} {reply : ℕ} → fit x ≡ true → ofKind 17 (recordsOf policy) ≡ [] → Load policy x y reply
+      → (reply ≡ loadBefore policy .reply) × (tablesOf y ≡ engineOf (loadBefore policy .tables))
+  pub places : {policy : Bytes} {x y : Buffers} {r : Reply} {place : ℕ} → fit x ≡ true → ofKind 17 (recordsOf policy) ≡ [] → LoadDone policy x y r place
+      → place ≡ loadBefore policy .place
+  -- and of all requests after it
+  pub runs : {policy : Bytes} {x y z : Buffers} {reply : ℕ} {said : List Placed} → fit x ≡ true → ofKind 17 (recordsOf policy) ≡ [] → Load policy x y reply
+      → Requests y said z
+      → let fitted = fitting (λ a. a .said) said in
+      allSaid fitted ≡ run requestBefore (engineOf (loadBefore policy .tables)) (asked (λ a. a .said) fitted)
 
 -- ---- 02, Ask 13: "which of its tasks can never be claimed because of prerequisites"
 pub record CanFinish (policy : Bytes) (said : List Placed) (z : Buffers) : Type 0 where

@@ -21,6 +21,7 @@ use Rattle.engine.specs.Answers.{requestAnswer, Requested}
 use Rattle.engine.specs.Settling.{Settling, SettledRequest}
 use Rattle.links.proofs.SameLaws.{tables-refl, tables-sym, tables-then}
 use Rattle.engine.proofs.RespectLaws.{runs-respect}
+use Rattle.theorems.proofs.Replies.{in-byte}
 use Rattle.demands.specs.Calls.Request.{within}
 use Rattle.demands.proofs.Calls.{request-listed, answers}
 use Rattle.pile.specs.Pile.{wholeFrom, repliesOf}
@@ -28,7 +29,7 @@ use Rattle.pile.specs.Promises.{Answers}
 
 -- a reply is a byte
 pub small : {bytes : Bytes} {x y : Buffers} {j : Judged} → Requested bytes x y j → numberOf (j .reply) ≤ 255
-small {bytes} {x} q = let e = q .replies in let l = request-listed bytes x in omega arith
+small {bytes} {x} q = let e = q .replies in let l = in-byte _ (request-listed bytes x) in omega arith
 
 -- what settled requests ask for
 pub settling-fits : (x : Buffers) → Settling x → fit x ≡ true

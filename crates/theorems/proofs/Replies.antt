@@ -9,7 +9,7 @@ use lib.Dec.{eqb, leb}
 use lib.ListN.{length, take, drop}
 use Rattle.paper_lower.specs.Lists.{some, keep, each, Every}
 use Rattle.paper_lower.specs.Lists.Maybe.{none, just}
-use Rattle.paper_lower.specs.Checks.{Check, first, granted, SHAPE, RANGE, UNKNOWN, RULE, LOOP}
+use Rattle.paper_lower.specs.Checks.{Check, first, granted, SHAPE, RANGE, UNKNOWN, RULE, FULL, LOOP}
 use Rattle.paper_lower.specs.Records.{Bytes, Record, decode}
 use Rattle.paper_lower.specs.Forms.{Form, policyForms, lowerForms, upperForms, requestForms, formOf, misshapen, formChecks}
 use Rattle.paper_lower.specs.Kinds.{Kind, chosen, replyTo, answer}
@@ -74,6 +74,15 @@ from-shape k l = go (eqb k LOOP) refl l
 unknown-behind : (rank SHAPE ≤ rank UNKNOWN) × (rank RANGE ≤ rank UNKNOWN) × (1 ≤ rank SHAPE)
 unfolding rank
 unknown-behind = (omega arith, omega arith, omega arith)
+
+-- every number of the table is a byte's
+pub in-byte : (k : ℕ) → inTable k ≡ true → k ≤ LOOP
+unfolding inTable
+in-byte k h = go (leb k FULL) refl h
+  where
+    go : (b : Bool) → leb k FULL ≡ b → b || eqb k LOOP ≡ true → k ≤ LOOP
+    go true e h = let l = leb-true k FULL e in omega arith
+    go false e h = let q = eqb-true k LOOP h in omega arith
 
 -- ---- what rising numbers say
 Within : ℕ → Check → Type 0
