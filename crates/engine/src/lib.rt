@@ -216,7 +216,7 @@ pub extern "C" fn mishantral_words(group: u64) -> u64
         return 66;
     }
     if group == 4 {
-        return 397495;
+        return 659639;
     }
     0
 }

@@ -7,12 +7,13 @@ ghost use Rattle.opl.specs.Steps.{refusal, badText, Accepts, recordsAnsw
 use opl_lines::judge;
 use opl_naming::name_all;
 use opl_passes::Counted;
+use opl_passes::Judged;
 use opl_passes::Sum;
 use opl_passes::begin;
 use opl_passes::check_lines;
 use opl_passes::check_tags;
+use opl_passes::write_all;
 use opl_passes::write_lines;
-use opl_passes::write_tags;
 use opl_reader::document;
 use opl_reader::prolog;
 use opl_spaces::WORDS;
@@ -52,7 +53,7 @@ fn refused(reply: u64) -> Answer
 }
 
 // The records of two accepted texts, whose names are in the scratch, into the output; the tags of the first begin at `from`.
-fn records(s: &[u8], t: &[u8], out: &mut [u8], w: &[u64], from: usize) -> Answer
+fn records(s: &[u8], t: &[u8], out: &mut [u8], w: &mut [u64], from: usize) -> Answer
     requires { ⌜ Ready (now s) (now t) (now w) from ⌝ }
     ensures { λ r. ⌜ Gives (recordsAnswer (now (s .entry)) (now (t .entry)) (now (out .entry))) (now (out .entry)) (now (out .exit)) r ⌝ }
 {
@@ -61,9 +62,10 @@ fn records(s: &[u8], t: &[u8], out: &mut [u8], w: &[u64], from: usize) -> Answer
         return refused(22);
     };
     let mut counts = [0; 17];
-    if !check_tags(s, t, w, &mut counts, from) {
+    let k = check_tags(s, t, w, &mut counts, from);
+    let Judged::Records(j) = k else {
         return refused(22);
-    }
+    };
     counts[6] = n;
     let b = begin(&mut counts, out.len() / 16);
     let Sum::Total(total) = b else {
@@ -71,7 +73,7 @@ fn records(s: &[u8], t: &[u8], out: &mut [u8], w: &[u64], from: usize) -> Answer
     };
     let first = counts[6];
     write_lines(s, t, w, out, first);
-    write_tags(s, t, w, &mut counts, out, from);
+    write_all(s, t, w, &mut counts, out, from, j);
     Answer {
         reply: 0,
         place: 0,

@@ -207,7 +207,7 @@ module _ (s : Text) (n : ℕ) (l : List ℕ) (w : Text) (sound : Sound s n l) wh
   module _ (at size m : ℕ) (h : placeOf 0 w (namesIn s l) ≡ none) (room : kept l < n) (fits : at + size ≤ length s) (short : size ≤ 64) (is : w ≡ take size (drop at s)) (marked : m ≡ markOf w) where
     lower : bucketOf n m < n
     unfolding bucketOf
-    lower = mod-lt (m / 65536) (sound .some)
+    lower = mod-lt (m / 16777216) (sound .some)
 
     pub declared-new : (l′ : List ℕ) → l′ ≡ withName l (bucketOf n m) at (packed size (startOf n l (bucketOf n m)) m) → Declares s n w l l′ (At (kept l))
     declared-new l′ e =

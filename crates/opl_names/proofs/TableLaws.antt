@@ -1,5 +1,5 @@
 -- Laws of the words of a table of names: the walk of a bucket, and one name more.
-use Prim.Native.Nat.{ℕ, zero, suc, _+_, _-_, _≤_, _<_}
+use Prim.Native.Nat.{ℕ, zero, suc, _+_, _*_, _-_, _/_, _≤_, _<_}
 use mathlib.Core.Path.{_≡_, refl, sym, ap, _∙_}
 use mathlib.Core.Bool.{Bool, true, false, cond, _&&_, false≢true}
 use mathlib.Core.List.{List, []}
@@ -14,7 +14,7 @@ use Rattle.paper_lower.specs.Lists.Maybe.{none, just}
 use Rattle.paper_lower.proofs.ListLaws.{not-both, both}
 use Rattle.paper_opl.specs.Reading.{Text, same}
 use Rattle.paper_opl.specs.Naming.{placeOf}
-use Rattle.opl_names.specs.Table.{turned, markFrom, markOf, bucketOf, kept, placeAt, wordAt, sizeIn, linkIn, markIn, nameAt, namesIn, bucketAt, inBucket, lastBelow, startOf, Sound}
+use Rattle.opl_names.specs.Table.{quadAt, turned, markTo, markFrom, markOf, bucketOf, kept, placeAt, wordAt, sizeIn, linkIn, markIn, nameAt, namesIn, bucketAt, inBucket, lastBelow, startOf, Sound}
 use Rattle.opl_names.proofs.NameLaws.{same-true, same-self, same-not, place-none}
 
 -- ---- The mark of a name, byte by byte.
@@ -26,6 +26,16 @@ module _ (s : Text) (h i : ℕ) {x : ℕ} where
   pub mark-end : length s ≤ i → markFrom h (drop i s) ≡ x → h ≡ x
   unfolding markFrom
   mark-end l f = let e : drop i s ≡ [] = drop-of-length-le s l in rw e at f
+
+-- four bytes at a time
+module _ (s : Text) (k : ℕ) where
+  pub quads-on : {h r x : ℕ} → h ≡ markTo s k → x ≡ quadAt s (4 * k) → r ≡ turned h x → r ≡ markTo s (k + 1)
+  unfolding markTo
+  quads-on e q t = t ∙ rw (e, q, add-one)
+
+  pub quads-end : {h r : ℕ} → h ≡ markTo s k → k ≡ length s / 4 → r ≡ markFrom h (drop (4 * k) s) → r ≡ markOf s
+  unfolding markOf
+  quads-end e l f = f ∙ rw (e, l)
 
 -- ---- The name of number k, compared with another.
 pub is-last : (s : Text) (l : List ℕ) (k m : ℕ) (name : Text) {r : Bool} → markIn (wordAt l k) ≡ m → r ≡ same (take (placeAt l k + sizeIn (wordAt l k) - placeAt l k) (drop (placeAt l k) s)) name → r ≡ eqb (markIn (wordAt l k)) m && same (nameAt s l k) name

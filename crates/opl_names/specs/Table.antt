@@ -16,20 +16,29 @@ use Rattle.paper_opl.specs.Naming.{placeOf}
 use Rattle.opl_names.specs.declared.Found.{Found}
 use Rattle.opl_names.specs.declared.Found.the-variants.{At, Nowhere}
 
--- ---- A number of 40 bits for a name, and its bucket among n.
+-- ---- A number of 40 bits for a name, by four bytes at a time and then one by one, and its bucket among n: by the high bits, which depend on all bytes.
 
 unfoldable pub turned : ℕ → ℕ → ℕ
-turned h b = (h + b) * 10368889 % 1099511627776
+turned h x = (h + x) * 10368889 % 1099511627776
 
+unfoldable pub quadAt : Text → ℕ → ℕ
+quadAt s i = 16777216 * getD s i 0 + 65536 * getD s (i + 1) 0 + 256 * getD s (i + 2) 0 + getD s (i + 3) 0
+
+-- the first 4 * k bytes
+unfoldable pub markTo : Text → ℕ → ℕ
+markTo s zero = 0
+markTo s (suc k) = turned (markTo s k) (quadAt s (4 * k))
+
+-- the others
 unfoldable pub markFrom : ℕ → Text → ℕ
 markFrom h [] = h
 markFrom h (b ∷ s) = markFrom (turned h b) s
 
-abbrev pub markOf : Text → ℕ
-markOf s = markFrom 0 s
+unfoldable pub markOf : Text → ℕ
+markOf s = markFrom (markTo s (length s / 4)) (drop (4 * (length s / 4)) s)
 
 unfoldable pub bucketOf : ℕ → ℕ → ℕ
-bucketOf n m = m / 65536 % n
+bucketOf n m = m / 16777216 % n
 
 -- ---- The words.
 

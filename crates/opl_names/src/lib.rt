@@ -7,7 +7,7 @@ ghost use lib.Dec.{eqb};
 ghost use lib.ListN.{length, take, drop};
 ghost use Rattle.paper_opl.specs.Reading.{same};
 ghost use Rattle.paper_opl.specs.Naming.{placeOf};
-ghost use Rattle.opl_names.specs.Table.{turned, markOf, bucketOf, kept, placeAt, wordAt, sizeIn, linkIn, markIn, packed, nameAt, namesIn, startOf, Sound, foundOf, Emptied, Declares, withName};
+ghost use Rattle.opl_names.specs.Table.{quadAt, turned, markFrom, markOf, bucketOf, kept, placeAt, wordAt, sizeIn, linkIn, markIn, packed, nameAt, namesIn, startOf, Sound, foundOf, Emptied, Declares, withName};
 use opl_text::same_bytes;
 
 // The number of a name, or that it has none.
@@ -18,30 +18,64 @@ pub enum Found {
 
 // ---- A name's mark and its bucket.
 
-fn turn(h: u64, b: u8) -> u64
-    requires { ⌜ h < 1099511627776 ⌝ }
-    ensures { λ r. ⌜ (r ≡ turned h b) × (r < 1099511627776) ⌝ }
+// A byte that was read, with its bound.
+fn wide(b: u8) -> u64
+    ensures { λ r. ⌜ (r ≡ b) × (r ≤ 255) ⌝ }
 {
-    (h + b as u64) * 10368889 % 1099511627776
+    b as u64
 }
 
-fn mark(name: &[u8]) -> u64
-    ensures { λ r. ⌜ (r ≡ markOf (now (name .entry))) × (r < 1099511627776) ⌝ }
+// Four bytes from a place on.
+fn quad(name: &[u8], i: usize) -> u64
+    requires { ⌜ i + 4 ≤ length (now name) ⌝ }
+    ensures { λ r. ⌜ (r ≡ quadAt (now (name .entry)) i) × (r < 4294967296) ⌝ }
 {
-    let mut h = 0;
-    let mut i = 0;
+    16777216 * wide(name[i])
+        + 65536 * wide(name[i + 1])
+        + 256 * wide(name[i + 2])
+        + wide(name[i + 3])
+}
+
+fn turn(h: u64, x: u64) -> u64
+    requires { ⌜ (h < 1099511627776) × (x < 4294967296) ⌝ }
+    ensures { λ r. ⌜ (r ≡ turned h x) × (r < 1099511627776) ⌝ }
+{
+    (h + x) * 10368889 % 1099511627776
+}
+
+// The bytes from a place on, one by one.
+fn mark_rest(name: &[u8], from: usize, m: u64) -> u64
+    requires { ⌜ (from ≤ length (now name)) × (m < 1099511627776) ⌝ }
+    ensures { λ r. ⌜ (r ≡ markFrom m (drop from (now (name .entry)))) × (r < 1099511627776) ⌝ }
+{
+    let mut h = m;
+    let mut i = from;
     while i < name.len() {
-        h = turn(h, name[i]);
+        h = turn(h, wide(name[i]));
         i += 1;
     }
     h
+}
+
+// Four bytes at a time, and the rest one by one.
+fn mark(name: &[u8]) -> u64
+    ensures { λ r. ⌜ (r ≡ markOf (now (name .entry))) × (r < 1099511627776) ⌝ }
+{
+    let n = name.len() / 4;
+    let mut h = 0;
+    let mut k = 0;
+    while k < n {
+        h = turn(h, quad(name, 4 * k));
+        k += 1;
+    }
+    mark_rest(name, 4 * n, h)
 }
 
 fn bucket(m: u64, n: usize) -> usize
     requires { ⌜ 0 < n ⌝ }
     ensures { λ r. ⌜ (r ≡ bucketOf n m) × (r < n) ⌝ }
 {
-    (m / 65536) as usize % n
+    (m / 16777216) as usize % n
 }
 
 // ---- The walk of a bucket.

@@ -7,7 +7,7 @@ use lib.ListN.{length, take, drop, set, length-append, take-append-drop}
 use lib.Seq.{take-suc-set, drop-set-lt, take-at, drop-at, drop-drop, length-take-le}
 use Rattle.paper_lower.specs.Records.{Bytes, Record, bytes, encode}
 use Rattle.paper_opl.specs.Filling.{putAt}
-use Rattle.opl_output.specs.Output.{laid, recordOf, Fits}
+use Rattle.opl_output.specs.Output.{laid, twoWords, lowWord, recordOf, Fits}
 
 -- the first byte stored, the others to come
 pub laid-step : (out : Bytes) (p k x : ℕ) → p < length out → laid (set out p (x % 256)) (suc p) k (x / 256) ≡ laid out p (suc k) x
@@ -65,12 +65,19 @@ fields kind n a b c h i j k l =
     ∙ ap (λ (s : Bytes). kind ∷ s) (low-byte 6 n (a + 65536 * (b + 65536 * c)) i)
     ∙ ap (λ (s : Bytes). kind ∷ n ∷ s) (low-field 4 a (b + 65536 * c) j ∙ ap (λ (s : Bytes). bytes 2 a ++ s) (low-field 2 b c k) ∙ sym (append-assoc (bytes 2 a) (bytes 2 b) (bytes 2 c)))
 
-pub put-is : (out : Bytes) (place kind n a b c m : ℕ) → Fits out place kind n a b c
-    → laid (laid out (16 * place) 8 (kind + 256 * n + 65536 * a + 4294967296 * b + 281474976710656 * c)) (16 * place + 8) 8 m ≡ putAt out place (recordOf kind n a b c m)
-unfolding putAt encode
-put-is out place kind n a b c m f =
-    laid-twice out (16 * place) (kind + 256 * n + 65536 * a + 4294967296 * b + 281474976710656 * c) m (f .room)
-    ∙ ap (λ (s : Bytes). take (16 * place) out ++ ((s ++ bytes 8 m) ++ drop (16 * place + 16) out)) (fields kind n a b c (f .kind-fits) (f .n-fits) (f .a-fits) (f .b-fits) (f .c-fits))
+-- as the words are laid
+pub two-laid : (out : Bytes) (place low high : ℕ) → 16 * place + 16 ≤ length out → laid (laid out (16 * place) 8 low) (16 * place + 8) 8 high ≡ twoWords out place low high
+unfolding twoWords
+two-laid out place low high h = laid-twice out (16 * place) low high h
+
+pub words-put : (out : Bytes) (place kind n a b c m : ℕ) → kind < 256 → n < 256 → a < 65536 → b < 65536 → c < 65536
+    → twoWords out place (lowWord kind n a b c) m ≡ putAt out place (recordOf kind n a b c m)
+unfolding putAt encode twoWords
+words-put out place kind n a b c m h i j k l =
+    ap (λ (s : Bytes). take (16 * place) out ++ ((s ++ bytes 8 m) ++ drop (16 * place + 16) out)) (fields kind n a b c h i j k l)
+
+pub put-is : (out : Bytes) (place kind n a b c m : ℕ) → Fits out place kind n a b c → twoWords out place (lowWord kind n a b c) m ≡ putAt out place (recordOf kind n a b c m)
+put-is out place kind n a b c m f = words-put out place kind n a b c m (f .kind-fits) (f .n-fits) (f .a-fits) (f .b-fits) (f .c-fits)
 
 -- ---- The turns of a word.
 

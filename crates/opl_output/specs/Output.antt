@@ -8,6 +8,14 @@ use Rattle.paper_lower.specs.Records.{Bytes, Record, bytes}
 unfoldable pub laid : Bytes → ℕ → ℕ → ℕ → Bytes
 laid out at k x = take at out ++ (bytes k x ++ drop (at + k) out)
 
+-- sixteen bytes of two words at a place of records
+unfoldable pub twoWords : Bytes → ℕ → ℕ → ℕ → Bytes
+twoWords out place low high = take (16 * place) out ++ ((bytes 8 low ++ bytes 8 high) ++ drop (16 * place + 16) out)
+
+-- the first of a record's two words; the second is its set
+abbrev pub lowWord : ℕ → ℕ → ℕ → ℕ → ℕ → ℕ
+lowWord kind n a b c = kind + 256 * n + 65536 * a + 4294967296 * b + 281474976710656 * c
+
 abbrev pub recordOf : ℕ → ℕ → ℕ → ℕ → ℕ → ℕ → Record
 recordOf kind n a b c m = record { kind = kind; n = n; a = a; b = b; c = c; m = m }
 

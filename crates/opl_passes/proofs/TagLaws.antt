@@ -19,14 +19,19 @@ use Rattle.paper_opl.specs.Walk.{called, start, sayings, recordSaid, tagsFrom}
 use Rattle.paper_opl.specs.Filling.{putAt, fill, tally}
 use Rattle.paper_opl.proofs.Inversion.{on-test}
 use Rattle.paper_opl.proofs.Tallied.{tally-is}
-use Rattle.opl_output.specs.Output.{Fits, recordOf}
+use Rattle.opl_output.specs.Output.{twoWords, Fits, recordOf}
+use Rattle.opl_spaces.specs.Spaces.{keptRoom}
 use Rattle.opl_declared.specs.Names.{walkAt}
-use Rattle.opl_said.specs.Said.{SaysIt, Small}
+use Rattle.opl_said.specs.Said.{Held, SaysIt, Small}
 use Rattle.opl_said.specs.declared.Fields.{Fields}
 use Rattle.opl_said.specs.declared.Fields.the-variants.{Numbers, Unnamed}
 use Rattle.opl_turns.specs.Turning.{contextOf, tagsAt, Stood, partitionings, Passes, Tells, SmallTag, sayingAt}
 use Rattle.opl_turns.specs.declared.Cursor.{Cursor}
-use Rattle.opl_passes.specs.Tags.{of, allThere, thereFrom, tallied, Counts, Checks, ChecksAll, begins, Begun, TagsFit, FitsAll, Puts, Writes}
+use Rattle.opl_passes.specs.Tags.{of, allThere, thereFrom, tallied, Counts, Checks, ChecksAll, TagsAre, begins, Begun, TagsFit, FitsAll, Puts, Writes, PutsKept}
+use Rattle.opl_passes.specs.Kept.{lowAt, highAt, kindIn, nextTo, writtenTo, KeptLeft, Keeps, AllKept, Keeping, keptOf, Fitting}
+use Rattle.opl_passes.specs.declared.Judged.{Judged}
+use Rattle.opl_passes.specs.declared.Judged.the-variants.{Nameless as NoneSaid}
+use Rattle.opl_passes.proofs.KeptLaws.{all-kept, place-fits as kept-fits}
 use Rattle.opl_passes.specs.declared.Checked.{Checked}
 use Rattle.opl_passes.specs.declared.Checked.the-variants.{Next, Unnamed as Nameless, Done}
 use Rattle.opl_passes.specs.declared.Wrote.{Wrote}
@@ -196,35 +201,81 @@ module _ (ns : Names) (s : Text) (from : ℕ) (l₀ : List ℕ) where
     pub check-end : length s ≤ c .at → ChecksAll ns ts l₀ l (leb (c .parts) 16)
     check-end h = check-none (no-tags s (c .at) h)
 
-    module _ (r : Checked) (l′ : List ℕ) (checks : Checks ns s c l l′ r) where
-      pub check-done : r ≡ Done → ChecksAll ns ts l₀ l′ (leb (c .parts) 16)
-      check-done e = let z : Checks ns s c l l′ Done = rw e at checks in rw (z .1) (check-none (z .0))
+    check-over : (l′ : List ℕ) → tagsAt s c ≡ [] → l′ ≡ l → ChecksAll ns ts l₀ l′ (leb (c .parts) 16)
+    check-over l′ e q = rw q (check-none e)
 
-      pub check-unnamed : r ≡ Nameless → ChecksAll ns ts l₀ l′ false
-      check-unnamed e =
-          let z : Checks ns s c l l′ Nameless = rw e at checks in
-          record {
-            verdict = rw (left .there-too, z) (and-false (leb (many (keep (called "hdsodtp_partitioning") ts)) 16));
-            counts = λ u. absurd (false≢true u);
-            room = λ u. absurd (false≢true u);
-          }
+    check-unnamed : (l′ : List ℕ) → thereFrom ns s c ≡ false → ChecksAll ns ts l₀ l′ false
+    check-unnamed l′ e =
+        record {
+          verdict = rw (left .there-too, e) (and-false (leb (many (keep (called "hdsodtp_partitioning") ts)) 16));
+          counts = λ u. absurd (false≢true u);
+          room = λ u. absurd (false≢true u);
+        }
 
-      module _ (n : Cursor) (e : r ≡ Next n) where
-        on-it : Counts ns s c n l l′
+    check-on : (n : Cursor) (l′ : List ℕ) → Counts ns s c n l l′ → CheckLeft ns s ts l₀ n l′
+    check-on n l′ o =
+        record {
+          stood = o .steps .stood;
+          there-too = left .there-too ∙ o .there-too;
+          tallies = left .tallies ∙ o .tallies;
+          begun = left .begun ∙ o .steps .begun;
+          few = o .few;
+          room = o .room ∙ left .room;
+        }
+
+-- with the records that are kept
+pub record CheckKept (ns : Names) (s t : Text) (ts : List Tag) (l₀ : List ℕ) (c : Cursor) (j : ℕ) (l w : List ℕ) : Type 0 where
+  pub left : CheckLeft ns s ts l₀ c l
+  pub held : Held s t ns w
+  pub few : j ≤ c .at
+  pub kept : j ≤ keptRoom → KeptLeft ns s ts c w j
+
+module _ (ns : Names) (s t : Text) (from : ℕ) (l₀ : List ℕ) where
+  pub kept-first : (w : List ℕ) → from ≤ length s → Every SmallTag (walkAt s from) → ((k : ℕ) → of l₀ k ≡ 0) → Held s t ns w
+      → CheckKept ns s t (walkAt s from) l₀ (record { at = from; sets = 9; parts = 0 }) 0 l₀ w
+  unfolding nextTo writtenTo
+  kept-first w h small zeros held =
+      record {
+        left = check-first ns s from l₀ h small zeros;
+        held = held;
+        few = omega arith;
+        kept = λ _. record { kinds = λ i q. absurd (omega arith); tallies = λ f. refl; fills = λ f out. refl };
+      }
+
+  module _ (c : Cursor) (j : ℕ) (l w : List ℕ) (k : CheckKept ns s t (walkAt s from) l₀ c j l w) where
+    tags-are : (l′ w′ : List ℕ) (b : Bool) → ChecksAll ns (walkAt s from) l₀ l′ b → Held s t ns w′ → Keeping ns (walkAt s from) w′ j → TagsAre ns s t (walkAt s from) l₀ l′ w′ (keptOf b j)
+    tags-are l′ w′ true a h q = (a, (h, q))
+    tags-are l′ w′ false a h q = a
+
+    over : tagsAt s c ≡ [] → Keeping ns (walkAt s from) w j
+    over e room = all-kept ns s (walkAt s from) c w j e (k .kept room)
+
+    pub kept-end : (x : Judged) → x ≡ keptOf (leb (c .parts) 16) j → length s ≤ c .at → TagsAre ns s t (walkAt s from) l₀ l w x
+    kept-end x q h = rw q (tags-are l w (leb (c .parts) 16) (check-end ns s from l₀ c l (k .left) h) (k .held) (over (no-tags s (c .at) h)))
+
+    module _ (r : Checked) (l′ w′ : List ℕ) (checks : Checks ns s t c j l l′ w w′ r) where
+      pub kept-done : (x : Judged) → x ≡ keptOf (leb (c .parts) 16) j → r ≡ Done → TagsAre ns s t (walkAt s from) l₀ l′ w′ x
+      kept-done x q e =
+          let z : Checks ns s t c j l l′ w w′ Done = rw e at checks in
+          rw (q, z .1 .1) (tags-are l′ w (leb (c .parts) 16) (check-over ns s from l₀ c l (k .left) l′ (z .0) (z .1 .0)) (k .held) (over (z .0)))
+
+      pub kept-unnamed : r ≡ Nameless → TagsAre ns s t (walkAt s from) l₀ l′ w′ NoneSaid
+      kept-unnamed e = let z : Checks ns s t c j l l′ w w′ Nameless = rw e at checks in check-unnamed ns s from l₀ c l (k .left) l′ z
+
+      module _ (n : Cursor) (i : ℕ) (e : r ≡ Next n i) where
+        on-it : Counts ns s c n l l′ × Keeps ns s t c n j i w w′
         on-it = rw e at checks
 
-        pub check-past : (c .at < n .at) × (n .at ≤ length s)
-        check-past = (on-it .steps .past, on-it .steps .stood .inside)
+        pub kept-past : (c .at < n .at) × (n .at ≤ length s)
+        kept-past = (on-it .0 .steps .past, on-it .0 .steps .stood .inside)
 
-        pub check-on : CheckLeft ns s ts l₀ n l′
-        check-on =
+        pub kept-again : CheckKept ns s t (walkAt s from) l₀ n i l′ w′
+        kept-again =
             record {
-              stood = on-it .steps .stood;
-              there-too = left .there-too ∙ on-it .there-too;
-              tallies = left .tallies ∙ on-it .tallies;
-              begun = left .begun ∙ on-it .steps .begun;
-              few = on-it .few;
-              room = on-it .room ∙ left .room;
+              left = check-on ns s from l₀ c l (k .left) n l′ (on-it .0);
+              held = on-it .1 .held;
+              few = on-it .1 .few;
+              kept = on-it .1 .goes-on (walkAt s from) (k .kept);
             }
 
 pub record WriteLeft (ns : Names) (s : Text) (ts : List Tag) (l₀ : List ℕ) (out₀ : Bytes) (c : Cursor) (l : List ℕ) (out : Bytes) : Type 0 where
@@ -332,3 +383,45 @@ module _ (l₀ : List ℕ) (cap : ℕ) (l : List ℕ) (sum k : ℕ) (b : BeginLe
           left = λ j p. getD-set-other l k j sum 0 (λ v. omega (arith, v)) ∙ b .left j (omega arith);
           room = length-set l k sum ∙ b .room;
         }
+
+-- ---- The records that were kept, written up to number j.
+pub record KeptPut (w : List ℕ) (l₀ : List ℕ) (out₀ : Bytes) (n : ℕ) (l : List ℕ) (out : Bytes) (j : ℕ) : Type 0 where
+  pub upto : j ≤ n
+  pub next-is : of l ≡ nextTo w j (of l₀)
+  pub written-is : out ≡ writtenTo w j (of l₀) out₀
+  pub room : length out ≡ length out₀
+  pub kinds : length l ≡ length l₀
+
+module _ (w l₀ : List ℕ) (out₀ : Bytes) (n : ℕ) where
+  pub put-first : KeptPut w l₀ out₀ n l₀ out₀ 0
+  unfolding nextTo writtenTo
+  put-first = record { upto = omega arith; next-is = refl; written-is = refl; room = refl; kinds = refl }
+
+  module _ (fit : Fitting w n (of l₀) out₀) (l : List ℕ) (out : Bytes) (j : ℕ) (k : KeptPut w l₀ out₀ n l out j) (h : j < n) where
+    pub put-fits : 16 * of l (kindIn w j) + 16 ≤ length out
+    put-fits = let a = kept-fits w n (of l₀) out₀ fit j h in let b = ap (λ (g : ℕ → ℕ). g (kindIn w j)) (k .next-is) in omega (arith, a, b, k .room)
+
+    pub put-again : (l′ : List ℕ) (out′ : Bytes) → PutsKept w j l l′ out out′ → KeptPut w l₀ out₀ n l′ out′ (j + 1)
+    unfolding nextTo writtenTo
+    put-again l′ out′ p =
+        let z : j + 1 ≡ suc j = omega arith in
+        rw z
+        (record {
+          upto = omega arith;
+          next-is = p .next-is ∙ ap (λ (g : ℕ → ℕ). upd g (kindIn w j) (suc (g (kindIn w j)))) (k .next-is);
+          written-is = p .written-is ∙ ap (λ (g : ℕ → ℕ). twoWords out (g (kindIn w j)) (lowAt w j) (highAt w j)) (k .next-is)
+              ∙ ap (λ (o : Bytes). twoWords o (nextTo w j (of l₀) (kindIn w j)) (lowAt w j) (highAt w j)) (k .written-is);
+          room = p .room ∙ k .room;
+          kinds = p .kinds ∙ k .kinds;
+        })
+
+  pub put-last : (l : List ℕ) (out : Bytes) (j : ℕ) → KeptPut w l₀ out₀ n l out j → n ≤ j → out ≡ writtenTo w n (of l₀) out₀
+  put-last l out j k h = let z : j ≡ n = omega (arith, k .upto) in k .written-is ∙ ap (λ (i : ℕ). writtenTo w i (of l₀) out₀) z
+
+pub puts-kept : (w : List ℕ) (j : ℕ) (l : List ℕ) (out out′ : Bytes) → kindIn w j < length l → out′ ≡ twoWords out (of l (kindIn w j)) (lowAt w j) (highAt w j) → length out′ ≡ length out
+    → PutsKept w j l (set l (kindIn w j) (of l (kindIn w j) + 1)) out out′
+puts-kept w j l out out′ h e r =
+    record { next-is = sym (one-up l (kindIn w j) h); written-is = e; room = r; kinds = length-set l (kindIn w j) (of l (kindIn w j) + 1) }
+
+pub all-fit : (ns : Names) (ts : List Tag) (w : List ℕ) (n : ℕ) (l : List ℕ) (out : Bytes) → AllKept ns ts w n → FitsAll ts l out → Fitting w n (of l) out
+all-fit ns ts w n l out a fit = record { kinds = a .kinds; fits = λ k p q. let e = ap (λ (g : ℕ → ℕ). g k) (a .tallies (of l)) in let f = fit k p q in omega (arith, e, f) }

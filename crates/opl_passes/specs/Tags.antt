@@ -5,21 +5,26 @@ use mathlib.Core.Bool.{Bool, true, false, _&&_}
 use mathlib.Core.List.{List, []}
 use lib.Dec.{leb}
 use lib.ListN.{length, getD}
-use Rattle.paper_lower.specs.Lists.{there, every, many, keep}
+use Rattle.paper_lower.specs.Lists.{upd, there, every, many, keep}
 use Rattle.paper_lower.specs.Records.{Bytes}
 use Rattle.paper_opl.specs.Reading.{Text}
 use Rattle.paper_opl.specs.Tree.{Tag}
 use Rattle.paper_opl.specs.Naming.{Names}
 use Rattle.paper_opl.specs.Walk.{called, Context, start, sayings, recordSaid}
 use Rattle.paper_opl.specs.Filling.{fill, tally}
+use Rattle.opl_output.specs.Output.{twoWords}
+use Rattle.opl_said.specs.Said.{Held}
 use Rattle.opl_turns.specs.Turning.{contextOf, tagsAt, Steps}
 use Rattle.opl_turns.specs.declared.Cursor.{Cursor}
 use Rattle.opl_passes.specs.declared.Checked.{Checked}
 use Rattle.opl_passes.specs.declared.Checked.the-variants.{Next, Unnamed, Done}
+use Rattle.opl_passes.specs.declared.Judged.{Judged}
+use Rattle.opl_passes.specs.declared.Judged.the-variants.{Records, Nameless}
 use Rattle.opl_passes.specs.declared.Wrote.{Wrote}
 use Rattle.opl_passes.specs.declared.Wrote.the-variants.{Onward, Ended}
 use Rattle.opl_passes.specs.declared.Sum.{Sum}
 use Rattle.opl_passes.specs.declared.Sum.the-variants.{Total, Over}
+use Rattle.opl_passes.specs.Kept.{lowAt, highAt, kindIn, Keeps, Keeping}
 
 -- a number for each kind
 abbrev pub of : List ℕ → ℕ → ℕ
@@ -43,16 +48,21 @@ pub record Counts (ns : Names) (s : Text) (c n : Cursor) (l l′ : List ℕ) : T
   pub few : (k : ℕ) → of l′ k ≤ n .at
   pub room : length l′ ≡ length l
 
-abbrev pub Checks : Names → Text → Cursor → List ℕ → List ℕ → Checked → Type 0
-Checks ns s c l l′ (Next n) = Counts ns s c n l l′
-Checks ns s c l l′ Unnamed = thereFrom ns s c ≡ false
-Checks ns s c l l′ Done = (tagsAt s c ≡ []) × (l′ ≡ l)
+-- and its record kept as number j
+abbrev pub Checks : Names → Text → Text → Cursor → ℕ → List ℕ → List ℕ → List ℕ → List ℕ → Checked → Type 0
+Checks ns s t c j l l′ w w′ (Next n i) = Counts ns s c n l l′ × Keeps ns s t c n j i w w′
+Checks ns s t c j l l′ w w′ Unnamed = thereFrom ns s c ≡ false
+Checks ns s t c j l l′ w w′ Done = (tagsAt s c ≡ []) × ((l′ ≡ l) × (w′ ≡ w))
 
 -- all of them, from a place on
 pub record ChecksAll (ns : Names) (ts : List Tag) (l l′ : List ℕ) (r : Bool) : Type 0 where
   pub verdict : r ≡ (leb (many (keep (called "hdsodtp_partitioning") ts)) 16 && allThere ns start ts)
   pub counts : r ≡ true → of l′ ≡ tally start (of l) ts
   pub room : r ≡ true → length l′ ≡ length l
+
+abbrev pub TagsAre : Names → Text → Text → List Tag → List ℕ → List ℕ → List ℕ → Judged → Type 0
+TagsAre ns s t ts l l′ w′ (Records j) = ChecksAll ns ts l l′ true × (Held s t ns w′ × Keeping ns ts w′ j)
+TagsAre ns s t ts l l′ w′ Nameless = ChecksAll ns ts l l′ false
 
 -- ---- Where each kind begins.
 
@@ -92,3 +102,10 @@ pub record Puts (ns : Names) (s : Text) (c n : Cursor) (l l′ : List ℕ) (out 
 abbrev pub Writes : Names → Text → Cursor → List ℕ → List ℕ → Bytes → Bytes → Wrote → Type 0
 Writes ns s c l l′ out out′ (Onward n) = Puts ns s c n l l′ out out′
 Writes ns s c l l′ out out′ Ended = (tagsAt s c ≡ []) × (out′ ≡ out)
+
+-- ---- A record that was kept is written.
+pub record PutsKept (w : List ℕ) (j : ℕ) (l l′ : List ℕ) (out out′ : Bytes) : Type 0 where
+  pub next-is : of l′ ≡ upd (of l) (kindIn w j) (suc (of l (kindIn w j)))
+  pub written-is : out′ ≡ twoWords out (of l (kindIn w j)) (lowAt w j) (highAt w j)
+  pub room : length out′ ≡ length out
+  pub kinds : length l′ ≡ length l

@@ -2,24 +2,31 @@
 // output. It rests on opl_turns, opl_said and opl_output.
 ghost use mathlib.Core.Path.{_≡_};
 ghost use mathlib.Core.Bool.{true};
-ghost use Prim.Native.Nat.{ℕ, _+_, _≤_, _<_};
+ghost use Prim.Native.Nat.{ℕ, _+_, _*_, _≤_, _<_};
+ghost use lib.Dec.{leb};
 ghost use lib.ListN.{length};
 ghost use Rattle.paper_lower.specs.Lists.{Every};
 ghost use Rattle.paper_opl.specs.Walk.{start};
 ghost use Rattle.paper_opl.specs.Filling.{fill, fillLines};
 ghost use Rattle.opl_lines.specs.Lines.{Apart, linesIn};
+ghost use Rattle.opl_spaces.specs.Spaces.{keptRoom, scratchWords};
 ghost use Rattle.opl_declared.specs.Names.{walkAt};
 ghost use Rattle.opl_said.specs.Said.{allNames, Holds};
 ghost use Rattle.opl_turns.specs.Turning.{Stood, SmallTag};
 ghost use Rattle.opl_passes.specs.Lines.{linesAt, linesGood, linesThere, Pairs, lineBetween, RowIs, LinesAre, LineWritten, LinesFit};
-ghost use Rattle.opl_passes.specs.Tags.{of, allThere, thereFrom, Checks, ChecksAll, Sums, TagsFit, Writes, FitsAll};
+ghost use Rattle.opl_passes.specs.Kept.{keptWith, kindIn, writtenTo, keptOf, Keeping, Fitting};
+ghost use Rattle.opl_passes.specs.Tags.{of, allThere, thereFrom, Checks, TagsAre, Sums, TagsFit, Writes, FitsAll, PutsKept};
 use opl_lines::Ends;
 use opl_lines::read_line;
 use opl_names::Found;
+use opl_output::low_word;
 use opl_output::put;
+use opl_output::put_words;
 use opl_said::Fields;
 use opl_said::number_of;
 use opl_said::said;
+use opl_spaces::KEPT;
+use opl_spaces::TABLES;
 use opl_turns::Cursor;
 use opl_turns::Turned;
 use opl_turns::turn;
@@ -36,11 +43,17 @@ pub enum Counted {
     Unnamed,
 }
 
-// Behind a tag; or a name in it has no number; or no tag any more.
+// Behind a tag, with the number of records kept; or a name in it has no number; or no tag any more.
 pub enum Checked {
-    Next(Cursor),
+    Next(Cursor, usize),
     Unnamed,
     Done,
+}
+
+// How many records the tags say; or a name in one has no number, or a partitioning has none.
+pub enum Judged {
+    Records(usize),
+    Nameless,
 }
 
 pub enum Wrote {
@@ -153,15 +166,35 @@ pub fn write_lines(s: &[u8], t: &[u8], w: &[u64], out: &mut [u8], place: usize)
 
 // ---- The tags.
 
-// The next tag is judged and counted.
-fn check_at(s: &[u8], t: &[u8], w: &[u64], counts: &mut [usize; 17], c: Cursor) -> Checked
-    requires { ⌜ Holds (now s) (now t) (now w) × (Stood (now s) c × ((length (now counts) ≡ 17) × ((k : ℕ) → of (now counts) k ≤ c .at))) ⌝ }
-    ensures { λ r. ⌜ Checks (allNames (now (s .entry)) (now (t .entry))) (now (s .entry)) c (now (counts .entry)) (now (counts .exit)) r ⌝ }
+// A record is kept in the scratch as number j, if there is room for it.
+fn keep(w: &mut [u64], j: usize, low: u64, high: u64)
+    requires { ⌜ length (now w) ≡ scratchWords ⌝ }
+    ensures { λ _. ⌜ now (w .exit) ≡ keptWith (now (w .entry)) j low high ⌝ }
+{
+    if KEPT <= j {
+        return;
+    }
+    let at = TABLES + 2 * j;
+    w[at] = low;
+    w[at + 1] = high;
+}
+
+// The next tag is judged and counted, and its record kept.
+fn check_at(
+    s: &[u8],
+    t: &[u8],
+    w: &mut [u64],
+    counts: &mut [usize; 17],
+    c: Cursor,
+    j: usize,
+) -> Checked
+    requires { ⌜ Holds (now s) (now t) (now w) × ((Stood (now s) c × (j ≤ c .at)) × ((length (now counts) ≡ 17) × ((k : ℕ) → of (now counts) k ≤ c .at))) ⌝ }
+    ensures { λ r. ⌜ Checks (allNames (now (s .entry)) (now (t .entry))) (now (s .entry)) (now (t .entry)) c j (now (counts .entry)) (now (counts .exit)) (now (w .entry)) (now (w .exit)) r ⌝ }
 {
     let x = turn(s, c);
     match x {
         Turned::Done => Checked::Done,
-        Turned::Silent(n) => Checked::Next(n),
+        Turned::Silent(n) => Checked::Next(n, j),
         Turned::Says {
             kind,
             number,
@@ -169,48 +202,62 @@ fn check_at(s: &[u8], t: &[u8], w: &[u64], counts: &mut [usize; 17], c: Cursor) 
             next,
         } => {
             let f = said(s, t, w, kind, number, end, next.at);
-            let Fields::Numbers {
-                n: _,
-                a: _,
-                b: _,
-                c: _,
-                m: _,
-            } = f
-            else {
+            let Fields::Numbers { n, a, b, c, m } = f else {
                 return Checked::Unnamed;
             };
+            let i = j + 1;
             let k = kind as usize;
             counts[k] = counts[k] + 1;
-            Checked::Next(next)
+            let low = low_word(kind, n, a, b, c);
+            keep(w, j, low, m);
+            Checked::Next(next, i)
         }
     }
 }
 
-// All tags from `from` on: each record is there, and there are partitionings for 16 numbers at most.
-pub fn check_tags(s: &[u8], t: &[u8], w: &[u64], counts: &mut [usize; 17], from: usize) -> bool
+// There are partitionings for 16 numbers at most.
+fn few_parts(parts: usize, j: usize) -> Judged
+    ensures { λ r. ⌜ r ≡ keptOf (leb parts 16) j ⌝ }
+{
+    if parts <= 16 {
+        return Judged::Records(j);
+    }
+    Judged::Nameless
+}
+
+// All tags from `from` on: each record is there, and is kept.
+pub fn check_tags(
+    s: &[u8],
+    t: &[u8],
+    w: &mut [u64],
+    counts: &mut [usize; 17],
+    from: usize,
+) -> Judged
     requires { ⌜ Holds (now s) (now t) (now w) × ((from ≤ length (now s)) × (Every SmallTag (walkAt (now s) from) × ((length (now counts) ≡ 17) × ((k : ℕ) → of (now counts) k ≡ 0)))) ⌝ }
-    ensures { λ r. ⌜ ChecksAll (allNames (now (s .entry)) (now (t .entry))) (walkAt (now (s .entry)) from) (now (counts .entry)) (now (counts .exit)) r ⌝ }
+    ensures { λ r. ⌜ TagsAre (allNames (now (s .entry)) (now (t .entry))) (now (s .entry)) (now (t .entry)) (walkAt (now (s .entry)) from) (now (counts .entry)) (now (counts .exit)) (now (w .exit)) r ⌝ }
 {
     let mut c = Cursor {
         at: from,
         sets: 9,
         parts: 0,
     };
+    let mut j = 0;
     while c.at < s.len() {
-        let r = check_at(s, t, w, counts, c);
+        let r = check_at(s, t, w, counts, c, j);
         match r {
             Checked::Done => {
-                return c.parts <= 16;
+                return few_parts(c.parts, j);
             }
             Checked::Unnamed => {
-                return false;
+                return Judged::Nameless;
             }
-            Checked::Next(n) => {
+            Checked::Next(n, i) => {
                 c = n;
+                j = i;
             }
         }
     }
-    c.parts <= 16
+    few_parts(c.parts, j)
 }
 
 // From how many there are of each kind to where each begins, if there are at most so many in all.
@@ -268,14 +315,7 @@ fn write_at(
 }
 
 // All tags' records from `from` on.
-pub fn write_tags(
-    s: &[u8],
-    t: &[u8],
-    w: &[u64],
-    next: &mut [usize; 17],
-    out: &mut [u8],
-    from: usize,
-)
+fn write_tags(s: &[u8], t: &[u8], w: &[u64], next: &mut [usize; 17], out: &mut [u8], from: usize)
     requires { ⌜ (Holds (now s) (now t) (now w) × ((from ≤ length (now s)) × Every SmallTag (walkAt (now s) from))) × ((allThere (allNames (now s) (now t)) start (walkAt (now s) from) ≡ true) × ((length (now next) ≡ 17) × FitsAll (walkAt (now s) from) (now next) (now out))) ⌝ }
     ensures { λ _. ⌜ now (out .exit) ≡ fill (allNames (now (s .entry)) (now (t .entry))) start (of (now (next .entry))) (walkAt (now (s .entry)) from) (now (out .entry)) ⌝ }
 {
@@ -291,4 +331,52 @@ pub fn write_tags(
         };
         c = n;
     }
+}
+
+// ---- The records that were kept.
+
+// Record j into the output, at the next place of its kind.
+fn put_kept(w: &[u64], next: &mut [usize; 17], out: &mut [u8], j: usize)
+    requires { ⌜ (length (now w) ≡ scratchWords) × ((j < keptRoom) × ((kindIn (now w) j < 17) × ((length (now next) ≡ 17) × (16 * of (now next) (kindIn (now w) j) + 16 ≤ length (now out))))) ⌝ }
+    ensures { λ _. ⌜ PutsKept (now (w .entry)) j (now (next .entry)) (now (next .exit)) (now (out .entry)) (now (out .exit)) ⌝ }
+{
+    let at = TABLES + 2 * j;
+    let low = w[at];
+    let high = w[at + 1];
+    let k = (low % 256) as usize;
+    let place = next[k];
+    put_words(out, place, low, high);
+    next[k] = place + 1;
+}
+
+// The first n of them.
+fn write_kept(w: &[u64], next: &mut [usize; 17], out: &mut [u8], n: usize)
+    requires { ⌜ (length (now w) ≡ scratchWords) × ((n ≤ keptRoom) × ((length (now next) ≡ 17) × Fitting (now w) n (of (now next)) (now out))) ⌝ }
+    ensures { λ _. ⌜ now (out .exit) ≡ writtenTo (now (w .entry)) n (of (now (next .entry))) (now (out .entry)) ⌝ }
+{
+    let mut j = 0;
+    while j < n {
+        put_kept(w, next, out, j);
+        j += 1;
+    }
+}
+
+// All tags' records from `from` on, which are n: those that were kept, or, where there was no room for all, by the text again.
+pub fn write_all(
+    s: &[u8],
+    t: &[u8],
+    w: &[u64],
+    next: &mut [usize; 17],
+    out: &mut [u8],
+    from: usize,
+    n: usize,
+)
+    requires { ⌜ ((Holds (now s) (now t) (now w) × ((from ≤ length (now s)) × Every SmallTag (walkAt (now s) from))) × ((allThere (allNames (now s) (now t)) start (walkAt (now s) from) ≡ true) × ((length (now next) ≡ 17) × FitsAll (walkAt (now s) from) (now next) (now out)))) × Keeping (allNames (now s) (now t)) (walkAt (now s) from) (now w) n ⌝ }
+    ensures { λ _. ⌜ now (out .exit) ≡ fill (allNames (now (s .entry)) (now (t .entry))) start (of (now (next .entry))) (walkAt (now (s .entry)) from) (now (out .entry)) ⌝ }
+{
+    if KEPT < n {
+        write_tags(s, t, w, next, out, from);
+        return;
+    }
+    write_kept(w, next, out, n);
 }

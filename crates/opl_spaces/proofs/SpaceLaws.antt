@@ -5,10 +5,10 @@ use mathlib.Core.Bool.{Bool, true, false}
 use mathlib.Core.List.{List, [], _++_}
 use native.Mathlib.Omega.{arith}
 use lib.Dec.{eqb, ltb}
-use lib.ListN.{length, take, drop, length-drop, length-append, take-append-drop}
-use lib.Seq.{length-take-le, take-append-le, drop-append-le, drop-append-add, drop-drop, take-at, drop-at}
+use lib.ListN.{length, take, drop, set, length-drop, length-append, take-append-drop}
+use lib.Seq.{length-take-le, take-append-le, drop-append-le, drop-append-add, drop-drop, drop-set-add, take-set-le, take-at, drop-at}
 use borrow.Author.Tests.{eqb-true, eqb-false, ltb-true, ltb-false}
-use Rattle.opl_spaces.specs.Spaces.{limitOf, baseOf, sizeOf, scratchWords, tableOf, Apart, Empties, DeclaresIn}
+use Rattle.opl_spaces.specs.Spaces.{limitOf, baseOf, sizeOf, tableWords, scratchWords, tableOf, Apart, Empties, DeclaresIn}
 use Rattle.paper_opl.specs.Reading.{Text}
 use Rattle.opl_names.specs.Table.{Emptied, Declares}
 use Rattle.opl_names.specs.declared.Found.{Found}
@@ -16,9 +16,9 @@ use Rattle.opl_names.specs.declared.Found.{Found}
 pub record Bounds (i : ℕ) : Type 0 where
   pub some : 0 < limitOf i
   pub few : limitOf i ≤ 65536
-  pub fits : baseOf i + sizeOf i ≤ scratchWords
+  pub fits : baseOf i + sizeOf i ≤ tableWords
 
-bound : (i b n : ℕ) → baseOf i ≡ b → limitOf i ≡ n → 0 < n → n ≤ 65536 → b + (1 + 3 * n) ≤ scratchWords → Bounds i
+bound : (i b n : ℕ) → baseOf i ≡ b → limitOf i ≡ n → 0 < n → n ≤ 65536 → b + (1 + 3 * n) ≤ tableWords → Bounds i
 bound i b n p q x y z = record { some = rw q x; few = rw q y; fits = rw (p, q) z }
 
 pub bounds : (i : ℕ) → i < 7 → Bounds i
@@ -57,6 +57,15 @@ inner x y b k h =
     let i : b ≤ length x = omega arith in
     let j : k ≤ length (drop b x) = omega (arith, length-drop b x) in
     rw (drop-append-le b x y i, take-append-le k (drop b x) y j)
+
+-- ---- A word behind the tables anew.
+pub table-kept : (i : ℕ) → i < 7 → (l : List ℕ) (k v : ℕ) → tableWords ≤ k → tableOf i (set l k v) ≡ tableOf i l
+unfolding tableOf
+table-kept i h l k v b =
+    let f = bounds i h .fits in
+    let e : baseOf i + (k - baseOf i) ≡ k = omega (arith, f) in
+    ap (λ (z : ℕ). take (sizeOf i) (drop (baseOf i) (set l z v))) (sym e) ∙ ap (take (sizeOf i)) (drop-set-add (baseOf i) l (k - baseOf i) v)
+    ∙ take-set-le (sizeOf i) (drop (baseOf i) l) (k - baseOf i) v (omega (arith, f))
 
 -- ---- A part of a list anew: what stands before it, in it and behind it.
 module _ (l p : List ℕ) (from to : ℕ) (order : from ≤ to) (inside : to ≤ length l) (same : length p ≡ to - from) where

@@ -22,9 +22,15 @@ baseOf i = getD (0 ∷ 3073 ∷ 3266 ∷ 4035 ∷ 200644 ∷ 397253 ∷ 397446 �
 abbrev pub sizeOf : ℕ → ℕ
 sizeOf i = 1 + 3 * limitOf i
 
--- the words of them all
+-- the words of them all; behind them lie the records that are kept, two words each
+abbrev pub tableWords : ℕ
+tableWords = 397495
+
+abbrev pub keptRoom : ℕ
+keptRoom = 131072
+
 abbrev pub scratchWords : ℕ
-scratchWords = 397495
+scratchWords = 659639
 
 -- the words of one table
 unfoldable pub tableOf : ℕ → List ℕ → List ℕ

@@ -7,8 +7,12 @@ ghost use Rattle.opl_names.specs.Table.{Sound, foundOf};
 ghost use Rattle.opl_spaces.specs.Spaces.{limitOf, baseOf, scratchWords, tableOf, numbered, Empties, DeclaresIn};
 use opl_names::Found;
 
-// The length of the scratch, in words.
-pub const WORDS: usize = 397495;
+// The length of the scratch, in words: those of the tables, and behind them two for each record that can be kept.
+pub const WORDS: usize = 659639;
+
+pub const TABLES: usize = 397495;
+
+pub const KEPT: usize = 131072;
 
 const LIMITS: [usize; 7] = [1024, 64, 256, 65536, 65536, 64, 16];
 

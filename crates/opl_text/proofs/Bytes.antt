@@ -4,9 +4,9 @@ use mathlib.Core.Path.{_≡_, refl, sym, ap, _∙_}
 use mathlib.Core.Bool.{Bool, true, false, not, cond, _&&_, _||_, true≢false}
 use lib.Dec.{eqb, leb}
 use native.Mathlib.Omega.{arith}
-use borrow.Author.Tests.{le-leb, lt-leb, le-ltb, ne-eqb}
+use borrow.Author.Tests.{le-leb, lt-leb, le-ltb, leb-true, ne-eqb}
 use Rattle.paper_lower.specs.Lists.{someBelow}
-use Rattle.paper_lower.proofs.ListLaws.{none-below}
+use Rattle.paper_lower.proofs.ListLaws.{both, none-below}
 use Rattle.paper_opl.specs.Reading.{inName, inValue}
 
 differ : Bool → Bool → Bool
@@ -45,3 +45,30 @@ value-high q b h = rw (ne-eqb b 60 (λ e. omega arith), ne-eqb b 38 (λ e. omega
     go : (a : Bool) → not a ≡ not (((a || false) || false) || false)
     go true = refl
     go false = refl
+
+-- ---- What most bytes are.
+often : ℕ → Bool
+often b = leb 95 b && leb b 122 && not (eqb b 96)
+
+often-no : (b : ℕ) → b < 256 → often b && not (inName b) ≡ false
+unfolding someBelow differ often
+often-no b h = at-each (λ b. often b && not (inName b)) (λ _. false) refl b h
+
+pub often-name : (b : ℕ) → b < 256 → leb 95 b && leb b 122 && not (eqb b 96) ≡ true → inName b ≡ true
+unfolding often
+often-name b h e = go (inName b) (sym (ap (λ (c : Bool). c && not (inName b)) e) ∙ often-no b h)
+  where
+    go : (x : Bool) → not x ≡ false → x ≡ true
+    go true q = refl
+    go false q = absurd (true≢false q)
+
+pub often-value : (q b : ℕ) → not (eqb b q) && not (eqb b 60) && leb 40 b ≡ true → inValue q b ≡ true
+often-value q b e =
+    let x = both (not (eqb b q) && not (eqb b 60)) (leb 40 b) e in
+    let y = both (not (eqb b q)) (not (eqb b 60)) (x .0) in
+    let h = leb-true 40 b (x .1) in
+    rw (is-false (eqb b q) (y .0), is-false (eqb b 60) (y .1), ne-eqb b 38 (λ z. omega arith), le-ltb b 32 (omega arith))
+  where
+    is-false : (x : Bool) → not x ≡ true → x ≡ false
+    is-false true q = sym q
+    is-false false q = refl

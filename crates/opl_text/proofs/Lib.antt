@@ -3,3 +3,4 @@ pub mod Turns
 pub mod Literals
 pub mod Same
 pub mod Bytes
+pub mod Eights

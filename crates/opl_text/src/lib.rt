@@ -5,7 +5,7 @@ ghost use mathlib.Core.List.{[], _∷_};
 ghost use Prim.Native.Nat.{_+_, _-_, _≤_};
 ghost use lib.ListN.{length, take, drop};
 ghost use Rattle.paper_opl.specs.Reading.{text, white as whiteOf, control as controlOf, inName, inValue, same, starts, expect as expectOf, behind, name as nameOf, value as valueIn, equals as equalsOf, comment, misc};
-ghost use Rattle.opl_text.specs.Steps.{From, Reads, stepOf, wordOf, valueOf};
+ghost use Rattle.opl_text.specs.Steps.{From, Reads, stepOf, wordOf, valueOf, Surely, Runs, RunsSame};
 
 // Where a reader stopped: behind what it read, or at the byte that cannot stand there.
 pub enum Step {
@@ -69,8 +69,50 @@ pub fn skip_space(s: &[u8], at: usize) -> usize
     i
 }
 
-// Behind the name from `at` on.
-pub fn name_end(s: &[u8], at: usize) -> usize
+// ---- Names and values are read eight bytes at a time, as long as these are such as most are; then byte by byte.
+
+// Small letters and "_".
+fn often_in_name(b: u8) -> bool
+    ensures { λ r. ⌜ Surely (inName b) r ⌝ }
+{
+    (95 <= b) & (b <= 122) & (b != 96)
+}
+
+fn often_in_value(q: u8, b: u8) -> bool
+    ensures { λ r. ⌜ Surely (inValue q b) r ⌝ }
+{
+    (b != q) & (b != 60) & (40 <= b)
+}
+
+fn name_run(s: &[u8], i: usize) -> bool
+    requires { ⌜ i + 8 ≤ length (now s) ⌝ }
+    ensures { λ r. ⌜ Runs inName (now (s .entry)) i r ⌝ }
+{
+    often_in_name(s[i])
+        & often_in_name(s[i + 1])
+        & often_in_name(s[i + 2])
+        & often_in_name(s[i + 3])
+        & often_in_name(s[i + 4])
+        & often_in_name(s[i + 5])
+        & often_in_name(s[i + 6])
+        & often_in_name(s[i + 7])
+}
+
+fn value_run(s: &[u8], i: usize, q: u8) -> bool
+    requires { ⌜ i + 8 ≤ length (now s) ⌝ }
+    ensures { λ r. ⌜ Runs (inValue q) (now (s .entry)) i r ⌝ }
+{
+    often_in_value(q, s[i])
+        & often_in_value(q, s[i + 1])
+        & often_in_value(q, s[i + 2])
+        & often_in_value(q, s[i + 3])
+        & often_in_value(q, s[i + 4])
+        & often_in_value(q, s[i + 5])
+        & often_in_value(q, s[i + 6])
+        & often_in_value(q, s[i + 7])
+}
+
+fn name_rest(s: &[u8], at: usize) -> usize
     requires { ⌜ at ≤ length (now s) ⌝ }
     ensures { λ r. ⌜ From (now (s .entry)) (behind inName (drop at (now (s .entry)))) r ⌝ }
 {
@@ -84,8 +126,7 @@ pub fn name_end(s: &[u8], at: usize) -> usize
     i
 }
 
-// The first byte from `at` on that cannot stand between quotes q.
-pub fn value_end(s: &[u8], at: usize, q: u8) -> usize
+fn value_rest(s: &[u8], at: usize, q: u8) -> usize
     requires { ⌜ at ≤ length (now s) ⌝ }
     ensures { λ r. ⌜ From (now (s .entry)) (behind (inValue q) (drop at (now (s .entry)))) r ⌝ }
 {
@@ -97,6 +138,36 @@ pub fn value_end(s: &[u8], at: usize, q: u8) -> usize
         i += 1;
     }
     i
+}
+
+// Behind the name from `at` on.
+pub fn name_end(s: &[u8], at: usize) -> usize
+    requires { ⌜ at ≤ length (now s) ⌝ }
+    ensures { λ r. ⌜ From (now (s .entry)) (behind inName (drop at (now (s .entry)))) r ⌝ }
+{
+    let mut i = at;
+    while 8 <= s.len() - i {
+        if !name_run(s, i) {
+            return name_rest(s, i);
+        }
+        i += 8;
+    }
+    name_rest(s, i)
+}
+
+// The first byte from `at` on that cannot stand between quotes q.
+pub fn value_end(s: &[u8], at: usize, q: u8) -> usize
+    requires { ⌜ at ≤ length (now s) ⌝ }
+    ensures { λ r. ⌜ From (now (s .entry)) (behind (inValue q) (drop at (now (s .entry)))) r ⌝ }
+{
+    let mut i = at;
+    while 8 <= s.len() - i {
+        if !value_run(s, i, q) {
+            return value_rest(s, i, q);
+        }
+        i += 8;
+    }
+    value_rest(s, i, q)
 }
 
 // White space, "=", white space.
@@ -191,14 +262,25 @@ pub fn skip_misc(s: &[u8], at: usize) -> Step
     Step::Next(i)
 }
 
-// The two are the same, byte by byte.
-pub fn same_bytes(v: &[u8], w: &[u8]) -> bool
-    ensures { λ r. ⌜ r ≡ same (now (v .entry)) (now (w .entry)) ⌝ }
+fn same_run(v: &[u8], w: &[u8], i: usize) -> bool
+    requires { ⌜ (i + 8 ≤ length (now v)) × (i + 8 ≤ length (now w)) ⌝ }
+    ensures { λ r. ⌜ RunsSame (now (v .entry)) (now (w .entry)) i r ⌝ }
 {
-    if v.len() != w.len() {
-        return false;
-    }
-    let mut i = 0;
+    (v[i] == w[i])
+        & (v[i + 1] == w[i + 1])
+        & (v[i + 2] == w[i + 2])
+        & (v[i + 3] == w[i + 3])
+        & (v[i + 4] == w[i + 4])
+        & (v[i + 5] == w[i + 5])
+        & (v[i + 6] == w[i + 6])
+        & (v[i + 7] == w[i + 7])
+}
+
+fn same_rest(v: &[u8], w: &[u8], from: usize) -> bool
+    requires { ⌜ (from ≤ length (now v)) × (length (now v) ≡ length (now w)) ⌝ }
+    ensures { λ r. ⌜ r ≡ same (drop from (now (v .entry))) (drop from (now (w .entry))) ⌝ }
+{
+    let mut i = from;
     while i < v.len() {
         if v[i] != w[i] {
             return false;
@@ -206,6 +288,23 @@ pub fn same_bytes(v: &[u8], w: &[u8]) -> bool
         i += 1;
     }
     true
+}
+
+// The two are the same, eight bytes at a time.
+pub fn same_bytes(v: &[u8], w: &[u8]) -> bool
+    ensures { λ r. ⌜ r ≡ same (now (v .entry)) (now (w .entry)) ⌝ }
+{
+    if v.len() != w.len() {
+        return false;
+    }
+    let mut i = 0;
+    while 8 <= v.len() - i {
+        if !same_run(v, w, i) {
+            return same_rest(v, w, i);
+        }
+        i += 8;
+    }
+    same_rest(v, w, i)
 }
 
 // These bytes and no others.

@@ -12,7 +12,7 @@ rem-result c = search needs
 
 returns : tie.Need-returns
 unfolding bucketOf
-returns c = (refl, mod-lt (c .args .m / 65536) (c .pre))
+returns c = (refl, mod-lt (c .args .m / 16777216) (c .pre))
 
 pub bucket-spec : {M : Type 1} → statement M
 bucket-spec = tie.close (tie.spec rem-result returns)

@@ -1,41 +1,51 @@
--- What the bytes passed and those left make is the mark of all.
-use Prim.Native.Nat.{_-_, _≤_, _<_}
-use mathlib.Core.Path.{refl, _≡_}
+-- Four bytes at a time, and the rest.
+use Prim.Native.Nat.{_-_, _/_, _≤_, _<_}
+use mathlib.Core.Path.{_≡_, refl, ap, _∙_}
 use native.Mathlib.Omega.{arith}
-use lib.ListN.{length, drop}
+use lib.ListN.{length}
 use denote.Ref.{now}
 use borrow.Author.Needs.{needs}
-use Rattle.opl_names.specs.Table.{markFrom, markOf}
-use Rattle.opl_names.proofs.TableLaws.{mark-turn, mark-end}
+use Rattle.opl_names.specs.Table.{markTo}
+use Rattle.opl_names.proofs.TableLaws.{quads-on, quads-end}
 use Rattle.opl_names.proofs.mark.Statement.{statement}
 use Rattle.opl_names.proofs.mark.Tie as tie
 
 abbrev Inv-loop : tie.InvT-loop
-Inv-loop name h₀ i₀ h i = (i ≤ length name) × ((h < 1099511627776) × (markFrom h (drop i name) ≡ markOf name))
+Inv-loop name n h₀ k₀ h k = (k ≤ length name / 4) × ((h < 1099511627776) × (h ≡ markTo name k))
 
 abbrev μ-loop : tie.MeasureT-loop
-μ-loop name h₀ i₀ h i = length name - i
+μ-loop name n h₀ k₀ h k = length name / 4 - k
 
 loop-holds : tie.Need-loop-holds Inv-loop μ-loop
+unfolding markTo
 loop-holds c = (omega arith, (omega arith, refl))
 
-shared-slice-read-turn : tie.Need-shared-slice-read-turn Inv-loop μ-loop
-shared-slice-read-turn c = search needs
+mul-quad : tie.Need-mul-quad Inv-loop μ-loop
+mul-quad c = search needs
+
+quad-requires : tie.Need-quad-requires Inv-loop μ-loop
+quad-requires c κs = omega (arith, c .before .loop .inv .0, c .loop-test .taken)
 
 turn-requires : tie.Need-turn-requires Inv-loop μ-loop
-turn-requires c κs = c .before .before .loop .inv .1 .0
+turn-requires c κs = (c .before .before .loop .inv .1 .0, c .quad .ensures .1)
 
-add-i : tie.Need-add-i Inv-loop μ-loop
-add-i c = search needs
+add-k : tie.Need-add-k Inv-loop μ-loop
+add-k c = search needs
 
 loop-less : tie.Need-loop-less Inv-loop μ-loop
 loop-less c = search needs
 
 loop-again : tie.Need-loop-again Inv-loop μ-loop
-loop-again c = (search needs, (c .turn .ensures .1, mark-turn (now (c .before .before .before .before .before .args .name)) (c .before .before .before .loop .h) (c .before .before .before .loop .i) (c .before .before .loop-test .taken) (c .turn .ensures .0) (c .before .before .before .loop .inv .1 .1)))
+loop-again c = (omega (arith, c .before .before .loop-test .taken), (c .turn .ensures .1, quads-on (now (c .before .before .before .before .before .args .name)) (c .before .before .before .loop .k) (c .before .before .before .loop .inv .1 .1) (c .before .quad .ensures .0) (c .turn .ensures .0)))
+
+mul-mark-rest : tie.Need-mul-mark-rest Inv-loop μ-loop
+mul-mark-rest c = search needs
+
+mark-rest-requires : tie.Need-mark-rest-requires Inv-loop μ-loop
+mark-rest-requires c κs = (omega arith, c .before .loop .inv .1 .0)
 
 returns : tie.Need-returns Inv-loop μ-loop
-returns c = (mark-end (now (c .before .before .before .args .name)) (c .before .loop .h) (c .before .loop .i) (c .loop-test .left) (c .before .loop .inv .1 .1), c .before .loop .inv .1 .0)
+returns c = let z : c .before .before .loop .k ≡ length (now (c .before .before .before .before .args .name)) / 4 = omega (arith, c .before .before .loop .inv .0, c .before .loop-test .left) in (quads-end (now (c .before .before .before .before .args .name)) (length (now (c .before .before .before .before .args .name)) / 4) (c .before .before .loop .inv .1 .1 ∙ ap (markTo (now (c .before .before .before .before .args .name))) z) refl (c .mark-rest .ensures .0), c .mark-rest .ensures .1)
 
 pub mark-spec : {M : Type 1} → statement M
 mark-spec =
@@ -44,9 +54,12 @@ mark-spec =
     Inv-loop
     μ-loop
     loop-holds
-    shared-slice-read-turn
+    mul-quad
+    quad-requires
     turn-requires
-    add-i
+    add-k
     loop-less
     loop-again
+    mul-mark-rest
+    mark-rest-requires
     returns)

@@ -1,14 +1,11 @@
--- `value_end` goes on as long as the byte may stand in the value.
+-- Eight bytes at a time, and then byte by byte.
 use borrow.Author.Needs.{needs}
-use Rattle.opl_text.proofs.Laws.{behind-end, behind-stop, behind-more}
-use Rattle.paper_opl.specs.Reading.{inValue, behind}
-use denote.Ref.{now}
+use Prim.Native.Nat.{_-_, _≤_}
+use mathlib.Core.Path.{_≡_, refl, sym, _∙_}
 use native.Mathlib.Omega.{arith}
-use mathlib.Core.Path.{refl, sym, _∙_}
-use Prim.Native.Nat.{_-_}
-use Prim.Native.Nat.{_≤_}
-use mathlib.Core.Path.{_≡_}
 use lib.ListN.{length, drop}
+use borrow.Author.Tests.{not-false}
+use Rattle.paper_opl.specs.Reading.{behind, inValue}
 use Rattle.opl_text.proofs.value_end.Statement.{statement}
 use Rattle.opl_text.proofs.value_end.Tie as tie
 
@@ -21,26 +18,32 @@ abbrev μ-loop : tie.MeasureT-loop
 loop-holds : tie.Need-loop-holds Inv-loop μ-loop
 loop-holds c = (c .before .pre, refl)
 
-shared-slice-read-in-value : tie.Need-shared-slice-read-in-value Inv-loop μ-loop
-shared-slice-read-in-value c = search needs
+sub-loop : tie.Need-sub-loop Inv-loop μ-loop
+sub-loop c = c .loop .inv .0
 
-in-value-requires : tie.Need-in-value-requires Inv-loop μ-loop
-in-value-requires c κs = search needs
+value-run-requires : tie.Need-value-run-requires Inv-loop μ-loop
+value-run-requires c κs = omega (arith, c .before .loop .inv .0, c .loop-test .taken)
+
+value-rest-requires : tie.Need-value-rest-requires Inv-loop μ-loop
+value-rest-requires c κs = c .before .before .before .loop .inv .0
 
 returns : tie.Need-returns Inv-loop μ-loop
-returns c = record { rest = behind-stop (inValue (c .before .before .before .before .before .before .args .q)) (now (c .before .before .before .before .before .before .args .s)) (c .before .before .before .before .loop .i) (c .before .before .before .loop-test .taken) (c .before .in-value .result) (c .before .in-value .ensures) (c .if1 .taken) ∙ sym (c .before .before .before .before .loop .inv .1); inside = c .before .before .before .before .loop .inv .0 }
+returns c = record { rest = c .value-rest .ensures .rest ∙ sym (c .before .before .before .before .loop .inv .1); inside = c .value-rest .ensures .inside }
 
 add-i : tie.Need-add-i Inv-loop μ-loop
 add-i c = search needs
 
 loop-less : tie.Need-loop-less Inv-loop μ-loop
-loop-less c = search needs
+loop-less c = omega (arith, c .before .before .before .loop .inv .0, c .before .before .loop-test .taken)
 
 loop-again : tie.Need-loop-again Inv-loop μ-loop
-loop-again c = (omega arith, c .before .before .before .before .loop .inv .1 ∙ behind-more (inValue (c .before .before .before .before .before .before .args .q)) (now (c .before .before .before .before .before .before .args .s)) (c .before .before .before .before .loop .i) (c .before .before .before .loop-test .taken) (c .before .in-value .result) (c .before .in-value .ensures) (c .if1 .left))
+loop-again c = (omega (arith, c .before .before .before .loop .inv .0, c .before .before .loop-test .taken), c .before .before .before .loop .inv .1 ∙ c .before .value-run .ensures (not-false (c .before .value-run .result) (c .if1 .left)))
+
+value-rest-requires-2 : tie.Need-value-rest-requires-2 Inv-loop μ-loop
+value-rest-requires-2 c κs = c .before .loop .inv .0
 
 returns-2 : tie.Need-returns-2 Inv-loop μ-loop
-returns-2 c = record { rest = behind-end (inValue (c .before .before .before .args .q)) (now (c .before .before .before .args .s)) (c .before .loop .i) (c .loop-test .left) ∙ sym (c .before .loop .inv .1); inside = c .before .loop .inv .0 }
+returns-2 c = record { rest = c .value-rest2 .ensures .rest ∙ sym (c .before .before .loop .inv .1); inside = c .value-rest2 .ensures .inside }
 
 pub value-end-spec : {M : Type 1} → statement M
 value-end-spec =
@@ -49,10 +52,12 @@ value-end-spec =
     Inv-loop
     μ-loop
     loop-holds
-    shared-slice-read-in-value
-    in-value-requires
+    sub-loop
+    value-run-requires
+    value-rest-requires
     returns
     add-i
     loop-less
     loop-again
+    value-rest-requires-2
     returns-2)

@@ -1,0 +1,32 @@
+-- The two words, laid one behind the other.
+use borrow.Author.Needs.{needs}
+use mathlib.Core.Path.{ap, _∙_}
+use Prim.Native.Nat.{_+_, _*_}
+use Rattle.paper_lower.specs.Records.{Bytes}
+use Rattle.opl_output.specs.Output.{laid}
+use Rattle.opl_output.proofs.Words.{two-laid}
+use Rattle.opl_output.proofs.put_words.Statement.{statement}
+use Rattle.opl_output.proofs.put_words.Tie as tie
+
+mul-at : tie.Need-mul-at
+mul-at c = search needs
+
+write-word-requires : tie.Need-write-word-requires
+write-word-requires c κs = search needs
+
+add-write-word : tie.Need-add-write-word
+add-write-word c = search needs
+
+write-word-requires-2 : tie.Need-write-word-requires-2
+write-word-requires-2 c κs = search needs
+
+same-length : tie.Need-same-length
+same-length c = search needs
+
+returns : tie.Need-returns
+returns c = c .before .before .write-word2 .ensures ∙ ap (λ (s : Bytes). laid s (16 * c .before .before .before .before .before .before .before .before .before .args .place + 8) 8 (c .before .before .before .before .before .before .before .before .before .args .high)) (c .before .before .before .before .before .before .write-word .ensures) ∙ two-laid (c .before .before .before .before .before .before .before .before .before .args .out .now) (c .before .before .before .before .before .before .before .before .before .args .place) (c .before .before .before .before .before .before .before .before .before .args .low) (c .before .before .before .before .before .before .before .before .before .args .high) (c .before .before .before .before .before .before .before .before .before .pre)
+
+pub put-words-spec : {M : Type 1} → statement M
+put-words-spec =
+    tie.close
+    (tie.spec mul-at write-word-requires add-write-word write-word-requires-2 same-length returns)

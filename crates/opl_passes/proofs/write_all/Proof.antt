@@ -1,0 +1,32 @@
+-- By the text again, or by the records that were kept.
+use borrow.Author.Needs.{needs}
+use mathlib.Core.Path.{sym, _∙_}
+use native.Mathlib.Omega.{arith}
+use denote.Ref.{now}
+use Rattle.opl_said.specs.Said.{allNames}
+use Rattle.opl_declared.specs.Names.{walkAt}
+use Rattle.opl_passes.specs.Tags.{of}
+use Rattle.opl_passes.proofs.TagLaws.{all-fit}
+use Rattle.opl_passes.proofs.write_all.Statement.{statement}
+use Rattle.opl_passes.proofs.write_all.Tie as tie
+
+write-tags-requires : tie.Need-write-tags-requires
+write-tags-requires c κs = c .before .before .before .before .before .before .before .pre .0
+
+same-length : tie.Need-same-length
+same-length c = search needs
+
+returns : tie.Need-returns
+returns c = c .before .before .write-tags .ensures
+
+write-kept-requires : tie.Need-write-kept-requires
+write-kept-requires c κs = (c .before .before .before .before .before .before .before .pre .0 .0 .0 .room, (omega (arith, c .before .before .if1 .left), (c .before .before .before .before .before .before .before .pre .0 .1 .1 .0, all-fit (allNames (now (c .before .before .before .before .before .before .before .args .s)) (now (c .before .before .before .before .before .before .before .args .t))) (walkAt (now (c .before .before .before .before .before .before .before .args .s)) (c .before .before .before .before .before .before .before .args .from)) (now (c .before .before .before .before .before .before .before .args .w)) (c .before .before .before .before .before .before .before .args .n) (now (c .before .before .before .before .before .before .before .args .next)) (now (c .before .before .before .before .before .before .before .args .out)) (c .before .before .before .before .before .before .before .pre .1 (c .before .before .if1 .left)) (c .before .before .before .before .before .before .before .pre .0 .1 .1 .1))))
+
+same-length-2 : tie.Need-same-length-2
+same-length-2 c = search needs
+
+returns-2 : tie.Need-returns-2
+returns-2 c = c .before .before .write-kept .ensures ∙ sym (c .before .before .before .before .before .before .before .before .before .before .pre .1 (c .before .before .before .before .before .if1 .left) .fills (of (now (c .before .before .before .before .before .before .before .before .before .before .args .next))) (now (c .before .before .before .before .before .before .before .before .before .before .args .out)))
+
+pub write-all-spec : {M : Type 1} → statement M
+write-all-spec = tie.close (tie.spec write-tags-requires same-length returns write-kept-requires same-length-2 returns-2)
