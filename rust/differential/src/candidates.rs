@@ -114,9 +114,15 @@ impl Pools {
             3 => Record::end_order(order),
             4..=23 => Record::claim(subject, order, task),
             24..=28 => Record::release(subject, order, task),
-            29..=36 => Record::done(subject, order, task),
+            29..=35 => Record::done(subject, order, task),
+            36 => self.question(random),
             _ => Record::task_check(subject, order, task, operation, object),
         }
+    }
+
+    /// A request that asks for figures.
+    pub fn question(&self, random: &mut Random) -> Record {
+        Record::entries_of(random.pick(&self.orders))
     }
 
     pub fn request(&self, random: &mut Random) -> Record {

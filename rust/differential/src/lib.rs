@@ -18,7 +18,7 @@ mod pools;
 mod slow;
 mod walk;
 
-pub use cases::{Case, Pile, Step};
+pub use cases::{Case, Pile, Question, Step};
 pub use command::command;
 pub use compare::{compare, Failure};
 pub use coverage::{possible, Coverage};

@@ -243,5 +243,6 @@ fn take(desk: &mut dyn Desk, step: &Step) {
         Step::Pile(pile) => {
             desk.pile(&pile.records, &mut pile.buffer.clone(), pile.at);
         }
+        Step::Question(_) => {}
     }
 }

@@ -108,6 +108,7 @@ fn tell(options: &Options) -> Result<(), String> {
         println!("not seen: {:?}", coverage.missing());
         println!("places not seen: {:?}", coverage.missing_places());
         println!("piles not seen: {:?}", coverage.missing_piles());
+        println!("questions not seen: {:?}", coverage.missing_questions());
     }
     println!("{} cases of seed {} agree", options.cases, options.seed);
     Ok(())

@@ -98,7 +98,7 @@ fn form(kind: u8) -> Option<Form> {
         40 => ([Some(127), Some(1023), None], false, true),
         41 => ([Some(127), None, None], false, false),
         42 | 43 => ([Some(127), Some(63), None], false, false),
-        49 => ([Some(63), None, None], false, false),
+        49 | 58 => ([Some(63), None, None], false, false),
         50..=52 => ([Some(127), Some(63), Some(63)], false, false),
         56 => ([Some(127), Some(any), Some(any)], false, false),
         57 => ([Some(127), Some(63), Some(63)], false, true),
@@ -148,6 +148,39 @@ impl Slow {
             Ok(record) => self.serve(record),
             Err(reply) => (reply, 0),
         }
+    }
+
+    /// Answers a question: its reply, and the answer afterwards.
+    pub fn question(&self, bytes: &[u8], answer: &[u64]) -> (Reply, Vec<u64>) {
+        let no_question = bytes.first() != Some(&58);
+        let judged = first(&[(Room, answer.len() != 66), (Shape, no_question)]);
+        let asked = match judged {
+            Granted => well_formed(bytes, false),
+            refused => Err(refused),
+        };
+        let judge = |record| match self.judge_question(record) {
+            Granted => Ok(self.figures(record)),
+            refused => Err(refused),
+        };
+        match asked.and_then(judge) {
+            Ok(mut figures) => {
+                figures.resize(66, 0);
+                (Granted, figures)
+            }
+            Err(reply) => (reply, answer.to_vec()),
+        }
+    }
+
+    fn judge_question(&self, r: Record) -> Reply {
+        first(&[(Unknown, !self.instances.contains_key(&r.a()))])
+    }
+
+    /// The words of a question that is granted, but for zeros behind them.
+    fn figures(&self, r: Record) -> Vec<u64> {
+        let entries = self.entries.iter().filter(|e| e.instance == r.a());
+        let done = entries.clone().filter(|e| e.holder.is_none());
+        let done: Set = done.map(|e| e.task as u8).collect();
+        vec![entries.count() as u64, done.0]
     }
 
     /// The engine with other open orders, each with its template, and other entries.
@@ -381,6 +414,7 @@ impl Slow {
             40..=43 | 56 => (self.judge_sessions(r), 0),
             48 | 49 => (self.judge_orders(r), 0),
             50 => self.judge_claim(r),
+            58 => (self.judge_question(r), 0),
             _ => (self.judge_holder(r), 0),
         };
         if reply == Granted {

@@ -18,6 +18,13 @@ fn all_engines_agree_and_every_reply_comes_up() {
     assert_eq!(coverage.surprising(), [], "\n{}", coverage.table());
     assert_eq!(coverage.missing_places(), [], "\n{}", coverage.table());
     assert_eq!(coverage.missing_piles(), [], "\n{}", coverage.table());
+    assert_eq!(coverage.missing_questions(), [], "\n{}", coverage.table());
+    assert_eq!(
+        coverage.surprising_questions(),
+        [],
+        "\n{}",
+        coverage.table()
+    );
     assert_eq!(coverage.surprising_places(), [], "\n{}", coverage.table());
 }
 

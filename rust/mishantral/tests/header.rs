@@ -76,12 +76,13 @@ fn kinds_have_one_number() {
         ("DONE", Record::done(0, 0, 0)),
         ("CHECK", Record::check(0, 0, 0)),
         ("TASK_CHECK", Record::task_check(0, 0, 0, 0, 0)),
+        ("ENTRIES_OF", Record::entries_of(0)),
     ];
     let constants = constants();
     for (name, record) in kinds {
         assert_eq!(constants.get(name), Some(&record.kind()), "{name}");
     }
-    let beside = ["POLICY", "SESSIONS", "ORDERS", "OPL_SCRATCH"];
+    let beside = ["POLICY", "SESSIONS", "ORDERS", "ANSWER", "OPL_SCRATCH"];
     assert_eq!(
         constants.len(),
         kinds.len() + Reply::ALL.len() + beside.len()
@@ -131,6 +132,13 @@ fn buffers_have_the_lengths_that_the_library_tells() {
     assert_eq!(number("POLICY_WORDS"), state.policy.len());
     assert_eq!(number("SESSIONS_WORDS"), state.sessions.len());
     assert_eq!(number("ORDERS_WORDS"), state.orders.len());
+    assert_eq!(number("ANSWER_WORDS"), mishantral::ANSWER);
+    let engine = mishantral::Engine::from_state(state);
+    let mut answer = vec![0; number("ANSWER_WORDS") + 1];
+    let reply = engine.question(&Record::end_order(0), &mut answer);
+    assert_eq!(reply, Reply::Room);
+    let reply = engine.question(&Record::end_order(0), &mut answer[1..]);
+    assert_eq!(reply, Reply::Shape);
 }
 
 #[cfg(mishantral_opl)]

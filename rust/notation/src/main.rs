@@ -23,8 +23,9 @@ Records as lines of words (docs/RULES.md), and back.
   mishantral-notation explain [--dealer POLICY TASKS] [--policy FILE] REQUESTS
                                                   a desk program's listing, from standard input, with
                                                   the records of REQUESTS in words and replies by name;
-                                                  --policy: the policy's records, to show a refused one
-                                                  and the rule that a refused claim is about
+                                                  --policy: the policy's records, to show a refused one,
+                                                  the rule that a refused claim is about and the figures
+                                                  of a granted question
   mishantral-notation refused [--dealer POLICY TASKS] [--name NAME] FILE REPLY PLACE
                                                   which record of a policy, text or records, a load's
                                                   refusal is about; --name: what to call the file

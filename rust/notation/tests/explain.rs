@@ -141,3 +141,39 @@ fn a_refused_record_is_found_in_text_and_in_records() {
     assert_eq!(refused(&bytes, Reply::Room, 0), "1 ROOM");
     assert_eq!(refused(&bytes, Reply::Shape, 7), "record 7: 2 SHAPE");
 }
+
+#[test]
+fn a_granted_question_shows_its_figures_where_the_policy_is_given() {
+    let policy = records(
+        "user 300\nrole 0\nuser 300 has role 0\ntask 0 of template 0\ntask 3 of template 0\ntask 0 open to role 0\n\
+         task 3 open to role 0",
+    );
+    let requests = records(
+        "create subject 5 for user 300 with roles 0\nopen order 7 of template 0\nentries of order 7\nclaim 5 7 3\n\
+         entries of order 7\ndone 5 7 3\nclaim 5 7 0\nentries of order 7\nentries of order 8",
+    );
+    let listing = "load 0 0\n1 0 0\n2 0 0\n3 0 0\n4 0 0\n5 0 0\n6 0 0\n7 0 0\n8 0 0\n9 4 0\n";
+    let shown = explain(Some(&policy), &requests, listing).unwrap();
+    let text = "\
+load 0 GRANTED
+    1   0 GRANTED       create subject 5 for user 300 with roles 0
+    2   0 GRANTED       open order 7 of template 0
+    3   0 GRANTED       entries of order 7
+       0 entries, done none
+    4   0 GRANTED       claim 5 7 3
+    5   0 GRANTED       entries of order 7
+       1 entry, done none
+    6   0 GRANTED       done 5 7 3
+    7   0 GRANTED       claim 5 7 0
+    8   0 GRANTED       entries of order 7
+       2 entries, done 3
+    9   4 UNKNOWN       entries of order 8
+";
+    assert_eq!(shown, text);
+    // Where another desk answered otherwise, nothing is told of figures from there on.
+    let other = listing.replace("4 0 0\n", "4 5 0\n");
+    let shown = explain(Some(&policy), &requests, &other).unwrap();
+    let told = shown.lines().filter(|line| line.contains("done none"));
+    assert_eq!(told.count(), 1);
+    assert!(!explain(None, &requests, listing).unwrap().contains("none"));
+}

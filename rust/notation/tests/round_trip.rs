@@ -64,6 +64,7 @@ fn every_kind() -> Vec<(&'static str, Record)> {
             "task check 9 2 5 operation 65535 object 65535",
             Record::task_check(9, 2, 5, 65535, 65535),
         ),
+        ("entries of order 2", Record::entries_of(2)),
     ]
 }
 
@@ -77,7 +78,7 @@ fn every_kind_in_words_and_back() {
     }
     kinds.dedup();
     let all = (1..=16).chain(32..=37).chain(40..=43).chain(48..=52);
-    let all: Vec<u8> = all.chain(56..=57).collect();
+    let all: Vec<u8> = all.chain(56..=58).collect();
     assert_eq!(kinds, all);
 }
 

@@ -108,6 +108,14 @@ impl<L: Ledger> Orders<L> {
             .map_or(0, |permission| policy.permissions.carried_by[permission]);
         refuse(Reply::Denied, carrying & bit(usize::from(by.task)) == 0)
     }
+
+    /// Kind 58: how many entries an open order has, and which of its tasks are done.
+    pub fn figures(&self, instance: u8) -> Result<[u64; 2], Refusal> {
+        let open = self.template[usize::from(instance)].is_some();
+        refuse(Reply::Unknown, !open)?;
+        let (entries, done) = self.ledger.figures(instance);
+        Ok([entries as u64, done])
+    }
 }
 
 /// The six claim rules, in their order.

@@ -164,5 +164,6 @@ const fn forms() -> [Option<Form>; 64] {
     f[52] = Some(request.a(SUBJECT).b(INSTANCE).c(TASK));
     f[56] = Some(request.a(SUBJECT).b(ANY).c(ANY));
     f[57] = Some(request.a(SUBJECT).b(INSTANCE).c(TASK).m(0xffff_ffff));
+    f[58] = Some(request.a(INSTANCE));
     f
 }

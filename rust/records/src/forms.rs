@@ -38,7 +38,7 @@ pub enum Part {
 }
 
 /// The kind that a pattern is for, where the line itself does not say it, and the pattern.
-pub const FORMS: [(u8, &str); 36] = [
+pub const FORMS: [(u8, &str); 37] = [
     (1, "user <a>"),
     (2, "role <a>"),
     (3, "permission <a> is operation <b> on object <c>"),
@@ -76,6 +76,7 @@ pub const FORMS: [(u8, &str); 36] = [
         57,
         "task check <a=subject> <b=order> <c=task> operation <low> object <high>",
     ),
+    (58, "entries of order <a>"),
     (0, RAW),
     (0, "bytes <bytes>"),
 ];

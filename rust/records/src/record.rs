@@ -159,7 +159,7 @@ impl Record {
     }
 }
 
-/// Kinds 32 to 57: requests.
+/// Kinds 32 to 58: requests.
 impl Record {
     /// Adds a user, who has no roles yet.
     pub const fn add_user(user: u16) -> Record {
@@ -263,5 +263,10 @@ impl Record {
     ) -> Record {
         let m = operation as u64 + 65_536 * object as u64;
         record(57, 0, [subject, order, task], m)
+    }
+
+    /// How many entries has the order, and which of its tasks are done? A question, whose figures have a call of their own.
+    pub const fn entries_of(order: u16) -> Record {
+        record(58, 0, [order, 0, 0], 0)
     }
 }
