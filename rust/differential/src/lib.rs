@@ -26,7 +26,7 @@ pub use desks::{checked, plain, proved, Answer, Desk, Difference, Panel};
 #[cfg(mishantral_engine)]
 pub use garbage::garbage;
 #[cfg(mishantral_engine)]
-pub use links::links;
+pub use links::{damages, links, Links};
 pub use slow::Slow;
 
 /// Whether the proved library takes part.

@@ -84,8 +84,8 @@ fn garbage(_seed: u64, _number: u64) -> Result<(), String> {
 }
 
 #[cfg(not(mishantral_engine))]
-fn links(_seed: u64, _number: u64) -> Result<bool, String> {
-    Ok(true)
+fn links(_seed: u64, _number: u64) -> Result<(), String> {
+    Ok(())
 }
 
 fn tell(options: &Options) -> Result<(), String> {
