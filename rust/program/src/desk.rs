@@ -4,7 +4,7 @@ use crate::names::{Names, Sort};
 use crate::reader::{self, Line};
 use crate::source::Policy;
 use crate::told::Told;
-use mishantral::{Answer, Engine, Refused};
+use mishantral::{Answer, Engine, Refused, ANSWER};
 use records::{Record, Reply, Set, LENGTH};
 use std::collections::BTreeMap;
 
@@ -67,6 +67,19 @@ impl Desk {
             reader::give(&mut self.names, &line.namings, false);
         }
         answer
+    }
+
+    /// The figures of a question that is granted.
+    pub fn figures(&self, record: &[u8]) -> Option<[u64; ANSWER]> {
+        let mut answer = [0; ANSWER];
+        let reply = self.engine.question(record, &mut answer);
+        reply.is_granted().then_some(answer)
+    }
+
+    /// The figures in words, `2 entries, done test`.
+    pub fn say_figures(&self, record: &[u8]) -> Option<String> {
+        let task = |task: u16| self.names.shown(Sort::Task, task);
+        notation::figures(record, &self.figures(record)?, task)
     }
 
     /// The answers to these requests one after the other, on a copy; the last of them.

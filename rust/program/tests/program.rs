@@ -113,10 +113,11 @@ fn a_listing_in_words_has_the_replies_of_the_example() {
             run(&["run", "--brief", &name("policy.txt"), &name("requests.txt")]);
         assert_eq!(status, 0);
         let expected = std::fs::read_to_string(root().join(name("expected.txt"))).unwrap();
-        // That listing says the rule of a refused claim on a line of its own, which has no place.
+        // That listing says the rule of a refused claim on a line of its own, which has no place; both have such lines for figures.
         let placed = |line: &&str| !line.starts_with("      ");
         let expected: Vec<&str> = expected.lines().filter(placed).collect();
-        assert_eq!(words.lines().collect::<Vec<&str>>(), expected);
+        let words: Vec<&str> = words.lines().filter(placed).collect();
+        assert_eq!(words, expected);
     }
 }
 
@@ -425,6 +426,54 @@ fn json_is_one_object_a_line() {
     assert_eq!(
         (status, &object["load"], &object["place"], &object["line"]),
         (1, &5.into(), &2.into(), &2.into())
+    );
+}
+
+#[test]
+fn a_granted_question_has_its_figures() {
+    let room = room("figures");
+    let policy = file(
+        &room,
+        "policy.txt",
+        "user 1 anna\nrole 0\nuser anna has role 0\ntask 0 test of template 0\ntask 3 sign of template 0\ntask test open to role 0\n\
+         task sign open to role 0\n",
+    );
+    let requests = file(
+        &room,
+        "requests.txt",
+        "create subject 5 for user anna with roles 0\nopen order 7 of template 0\nclaim 5 7 sign\ndone 5 7 sign\nclaim 5 7 test\n\
+         entries of order 7\nentries of order 8\n",
+    );
+    let (told, _, _) = run(&["run", "--brief", &policy, &requests]);
+    let last: Vec<&str> = told.lines().skip(6).collect();
+    let expected = [
+        "    6   0 GRANTED       entries of order 7",
+        "                          2 entries, done sign",
+        "    7   4 UNKNOWN       entries of order 8",
+    ];
+    assert_eq!(last, expected);
+    let (told, _, _) = run(&["run", "--json", &policy, &requests]);
+    let objects = told.lines().map(serde_json::from_str);
+    let objects: Vec<Value> = objects.map(Result::unwrap).collect();
+    let (figures, refused) = (&objects[6]["figures"], &objects[7]);
+    assert_eq!(
+        (&figures["entries"], &figures["done"]),
+        (&2.into(), &vec![3].into())
+    );
+    assert!(refused.get("figures").is_none());
+    assert_eq!(refused["why"]["because"][0], "order 8 is not open");
+    let (told, _, _) = run(&["run", "--plain", &policy, &requests]);
+    assert!(told.ends_with("6 0 0\n7 4 0\n"), "{told}");
+    let wrong = "policy policy.txt\nopen order 7 of template 0\nentries of order 7  => GRANTED, 1 entry, done sign   # none\n";
+    let test = file(&room, "wrong.test", wrong);
+    let (told, _, status) = run(&["test", &test]);
+    assert!(told.contains("line 3: expected 0 GRANTED, 1 entry, done sign, got 0 GRANTED, 0 entries, done none: entries of order 7"), "{told}");
+    assert_eq!(status, 1);
+    assert_eq!(run(&["test", "--update", &test]).2, 0);
+    let written = std::fs::read_to_string(&test).unwrap();
+    assert!(
+        written.contains("entries of order 7  => 0 GRANTED, 0 entries, done none  # none\n"),
+        "{written}"
     );
 }
 
