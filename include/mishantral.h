@@ -137,6 +137,8 @@ uint64_t mishantral_pile(const uint8_t *records, size_t length,
  * words, where the reply is GRANTED, and words that the question does not use become 0:
  *
  *     MISHANTRAL_ENTRIES_OF    answer[0] the number of the order's entries, held and done ones; answer[1] the set of its tasks that are done
+ *     MISHANTRAL_STUCK_TASKS   answer[0] the set of the template's tasks that can never be claimed because of prerequisites; answer[1] how many
+ *                              the others are; from answer[2] on those, in an order in which they can be claimed, the lowest numbers first
  *
  * The answer is the reply: ROOM where a state buffer or `answer` has not its length; then SHAPE for a record that is no question; then what
  * mishantral_request answers. With a refusal no word is written. The state is read, whatever it holds, and not changed.
@@ -169,8 +171,8 @@ uint64_t mishantral_opl(const uint8_t *policy_text, size_t policy_bytes,
 
 /* The lower part alone, for dealers: policy, roles and sessions, without orders. It is a library of its own,
  * libmishantral_lower.a, with these three functions and two buffers, of MISHANTRAL_POLICY_WORDS and
- * MISHANTRAL_SESSIONS_WORDS words. They answer as those above do; kinds 48 to 52, 57 and 58 are no kinds of
- * the lower part, and are answered with SHAPE. */
+ * MISHANTRAL_SESSIONS_WORDS words. They answer as those above do; kinds 48 to 52, 57, 58 and 60 are no kinds
+ * of the lower part, and are answered with SHAPE. */
 uint64_t mishantral_lower_words(uint64_t group);
 
 uint64_t mishantral_lower_load(const uint8_t *bytes, size_t length,
@@ -247,7 +249,8 @@ enum mishantral_kind {
     MISHANTRAL_DONE = 52,            /* subject a, order b, task c */
     MISHANTRAL_CHECK = 56,           /* subject a, operation b, object c */
     MISHANTRAL_TASK_CHECK = 57,      /* subject a, order b, task c, m = operation + 65,536 x object */
-    MISHANTRAL_ENTRIES_OF = 58       /* order a: how many entries, which tasks done; see mishantral_question */
+    MISHANTRAL_ENTRIES_OF = 58,      /* order a: how many entries, which tasks done; see mishantral_question */
+    MISHANTRAL_STUCK_TASKS = 60      /* template a: which tasks can never be claimed because of prerequisites; likewise */
 };
 
 /* The reply of an answer. */

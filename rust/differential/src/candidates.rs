@@ -122,7 +122,10 @@ impl Pools {
 
     /// A request that asks for figures.
     pub fn question(&self, random: &mut Random) -> Record {
-        Record::entries_of(random.pick(&self.orders))
+        match random.below(2) {
+            0 => Record::entries_of(random.pick(&self.orders)),
+            _ => Record::stuck_tasks(random.pick(&self.templates)),
+        }
     }
 
     pub fn request(&self, random: &mut Random) -> Record {

@@ -46,7 +46,12 @@ fn take(panel: &mut Panel, steps: &[Step], coverage: &mut Coverage) -> Result<()
         let answer = match step {
             Step::Load(policy) => panel.load(policy),
             Step::Request(record) => panel.request(record),
-            Step::Question(question) => panel.question(question).map(|(reply, _)| (reply, 0)),
+            Step::Question(question) => panel.question(question).map(|(reply, answer)| {
+                if reply == Reply::Granted.number() {
+                    coverage.add_figures(question.record[0], &answer);
+                }
+                (reply, 0)
+            }),
             Step::Pile(pile) => panel.pile(pile).map(|(reply, buffer)| {
                 let taken = reply == Reply::Granted.number();
                 let answered = buffer.iter().skip(pile.at).filter(|_| taken);

@@ -2,7 +2,7 @@
 //! places that a refused claim had.
 
 use records::Reply::{self, *};
-use std::collections::BTreeMap;
+use std::collections::{BTreeMap, BTreeSet};
 
 /// How often each pair came up, and each reply with each place.
 #[derive(Clone, Default)]
@@ -12,10 +12,32 @@ pub struct Coverage {
     piles: BTreeMap<u8, u64>,
     /// Questions by their kind, and those of no kind and of kinds that are none.
     questions: BTreeMap<(Option<u8>, u8), u64>,
+    /// What figures were like.
+    figures: BTreeSet<&'static str>,
 }
 
+/// What figures are like where they tell most, and how that is seen in the words of the answer to a kind.
+type Telling = (&'static str, u8, fn(&[u64]) -> bool);
+
+const TELLING: [Telling; 4] = [
+    ("entries, some done and some not", 58, |words| {
+        words[0] > u64::from(words[1].count_ones()) && words[1] != 0
+    }),
+    ("stuck tasks and free ones", 60, |words| {
+        words[0] != 0 && words[1] > 1
+    }),
+    (
+        "free tasks alone, not in the order of their numbers",
+        60,
+        |words| words[0] == 0 && !words[2..2 + words[1] as usize].is_sorted(),
+    ),
+    ("stuck tasks alone", 60, |words| {
+        words[0] != 0 && words[1] == 0
+    }),
+];
+
 /// The kinds that are questions.
-const QUESTIONS: [u8; 1] = [58];
+const QUESTIONS: [u8; 2] = [58, 60];
 
 /// The replies that say the place of a rule, and the largest place that there can be.
 const PLACED: [(Reply, usize); 4] = [(Before, 64), (Separation, 32), (Block, 64), (Bound, 64)];
@@ -30,7 +52,7 @@ pub fn possible(kind: u8) -> Option<Vec<Reply>> {
         10..=12 | 15 | 16 => &[Unknown, Taken, Rule, Full],
         14 => &[Unknown, Taken, Rule],
         33 | 35 | 41 | 49 => &[Unknown, InUse],
-        37 | 43 | 58 => &[Unknown],
+        37 | 43 | 58 | 60 => &[Unknown],
         40 | 42 => &[Unknown, Taken, NotAssigned, Dynamic],
         50 => &[
             Unknown, Taken, NoRole, Before, Separation, Block, Alone, Bound, Count, Full,
@@ -68,6 +90,18 @@ impl Coverage {
     pub fn add_question(&mut self, kind: Option<u8>, reply: u8) {
         let kind = kind.filter(|kind| QUESTIONS.contains(kind));
         *self.questions.entry((kind, reply)).or_default() += 1;
+    }
+
+    /// Counts the answer to a granted question.
+    pub fn add_figures(&mut self, kind: u8, words: &[u64]) {
+        let like = TELLING.iter().filter(|t| t.1 == kind && t.2(words));
+        self.figures.extend(like.map(|(name, _, _)| name));
+    }
+
+    /// What figures are like that were not seen.
+    pub fn missing_figures(&self) -> Vec<&'static str> {
+        let all = TELLING.iter().map(|(name, _, _)| *name);
+        all.filter(|name| !self.figures.contains(name)).collect()
     }
 
     /// What a question can be answered: ROOM for the answer's length, then as the request; SHAPE, then, where it is no question.
@@ -123,6 +157,7 @@ impl Coverage {
         for (question, count) in &other.questions {
             *self.questions.entry(*question).or_default() += count;
         }
+        self.figures.extend(&other.figures);
     }
 
     /// How often a reply came with a place from `least` on.

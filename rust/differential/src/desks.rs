@@ -213,7 +213,7 @@ impl Desk for Lowered {
 
     fn request(&mut self, record: &[u8]) -> Answer {
         match record.first() {
-            Some(48..=52 | 57 | 58) => (Reply::Shape.number(), 0),
+            Some(48..=52 | 57 | 58 | 60) => (Reply::Shape.number(), 0),
             _ => self.0.request(record),
         }
     }

@@ -80,7 +80,7 @@ pub fn garbage(seed: u64, number: u64) -> Result<(), String> {
             about_a_rule == (place != 0) && place <= 64,
             "{reply} with place {place}"
         );
-        let only_asks = matches!(kind, Some(56..=58));
+        let only_asks = matches!(kind, Some(56..=58 | 60));
         if reply != 0 || only_asks {
             assert_eq!(engine, before, "a refusal changed the state");
         }

@@ -109,6 +109,7 @@ fn tell(options: &Options) -> Result<(), String> {
         println!("places not seen: {:?}", coverage.missing_places());
         println!("piles not seen: {:?}", coverage.missing_piles());
         println!("questions not seen: {:?}", coverage.missing_questions());
+        println!("figures not seen: {:?}", coverage.missing_figures());
     }
     println!("{} cases of seed {} agree", options.cases, options.seed);
     Ok(())

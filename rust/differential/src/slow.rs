@@ -93,7 +93,7 @@ fn form(kind: u8) -> Option<Form> {
         7 | 15 | 16 => ([Some(63), Some(63), None], false, false),
         9..=11 => ([None, None, None], true, true),
         12 => ([Some(15), None, None], false, true),
-        13 => ([Some(15), None, None], false, false),
+        13 | 60 => ([Some(15), None, None], false, false),
         14 => ([Some(63), None, None], true, false),
         40 => ([Some(127), Some(1023), None], false, true),
         41 => ([Some(127), None, None], false, false),
@@ -152,7 +152,7 @@ impl Slow {
 
     /// Answers a question: its reply, and the answer afterwards.
     pub fn question(&self, bytes: &[u8], answer: &[u64]) -> (Reply, Vec<u64>) {
-        let no_question = bytes.first() != Some(&58);
+        let no_question = !matches!(bytes.first(), Some(58 | 60));
         let judged = first(&[(Room, answer.len() != 66), (Shape, no_question)]);
         let asked = match judged {
             Granted => well_formed(bytes, false),
@@ -172,15 +172,57 @@ impl Slow {
     }
 
     fn judge_question(&self, r: Record) -> Reply {
-        first(&[(Unknown, !self.instances.contains_key(&r.a()))])
+        let unknown = match r.kind() {
+            58 => !self.instances.contains_key(&r.a()),
+            _ => self.tasks_of(r.a()).is_empty(),
+        };
+        first(&[(Unknown, unknown)])
     }
 
     /// The words of a question that is granted, but for zeros behind them.
     fn figures(&self, r: Record) -> Vec<u64> {
+        if r.kind() == 60 {
+            return self.stuck_and_free(r.a());
+        }
         let entries = self.entries.iter().filter(|e| e.instance == r.a());
         let done = entries.clone().filter(|e| e.holder.is_none());
         let done: Set = done.map(|e| e.task as u8).collect();
         vec![entries.count() as u64, done.0]
+    }
+
+    /// The tasks that must be done before one.
+    fn required(&self, task: u16) -> Numbers {
+        let before = self.prerequisites.iter().filter(|(_, b)| *b == task);
+        before.map(|(a, _)| *a).collect()
+    }
+
+    /// The tasks of a template that some list ends in which has the prerequisites of each of its members earlier: those without
+    /// prerequisites, those all of whose prerequisites are such, and so on.
+    fn free(&self, template: u16) -> Numbers {
+        let tasks = self.tasks_of(template);
+        let mut free = Numbers::new();
+        for _ in 0..tasks.len() {
+            let more = tasks.iter().filter(|t| self.required(**t).is_subset(&free));
+            free = more.copied().collect();
+        }
+        free
+    }
+
+    fn stuck_and_free(&self, template: u16) -> Vec<u64> {
+        let (tasks, free) = (self.tasks_of(template), self.free(template));
+        let stuck: Set = tasks.difference(&free).map(|t| *t as u8).collect();
+        let mut list: Vec<u16> = Vec::new();
+        while list.len() < free.len() {
+            let earlier: Numbers = list.iter().copied().collect();
+            let may = |t: &&u16| !earlier.contains(*t) && self.required(**t).is_subset(&earlier);
+            let lowest = free.iter().find(may);
+            list.push(*lowest.expect("a free task can stand in the list"));
+        }
+        let list = list.iter().map(|t| u64::from(*t));
+        [stuck.0, free.len() as u64]
+            .into_iter()
+            .chain(list)
+            .collect()
     }
 
     /// The engine with other open orders, each with its template, and other entries.
@@ -414,7 +456,7 @@ impl Slow {
             40..=43 | 56 => (self.judge_sessions(r), 0),
             48 | 49 => (self.judge_orders(r), 0),
             50 => self.judge_claim(r),
-            58 => (self.judge_question(r), 0),
+            58 | 60 => (self.judge_question(r), 0),
             _ => (self.judge_holder(r), 0),
         };
         if reply == Granted {

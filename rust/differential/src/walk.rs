@@ -108,6 +108,7 @@ fn orders(panel: &Panel, pools: &Pools) -> Walked {
     };
     let template = pools.templates[0];
     ask_figures(panel, (0..65).map(Record::entries_of))?;
+    ask_figures(panel, (0..17).map(Record::stuck_tasks))?;
     ask(
         panel,
         (0..64).map(|order| Record::open_order(order, template)),

@@ -19,6 +19,7 @@ fn all_engines_agree_and_every_reply_comes_up() {
     assert_eq!(coverage.missing_places(), [], "\n{}", coverage.table());
     assert_eq!(coverage.missing_piles(), [], "\n{}", coverage.table());
     assert_eq!(coverage.missing_questions(), [], "\n{}", coverage.table());
+    assert_eq!(coverage.missing_figures(), [""; 0]);
     assert_eq!(
         coverage.surprising_questions(),
         [],

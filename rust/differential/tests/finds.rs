@@ -319,11 +319,11 @@ fn entries(engine: &Engine<OrderLists>, record: &[u8]) -> Vec<plain::Entry> {
 
 #[test]
 fn a_question_that_is_answered_wrongly_is_found() {
-    let wrong: [Asked; 7] = [
+    let wrong: [Asked; 10] = [
         // Held entries alone are counted.
         |engine, record, answer| {
             let reply = engine.question(record, answer);
-            if reply == Reply::Granted {
+            if reply == Reply::Granted && record[0] == 58 {
                 let held = entries(engine, record).into_iter();
                 answer[0] = held.filter(|e| e.holder.is_some()).count() as u64;
             }
@@ -332,7 +332,7 @@ fn a_question_that_is_answered_wrongly_is_found() {
         // A held task is told as done.
         |engine, record, answer| {
             let reply = engine.question(record, answer);
-            if reply == Reply::Granted {
+            if reply == Reply::Granted && record[0] == 58 {
                 let tasks = entries(engine, record).into_iter();
                 answer[1] = tasks.fold(0, |all, e| all | 1 << e.task);
             }
@@ -344,6 +344,32 @@ fn a_question_that_is_answered_wrongly_is_found() {
             let reply = engine.question(record, answer);
             if reply == Reply::Granted {
                 answer[65] = before[65];
+            }
+            reply
+        },
+        // Free tasks in the order of their numbers.
+        |engine, record, answer| {
+            let reply = engine.question(record, answer);
+            if reply == Reply::Granted && record[0] == 60 {
+                let free = answer[1] as usize;
+                answer[2..2 + free].sort();
+            }
+            reply
+        },
+        // A set of the free ones in the place of the stuck ones.
+        |engine, record, answer| {
+            let reply = engine.question(record, answer);
+            if reply == Reply::Granted && record[0] == 60 {
+                let free = &answer[2..2 + answer[1] as usize];
+                answer[0] = free.iter().fold(0, |all, task| all | 1 << task);
+            }
+            reply
+        },
+        // No free tasks are listed where some are stuck.
+        |engine, record, answer| {
+            let reply = engine.question(record, answer);
+            if reply == Reply::Granted && record[0] == 60 && answer[0] != 0 {
+                answer[1..].fill(0);
             }
             reply
         },

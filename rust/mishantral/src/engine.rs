@@ -7,7 +7,8 @@ use crate::lent::{answered, bytes, loaded, reply_of, shown, zeroed};
 use crate::{Answer, Record, Refused, Reply, Set};
 use alloc::boxed::Box;
 #[cfg(mishantral_pile)]
-use alloc::{vec, vec::Vec};
+use alloc::vec;
+use alloc::vec::Vec;
 use core::fmt;
 
 type Call = unsafe extern "C" fn(
@@ -229,6 +230,16 @@ pub struct Figures {
     pub done: Set,
 }
 
+/// Which tasks of a template can be claimed by their prerequisites, and which never.
+#[derive(Clone, PartialEq, Eq, Hash, Debug)]
+pub struct StuckTasks {
+    /// The tasks that can never be claimed because of prerequisites: those that wait for each other, and those that wait for these.
+    pub stuck: Set,
+    /// The others, in an order in which they can be claimed: each behind its prerequisites, and at each place the lowest number that may
+    /// stand there.
+    pub free: Vec<u8>,
+}
+
 /// A policy, its sessions and its orders.
 ///
 /// ```
@@ -368,8 +379,35 @@ impl Engine {
         })
     }
 
+    /// Which tasks of a template can never be claimed because of prerequisites, and in which order the others can: kind 60 with its figures.
+    /// UNKNOWN where the template has no task, RANGE where its number is above 15.
+    ///
+    /// ```
+    /// use mishantral::{Engine, Record, Reply, Set};
+    ///
+    /// let mut engine = Engine::new();
+    /// let tasks = (1..=6).map(|task| Record::task(task, 0));
+    /// let rules = [(4, 5), (5, 6), (6, 4), (3, 1)];
+    /// let rules = rules.map(|(first, second)| Record::before(first, second));
+    /// engine.load_records(&tasks.chain(rules).collect::<Vec<Record>>())?;
+    /// let answer = engine.stuck_tasks(0).unwrap();
+    /// assert_eq!(answer.stuck, Set::of(&[4, 5, 6]));
+    /// assert_eq!(answer.free, [2, 3, 1]);
+    /// assert_eq!(engine.stuck_tasks(1), Err(Reply::Unknown));
+    /// # Ok::<(), mishantral::Refused>(())
+    /// ```
+    pub fn stuck_tasks(&self, template: u16) -> Result<StuckTasks, Reply> {
+        let [stuck, free, list @ ..] = self.answered(Record::stuck_tasks(template))?;
+        let free = list.iter().take(free as usize);
+        Ok(StuckTasks {
+            stuck: Set(stuck),
+            free: free.map(|task| *task as u8).collect(),
+        })
+    }
+
     /// Puts any question to the engine, whose figures are written to the words of `answer`, [`ANSWER`] of them, where the reply is
-    /// [`Reply::Granted`]; words that the question does not use become 0. For kind 58 they are the number of entries and the set of done tasks.
+    /// [`Reply::Granted`]; words that the question does not use become 0. For kind 58 they are the number of entries and the set of done tasks;
+    /// for kind 60 the set of stuck tasks, how many are free, and those in their order.
     ///
     /// It is ROOM where the answer has not its length, then SHAPE for a record that is no question, then what [`request`](Engine::request)
     /// answers; and then nothing is written.

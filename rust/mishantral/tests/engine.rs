@@ -137,7 +137,11 @@ fn a_question_with_a_buffer_of_another_length_is_room_and_nothing_is_written() {
             None => answer.push(7),
         }
         let (before, words) = (state.clone(), answer.len());
-        for record in [Record::entries_of(0), Record::end_order(0)] {
+        for record in [
+            Record::entries_of(0),
+            Record::stuck_tasks(16),
+            Record::end_order(0),
+        ] {
             assert_eq!(state.question(&record, &mut answer), Reply::Room);
         }
         assert_eq!((state, answer), (before, vec![7; words]));

@@ -77,6 +77,7 @@ fn kinds_have_one_number() {
         ("CHECK", Record::check(0, 0, 0)),
         ("TASK_CHECK", Record::task_check(0, 0, 0, 0, 0)),
         ("ENTRIES_OF", Record::entries_of(0)),
+        ("STUCK_TASKS", Record::stuck_tasks(0)),
     ];
     let constants = constants();
     for (name, record) in kinds {

@@ -1,6 +1,7 @@
 //! The figures of questions in words, and those of a listing: its requests are made once more on an engine that answers with figures, the
 //! proved library where it is linked, else the plain engine.
 
+use crate::names::Names;
 use records::{Record, Reply, Set, LENGTH};
 
 #[cfg(mishantral_engine)]
@@ -11,29 +12,28 @@ type Engine = plain::Engine;
 /// How many words a question's answer has.
 pub const ANSWER: usize = 66;
 
-/// The words of a question's answer as people read them, `2 entries, done 0 3`, with what a task is called; none for a record that is no
-/// question.
+/// The words of a question's answer as people read them, `2 entries, done 0 3` or `stuck 4 5, free 2 0`, with what a task is called; none
+/// for a record that is no question.
 pub fn figures(
     record: &[u8],
     answer: &[u64; ANSWER],
     task: impl Fn(u16) -> String,
 ) -> Option<String> {
-    let tasks = |set: Set| {
-        let all: Vec<String> = set.members().map(|t| task(t.into())).collect();
-        if all.is_empty() {
-            "none".to_string()
-        } else {
-            all.join(" ")
-        }
+    let named = |numbers: &[u16]| match numbers {
+        [] => "none".to_string(),
+        all => all.iter().map(|t| task(*t)).collect::<Vec<_>>().join(" "),
     };
+    let tasks = |set: u64| named(&Set(set).members().map(u16::from).collect::<Vec<_>>());
     match record.first()? {
         58 => {
             let entries = if answer[0] == 1 { "entry" } else { "entries" };
-            Some(format!(
-                "{} {entries}, done {}",
-                answer[0],
-                tasks(Set(answer[1]))
-            ))
+            let (number, done) = (answer[0], tasks(answer[1]));
+            Some(format!("{number} {entries}, done {done}"))
+        }
+        60 => {
+            let free = answer[2..].iter().take(answer[1] as usize);
+            let free: Vec<u16> = free.map(|task| *task as u16).collect();
+            Some(format!("stuck {}, free {}", tasks(answer[0]), named(&free)))
         }
         _ => None,
     }
@@ -42,7 +42,7 @@ pub fn figures(
 /// Whether some of the records are questions.
 fn has_questions(records: &[u8]) -> bool {
     let asks = |record: &[u8]| {
-        <[u8; LENGTH]>::try_from(record).is_ok_and(|bytes| matches!(Record(bytes).kind(), 58))
+        <[u8; LENGTH]>::try_from(record).is_ok_and(|bytes| matches!(Record(bytes).kind(), 58 | 60))
     };
     records.chunks(LENGTH).any(asks)
 }
@@ -69,6 +69,28 @@ impl Again {
         let reply = self.0.question(record, &mut answer);
         (reply.number() == 0).then_some(answer)
     }
+}
+
+/// The templates of a policy whose prerequisites leave tasks waiting for ever, a line each; none where the policy is refused.
+pub fn stuck_named(policy: &[u8], names: &Names) -> Vec<String> {
+    let mut again = Again(Engine::new());
+    if !load(&mut again.0, policy) {
+        return Vec::new();
+    }
+    let told = |template: u16| {
+        let question = Record::stuck_tasks(template).0;
+        let answer = again.question(&question).filter(|answer| answer[0] != 0)?;
+        let name = |sort, number: u16| {
+            let name = names.quoted(sort, number.into());
+            name.unwrap_or_else(|| number.to_string())
+        };
+        let figures = figures(&question, &answer, |task| name("task", task))?;
+        let template = name("template", template);
+        Some(format!(
+            "template {template}: prerequisites leave tasks waiting for ever: {figures}"
+        ))
+    };
+    (0..=15).filter_map(told).collect()
 }
 
 #[cfg(mishantral_engine)]

@@ -28,7 +28,7 @@ mod read;
 mod write;
 
 pub use explain::{explain, explain_named, refused, refused_named};
-pub use figures::{figures, ANSWER};
+pub use figures::{figures, stuck_named, ANSWER};
 pub use names::{quoted, Names};
 pub use read::{read, read_lines, read_named, Error};
 use records::forms::{parts, FORMS};

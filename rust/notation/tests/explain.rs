@@ -177,3 +177,30 @@ load 0 GRANTED
     assert_eq!(told.count(), 1);
     assert!(!explain(None, &requests, listing).unwrap().contains("none"));
 }
+
+#[test]
+fn stuck_tasks_are_told_in_the_order_of_the_free_ones() {
+    let policy = records(
+        "task 1 of template 2\ntask 2 of template 2\ntask 3 of template 2\ntask 4 of template 2\ntask 3 before task 4\n\
+         task 4 before task 3\ntask 2 before task 1",
+    );
+    let requests = records("stuck tasks of template 2\nstuck tasks of template 3");
+    let shown = explain(Some(&policy), &requests, "load 0 0\n1 0 0\n2 4 0\n").unwrap();
+    let text = "\
+load 0 GRANTED
+    1   0 GRANTED       stuck tasks of template 2
+       stuck 3 4, free 2 1
+    2   4 UNKNOWN       stuck tasks of template 3
+";
+    assert_eq!(shown, text);
+    let mut names = notation::Names::default();
+    names.give("task", 3, b"task:sign");
+    let told = [
+        "template 2: prerequisites leave tasks waiting for ever: stuck \"task:sign\" 4, free 2 1",
+    ];
+    assert_eq!(notation::stuck_named(&policy, &names), told);
+    let finite = records("task 1 of template 2\ntask 2 of template 2\ntask 2 before task 1");
+    assert_eq!(notation::stuck_named(&finite, &names), [""; 0]);
+    let refused = records("task 1 of template 2\ntask 1 of template 2");
+    assert_eq!(notation::stuck_named(&refused, &names), [""; 0]);
+}

@@ -65,6 +65,7 @@ fn every_kind() -> Vec<(&'static str, Record)> {
             Record::task_check(9, 2, 5, 65535, 65535),
         ),
         ("entries of order 2", Record::entries_of(2)),
+        ("stuck tasks of template 3", Record::stuck_tasks(3)),
     ]
 }
 
@@ -78,7 +79,7 @@ fn every_kind_in_words_and_back() {
     }
     kinds.dedup();
     let all = (1..=16).chain(32..=37).chain(40..=43).chain(48..=52);
-    let all: Vec<u8> = all.chain(56..=58).collect();
+    let all: Vec<u8> = all.chain(56..=58).chain([60]).collect();
     assert_eq!(kinds, all);
 }
 

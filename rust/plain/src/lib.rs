@@ -132,7 +132,8 @@ impl<L: Ledger> Engine<L> {
     }
 
     /// Answers a question with its figures, which are written to `answer` where the reply is 0: for kind 58 the number of the order's
-    /// entries and the set of its tasks that are done; the other words become 0. ROOM where the answer has not its length, then SHAPE for a
+    /// entries and the set of its tasks that are done; for kind 60 the set of the template's stuck tasks, how many are free, and those in
+    /// their order. The other words become 0. ROOM where the answer has not its length, then SHAPE for a
     /// kind that is no question, then what a request of it is answered.
     ///
     /// ```
@@ -151,14 +152,17 @@ impl<L: Ledger> Engine<L> {
         if answer.len() != ANSWER {
             return Reply::Room;
         }
-        if !matches!(record.first(), Some(58)) {
+        if !matches!(record.first(), Some(58 | 60)) {
             return Reply::Shape;
         }
-        let figures = decode(record, Call::Request).and_then(|r| self.orders.figures(r.a as u8));
+        let figures = decode(record, Call::Request).and_then(|r| match r.kind {
+            58 => self.orders.figures(r.a as u8),
+            _ => self.policy.stuck(usize::from(r.a)),
+        });
         match figures {
             Ok(figures) => {
                 answer.fill(0);
-                answer[..2].copy_from_slice(&figures);
+                answer[..figures.len()].copy_from_slice(&figures);
                 Reply::Granted
             }
             Err(refusal) => refusal.reply,
@@ -191,7 +195,8 @@ impl<L: Ledger> Engine<L> {
             52 => orders.finish(policy, sessions, r),
             56 => sessions.check(policy, a, r.b, r.c),
             57 => orders.task_check(policy, sessions, r),
-            _ => orders.figures(r.a as u8).map(|_| ()),
+            58 => orders.figures(r.a as u8).map(|_| ()),
+            _ => policy.stuck(a).map(|_| ()),
         }
     }
 

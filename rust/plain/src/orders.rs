@@ -110,11 +110,11 @@ impl<L: Ledger> Orders<L> {
     }
 
     /// Kind 58: how many entries an open order has, and which of its tasks are done.
-    pub fn figures(&self, instance: u8) -> Result<[u64; 2], Refusal> {
+    pub fn figures(&self, instance: u8) -> Result<Vec<u64>, Refusal> {
         let open = self.template[usize::from(instance)].is_some();
         refuse(Reply::Unknown, !open)?;
         let (entries, done) = self.ledger.figures(instance);
-        Ok([entries as u64, done])
+        Ok(vec![entries as u64, done])
     }
 }
 

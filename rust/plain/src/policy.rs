@@ -3,7 +3,7 @@
 
 use crate::permissions::Permissions;
 use crate::record::Record;
-use crate::reply::{refuse, Outcome, Reply};
+use crate::reply::{refuse, Outcome, Refusal, Reply};
 
 /// The one-member set of role or task `i`.
 pub(crate) const fn bit(i: usize) -> u64 {
@@ -358,6 +358,19 @@ impl Policy {
         self.of_task[b].bound_with |= bit(a);
         self.bindings.push((a, b));
         Ok(())
+    }
+
+    /// Kind 60: the tasks of the template that can never be claimed because of prerequisites, how many can be, and those in an order in
+    /// which they can, at each place the lowest number that may stand there.
+    pub fn stuck(&self, template: usize) -> Result<Vec<u64>, Refusal> {
+        let tasks = self.tasks_of[template];
+        refuse(Reply::Unknown, tasks == 0)?;
+        let (mut left, mut free) = (tasks, Vec::new());
+        while let Some(next) = members(left).find(|&t| self.of_task[t].needs & left == 0) {
+            left &= !bit(next);
+            free.push(next as u64);
+        }
+        Ok([vec![left, free.len() as u64], free].concat())
     }
 
     fn before(&mut self, a: usize, b: usize) -> Outcome {

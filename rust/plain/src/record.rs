@@ -165,5 +165,6 @@ const fn forms() -> [Option<Form>; 64] {
     f[56] = Some(request.a(SUBJECT).b(ANY).c(ANY));
     f[57] = Some(request.a(SUBJECT).b(INSTANCE).c(TASK).m(0xffff_ffff));
     f[58] = Some(request.a(INSTANCE));
+    f[60] = Some(request.a(TEMPLATE));
     f
 }

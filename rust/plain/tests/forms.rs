@@ -20,7 +20,7 @@ const fn form(kind: u8, n: bool, abc: &'static [u16], m: bool) -> Form {
 }
 
 #[rustfmt::skip]
-const FORMS: [Form; 34] = [
+const FORMS: [Form; 35] = [
     form(1, false, &[1023], false), form(2, false, &[63], false), form(3, false, &[255, ANY, ANY], false),
     form(4, false, &[1023, 63], false), form(5, false, &[63, 255], false), form(6, false, &[63, 15], false),
     form(7, false, &[63, 63], false), form(8, false, &[63, 255], false), form(9, true, &[], true),
@@ -34,6 +34,7 @@ const FORMS: [Form; 34] = [
     form(50, false, &[127, 63, 63], false), form(51, false, &[127, 63, 63], false),
     form(52, false, &[127, 63, 63], false), form(56, false, &[127, ANY, ANY], false),
     form(57, false, &[127, 63, 63], true), form(58, false, &[63], false),
+    form(60, false, &[15], false),
 ];
 
 impl Form {

@@ -38,7 +38,7 @@ pub enum Part {
 }
 
 /// The kind that a pattern is for, where the line itself does not say it, and the pattern.
-pub const FORMS: [(u8, &str); 37] = [
+pub const FORMS: [(u8, &str); 38] = [
     (1, "user <a>"),
     (2, "role <a>"),
     (3, "permission <a> is operation <b> on object <c>"),
@@ -77,6 +77,7 @@ pub const FORMS: [(u8, &str); 37] = [
         "task check <a=subject> <b=order> <c=task> operation <low> object <high>",
     ),
     (58, "entries of order <a>"),
+    (60, "stuck tasks of template <a>"),
     (0, RAW),
     (0, "bytes <bytes>"),
 ];

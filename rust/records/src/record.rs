@@ -159,7 +159,7 @@ impl Record {
     }
 }
 
-/// Kinds 32 to 58: requests.
+/// Kinds 32 to 60: requests.
 impl Record {
     /// Adds a user, who has no roles yet.
     pub const fn add_user(user: u16) -> Record {
@@ -268,5 +268,10 @@ impl Record {
     /// How many entries has the order, and which of its tasks are done? A question, whose figures have a call of their own.
     pub const fn entries_of(order: u16) -> Record {
         record(58, 0, [order, 0, 0], 0)
+    }
+
+    /// Which tasks of the template can never be claimed because of prerequisites? A question, whose figures have a call of their own.
+    pub const fn stuck_tasks(template: u16) -> Record {
+        record(60, 0, [template, 0, 0], 0)
     }
 }

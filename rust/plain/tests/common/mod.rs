@@ -126,6 +126,10 @@ pub fn entries_of(instance: u16) -> Bytes {
     ab(58, instance, 0)
 }
 
+pub fn stuck_tasks(template: u16) -> Bytes {
+    ab(60, template, 0)
+}
+
 /// An engine of each ledger, which must always agree.
 pub struct Both {
     flat: Engine<FlatLedger>,
@@ -163,7 +167,7 @@ impl Both {
         assert_eq!((reply, place), other, "the two differ on {record:?}");
         let about_a_rule = matches!(reply.number(), 14..=16 | 18);
         assert_eq!(place != 0, about_a_rule, "place {place} with {reply:?}");
-        if reply != Reply::Granted || matches!(record.first(), Some(56..=58)) {
+        if reply != Reply::Granted || matches!(record.first(), Some(56..=58 | 60)) {
             assert!(before == (self.flat.clone(), self.lists.clone()));
         }
         let mut entries = [self.flat.entries(), self.lists.entries()];
