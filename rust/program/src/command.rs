@@ -92,7 +92,7 @@ fn test() -> Command {
         .long_about(
             "Runs test files. A file has a policy, as lines of its own or by `policy FILE` (for OPL/XML `policy FILE tasks FILE`; file names \
              are taken from the test file's folder), then requests, each with the reply expected of it behind `=>`: by number, by name or both, \
-             and `, rule N` where the rule's place matters; behind that of a question its figures, as `, 2 entries, done 0 3`. A request without one is expected to be granted. `load => REPLY, record N` says \
+             and `, rule N` where the rule's place matters; behind that of a question its figures, as `, 2 entries, done 0 3` or `, stuck none, free 0 3`. A request without one is expected to be granted. `load => REPLY, record N` says \
              what the load is expected to answer. A policy behind requests begins anew.",
         )
         .arg(

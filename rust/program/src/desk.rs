@@ -82,6 +82,13 @@ impl Desk {
         notation::figures(record, &self.figures(record)?, task)
     }
 
+    /// The tasks of a template that can never be claimed because of prerequisites.
+    pub fn stuck(&self, template: u16) -> impl Iterator<Item = u16> {
+        let answer = self.engine.stuck_tasks(template);
+        let stuck = answer.map_or(Set::EMPTY, |answer| answer.stuck);
+        stuck.members().map(u16::from)
+    }
+
     /// The answers to these requests one after the other, on a copy; the last of them.
     pub fn tried(&self, records: &[Record]) -> Answer {
         let mut copy = self.engine.clone();

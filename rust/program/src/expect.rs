@@ -138,10 +138,10 @@ impl Behind<'_> {
         Some(number)
     }
 
-    /// Whether the figures of a question follow: `2 entries, done test`.
+    /// Whether the figures of a question follow: `2 entries, done test`, or `stuck none, free test sign`.
     fn begins_figures(&self) -> bool {
         let rest: Vec<&str> = self.tokens[self.at..].iter().map(|t| t.text).collect();
-        matches!(rest[..], [_, "entry" | "entries", ..])
+        matches!(rest[..], [_, "entry" | "entries", ..] | ["stuck", ..])
     }
 
     /// A reply by its name, in letters of either case.

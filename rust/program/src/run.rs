@@ -177,7 +177,10 @@ fn object(desk: &Desk, place: u64, record: &[u8], answer: Answer) -> Value {
 fn figures(desk: &Desk, record: &[u8]) -> Option<Value> {
     let answer = desk.figures(record)?;
     let tasks = |set: u64| Set(set).members().collect::<Vec<u8>>();
-    Some(json!({"entries": answer[0], "done": tasks(answer[1])}))
+    Some(match record.first()? {
+        58 => json!({"entries": answer[0], "done": tasks(answer[1])}),
+        _ => json!({"stuck": tasks(answer[0]), "free": answer[2..][..answer[1] as usize]}),
+    })
 }
 
 fn explained(desk: &Desk, why: &Why) -> Value {

@@ -1,7 +1,7 @@
 //! What planning would want to know of an accepted policy: tasks that nobody opens, roles that nobody has, tasks that wait for each
 //! other, and rules that the clerks there are cannot satisfy.
 //!
-//! Whether tasks can be done is tried out: on an engine that is lent the policy, or a part of it, clerks claim and finish one task after
+//! Which tasks wait for ever is the engine's own answer (kind 60). Whether the others can be done is tried out: on an engine that is lent the policy, or a part of it, clerks claim and finish one task after
 //! the other until all are done or every choice is used up. Where that takes too many tries, nothing is said.
 
 use crate::desk::{joined, Desk};
@@ -82,7 +82,7 @@ impl Found<'_> {
 
     fn circles(&mut self) {
         for template in templates(self.desk) {
-            let waiting = waiting(self.desk, template);
+            let waiting: Vec<u16> = self.desk.stuck(template).collect();
             if let Some(&first) = waiting.first() {
                 let tasks = self.desk.say_all(Sort::Task, waiting.iter().copied());
                 let template = self.desk.say(Sort::Template, template);
@@ -166,42 +166,6 @@ fn clerks(desk: &Desk, task: u16) -> Vec<u16> {
         .iter()
         .filter(|(_, roles)| roles.0 & open.0 != 0);
     may.map(|(&user, _)| user).collect()
-}
-
-/// The tasks of a template that are never claimed for their prerequisites, by an engine in which one clerk may take every task and no
-/// other rule holds.
-fn waiting(desk: &Desk, template: u16) -> Vec<u16> {
-    let tasks: Vec<u16> = desk.told.tasks_of(template).collect();
-    let mut policy = vec![
-        Record::user(0),
-        Record::role(0),
-        Record::user_has_role(0, 0),
-    ];
-    policy.extend(tasks.iter().map(|&task| Record::task(task, template)));
-    policy.extend(tasks.iter().map(|&task| Record::task_open_to(task, 0)));
-    let prerequisites = desk.told.rules_of(16).map(|(_, rule)| rule);
-    policy.extend(prerequisites.filter(|rule| tasks.contains(&rule.b())));
-    let mut engine = Engine::new();
-    let start = [
-        Record::create_subject(0, 0, Set::of(&[0])),
-        Record::open_order(0, template),
-    ];
-    if engine.load_records(&policy).is_err() || !all_granted(&mut engine, &start) {
-        return Vec::new();
-    }
-    let mut left = tasks;
-    loop {
-        let before = left.len();
-        left.retain(|&task| {
-            !all_granted(
-                &mut engine,
-                &[Record::claim(0, 0, task), Record::done(0, 0, task)],
-            )
-        });
-        if left.len() == before {
-            return left;
-        }
-    }
 }
 
 fn all_granted(engine: &mut Engine, records: &[Record]) -> bool {

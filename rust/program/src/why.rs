@@ -201,7 +201,7 @@ fn not_there(desk: &Desk, record: Record) -> Option<String> {
             let role = desk.say(Sort::Role, b);
             format!("{role} is not active in {}", desk.say_subject(a))
         }
-        13 => format!("{} has no task", desk.say(Sort::Template, a)),
+        13 | 60 => format!("{} has no task", desk.say(Sort::Template, a)),
         48 => format!("{} has no task", desk.say(Sort::Template, b)),
         50..=52 | 57 => {
             let template = desk.told.orders.get(&b)?.template;

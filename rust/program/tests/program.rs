@@ -478,6 +478,25 @@ fn a_granted_question_has_its_figures() {
 }
 
 #[test]
+fn stuck_tasks_are_told_by_name_and_by_number() {
+    let asked = b"stuck tasks of template 0\nstuck tasks of template 4\n";
+    let policy = "examples/stuck_order/policy.txt";
+    let (told, _, status) = said(with_input(&["run", policy], asked));
+    let expected = "\
+load 0 GRANTED
+    1   0 GRANTED       stuck tasks of template 0
+                          stuck 0 1, free none
+    2   4 UNKNOWN       stuck tasks of template 4
+                          template 4 has no task
+";
+    assert_eq!((told.as_str(), status), (expected, 0));
+    let (told, _, _) = said(with_input(&["run", "--json", policy], asked));
+    let first: Value = serde_json::from_str(told.lines().nth(1).unwrap()).unwrap();
+    assert_eq!(first["figures"]["stuck"], serde_json::json!([0, 1]));
+    assert_eq!(first["figures"]["free"], serde_json::json!([]));
+}
+
+#[test]
 fn answers_through_a_pipe_come_one_by_one() {
     let mut command = mishantral(&["run", "examples/listing/policy.txt"]);
     let mut child = command
