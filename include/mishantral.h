@@ -34,7 +34,7 @@ extern "C" {
 
 /* How many 64-bit words each buffer has, where a constant is wanted: uint64_t policy[MISHANTRAL_POLICY_WORDS]. The
  * library that is linked tells its own by mishantral_words; with another length than that it answers ROOM. */
-#define MISHANTRAL_POLICY_WORDS 4504
+#define MISHANTRAL_POLICY_WORDS 4632
 #define MISHANTRAL_SESSIONS_WORDS 384
 #define MISHANTRAL_ORDERS_WORDS 2244
 #define MISHANTRAL_OPL_WORDS 397495
@@ -59,6 +59,7 @@ extern "C" {
 #define MISHANTRAL_MOST_BLOCKS 64
 #define MISHANTRAL_MOST_BINDINGS 64
 #define MISHANTRAL_MOST_PREREQUISITES 64
+#define MISHANTRAL_MOST_SENIORITIES 64
 #define MISHANTRAL_MOST_ENTRIES 2048
 #define MISHANTRAL_RECORD_BYTES 16
 #define MISHANTRAL_MOST_PILED 4096
@@ -183,8 +184,8 @@ uint64_t mishantral_lower_request(const uint8_t *record, size_t length,
                                   uint64_t *policy, size_t policy_words,
                                   uint64_t *sessions, size_t sessions_words);
 
-/* Replies (docs/RULES.md, "The replies"). Checks run in the order of these numbers, and the first that applies
- * is given. */
+/* Replies (docs/RULES.md, "The replies"). Checks run in the order of these numbers, LOOP behind RULE, and the
+ * first that applies is given. */
 enum mishantral_reply {
     MISHANTRAL_GRANTED = 0,      /* accepted, or granted */
     MISHANTRAL_ROOM = 1,         /* a lent buffer has not its fixed length, or an output is too short; nothing is written */
@@ -208,7 +209,8 @@ enum mishantral_reply {
     MISHANTRAL_COUNT = 19,       /* the task has as many entries as its limit allows */
     MISHANTRAL_FULL = 20,        /* no ledger entry is free, or the rule limit of that kind is reached */
     MISHANTRAL_TEXT = 21,        /* mishantral_opl: a text is not in its grammar */
-    MISHANTRAL_NAMES = 22        /* mishantral_opl: a name is too long, declared nowhere or above a limit */
+    MISHANTRAL_NAMES = 22,       /* mishantral_opl: a name is too long, declared nowhere or above a limit */
+    MISHANTRAL_LOOP = 23         /* the role that is to stand below stands above already */
 };
 
 /* Kinds of record (docs/RULES.md, "Numbers"). A field that is not listed is zero; bit i of m stands for role or
@@ -231,6 +233,7 @@ enum mishantral_kind {
     MISHANTRAL_AT_MOST = 14,            /* task a at most n times */
     MISHANTRAL_BOUND_TO = 15,           /* task a bound to task b */
     MISHANTRAL_BEFORE_TASK = 16,        /* task a before task b */
+    MISHANTRAL_ROLE_ABOVE = 17,         /* role a stands above role b, and counts with it and all below it */
     /* Requests. */
     MISHANTRAL_ADD_USER = 32,        /* add user a with roles m, all of it or nothing */
     MISHANTRAL_DELETE_USER = 33,
@@ -302,6 +305,7 @@ static inline const char *mishantral_reply_name(unsigned reply)
     case MISHANTRAL_FULL: return "FULL";
     case MISHANTRAL_TEXT: return "TEXT";
     case MISHANTRAL_NAMES: return "NAMES";
+    case MISHANTRAL_LOOP: return "LOOP";
     default: return "?";
     }
 }

@@ -61,7 +61,8 @@ impl Pools {
         let (one, other) = (random.pick(&self.tasks), random.pick(&self.tasks));
         let tasks = members(random, &self.tasks);
         let roles = members(random, &self.roles);
-        match random.below(16) {
+        let (senior, junior) = (random.pick(&self.roles), random.pick(&self.roles));
+        match random.below(19) {
             0 | 1 => Record::static_set(limit(random, roles), roles),
             2 | 3 => Record::dynamic_set(limit(random, roles), roles),
             4 | 5 => Record::task_set(limit(random, tasks), tasks),
@@ -69,7 +70,8 @@ impl Pools {
             9 => Record::lone_worker_ban(random.pick(&self.templates)),
             10 | 11 => Record::at_most(one, random.pick(&[0, 1, 1, 1, 2, 2, 3, 255])),
             12 | 13 => Record::bound(one, other),
-            _ => Record::before(one, other),
+            14 | 15 => Record::before(one, other),
+            _ => Record::role_above(senior, junior),
         }
     }
 

@@ -226,7 +226,7 @@ fn day(random: &mut Random, pools: Pools, rules: usize, count: usize) -> Case {
     for _ in 0..random.pick(&[1, 1, 1, 2]) {
         let relations = 10 + random.below(60);
         let mut policy = policy(random, &pools, relations, rules);
-        steps.extend(policy.bad_loads(random, 6));
+        steps.extend(policy.bad_loads(random, 9));
         if random.chance(19, 20) {
             steps.push(policy.load());
         }

@@ -51,6 +51,7 @@ pub fn possible(kind: u8) -> Option<Vec<Reply>> {
         9 => &[Unknown, Taken, Rule, Static, Full],
         10..=12 | 15 | 16 => &[Unknown, Taken, Rule, Full],
         14 => &[Unknown, Taken, Rule],
+        17 => &[Unknown, Taken, Rule, Loop, Static, Full],
         33 | 35 | 41 | 49 => &[Unknown, InUse],
         37 | 43 | 58 | 60 => &[Unknown],
         40 | 42 => &[Unknown, Taken, NotAssigned, Dynamic],

@@ -1,6 +1,6 @@
 //! Engines with a fault each: the comparison finds every one, and shows it by a small case.
 
-use differential::{compare, plain, Answer, Case, Desk, Panel};
+use differential::{compare, plain, Answer, Case, Desk, Panel, Place, Slow};
 use plain::{Engine, OrderLists, Reply};
 
 /// What a record is taken for.
@@ -98,14 +98,14 @@ fn sound() -> Faulty {
 }
 
 /// The report of the first case that shows the fault.
-fn found(faulty: Faulty) -> Option<String> {
+fn found(faulty: impl Desk + 'static) -> Option<String> {
     let good = plain("plain", Engine::<OrderLists>::new());
     let panel = Panel::of(vec![good, Box::new(faulty)]);
     let failure = |number| compare(&panel, &Case::random(5, number), false).err();
     (0..200).find_map(failure).map(|f| f.report())
 }
 
-fn finds(faulty: Faulty, most_lines: usize) {
+fn finds(faulty: impl Desk + 'static, most_lines: usize) {
     let report = found(faulty).expect("the fault is found");
     assert!(report.lines().count() <= most_lines, "{report}");
 }
@@ -400,4 +400,12 @@ fn a_question_that_is_answered_wrongly_is_found() {
     for asked in wrong {
         finds(Faulty { asked, ..sound() }, 40);
     }
+}
+
+#[test]
+fn a_place_that_forgets_the_roles_below_is_found() {
+    for place in Place::ALL {
+        finds(Slow::forgetting(place), 60);
+    }
+    assert_eq!(found(Slow::default()), None);
 }

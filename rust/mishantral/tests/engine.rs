@@ -106,6 +106,40 @@ fn a_state_goes_on_where_it_was_kept() {
 }
 
 #[test]
+fn a_lead_counts_as_a_clerk() {
+    let mut engine = Engine::new();
+    let (clerk, lead, signer) = (0, 1, 2);
+    let mut policy = vec![Record::user(300), Record::user(301)];
+    policy.extend([clerk, lead, signer].map(Record::role));
+    policy.extend([
+        Record::user_has_role(300, lead),
+        Record::task(0, 0),
+        Record::task_open_to(0, clerk),
+        Record::static_set(1, Set::of(&[0, 2])),
+        Record::role_above(lead, clerk),
+    ]);
+    engine.load_records(&policy).unwrap();
+    let asked = [
+        (
+            Record::create_subject(5, 300, Set::of(&[1])),
+            Reply::Granted,
+        ),
+        (Record::open_order(0, 0), Reply::Granted),
+        (Record::claim(5, 0, 0), Reply::Granted),
+        (Record::activate_role(5, clerk), Reply::Granted),
+        (Record::assign_role(300, signer), Reply::Static),
+        (Record::take_role(300, lead), Reply::InUse),
+        (Record::take_role(300, clerk), Reply::Unknown),
+    ];
+    for (record, reply) in asked {
+        assert_eq!(engine.request(&record), reply, "{record}");
+    }
+    policy.push(Record::role_above(clerk, lead));
+    let refused = engine.load_records(&policy).unwrap_err();
+    assert_eq!(refused.to_string(), "23 LOOP at record 11");
+}
+
+#[test]
 fn a_question_is_answered_with_figures() {
     let mut engine = Engine::new();
     engine.load_records(&listing_policy()).unwrap();

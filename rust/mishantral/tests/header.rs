@@ -59,6 +59,7 @@ fn kinds_have_one_number() {
         ("AT_MOST", Record::at_most(0, 0)),
         ("BOUND_TO", Record::bound(0, 0)),
         ("BEFORE_TASK", Record::before(0, 0)),
+        ("ROLE_ABOVE", Record::role_above(0, 0)),
         ("ADD_USER", Record::add_user(0)),
         ("DELETE_USER", Record::delete_user(0)),
         ("ASSIGN_ROLE", Record::assign_role(0, 0)),
@@ -195,7 +196,7 @@ fn rules_have_the_limits_of_the_library() {
     // Members 0 and up to 63 in pairs, so that no two rules are alike.
     let pair = |i: u8| Set::of(&[i / 60, 2 + i % 60]);
     type Rule = fn(Set, u8) -> Record;
-    let kinds: [(&str, Rule); 6] = [
+    let kinds: [(&str, Rule); 7] = [
         ("MOST_STATIC_SETS", |set, _| Record::static_set(1, set)),
         ("MOST_DYNAMIC_SETS", |set, _| Record::dynamic_set(1, set)),
         ("MOST_TASK_SETS", |set, _| Record::task_set(1, set)),
@@ -204,6 +205,7 @@ fn rules_have_the_limits_of_the_library() {
         }),
         ("MOST_BINDINGS", |set, _| two(set, Record::bound)),
         ("MOST_PREREQUISITES", |set, _| two(set, Record::before)),
+        ("MOST_SENIORITIES", |set, _| two(set, Record::role_above)),
     ];
     let declared = (0..64).flat_map(|i| [Record::role(i), Record::task(i, 0)]);
     let declared: Vec<Record> = declared.collect();

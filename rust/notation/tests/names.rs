@@ -53,7 +53,7 @@ fn every_kind_is_read_back_with_its_names() {
         }
     }
     let with_names = [
-        1..=16,
+        1..=17,
         32..=37,
         40..=40,
         42..=43,

@@ -187,7 +187,7 @@ impl<L: Ledger> Engine<L> {
             40 => sessions.create(policy, a, r.b, r.m),
             41 => self.destroy_subject(a),
             42 => sessions.activate(policy, a, b),
-            43 => sessions.deactivate(a, b),
+            43 => sessions.deactivate(policy, a, b),
             48 => orders.open(policy, a, r.b as u8),
             49 => orders.end(r.a as u8),
             50 => orders.claim(policy, sessions, r),

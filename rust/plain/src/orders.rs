@@ -74,8 +74,8 @@ impl<L: Ledger> Orders<L> {
         let view = self.ledger.view(by.instance, by.user, by.task);
         let task = usize::from(by.task);
         refuse(Reply::Taken, view.held & bit(task) != 0)?;
-        let active = sessions.active(usize::from(by.subject));
-        refuse(Reply::NoRole, active & policy.of_task[task].open_to == 0)?;
+        let acting = sessions.acting(usize::from(by.subject));
+        refuse(Reply::NoRole, acting & policy.of_task[task].open_to == 0)?;
         claim_rules(policy, by.template, task, view)?;
         refuse(Reply::Full, self.ledger.in_use() == ENTRIES)?;
         self.ledger.enter(by.instance, by.user, by.task, by.subject);

@@ -76,7 +76,7 @@ impl Record {
     }
 }
 
-/// Kinds 1 to 16: the records of a policy.
+/// Kinds 1 to 17: the records of a policy.
 impl Record {
     /// Declares a user.
     pub const fn user(user: u16) -> Record {
@@ -156,6 +156,16 @@ impl Record {
     /// In an order, the first task is done before the second is claimed.
     pub const fn before(first: u16, second: u16) -> Record {
         record(16, 0, [first, second, 0], 0)
+    }
+
+    /// The senior role stands above the junior one: it counts with it, and with all roles below that.
+    ///
+    /// ```
+    /// # use records::Record;
+    /// assert_eq!(Record::role_above(5, 2).to_string(), "role 5 above role 2");
+    /// ```
+    pub const fn role_above(senior: u16, junior: u16) -> Record {
+        record(17, 0, [senior, junior, 0], 0)
     }
 }
 

@@ -66,6 +66,10 @@ pub fn before(a: u16, b: u16) -> Bytes {
     ab(16, a, b)
 }
 
+pub fn above(a: u16, b: u16) -> Bytes {
+    ab(17, a, b)
+}
+
 pub fn add_user(a: u16) -> Bytes {
     ab(32, a, 0)
 }
