@@ -120,8 +120,7 @@ impl Desk {
         let Some(free) = subjects.find(|s| !self.told.subjects.contains_key(s)) else {
             return all;
         };
-        let open = self.told.open_to(task);
-        for (&user, &roles) in &self.told.users {
+        for &user in self.told.users.keys() {
             if all.who.iter().any(|c| c.user == user) {
                 continue;
             }
@@ -132,7 +131,8 @@ impl Desk {
                 refused = Some(answer.reply).filter(|reply| !reply.is_granted());
                 answer.is_granted()
             };
-            let role = Set(roles.0 & open.0).members().find(could);
+            let may = self.told.may_activate(user);
+            let role = self.told.opening(may, task).members().find(could);
             all.who.extend(role.map(|role| Candidate {
                 user,
                 subject: None,

@@ -54,7 +54,9 @@ impl Found<'_> {
 
     fn roles(&mut self) {
         for role in self.desk.told.roles.members() {
-            if !self.desk.told.users.values().any(|roles| roles.has(role)) {
+            let told = &self.desk.told;
+            let mut users = told.users.keys();
+            if !users.any(|&user| told.may_activate(user).has(role)) {
                 let text = format!("no user has {}", self.desk.say(Sort::Role, role.into()));
                 self.tell(2, role.into(), text);
             }
@@ -157,15 +159,11 @@ fn templates(desk: &Desk) -> BTreeSet<u16> {
     desk.told.tasks.values().copied().collect()
 }
 
-/// The users who have a role that opens the task.
+/// The users who have a role that opens the task, or one above such a role.
 fn clerks(desk: &Desk, task: u16) -> Vec<u16> {
-    let open = desk.told.open_to(task);
-    let may = desk
-        .told
-        .users
-        .iter()
-        .filter(|(_, roles)| roles.0 & open.0 != 0);
-    may.map(|(&user, _)| user).collect()
+    let (told, open) = (&desk.told, desk.told.open_to(task));
+    let may = |user: &u16| told.may_activate(*user).0 & open.0 != 0;
+    told.users.keys().copied().filter(may).collect()
 }
 
 fn all_granted(engine: &mut Engine, records: &[Record]) -> bool {
@@ -218,7 +216,7 @@ fn finish(desk: &Desk, rules: &[Record], tasks: &[u16]) -> Finish {
         .policy
         .records()
         .into_iter()
-        .filter(|r| matches!(r.kind(), 1..=8));
+        .filter(|r| matches!(r.kind(), 1..=8 | 17));
     let policy: Vec<Record> = declared.chain(rules.iter().copied()).collect();
     let mut engine = Engine::new();
     if engine.load_records(&policy).is_err()
@@ -287,7 +285,8 @@ impl Search<'_> {
     /// The engine after the user has claimed and done the task, in a session of its own; or the claim's refusal.
     fn worked(&self, engine: &Engine, user: u16, task: u16) -> Result<Engine, Reply> {
         let mut copy = engine.clone();
-        let open = self.desk.told.open_to(task).0 & self.desk.told.roles_of(user).0;
+        let told = &self.desk.told;
+        let open = told.open_to(task).0 & told.may_activate(user).0;
         let role = Set(open & open.wrapping_neg());
         let steps = [
             Record::create_subject(0, user, role),

@@ -107,7 +107,7 @@ fn plain_is_the_desk_listing_from_text_and_from_records() {
 
 #[test]
 fn a_listing_in_words_has_the_replies_of_the_example() {
-    for example in ["listing", "loan", "night_shift", "stuck_order"] {
+    for example in ["listing", "loan", "night_shift", "stuck_order", "team_lead"] {
         let name = |file: &str| format!("examples/{example}/{file}");
         let (words, _, status) =
             run(&["run", "--brief", &name("policy.txt"), &name("requests.txt")]);
@@ -155,7 +155,14 @@ fn the_test_files_pass() {
 /// The test files of examples that have requests of their own say the same requests.
 #[test]
 fn the_test_files_have_the_examples_requests() {
-    for example in ["listing", "loan", "night_shift", "opl_loan", "stuck_order"] {
+    for example in [
+        "listing",
+        "loan",
+        "night_shift",
+        "opl_loan",
+        "stuck_order",
+        "team_lead",
+    ] {
         let read =
             |name: &str| std::fs::read_to_string(root().join("examples").join(name)).unwrap();
         let request = |line: &str| {
@@ -283,6 +290,32 @@ fn check_tells_every_error_or_the_clash_or_the_warnings() {
             "FILE: line 2: 4 UNKNOWN: user anna has role clerk",
             "  clerk is not declared",
             "  clerk is declared later, at line 3: a record uses what is declared before it",
+        ],
+    );
+    let roles = "role 0 clerk\nrole 1 lead\nrole 2 signer\nrole lead above role clerk\nstatic set 1 of clerk signer\nuser 1 anna\n";
+    clash(
+        "senior.txt",
+        &format!("{roles}user anna has role lead\nuser anna has role signer\n"),
+        &[
+            "FILE: line 8: 9 STATIC: user anna has role signer",
+            "  static set 1 of clerk signer (FILE, line 5)",
+            "  anna would be assigned clerk (below lead) and signer, and may have 1 of these",
+        ],
+    );
+    clash(
+        "raised.txt",
+        &format!("{roles}user anna has role signer\nrole 3 head\nrole signer above role head\nrole head above role lead\n"),
+        &[
+            "FILE: line 10: 9 STATIC: role head above role lead",
+            "  anna would have clerk and signer; line 5 says: static set 1 of clerk signer",
+        ],
+    );
+    clash(
+        "loop.txt",
+        &format!("{roles}role 3 head\nrole head above role lead\nrole clerk above role head\n"),
+        &[
+            "FILE: line 9: 23 LOOP: role clerk above role head",
+            "  head stands above clerk already (line 8: role head above role lead, line 4: role lead above role clerk)",
         ],
     );
     clash(
@@ -549,7 +582,7 @@ fn conversions_lead_back() {
         "examples/opl_loan/tasks.txt",
     ];
     let mut policies: Vec<Vec<&str>> = vec![opl.to_vec(), vec!["examples/named.txt"]];
-    for example in ["listing", "loan", "night_shift", "stuck_order"] {
+    for example in ["listing", "loan", "night_shift", "stuck_order", "team_lead"] {
         policies.push(vec![Box::leak(
             format!("examples/{example}/policy.txt").into_boxed_str(),
         )]);
