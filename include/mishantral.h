@@ -2,7 +2,7 @@
  *
  * The library keeps nothing and asks nothing of the system: it works on three buffers of 64-bit words
  * that the caller lends to each call. Every call answers, whatever the bytes and whatever the words, and
- * changes nothing but the three buffers. A request that is refused changes no word of them.
+ * changes nothing but the three buffers and what it is lent for its answer. A request that is refused changes no word of them.
  *
  *     size_t words = mishantral_words(MISHANTRAL_POLICY);   likewise MISHANTRAL_SESSIONS, MISHANTRAL_ORDERS
  *     uint64_t *policy = calloc(words, sizeof *policy);     likewise sessions, orders
@@ -34,10 +34,13 @@ extern "C" {
 
 /* How many 64-bit words each buffer has, where a constant is wanted: uint64_t policy[MISHANTRAL_POLICY_WORDS]. The
  * library that is linked tells its own by mishantral_words; with another length than that it answers ROOM. */
-#define MISHANTRAL_POLICY_WORDS 4504
+#define MISHANTRAL_POLICY_WORDS 4632
 #define MISHANTRAL_SESSIONS_WORDS 384
 #define MISHANTRAL_ORDERS_WORDS 2244
 #define MISHANTRAL_OPL_WORDS 659639
+
+/* How many words the answer to a question has: mishantral_question takes no other length. */
+#define MISHANTRAL_ANSWER_WORDS 66
 
 /* The last number of each thing: users are 0 to MISHANTRAL_LAST_USER, and so on. */
 #define MISHANTRAL_LAST_USER 1023
@@ -56,15 +59,17 @@ extern "C" {
 #define MISHANTRAL_MOST_BLOCKS 64
 #define MISHANTRAL_MOST_BINDINGS 64
 #define MISHANTRAL_MOST_PREREQUISITES 64
+#define MISHANTRAL_MOST_SENIORITIES 64
 #define MISHANTRAL_MOST_ENTRIES 2048
 #define MISHANTRAL_RECORD_BYTES 16
 #define MISHANTRAL_MOST_PILED 4096
 
-/* The three buffers, and the scratch of mishantral_opl. */
+/* The three buffers, the answer to a question, and the scratch of mishantral_opl. */
 enum mishantral_group {
     MISHANTRAL_POLICY = 0,   /* users, roles, permissions, tasks, rules */
     MISHANTRAL_SESSIONS = 1, /* subjects and their active roles */
     MISHANTRAL_ORDERS = 2,   /* open orders and their entries */
+    MISHANTRAL_ANSWER = 3,
     MISHANTRAL_OPL_SCRATCH = 4
 };
 
@@ -129,6 +134,23 @@ uint64_t mishantral_pile(const uint8_t *records, size_t length,
                          uint64_t *sessions, size_t sessions_words,
                          uint64_t *orders, size_t orders_words);
 
+/* Answers a question with its figures, where mishantral_request answers its reply alone. They are written to `answer`, MISHANTRAL_ANSWER_WORDS
+ * words, where the reply is GRANTED, and words that the question does not use become 0:
+ *
+ *     MISHANTRAL_ENTRIES_OF    answer[0] the number of the order's entries, held and done ones; answer[1] the set of its tasks that are done
+ *     MISHANTRAL_STUCK_TASKS   answer[0] the set of the template's tasks that can never be claimed because of prerequisites; answer[1] how many
+ *                              the others are; from answer[2] on those, in an order in which they can be claimed, the lowest numbers first
+ *
+ * The answer is the reply: ROOM where a state buffer or `answer` has not its length; then SHAPE for a record that is no question; then what
+ * mishantral_request answers. With a refusal no word is written. The state is read, whatever it holds, and not changed.
+ *
+ * `answer` points to `answer_words` words that may be written, and overlaps none of the others. */
+uint64_t mishantral_question(const uint8_t *record, size_t length,
+                             uint64_t *answer, size_t answer_words,
+                             const uint64_t *policy, size_t policy_words,
+                             const uint64_t *sessions, size_t sessions_words,
+                             const uint64_t *orders, size_t orders_words);
+
 /* Reads a dealer's OPL/XML with its task lines, and writes the policy's records, sixteen bytes each, to the front of `output`,
  * for mishantral_load to take. A task line is a task's name, one space and its template's name.
  *
@@ -150,8 +172,8 @@ uint64_t mishantral_opl(const uint8_t *policy_text, size_t policy_bytes,
 
 /* The lower part alone, for dealers: policy, roles and sessions, without orders. It is a library of its own,
  * libmishantral_lower.a, with these three functions and two buffers, of MISHANTRAL_POLICY_WORDS and
- * MISHANTRAL_SESSIONS_WORDS words. They answer as those above do; kinds 48 to 52 and 57 are no kinds of the lower
- * part, and are answered with SHAPE. */
+ * MISHANTRAL_SESSIONS_WORDS words. They answer as those above do; kinds 48 to 52, 57, 58 and 60 are no kinds
+ * of the lower part, and are answered with SHAPE. */
 uint64_t mishantral_lower_words(uint64_t group);
 
 uint64_t mishantral_lower_load(const uint8_t *bytes, size_t length,
@@ -162,8 +184,8 @@ uint64_t mishantral_lower_request(const uint8_t *record, size_t length,
                                   uint64_t *policy, size_t policy_words,
                                   uint64_t *sessions, size_t sessions_words);
 
-/* Replies (docs/RULES.md, "The replies"). Checks run in the order of these numbers, and the first that applies
- * is given. */
+/* Replies (docs/RULES.md, "The replies"). Checks run in the order of these numbers, LOOP behind RULE, and the
+ * first that applies is given. */
 enum mishantral_reply {
     MISHANTRAL_GRANTED = 0,      /* accepted, or granted */
     MISHANTRAL_ROOM = 1,         /* a lent buffer has not its fixed length, or an output is too short; nothing is written */
@@ -187,7 +209,8 @@ enum mishantral_reply {
     MISHANTRAL_COUNT = 19,       /* the task has as many entries as its limit allows */
     MISHANTRAL_FULL = 20,        /* no ledger entry is free, or the rule limit of that kind is reached */
     MISHANTRAL_TEXT = 21,        /* mishantral_opl: a text is not in its grammar */
-    MISHANTRAL_NAMES = 22        /* mishantral_opl: a name is too long, declared nowhere or above a limit */
+    MISHANTRAL_NAMES = 22,       /* mishantral_opl: a name is too long, declared nowhere or above a limit */
+    MISHANTRAL_LOOP = 23         /* the role that is to stand below stands above already */
 };
 
 /* Kinds of record (docs/RULES.md, "Numbers"). A field that is not listed is zero; bit i of m stands for role or
@@ -210,6 +233,7 @@ enum mishantral_kind {
     MISHANTRAL_AT_MOST = 14,            /* task a at most n times */
     MISHANTRAL_BOUND_TO = 15,           /* task a bound to task b */
     MISHANTRAL_BEFORE_TASK = 16,        /* task a before task b */
+    MISHANTRAL_ROLE_ABOVE = 17,         /* role a stands above role b, and counts with it and all below it */
     /* Requests. */
     MISHANTRAL_ADD_USER = 32,        /* add user a with roles m, all of it or nothing */
     MISHANTRAL_DELETE_USER = 33,
@@ -227,7 +251,9 @@ enum mishantral_kind {
     MISHANTRAL_RELEASE = 51,         /* subject a, order b, task c */
     MISHANTRAL_DONE = 52,            /* subject a, order b, task c */
     MISHANTRAL_CHECK = 56,           /* subject a, operation b, object c */
-    MISHANTRAL_TASK_CHECK = 57       /* subject a, order b, task c, m = operation + 65,536 x object */
+    MISHANTRAL_TASK_CHECK = 57,      /* subject a, order b, task c, m = operation + 65,536 x object */
+    MISHANTRAL_ENTRIES_OF = 58,      /* order a: how many entries, which tasks done; see mishantral_question */
+    MISHANTRAL_STUCK_TASKS = 60      /* template a: which tasks can never be claimed because of prerequisites; likewise */
 };
 
 /* The reply of an answer. */
@@ -279,6 +305,7 @@ static inline const char *mishantral_reply_name(unsigned reply)
     case MISHANTRAL_FULL: return "FULL";
     case MISHANTRAL_TEXT: return "TEXT";
     case MISHANTRAL_NAMES: return "NAMES";
+    case MISHANTRAL_LOOP: return "LOOP";
     default: return "?";
     }
 }

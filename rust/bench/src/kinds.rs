@@ -95,6 +95,17 @@ fn task_checks() -> Workload {
     at_desk("57 task check", desk(), more, stream.collect())
 }
 
+/// Access checks by a role far below the active one: half of them granted.
+fn checks_of_seniors() -> Workload {
+    let stream = (0..LENGTH).map(|number| {
+        let (operation, object) = CARRIED_PAIR;
+        let object = object + turn(number * 7 % 16, 2);
+        Record::check(a_clerk(number), operation, object)
+    });
+    let name = "56 check, by a role 32 below the active one";
+    at_desk(name, desk_of_seniors(), Vec::new(), stream.collect())
+}
+
 /// A thousand held tasks: the one that is held longest is released and claimed again.
 fn oldest_first() -> Workload {
     let held = || {
@@ -125,18 +136,21 @@ fn ill_formed(number: usize) -> [Record; 2] {
     [Record::new(99, 0, user, 0, 0, 0), Record::add_user(user)]
 }
 
-/// Every kind but the access check, which has a table of its own.
+/// Every kind but the access check, which has a table of its own; that one with senior roles.
 pub fn kinds() -> Vec<Workload> {
     let plainly = |name, pair| at_desk(name, desk(), Vec::new(), pairs(pair));
     let all_rules = |name, pair| at_desk(name, desk_of_all_rules(), Vec::new(), pairs(pair));
+    let seniors = |name, pair| at_desk(name, desk_of_seniors(), Vec::new(), pairs(pair));
     let claims = |name, policy| at_desk(name, policy, open_all(RULED), pairs(claim_and_release));
     vec![
         plainly("32, 33 add a user, delete it", add_and_delete),
         plainly("34, 35 assign a role, take it back", assign_and_take),
         all_rules("34, 35 the same, 32 static sets", assign_and_take),
+        seniors("34, 35 the same, 64 roles above others", assign_and_take),
         plainly("36, 37 give a permission, take it back", give_and_take),
         plainly("40, 41 create a subject, destroy it", create_and_destroy),
         all_rules("40, 41 the same, 32 dynamic sets", create_and_destroy),
+        seniors("40, 41 the same, 64 roles above others", create_and_destroy),
         plainly(
             "42, 43 activate a role, deactivate it",
             activate_and_deactivate,
@@ -148,7 +162,9 @@ pub fn kinds() -> Vec<Workload> {
             "50, 51 the same, as many rules as there is room for",
             desk_of_all_rules(),
         ),
+        claims("50, 51 the same, 64 roles above others", desk_of_seniors()),
         oldest_first(),
+        checks_of_seniors(),
         task_checks(),
         plainly("refused by SHAPE or RANGE", ill_formed),
     ]

@@ -141,6 +141,8 @@ fn add_tasks(policy: &mut Policy) {
     policy.add_all((0..16).map(|t| Record::bound(4 * t, 4 * t + 2)));
     policy.add_all((0..16).map(|t| Record::before(4 * t, 4 * t + 3)));
     policy.add_all((0..8).map(|i| Record::dynamic_set(1, pair_of(i, i + 32))));
+    // Of roles that no set has.
+    policy.add_all((0..16).map(|i| Record::role_above(40 + i, 8 + i)));
 }
 
 /// A policy of 4,096 records of every kind: what `People` has, tasks and rules, and assignments for the rest.
@@ -214,6 +216,25 @@ pub fn desk() -> Policy {
     policy.add(Record::bound(FIRST_TASK, LAST_TASK));
     policy.add(Record::at_most(FIRST_TASK, 1));
     policy.add_all([Record::before(0, 1), Record::before(2, 3)]);
+    policy
+}
+
+/// The role that has a permission at the lower end of the clerks' chain of roles.
+pub const LOWEST: u16 = 34;
+
+/// The desk with as many roles above others as there may be: the clerk above a chain of 32 roles, the cashier above one of 29, and three more.
+/// The lowest of the first has the permission that tasks carry.
+pub fn desk_of_seniors() -> Policy {
+    let mut policy = desk();
+    let chain = |top: u16, first: u16, last: u16| {
+        let senior = move |junior| if junior == first { top } else { junior - 1 };
+        (first..=last).map(move |junior| Record::role_above(senior(junior), junior))
+    };
+    policy.add_all(chain(CLERK, 3, LOWEST));
+    policy.add_all(chain(CASHIER, LOWEST + 1, ROLES - 1));
+    policy
+        .add_all([(CLERK, 10), (CLERK, 20), (CASHIER, 40)].map(|(a, b)| Record::role_above(a, b)));
+    policy.add(Record::role_has_permission(LOWEST, CARRIED));
     policy
 }
 

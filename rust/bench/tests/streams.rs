@@ -48,7 +48,7 @@ fn the_largest_policy_is_accepted() {
     let mut used: Vec<u8> = workload.policy.iter().map(|record| record.kind()).collect();
     used.sort_unstable();
     used.dedup();
-    assert_eq!(used, (1..=16).collect::<Vec<u8>>());
+    assert_eq!(used, (1..=17).collect::<Vec<u8>>());
     Race::new(&workload)
         .and_then(|mut race| race.run(2))
         .unwrap();
@@ -58,6 +58,7 @@ fn the_largest_policy_is_accepted() {
 fn kinds_are_granted_but_where_refusals_are_timed() {
     for workload in kinds() {
         let expected: &[usize] = match workload.name.as_str() {
+            "56 check, by a role 32 below the active one" => &[GRANTED, 13],
             "57 task check" => &[GRANTED, 12, 13],
             "refused by SHAPE or RANGE" => &[2, 3],
             _ => &[GRANTED],

@@ -61,7 +61,8 @@ impl Pools {
         let (one, other) = (random.pick(&self.tasks), random.pick(&self.tasks));
         let tasks = members(random, &self.tasks);
         let roles = members(random, &self.roles);
-        match random.below(16) {
+        let (senior, junior) = (random.pick(&self.roles), random.pick(&self.roles));
+        match random.below(19) {
             0 | 1 => Record::static_set(limit(random, roles), roles),
             2 | 3 => Record::dynamic_set(limit(random, roles), roles),
             4 | 5 => Record::task_set(limit(random, tasks), tasks),
@@ -69,7 +70,8 @@ impl Pools {
             9 => Record::lone_worker_ban(random.pick(&self.templates)),
             10 | 11 => Record::at_most(one, random.pick(&[0, 1, 1, 1, 2, 2, 3, 255])),
             12 | 13 => Record::bound(one, other),
-            _ => Record::before(one, other),
+            14 | 15 => Record::before(one, other),
+            _ => Record::role_above(senior, junior),
         }
     }
 
@@ -114,8 +116,17 @@ impl Pools {
             3 => Record::end_order(order),
             4..=23 => Record::claim(subject, order, task),
             24..=28 => Record::release(subject, order, task),
-            29..=36 => Record::done(subject, order, task),
+            29..=35 => Record::done(subject, order, task),
+            36 => self.question(random),
             _ => Record::task_check(subject, order, task, operation, object),
+        }
+    }
+
+    /// A request that asks for figures.
+    pub fn question(&self, random: &mut Random) -> Record {
+        match random.below(2) {
+            0 => Record::entries_of(random.pick(&self.orders)),
+            _ => Record::stuck_tasks(random.pick(&self.templates)),
         }
     }
 

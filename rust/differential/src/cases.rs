@@ -15,6 +15,27 @@ pub enum Step {
     Request(Vec<u8>),
     /// Requests in one call.
     Pile(Pile),
+    /// A question for its figures.
+    Question(Question),
+}
+
+/// A question: its bytes, and what the answer holds beforehand.
+#[derive(Clone, PartialEq, Debug)]
+pub struct Question {
+    /// The record, or bytes of another length.
+    pub record: Vec<u8>,
+    /// The words of the answer.
+    pub answer: Vec<u64>,
+}
+
+impl Question {
+    /// The record, with an answer of the right length that holds junk.
+    pub fn of(record: Record) -> Question {
+        Question {
+            record: record.0.to_vec(),
+            answer: vec![0x5555_5555_5555_5555; plain::ANSWER],
+        }
+    }
 }
 
 /// Requests in one call: their bytes, the answer buffer beforehand, and the place in it.
@@ -205,7 +226,7 @@ fn day(random: &mut Random, pools: Pools, rules: usize, count: usize) -> Case {
     for _ in 0..random.pick(&[1, 1, 1, 2]) {
         let relations = 10 + random.below(60);
         let mut policy = policy(random, &pools, relations, rules);
-        steps.extend(policy.bad_loads(random, 6));
+        steps.extend(policy.bad_loads(random, 9));
         if random.chance(19, 20) {
             steps.push(policy.load());
         }
@@ -369,11 +390,40 @@ fn piled(random: &mut Random, steps: Vec<Step>) -> Vec<Step> {
     piled
 }
 
+/// A question, mostly a sensible one with an answer of its length.
+fn question(random: &mut Random, pools: &Pools) -> Question {
+    let record = pools.question(random);
+    let record = match random.below(12) {
+        0 => other_length(random, record),
+        1 | 2 => damaged(random, record).0.to_vec(),
+        3 => pools.request(random).0.to_vec(),
+        _ => record.0.to_vec(),
+    };
+    let length = random.pick(&[66, 66, 66, 66, 66, 66, 66, 65, 67, 2, 0]);
+    let answer = vec![random.word(); length];
+    Question { record, answer }
+}
+
+/// The steps with questions between them.
+fn asked(random: &mut Random, pools: &Pools, steps: Vec<Step>) -> Vec<Step> {
+    let mut all = Vec::new();
+    for step in steps {
+        all.push(step);
+        if random.chance(1, 8) {
+            all.push(Step::Question(question(random, pools)));
+        }
+    }
+    all
+}
+
 impl Case {
-    /// The case with this number, of this seed; one in four has piles.
+    /// The case with this number, of this seed; one in two has questions, one in four has piles.
     pub fn random(seed: u64, number: u64) -> Case {
         let mut random = Random::new(seed ^ number.wrapping_mul(0xd134_2543_de82_ef95));
         let mut case = Case::of_requests(&mut random, number);
+        if random.chance(1, 2) {
+            case.steps = asked(&mut random, &case.pools, case.steps);
+        }
         if random.chance(1, 4) {
             case.steps = piled(&mut random, case.steps);
         }

@@ -25,6 +25,7 @@ fn count(coverage: &mut Coverage, step: &Step, (reply, place): (u8, usize)) {
         }
         // Its records are counted where it is taken.
         Step::Pile(_) => coverage.add_pile(reply),
+        Step::Question(question) => coverage.add_question(question.record.first().copied(), reply),
         Step::Load(policy) => {
             let last = place
                 .checked_sub(1)
@@ -45,6 +46,12 @@ fn take(panel: &mut Panel, steps: &[Step], coverage: &mut Coverage) -> Result<()
         let answer = match step {
             Step::Load(policy) => panel.load(policy),
             Step::Request(record) => panel.request(record),
+            Step::Question(question) => panel.question(question).map(|(reply, answer)| {
+                if reply == Reply::Granted.number() {
+                    coverage.add_figures(question.record[0], &answer);
+                }
+                (reply, 0)
+            }),
             Step::Pile(pile) => panel.pile(pile).map(|(reply, buffer)| {
                 let taken = reply == Reply::Granted.number();
                 let answered = buffer.iter().skip(pile.at).filter(|_| taken);
@@ -69,12 +76,9 @@ fn after(panel: &Panel, case: &Case, fill: bool) -> Result<(), Failure> {
     if walked.is_ok() && fill {
         walked = count_free(panel, &case.pools);
     }
-    walked.map_err(|found| {
-        let asked = found.asked.iter().map(|r| Step::Request(r.0.to_vec()));
-        Failure {
-            steps: case.steps.iter().cloned().chain(asked).collect(),
-            difference: found.difference,
-        }
+    walked.map_err(|found| Failure {
+        steps: case.steps.iter().cloned().chain(found.asked).collect(),
+        difference: found.difference,
     })
 }
 
@@ -103,7 +107,7 @@ fn without_records(steps: Vec<Step>, fails: impl Fn(&[Step]) -> bool) -> Vec<Ste
     let mut steps = steps;
     for at in 0..steps.len() {
         let records = match &steps[at] {
-            Step::Request(_) => continue,
+            Step::Request(_) | Step::Question(_) => continue,
             Step::Load(policy) => policy,
             Step::Pile(pile) => &pile.records,
         };
@@ -113,7 +117,7 @@ fn without_records(steps: Vec<Step>, fails: impl Fn(&[Step]) -> bool) -> Vec<Ste
             match &mut changed[at] {
                 Step::Load(bytes) => *bytes = records.concat(),
                 Step::Pile(pile) => pile.records = records.concat(),
-                Step::Request(_) => {}
+                Step::Request(_) | Step::Question(_) => {}
             }
             changed
         };
@@ -150,7 +154,7 @@ fn size(steps: &[Step]) -> usize {
     let records = |step: &Step| match step {
         Step::Load(policy) => 1 + policy.len().div_ceil(LENGTH),
         Step::Pile(pile) => 1 + pile.records.len().div_ceil(LENGTH),
-        Step::Request(_) => 1,
+        Step::Request(_) | Step::Question(_) => 1,
     };
     steps.iter().map(records).sum()
 }
@@ -183,6 +187,10 @@ impl Failure {
                 Step::Pile(pile) => {
                     let _ = writeln!(text, "pile at {} of {:?}", pile.at, pile.buffer);
                     within(&mut text, &pile.records);
+                }
+                Step::Question(question) => {
+                    let (line, words) = (notation::line(&question.record), question.answer.len());
+                    let _ = writeln!(text, "question, answer of {words} words: {line}");
                 }
                 Step::Request(record) => {
                     let _ = writeln!(text, "{}", notation::line(record));

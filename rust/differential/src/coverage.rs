@@ -2,7 +2,7 @@
 //! places that a refused claim had.
 
 use records::Reply::{self, *};
-use std::collections::BTreeMap;
+use std::collections::{BTreeMap, BTreeSet};
 
 /// How often each pair came up, and each reply with each place.
 #[derive(Clone, Default)]
@@ -10,7 +10,34 @@ pub struct Coverage {
     seen: BTreeMap<(u8, u8), u64>,
     places: BTreeMap<(u8, usize), u64>,
     piles: BTreeMap<u8, u64>,
+    /// Questions by their kind, and those of no kind and of kinds that are none.
+    questions: BTreeMap<(Option<u8>, u8), u64>,
+    /// What figures were like.
+    figures: BTreeSet<&'static str>,
 }
+
+/// What figures are like where they tell most, and how that is seen in the words of the answer to a kind.
+type Telling = (&'static str, u8, fn(&[u64]) -> bool);
+
+const TELLING: [Telling; 4] = [
+    ("entries, some done and some not", 58, |words| {
+        words[0] > u64::from(words[1].count_ones()) && words[1] != 0
+    }),
+    ("stuck tasks and free ones", 60, |words| {
+        words[0] != 0 && words[1] > 1
+    }),
+    (
+        "free tasks alone, not in the order of their numbers",
+        60,
+        |words| words[0] == 0 && !words[2..2 + words[1] as usize].is_sorted(),
+    ),
+    ("stuck tasks alone", 60, |words| {
+        words[0] != 0 && words[1] == 0
+    }),
+];
+
+/// The kinds that are questions.
+const QUESTIONS: [u8; 2] = [58, 60];
 
 /// The replies that say the place of a rule, and the largest place that there can be.
 const PLACED: [(Reply, usize); 4] = [(Before, 64), (Separation, 32), (Block, 64), (Bound, 64)];
@@ -24,8 +51,9 @@ pub fn possible(kind: u8) -> Option<Vec<Reply>> {
         9 => &[Unknown, Taken, Rule, Static, Full],
         10..=12 | 15 | 16 => &[Unknown, Taken, Rule, Full],
         14 => &[Unknown, Taken, Rule],
+        17 => &[Unknown, Taken, Rule, Loop, Static, Full],
         33 | 35 | 41 | 49 => &[Unknown, InUse],
-        37 | 43 => &[Unknown],
+        37 | 43 | 58 | 60 => &[Unknown],
         40 | 42 => &[Unknown, Taken, NotAssigned, Dynamic],
         50 => &[
             Unknown, Taken, NoRole, Before, Separation, Block, Alone, Bound, Count, Full,
@@ -59,6 +87,57 @@ impl Coverage {
         *self.piles.entry(reply).or_default() += 1;
     }
 
+    /// Counts one question's reply; of a kind that is none, together with all such.
+    pub fn add_question(&mut self, kind: Option<u8>, reply: u8) {
+        let kind = kind.filter(|kind| QUESTIONS.contains(kind));
+        *self.questions.entry((kind, reply)).or_default() += 1;
+    }
+
+    /// Counts the answer to a granted question.
+    pub fn add_figures(&mut self, kind: u8, words: &[u64]) {
+        let like = TELLING.iter().filter(|t| t.1 == kind && t.2(words));
+        self.figures.extend(like.map(|(name, _, _)| name));
+    }
+
+    /// What figures are like that were not seen.
+    pub fn missing_figures(&self) -> Vec<&'static str> {
+        let all = TELLING.iter().map(|(name, _, _)| *name);
+        all.filter(|name| !self.figures.contains(name)).collect()
+    }
+
+    /// What a question can be answered: ROOM for the answer's length, then as the request; SHAPE, then, where it is no question.
+    fn possible_questions() -> Vec<(Option<u8>, Reply)> {
+        let asks = QUESTIONS.into_iter().flat_map(|kind| {
+            let replies = possible(kind).unwrap_or_default().into_iter();
+            replies.chain([Room]).map(move |reply| (Some(kind), reply))
+        });
+        asks.chain([(None, Room), (None, Shape)]).collect()
+    }
+
+    /// The questions and their replies that were not seen.
+    pub fn missing_questions(&self) -> Vec<(Option<u8>, Reply)> {
+        let unseen = |(kind, reply): &(Option<u8>, Reply)| {
+            !self.questions.contains_key(&(*kind, reply.number()))
+        };
+        Coverage::possible_questions()
+            .into_iter()
+            .filter(unseen)
+            .collect()
+    }
+
+    /// The questions that had a reply that they cannot have.
+    pub fn surprising_questions(&self) -> Vec<(Option<u8>, u8)> {
+        let expected = |(kind, reply): &&(Option<u8>, u8)| {
+            let all = Coverage::possible_questions();
+            all.iter().any(|(k, r)| (*k, r.number()) == (*kind, *reply))
+        };
+        self.questions
+            .keys()
+            .filter(|q| !expected(q))
+            .copied()
+            .collect()
+    }
+
     /// The replies of piles that were not seen.
     pub fn missing_piles(&self) -> Vec<Reply> {
         let unseen = |reply: &Reply| !self.piles.contains_key(&reply.number());
@@ -76,6 +155,10 @@ impl Coverage {
         for (reply, count) in &other.piles {
             *self.piles.entry(*reply).or_default() += count;
         }
+        for (question, count) in &other.questions {
+            *self.questions.entry(*question).or_default() += count;
+        }
+        self.figures.extend(&other.figures);
     }
 
     /// How often a reply came with a place from `least` on.
@@ -138,12 +221,26 @@ impl Coverage {
         }
         let line = |(kind, replies): (u8, String)| format!("kind {kind:>2}:{replies}\n");
         let lines = lines.into_iter().map(line);
-        let piles = self.piles.iter().map(|(reply, count)| {
+        let named = |(reply, count): (&u8, &u64)| {
             let name = Reply::from_number((*reply).into()).map_or("?", Reply::name);
             format!("  {name} {count}")
+        };
+        let line = |of: String, replies: String| of + &replies + "\n";
+        let piles = self.piles.iter().map(named).collect();
+        let lines = lines.chain([line("piles:".to_string(), piles)]);
+        let questions = QUESTIONS.into_iter().map(Some).chain([None]).map(|kind| {
+            let of = kind.map_or("questions of other kinds:".to_string(), |kind| {
+                format!("questions of kind {kind}:")
+            });
+            let replies = self.questions.iter().filter(|((k, _), _)| *k == kind);
+            line(
+                of,
+                replies
+                    .map(|((_, reply), count)| named((reply, count)))
+                    .collect(),
+            )
         });
-        let piles: String = ["piles:".to_string()].into_iter().chain(piles).collect();
-        let lines = lines.chain([piles + "\n"]);
+        let lines = lines.chain(questions);
         lines
             .chain(PLACED.iter().map(|p| self.places_of(p.0)))
             .collect()

@@ -1,6 +1,6 @@
 //! The engines that are compared, behind one face, and a panel of them asked the same in step.
 
-use crate::cases::Pile;
+use crate::cases::{Pile, Question};
 use crate::slow::Slow;
 use plain::{Engine, FlatLedger, Ledger, OrderLists};
 use records::{Record, Reply, LENGTH};
@@ -33,6 +33,11 @@ pub trait Desk {
             answers[at + k] = self.request(record).0;
         }
         Reply::Granted.number()
+    }
+
+    /// Answers a question, its figures into the answer. An engine without a call for questions takes none.
+    fn question(&self, _record: &[u8], _answer: &mut [u64]) -> u8 {
+        Reply::Shape.number()
     }
 
     /// The replies to records, one after another. Each engine has its own copy of this loop with its own `request`
@@ -68,6 +73,10 @@ impl<L: Ledger + 'static> Desk for Plain<L> {
     fn pile(&mut self, records: &[u8], answers: &mut [u8], at: usize) -> u8 {
         self.1.pile(records, answers, at).number()
     }
+
+    fn question(&self, record: &[u8], answer: &mut [u64]) -> u8 {
+        self.1.question(record, answer).number()
+    }
 }
 
 impl Desk for Slow {
@@ -94,12 +103,18 @@ impl Desk for Slow {
         answers.copy_from_slice(&written);
         reply.number()
     }
+
+    fn question(&self, record: &[u8], answer: &mut [u64]) -> u8 {
+        let (reply, written) = Slow::question(self, record, answer);
+        answer.copy_from_slice(&written);
+        reply.number()
+    }
 }
 
 /// The proved engine's answers: the wrapper of the whole and that of the lower part have the same calls.
 #[cfg(any(mishantral_engine, mishantral_lower))]
 macro_rules! proved_desk {
-    ($engine:ty $(, $pile:item)?) => {
+    ($engine:ty $(, $more:item)*) => {
         impl Desk for $engine {
             fn name(&self) -> &'static str {
                 "proved"
@@ -121,7 +136,7 @@ macro_rules! proved_desk {
                 Box::new(self.clone())
             }
 
-            $($pile)?
+            $($more)*
         }
     };
 }
@@ -132,6 +147,9 @@ proved_desk!(
     #[cfg(mishantral_pile)]
     fn pile(&mut self, records: &[u8], answers: &mut [u8], at: usize) -> u8 {
         self.pile_bytes(records, answers, at).number()
+    },
+    fn question(&self, record: &[u8], answer: &mut [u64]) -> u8 {
+        mishantral::Engine::question(self, record, answer).number()
     }
 );
 
@@ -163,6 +181,10 @@ impl Desk for Checked {
     fn copy(&self) -> Box<dyn Desk> {
         Box::new(Checked(self.0.clone()))
     }
+
+    fn question(&self, record: &[u8], answer: &mut [u64]) -> u8 {
+        self.0.question(record, answer).number()
+    }
 }
 
 /// The proved engine once more, by that request.
@@ -191,7 +213,7 @@ impl Desk for Lowered {
 
     fn request(&mut self, record: &[u8]) -> Answer {
         match record.first() {
-            Some(48..=52 | 57) => (Reply::Shape.number(), 0),
+            Some(48..=52 | 57 | 58 | 60) => (Reply::Shape.number(), 0),
             _ => self.0.request(record),
         }
     }
@@ -219,6 +241,10 @@ impl Desk for OneByOne {
 
     fn copy(&self) -> Box<dyn Desk> {
         Box::new(OneByOne(self.0.copy()))
+    }
+
+    fn question(&self, record: &[u8], answer: &mut [u64]) -> u8 {
+        self.0.question(record, answer)
     }
 }
 
@@ -263,6 +289,19 @@ type Piled = (u8, Vec<u8>);
 
 fn shown_pile((reply, buffer): &Piled) -> String {
     format!("{}, buffer {buffer:?}", shown(&(*reply, 0)))
+}
+
+/// A question's reply, and the answer afterwards.
+type Asked = (u8, Vec<u64>);
+
+fn shown_question((reply, answer): &Asked) -> String {
+    let runs = answer.chunk_by(|one, other| one == other);
+    let shown_run = |run: &[u64]| match run.len() {
+        1 => format!("{:#x}", run[0]),
+        times => format!("{times} times {:#x}", run[0]),
+    };
+    let words: Vec<String> = runs.map(shown_run).collect();
+    format!("{}, answer {}", shown(&(*reply, 0)), words.join(", "))
 }
 
 /// Several engines, asked the same in step.
@@ -338,5 +377,16 @@ impl Panel {
         };
         let answers = self.0.iter_mut().map(ask).collect();
         self.agreed(answers, shown_pile)
+    }
+
+    /// Puts a question to all engines: its reply and the answer afterwards, or what each answered.
+    pub fn question(&self, question: &Question) -> Result<Asked, Difference> {
+        let ask = |desk: &dyn Desk| {
+            let mut answer = question.answer.clone();
+            let reply = desk.question(&question.record, &mut answer);
+            (reply, answer)
+        };
+        let answers = self.0.iter().map(|desk| ask(desk.as_ref()));
+        self.agreed(answers.collect(), shown_question)
     }
 }

@@ -44,6 +44,12 @@ fn twice(engine: &mut Engine, step: &Step) -> Answer {
             let mut buffer = pile.buffer.clone();
             (Desk::pile(engine, &pile.records, &mut buffer, pile.at), 0)
         }
+        Step::Question(question) => {
+            let mut answer = question.answer.clone();
+            let reply = Desk::question(engine, &question.record, &mut answer);
+            assert!(reply == 0 || answer == question.answer);
+            (reply, 0)
+        }
     };
     let answer = take(engine);
     assert_eq!(take(&mut copy), answer, "a call has two answers");
@@ -62,8 +68,10 @@ pub fn garbage(seed: u64, number: u64) -> Result<(), String> {
     let state = spoilt(&mut random, engine);
     let mut engine = Engine::from_state(state.clone());
     for step in &case.steps {
-        let Step::Request(record) = step else {
-            continue;
+        let kind = match step {
+            Step::Request(record) => record.first(),
+            Step::Question(_) => Some(&58),
+            Step::Load(_) | Step::Pile(_) => continue,
         };
         let before = engine.clone();
         let (reply, place) = twice(&mut engine, step);
@@ -72,7 +80,7 @@ pub fn garbage(seed: u64, number: u64) -> Result<(), String> {
             about_a_rule == (place != 0) && place <= 64,
             "{reply} with place {place}"
         );
-        let only_asks = matches!(record.first(), Some(56 | 57));
+        let only_asks = matches!(kind, Some(56..=58 | 60));
         if reply != 0 || only_asks {
             assert_eq!(engine, before, "a refusal changed the state");
         }

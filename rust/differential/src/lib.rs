@@ -18,7 +18,7 @@ mod pools;
 mod slow;
 mod walk;
 
-pub use cases::{Case, Pile, Step};
+pub use cases::{Case, Pile, Question, Step};
 pub use command::command;
 pub use compare::{compare, Failure};
 pub use coverage::{possible, Coverage};
@@ -26,8 +26,8 @@ pub use desks::{checked, plain, proved, Answer, Desk, Difference, Panel};
 #[cfg(mishantral_engine)]
 pub use garbage::garbage;
 #[cfg(mishantral_engine)]
-pub use links::links;
-pub use slow::Slow;
+pub use links::{damages, links, Links};
+pub use slow::{Place, Slow};
 
 /// Whether the proved library takes part.
 pub const PROVED: bool = cfg!(mishantral_engine);

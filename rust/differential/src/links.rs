@@ -153,40 +153,155 @@ fn laid_out_anew(random: &mut Random, words: &mut [u64], now: Read) {
     words[CHAINS + ASIDE] = random.word() << 24;
 }
 
-/// One thing changed, mostly so that the links or the figures break.
-fn broken(random: &mut Random, words: &mut [u64]) {
-    let mark = words[MARK].clamp(1, 2048) as usize;
-    let any_entry = |random: &mut Random| 1 + random.below(mark);
+/// The chains of sound words that have entries, each with the places of its words.
+fn chains(words: &[u64]) -> Vec<(usize, Vec<usize>)> {
+    let open = Set(words[OPEN]).members().map(usize::from);
+    let places = |chain: usize| {
+        let next = |at: u64| (at != 0).then_some(BEFORE + at as usize);
+        let head = next(words[CHAINS + chain] % 4096);
+        std::iter::successors(head, |at| next(link(words[*at]))).collect()
+    };
+    let all = open.chain([FREE]).map(|chain| (chain, places(chain)));
+    all.filter(|(_, places): &(_, Vec<usize>)| !places.is_empty())
+        .collect()
+}
+
+fn linked(entry: &mut u64, to: usize) {
+    *entry = *entry & !(4095 << 32) | ((to - BEFORE) as u64) << 32;
+}
+
+/// Sound words, and what is picked of them: one entry of one chain, one of another where there is one, and an open order.
+struct Sound<'a> {
+    words: &'a mut [u64],
+    one: Vec<usize>,
+    at: usize,
+    other: usize,
+    chain: usize,
+    order: usize,
+}
+
+/// A way to change one thing, mostly so that the links or the figures break: what it is, and the deed.
+type Damage = (&'static str, fn(&mut Random, Sound));
+
+const DAMAGES: [Damage; 17] = [
+    ("a bit of an entry", |random, s| {
+        s.words[s.at] ^= 1 << random.below(64);
+    }),
+    ("a bit of a table", |random, s| {
+        let at = random.pick(&[MARK, OPEN, TEMPLATES + s.order, CHAINS + s.chain]);
+        s.words[at] ^= 1 << random.below(64);
+    }),
+    ("a bit anywhere", |random, s| {
+        s.words[random.below(s.words.len())] ^= 1 << random.below(64);
+    }),
+    ("a link into another chain", |_, s| {
+        linked(&mut s.words[s.at], s.other);
+    }),
+    ("two chains that cross", |_, s| {
+        let both = (link(s.words[s.at]), link(s.words[s.other]));
+        let to = |at: u64| BEFORE + at as usize;
+        linked(&mut s.words[s.at], to(both.1));
+        linked(&mut s.words[s.other], to(both.0));
+    }),
+    ("a link to itself", |_, s| linked(&mut s.words[s.at], s.at)),
+    ("a link back", |_, s| {
+        linked(&mut s.words[s.one[s.one.len() - 1]], s.one[0]);
+    }),
+    ("an early end", |_, s| {
+        linked(&mut s.words[s.one[0]], BEFORE)
+    }),
+    ("an entry left out", |_, s| {
+        if let [first, second, ..] = s.one[..] {
+            let behind = BEFORE + link(s.words[second]) as usize;
+            linked(&mut s.words[first], behind);
+        }
+    }),
+    ("an entry of another order", |random, s| {
+        s.words[s.at] ^= 1 + random.below(63) as u64;
+    }),
+    ("an entry turned free or back", |_, s| {
+        s.words[s.at] ^= 1 << 30;
+    }),
+    ("a number too large", |_, s| {
+        s.words[CHAINS + s.chain] = s.words[CHAINS + s.chain].wrapping_add(1 << 12);
+    }),
+    ("a number too small", |_, s| {
+        s.words[CHAINS + s.chain] = s.words[CHAINS + s.chain].wrapping_sub(1 << 12);
+    }),
+    ("numbers exchanged", |_, s| {
+        let number = |word: u64| word >> 12 & 4095;
+        let (one, free) = (s.words[CHAINS + s.chain], s.words[CHAINS + FREE]);
+        let with = |word: u64, number: u64| word & !(4095 << 12) | number << 12;
+        s.words[CHAINS + s.chain] = with(one, number(free));
+        s.words[CHAINS + FREE] = with(free, number(one));
+    }),
+    ("another first entry", |_, s| {
+        let head = &mut s.words[CHAINS + s.chain];
+        *head = *head & !4095 | (s.other - BEFORE) as u64;
+    }),
+    ("a done task more or less", |random, s| {
+        s.words[DONE + s.order] ^= 1 << random.below(64);
+    }),
+    ("another mark", |random, s| {
+        let mark = s.words[MARK];
+        s.words[MARK] = random.pick(&[mark + 1, mark.wrapping_sub(1), 2048, 2049, 4097]);
+    }),
+];
+
+/// Changes one thing in sound words; what it is.
+fn damage(random: &mut Random, words: &mut [u64]) -> &'static str {
+    let chains = chains(words);
     let open: Vec<usize> = Set(words[OPEN]).members().map(usize::from).collect();
-    let chain = if open.is_empty() || random.chance(1, 6) {
-        random.pick(&[FREE, ASIDE, 0, 63])
+    let order = if open.is_empty() {
+        random.below(64)
     } else {
         random.pick(&open)
     };
-    let (at, other) = (BEFORE + any_entry(random), any_entry(random) as u64);
-    let with_link = |entry: u64, link: u64| entry & !(4095 << 32) | link << 32;
-    match random.below(12) {
-        0 => words[at] ^= 1 << random.below(64),
-        1 => {
-            let table = random.pick(&[MARK, OPEN, TEMPLATES + chain % 64, CHAINS + chain]);
-            words[table] ^= 1 << random.below(64);
-        }
-        2 => words[at] = with_link(words[at], other),
-        3 => words[at] = with_link(words[at], (at - BEFORE) as u64),
-        4 => words[at] = with_link(words[at], 0),
-        5 => words[at] ^= 1 + random.below(63) as u64,
-        6 => words[at] ^= 1 << 30,
-        7 => words[CHAINS + chain] = words[CHAINS + chain].wrapping_add(1 << 12),
-        8 => words[CHAINS + chain] = words[CHAINS + chain].wrapping_sub(1 << 12),
-        9 => words[CHAINS + chain] = words[CHAINS + chain] & !4095 | other,
-        10 => words[DONE + chain % 64] ^= 1 << random.below(64),
-        _ => words[MARK] = random.pick(&[mark as u64 + 1, mark as u64 - 1, 2048, 2049, 4097]),
+    // Where there is no entry, the first word of all entries stands for one.
+    let (mut chain, mut one) = (order, vec![BEFORE + 1]);
+    if !chains.is_empty() {
+        (chain, one) = chains[random.below(chains.len())].clone();
     }
+    let others: Vec<usize> = chains
+        .iter()
+        .filter(|(c, _)| *c != chain)
+        .flat_map(|(_, places)| places.clone())
+        .collect();
+    let other = if others.is_empty() {
+        random.pick(&one)
+    } else {
+        random.pick(&others)
+    };
+    let at = random.pick(&one);
+    let (name, deed) = DAMAGES[random.below(DAMAGES.len())];
+    let sound = Sound {
+        words,
+        one,
+        at,
+        other,
+        chain,
+        order,
+    };
+    deed(random, sound);
+    name
 }
 
-/// Runs a case on, over an orders buffer that was laid out anew or broken: whether it was sound. A difference from a slow engine with what
-/// the words say, or with nothing, is told.
-pub fn links(seed: u64, number: u64) -> Result<bool, String> {
+/// The damages that there are.
+pub fn damages() -> impl Iterator<Item = &'static str> {
+    DAMAGES.into_iter().map(|(name, _)| name)
+}
+
+/// What a case made of the orders buffer: what was changed last, and whether it was sound then.
+pub struct Links {
+    /// The damage, if there was any.
+    pub damage: Option<&'static str>,
+    /// Whether the links and the figures are sound.
+    pub sound: bool,
+}
+
+/// Runs a case on, over an orders buffer that was laid out anew or damaged. A difference from a slow engine with what the words say, or with
+/// nothing, is told.
+pub fn links(seed: u64, number: u64) -> Result<Links, String> {
     let mut random = Random::new(seed ^ number.wrapping_mul(0x2545_f491_4f6c_dd1d));
     let case = Case::random(seed, number);
     let (mut engine, mut slow) = (Engine::new(), Slow::default());
@@ -202,9 +317,8 @@ pub fn links(seed: u64, number: u64) -> Result<bool, String> {
     if random.chance(1, 2) {
         laid_out_anew(&mut random, &mut state.orders, now);
     }
-    if random.chance(2, 3) {
-        broken(&mut random, &mut state.orders);
-    }
+    let damaged = random.chance(2, 3);
+    let damage = damaged.then(|| damage(&mut random, &mut state.orders));
     let read = read(&state.orders);
     let sound = read.is_some();
     let expected = match read {
@@ -223,11 +337,11 @@ pub fn links(seed: u64, number: u64) -> Result<bool, String> {
         pools: case.pools,
     };
     match compare(&panel, &case, false) {
-        Ok(_) => Ok(sound),
+        Ok(_) => Ok(Links { damage, sound }),
         Err(failure) => {
             let told = if sound { "sound" } else { "not sound" };
-            let report = failure.report();
-            Err(format!("case {number}, links {told}:\n{report}"))
+            let (report, damage) = (failure.report(), damage.unwrap_or("no damage"));
+            Err(format!("case {number}, {damage}, links {told}:\n{report}"))
         }
     }
 }
@@ -243,5 +357,6 @@ fn take(desk: &mut dyn Desk, step: &Step) {
         Step::Pile(pile) => {
             desk.pile(&pile.records, &mut pile.buffer.clone(), pile.at);
         }
+        Step::Question(_) => {}
     }
 }

@@ -84,8 +84,8 @@ fn garbage(_seed: u64, _number: u64) -> Result<(), String> {
 }
 
 #[cfg(not(mishantral_engine))]
-fn links(_seed: u64, _number: u64) -> Result<bool, String> {
-    Ok(true)
+fn links(_seed: u64, _number: u64) -> Result<(), String> {
+    Ok(())
 }
 
 fn tell(options: &Options) -> Result<(), String> {
@@ -108,6 +108,8 @@ fn tell(options: &Options) -> Result<(), String> {
         println!("not seen: {:?}", coverage.missing());
         println!("places not seen: {:?}", coverage.missing_places());
         println!("piles not seen: {:?}", coverage.missing_piles());
+        println!("questions not seen: {:?}", coverage.missing_questions());
+        println!("figures not seen: {:?}", coverage.missing_figures());
     }
     println!("{} cases of seed {} agree", options.cases, options.seed);
     Ok(())

@@ -16,9 +16,49 @@ pub(crate) struct Entry {
     pub holder: Option<u16>,
 }
 
+/// Where roles count with all roles below them.
+#[derive(Clone, Copy, PartialEq, Eq, Debug)]
+pub enum Place {
+    /// A role to stand above is not below already (17).
+    Loop,
+    /// Static sets when a role is raised (17).
+    Raise,
+    /// A static set that comes behind the assignments (9).
+    StaticSet,
+    /// Static sets of those who are assigned a role, or join with roles (4, 32, 34).
+    Assign,
+    /// What is assigned no longer when a role is taken back (35).
+    TakeBack,
+    /// What may be activated (40, 42).
+    Activate,
+    /// Dynamic sets (40, 42).
+    Dynamic,
+    /// What an active role may open (50).
+    Open,
+    /// What an active role is permitted (56).
+    Permit,
+}
+
+impl Place {
+    /// All places.
+    pub const ALL: [Place; 9] = [
+        Place::Loop,
+        Place::Raise,
+        Place::StaticSet,
+        Place::Assign,
+        Place::TakeBack,
+        Place::Activate,
+        Place::Dynamic,
+        Place::Open,
+        Place::Permit,
+    ];
+}
+
 /// The engine: sets, pairs and lists, each as the rules name them.
 #[derive(Clone, Default)]
 pub struct Slow {
+    /// A place where roles do not count with those below them, for tests that this is found.
+    forgotten: Option<Place>,
     users: Numbers,
     roles: Numbers,
     permissions: BTreeMap<u16, (u16, u16)>,
@@ -35,6 +75,8 @@ pub struct Slow {
     limits: BTreeMap<u16, u8>,
     bindings: Vec<(u16, u16)>,
     prerequisites: Vec<(u16, u16)>,
+    /// Senior and junior.
+    above: Pairs,
     subjects: BTreeMap<u16, (u16, Numbers)>,
     /// Every role that a live subject has had active.
     had: BTreeMap<u16, Numbers>,
@@ -90,15 +132,15 @@ fn form(kind: u8) -> Option<Form> {
         4 | 34 | 35 => ([Some(1023), Some(63), None], false, false),
         5 | 8 | 36 | 37 => ([Some(63), Some(255), None], false, false),
         6 | 48 => ([Some(63), Some(15), None], false, false),
-        7 | 15 | 16 => ([Some(63), Some(63), None], false, false),
+        7 | 15..=17 => ([Some(63), Some(63), None], false, false),
         9..=11 => ([None, None, None], true, true),
         12 => ([Some(15), None, None], false, true),
-        13 => ([Some(15), None, None], false, false),
+        13 | 60 => ([Some(15), None, None], false, false),
         14 => ([Some(63), None, None], true, false),
         40 => ([Some(127), Some(1023), None], false, true),
         41 => ([Some(127), None, None], false, false),
         42 | 43 => ([Some(127), Some(63), None], false, false),
-        49 => ([Some(63), None, None], false, false),
+        49 | 58 => ([Some(63), None, None], false, false),
         50..=52 => ([Some(127), Some(63), Some(63)], false, false),
         56 => ([Some(127), Some(any), Some(any)], false, false),
         57 => ([Some(127), Some(63), Some(63)], false, true),
@@ -115,7 +157,7 @@ fn well_formed(bytes: &[u8], policy: bool) -> Result<Record, Reply> {
     let unused = fields.iter().any(|(f, last)| last.is_none() && *f != 0);
     let large = r.kind() == 57 && r.m() >= 1 << 32;
     let extra = !n && r.n() != 0 || !m && r.m() != 0 || large;
-    if policy != (r.kind() <= 16) || unused || extra {
+    if policy != (r.kind() <= 17) || unused || extra {
         return Err(Shape);
     }
     let beyond = |(f, last): &(u16, Option<u16>)| last.is_some_and(|last| *f > last);
@@ -126,16 +168,52 @@ fn well_formed(bytes: &[u8], policy: bool) -> Result<Record, Reply> {
 }
 
 impl Slow {
+    /// An engine that forgets the roles below others at one place.
+    pub fn forgetting(place: Place) -> Slow {
+        Slow {
+            forgotten: Some(place),
+            ..Slow::default()
+        }
+    }
+
+    fn empty(&mut self) {
+        *self = Slow {
+            forgotten: self.forgotten,
+            ..Slow::default()
+        };
+    }
+
+    /// The roles and all roles below them.
+    fn down(&self, place: Place, roles: &Numbers) -> Numbers {
+        let mut all = roles.clone();
+        if self.forgotten == Some(place) {
+            return all;
+        }
+        loop {
+            let below = self.above.iter().filter(|(senior, _)| all.contains(senior));
+            let juniors: Numbers = below.map(|(_, junior)| *junior).collect();
+            if juniors.is_subset(&all) {
+                return all;
+            }
+            all.extend(juniors);
+        }
+    }
+
+    /// Whether roles, with those below them, break a static set.
+    fn breaks_static(&self, place: Place, roles: &Numbers) -> bool {
+        broken(&self.static_sets, &self.down(place, roles))
+    }
+
     /// Loads a policy: the reply, and the place of the refused record from 1, or 0.
     pub fn load(&mut self, policy: &[u8]) -> (Reply, usize) {
-        *self = Slow::default();
+        self.empty();
         for (before, bytes) in policy.chunks(16).enumerate() {
             let reply = match well_formed(bytes, true) {
                 Ok(record) => self.policy_record(record),
                 Err(reply) => reply,
             };
             if reply != Granted {
-                *self = Slow::default();
+                self.empty();
                 return (reply, before + 1);
             }
         }
@@ -148,6 +226,81 @@ impl Slow {
             Ok(record) => self.serve(record),
             Err(reply) => (reply, 0),
         }
+    }
+
+    /// Answers a question: its reply, and the answer afterwards.
+    pub fn question(&self, bytes: &[u8], answer: &[u64]) -> (Reply, Vec<u64>) {
+        let no_question = !matches!(bytes.first(), Some(58 | 60));
+        let judged = first(&[(Room, answer.len() != 66), (Shape, no_question)]);
+        let asked = match judged {
+            Granted => well_formed(bytes, false),
+            refused => Err(refused),
+        };
+        let judge = |record| match self.judge_question(record) {
+            Granted => Ok(self.figures(record)),
+            refused => Err(refused),
+        };
+        match asked.and_then(judge) {
+            Ok(mut figures) => {
+                figures.resize(66, 0);
+                (Granted, figures)
+            }
+            Err(reply) => (reply, answer.to_vec()),
+        }
+    }
+
+    fn judge_question(&self, r: Record) -> Reply {
+        let unknown = match r.kind() {
+            58 => !self.instances.contains_key(&r.a()),
+            _ => self.tasks_of(r.a()).is_empty(),
+        };
+        first(&[(Unknown, unknown)])
+    }
+
+    /// The words of a question that is granted, but for zeros behind them.
+    fn figures(&self, r: Record) -> Vec<u64> {
+        if r.kind() == 60 {
+            return self.stuck_and_free(r.a());
+        }
+        let entries = self.entries.iter().filter(|e| e.instance == r.a());
+        let done = entries.clone().filter(|e| e.holder.is_none());
+        let done: Set = done.map(|e| e.task as u8).collect();
+        vec![entries.count() as u64, done.0]
+    }
+
+    /// The tasks that must be done before one.
+    fn required(&self, task: u16) -> Numbers {
+        let before = self.prerequisites.iter().filter(|(_, b)| *b == task);
+        before.map(|(a, _)| *a).collect()
+    }
+
+    /// The tasks of a template that some list ends in which has the prerequisites of each of its members earlier: those without
+    /// prerequisites, those all of whose prerequisites are such, and so on.
+    fn free(&self, template: u16) -> Numbers {
+        let tasks = self.tasks_of(template);
+        let mut free = Numbers::new();
+        for _ in 0..tasks.len() {
+            let more = tasks.iter().filter(|t| self.required(**t).is_subset(&free));
+            free = more.copied().collect();
+        }
+        free
+    }
+
+    fn stuck_and_free(&self, template: u16) -> Vec<u64> {
+        let (tasks, free) = (self.tasks_of(template), self.free(template));
+        let stuck: Set = tasks.difference(&free).map(|t| *t as u8).collect();
+        let mut list: Vec<u16> = Vec::new();
+        while list.len() < free.len() {
+            let earlier: Numbers = list.iter().copied().collect();
+            let may = |t: &&u16| !earlier.contains(*t) && self.required(**t).is_subset(&earlier);
+            let lowest = free.iter().find(may);
+            list.push(*lowest.expect("a free task can stand in the list"));
+        }
+        let list = list.iter().map(|t| u64::from(*t));
+        [stuck.0, free.len() as u64]
+            .into_iter()
+            .chain(list)
+            .collect()
     }
 
     /// The engine with other open orders, each with its template, and other entries.
@@ -225,6 +378,7 @@ impl Slow {
         let reply = match r.kind() {
             1..=8 => self.judge_declaration(r),
             9..=12 => self.judge_set(r),
+            17 => self.judge_seniority(r.a(), r.b()),
             _ => self.judge_rule(r),
         };
         if reply == Granted {
@@ -267,7 +421,7 @@ impl Slow {
                 !self.users.contains(&user) || !self.roles.contains(&role),
             ),
             (Taken, self.user_roles.contains(&(user, role))),
-            (Static, broken(&self.static_sets, &then)),
+            (Static, self.breaks_static(Place::Assign, &then)),
         ])
     }
 
@@ -296,7 +450,8 @@ impl Slow {
             _ => &self.task_sets,
         };
         let ill_made = n < 1 || n >= members.len() || mixed;
-        let too_many = |user: &u16| overlap(&self.roles_of(*user), &members) > n;
+        let counted = |user: &u16| self.down(Place::StaticSet, &self.roles_of(*user));
+        let too_many = |user: &u16| overlap(&counted(user), &members) > n;
         first(&[
             (Taken, rules.contains(&(r.n(), members.clone()))),
             (Rule, ill_made),
@@ -351,6 +506,22 @@ impl Slow {
         }
     }
 
+    fn judge_seniority(&self, senior: u16, junior: u16) -> Reply {
+        let known = self.roles.contains(&senior) && self.roles.contains(&junior);
+        let below = self.down(Place::Loop, &Numbers::from([junior]));
+        let mut raised = self.clone();
+        raised.above.extend([(senior, junior)]);
+        let breaks = |user: &u16| raised.breaks_static(Place::Raise, &self.roles_of(*user));
+        first(&[
+            (Unknown, !known),
+            (Taken, self.above.contains(&(senior, junior))),
+            (Rule, senior == junior),
+            (Loop, below.contains(&senior)),
+            (Static, self.users.iter().any(breaks)),
+            (Full, self.above.len() == 64),
+        ])
+    }
+
     /// What an accepted policy record says from now on.
     fn enter(&mut self, r: Record) {
         let (n, a, b) = (r.n(), r.a(), r.b());
@@ -371,7 +542,8 @@ impl Slow {
             13 => self.bans.extend([a]),
             14 => self.limits.extend([(a, n)]),
             15 => self.bindings.push((a, b)),
-            _ => self.prerequisites.push((a, b)),
+            16 => self.prerequisites.push((a, b)),
+            _ => self.above.extend([(a, b)]),
         }
     }
 
@@ -381,6 +553,7 @@ impl Slow {
             40..=43 | 56 => (self.judge_sessions(r), 0),
             48 | 49 => (self.judge_orders(r), 0),
             50 => self.judge_claim(r),
+            58 | 60 => (self.judge_question(r), 0),
             _ => (self.judge_holder(r), 0),
         };
         if reply == Granted {
@@ -398,7 +571,7 @@ impl Slow {
                 first(&[
                     (Unknown, !roles.iter().all(|role| self.roles.contains(role))),
                     (Taken, user),
-                    (Static, broken(&self.static_sets, &roles)),
+                    (Static, self.breaks_static(Place::Assign, &roles)),
                 ])
             }
             33 => {
@@ -408,10 +581,20 @@ impl Slow {
                 first(&[(Unknown, !user), (InUse, used)])
             }
             34 => self.judge_assignment(a, b),
-            35 => first(&[
-                (Unknown, !self.user_roles.contains(&(a, b))),
-                (InUse, self.active_of(a).contains(&b)),
-            ]),
+            35 => {
+                let assigned = self.roles_of(a);
+                let left: Numbers = assigned.iter().copied().filter(|r| *r != b).collect();
+                let now = self.down(Place::TakeBack, &assigned);
+                let then = self.down(Place::TakeBack, &left);
+                let mut active = self.active_of(a).into_iter();
+                first(&[
+                    (Unknown, !self.user_roles.contains(&(a, b))),
+                    (
+                        InUse,
+                        active.any(|r| now.contains(&r) && !then.contains(&r)),
+                    ),
+                ])
+            }
             36 => self.judge_giving(a, b),
             _ => first(&[(Unknown, !self.role_permissions.contains(&(a, b)))]),
         }
@@ -420,9 +603,11 @@ impl Slow {
     /// NOT ASSIGNED and DYNAMIC, for roles that a user's subject would have active as well.
     fn judge_active(&self, user: u16, roles: &Numbers) -> [(Reply, bool); 2] {
         let then = self.had_by(user).union(roles).copied().collect();
+        let counted = self.down(Place::Dynamic, &then);
+        let may = self.down(Place::Activate, &self.roles_of(user));
         [
-            (NotAssigned, !roles.is_subset(&self.roles_of(user))),
-            (Dynamic, broken(&self.dynamic_sets, &then)),
+            (NotAssigned, !roles.is_subset(&may)),
+            (Dynamic, broken(&self.dynamic_sets, &counted)),
         ]
     }
 
@@ -454,10 +639,10 @@ impl Slow {
             }
             43 => first(&[(Unknown, !active.contains(&b))]),
             _ => {
+                let acting = self.down(Place::Permit, active);
                 let has = |p: &u16| {
-                    active
-                        .iter()
-                        .any(|r| self.role_permissions.contains(&(*r, *p)))
+                    let mut acting = acting.iter();
+                    acting.any(|r| self.role_permissions.contains(&(*r, *p)))
                 };
                 first(&[(Denied, !self.permissions_of(b, r.c()).any(|p| has(&p)))])
             }
@@ -511,8 +696,8 @@ impl Slow {
             .filter(|e| e.instance == r.b())
             .collect();
         let held = order.iter().any(|e| e.task == task && e.holder.is_some());
-        let active = &self.subjects[&subject].1;
-        let opened = active
+        let acting = self.down(Place::Open, &self.subjects[&subject].1);
+        let opened = acting
             .iter()
             .any(|role| self.open_to.contains(&(task, *role)));
         let mut checks = vec![(Taken, unplaced(held)), (NoRole, unplaced(!opened))];

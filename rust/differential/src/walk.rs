@@ -1,13 +1,14 @@
 //! What the tables tell through the public calls: after a case, every engine is asked the same about
 //! everything that the case could have touched. Each question works on copies of the engines.
 
+use crate::cases::{Question, Step};
 use crate::desks::{Difference, Panel};
 use crate::pools::Pools;
 use records::{Record, Set};
 
-/// A record that the engines answered differently, and what was asked before it on the same copies.
+/// What the engines answered differently, behind what was asked before it on the same copies.
 pub struct Found {
-    pub asked: Vec<Record>,
+    pub asked: Vec<Step>,
     pub difference: Difference,
 }
 
@@ -18,8 +19,19 @@ fn ask(panel: &Panel, records: impl IntoIterator<Item = Record>) -> Walked {
     let mut copy = panel.copy();
     let mut asked = Vec::new();
     for record in records {
-        asked.push(record);
+        asked.push(Step::Request(record.0.to_vec()));
         if let Err(difference) = copy.request(&record.0) {
+            return Err(Box::new(Found { asked, difference }));
+        }
+    }
+    Ok(())
+}
+
+/// Puts questions for their figures to the panel, which they do not change.
+fn ask_figures(panel: &Panel, records: impl IntoIterator<Item = Record>) -> Walked {
+    for question in records.into_iter().map(Question::of) {
+        if let Err(difference) = panel.question(&question) {
+            let asked = vec![Step::Question(question)];
             return Err(Box::new(Found { asked, difference }));
         }
     }
@@ -95,6 +107,8 @@ fn orders(panel: &Panel, pools: &Pools) -> Walked {
         of.collect()
     };
     let template = pools.templates[0];
+    ask_figures(panel, (0..65).map(Record::entries_of))?;
+    ask_figures(panel, (0..17).map(Record::stuck_tasks))?;
     ask(
         panel,
         (0..64).map(|order| Record::open_order(order, template)),

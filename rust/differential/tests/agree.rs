@@ -18,6 +18,14 @@ fn all_engines_agree_and_every_reply_comes_up() {
     assert_eq!(coverage.surprising(), [], "\n{}", coverage.table());
     assert_eq!(coverage.missing_places(), [], "\n{}", coverage.table());
     assert_eq!(coverage.missing_piles(), [], "\n{}", coverage.table());
+    assert_eq!(coverage.missing_questions(), [], "\n{}", coverage.table());
+    assert_eq!(coverage.missing_figures(), [""; 0]);
+    assert_eq!(
+        coverage.surprising_questions(),
+        [],
+        "\n{}",
+        coverage.table()
+    );
     assert_eq!(coverage.surprising_places(), [], "\n{}", coverage.table());
 }
 
@@ -56,12 +64,16 @@ fn the_proved_library_answers_over_garbage() {
 #[cfg(mishantral_engine)]
 #[test]
 fn the_proved_library_reads_links_as_they_are() {
-    let mut seen = [0, 0];
-    for number in 0..200 {
+    let (mut sound, mut broken) = (0, std::collections::BTreeSet::new());
+    for number in 0..300 {
         match differential::links(SEED, number) {
-            Ok(sound) => seen[usize::from(sound)] += 1,
+            Ok(links) if links.sound => sound += 1,
+            Ok(links) => drop(broken.insert(links.damage)),
             Err(report) => panic!("{report}"),
         }
     }
-    assert!(seen[0] > 50 && seen[1] > 50, "{seen:?}");
+    assert!(sound > 50, "{sound}");
+    for damage in differential::damages() {
+        assert!(broken.contains(&Some(damage)), "{damage} broke nothing");
+    }
 }

@@ -1,8 +1,7 @@
 //! Engines with a fault each: the comparison finds every one, and shows it by a small case.
 
-use differential::{compare, plain, Answer, Case, Desk, Panel};
-use plain::{Engine, OrderLists};
-use records::Reply;
+use differential::{compare, plain, Answer, Case, Desk, Panel, Place, Slow};
+use plain::{Engine, OrderLists, Reply};
 
 /// What a record is taken for.
 type Bend = fn(&[u8]) -> Vec<u8>;
@@ -22,7 +21,12 @@ struct Faulty {
     placed: Placed,
     /// What is done with a pile.
     piled: Piled,
+    /// What is done with a question.
+    asked: Asked,
 }
+
+/// A question's reply by an engine, the record and the answer.
+type Asked = fn(&Engine<OrderLists>, &[u8], &mut [u64]) -> Reply;
 
 /// A pile's reply by an engine, the records, the buffer and the place.
 type Piled = fn(&mut Faulty, &[u8], &mut [u8], usize) -> u8;
@@ -59,6 +63,10 @@ impl Desk for Faulty {
     fn pile(&mut self, records: &[u8], answers: &mut [u8], at: usize) -> u8 {
         (self.piled)(self, records, answers, at)
     }
+
+    fn question(&self, record: &[u8], answer: &mut [u64]) -> u8 {
+        (self.asked)(&self.engine, record, answer).number()
+    }
 }
 
 /// The requests one after the other, where the pile has room and shape.
@@ -85,18 +93,19 @@ fn sound() -> Faulty {
         policy: Vec::new(),
         placed: |_, _, (_, place)| place,
         piled: rightly,
+        asked: Engine::question,
     }
 }
 
 /// The report of the first case that shows the fault.
-fn found(faulty: Faulty) -> Option<String> {
+fn found(faulty: impl Desk + 'static) -> Option<String> {
     let good = plain("plain", Engine::<OrderLists>::new());
     let panel = Panel::of(vec![good, Box::new(faulty)]);
     let failure = |number| compare(&panel, &Case::random(5, number), false).err();
     (0..200).find_map(failure).map(|f| f.report())
 }
 
-fn finds(faulty: Faulty, most_lines: usize) {
+fn finds(faulty: impl Desk + 'static, most_lines: usize) {
     let report = found(faulty).expect("the fault is found");
     assert!(report.lines().count() <= most_lines, "{report}");
 }
@@ -200,7 +209,7 @@ fn a_reply_told_as_another_is_found() {
 
 /// The records of the kind that a reply's place counts.
 fn rules(policy: &[u8], reply: u8) -> impl Iterator<Item = &[u8]> {
-    let kind = Reply::from_number(reply.into()).and_then(Reply::rule_kind);
+    let kind = records::Reply::from_number(reply.into()).and_then(records::Reply::rule_kind);
     policy.chunks(16).filter(move |rule| Some(rule[0]) == kind)
 }
 
@@ -300,4 +309,103 @@ fn a_pile_that_is_answered_wrongly_is_found() {
     for piled in wrong {
         finds(Faulty { piled, ..sound() }, 40);
     }
+}
+
+/// The entries of an order, by the record that asks about it.
+fn entries(engine: &Engine<OrderLists>, record: &[u8]) -> Vec<plain::Entry> {
+    let of_it = |e: &plain::Entry| record.get(2) == Some(&e.instance);
+    engine.entries().into_iter().filter(of_it).collect()
+}
+
+#[test]
+fn a_question_that_is_answered_wrongly_is_found() {
+    let wrong: [Asked; 10] = [
+        // Held entries alone are counted.
+        |engine, record, answer| {
+            let reply = engine.question(record, answer);
+            if reply == Reply::Granted && record[0] == 58 {
+                let held = entries(engine, record).into_iter();
+                answer[0] = held.filter(|e| e.holder.is_some()).count() as u64;
+            }
+            reply
+        },
+        // A held task is told as done.
+        |engine, record, answer| {
+            let reply = engine.question(record, answer);
+            if reply == Reply::Granted && record[0] == 58 {
+                let tasks = entries(engine, record).into_iter();
+                answer[1] = tasks.fold(0, |all, e| all | 1 << e.task);
+            }
+            reply
+        },
+        // Words behind the figures stay.
+        |engine, record, answer| {
+            let before = answer.to_vec();
+            let reply = engine.question(record, answer);
+            if reply == Reply::Granted {
+                answer[65] = before[65];
+            }
+            reply
+        },
+        // Free tasks in the order of their numbers.
+        |engine, record, answer| {
+            let reply = engine.question(record, answer);
+            if reply == Reply::Granted && record[0] == 60 {
+                let free = answer[1] as usize;
+                answer[2..2 + free].sort();
+            }
+            reply
+        },
+        // A set of the free ones in the place of the stuck ones.
+        |engine, record, answer| {
+            let reply = engine.question(record, answer);
+            if reply == Reply::Granted && record[0] == 60 {
+                let free = &answer[2..2 + answer[1] as usize];
+                answer[0] = free.iter().fold(0, |all, task| all | 1 << task);
+            }
+            reply
+        },
+        // No free tasks are listed where some are stuck.
+        |engine, record, answer| {
+            let reply = engine.question(record, answer);
+            if reply == Reply::Granted && record[0] == 60 && answer[0] != 0 {
+                answer[1..].fill(0);
+            }
+            reply
+        },
+        // A refusal empties the answer.
+        |engine, record, answer| {
+            let reply = engine.question(record, answer);
+            if reply != Reply::Granted {
+                answer.fill(0);
+            }
+            reply
+        },
+        // An answer that is too long is taken.
+        |engine, record, answer| {
+            let most = answer.len().min(66);
+            engine.question(record, &mut answer[..most])
+        },
+        // The record is judged before the room.
+        |engine, record, answer| match engine.question(record, &mut [0; 66]) {
+            Reply::Granted => engine.question(record, answer),
+            refused => refused,
+        },
+        // Every request is a question.
+        |engine, record, answer| match engine.question(record, answer) {
+            Reply::Shape => engine.clone().request(record).0,
+            reply => reply,
+        },
+    ];
+    for asked in wrong {
+        finds(Faulty { asked, ..sound() }, 40);
+    }
+}
+
+#[test]
+fn a_place_that_forgets_the_roles_below_is_found() {
+    for place in Place::ALL {
+        finds(Slow::forgetting(place), 60);
+    }
+    assert_eq!(found(Slow::default()), None);
 }

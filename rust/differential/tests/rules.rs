@@ -1,6 +1,6 @@
 //! docs/RULES.md says what is so: its examples on all engines, and its tables of kinds, fields, replies and order of checks.
 
-use differential::{possible, Panel};
+use differential::{possible, Panel, Question};
 use records::{Record, Reply};
 
 const PAGE: &str = include_str!("../../../docs/RULES.md");
@@ -50,8 +50,11 @@ fn rows(first: &str) -> Vec<Vec<String>> {
     rows
 }
 
+/// A request, the answer that its line tells, and what the line says to it.
+type Told = (Vec<u8>, String, String);
+
 /// The policy's records and the requests, each with what stands behind its `#`.
-fn example(text: &str) -> (Vec<u8>, Vec<(Vec<u8>, String)>) {
+fn example(text: &str) -> (Vec<u8>, Vec<Told>) {
     let (mut policy, mut requests) = (Vec::new(), Vec::new());
     for line in text.lines() {
         let record = notation::read(line.as_bytes()).expect(line);
@@ -59,19 +62,32 @@ fn example(text: &str) -> (Vec<u8>, Vec<(Vec<u8>, String)>) {
             policy.extend(record);
         } else {
             let (_, told) = line.split_once("# ").expect(line);
-            let told = told.split(':').next().unwrap_or(told);
-            requests.push((record, told.trim().to_string()));
+            let (told, said) = told.split_once(':').unwrap_or((told, ""));
+            let (told, said) = (told.trim().to_string(), said.trim().to_string());
+            requests.push((record, told, said));
         }
     }
     (policy, requests)
+}
+
+/// A granted question's figures in words, on all engines.
+fn figures(panel: &Panel, record: &[u8]) -> Option<String> {
+    let question = Question::of(Record(record.try_into().unwrap()));
+    let (reply, answer) = panel.question(&question).unwrap();
+    let answer: [u64; 66] = answer.try_into().unwrap();
+    let figures = notation::figures(record, &answer, |task| task.to_string());
+    figures.filter(|_| reply == 0)
 }
 
 fn comes_out(text: &str) {
     let (policy, requests) = example(text);
     let mut panel = Panel::all();
     assert_eq!(panel.load(&policy).unwrap(), (0, 0), "{text}");
-    for (record, told) in requests {
+    for (record, told, said) in requests {
         let (reply, place) = panel.request(&record).unwrap();
+        if let Some(figures) = figures(&panel, &record) {
+            assert_eq!(figures, said, "{text}");
+        }
         let reply = Reply::from_number(reply.into()).unwrap();
         let answer = match place {
             0 => reply.to_string(),
@@ -86,7 +102,7 @@ fn comes_out(text: &str) {
 fn every_example_comes_out() {
     let whole = blocks("desk");
     let rules = blocks("desk two clerks");
-    assert_eq!((whole.len(), rules.len()), (2, 8));
+    assert_eq!((whole.len(), rules.len()), (3, 10));
     whole.iter().for_each(|text| comes_out(text));
     for text in rules {
         comes_out(&[TWO_CLERKS, &text].concat());
@@ -107,7 +123,7 @@ fn replies_have_the_names_that_the_page_gives_them() {
 }
 
 #[test]
-fn the_order_of_checks_is_that_of_the_numbers() {
+fn the_order_of_checks_is_the_one_of_the_page() {
     let mut kinds = 0;
     for row in rows("Kinds | Checks, in their order") {
         for kind in row[0].split(", ") {

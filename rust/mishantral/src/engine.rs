@@ -1,15 +1,14 @@
 //! The engine over the linked library: three lent buffers, two calls.
 //! The declarations are those of include/mishantral.h; nothing else here is unsafe.
 
-use crate::lent::{answered, bytes, loaded, shown, zeroed};
 #[cfg(mishantral_pile)]
-use crate::lent::{flat, reply_of};
-#[cfg(mishantral_pile)]
-use crate::Reply;
-use crate::{Answer, Record, Refused};
+use crate::lent::flat;
+use crate::lent::{answered, bytes, loaded, reply_of, shown, zeroed};
+use crate::{Answer, Record, Refused, Reply, Set};
 use alloc::boxed::Box;
 #[cfg(mishantral_pile)]
-use alloc::{vec, vec::Vec};
+use alloc::vec;
+use alloc::vec::Vec;
 use core::fmt;
 
 type Call = unsafe extern "C" fn(
@@ -66,6 +65,18 @@ extern "C" {
         orders: *mut u64,
         orders_words: usize,
     ) -> u64;
+    fn mishantral_question(
+        record: *const u8,
+        length: usize,
+        answer: *mut u64,
+        answer_words: usize,
+        policy: *const u64,
+        policy_words: usize,
+        sessions: *const u64,
+        sessions_words: usize,
+        orders: *const u64,
+        orders_words: usize,
+    ) -> u64;
     #[cfg(mishantral_pile)]
     fn mishantral_pile(
         records: *const u8,
@@ -87,6 +98,9 @@ extern "C" {
 const SETTLED_REQUEST: Call = mishantral_settled_request;
 #[cfg(not(mishantral_settled_request))]
 const SETTLED_REQUEST: Call = mishantral_request;
+
+/// How many words the answer to a question has.
+pub const ANSWER: usize = 66;
 
 /// How many records a pile has at most.
 #[cfg(mishantral_pile)]
@@ -127,6 +141,28 @@ impl State {
     /// As [`Engine::request`], over any content.
     pub fn request<R: AsRef<[u8]> + ?Sized>(&mut self, record: &R) -> Answer {
         answered(self.call(mishantral_request, record.as_ref()))
+    }
+
+    /// As [`Engine::question`], over any content.
+    pub fn question<R: AsRef<[u8]> + ?Sized>(&self, record: &R, answer: &mut [u64]) -> Reply {
+        let record = record.as_ref();
+        let (policy, sessions, orders) = (&self.policy, &self.sessions, &self.orders);
+        // SAFETY: each pointer is a slice's own, with its length in elements behind it; the answer alone is written to, it is apart from the
+        // others, and the library keeps none of them.
+        reply_of(unsafe {
+            mishantral_question(
+                record.as_ptr(),
+                record.len(),
+                answer.as_mut_ptr(),
+                answer.len(),
+                policy.as_ptr(),
+                policy.len(),
+                sessions.as_ptr(),
+                sessions.len(),
+                orders.as_ptr(),
+                orders.len(),
+            )
+        })
     }
 
     /// Makes a state whose links are broken, which reads as the empty engine, one of zeros; whether the buffers have their lengths and the
@@ -183,6 +219,25 @@ impl fmt::Debug for State {
             .field("orders", &shown(&self.orders))
             .finish()
     }
+}
+
+/// What the engine keeps of an open order.
+#[derive(Clone, Copy, PartialEq, Eq, Hash, Debug)]
+pub struct Figures {
+    /// How many entries it has, held and done ones together.
+    pub entries: usize,
+    /// The tasks that are done: those with a done entry.
+    pub done: Set,
+}
+
+/// Which tasks of a template can be claimed by their prerequisites, and which never.
+#[derive(Clone, PartialEq, Eq, Hash, Debug)]
+pub struct StuckTasks {
+    /// The tasks that can never be claimed because of prerequisites: those that wait for each other, and those that wait for these.
+    pub stuck: Set,
+    /// The others, in an order in which they can be claimed: each behind its prerequisites, and at each place the lowest number that may
+    /// stand there.
+    pub free: Vec<u8>,
 }
 
 /// A policy, its sessions and its orders.
@@ -284,6 +339,89 @@ impl Engine {
             return self.state.request(record);
         }
         answered(self.state.call(SETTLED_REQUEST, record.as_ref()))
+    }
+
+    /// How many entries an open order has, and which of its tasks are done: kind 58 with its figures. UNKNOWN where the order is not open,
+    /// RANGE where its number is above 63.
+    ///
+    /// ```
+    /// use mishantral::{Engine, Figures, Record, Reply, Set};
+    ///
+    /// let mut engine = Engine::new();
+    /// engine.load_records(&[
+    ///     Record::user(300),
+    ///     Record::role(0),
+    ///     Record::user_has_role(300, 0),
+    ///     Record::task(0, 0),
+    ///     Record::task(1, 0),
+    ///     Record::task_open_to(0, 0),
+    ///     Record::task_open_to(1, 0),
+    /// ])?;
+    /// for request in [
+    ///     Record::create_subject(5, 300, Set::of(&[0])),
+    ///     Record::open_order(7, 0),
+    ///     Record::claim(5, 7, 0),
+    ///     Record::done(5, 7, 0),
+    ///     Record::claim(5, 7, 1),
+    /// ] {
+    ///     assert_eq!(engine.request(&request), Reply::Granted);
+    /// }
+    /// let done = Set::of(&[0]);
+    /// assert_eq!(engine.figures(7), Ok(Figures { entries: 2, done }));
+    /// assert_eq!(engine.figures(8), Err(Reply::Unknown));
+    /// # Ok::<(), mishantral::Refused>(())
+    /// ```
+    pub fn figures(&self, order: u16) -> Result<Figures, Reply> {
+        let [entries, done, ..] = self.answered(Record::entries_of(order))?;
+        Ok(Figures {
+            entries: entries as usize,
+            done: Set(done),
+        })
+    }
+
+    /// Which tasks of a template can never be claimed because of prerequisites, and in which order the others can: kind 60 with its figures.
+    /// UNKNOWN where the template has no task, RANGE where its number is above 15.
+    ///
+    /// ```
+    /// use mishantral::{Engine, Record, Reply, Set};
+    ///
+    /// let mut engine = Engine::new();
+    /// let tasks = (1..=6).map(|task| Record::task(task, 0));
+    /// let rules = [(4, 5), (5, 6), (6, 4), (3, 1)];
+    /// let rules = rules.map(|(first, second)| Record::before(first, second));
+    /// engine.load_records(&tasks.chain(rules).collect::<Vec<Record>>())?;
+    /// let answer = engine.stuck_tasks(0).unwrap();
+    /// assert_eq!(answer.stuck, Set::of(&[4, 5, 6]));
+    /// assert_eq!(answer.free, [2, 3, 1]);
+    /// assert_eq!(engine.stuck_tasks(1), Err(Reply::Unknown));
+    /// # Ok::<(), mishantral::Refused>(())
+    /// ```
+    pub fn stuck_tasks(&self, template: u16) -> Result<StuckTasks, Reply> {
+        let [stuck, free, list @ ..] = self.answered(Record::stuck_tasks(template))?;
+        let free = list.iter().take(free as usize);
+        Ok(StuckTasks {
+            stuck: Set(stuck),
+            free: free.map(|task| *task as u8).collect(),
+        })
+    }
+
+    /// Puts any question to the engine, whose figures are written to the words of `answer`, [`ANSWER`] of them, where the reply is
+    /// [`Reply::Granted`]; words that the question does not use become 0. For kind 58 they are the number of entries and the set of done tasks;
+    /// for kind 60 the set of stuck tasks, how many are free, and those in their order.
+    ///
+    /// It is ROOM where the answer has not its length, then SHAPE for a record that is no question, then what [`request`](Engine::request)
+    /// answers; and then nothing is written.
+    pub fn question<R: AsRef<[u8]> + ?Sized>(&self, record: &R, answer: &mut [u64]) -> Reply {
+        self.state.question(record, answer)
+    }
+
+    /// The words of a question's answer, or its refusal.
+    fn answered(&self, question: Record) -> Result<[u64; ANSWER], Reply> {
+        let mut answer = [0; ANSWER];
+        match self.question(&question, &mut answer) {
+            Reply::Granted => Ok(answer),
+            refused => Err(refused),
+        }
     }
 
     /// Answers up to 4,096 requests in one call, one after the other, refused ones among them: the number of each reply is written to

@@ -2,7 +2,8 @@
 //!
 //! [`Record`] has a constructor for each kind (docs/RULES.md), and [`Reply`] each reply's number and name.
 //! `Engine` owns the state that the library works on: it loads a policy and answers requests with an [`Answer`], the reply and, for a
-//! claim that a rule refuses, which rule it is. `lower::Engine` is the lower part alone, without orders. `Policy` is a dealer's OPL/XML as
+//! claim that a rule refuses, which rule it is; `Engine::figures` tells what it keeps of an order,
+//! `Engine::stuck_tasks` which tasks of a template can never be claimed. `lower::Engine` is the lower part alone, without orders. `Policy` is a dealer's OPL/XML as
 //! records, with the dealer's names by number.
 //!
 //! `Engine` is there where the proved library's archive was found when this crate was built: by the
@@ -30,7 +31,7 @@ mod engine;
 #[cfg(mishantral_pile)]
 pub use engine::PILE;
 #[cfg(mishantral_engine)]
-pub use engine::{Engine, State};
+pub use engine::{Engine, Figures, State, StuckTasks, ANSWER};
 
 #[cfg(mishantral_lower)]
 pub mod lower;

@@ -59,6 +59,7 @@ fn kinds_have_one_number() {
         ("AT_MOST", Record::at_most(0, 0)),
         ("BOUND_TO", Record::bound(0, 0)),
         ("BEFORE_TASK", Record::before(0, 0)),
+        ("ROLE_ABOVE", Record::role_above(0, 0)),
         ("ADD_USER", Record::add_user(0)),
         ("DELETE_USER", Record::delete_user(0)),
         ("ASSIGN_ROLE", Record::assign_role(0, 0)),
@@ -76,12 +77,14 @@ fn kinds_have_one_number() {
         ("DONE", Record::done(0, 0, 0)),
         ("CHECK", Record::check(0, 0, 0)),
         ("TASK_CHECK", Record::task_check(0, 0, 0, 0, 0)),
+        ("ENTRIES_OF", Record::entries_of(0)),
+        ("STUCK_TASKS", Record::stuck_tasks(0)),
     ];
     let constants = constants();
     for (name, record) in kinds {
         assert_eq!(constants.get(name), Some(&record.kind()), "{name}");
     }
-    let beside = ["POLICY", "SESSIONS", "ORDERS", "OPL_SCRATCH"];
+    let beside = ["POLICY", "SESSIONS", "ORDERS", "ANSWER", "OPL_SCRATCH"];
     assert_eq!(
         constants.len(),
         kinds.len() + Reply::ALL.len() + beside.len()
@@ -131,6 +134,13 @@ fn buffers_have_the_lengths_that_the_library_tells() {
     assert_eq!(number("POLICY_WORDS"), state.policy.len());
     assert_eq!(number("SESSIONS_WORDS"), state.sessions.len());
     assert_eq!(number("ORDERS_WORDS"), state.orders.len());
+    assert_eq!(number("ANSWER_WORDS"), mishantral::ANSWER);
+    let engine = mishantral::Engine::from_state(state);
+    let mut answer = vec![0; number("ANSWER_WORDS") + 1];
+    let reply = engine.question(&Record::end_order(0), &mut answer);
+    assert_eq!(reply, Reply::Room);
+    let reply = engine.question(&Record::end_order(0), &mut answer[1..]);
+    assert_eq!(reply, Reply::Shape);
 }
 
 #[cfg(mishantral_opl)]
@@ -186,7 +196,7 @@ fn rules_have_the_limits_of_the_library() {
     // Members 0 and up to 63 in pairs, so that no two rules are alike.
     let pair = |i: u8| Set::of(&[i / 60, 2 + i % 60]);
     type Rule = fn(Set, u8) -> Record;
-    let kinds: [(&str, Rule); 6] = [
+    let kinds: [(&str, Rule); 7] = [
         ("MOST_STATIC_SETS", |set, _| Record::static_set(1, set)),
         ("MOST_DYNAMIC_SETS", |set, _| Record::dynamic_set(1, set)),
         ("MOST_TASK_SETS", |set, _| Record::task_set(1, set)),
@@ -195,6 +205,7 @@ fn rules_have_the_limits_of_the_library() {
         }),
         ("MOST_BINDINGS", |set, _| two(set, Record::bound)),
         ("MOST_PREREQUISITES", |set, _| two(set, Record::before)),
+        ("MOST_SENIORITIES", |set, _| two(set, Record::role_above)),
     ];
     let declared = (0..64).flat_map(|i| [Record::role(i), Record::task(i, 0)]);
     let declared: Vec<Record> = declared.collect();

@@ -1,5 +1,7 @@
-//! A desk program's bare listing, with each request in words, each reply by its name, and the rule that a refused claim is about.
+//! A desk program's bare listing, with each request in words, each reply by its name, the rule that a refused claim is about, and the
+//! figures of a granted question.
 
+use crate::figures::{figures, Again};
 use crate::is_text;
 use crate::names::Names;
 use crate::read::{read_lines, tokens, Error, Token, END};
@@ -106,14 +108,14 @@ fn rule_words(
     Ok(Some(format!("{words} (rule {place} of its kind)")))
 }
 
-/// The request's line, and a line below it for the rule.
+/// The request's reply, its line, and a line below it for the rule.
 fn request_line(
     mut listed: Listed,
     place: usize,
     record: &[u8],
     policy: Option<&[u8]>,
     names: &Names,
-) -> Result<String, Error> {
+) -> Result<(Reply, String), Error> {
     listed.word(&place.to_string())?;
     let reply = listed.reply()?;
     let rule = rule_words(&mut listed, reply, policy, names)?;
@@ -121,13 +123,29 @@ fn request_line(
     let (number, name) = (reply.number(), reply.name());
     let words = line_named(record, names);
     let rule = rule.map_or(String::new(), |rule| format!("{:7}{reply}  {rule}\n", ""));
-    Ok(format!(
-        "{place:>5}  {number:>2} {name:<12}  {words}\n{rule}"
-    ))
+    let text = format!("{place:>5}  {number:>2} {name:<12}  {words}\n{rule}");
+    Ok((reply, text))
+}
+
+/// The line of a granted question's figures. An engine whose reply is another than the listing's is asked no more.
+fn figures_line(again: &mut Option<Again>, record: &[u8], reply: Reply, names: &Names) -> String {
+    if again
+        .as_mut()
+        .is_some_and(|engine| !engine.request(record, reply))
+    {
+        *again = None;
+    }
+    let answer = again.as_ref().and_then(|engine| engine.question(record));
+    let task = |task: u16| {
+        let name = names.quoted("task", task.into());
+        name.unwrap_or_else(|| task.to_string())
+    };
+    let told = answer.and_then(|answer| figures(record, &answer, task));
+    told.map_or(String::new(), |told| format!("{:7}{told}\n", ""))
 }
 
 /// Joins request records and the listing that a desk program wrote for them. With the policy's records, one that was refused and
-/// the rules that refused claims are about are shown in words too.
+/// the rules that refused claims are about are shown in words too, and so are the figures of granted questions.
 pub fn explain(policy: Option<&[u8]>, requests: &[u8], listing: &str) -> Result<String, Error> {
     explain_named(policy, requests, listing, &Names::default())
 }
@@ -143,10 +161,13 @@ pub fn explain_named(
     let (_, first) = lines.next().unwrap_or((0, ""));
     let (reply, mut text) = load_line(Listed::new(0, first), policy, names)?;
     let judged = if reply.is_granted() { requests } else { &[] };
+    let mut again = Again::with(policy, judged);
     for (before, record) in judged.chunks(LENGTH).enumerate() {
         let (at, listed) = lines.next().unwrap_or((before + 1, ""));
         let listed = Listed::new(at, listed);
-        text += &request_line(listed, before + 1, record, policy, names)?;
+        let (reply, line) = request_line(listed, before + 1, record, policy, names)?;
+        text += &line;
+        text += &figures_line(&mut again, record, reply, names);
     }
     match lines.next() {
         None => Ok(text),

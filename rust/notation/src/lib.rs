@@ -22,11 +22,13 @@
 //! ```
 
 mod explain;
+mod figures;
 mod names;
 mod read;
 mod write;
 
 pub use explain::{explain, explain_named, refused, refused_named};
+pub use figures::{figures, stuck_named, ANSWER};
 pub use names::{quoted, Names};
 pub use read::{read, read_lines, read_named, Error};
 use records::forms::{parts, FORMS};

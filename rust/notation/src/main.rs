@@ -23,11 +23,15 @@ Records as lines of words (docs/RULES.md), and back.
   mishantral-notation explain [--dealer POLICY TASKS] [--policy FILE] REQUESTS
                                                   a desk program's listing, from standard input, with
                                                   the records of REQUESTS in words and replies by name;
-                                                  --policy: the policy's records, to show a refused one
-                                                  and the rule that a refused claim is about
+                                                  --policy: the policy's records, to show a refused one,
+                                                  the rule that a refused claim is about and the figures
+                                                  of a granted question
   mishantral-notation refused [--dealer POLICY TASKS] [--name NAME] FILE REPLY PLACE
                                                   which record of a policy, text or records, a load's
                                                   refusal is about; --name: what to call the file
+  mishantral-notation stuck [--dealer POLICY TASKS] [--name NAME] [FILE]
+                                                  the templates of a policy's records whose prerequisites
+                                                  leave tasks waiting for ever, a line each
   mishantral-notation forms                       every line that the notation has
   mishantral-notation replies                     every reply's number and name
 
@@ -143,6 +147,15 @@ fn refused(arguments: &[&str]) -> Made {
     Ok(format!("{}: {told}\n", name.unwrap_or(file)).into_bytes())
 }
 
+fn stuck(arguments: &[&str]) -> Made {
+    let (names, rest) = dealer::names_of(arguments)?;
+    let (name, files) = named(rest);
+    let file = one_file(files)?;
+    let told = notation::stuck_named(&input(file)?, &names).into_iter();
+    let line = |told| format!("{}: warning: {told}\n", name.unwrap_or(file));
+    Ok(told.map(line).collect::<String>().into_bytes())
+}
+
 fn replies() -> String {
     let line = |r: &notation::Reply| format!("{:>2} {}\n", r.number(), r.name());
     notation::Reply::ALL.iter().map(line).collect()
@@ -155,6 +168,7 @@ fn made(arguments: &[&str]) -> Made {
         ["opl", rest @ ..] => dealer::opl(rest),
         ["explain", rest @ ..] => explain(rest),
         ["refused", rest @ ..] => refused(rest),
+        ["stuck", rest @ ..] => stuck(rest),
         ["forms"] => Ok(notation::forms().into_bytes()),
         ["replies"] => Ok(replies().into_bytes()),
         ["help" | "--help" | "-h", ..] => Ok(HELP.as_bytes().to_vec()),

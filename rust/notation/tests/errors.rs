@@ -45,7 +45,7 @@ fn a_wrong_word() {
 fn first_words() -> String {
     let words =
         "user role permission task static dynamic block lone-worker add delete assign take give \
-        create destroy activate deactivate open end claim release done check record";
+        create destroy activate deactivate open end claim release done check entries stuck record";
     let quoted: Vec<String> = words
         .split_whitespace()
         .map(|w| format!("\"{w}\""))

@@ -103,8 +103,8 @@ fn a_listing_that_does_not_fit() {
         "line 1, column 7: expected the place of a record, found the end of the line",
     );
     refused(
-        "load 23 0",
-        "line 1, column 6: expected a reply, 0 to 22, found \"23\"",
+        "load 24 0",
+        "line 1, column 6: expected a reply, 0 to 23, found \"24\"",
     );
     refused(
         "load 0 0\n1 0 0\n",
@@ -140,4 +140,67 @@ fn a_refused_record_is_found_in_text_and_in_records() {
     assert_eq!(told, "record 2: 2 SHAPE: bytes 01 00 03 00");
     assert_eq!(refused(&bytes, Reply::Room, 0), "1 ROOM");
     assert_eq!(refused(&bytes, Reply::Shape, 7), "record 7: 2 SHAPE");
+}
+
+#[test]
+fn a_granted_question_shows_its_figures_where_the_policy_is_given() {
+    let policy = records(
+        "user 300\nrole 0\nuser 300 has role 0\ntask 0 of template 0\ntask 3 of template 0\ntask 0 open to role 0\n\
+         task 3 open to role 0",
+    );
+    let requests = records(
+        "create subject 5 for user 300 with roles 0\nopen order 7 of template 0\nentries of order 7\nclaim 5 7 3\n\
+         entries of order 7\ndone 5 7 3\nclaim 5 7 0\nentries of order 7\nentries of order 8",
+    );
+    let listing = "load 0 0\n1 0 0\n2 0 0\n3 0 0\n4 0 0\n5 0 0\n6 0 0\n7 0 0\n8 0 0\n9 4 0\n";
+    let shown = explain(Some(&policy), &requests, listing).unwrap();
+    let text = "\
+load 0 GRANTED
+    1   0 GRANTED       create subject 5 for user 300 with roles 0
+    2   0 GRANTED       open order 7 of template 0
+    3   0 GRANTED       entries of order 7
+       0 entries, done none
+    4   0 GRANTED       claim 5 7 3
+    5   0 GRANTED       entries of order 7
+       1 entry, done none
+    6   0 GRANTED       done 5 7 3
+    7   0 GRANTED       claim 5 7 0
+    8   0 GRANTED       entries of order 7
+       2 entries, done 3
+    9   4 UNKNOWN       entries of order 8
+";
+    assert_eq!(shown, text);
+    // Where another desk answered otherwise, nothing is told of figures from there on.
+    let other = listing.replace("4 0 0\n", "4 5 0\n");
+    let shown = explain(Some(&policy), &requests, &other).unwrap();
+    let told = shown.lines().filter(|line| line.contains("done none"));
+    assert_eq!(told.count(), 1);
+    assert!(!explain(None, &requests, listing).unwrap().contains("none"));
+}
+
+#[test]
+fn stuck_tasks_are_told_in_the_order_of_the_free_ones() {
+    let policy = records(
+        "task 1 of template 2\ntask 2 of template 2\ntask 3 of template 2\ntask 4 of template 2\ntask 3 before task 4\n\
+         task 4 before task 3\ntask 2 before task 1",
+    );
+    let requests = records("stuck tasks of template 2\nstuck tasks of template 3");
+    let shown = explain(Some(&policy), &requests, "load 0 0\n1 0 0\n2 4 0\n").unwrap();
+    let text = "\
+load 0 GRANTED
+    1   0 GRANTED       stuck tasks of template 2
+       stuck 3 4, free 2 1
+    2   4 UNKNOWN       stuck tasks of template 3
+";
+    assert_eq!(shown, text);
+    let mut names = notation::Names::default();
+    names.give("task", 3, b"task:sign");
+    let told = [
+        "template 2: prerequisites leave tasks waiting for ever: stuck \"task:sign\" 4, free 2 1",
+    ];
+    assert_eq!(notation::stuck_named(&policy, &names), told);
+    let finite = records("task 1 of template 2\ntask 2 of template 2\ntask 2 before task 1");
+    assert_eq!(notation::stuck_named(&finite, &names), [""; 0]);
+    let refused = records("task 1 of template 2\ntask 1 of template 2");
+    assert_eq!(notation::stuck_named(&refused, &names), [""; 0]);
 }

@@ -37,7 +37,7 @@ fn every_kind_is_read_back_with_its_names() {
     let (names, mut random) = (names(), Random::new(3));
     let mut named = BTreeSet::new();
     for _ in 0..20_000 {
-        let kind = random.below(60) as u8;
+        let kind = random.below(61) as u8;
         let n = random.pick(&[0, 0, 1, 255]);
         let [a, b, c] = [0; 3].map(|_| random.pick(&[0, 0, 0, 0, 0, 0, 1, 2, 3, 5, 63, 64, 700]));
         let m = random.pick(&[0, 0, 0, 0, 1, 6, 0x2_0003, 1 << 63, u64::MAX]);
@@ -52,7 +52,16 @@ fn every_kind_is_read_back_with_its_names() {
             named.insert(kind);
         }
     }
-    let with_names = [1..=16, 32..=37, 40..=40, 42..=43, 48..=48, 50..=52, 56..=57];
+    let with_names = [
+        1..=17,
+        32..=37,
+        40..=40,
+        42..=43,
+        48..=48,
+        50..=52,
+        56..=57,
+        60..=60,
+    ];
     assert_eq!(named, with_names.into_iter().flatten().collect());
 }
 

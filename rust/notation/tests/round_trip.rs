@@ -27,6 +27,7 @@ fn every_kind() -> Vec<(&'static str, Record)> {
         ("task 5 at most 255 times", Record::at_most(5, 255)),
         ("task 5 bound to task 6", Record::bound(5, 6)),
         ("task 5 before task 6", Record::before(5, 6)),
+        ("role 7 above role 3", Record::role_above(7, 3)),
         ("add user 65535", Record::add_user(65535)),
         ("delete user 300", Record::delete_user(300)),
         ("assign role 7 to user 300", Record::assign_role(300, 7)),
@@ -64,6 +65,8 @@ fn every_kind() -> Vec<(&'static str, Record)> {
             "task check 9 2 5 operation 65535 object 65535",
             Record::task_check(9, 2, 5, 65535, 65535),
         ),
+        ("entries of order 2", Record::entries_of(2)),
+        ("stuck tasks of template 3", Record::stuck_tasks(3)),
     ]
 }
 
@@ -76,8 +79,8 @@ fn every_kind_in_words_and_back() {
         kinds.push(record.kind());
     }
     kinds.dedup();
-    let all = (1..=16).chain(32..=37).chain(40..=43).chain(48..=52);
-    let all: Vec<u8> = all.chain(56..=57).collect();
+    let all = (1..=17).chain(32..=37).chain(40..=43).chain(48..=52);
+    let all: Vec<u8> = all.chain(56..=58).chain([60]).collect();
     assert_eq!(kinds, all);
 }
 
@@ -100,7 +103,7 @@ fn what_words_do_not_show_is_shown_by_fields() {
             "record 57 0 5 0 1 0x100000000",
         ),
         (Record::new(0, 0, 0, 0, 0, 0), "record 0 0 0 0 0 0"),
-        (Record::new(17, 0, 1, 2, 0, 0), "record 17 0 1 2 0 0"),
+        (Record::new(31, 0, 1, 2, 0, 0), "record 31 0 1 2 0 0"),
     ];
     for (record, words) in rows {
         assert_eq!(line(&record.0), words);

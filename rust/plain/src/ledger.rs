@@ -78,6 +78,8 @@ pub trait Ledger: Clone + PartialEq + std::fmt::Debug {
     fn finish(&mut self, instance: u8, task: u8, subject: u8) -> bool;
     /// Removes all entries of the instance.
     fn end(&mut self, instance: u8);
+    /// How many entries the instance has, and which of its tasks have a done one.
+    fn figures(&self, instance: u8) -> (usize, u64);
     /// All entries, in no particular order.
     fn entries(&self) -> Vec<Entry>;
 }
@@ -201,6 +203,13 @@ impl Ledger for FlatLedger {
         self.entries.retain(|e| e.instance() != instance);
     }
 
+    fn figures(&self, instance: u8) -> (usize, u64) {
+        let of_it = self.entries.iter().filter(|e| e.instance() == instance);
+        let done = of_it.clone().filter(|e| !e.is_held());
+        let done = done.fold(0, |all, e| all | bit(usize::from(e.task())));
+        (of_it.count(), done)
+    }
+
     fn entries(&self) -> Vec<Entry> {
         let unpack = |e: &Packed| Entry {
             instance: e.instance(),
@@ -212,10 +221,11 @@ impl Ledger for FlatLedger {
     }
 }
 
-/// A list for each order, and counts by user and by subject: a question walks one order at most.
+/// A list for each order with its done tasks, and counts by user and by subject: a question walks one order at most.
 #[derive(Clone, PartialEq, Debug)]
 pub struct OrderLists {
     orders: Vec<Vec<Entry>>,
+    done: [u64; 64],
     in_use: usize,
     of_user: Box<[u16; 1024]>,
     held_by: [u16; 128],
@@ -237,6 +247,7 @@ impl Ledger for OrderLists {
     fn empty() -> Self {
         OrderLists {
             orders: vec![Vec::new(); 64],
+            done: [0; 64],
             in_use: 0,
             of_user: Box::new([0; 1024]),
             held_by: [0; 128],
@@ -245,6 +256,7 @@ impl Ledger for OrderLists {
 
     fn clear(&mut self) {
         self.orders.iter_mut().for_each(Vec::clear);
+        self.done.fill(0);
         self.in_use = 0;
         self.of_user.fill(0);
         self.held_by.fill(0);
@@ -306,11 +318,17 @@ impl Ledger for OrderLists {
             return false;
         };
         self.orders[usize::from(instance)][at].holder = None;
+        self.done[usize::from(instance)] |= bit(usize::from(task));
         self.held_by[usize::from(subject)] -= 1;
         true
     }
 
+    fn figures(&self, instance: u8) -> (usize, u64) {
+        (self.order(instance).len(), self.done[usize::from(instance)])
+    }
+
     fn end(&mut self, instance: u8) {
+        self.done[usize::from(instance)] = 0;
         for entry in self.orders[usize::from(instance)].drain(..) {
             self.in_use -= 1;
             self.of_user[usize::from(entry.user)] -= 1;

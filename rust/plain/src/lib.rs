@@ -37,6 +37,9 @@ pub const RECORD: usize = 16;
 /// How many records a pile has at most.
 pub const PILE: usize = 4096;
 
+/// How many words the answer to a question has.
+pub const ANSWER: usize = 66;
+
 /// A policy, its sessions and its orders, with the entries kept as `L` keeps them.
 #[derive(Clone, PartialEq, Debug)]
 pub struct Engine<L = OrderLists> {
@@ -128,6 +131,44 @@ impl<L: Ledger> Engine<L> {
         Reply::Granted
     }
 
+    /// Answers a question with its figures, which are written to `answer` where the reply is 0: for kind 58 the number of the order's
+    /// entries and the set of its tasks that are done; for kind 60 the set of the template's stuck tasks, how many are free, and those in
+    /// their order. The other words become 0. ROOM where the answer has not its length, then SHAPE for a
+    /// kind that is no question, then what a request of it is answered.
+    ///
+    /// ```
+    /// use plain::{encode, Engine, OrderLists, Reply, ANSWER};
+    ///
+    /// let mut engine = Engine::<OrderLists>::new();
+    /// engine.load(&encode(6, 0, 0, 0, 0, 0));
+    /// engine.request(&encode(48, 0, 5, 0, 0, 0));
+    /// let mut answer = [99; ANSWER];
+    /// assert_eq!(engine.question(&encode(58, 0, 5, 0, 0, 0), &mut answer), Reply::Granted);
+    /// assert_eq!(answer, [0; ANSWER]);
+    /// assert_eq!(engine.question(&encode(58, 0, 6, 0, 0, 0), &mut answer), Reply::Unknown);
+    /// assert_eq!(engine.question(&encode(49, 0, 5, 0, 0, 0), &mut answer), Reply::Shape);
+    /// ```
+    pub fn question(&self, record: &[u8], answer: &mut [u64]) -> Reply {
+        if answer.len() != ANSWER {
+            return Reply::Room;
+        }
+        if !matches!(record.first(), Some(58 | 60)) {
+            return Reply::Shape;
+        }
+        let figures = decode(record, Call::Request).and_then(|r| match r.kind {
+            58 => self.orders.figures(r.a as u8),
+            _ => self.policy.stuck(usize::from(r.a)),
+        });
+        match figures {
+            Ok(figures) => {
+                answer.fill(0);
+                answer[..figures.len()].copy_from_slice(&figures);
+                Reply::Granted
+            }
+            Err(refusal) => refusal.reply,
+        }
+    }
+
     /// All entries, in no particular order.
     pub fn entries(&self) -> Vec<Entry> {
         self.orders.ledger.entries()
@@ -146,14 +187,16 @@ impl<L: Ledger> Engine<L> {
             40 => sessions.create(policy, a, r.b, r.m),
             41 => self.destroy_subject(a),
             42 => sessions.activate(policy, a, b),
-            43 => sessions.deactivate(a, b),
+            43 => sessions.deactivate(policy, a, b),
             48 => orders.open(policy, a, r.b as u8),
             49 => orders.end(r.a as u8),
             50 => orders.claim(policy, sessions, r),
             51 => orders.release(policy, sessions, r),
             52 => orders.finish(policy, sessions, r),
             56 => sessions.check(policy, a, r.b, r.c),
-            _ => orders.task_check(policy, sessions, r),
+            57 => orders.task_check(policy, sessions, r),
+            58 => orders.figures(r.a as u8).map(|_| ()),
+            _ => policy.stuck(a).map(|_| ()),
         }
     }
 

@@ -74,8 +74,8 @@ impl<L: Ledger> Orders<L> {
         let view = self.ledger.view(by.instance, by.user, by.task);
         let task = usize::from(by.task);
         refuse(Reply::Taken, view.held & bit(task) != 0)?;
-        let active = sessions.active(usize::from(by.subject));
-        refuse(Reply::NoRole, active & policy.of_task[task].open_to == 0)?;
+        let acting = sessions.acting(usize::from(by.subject));
+        refuse(Reply::NoRole, acting & policy.of_task[task].open_to == 0)?;
         claim_rules(policy, by.template, task, view)?;
         refuse(Reply::Full, self.ledger.in_use() == ENTRIES)?;
         self.ledger.enter(by.instance, by.user, by.task, by.subject);
@@ -107,6 +107,14 @@ impl<L: Ledger> Orders<L> {
             .find(operation, object)
             .map_or(0, |permission| policy.permissions.carried_by[permission]);
         refuse(Reply::Denied, carrying & bit(usize::from(by.task)) == 0)
+    }
+
+    /// Kind 58: how many entries an open order has, and which of its tasks are done.
+    pub fn figures(&self, instance: u8) -> Result<Vec<u64>, Refusal> {
+        let open = self.template[usize::from(instance)].is_some();
+        refuse(Reply::Unknown, !open)?;
+        let (entries, done) = self.ledger.figures(instance);
+        Ok(vec![entries as u64, done])
     }
 }
 

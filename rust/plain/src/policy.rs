@@ -1,9 +1,9 @@
-//! The policy's tables and the sixteen kinds of record that a load fills them with.
-//! Rules over tasks are also kept by task, so that a claim asks a mask and walks no list.
+//! The policy's tables and the seventeen kinds of record that a load fills them with.
+//! Rules over tasks are also kept by task, so that a claim asks a mask and walks no list; the roles at or below each role are kept too.
 
 use crate::permissions::Permissions;
 use crate::record::Record;
-use crate::reply::{refuse, Outcome, Reply};
+use crate::reply::{refuse, Outcome, Refusal, Reply};
 
 /// The one-member set of role or task `i`.
 pub(crate) const fn bit(i: usize) -> u64 {
@@ -117,6 +117,26 @@ pub(crate) struct Policy {
     pub in_blocks: [u64; 16],
     pub bindings: Rules<(usize, usize), 64>,
     pub prerequisites: Rules<(usize, usize), 64>,
+    /// Which role stands above which, as the records say it.
+    seniorities: Rules<(usize, usize), 64>,
+    /// The roles that each role counts with: itself and all below.
+    down_of: [u64; 64],
+}
+
+/// The roles that each role counts with where none stands above another.
+const ALONE: [u64; 64] = {
+    let mut down_of = [0; 64];
+    let mut role = 0;
+    while role < 64 {
+        down_of[role] = bit(role);
+        role += 1;
+    }
+    down_of
+};
+
+/// These roles and all roles below them, by what each role counts with.
+fn down(down_of: &[u64; 64], roles: u64) -> u64 {
+    members(roles).fold(0, |all, role| all | down_of[role])
 }
 
 impl Policy {
@@ -137,6 +157,8 @@ impl Policy {
         in_blocks: [0; 16],
         bindings: Rules::none((0, 0)),
         prerequisites: Rules::none((0, 0)),
+        seniorities: Rules::none((0, 0)),
+        down_of: ALONE,
     };
 
     pub fn has_role(&self, role: usize) -> bool {
@@ -152,12 +174,26 @@ impl Policy {
         self.tasks_of[usize::from(template)] & bit(task) != 0
     }
 
-    pub fn breaks_static(&self, roles: u64) -> bool {
-        self.static_sets.rows().iter().any(|s| s.broken_by(roles))
+    /// These roles and all roles below them.
+    pub fn down(&self, roles: u64) -> u64 {
+        if self.seniorities.rows().is_empty() {
+            roles
+        } else {
+            down(&self.down_of, roles)
+        }
     }
 
+    /// Whether roles, with all below them, break a static set.
+    pub fn breaks_static(&self, roles: u64) -> bool {
+        let counted = self.down(roles);
+        self.static_sets.rows().iter().any(|s| s.broken_by(counted))
+    }
+
+    /// Whether roles, with all below them, break a dynamic set.
     pub fn breaks_dynamic(&self, roles: u64) -> bool {
-        self.dynamic_sets.rows().iter().any(|s| s.broken_by(roles))
+        let counted = self.down(roles);
+        let mut sets = self.dynamic_sets.rows().iter();
+        sets.any(|s| s.broken_by(counted))
     }
 
     /// The template of these tasks; none where they are of several, or there are none.
@@ -190,7 +226,8 @@ impl Policy {
             13 => self.ban(a),
             14 => self.at_most(a, r.n),
             15 => self.bind(a, b),
-            _ => self.before(a, b),
+            16 => self.before(a, b),
+            _ => self.above(a, b),
         }
     }
 
@@ -280,7 +317,8 @@ impl Policy {
         refuse(Reply::Unknown, set.members & !self.roles != 0)?;
         refuse(Reply::Taken, self.static_sets.has(set))?;
         refuse(Reply::Rule, set.ill_made())?;
-        let broken = self.assigned.iter().any(|&roles| set.broken_by(roles));
+        let mut assigned = self.assigned.iter();
+        let broken = assigned.any(|&roles| set.broken_by(self.down(roles)));
         refuse(Reply::Static, broken)?;
         refuse(Reply::Full, self.static_sets.full())?;
         self.static_sets.push(set);
@@ -358,6 +396,39 @@ impl Policy {
         self.of_task[b].bound_with |= bit(a);
         self.bindings.push((a, b));
         Ok(())
+    }
+
+    fn above(&mut self, a: usize, b: usize) -> Outcome {
+        refuse(Reply::Unknown, !self.has_role(a) || !self.has_role(b))?;
+        refuse(Reply::Taken, self.seniorities.has((a, b)))?;
+        refuse(Reply::Rule, a == b)?;
+        refuse(Reply::Loop, self.down_of[b] & bit(a) != 0)?;
+        let mut raised = self.down_of;
+        for below in raised.iter_mut().filter(|below| **below & bit(a) != 0) {
+            *below |= self.down_of[b];
+        }
+        let breaks = |&roles: &u64| {
+            let counted = down(&raised, roles);
+            self.static_sets.rows().iter().any(|s| s.broken_by(counted))
+        };
+        refuse(Reply::Static, self.assigned.iter().any(breaks))?;
+        refuse(Reply::Full, self.seniorities.full())?;
+        self.down_of = raised;
+        self.seniorities.push((a, b));
+        Ok(())
+    }
+
+    /// Kind 60: the tasks of the template that can never be claimed because of prerequisites, how many can be, and those in an order in
+    /// which they can, at each place the lowest number that may stand there.
+    pub fn stuck(&self, template: usize) -> Result<Vec<u64>, Refusal> {
+        let tasks = self.tasks_of[template];
+        refuse(Reply::Unknown, tasks == 0)?;
+        let (mut left, mut free) = (tasks, Vec::new());
+        while let Some(next) = members(left).find(|&t| self.of_task[t].needs & left == 0) {
+            left &= !bit(next);
+            free.push(next as u64);
+        }
+        Ok([vec![left, free.len() as u64], free].concat())
     }
 
     fn before(&mut self, a: usize, b: usize) -> Outcome {

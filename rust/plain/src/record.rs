@@ -147,6 +147,7 @@ const fn forms() -> [Option<Form>; 64] {
     f[14] = Some(load.n().a(TASK));
     f[15] = Some(load.a(TASK).b(TASK));
     f[16] = Some(load.a(TASK).b(TASK));
+    f[17] = Some(load.a(ROLE).b(ROLE));
     f[32] = Some(request.a(USER).m(!0));
     f[33] = Some(request.a(USER));
     f[34] = Some(request.a(USER).b(ROLE));
@@ -164,5 +165,7 @@ const fn forms() -> [Option<Form>; 64] {
     f[52] = Some(request.a(SUBJECT).b(INSTANCE).c(TASK));
     f[56] = Some(request.a(SUBJECT).b(ANY).c(ANY));
     f[57] = Some(request.a(SUBJECT).b(INSTANCE).c(TASK).m(0xffff_ffff));
+    f[58] = Some(request.a(INSTANCE));
+    f[60] = Some(request.a(TEMPLATE));
     f
 }

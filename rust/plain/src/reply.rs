@@ -1,6 +1,6 @@
 //! The replies (docs/RULES.md, "The replies"), by name and number.
 
-/// What a record is answered with. The numbers are also the order of the checks.
+/// What a record is answered with. The numbers are also the order of the checks, but for LOOP, which comes behind RULE.
 #[derive(Clone, Copy, PartialEq, Eq, PartialOrd, Ord, Debug)]
 #[repr(u8)]
 pub enum Reply {
@@ -46,6 +46,8 @@ pub enum Reply {
     Count = 19,
     /// No ledger entry is free, or the rule limit of that kind is reached.
     Full = 20,
+    /// The role that is to stand below stands above already.
+    Loop = 23,
 }
 
 impl Reply {

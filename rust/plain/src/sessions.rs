@@ -12,6 +12,8 @@ pub(crate) struct Sessions {
     user: [u16; 128],
     /// Nothing for a number that is no live subject.
     active: [u64; 128],
+    /// The active roles and all roles below them.
+    acting: [u64; 128],
     /// Every role that the subject has had active.
     had: [u64; 128],
 }
@@ -20,6 +22,7 @@ impl Sessions {
     pub const EMPTY: Sessions = Sessions {
         user: [NOBODY; 128],
         active: [0; 128],
+        acting: [0; 128],
         had: [0; 128],
     };
 
@@ -30,8 +33,14 @@ impl Sessions {
         Ok(user)
     }
 
-    pub fn active(&self, subject: usize) -> u64 {
-        self.active[subject]
+    /// The active roles of a subject with all roles below them.
+    pub fn acting(&self, subject: usize) -> u64 {
+        self.acting[subject]
+    }
+
+    fn set_active(&mut self, policy: &Policy, subject: usize, roles: u64) {
+        self.active[subject] = roles;
+        self.acting[subject] = policy.down(roles);
     }
 
     /// The roles that a column has for the user's subjects, together.
@@ -50,10 +59,12 @@ impl Sessions {
 
     /// Kind 35.
     pub fn take_role(&self, policy: &mut Policy, user: u16, role: usize) -> Outcome {
-        let assigned = &mut policy.assigned[usize::from(user)];
-        refuse(Reply::Unknown, *assigned & bit(role) == 0)?;
-        refuse(Reply::InUse, self.over(&self.active, user) & bit(role) != 0)?;
-        *assigned &= !bit(role);
+        let assigned = policy.assigned[usize::from(user)];
+        refuse(Reply::Unknown, assigned & bit(role) == 0)?;
+        let left = assigned & !bit(role);
+        let lost = policy.down(assigned) & !policy.down(left);
+        refuse(Reply::InUse, self.over(&self.active, user) & lost != 0)?;
+        policy.assigned[usize::from(user)] = left;
         Ok(())
     }
 
@@ -64,7 +75,7 @@ impl Sessions {
         refuse(Reply::Taken, self.user[subject] != NOBODY)?;
         self.may_act(policy, user, roles)?;
         self.user[subject] = user;
-        self.active[subject] = roles;
+        self.set_active(policy, subject, roles);
         self.had[subject] = roles;
         Ok(())
     }
@@ -73,6 +84,7 @@ impl Sessions {
     pub fn destroy(&mut self, subject: usize) {
         self.user[subject] = NOBODY;
         self.active[subject] = 0;
+        self.acting[subject] = 0;
         self.had[subject] = 0;
     }
 
@@ -82,22 +94,22 @@ impl Sessions {
         refuse(Reply::Unknown, !policy.has_role(role))?;
         refuse(Reply::Taken, self.active[subject] & bit(role) != 0)?;
         self.may_act(policy, user, bit(role))?;
-        self.active[subject] |= bit(role);
+        self.set_active(policy, subject, self.active[subject] | bit(role));
         self.had[subject] |= bit(role);
         Ok(())
     }
 
     /// Kind 43.
-    pub fn deactivate(&mut self, subject: usize, role: usize) -> Outcome {
+    pub fn deactivate(&mut self, policy: &Policy, subject: usize, role: usize) -> Outcome {
         self.user_of(subject)?;
         refuse(Reply::Unknown, self.active[subject] & bit(role) == 0)?;
-        self.active[subject] &= !bit(role);
+        self.set_active(policy, subject, self.active[subject] & !bit(role));
         Ok(())
     }
 
     /// Whether the user may have these roles active as well: NOT ASSIGNED, then DYNAMIC.
     fn may_act(&self, policy: &Policy, user: u16, roles: u64) -> Outcome {
-        let assigned = policy.assigned[usize::from(user)];
+        let assigned = policy.down(policy.assigned[usize::from(user)]);
         refuse(Reply::NotAssigned, roles & !assigned != 0)?;
         let then = self.over(&self.had, user) | roles;
         refuse(Reply::Dynamic, policy.breaks_dynamic(then))
@@ -110,6 +122,6 @@ impl Sessions {
             .permissions
             .find(operation, object)
             .map_or(0, |permission| policy.permissions.given_to[permission]);
-        refuse(Reply::Denied, having & self.active[subject] == 0)
+        refuse(Reply::Denied, having & self.acting[subject] == 0)
     }
 }

@@ -6,7 +6,7 @@ use crate::reader::declares;
 use crate::source::Policy;
 use crate::stop::{Done, REFUSED, WELL};
 use crate::warnings::warnings;
-use crate::why::{has_line, is_known, range, role_limit, unknown, Why};
+use crate::why::{has_line, is_known, range, role_limit, say_with_seniors, unknown, Why};
 use crate::writer::numbers;
 use mishantral::Refused;
 use records::{Record, Reply, Set, LENGTH};
@@ -63,7 +63,7 @@ fn contents(desk: &Desk) -> String {
         counted(told.roles.members().count(), "role", "roles"),
         counted(told.tasks.len(), "task", "tasks"),
         counted(templates.len(), "template", "templates"),
-        counted(told.rules.len(), "rule", "rules"),
+        counted(told.rules.len() + told.above.len(), "rule", "rules"),
     )
 }
 
@@ -110,7 +110,9 @@ pub fn clashes(policy: &Policy, before: usize, reply: Reply) -> Vec<String> {
         Reply::Unknown => undeclared(policy, &desk, before, record),
         Reply::Taken => repeated(policy, before, record),
         Reply::Rule => ill_made(&desk, record),
+        Reply::Loop => vec![chain(&desk, record.b(), record.a())],
         Reply::Static if record.kind() == 4 => role_limit(&desk, record, 9).lines(&desk),
+        Reply::Static if record.kind() == 17 => raised(&desk, record),
         Reply::Static => exceeding(&desk, record),
         Reply::Full => vec![format!(
             "a policy has at most {} of these",
@@ -203,6 +205,9 @@ fn ill_made(desk: &Desk, record: Record) -> Vec<String> {
     if matches!(record.kind(), 15 | 16) && record.a() == record.b() {
         lines.push("the tasks must be two".to_string());
     }
+    if record.kind() == 17 {
+        lines.push("the roles must be two".to_string());
+    }
     let template = |task: &u16| desk.told.tasks.get(task).copied();
     if let Some(other) = tasks.iter().find(|t| template(t) != template(&tasks[0])) {
         let of = |task: &u16| {
@@ -244,9 +249,56 @@ fn meeting_block(desk: &Desk, record: Record) -> Option<String> {
     })
 }
 
+/// How one role comes to stand above another: `line 9: lead above clerk, line 10: clerk above helper`.
+fn chain(desk: &Desk, senior: u16, junior: u16) -> String {
+    let told = &desk.told;
+    let leads = |role: u16| told.down(Set::of(&[role as u8])).has(junior as u8);
+    let (mut at, mut steps) = (senior, Vec::new());
+    while at != junior {
+        let mut below = told.above.iter().filter(|(_, (a, _))| *a == at);
+        let Some((place, (_, next))) = below.find(|(_, (_, b))| leads(*b)) else {
+            break;
+        };
+        steps.push(format!(
+            "{}: {}",
+            desk.policy.place_within(*place),
+            desk.policy.line(*place)
+        ));
+        at = *next;
+    }
+    let (senior, junior) = (desk.say(Sort::Role, senior), desk.say(Sort::Role, junior));
+    format!(
+        "{senior} stands above {junior} already ({})",
+        steps.join(", ")
+    )
+}
+
+/// The users whose roles would break a static set if one role stood above another.
+fn raised(desk: &Desk, record: Record) -> Vec<String> {
+    let mut told = desk.told.clone();
+    told.above.push((0, (record.a(), record.b())));
+    let mut lines = Vec::new();
+    for (&user, &roles) in &told.users {
+        let counted = told.down(roles);
+        let broken = told
+            .rules_of(9)
+            .find(|(_, set)| (counted.0 & set.m()).count_ones() > set.n().into());
+        if let Some((place, set)) = broken {
+            let (user, roles) = (
+                desk.say(Sort::User, user),
+                desk.say_set(Sort::Role, Set(counted.0 & set.m())),
+            );
+            let (at, line) = (desk.policy.place_within(place), desk.policy.line(place));
+            lines.push(format!("{user} would have {roles}; {at} says: {line}"));
+        }
+    }
+    lines.truncate(6);
+    lines
+}
+
 /// The users who have more roles of a static set than it would allow.
 fn exceeding(desk: &Desk, record: Record) -> Vec<String> {
-    let of_set = |roles: &Set| Set(roles.0 & record.m());
+    let of_set = |roles: &Set| Set(desk.told.down(*roles).0 & record.m());
     let too_many = desk
         .told
         .users
@@ -256,7 +308,7 @@ fn exceeding(desk: &Desk, record: Record) -> Vec<String> {
         format!(
             "{} has {}",
             desk.say(Sort::User, user),
-            desk.say_set(Sort::Role, of_set(roles))
+            say_with_seniors(desk, of_set(roles), *roles)
         )
     };
     too_many.map(line).take(6).collect()
@@ -288,7 +340,7 @@ mod tests {
         let mut small = || below(state, 5) as u16;
         let (a, b, c, kind) = (small(), small(), small(), small());
         let (n, set) = (small() as u8, Set(below(state, 32)));
-        match below(state, 19) + u64::from(kind == 0) * 20 {
+        match below(state, 21) + u64::from(kind == 0) * 22 {
             0 | 1 => Record::user(a),
             2 => Record::role(a),
             3 => Record::permission(a, b, c),
@@ -306,6 +358,7 @@ mod tests {
             16 => Record::bound(a, b),
             17 => Record::before(a, b),
             18 => Record::new(a as u8 * 20, n, b, c, 0, 0),
+            19 | 20 => Record::role_above(a, b),
             _ => Record::user(1020 + 2 * a),
         }
     }
@@ -341,6 +394,7 @@ mod tests {
             Reply::Unknown,
             Reply::Taken,
             Reply::Rule,
+            Reply::Loop,
             Reply::Static,
         ];
         for reply in replies {
@@ -350,6 +404,6 @@ mod tests {
             );
         }
         let kinds: Vec<u8> = met.keys().map(|(kind, _)| *kind).collect();
-        assert!((1..=16).all(|kind| kinds.contains(&kind)), "{met:?}");
+        assert!((1..=17).all(|kind| kinds.contains(&kind)), "{met:?}");
     }
 }

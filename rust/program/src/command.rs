@@ -61,7 +61,7 @@ fn run() -> Command {
         .long_about(
             "Loads a policy and answers requests, each as soon as it is there, on a line of its own: its place, its reply and the request \
              in words. A refusal is explained: the rule, with its place in the policy, the entries that it met and whose they are, and who \
-             could claim now, which copies of the engine are asked.\n\n\
+             could claim now, which copies of the engine are asked. A granted question is followed by its figures.\n\n\
              On a terminal, without REQUESTS, there is a prompt with editing, history and completion (Tab); \"help\" there tells more.",
         )
         .args([policy()])
@@ -92,7 +92,7 @@ fn test() -> Command {
         .long_about(
             "Runs test files. A file has a policy, as lines of its own or by `policy FILE` (for OPL/XML `policy FILE tasks FILE`; file names \
              are taken from the test file's folder), then requests, each with the reply expected of it behind `=>`: by number, by name or both, \
-             and `, rule N` where the rule's place matters. A request without one is expected to be granted. `load => REPLY, record N` says \
+             and `, rule N` where the rule's place matters; behind that of a question its figures, as `, 2 entries, done 0 3` or `, stuck none, free 0 3`. A request without one is expected to be granted. `load => REPLY, record N` says \
              what the load is expected to answer. A policy behind requests begins anew.",
         )
         .arg(

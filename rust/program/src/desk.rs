@@ -4,7 +4,7 @@ use crate::names::{Names, Sort};
 use crate::reader::{self, Line};
 use crate::source::Policy;
 use crate::told::Told;
-use mishantral::{Answer, Engine, Refused};
+use mishantral::{Answer, Engine, Refused, ANSWER};
 use records::{Record, Reply, Set, LENGTH};
 use std::collections::BTreeMap;
 
@@ -69,6 +69,26 @@ impl Desk {
         answer
     }
 
+    /// The figures of a question that is granted.
+    pub fn figures(&self, record: &[u8]) -> Option<[u64; ANSWER]> {
+        let mut answer = [0; ANSWER];
+        let reply = self.engine.question(record, &mut answer);
+        reply.is_granted().then_some(answer)
+    }
+
+    /// The figures in words, `2 entries, done test`.
+    pub fn say_figures(&self, record: &[u8]) -> Option<String> {
+        let task = |task: u16| self.names.shown(Sort::Task, task);
+        notation::figures(record, &self.figures(record)?, task)
+    }
+
+    /// The tasks of a template that can never be claimed because of prerequisites.
+    pub fn stuck(&self, template: u16) -> impl Iterator<Item = u16> {
+        let answer = self.engine.stuck_tasks(template);
+        let stuck = answer.map_or(Set::EMPTY, |answer| answer.stuck);
+        stuck.members().map(u16::from)
+    }
+
     /// The answers to these requests one after the other, on a copy; the last of them.
     pub fn tried(&self, records: &[Record]) -> Answer {
         let mut copy = self.engine.clone();
@@ -100,8 +120,7 @@ impl Desk {
         let Some(free) = subjects.find(|s| !self.told.subjects.contains_key(s)) else {
             return all;
         };
-        let open = self.told.open_to(task);
-        for (&user, &roles) in &self.told.users {
+        for &user in self.told.users.keys() {
             if all.who.iter().any(|c| c.user == user) {
                 continue;
             }
@@ -112,7 +131,8 @@ impl Desk {
                 refused = Some(answer.reply).filter(|reply| !reply.is_granted());
                 answer.is_granted()
             };
-            let role = Set(roles.0 & open.0).members().find(could);
+            let may = self.told.may_activate(user);
+            let role = self.told.opening(may, task).members().find(could);
             all.who.extend(role.map(|role| Candidate {
                 user,
                 subject: None,

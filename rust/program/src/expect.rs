@@ -1,7 +1,7 @@
 //! `test`: files of requests with the replies that are expected of them.
 //!
 //! A file has a policy, as lines of its own or by `policy FILE`, and then requests, each with `=> REPLY` behind it; a request
-//! without one is expected to be granted. A policy after requests begins anew. `load => REPLY` says what the load is expected to answer.
+//! without one is expected to be granted. Behind the reply to a question may stand its figures. A policy after requests begins anew. `load => REPLY` says what the load is expected to answer.
 
 use crate::check::clashes;
 use crate::desk::Desk;
@@ -15,23 +15,62 @@ use records::Reply;
 use std::io::Write;
 use std::path::Path;
 
-/// A reply, and the place that goes with it: of the refused record, or of the rule.
-#[derive(Clone, Copy, PartialEq, Eq, Debug)]
+/// What is answered: a reply, the place that goes with it, of the refused record or of the rule, and a question's figures in words.
+#[derive(Clone, PartialEq, Eq, Debug)]
+struct Got {
+    reply: Reply,
+    place: usize,
+    figures: Option<String>,
+}
+
+impl Got {
+    /// The answer to what is no question.
+    fn of(reply: Reply, place: usize) -> Got {
+        let figures = None;
+        Got {
+            reply,
+            place,
+            figures,
+        }
+    }
+}
+
+/// What is expected; the place and the figures are judged where they are told.
+#[derive(Clone, PartialEq, Eq, Debug)]
 struct Expected {
     reply: Reply,
-    /// Judged where it is told.
     place: Option<usize>,
+    figures: Option<String>,
+}
+
+/// The words of figures, however they are spaced.
+fn words(figures: &str) -> Vec<&str> {
+    tokens(figures).0.iter().map(|token| token.text).collect()
 }
 
 impl Expected {
-    fn is(self, reply: Reply, place: usize) -> bool {
-        self.reply == reply && self.place.is_none_or(|expected| expected == place)
+    fn is(&self, got: &Got) -> bool {
+        let place = self.place.is_none_or(|expected| expected == got.place);
+        let told = got.figures.as_deref().unwrap_or("");
+        let figures = self.figures.as_ref();
+        let figures = figures.is_none_or(|expected| words(expected) == words(told));
+        self.reply == got.reply && place && figures
+    }
+
+    /// As it would have been answered.
+    fn got(&self) -> Got {
+        Got {
+            reply: self.reply,
+            place: self.place.unwrap_or(0),
+            figures: self.figures.clone(),
+        }
     }
 }
 
 const GRANTED: Expected = Expected {
     reply: Reply::Granted,
     place: None,
+    figures: None,
 };
 
 /// What a line of a test file says.
@@ -48,21 +87,23 @@ enum Says {
 struct Failure {
     line: usize,
     expected: Expected,
-    reply: Reply,
-    place: usize,
+    got: Got,
     what: String,
     because: Vec<String>,
     /// Whether the line is the one that says what was expected, and so can be updated.
     told: bool,
 }
 
-/// How a reply is written behind `=>`; the place of a load is that of a record.
-fn reply_text(reply: Reply, place: usize, load: bool) -> String {
-    match (place, load) {
+/// How an answer is written behind `=>`; the place of a load is that of a record.
+fn answer_text(got: &Got, load: bool) -> String {
+    let reply = got.reply;
+    let figures = got.figures.iter().map(|told| format!(", {told}"));
+    let text = match (got.place, load) {
         (0, _) => reply.to_string(),
         (place, true) => format!("{reply}, record {place}"),
         (place, false) => format!("{reply}, rule {place}"),
-    }
+    };
+    text + &figures.collect::<String>()
 }
 
 /// The words behind `=>`, of which some have been read.
@@ -95,6 +136,12 @@ impl Behind<'_> {
         let number = self.tokens.get(self.at)?.number()?;
         self.at += 1;
         Some(number)
+    }
+
+    /// Whether the figures of a question follow: `2 entries, done test`, or `stuck none, free test sign`.
+    fn begins_figures(&self) -> bool {
+        let rest: Vec<&str> = self.tokens[self.at..].iter().map(|t| t.text).collect();
+        matches!(rest[..], [_, "entry" | "entries", ..] | ["stuck", ..])
     }
 
     /// A reply by its name, in letters of either case.
@@ -136,19 +183,30 @@ impl Behind<'_> {
     }
 }
 
-/// `14 BEFORE, rule 1`: the number, the name or both, and the place where it matters.
+/// `14 BEFORE, rule 1`: the number, the name or both, and the place where it matters; or `GRANTED, 2 entries, done test`, a question's
+/// figures.
 fn expected(tokens: &[Token], end: usize) -> Result<Expected, Wrong> {
     let mut behind = Behind { tokens, at: 0, end };
     let reply = behind.reply()?;
-    let mut place = None;
+    let (mut place, mut figures) = (None, None);
     behind.at += usize::from(behind.is(&[","]));
     if behind.is(&["rule", "record"]) {
         behind.at += 1;
         place = Some(behind.number().ok_or_else(|| behind.wrong("a place"))? as usize);
+    } else if behind.begins_figures() {
+        let rest: Vec<&str> = tokens[behind.at..].iter().map(|t| t.text).collect();
+        figures = Some(rest.join(" ").replace(" ,", ","));
+        behind.at = tokens.len();
     }
     match behind.at < tokens.len() {
-        true => Err(behind.wrong("\"rule\", \"record\" or the end of the line")),
-        false => Ok(Expected { reply, place }),
+        true => {
+            Err(behind.wrong("\"rule\", \"record\", a question's figures or the end of the line"))
+        }
+        false => Ok(Expected {
+            reply,
+            place,
+            figures,
+        }),
     }
 }
 
@@ -229,8 +287,9 @@ impl<'a> Run<'a> {
             _ => {}
         }
         // A policy line behind requests begins a policy with names of its own.
+        let unjudged = judged.is_none();
         let of_policy = |line: &Line| match &line.record {
-            Some(record) => judged.is_none() && record[0] < 32,
+            Some(record) => unjudged && record[0] < 32,
             None => !self.loaded,
         };
         let alone = read_tokens(before, &Names::default()).ok().flatten();
@@ -282,8 +341,12 @@ impl<'a> Run<'a> {
         let (Some(answer), Some(record)) = (desk.take(line), &line.record) else {
             return;
         };
-        let (reply, place) = (answer.reply, answer.place);
-        if expected.is(reply, place) {
+        let got = Got {
+            reply: answer.reply,
+            place: answer.place,
+            figures: desk.say_figures(record),
+        };
+        if expected.is(&got) {
             self.passed += 1;
             return;
         }
@@ -294,8 +357,7 @@ impl<'a> Run<'a> {
         self.failures.push(Failure {
             line: number,
             expected,
-            reply,
-            place,
+            got,
             what: writer::line(record, &desk.names),
             because,
             told: true,
@@ -312,7 +374,8 @@ impl<'a> Run<'a> {
             }
             Err(refused) => (refused.reply, refused.place),
         };
-        if expected.is(reply, place) {
+        let got = Got::of(reply, place);
+        if expected.is(&got) {
             self.passed += usize::from(told);
             return;
         }
@@ -329,8 +392,7 @@ impl<'a> Run<'a> {
         self.failures.push(Failure {
             line: number,
             expected,
-            reply,
-            place,
+            got,
             what,
             because,
             told,
@@ -362,7 +424,7 @@ fn updated(line: &str, failure: &Failure, column: usize) -> String {
     let (request, arrow, comment) = pieces(line);
     let before = |arrow: &str| width(&line[..line.len() - arrow.len() - comment.len()]);
     let column = arrow.map_or(column, before);
-    let reply = reply_text(failure.reply, failure.place, failure.what == "load");
+    let reply = answer_text(&failure.got, failure.what == "load");
     format!("{request:<0$} => {reply}", column.saturating_sub(1))
 }
 
@@ -390,12 +452,8 @@ fn run<'a>(file: &'a str, text: &[u8]) -> Result<Run<'a>, Stop> {
 
 fn told(file: &str, failure: &Failure, out: &mut dyn Write) -> std::io::Result<()> {
     let load = failure.what == "load";
-    let wanted = reply_text(
-        failure.expected.reply,
-        failure.expected.place.unwrap_or(0),
-        load,
-    );
-    let got = reply_text(failure.reply, failure.place, load);
+    let wanted = answer_text(&failure.expected.got(), load);
+    let got = answer_text(&failure.got, load);
     writeln!(
         out,
         "{file}: line {}: expected {wanted}, got {got}: {}",

@@ -10,7 +10,7 @@ use crate::stop::{Done, Stop, REFUSED, WELL, WRONG};
 use crate::why::{why, Why};
 use crate::writer;
 use mishantral::{Answer, Refused, Reply};
-use records::LENGTH;
+use records::{Set, LENGTH};
 use serde_json::{json, Value};
 use std::io::{self, BufRead, IsTerminal, Read, Write};
 
@@ -138,22 +138,25 @@ impl Listing<'_> {
     }
 }
 
-/// What stands before an explanation's lines, behind the reply's column.
+/// What stands before the lines of an explanation or of figures, behind the reply's column.
 const INDENT: &str = "                          ";
 
 fn in_words(desk: &Desk, place: u64, record: &[u8], answer: Answer, brief: bool) -> String {
     let (number, name) = (answer.reply.number(), answer.reply.name());
     let words = writer::line(record, &desk.names);
     let mut text = format!("{place:>5}  {number:>2} {name:<12}  {words}\n");
-    if !brief && !answer.is_granted() {
-        for line in why(desk, record, answer).lines(desk) {
-            text += &format!("{INDENT}{line}\n");
-        }
+    let below = match (answer.is_granted(), brief) {
+        (true, _) => desk.say_figures(record).into_iter().collect(),
+        (false, true) => Vec::new(),
+        (false, false) => why(desk, record, answer).lines(desk),
+    };
+    for line in below {
+        text += &format!("{INDENT}{line}\n");
     }
     text
 }
 
-/// The answer as an object; a refusal has its explanation.
+/// The answer as an object; a refusal has its explanation, and a granted question its figures.
 fn object(desk: &Desk, place: u64, record: &[u8], answer: Answer) -> Value {
     let request = writer::line(record, &desk.names);
     let mut object = json!({
@@ -162,10 +165,22 @@ fn object(desk: &Desk, place: u64, record: &[u8], answer: Answer) -> Value {
     if !answer.is_granted() {
         object["why"] = explained(desk, &why(desk, record, answer));
     }
+    if let Some(figures) = answer.is_granted().then(|| figures(desk, record)).flatten() {
+        object["figures"] = figures;
+    }
     if let Some(record) = whole(record) {
         object["kind"] = json!(record.kind());
     }
     object
+}
+
+fn figures(desk: &Desk, record: &[u8]) -> Option<Value> {
+    let answer = desk.figures(record)?;
+    let tasks = |set: u64| Set(set).members().collect::<Vec<u8>>();
+    Some(match record.first()? {
+        58 => json!({"entries": answer[0], "done": tasks(answer[1])}),
+        _ => json!({"stuck": tasks(answer[0]), "free": answer[2..][..answer[1] as usize]}),
+    })
 }
 
 fn explained(desk: &Desk, why: &Why) -> Value {

@@ -41,6 +41,8 @@ pub struct Told {
     pub open: BTreeMap<u16, Set>,
     /// Task and permission.
     pub carried: Vec<(u16, u16)>,
+    /// Senior and junior roles, with the places of their records in the policy, from 0.
+    pub above: Vec<(usize, (u16, u16))>,
     /// Records of kinds 9 to 16 with their places in the policy, from 0.
     pub rules: Vec<(usize, Record)>,
     pub subjects: BTreeMap<u16, Session>,
@@ -76,6 +78,7 @@ impl Told {
             6 => drop(self.tasks.insert(a, b)),
             7 => with(self.open.entry(a).or_default(), b),
             8 => self.carried.push((a, b)),
+            17 => self.above.push((place, (a, b))),
             _ => self.rules.push((place, *record)),
         }
     }
@@ -141,6 +144,34 @@ impl Told {
 
     pub fn roles_of(&self, user: u16) -> Set {
         self.users.get(&user).copied().unwrap_or_default()
+    }
+
+    /// The roles and all roles below them.
+    pub fn down(&self, roles: Set) -> Set {
+        let mut all = roles;
+        loop {
+            let before = all;
+            for &(_, (senior, junior)) in &self.above {
+                if all.has(senior as u8) {
+                    with(&mut all, junior);
+                }
+            }
+            if all == before {
+                return all;
+            }
+        }
+    }
+
+    /// The roles that a user may activate: those assigned, and those below them.
+    pub fn may_activate(&self, user: u16) -> Set {
+        self.down(self.roles_of(user))
+    }
+
+    /// Those of these roles that open the task, by themselves or by a role below.
+    pub fn opening(&self, roles: Set, task: u16) -> Set {
+        let open = self.open_to(task);
+        let opens = |role: &u8| self.down(Set::of(&[*role])).0 & open.0 != 0;
+        roles.members().filter(opens).collect()
     }
 
     pub fn open_to(&self, task: u16) -> Set {

@@ -1,7 +1,7 @@
 //! What planning would want to know of an accepted policy: tasks that nobody opens, roles that nobody has, tasks that wait for each
 //! other, and rules that the clerks there are cannot satisfy.
 //!
-//! Whether tasks can be done is tried out: on an engine that is lent the policy, or a part of it, clerks claim and finish one task after
+//! Which tasks wait for ever is the engine's own answer (kind 60). Whether the others can be done is tried out: on an engine that is lent the policy, or a part of it, clerks claim and finish one task after
 //! the other until all are done or every choice is used up. Where that takes too many tries, nothing is said.
 
 use crate::desk::{joined, Desk};
@@ -54,7 +54,9 @@ impl Found<'_> {
 
     fn roles(&mut self) {
         for role in self.desk.told.roles.members() {
-            if !self.desk.told.users.values().any(|roles| roles.has(role)) {
+            let told = &self.desk.told;
+            let mut users = told.users.keys();
+            if !users.any(|&user| told.may_activate(user).has(role)) {
                 let text = format!("no user has {}", self.desk.say(Sort::Role, role.into()));
                 self.tell(2, role.into(), text);
             }
@@ -82,7 +84,7 @@ impl Found<'_> {
 
     fn circles(&mut self) {
         for template in templates(self.desk) {
-            let waiting = waiting(self.desk, template);
+            let waiting: Vec<u16> = self.desk.stuck(template).collect();
             if let Some(&first) = waiting.first() {
                 let tasks = self.desk.say_all(Sort::Task, waiting.iter().copied());
                 let template = self.desk.say(Sort::Template, template);
@@ -157,51 +159,11 @@ fn templates(desk: &Desk) -> BTreeSet<u16> {
     desk.told.tasks.values().copied().collect()
 }
 
-/// The users who have a role that opens the task.
+/// The users who have a role that opens the task, or one above such a role.
 fn clerks(desk: &Desk, task: u16) -> Vec<u16> {
-    let open = desk.told.open_to(task);
-    let may = desk
-        .told
-        .users
-        .iter()
-        .filter(|(_, roles)| roles.0 & open.0 != 0);
-    may.map(|(&user, _)| user).collect()
-}
-
-/// The tasks of a template that are never claimed for their prerequisites, by an engine in which one clerk may take every task and no
-/// other rule holds.
-fn waiting(desk: &Desk, template: u16) -> Vec<u16> {
-    let tasks: Vec<u16> = desk.told.tasks_of(template).collect();
-    let mut policy = vec![
-        Record::user(0),
-        Record::role(0),
-        Record::user_has_role(0, 0),
-    ];
-    policy.extend(tasks.iter().map(|&task| Record::task(task, template)));
-    policy.extend(tasks.iter().map(|&task| Record::task_open_to(task, 0)));
-    let prerequisites = desk.told.rules_of(16).map(|(_, rule)| rule);
-    policy.extend(prerequisites.filter(|rule| tasks.contains(&rule.b())));
-    let mut engine = Engine::new();
-    let start = [
-        Record::create_subject(0, 0, Set::of(&[0])),
-        Record::open_order(0, template),
-    ];
-    if engine.load_records(&policy).is_err() || !all_granted(&mut engine, &start) {
-        return Vec::new();
-    }
-    let mut left = tasks;
-    loop {
-        let before = left.len();
-        left.retain(|&task| {
-            !all_granted(
-                &mut engine,
-                &[Record::claim(0, 0, task), Record::done(0, 0, task)],
-            )
-        });
-        if left.len() == before {
-            return left;
-        }
-    }
+    let (told, open) = (&desk.told, desk.told.open_to(task));
+    let may = |user: &u16| told.may_activate(*user).0 & open.0 != 0;
+    told.users.keys().copied().filter(may).collect()
 }
 
 fn all_granted(engine: &mut Engine, records: &[Record]) -> bool {
@@ -254,7 +216,7 @@ fn finish(desk: &Desk, rules: &[Record], tasks: &[u16]) -> Finish {
         .policy
         .records()
         .into_iter()
-        .filter(|r| matches!(r.kind(), 1..=8));
+        .filter(|r| matches!(r.kind(), 1..=8 | 17));
     let policy: Vec<Record> = declared.chain(rules.iter().copied()).collect();
     let mut engine = Engine::new();
     if engine.load_records(&policy).is_err()
@@ -323,7 +285,8 @@ impl Search<'_> {
     /// The engine after the user has claimed and done the task, in a session of its own; or the claim's refusal.
     fn worked(&self, engine: &Engine, user: u16, task: u16) -> Result<Engine, Reply> {
         let mut copy = engine.clone();
-        let open = self.desk.told.open_to(task).0 & self.desk.told.roles_of(user).0;
+        let told = &self.desk.told;
+        let open = told.open_to(task).0 & told.may_activate(user).0;
         let role = Set(open & open.wrapping_neg());
         let steps = [
             Record::create_subject(0, user, role),

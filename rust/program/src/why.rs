@@ -201,7 +201,7 @@ fn not_there(desk: &Desk, record: Record) -> Option<String> {
             let role = desk.say(Sort::Role, b);
             format!("{role} is not active in {}", desk.say_subject(a))
         }
-        13 => format!("{} has no task", desk.say(Sort::Template, a)),
+        13 | 60 => format!("{} has no task", desk.say(Sort::Template, a)),
         48 => format!("{} has no task", desk.say(Sort::Template, b)),
         50..=52 | 57 => {
             let template = desk.told.orders.get(&b)?.template;
@@ -279,11 +279,22 @@ fn in_use(desk: &Desk, record: Record) -> Why {
                 .collect()
         }
         35 => {
-            let role = desk.say(Sort::Role, record.b());
-            let active = subjects(desk, a, |s| s.active.has(record.b() as u8)).into_iter();
-            active
-                .map(|s| format!("{role} is active in {}", desk.say_subject(s)))
-                .collect()
+            // What would stand no longer at or below an assigned role.
+            let assigned = desk.told.roles_of(a);
+            let left = Set(assigned.0 & !1u64.checked_shl(record.b().into()).unwrap_or(0));
+            let lost = desk.told.down(assigned).0 & !desk.told.down(left).0;
+            let active = subjects(desk, a, |s| s.active.0 & lost != 0).into_iter();
+            let line = |s: u16| {
+                let roles = Set(desk.told.subjects[&s].active.0 & lost);
+                let verb = if roles.members().count() == 1 {
+                    "is"
+                } else {
+                    "are"
+                };
+                let roles = desk.say_set(Sort::Role, roles);
+                format!("{roles} {verb} active in {}", desk.say_subject(s))
+            };
+            active.map(line).collect()
         }
         41 => {
             let held = entries_of(desk, |e| e.holder == Some(a)).into_iter();
@@ -326,15 +337,17 @@ fn not_assigned(desk: &Desk, record: Record) -> Why {
         ),
     };
     let roles = desk.told.roles_of(user);
-    let missing = desk.say_set(Sort::Role, Set(asked.0 & !roles.0));
+    let may = desk.told.may_activate(user);
+    let missing = desk.say_set(Sort::Role, Set(asked.0 & !may.0));
     let (user, roles) = (desk.say(Sort::User, user), desk.say_set(Sort::Role, roles));
     Why::because(format!(
         "{user} is not assigned {missing}; assigned: {roles}"
     ))
 }
 
-/// The first set of a kind that these roles exceed, and the roles of it.
+/// The first set of a kind that these roles, with those below them, exceed, and the roles of it.
 fn exceeded(desk: &Desk, kind: u8, roles: Set) -> Option<(Rule, Set)> {
+    let roles = desk.told.down(roles);
     let mut sets = desk
         .told
         .rules_of(kind)
@@ -360,7 +373,7 @@ pub fn role_limit(desk: &Desk, record: Record, kind: u8) -> Why {
     };
     let name = desk.say(Sort::User, user);
     let limit = rule.1.n();
-    let would = desk.say_set(Sort::Role, roles);
+    let would = say_with_seniors(desk, roles, Set(before.0 | added.0));
     let mut because = vec![if kind == 9 {
         format!("{name} would be assigned {would}, and may have {limit} of these")
     } else {
@@ -368,7 +381,7 @@ pub fn role_limit(desk: &Desk, record: Record, kind: u8) -> Why {
     }];
     if kind == 10 {
         for (&subject, session) in told.subjects.iter().filter(|(_, s)| s.user == user) {
-            let met = Set(session.had.0 & rule.1.m());
+            let met = Set(told.down(session.had).0 & rule.1.m());
             if met != Set::EMPTY {
                 let met = desk.say_set(Sort::Role, met);
                 because.push(format!(
@@ -379,6 +392,20 @@ pub fn role_limit(desk: &Desk, record: Record, kind: u8) -> Why {
         }
     }
     Why::all(because).by(Some(rule))
+}
+
+/// These roles, each that is not among those had by name with what it stands below: `clerk (below lead)`.
+pub fn say_with_seniors(desk: &Desk, roles: Set, by_name: Set) -> String {
+    let one = |role: u8| {
+        let said = desk.say(Sort::Role, role.into());
+        if by_name.has(role) {
+            return said;
+        }
+        let stands_above = |senior: &u8| desk.told.down(Set::of(&[*senior])).has(role);
+        let seniors: Set = by_name.members().filter(stands_above).collect();
+        format!("{said} (below {})", desk.say_set(Sort::Role, seniors))
+    };
+    joined(&roles.members().map(one).collect::<Vec<String>>())
 }
 
 fn had_by(desk: &Desk, user: u16) -> Set {
@@ -446,15 +473,20 @@ fn no_role(desk: &Desk, record: Record) -> Why {
         ),
     ];
     if let Some(session) = session {
-        let could = Set(desk.told.roles_of(session.user).0 & open.0);
-        if could != Set::EMPTY {
-            let (user, roles) = (
-                desk.say(Sort::User, session.user),
-                desk.say_set(Sort::Role, could),
-            );
+        let assigned = desk.told.roles_of(session.user);
+        let could = desk
+            .told
+            .opening(desk.told.may_activate(session.user), task);
+        let by_name = Set(could.0 & assigned.0);
+        let user = desk.say(Sort::User, session.user);
+        if by_name != Set::EMPTY {
+            let roles = desk.say_set(Sort::Role, by_name);
             because.push(format!(
                 "{user} is assigned {roles}, which can be activated"
             ));
+        } else if could != Set::EMPTY {
+            let roles = say_with_seniors(desk, could, assigned);
+            because.push(format!("{user} can activate {roles}"));
         }
     }
     Why {
@@ -584,7 +616,8 @@ mod tests {
     use crate::source::text_policy;
     use std::collections::BTreeMap;
 
-    const POLICIES: [&str; 3] = [
+    const POLICIES: [&str; 4] = [
+        include_str!("../../../examples/team_lead/policy.txt"),
         include_str!("../../../examples/named.txt"),
         include_str!("../../../examples/loan/policy.txt"),
         include_str!("../../../examples/stuck_order/policy.txt"),

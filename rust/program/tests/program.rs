@@ -107,16 +107,17 @@ fn plain_is_the_desk_listing_from_text_and_from_records() {
 
 #[test]
 fn a_listing_in_words_has_the_replies_of_the_example() {
-    for example in ["listing", "loan", "night_shift", "stuck_order"] {
+    for example in ["listing", "loan", "night_shift", "stuck_order", "team_lead"] {
         let name = |file: &str| format!("examples/{example}/{file}");
         let (words, _, status) =
             run(&["run", "--brief", &name("policy.txt"), &name("requests.txt")]);
         assert_eq!(status, 0);
         let expected = std::fs::read_to_string(root().join(name("expected.txt"))).unwrap();
-        // That listing says the rule of a refused claim on a line of its own, which has no place.
+        // That listing says the rule of a refused claim on a line of its own, which has no place; both have such lines for figures.
         let placed = |line: &&str| !line.starts_with("      ");
         let expected: Vec<&str> = expected.lines().filter(placed).collect();
-        assert_eq!(words.lines().collect::<Vec<&str>>(), expected);
+        let words: Vec<&str> = words.lines().filter(placed).collect();
+        assert_eq!(words, expected);
     }
 }
 
@@ -154,7 +155,14 @@ fn the_test_files_pass() {
 /// The test files of examples that have requests of their own say the same requests.
 #[test]
 fn the_test_files_have_the_examples_requests() {
-    for example in ["listing", "loan", "night_shift", "opl_loan", "stuck_order"] {
+    for example in [
+        "listing",
+        "loan",
+        "night_shift",
+        "opl_loan",
+        "stuck_order",
+        "team_lead",
+    ] {
         let read =
             |name: &str| std::fs::read_to_string(root().join("examples").join(name)).unwrap();
         let request = |line: &str| {
@@ -282,6 +290,32 @@ fn check_tells_every_error_or_the_clash_or_the_warnings() {
             "FILE: line 2: 4 UNKNOWN: user anna has role clerk",
             "  clerk is not declared",
             "  clerk is declared later, at line 3: a record uses what is declared before it",
+        ],
+    );
+    let roles = "role 0 clerk\nrole 1 lead\nrole 2 signer\nrole lead above role clerk\nstatic set 1 of clerk signer\nuser 1 anna\n";
+    clash(
+        "senior.txt",
+        &format!("{roles}user anna has role lead\nuser anna has role signer\n"),
+        &[
+            "FILE: line 8: 9 STATIC: user anna has role signer",
+            "  static set 1 of clerk signer (FILE, line 5)",
+            "  anna would be assigned clerk (below lead) and signer, and may have 1 of these",
+        ],
+    );
+    clash(
+        "raised.txt",
+        &format!("{roles}user anna has role signer\nrole 3 head\nrole signer above role head\nrole head above role lead\n"),
+        &[
+            "FILE: line 10: 9 STATIC: role head above role lead",
+            "  anna would have clerk and signer; line 5 says: static set 1 of clerk signer",
+        ],
+    );
+    clash(
+        "loop.txt",
+        &format!("{roles}role 3 head\nrole head above role lead\nrole clerk above role head\n"),
+        &[
+            "FILE: line 9: 23 LOOP: role clerk above role head",
+            "  head stands above clerk already (line 8: role head above role lead, line 4: role lead above role clerk)",
         ],
     );
     clash(
@@ -429,6 +463,73 @@ fn json_is_one_object_a_line() {
 }
 
 #[test]
+fn a_granted_question_has_its_figures() {
+    let room = room("figures");
+    let policy = file(
+        &room,
+        "policy.txt",
+        "user 1 anna\nrole 0\nuser anna has role 0\ntask 0 test of template 0\ntask 3 sign of template 0\ntask test open to role 0\n\
+         task sign open to role 0\n",
+    );
+    let requests = file(
+        &room,
+        "requests.txt",
+        "create subject 5 for user anna with roles 0\nopen order 7 of template 0\nclaim 5 7 sign\ndone 5 7 sign\nclaim 5 7 test\n\
+         entries of order 7\nentries of order 8\n",
+    );
+    let (told, _, _) = run(&["run", "--brief", &policy, &requests]);
+    let last: Vec<&str> = told.lines().skip(6).collect();
+    let expected = [
+        "    6   0 GRANTED       entries of order 7",
+        "                          2 entries, done sign",
+        "    7   4 UNKNOWN       entries of order 8",
+    ];
+    assert_eq!(last, expected);
+    let (told, _, _) = run(&["run", "--json", &policy, &requests]);
+    let objects = told.lines().map(serde_json::from_str);
+    let objects: Vec<Value> = objects.map(Result::unwrap).collect();
+    let (figures, refused) = (&objects[6]["figures"], &objects[7]);
+    assert_eq!(
+        (&figures["entries"], &figures["done"]),
+        (&2.into(), &vec![3].into())
+    );
+    assert!(refused.get("figures").is_none());
+    assert_eq!(refused["why"]["because"][0], "order 8 is not open");
+    let (told, _, _) = run(&["run", "--plain", &policy, &requests]);
+    assert!(told.ends_with("6 0 0\n7 4 0\n"), "{told}");
+    let wrong = "policy policy.txt\nopen order 7 of template 0\nentries of order 7  => GRANTED, 1 entry, done sign   # none\n";
+    let test = file(&room, "wrong.test", wrong);
+    let (told, _, status) = run(&["test", &test]);
+    assert!(told.contains("line 3: expected 0 GRANTED, 1 entry, done sign, got 0 GRANTED, 0 entries, done none: entries of order 7"), "{told}");
+    assert_eq!(status, 1);
+    assert_eq!(run(&["test", "--update", &test]).2, 0);
+    let written = std::fs::read_to_string(&test).unwrap();
+    assert!(
+        written.contains("entries of order 7  => 0 GRANTED, 0 entries, done none  # none\n"),
+        "{written}"
+    );
+}
+
+#[test]
+fn stuck_tasks_are_told_by_name_and_by_number() {
+    let asked = b"stuck tasks of template 0\nstuck tasks of template 4\n";
+    let policy = "examples/stuck_order/policy.txt";
+    let (told, _, status) = said(with_input(&["run", policy], asked));
+    let expected = "\
+load 0 GRANTED
+    1   0 GRANTED       stuck tasks of template 0
+                          stuck 0 1, free none
+    2   4 UNKNOWN       stuck tasks of template 4
+                          template 4 has no task
+";
+    assert_eq!((told.as_str(), status), (expected, 0));
+    let (told, _, _) = said(with_input(&["run", "--json", policy], asked));
+    let first: Value = serde_json::from_str(told.lines().nth(1).unwrap()).unwrap();
+    assert_eq!(first["figures"]["stuck"], serde_json::json!([0, 1]));
+    assert_eq!(first["figures"]["free"], serde_json::json!([]));
+}
+
+#[test]
 fn answers_through_a_pipe_come_one_by_one() {
     let mut command = mishantral(&["run", "examples/listing/policy.txt"]);
     let mut child = command
@@ -481,7 +582,7 @@ fn conversions_lead_back() {
         "examples/opl_loan/tasks.txt",
     ];
     let mut policies: Vec<Vec<&str>> = vec![opl.to_vec(), vec!["examples/named.txt"]];
-    for example in ["listing", "loan", "night_shift", "stuck_order"] {
+    for example in ["listing", "loan", "night_shift", "stuck_order", "team_lead"] {
         policies.push(vec![Box::leak(
             format!("examples/{example}/policy.txt").into_boxed_str(),
         )]);

@@ -38,7 +38,7 @@ pub enum Part {
 }
 
 /// The kind that a pattern is for, where the line itself does not say it, and the pattern.
-pub const FORMS: [(u8, &str); 36] = [
+pub const FORMS: [(u8, &str); 39] = [
     (1, "user <a>"),
     (2, "role <a>"),
     (3, "permission <a> is operation <b> on object <c>"),
@@ -55,6 +55,7 @@ pub const FORMS: [(u8, &str); 36] = [
     (14, "task <a> at most <n> times"),
     (15, "task <a> bound to task <b>"),
     (16, "task <a> before task <b>"),
+    (17, "role <a> above role <b>"),
     (32, "add user <a>"),
     (32, "add user <a> with roles <set>"),
     (33, "delete user <a>"),
@@ -76,6 +77,8 @@ pub const FORMS: [(u8, &str); 36] = [
         57,
         "task check <a=subject> <b=order> <c=task> operation <low> object <high>",
     ),
+    (58, "entries of order <a>"),
+    (60, "stuck tasks of template <a>"),
     (0, RAW),
     (0, "bytes <bytes>"),
 ];

@@ -76,7 +76,7 @@ impl Record {
     }
 }
 
-/// Kinds 1 to 16: the records of a policy.
+/// Kinds 1 to 17: the records of a policy.
 impl Record {
     /// Declares a user.
     pub const fn user(user: u16) -> Record {
@@ -157,9 +157,19 @@ impl Record {
     pub const fn before(first: u16, second: u16) -> Record {
         record(16, 0, [first, second, 0], 0)
     }
+
+    /// The senior role stands above the junior one: it counts with it, and with all roles below that.
+    ///
+    /// ```
+    /// # use records::Record;
+    /// assert_eq!(Record::role_above(5, 2).to_string(), "role 5 above role 2");
+    /// ```
+    pub const fn role_above(senior: u16, junior: u16) -> Record {
+        record(17, 0, [senior, junior, 0], 0)
+    }
 }
 
-/// Kinds 32 to 57: requests.
+/// Kinds 32 to 60: requests.
 impl Record {
     /// Adds a user, who has no roles yet.
     pub const fn add_user(user: u16) -> Record {
@@ -263,5 +273,15 @@ impl Record {
     ) -> Record {
         let m = operation as u64 + 65_536 * object as u64;
         record(57, 0, [subject, order, task], m)
+    }
+
+    /// How many entries has the order, and which of its tasks are done? A question, whose figures have a call of their own.
+    pub const fn entries_of(order: u16) -> Record {
+        record(58, 0, [order, 0, 0], 0)
+    }
+
+    /// Which tasks of the template can never be claimed because of prerequisites? A question, whose figures have a call of their own.
+    pub const fn stuck_tasks(template: u16) -> Record {
+        record(60, 0, [template, 0, 0], 0)
     }
 }

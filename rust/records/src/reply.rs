@@ -2,7 +2,7 @@
 
 use core::fmt;
 
-/// What a record is answered with. The checks run in the order of these numbers, and the first that
+/// What a record is answered with. The checks run in the order of these numbers, LOOP behind RULE, and the first that
 /// applies is the reply.
 ///
 /// Later versions may have further replies.
@@ -57,6 +57,8 @@ pub enum Reply {
     Text = 21,
     /// A dealer's name is too long, declared nowhere or above a limit.
     Names = 22,
+    /// The role that is to stand below stands above already.
+    Loop = 23,
 }
 
 use Reply::*;
@@ -87,6 +89,7 @@ impl Reply {
         Full,
         Text,
         Names,
+        Loop,
     ];
 
     /// The reply's number in docs/RULES.md.
@@ -126,6 +129,7 @@ impl Reply {
             Full => "FULL",
             Text => "TEXT",
             Names => "NAMES",
+            Loop => "LOOP",
         }
     }
 

@@ -1,7 +1,7 @@
 //! Records under the words of docs/RULES.md, and engines of both ledgers run side by side.
 #![allow(dead_code)] // each test file uses its own part
 
-use plain::{encode, Engine, FlatLedger, OrderLists, Reply};
+use plain::{encode, Engine, FlatLedger, OrderLists, Reply, ANSWER};
 
 pub type Bytes = Vec<u8>;
 
@@ -66,6 +66,10 @@ pub fn before(a: u16, b: u16) -> Bytes {
     ab(16, a, b)
 }
 
+pub fn above(a: u16, b: u16) -> Bytes {
+    ab(17, a, b)
+}
+
 pub fn add_user(a: u16) -> Bytes {
     ab(32, a, 0)
 }
@@ -122,6 +126,14 @@ pub fn task_check(subject: u16, instance: u16, task: u16, operation: u16, object
     record(57, 0, subject, instance, task, m)
 }
 
+pub fn entries_of(instance: u16) -> Bytes {
+    ab(58, instance, 0)
+}
+
+pub fn stuck_tasks(template: u16) -> Bytes {
+    ab(60, template, 0)
+}
+
 /// An engine of each ledger, which must always agree.
 pub struct Both {
     flat: Engine<FlatLedger>,
@@ -159,13 +171,22 @@ impl Both {
         assert_eq!((reply, place), other, "the two differ on {record:?}");
         let about_a_rule = matches!(reply.number(), 14..=16 | 18);
         assert_eq!(place != 0, about_a_rule, "place {place} with {reply:?}");
-        if reply != Reply::Granted || matches!(record.first(), Some(56 | 57)) {
+        if reply != Reply::Granted || matches!(record.first(), Some(56..=58 | 60)) {
             assert!(before == (self.flat.clone(), self.lists.clone()));
         }
         let mut entries = [self.flat.entries(), self.lists.entries()];
         entries.iter_mut().for_each(|e| e.sort());
         assert_eq!(entries[0], entries[1], "the two ledgers' entries differ");
         (reply, place)
+    }
+
+    /// The reply of both to a question, and the answer afterwards, which had this word everywhere.
+    pub fn question(&mut self, record: &[u8], before: u64) -> (Reply, [u64; ANSWER]) {
+        let (mut answer, mut other) = ([before; ANSWER], [before; ANSWER]);
+        let reply = self.flat.question(record, &mut answer);
+        assert_eq!(reply, self.lists.question(record, &mut other));
+        assert_eq!(answer, other, "the two differ on {record:?}");
+        (reply, answer)
     }
 
     /// As `request` without its comparisons, for long runs.
