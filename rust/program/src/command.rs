@@ -157,6 +157,174 @@ fn convert() -> Command {
         ))
 }
 
+fn journal_file() -> Arg {
+    Arg::new("journal")
+        .long("journal")
+        .value_name("FILE")
+        .value_hint(ValueHint::FilePath)
+}
+
+fn number(name: &'static str, help: &'static str) -> Arg {
+    Arg::new(name)
+        .long(name)
+        .value_name("N")
+        .value_parser(clap::value_parser!(u64).range(1..))
+        .help(help)
+}
+
+fn value(name: &'static str, value: &'static str, help: &'static str) -> Arg {
+    Arg::new(name).long(name).value_name(value).help(help)
+}
+
+fn serve() -> Command {
+    Command::new("serve")
+        .about("A desk on a socket, for many clients, that survives: every request is in its journal before it is answered")
+        .long_about(
+            "Answers the requests of many clients by one engine. Each request and its reply are in the journal, an SQLite file, before the \
+             reply is sent. At its start it takes the journal's last snapshot and asks what follows anew: every reply must be the one given \
+             then. A journal of another version or policy, or a damaged one, is refused and stays as it is. It ends when it is killed, at any \
+             moment: docs/SERVE.md tells the forms of requests, the journal's tables and what is promised.",
+        )
+        .args([policy().required(false), tasks(), format()])
+        .arg(journal_file().help("The journal; it is begun with POLICY where there is none"))
+        .arg(
+            value("desk", "NAME=JOURNAL", "A desk of several, each with an engine, a policy and a journal of its own")
+                .action(ArgAction::Append)
+                .conflicts_with("journal"),
+        )
+        .arg(
+            Arg::new("socket")
+                .long("socket")
+                .value_name("PATH")
+                .required(true)
+                .value_hint(ValueHint::FilePath)
+                .help("Where clients come: a Unix socket"),
+        )
+        .arg(number("group", "How many requests go into one transaction at most; 4096 where it is missing"))
+        .arg(number("snapshot", "Take a snapshot after so many requests; 100000 where it is missing"))
+        .arg(number("clients", "How many clients there may be at once; 1000 where it is missing"))
+        .arg(
+            Arg::new("saved")
+                .long("saved")
+                .value_name("HOW")
+                .value_parser(PossibleValuesParser::new(["full", "normal"]))
+                .help("full: what is answered survives a failure of power; normal: it survives the program's end"),
+        )
+        .after_help(concat!(
+            "Examples:\n",
+            "  mishantral serve examples/named.txt --journal desk.db --socket desk.sock     # the first time\n",
+            "  mishantral serve --journal desk.db --socket desk.sock\n",
+            "  mishantral ask --socket desk.sock 'open order 7 of template breakdown'\n",
+            "  mishantral serve --desk mill=mill.db --desk yard=yard.db --socket desks.sock\n",
+            "\n",
+            "Exit status: 1 a policy or a journal was refused, or the journal failed; 2 wrong use, or a file that cannot be read.",
+        ))
+}
+
+fn ask() -> Command {
+    Command::new("ask")
+        .about("Send requests to a desk that is served, and print its replies")
+        .arg(
+            Arg::new("socket")
+                .long("socket")
+                .value_name("PATH")
+                .required(true)
+                .value_hint(ValueHint::FilePath)
+                .help("The server's socket"),
+        )
+        .arg(value("desk", "NAME", "Which desk, where there are several"))
+        .arg(
+            Arg::new("lines")
+                .value_name("LINE")
+                .action(ArgAction::Append)
+                .num_args(0..)
+                .help("Requests, a line each; standard input where there is none"),
+        )
+        .after_help(concat!(
+            "Example:\n",
+            "  mishantral ask --socket desk.sock 'claim 1 7 sign' 'done 1 7 sign'\n",
+            "\n",
+            "Exit status: 0 answered, whatever the replies; 2 otherwise.",
+        ))
+}
+
+fn journal() -> Command {
+    Command::new("journal")
+        .about("Print a desk's journal, or check it")
+        .long_about(
+            "Prints the requests of a journal with their replies, those that meet every option given. With --check, the whole journal is \
+             asked anew from its load on, and every reply, checksum and snapshot compared. A server may be at work meanwhile.",
+        )
+        .arg(
+            Arg::new("file")
+                .value_name("FILE")
+                .required(true)
+                .value_hint(ValueHint::FilePath)
+                .help("The journal"),
+        )
+        .arg(value("order", "ORDER", "Requests about this order, by number or name"))
+        .arg(value("user", "USER", "Requests about this user, or one of the user's subjects"))
+        .arg(value("task", "TASK", "Requests about this task"))
+        .arg(value("reply", "REPLY", "With this reply, by number or name; `refused`: all but GRANTED"))
+        .arg(value("since", "TIME", "From this time on, UTC: 2026-11-15, or '2026-11-15 20:31'"))
+        .arg(value("until", "TIME", "Before this time"))
+        .arg(number("last", "The last so many of these"))
+        .arg(flag("json", "One object a line"))
+        .arg(flag("check", "Ask everything anew and compare"))
+        .after_help(concat!(
+            "Examples:\n",
+            "  mishantral journal desk.db --user anna --reply refused\n",
+            "  mishantral journal desk.db --check\n",
+            "  sqlite3 -readonly desk.db 'SELECT reply, count(*) FROM answered GROUP BY reply'\n",
+            "\n",
+            "Exit status: 0 printed, or sound; 1 the journal is refused; 2 wrong use.",
+        ))
+}
+
+fn who() -> Command {
+    Command::new("who")
+        .about("Who of those signed in could claim a task of an order now")
+        .long_about(
+            "Prints the live subjects whose claim would be granted now, which copies of the engine are asked. The desk is as its journal leaves \
+             it; a server may be at work meanwhile.",
+        )
+        .arg(Arg::new("order").value_name("ORDER").required(true).help("The order, by number or name"))
+        .arg(Arg::new("task").value_name("TASK").required(true).help("The task, by number or name"))
+        .arg(journal_file().required(true).help("The desk's journal"))
+        .arg(flag("json", "One object"))
+        .after_help(concat!(
+            "Example:\n",
+            "  mishantral who mill_7 sign --journal desk.db\n",
+            "\n",
+            "Exit status: 0 somebody; 1 nobody, or the journal is refused; 2 wrong use.",
+        ))
+}
+
+fn finish() -> Command {
+    Command::new("finish")
+        .about("Whether those signed in can still finish an order: a plan, or why there is none")
+        .long_about(
+            "Searches for a plan by which those signed in, or the users of a list, finish an order: every task of it done, and the order ended. \
+             Every step of a plan is granted by a copy of the engine. A plan may activate further roles of theirs and release what is \
+             held; it signs nobody out, and signs in those of a list who are not. Where there is none it is said which task nobody can do, which \
+             rules stand in the way, and with whom it could be done. The search is exhaustive up to a bound of claims tried; where that is \
+             reached it is said. With --all, every open order is looked at, each by itself, and those are named that will lie.",
+        )
+        .arg(Arg::new("order").value_name("ORDER").required_unless_present("all").help("The order, by number or name"))
+        .arg(flag("all", "Every open order").conflicts_with("order"))
+        .arg(journal_file().required(true).help("The desk's journal"))
+        .arg(value("with", "USERS", "These users, by number or name with commas between, in the place of those signed in"))
+        .arg(number("tries", "How many claims are tried at most; 5000000 where it is missing"))
+        .arg(flag("json", "One object an order"))
+        .after_help(concat!(
+            "Examples:\n",
+            "  mishantral finish mill_7 --journal desk.db\n",
+            "  mishantral finish --all --journal desk.db --with anna,bert,clara\n",
+            "\n",
+            "Exit status: 0 every order asked for can be finished; 1 one cannot, is not settled or is not open, or the journal is refused; 2 wrong use.",
+        ))
+}
+
 fn generate() -> Command {
     let shells = ["man", "bash", "zsh", "fish", "elvish", "powershell"];
     Command::new("generate")
@@ -193,7 +361,18 @@ pub fn command() -> Command {
             "Exit status: 0 all well; 1 a policy refused or a test failed; 2 wrong use, text errors, or a file that cannot be read ",
             "or written.",
         ))
-        .subcommands([check(), run(), test(), convert(), generate()])
+        .subcommands([
+            check(),
+            run(),
+            test(),
+            convert(),
+            serve(),
+            ask(),
+            journal(),
+            who(),
+            finish(),
+            generate(),
+        ])
 }
 
 /// The shell of `generate`, if it is one.

@@ -50,6 +50,20 @@ impl Desk {
         })
     }
 
+    /// A desk whose engine has been at work: what it holds is read from its state.
+    pub fn at(policy: &Policy, names: Names, engine: Engine) -> Desk {
+        Desk {
+            told: Told::read(&policy.records(), engine.state()),
+            names,
+            policy: policy.clone(),
+            engine,
+        }
+    }
+
+    pub fn engine(&self) -> &Engine {
+        &self.engine
+    }
+
     /// The engine's answer; what a granted request changes is kept in mind.
     pub fn ask(&mut self, record: &[u8]) -> Answer {
         let answer = self.engine.request(record);

@@ -1,30 +1,37 @@
 //! `mishantral`: one program for people over the proved library. docs/PROGRAM.md tells its use.
 
+mod ask;
 mod check;
 mod command;
 mod convert;
 mod dealer;
 mod desk;
 mod expect;
+mod finish;
+mod journal;
 mod manual;
 mod names;
 mod prompt;
 mod reader;
 mod run;
+mod serve;
 mod source;
 mod stop;
+mod tables;
 mod told;
 mod warnings;
 mod why;
 mod writer;
 
 use clap::ArgMatches;
+use desk::Desk;
+use journal::Saved;
 use run::Style;
 use source::{Format, Policy};
 use std::fs::File;
 use std::io::{stdout, BufWriter, Write};
 use std::process::ExitCode;
-use stop::{wrong, Done, Stop, WELL, WRONG};
+use stop::{wrong, Done, Stop, REFUSED, WELL, WRONG};
 
 fn text<'a>(given: &'a ArgMatches, name: &str) -> Option<&'a str> {
     given.get_one::<String>(name).map(String::as_str)
@@ -87,6 +94,90 @@ fn generate(given: &ArgMatches, out: &mut dyn Write) -> Done {
     Ok(WELL)
 }
 
+/// The desks to serve: those named, or the one of `--journal`.
+fn desks(given: &ArgMatches) -> Result<Vec<serve::Wanted>, Stop> {
+    let named = words(given, "desk");
+    if named.is_empty() {
+        let (name, journal) = (String::new(), text(given, "journal").map(String::from));
+        return Ok(vec![serve::Wanted { name, journal }]);
+    }
+    let one = |word: &String| match word.split_once('=') {
+        Some((name, file)) if !name.is_empty() && !file.is_empty() => Ok(serve::Wanted {
+            name: name.to_string(),
+            journal: Some(file.to_string()),
+        }),
+        _ => wrong(format!("--desk {word}: NAME=JOURNAL is expected")),
+    };
+    named.iter().map(one).collect()
+}
+
+fn serve(given: &ArgMatches, out: &mut dyn Write) -> Done {
+    let number = |name: &str, usual: u64| given.get_one::<u64>(name).copied().unwrap_or(usual);
+    let policy = match text(given, "policy") {
+        Some(_) => Some(policy(given)?),
+        None => None,
+    };
+    let options = serve::Options {
+        desks: desks(given)?,
+        policy,
+        socket: text(given, "socket").unwrap_or_default().to_string(),
+        group: number("group", 4096) as usize,
+        snapshot: number("snapshot", 100_000) as i64,
+        saved: match text(given, "saved") {
+            Some("normal") => Saved::Normal,
+            _ => Saved::Full,
+        },
+        clients: number("clients", 1000) as usize,
+    };
+    serve::serve(&options, out)
+}
+
+fn journal(given: &ArgMatches, out: &mut dyn Write) -> Done {
+    let file = text(given, "file").unwrap_or_default();
+    if given.get_flag("check") {
+        return journal::check(file, out);
+    }
+    let word = |name: &str| text(given, name).map(String::from);
+    let filter = journal::Filter {
+        order: word("order"),
+        user: word("user"),
+        task: word("task"),
+        reply: word("reply"),
+        since: word("since"),
+        until: word("until"),
+        last: given.get_one::<u64>("last").map(|&count| count as usize),
+        json: given.get_flag("json"),
+    };
+    journal::list(file, &filter, out)
+}
+
+/// A desk as a journal leaves it.
+fn stood(given: &ArgMatches) -> Result<Desk, Stop> {
+    let found = journal::found(text(given, "journal").unwrap_or_default(), false)?;
+    Ok(Desk::at(&found.policy, found.names, found.engine))
+}
+
+fn finish(given: &ArgMatches, out: &mut dyn Write) -> Done {
+    let desk = stood(given)?;
+    let options = finish::Options {
+        list: text(given, "with"),
+        bound: given
+            .get_one::<u64>("tries")
+            .copied()
+            .unwrap_or(finish::TRIES),
+        json: given.get_flag("json"),
+    };
+    match text(given, "order") {
+        Some(order) => finish::finish_one(&desk, order, &options, out),
+        None => finish::finish_all(&desk, &options, out),
+    }
+}
+
+fn words(given: &ArgMatches, name: &str) -> Vec<String> {
+    let all = given.get_many(name).into_iter().flatten();
+    all.cloned().collect()
+}
+
 fn done(out: &mut dyn Write) -> Done {
     let given = command::command().get_matches();
     match given.subcommand() {
@@ -95,18 +186,39 @@ fn done(out: &mut dyn Write) -> Done {
             run::run(policy(given)?, text(given, "requests"), style(given), out)
         }
         Some(("test", given)) => {
-            let files: Vec<String> = given
-                .get_many("files")
-                .into_iter()
-                .flatten()
-                .cloned()
-                .collect();
+            let files = words(given, "files");
             expect::test(&files, given.get_flag("update"), out)
         }
         Some(("convert", given)) => convert(given, out),
+        Some(("serve", given)) => serve(given, out),
+        Some(("ask", given)) => {
+            let socket = text(given, "socket").unwrap_or_default();
+            ask::ask(socket, text(given, "desk"), &words(given, "lines"), out)
+        }
+        Some(("journal", given)) => journal(given, out),
+        Some(("who", given)) => {
+            let word = |name| text(given, name).unwrap_or_default();
+            let desk = stood(given)?;
+            finish::who(
+                &desk,
+                word("order"),
+                word("task"),
+                given.get_flag("json"),
+                out,
+            )
+        }
+        Some(("finish", given)) => finish(given, out),
         Some(("generate", given)) => generate(given, out),
         _ => Ok(WRONG),
     }
+}
+
+fn told(out: &mut dyn Write, lines: Vec<String>, status: u8) -> ExitCode {
+    let _ = out.flush();
+    for line in lines {
+        eprintln!("mishantral: {line}");
+    }
+    status.into()
 }
 
 fn main() -> ExitCode {
@@ -118,12 +230,7 @@ fn main() -> ExitCode {
     match done {
         Ok(status) => status.into(),
         Err(Stop::Quiet) => WELL.into(),
-        Err(Stop::Wrong(lines)) => {
-            let _ = out.flush();
-            for line in lines {
-                eprintln!("mishantral: {line}");
-            }
-            WRONG.into()
-        }
+        Err(Stop::Wrong(lines)) => told(&mut out, lines, WRONG),
+        Err(Stop::Refused(lines)) => told(&mut out, lines, REFUSED),
     }
 }

@@ -186,6 +186,12 @@ impl Names {
         self.names.get(&(sort, number)).map(Vec::as_slice)
     }
 
+    /// The number that a word stands for: a number, or a name.
+    pub fn given(&self, sort: Sort, word: &str) -> Option<u16> {
+        let named = || self.number(sort, &name_of(word)?);
+        word.parse().ok().or_else(named)
+    }
+
     /// The number's name as a line has it, or the number.
     pub fn shown(&self, sort: Sort, number: u16) -> String {
         self.name(sort, number).map_or(number.to_string(), shown)

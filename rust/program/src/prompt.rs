@@ -14,12 +14,16 @@ use rustyline::{CompletionType, Config, Context, Editor, Helper};
 use std::path::PathBuf;
 
 /// What the prompt takes beside requests.
-const COMMANDS: [(&str, &str); 6] = [
+const COMMANDS: [(&str, &str); 7] = [
     ("help", "this text"),
     ("forms", "every line of the notation"),
     (
         "who ORDER TASK",
         "who could claim the task of the order now",
+    ),
+    (
+        "finish ORDER",
+        "whether those signed in can finish the order, and how",
     ),
     (
         "show",
@@ -113,7 +117,7 @@ impl Completion {
                     .filter_map(|(c, _)| c.split(' ').next())
                     .map(String::from),
             ),
-            [who] if who.text == "who" => words.extend(self.words(Sort::Order)),
+            [who] if matches!(who.text, "who" | "finish") => words.extend(self.words(Sort::Order)),
             [who, _] if who.text == "who" => words.extend(self.words(Sort::Task)),
             _ => {}
         }
@@ -185,6 +189,7 @@ pub fn said(desk: &mut Desk, line: &str, listing: &mut Listing) -> Result<bool, 
         ["show"] => state(desk),
         ["policy"] => crate::writer::policy(&desk.policy.bytes, &desk.policy.names),
         ["who", order, task] => who(desk, order, task),
+        ["finish", order] => finish(desk, order)?,
         _ => return request(desk, line, listing).map(|()| true),
     };
     listing.out.write_all(text.as_bytes())?;
@@ -213,12 +218,7 @@ fn help() -> String {
 }
 
 fn who(desk: &Desk, order: &str, task: &str) -> String {
-    let number = |sort: Sort, word: &str| {
-        let name = crate::names::name_of(word);
-        word.parse()
-            .ok()
-            .or_else(|| desk.names.number(sort, &name?))
-    };
+    let number = |sort: Sort, word: &str| desk.names.given(sort, word);
     let (Some(order), Some(task)) = (number(Sort::Order, order), number(Sort::Task, task)) else {
         return "who ORDER TASK: an order and a task, by number or name\n".to_string();
     };
@@ -227,6 +227,19 @@ fn who(desk: &Desk, order: &str, task: &str) -> String {
         ..crate::why::Why::default()
     };
     all.lines(desk).concat() + "\n"
+}
+
+fn finish(desk: &Desk, order: &str) -> Result<String, Stop> {
+    let mut text = Vec::new();
+    let options = crate::finish::Options {
+        list: None,
+        bound: crate::finish::TRIES,
+        json: false,
+    };
+    match crate::finish::finish_one(desk, order, &options, &mut text) {
+        Err(Stop::Wrong(lines)) => Ok(lines.join("\n") + "\n"),
+        done => done.map(|_| String::from_utf8_lossy(&text).into_owned()),
+    }
 }
 
 /// Users, subjects and orders as the answers have told them.

@@ -4,7 +4,7 @@ use std::io;
 
 /// All went well.
 pub const WELL: u8 = 0;
-/// The policy was refused, or a test failed.
+/// The policy or the journal was refused, or a test failed.
 pub const REFUSED: u8 = 1;
 /// Wrong use, a file that cannot be read or written, or text that is not in its notation.
 pub const WRONG: u8 = 2;
@@ -13,6 +13,8 @@ pub const WRONG: u8 = 2;
 pub enum Stop {
     /// What to tell, a line each; exit status 2.
     Wrong(Vec<String>),
+    /// What to tell of a journal that is refused; exit status 1.
+    Refused(Vec<String>),
     /// Whoever read the output has stopped reading: nothing is told.
     Quiet,
 }

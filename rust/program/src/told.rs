@@ -4,7 +4,7 @@
 use records::{Record, Set};
 use std::collections::BTreeMap;
 
-#[derive(Clone, Debug)]
+#[derive(Clone, PartialEq, Eq, Debug)]
 pub struct Session {
     pub user: u16,
     pub active: Set,
@@ -21,7 +21,7 @@ pub struct Entry {
     pub holder: Option<u16>,
 }
 
-#[derive(Clone, Debug)]
+#[derive(Clone, PartialEq, Eq, Debug)]
 pub struct Order {
     pub template: u16,
     pub entries: Vec<Entry>,

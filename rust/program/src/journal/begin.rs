@@ -1,0 +1,190 @@
+//! A new journal: made whole beside its place, and put there by its name alone, so that a journal that is there is whole.
+
+use super::about::about;
+use super::sum::Sum;
+use super::{tables, APPLICATION, VERSION};
+use crate::desk::Desk;
+use crate::names::{Naming, Sort};
+use crate::source::Policy;
+use crate::stop::{wrong, Stop};
+use mishantral::{Refused, State};
+use records::forms::{parts, FORMS};
+use records::{Record, Reply};
+use rusqlite::{params, Connection};
+use std::fs::{self, File};
+use std::path::{Path, PathBuf};
+
+/// The program's version, as journals keep it.
+pub const PROGRAM: &str = env!("CARGO_PKG_VERSION");
+
+/// A journal's file with something behind its name, as SQLite has its own files.
+pub fn beside(file: &Path, behind: &str) -> PathBuf {
+    let mut name = file.as_os_str().to_owned();
+    name.push(behind);
+    PathBuf::from(name)
+}
+
+/// Microseconds since 1970.
+pub fn now() -> i64 {
+    let since = std::time::SystemTime::now().duration_since(std::time::UNIX_EPOCH);
+    since.map_or(0, |since| since.as_micros() as i64)
+}
+
+/// Makes a journal of an accepted policy, where there is none. A refused policy is told by the caller.
+pub fn begin(file: &str, policy: &Policy) -> Result<Result<(), Refused>, Stop> {
+    if let Err(refused) = Desk::open(policy) {
+        return Ok(Err(refused));
+    }
+    let (place, new) = (Path::new(file), beside(Path::new(file), ".new"));
+    if place.exists() {
+        return wrong(format!("{file}: it is there already"));
+    }
+    for behind in ["", "-wal", "-shm", "-journal"] {
+        let _ = fs::remove_file(beside(&new, behind));
+    }
+    let failed = |why: &dyn std::fmt::Display| {
+        Stop::Wrong(vec![format!("{file}: it cannot be made: {why}")])
+    };
+    made(&new, policy).map_err(|why| failed(&why))?;
+    File::open(&new)
+        .and_then(|made| made.sync_all())
+        .map_err(|why| failed(&why))?;
+    fs::rename(&new, place).map_err(|why| failed(&why))?;
+    let folder = place.parent().filter(|p| !p.as_os_str().is_empty());
+    File::open(folder.unwrap_or(Path::new(".")))
+        .and_then(|folder| folder.sync_all())
+        .map_err(|why| failed(&why))?;
+    Ok(Ok(()))
+}
+
+fn made(new: &Path, policy: &Policy) -> rusqlite::Result<()> {
+    let mut connection = Connection::open(new)?;
+    connection.pragma_update(None, "journal_mode", "WAL")?;
+    connection.pragma_update(None, "synchronous", "FULL")?;
+    let act = connection.transaction()?;
+    act.pragma_update(None, "application_id", APPLICATION)?;
+    act.pragma_update(None, "user_version", VERSION)?;
+    act.execute_batch(tables::TABLES)?;
+    words(&act)?;
+    let head = head(policy);
+    let [policy_words, sessions_words, orders_words] = lengths();
+    act.execute(
+        "INSERT INTO journal VALUES (1, ?1, ?2, ?3, ?4, ?5, ?6, ?7, ?8)",
+        params![
+            VERSION,
+            PROGRAM,
+            policy_words,
+            sessions_words,
+            orders_words,
+            now(),
+            policy.file,
+            head
+        ],
+    )?;
+    for (place, record) in policy.records().iter().enumerate() {
+        let line = policy.lines.get(place).map(|&line| line as i64);
+        let [kind, n, a, b, c, m] = fields(record);
+        act.execute(
+            "INSERT INTO policy VALUES (?1, ?2, ?3, ?4, ?5, ?6, ?7, ?8, ?9)",
+            params![
+                place as i64 + 1,
+                line,
+                kind,
+                n,
+                a,
+                b,
+                c,
+                m,
+                policy.line(place)
+            ],
+        )?;
+    }
+    for naming in namings(policy) {
+        let Naming {
+            sort, number, name, ..
+        } = &naming;
+        act.execute(tables::INSERT_NAME, params![0, sort.word(), number, name])?;
+    }
+    act.commit()?;
+    // The last connection's end moves everything into the file itself.
+    connection.close().map_err(|(_, why)| why)
+}
+
+/// The replies' names and the kinds' lines, for those who read with SQL.
+fn words(act: &Connection) -> rusqlite::Result<()> {
+    for reply in Reply::ALL {
+        act.execute(
+            "INSERT INTO reply VALUES (?1, ?2)",
+            params![reply.number(), reply.name()],
+        )?;
+    }
+    for (kind, pattern) in FORMS.into_iter().filter(|&(kind, _)| kind >= 32) {
+        let line: Vec<String> = parts(pattern).map(|part| part.to_string()).collect();
+        let of = |sort| about(kind).column(sort);
+        act.execute(
+            "INSERT OR REPLACE INTO kind VALUES (?1, ?2, ?3, ?4, ?5)",
+            params![
+                kind,
+                line.join(" "),
+                of(Sort::Subject),
+                of(Sort::Order),
+                of(Sort::Task)
+            ],
+        )?;
+    }
+    Ok(())
+}
+
+/// A record's fields as the tables have them: m as a signed number.
+pub fn fields(record: &Record) -> [i64; 6] {
+    let [a, b, c] = [record.a(), record.b(), record.c()].map(i64::from);
+    [
+        record.kind().into(),
+        record.n().into(),
+        a,
+        b,
+        c,
+        record.m() as i64,
+    ]
+}
+
+/// The buffers' lengths in words, which the library tells.
+pub fn lengths() -> [i64; 3] {
+    let state = State::zeroed();
+    [&state.policy, &state.sessions, &state.orders].map(|buffer| buffer.len() as i64)
+}
+
+/// The names that a policy gives, each sort by number.
+pub fn namings(policy: &Policy) -> Vec<Naming> {
+    let of = |sort: Sort| {
+        let named = policy
+            .names
+            .of_sort(sort)
+            .map(move |(number, _)| (sort, number));
+        named.collect::<Vec<(Sort, u16)>>()
+    };
+    let one = |(sort, number)| {
+        let name = policy.names.name(sort, number)?.to_vec();
+        let column = 0;
+        Some(Naming {
+            sort,
+            number,
+            name,
+            column,
+        })
+    };
+    Sort::ALL.into_iter().flat_map(of).filter_map(one).collect()
+}
+
+/// The sum of what stands before the first request: version, lengths, policy and names.
+pub fn head(policy: &Policy) -> i64 {
+    let sum = lengths()
+        .into_iter()
+        .fold(Sum::new().number(VERSION), Sum::number);
+    let sum = sum.text(policy.file.as_bytes()).text(&policy.bytes);
+    let sum = policy
+        .lines
+        .iter()
+        .fold(sum, |sum, &line| sum.number(line as i64));
+    namings(policy).iter().fold(sum, Sum::naming).whole()
+}

@@ -1,0 +1,66 @@
+//! `journal FILE --check`: the whole journal from its load on. Every row has its checksum and its place, every request is asked anew
+//! and answered as it was, every snapshot is the state that the requests before it lead to, and SQLite finds its own file sound.
+
+use super::found::{self, snapshot_of, Unfit};
+use crate::stop::{Done, Stop, WELL};
+use mishantral::Engine;
+use rusqlite::Connection;
+use std::io::Write;
+
+pub fn check(file: &str, out: &mut dyn Write) -> Done {
+    let checked = found::reading(file).map_err(Unfit::from);
+    let checked = checked.and_then(|connection| whole(&connection, file));
+    let (requests, snapshots) =
+        checked.map_err(|Unfit(why)| Stop::Refused(vec![format!("{file}: {why}")]))?;
+    writeln!(
+        out,
+        "{file}: sound: {requests} requests asked anew from the load on, all answered as before; {snapshots} snapshots are the states that they lead to"
+    )?;
+    Ok(WELL)
+}
+
+fn whole(connection: &Connection, file: &str) -> Result<(i64, usize), Unfit> {
+    let sound: String = connection.query_row("PRAGMA integrity_check(1)", [], |r| r.get(0))?;
+    if sound != "ok" {
+        return Err(Unfit(format!("it is damaged: {sound}")));
+    }
+    let kept: Vec<i64> = {
+        let mut select = connection.prepare("SELECT after FROM snapshot ORDER BY after")?;
+        let rows = select.query_map([], |r| r.get(0))?;
+        rows.collect::<Result<_, _>>()?
+    };
+    let mut next = kept.iter().copied().peekable();
+    let mut met = 0;
+    let found = found::of(connection, file, true, &mut |row, engine| {
+        if next.peek() == Some(&row.number) {
+            next.next();
+            met += 1;
+            compared(connection, row.number, engine)?;
+        }
+        Ok(())
+    })?;
+    if met != kept.len() {
+        return Err(Unfit(
+            "it is damaged: a snapshot is after no request".to_string(),
+        ));
+    }
+    Ok((found.last, met))
+}
+
+/// The snapshot after a request must be the engine's state there, as the tables read.
+fn compared(connection: &Connection, after: i64, engine: &Engine) -> Result<(), Unfit> {
+    let mut select = connection.prepare_cached(
+        "SELECT after, version, row_sum, policy, sessions, orders, sum FROM snapshot WHERE after = ?1",
+    )?;
+    let mut rows = select.query([after])?;
+    let Some(columns) = rows.next()? else {
+        return Ok(());
+    };
+    let taken = Engine::from_state(snapshot_of(columns)?.state);
+    match taken == *engine {
+        true => Ok(()),
+        false => Err(Unfit(format!(
+            "the snapshot after request {after} is not the state that its requests lead to"
+        ))),
+    }
+}

@@ -1,0 +1,80 @@
+//! The tables, in SQL. docs/SERVE.md documents them for auditors; what is written there changes with this file.
+
+/// Every table and view of a journal.
+pub const TABLES: &str = "
+CREATE TABLE journal (
+    id INTEGER PRIMARY KEY CHECK (id = 1),
+    version INTEGER NOT NULL,
+    program TEXT NOT NULL,
+    policy_words INTEGER NOT NULL,
+    sessions_words INTEGER NOT NULL,
+    orders_words INTEGER NOT NULL,
+    at INTEGER NOT NULL,
+    file TEXT NOT NULL,
+    sum INTEGER NOT NULL
+);
+CREATE TABLE policy (
+    place INTEGER PRIMARY KEY,
+    line INTEGER,
+    kind INTEGER NOT NULL, n INTEGER NOT NULL,
+    a INTEGER NOT NULL, b INTEGER NOT NULL, c INTEGER NOT NULL, m INTEGER NOT NULL,
+    words TEXT NOT NULL
+);
+CREATE TABLE request (
+    number INTEGER PRIMARY KEY,
+    at INTEGER NOT NULL,
+    client INTEGER NOT NULL,
+    user INTEGER,
+    kind INTEGER, n INTEGER, a INTEGER, b INTEGER, c INTEGER, m INTEGER,
+    cut BLOB,
+    reply INTEGER NOT NULL,
+    place INTEGER NOT NULL,
+    sum INTEGER NOT NULL
+);
+CREATE TABLE name (
+    request INTEGER NOT NULL,
+    sort TEXT NOT NULL,
+    number INTEGER NOT NULL,
+    name BLOB NOT NULL
+);
+CREATE INDEX name_request ON name (request);
+CREATE TABLE snapshot (
+    after INTEGER PRIMARY KEY,
+    version INTEGER NOT NULL,
+    row_sum INTEGER NOT NULL,
+    policy BLOB NOT NULL, sessions BLOB NOT NULL, orders BLOB NOT NULL,
+    sum INTEGER NOT NULL
+);
+CREATE TABLE start (
+    id INTEGER PRIMARY KEY,
+    at INTEGER NOT NULL,
+    after INTEGER NOT NULL,
+    program TEXT NOT NULL
+);
+CREATE TABLE reply (number INTEGER PRIMARY KEY, name TEXT NOT NULL);
+CREATE TABLE kind (number INTEGER PRIMARY KEY, words TEXT NOT NULL, subject TEXT, ordr TEXT, task TEXT);
+CREATE VIEW answered AS
+    SELECT request.number,
+        strftime('%Y-%m-%d %H:%M:%f', request.at / 1e6, 'unixepoch') AS time,
+        request.client, kind.words AS kind, request.user,
+        CASE kind.subject WHEN 'a' THEN a WHEN 'b' THEN b WHEN 'c' THEN c END AS subject,
+        CASE kind.ordr WHEN 'a' THEN a WHEN 'b' THEN b WHEN 'c' THEN c END AS ordr,
+        CASE kind.task WHEN 'a' THEN a WHEN 'b' THEN b WHEN 'c' THEN c END AS task,
+        reply.name AS reply, request.place AS rule
+    FROM request LEFT JOIN kind ON kind.number = request.kind LEFT JOIN reply ON reply.number = request.reply;
+";
+
+/// A request with its reply.
+pub const INSERT: &str =
+    "INSERT INTO request (number, at, client, user, kind, n, a, b, c, m, cut, reply, place, sum) \
+     VALUES (?1, ?2, ?3, ?4, ?5, ?6, ?7, ?8, ?9, ?10, ?11, ?12, ?13, ?14)";
+
+/// The columns of a request, as `row::read` takes them.
+pub const COLUMNS: &str = "number, at, client, user, kind, n, a, b, c, m, cut, reply, place, sum";
+
+pub const INSERT_NAME: &str =
+    "INSERT INTO name (request, sort, number, name) VALUES (?1, ?2, ?3, ?4)";
+
+pub const INSERT_SNAPSHOT: &str =
+    "INSERT INTO snapshot (after, version, row_sum, policy, sessions, orders, sum) \
+     VALUES (?1, ?2, ?3, ?4, ?5, ?6, ?7)";

@@ -1,0 +1,191 @@
+//! The served desk tried out: `trials faults` kills it, fills its disk, tears its pages and sends it garbage; `trials load` measures it.
+
+mod client;
+mod full;
+mod garbage;
+mod kills;
+mod load;
+mod plot;
+mod scale;
+mod server;
+mod torn;
+mod truth;
+
+use std::path::{Path, PathBuf};
+use std::process::ExitCode;
+use std::time::Duration;
+
+const HELP: &str = "\
+trials: the served desk tried out
+
+  trials faults --program PATH [--kills N] [--torn N] [--seed N]
+  trials load --program PATH [--seconds N] [--docs FOLDER]
+  trials memory --program PATH [--requests N]
+  trials desks --program PATH [--seconds N]
+
+  faults           kills it, fills its disk, tears its files, sends it garbage; what was answered must be there, once
+  load             requests a second and waits, by clients, with and without a journal
+  memory           the server's memory over ten million requests
+  desks            what many desks in one server take and give
+
+  --program PATH   the program `mishantral`
+  --seconds N      how long each figure is measured; 3 where it is missing
+  --docs FOLDER    where load.md and load.svg are written
+  --requests N     10000000 where it is missing
+  --kills N        how often it is killed under load; 1000 where it is missing
+  --torn N         how many torn files of each sort are tried; 200 where it is missing
+  --seed N         other random numbers
+
+Exit status: 0 every promise was kept; 1 one was not; 2 wrong use. tools/faults builds and runs it.
+";
+
+struct Options {
+    program: PathBuf,
+    kills: usize,
+    torn: usize,
+    seed: u64,
+    seconds: u64,
+    docs: Option<PathBuf>,
+    requests: u64,
+}
+
+fn options(arguments: &[String]) -> Result<Options, String> {
+    let mut options = Options {
+        program: PathBuf::new(),
+        kills: 1000,
+        torn: 200,
+        seed: 1,
+        seconds: 3,
+        docs: None,
+        requests: 10_000_000,
+    };
+    let mut rest = arguments.iter();
+    while let Some(option) = rest.next() {
+        let value = rest.next().ok_or(format!("{option} takes a value"))?;
+        let number = || {
+            value
+                .parse::<u64>()
+                .map_err(|_| format!("{option}: {value:?} is no number"))
+        };
+        match option.as_str() {
+            "--program" => options.program = PathBuf::from(value),
+            "--kills" => options.kills = number()? as usize,
+            "--torn" => options.torn = number()? as usize,
+            "--seed" => options.seed = number()?,
+            "--seconds" => options.seconds = number()?,
+            "--requests" => options.requests = number()?,
+            "--docs" => options.docs = Some(PathBuf::from(value)),
+            _ => return Err(format!("no such option: {option}")),
+        }
+    }
+    match options.program.is_file() {
+        true => Ok(options),
+        false => Err("--program PATH is missing".to_string()),
+    }
+}
+
+/// One trial: its line of the table, or what was not kept.
+fn tell(what: &str, came: Result<String, String>) {
+    match came {
+        Ok(figures) => println!("| {what} | {figures} |"),
+        Err(why) => println!("| {what} | **not kept**: {why} |"),
+    }
+}
+
+fn killed(program: &Path, options: &Options) -> Result<String, String> {
+    let k = kills::kills(program, options.kills, options.seed)?;
+    Ok(format!(
+        "{} kills in {} s, {} of them before anyone could connect; {} requests answered, none lost, none twice; of those not answered yet {} are in the journal and {} are not; a start takes {:.1} ms",
+        k.kills, k.seconds, k.early, k.met.answered, k.met.kept, k.met.gone, k.starts.as_secs_f64() * 1e3
+    ))
+}
+
+fn filled(program: &Path) -> Result<String, String> {
+    Ok(match full::full(program)? {
+        None => "not tried: no small disk could be mounted here".to_string(),
+        Some(f) => format!(
+            "{} requests answered and there, {} told that they were not done and not there; {} answered after there was room again; a start without room: {}",
+            f.met.answered, f.met.not_done, f.after, f.start
+        ),
+    })
+}
+
+fn ripped(program: &Path, options: &Options) -> Result<String, String> {
+    let t = torn::torn(program, options.torn, options.seed)?;
+    Ok(format!(
+        "{} logs cut or garbled in their last write, {} pages half written by a checkpoint: every answered request is there and the desk goes on; {} files with one bit changed: {} found by `journal --check`, {} without effect on any row",
+        t.cut, t.half, t.found + t.harmless, t.found, t.harmless
+    ))
+}
+
+fn disturbed(program: &Path) -> Result<String, String> {
+    let g = garbage::garbage(program, Duration::from_secs(8))?;
+    Ok(format!(
+        "ten clients sent {:.1} million bytes of garbage and were told of {} wrong lines; four beside them were answered {} requests, all there; their worst wait was {:.1} ms, alone {:.1} ms",
+        g.bytes as f64 / 1e6, g.lines, g.met.answered, g.beside.as_secs_f64() * 1e3, g.alone.as_secs_f64() * 1e3
+    ))
+}
+
+fn faults(options: &Options) -> bool {
+    let program = &options.program;
+    println!("| Fault | What came of it |\n|---|---|");
+    let mut kept = true;
+    let mut trial = |what: &str, came: Result<String, String>| {
+        kept &= came.is_ok();
+        tell(what, came);
+    };
+    trial("kill -9 under load", killed(program, options));
+    trial("disk full", filled(program));
+    trial("torn writes", ripped(program, options));
+    trial("garbage", disturbed(program));
+    kept
+}
+
+fn measured(what: &str, options: &Options) -> Result<(), String> {
+    let (program, time) = (&options.program, Duration::from_secs(options.seconds));
+    match what {
+        "load" => load::load(program, time, options.docs.as_deref()),
+        "memory" => {
+            let (sizes, rate, bytes) = load::memory(program, options.requests)?;
+            let sizes: Vec<String> = sizes.iter().map(|kb| load::grouped(*kb as f64)).collect();
+            println!(
+                "KB after each tenth of {} requests: {}",
+                options.requests,
+                sizes.join(" ")
+            );
+            println!(
+                "{} requests a second; {bytes} bytes of journal a request",
+                load::grouped(rate)
+            );
+            Ok(())
+        }
+        _ => scale::desks(program, time),
+    }
+}
+
+fn done(arguments: &[String]) -> Result<bool, String> {
+    match arguments.split_first() {
+        Some((what, rest)) if what == "faults" => options(rest).map(|options| faults(&options)),
+        Some((what, rest)) if matches!(what.as_str(), "load" | "memory" | "desks") => {
+            let options = options(rest)?;
+            let kept = measured(what, &options);
+            if let Err(why) = &kept {
+                eprintln!("trials: {why}");
+            }
+            Ok(kept.is_ok())
+        }
+        _ => Err("faults, load, memory or desks".to_string()),
+    }
+}
+
+fn main() -> ExitCode {
+    let arguments: Vec<String> = std::env::args().skip(1).collect();
+    match done(&arguments) {
+        Ok(true) => ExitCode::SUCCESS,
+        Ok(false) => ExitCode::FAILURE,
+        Err(why) => {
+            eprint!("trials: {why}\n\n{HELP}");
+            ExitCode::from(2)
+        }
+    }
+}
