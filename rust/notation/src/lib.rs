@@ -29,7 +29,7 @@ mod write;
 
 pub use explain::{explain, explain_named, refused, refused_named};
 pub use figures::{figures, stuck_named, ANSWER};
-pub use names::{quoted, Names};
+pub use names::{quoted, unquoted, Names};
 pub use read::{read, read_lines, read_named, Error};
 use records::forms::{parts, FORMS};
 pub use records::Reply;

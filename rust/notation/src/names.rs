@@ -83,7 +83,7 @@ pub fn quoted(name: &[u8]) -> String {
 }
 
 /// The name of which this is the quoted form.
-pub(crate) fn unquoted(text: &str) -> Option<Vec<u8>> {
+pub fn unquoted(text: &str) -> Option<Vec<u8>> {
     let mut rest = text.strip_prefix('"')?.strip_suffix('"')?.as_bytes();
     let mut name = Vec::new();
     loop {

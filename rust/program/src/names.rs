@@ -1,6 +1,6 @@
 //! Names for numbers: what a policy declares may have a name, which lines may use and output shows. Names never reach the engine.
 
-use notation::quoted;
+use notation::{quoted, unquoted};
 use records::forms::{parts, Part, FORMS};
 use std::collections::BTreeMap;
 use std::sync::OnceLock;
@@ -115,22 +115,7 @@ pub fn name_of(text: &str) -> Option<Vec<u8>> {
     if is_bare(text) {
         return Some(text.as_bytes().to_vec());
     }
-    let mut rest = text.strip_prefix('"')?.strip_suffix('"')?.as_bytes();
-    let mut name = Vec::new();
-    loop {
-        let (byte, behind) = match rest {
-            [] => return (!name.is_empty()).then_some(name),
-            [b'\\', b'x', high, low, behind @ ..] => {
-                let digit = |byte: u8| char::from(byte).to_digit(16);
-                (16 * digit(*high)? as u8 + digit(*low)? as u8, behind)
-            }
-            [b'\\', byte @ (b'"' | b'\\'), behind @ ..] => (*byte, behind),
-            [b'"' | b'\\', ..] => return None,
-            [byte, behind @ ..] => (*byte, behind),
-        };
-        name.push(byte);
-        rest = behind;
-    }
+    unquoted(text).filter(|name| !name.is_empty())
 }
 
 /// A name that a line gives to a number.
