@@ -9,6 +9,8 @@ use std::process::Command;
 
 /// What became faster or slower in earlier work: kept by hand.
 const HISTORY: &str = include_str!("../history.md");
+/// The served desk's figures, which tools/load writes.
+const LOAD: &str = include_str!("../../../docs/load.md");
 
 const PROVED_COLOUR: &str = "#c2410c";
 const PLAIN_COLOUR: &str = "#1d4ed8";
@@ -211,6 +213,12 @@ state and looks through the links of the orders buffer at each call:
     )
 }
 
+const LOAD_NOTES: &str = "\
+`tools/load` measures the program `mishantral serve` (docs/SERVE.md) with its clients on one machine: each sends a request, as a record, waits for its reply and sends the next; in the last
+rows it sends 64 at once. \"one request a transaction\" is without groups (`--group 1`), \"saved normal\" does not wait for the disk, \"no journal\" keeps nothing. This table was measured on two cores of an Arm
+machine with a network disk on which others were at work: take the ratios. Memory over ten million requests and many desks are in docs/SCALE.md.
+";
+
 /// docs/BENCH.md
 pub fn page(figures: &Figures, effort: Effort) -> String {
     let head = head(effort);
@@ -219,7 +227,7 @@ pub fn page(figures: &Figures, effort: Effort) -> String {
     let entries = table(&figures.entries.lines);
     let permissions = table(&figures.permissions.lines);
     let readings = reading_table(&figures.readings);
-    let history = HISTORY.trim();
+    let (history, load) = (HISTORY.trim(), LOAD.trim());
     format!(
         "{head}
 ## Checks, orders, loads
@@ -241,6 +249,13 @@ pub fn page(figures: &Figures, effort: Effort) -> String {
 
 {READING_NOTES}
 {readings}
+## The served desk
+
+![Requests a second and waits, by clients](load.svg)
+
+{LOAD_NOTES}
+{load}
+
 ## Stack and state
 
 {space}

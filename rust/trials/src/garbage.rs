@@ -24,12 +24,22 @@ pub struct Garbage {
 
 const WORKERS: u32 = 4;
 
-/// Clients who work for a while, and their worst wait.
-fn work(server: &Server, first: u32, time: Duration) -> Result<(Vec<Life>, Duration), String> {
+/// Lines that are no notation, of each of two clients.
+const LINES: u64 = 500_000;
+
+/// Clients who work until it is over, and their worst wait.
+fn work(
+    server: &Server,
+    first: u32,
+    over: &Arc<AtomicBool>,
+) -> Result<(Vec<Life>, Duration), String> {
     let workers: Vec<_> = (0..WORKERS)
         .map(|at| {
             let stream = server.connect().map_err(|why| why.to_string())?;
-            Ok(std::thread::spawn(move || worker(stream, first + at, time)))
+            let over = over.clone();
+            Ok(std::thread::spawn(move || {
+                worker(stream, first + at, &over)
+            }))
         })
         .collect::<Result<_, String>>()?;
     let done: Vec<(Life, Duration)> = workers
@@ -44,16 +54,16 @@ fn work(server: &Server, first: u32, time: Duration) -> Result<(Vec<Life>, Durat
     Ok((done.into_iter().map(|(life, _)| life).collect(), worst))
 }
 
-fn worker(stream: UnixStream, id: u32, time: Duration) -> (Life, Duration) {
+fn worker(stream: UnixStream, id: u32, over: &AtomicBool) -> (Life, Duration) {
     let mut client = Client::new(stream);
     let mut requests = Requests::new(id.into(), id as u16);
     let mut life = Life {
         id,
         ..Life::default()
     };
-    let (began, mut worst) = (Instant::now(), Duration::ZERO);
+    let mut worst = Duration::ZERO;
     let mut record = crate::client::named(id);
-    while began.elapsed() < time {
+    while !over.load(Ordering::Relaxed) {
         let asked = Instant::now();
         client.send(&[record]).expect("a worker is served");
         life.sent.push(record);
@@ -65,6 +75,9 @@ fn worker(stream: UnixStream, id: u32, time: Duration) -> (Life, Duration) {
     (life, worst)
 }
 
+/// Text that is no notation.
+const LINE: &[u8] = b"clam 5 0 1\n";
+
 /// Noise that is text to nobody; lines by the thousand; a line without an end; half a record; nothing.
 fn disturb(stream: UnixStream, what: usize, over: &AtomicBool) -> (u64, u64) {
     let mut to = match stream.try_clone() {
@@ -74,10 +87,10 @@ fn disturb(stream: UnixStream, what: usize, over: &AtomicBool) -> (u64, u64) {
     let reader = std::thread::spawn(move || replies(stream));
     let mut random = Random::new(what as u64);
     let mut sent = 0;
-    while !over.load(Ordering::Relaxed) {
+    let enough = |sent: u64| what.is_multiple_of(5) && sent >= LINES * LINE.len() as u64;
+    while !over.load(Ordering::Relaxed) && !enough(sent) {
         let bytes: Vec<u8> = match what % 5 {
-            // Text that is no notation: a million lines in a few seconds.
-            0 => b"clam 5 0 1\n".repeat(500),
+            0 => LINE.repeat(500),
             1 => vec![b'x'; 30_000],
             2 => (0..4096).map(|_| 32 + random.below(96) as u8).collect(),
             3 => vec![50, 0, 1, 0, 7],
@@ -106,11 +119,26 @@ fn replies(mut stream: UnixStream) -> u64 {
     lines
 }
 
-pub fn garbage(program: &Path, time: Duration) -> Result<Garbage, String> {
+/// Sets a flag after a while.
+fn after(time: Duration) -> Arc<AtomicBool> {
+    let over = Arc::new(AtomicBool::new(false));
+    let set = over.clone();
+    std::thread::spawn(move || {
+        std::thread::sleep(time);
+        set.store(true, Ordering::Relaxed);
+    });
+    over
+}
+
+pub fn garbage(program: &Path) -> Result<Garbage, String> {
     let room = room("garbage");
     let mut server = How::new(program, &room).start()?;
-    let (mut lives, alone) = work(&server, 0, time / 4)?;
-    let over = Arc::new(AtomicBool::new(false));
+    let (mut lives, alone) = work(&server, 0, &after(Duration::from_secs(2)))?;
+    // The others go on until the million lines are answered.
+    let (over, million) = (
+        after(Duration::from_secs(600)),
+        after(Duration::from_secs(600)),
+    );
     let disturbers: Vec<_> = (0..10)
         .filter_map(|what| Some((what, server.connect().ok()?)))
         .map(|(what, stream)| {
@@ -118,14 +146,29 @@ pub fn garbage(program: &Path, time: Duration) -> Result<Garbage, String> {
             std::thread::spawn(move || disturb(stream, what, &over))
         })
         .collect();
-    let (with, beside) = work(&server, WORKERS, time)?;
+    let working = million.clone();
+    let ended = std::thread::spawn(move || {
+        let (mut bytes, mut lines, mut others) = (0, 0, Vec::new());
+        for (what, disturber) in disturbers.into_iter().enumerate() {
+            match what % 5 {
+                0 => {
+                    let (sent, told) = disturber.join().unwrap_or_default();
+                    (bytes, lines) = (bytes + sent, lines + told);
+                }
+                _ => others.push(disturber),
+            }
+        }
+        over.store(true, Ordering::Relaxed);
+        working.store(true, Ordering::Relaxed);
+        for disturber in others {
+            let (sent, told) = disturber.join().unwrap_or_default();
+            (bytes, lines) = (bytes + sent, lines + told);
+        }
+        (bytes, lines)
+    });
+    let (with, beside) = work(&server, WORKERS, &million)?;
     lives.extend(with);
-    over.store(true, Ordering::Relaxed);
-    let (mut bytes, mut lines) = (0, 0);
-    for disturber in disturbers {
-        let (sent, told) = disturber.join().unwrap_or_default();
-        (bytes, lines) = (bytes + sent, lines + told);
-    }
+    let (bytes, lines) = ended.join().map_err(|_| "a client failed".to_string())?;
     if !server.lives() {
         return Err("the server ended".to_string());
     }

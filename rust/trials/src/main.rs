@@ -34,6 +34,7 @@ trials: the served desk tried out
   --requests N     10000000 where it is missing
   --kills N        how often it is killed under load; 1000 where it is missing
   --torn N         how many torn files of each sort are tried; 200 where it is missing
+  --only WHAT      kills, full, torn or garbage alone
   --seed N         other random numbers
 
 Exit status: 0 every promise was kept; 1 one was not; 2 wrong use. tools/faults builds and runs it.
@@ -47,6 +48,7 @@ struct Options {
     seconds: u64,
     docs: Option<PathBuf>,
     requests: u64,
+    only: Option<String>,
 }
 
 fn options(arguments: &[String]) -> Result<Options, String> {
@@ -58,6 +60,7 @@ fn options(arguments: &[String]) -> Result<Options, String> {
         seconds: 3,
         docs: None,
         requests: 10_000_000,
+        only: None,
     };
     let mut rest = arguments.iter();
     while let Some(option) = rest.next() {
@@ -74,6 +77,7 @@ fn options(arguments: &[String]) -> Result<Options, String> {
             "--seed" => options.seed = number()?,
             "--seconds" => options.seconds = number()?,
             "--requests" => options.requests = number()?,
+            "--only" => options.only = Some(value.clone()),
             "--docs" => options.docs = Some(PathBuf::from(value)),
             _ => return Err(format!("no such option: {option}")),
         }
@@ -119,7 +123,7 @@ fn ripped(program: &Path, options: &Options) -> Result<String, String> {
 }
 
 fn disturbed(program: &Path) -> Result<String, String> {
-    let g = garbage::garbage(program, Duration::from_secs(8))?;
+    let g = garbage::garbage(program)?;
     Ok(format!(
         "ten clients sent {:.1} million bytes of garbage and were told of {} wrong lines; four beside them were answered {} requests, all there; their worst wait was {:.1} ms, alone {:.1} ms",
         g.bytes as f64 / 1e6, g.lines, g.met.answered, g.beside.as_secs_f64() * 1e3, g.alone.as_secs_f64() * 1e3
@@ -130,14 +134,17 @@ fn faults(options: &Options) -> bool {
     let program = &options.program;
     println!("| Fault | What came of it |\n|---|---|");
     let mut kept = true;
-    let mut trial = |what: &str, came: Result<String, String>| {
-        kept &= came.is_ok();
-        tell(what, came);
+    let mut trial = |name: &str, what: &str, came: &dyn Fn() -> Result<String, String>| {
+        if options.only.as_ref().is_none_or(|only| only == name) {
+            let came = came();
+            kept &= came.is_ok();
+            tell(what, came);
+        }
     };
-    trial("kill -9 under load", killed(program, options));
-    trial("disk full", filled(program));
-    trial("torn writes", ripped(program, options));
-    trial("garbage", disturbed(program));
+    trial("kills", "kill -9 under load", &|| killed(program, options));
+    trial("full", "disk full", &|| filled(program));
+    trial("torn", "torn writes", &|| ripped(program, options));
+    trial("garbage", "garbage", &|| disturbed(program));
     kept
 }
 

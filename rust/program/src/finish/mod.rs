@@ -19,6 +19,9 @@ use std::collections::BTreeSet;
 /// How many claims are tried at most, where nothing else is said.
 pub const TRIES: u64 = 5_000_000;
 
+/// Whom one would need is searched for with this part of the bound for each.
+const PART: u64 = 8;
+
 /// Whether an order can be finished.
 pub enum Verdict {
     /// These requests finish it.
@@ -173,6 +176,7 @@ impl Asked<'_> {
             users.push(alike[0]);
             let (verdict, _) = Asked {
                 users: &users,
+                bound: self.bound / PART,
                 ..*self
             }
             .verdict();
@@ -203,6 +207,7 @@ impl Asked<'_> {
             let asked = Asked {
                 desk: &desk,
                 users: &users,
+                bound: self.bound / PART,
                 ..*self
             };
             matches!(asked.verdict().0, Verdict::Plan(_))

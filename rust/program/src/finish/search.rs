@@ -63,7 +63,9 @@ pub struct Search {
     free: u64,
     pub tries: u64,
     bound: u64,
+    /// Where it stood when it failed, since what is held was settled; and the tasks that people had then.
     failed: HashSet<Vec<u64>>,
+    start: Vec<u64>,
     lack: Option<Lack>,
     path: Vec<Choice>,
 }
@@ -90,6 +92,7 @@ impl Search {
             tries: 0,
             bound,
             failed: HashSet::new(),
+            start: Vec::new(),
             lack: None,
             path: Vec::new(),
         }
@@ -127,6 +130,8 @@ impl Search {
         }) = self.held.get(at)
         else {
             let left = self.tasks & !self.finished;
+            self.start = self.people.iter().map(|person| person.has).collect();
+            self.failed.clear();
             return self.given_out(engine, left);
         };
         let (bit, before) = (1u64 << task, self.finished);
@@ -164,13 +169,14 @@ impl Search {
         mine.fold(0, |has, entry| has | 1 << entry.task)
     }
 
-    /// Where the search stands, so that it is not searched again: the tasks left, and how many of each kind of people there are.
+    /// Where the search stands, so that it is not searched again: the tasks left, and what those have taken who have taken any.
     fn standing(&self, left: u64) -> Vec<u64> {
-        let mut people: Vec<[u64; 3]> = self
-            .people
-            .iter()
-            .map(|p| [p.class as u64, p.has, p.activated])
-            .collect();
+        let taken = |(person, &start): (&Person, &u64)| {
+            let moved = person.has != start || person.activated != 0;
+            moved.then_some([person.class as u64, start, person.has, person.activated])
+        };
+        let people = self.people.iter().zip(&self.start);
+        let mut people: Vec<[u64; 4]> = people.filter_map(taken).collect();
         people.sort();
         let mut all = vec![left];
         all.extend(people.into_iter().flatten());

@@ -179,7 +179,7 @@ fn by_force(desk: &Desk, users: &[u16]) -> Option<bool> {
                 }
             }
         }
-        if met.len() > 20_000 {
+        if met.len() > 4_000 {
             return None;
         }
     }
@@ -234,7 +234,7 @@ fn verdict(desk: &Desk, users: &[u16]) -> bool {
 fn verdicts_are_those_of_every_sequence() {
     let mut random = Random::new(1);
     let (mut yes, mut no) = (0, 0);
-    for _ in 0..rounds(300) {
+    for _ in 0..rounds(120) {
         let size = Size {
             users: 1 + random.below(3),
             roles: 1 + random.below(3),
@@ -254,7 +254,7 @@ fn verdicts_are_those_of_every_sequence() {
             false => no += 1,
         }
     }
-    assert!(yes > 30 && no > 30, "{yes} {no}");
+    assert!(yes > 12 && no > 12, "{yes} {no}");
 }
 
 /// The desk as facts, and what finishing means, for an answer-set solver: who does what is left, and nothing else.
@@ -360,7 +360,7 @@ fn solved(program: &str) -> Option<bool> {
 fn verdicts_are_those_of_a_solver() {
     let mut random = Random::new(2);
     let (mut yes, mut no) = (0, 0);
-    for _ in 0..rounds(150) {
+    for _ in 0..rounds(100) {
         let size = Size {
             users: 2 + random.below(6),
             roles: 1 + random.below(4),
@@ -387,7 +387,7 @@ fn verdicts_are_those_of_a_solver() {
             false => no += 1,
         }
     }
-    assert!(yes > 20 && no > 20, "{yes} {no}");
+    assert!(yes > 12 && no > 12, "{yes} {no}");
 }
 
 /// Every verdict that there is none is explained, and the tables that a state tells are those that the answers told.

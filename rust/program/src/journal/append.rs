@@ -22,8 +22,8 @@ pub enum Saved {
 /// Why a group was not written.
 #[derive(Debug)]
 pub enum Failed {
-    /// There is no room: nothing of it is in the journal, and the next group may be tried.
-    Full(String),
+    /// There is no room, or another program keeps the file to itself: nothing of it is in the journal, and the next group may be tried.
+    NotDone(String),
     /// What the file holds is not known until it is read anew.
     Lost(String),
 }
@@ -149,13 +149,16 @@ impl Journal {
 
 fn failed(why: &rusqlite::Error) -> Failed {
     match why.sqlite_error_code() {
-        Some(ErrorCode::DiskFull) => Failed::Full("the disk is full".to_string()),
+        Some(ErrorCode::DiskFull) => Failed::NotDone("the disk is full".to_string()),
+        Some(ErrorCode::DatabaseBusy) => {
+            Failed::NotDone("another program keeps the journal to itself".to_string())
+        }
         _ => Failed::Lost(why.to_string()),
     }
 }
 
 /// The lock that says who writes a journal, on a file of its own: the system takes it back from whoever ends.
-fn locked(file: &Path) -> Result<File, String> {
+pub fn locked(file: &Path) -> Result<File, String> {
     let name = beside(file, ".lock");
     let lock = File::options().create(true).append(true).open(&name);
     let lock = lock.map_err(|why| format!("{}: {why}", name.display()))?;

@@ -1,6 +1,7 @@
 //! A new journal: made whole beside its place, and put there by its name alone, so that a journal that is there is whole.
 
 use super::about::about;
+use super::append::locked;
 use super::sum::Sum;
 use super::{tables, APPLICATION, VERSION};
 use crate::desk::Desk;
@@ -36,6 +37,8 @@ pub fn begin(file: &str, policy: &Policy) -> Result<Result<(), Refused>, Stop> {
         return Ok(Err(refused));
     }
     let (place, new) = (Path::new(file), beside(Path::new(file), ".new"));
+    // Whoever begins one at the same time waits for none of it.
+    let _lock = locked(place).map_err(|why| Stop::Refused(vec![format!("{file}: {why}")]))?;
     if place.exists() {
         return wrong(format!("{file}: it is there already"));
     }

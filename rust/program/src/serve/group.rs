@@ -93,7 +93,7 @@ pub fn work(mut desk: Served, waiting: Receiver<Waiting>) -> Result<(), String> 
 }
 
 impl Served {
-    /// Answers a group, at most `most` requests a transaction. Where there is no room on the disk, the rest of the group is not done.
+    /// Answers a group, at most `most` requests a transaction. Where it cannot be written, as on a full disk, the rest of the group is not done.
     fn answer(&mut self, group: &mut [Batch]) -> Result<(), String> {
         let mut places: Vec<(usize, usize)> = Vec::new();
         for (at, batch) in group.iter().enumerate() {
@@ -103,7 +103,7 @@ impl Served {
             match self.answer_part(group, part) {
                 Ok(()) => {}
                 Err(Failed::Lost(why)) => return Err(why),
-                Err(Failed::Full(why)) => {
+                Err(Failed::NotDone(why)) => {
                     for batch in group.iter_mut() {
                         batch.failed = Some(why.clone());
                     }
