@@ -10,4 +10,5 @@ pub mod Load
 pub mod Roles
 pub mod Sessions
 pub mod Words
+pub mod Written
 pub mod Samples

@@ -55,6 +55,16 @@ module _ (s : Seniority) where
   pub down-nothing : Part (down s empty) empty
   down-nothing = part-has _ _ (λ b h. ⊎-elim (λ e. e) (λ x. absurd (false≢true (sym (has-empty (x .0)) ∙ x .1))) (down-member empty b h))
 
+-- more below each role, more below them
+pub down-more : (s z : Seniority) → ((r : ℕ) → Part (s .below r) (z .below r)) → (m : Set) → Part (down s m) (down z m)
+unfolding down
+down-more s z more m =
+    part-union m _ (down z m) (down-has z m) (union-le 64 (λ r. cond (has m r) (s .below r) empty) (down z m) (λ r l. go r l (has m r) refl))
+  where
+    go : (r : ℕ) → r < 64 → (b : Bool) → has m r ≡ b → Part (cond b (s .below r) empty) (down z m)
+    go r l true e = part-trans _ _ _ (more r) (down-below z m r l e)
+    go r l false e = part-empty _
+
 -- ---- members of one set that are none of another
 differ-digit : (p q : Bool) → differ (digit p) (min (digit p) (digit q)) ≡ digit (p && not q)
 differ-digit true true = refl

@@ -28,5 +28,12 @@ pub mod Places
 pub mod Meeting
 pub mod Joining
 pub mod Seniority
+pub mod WrittenRuns
+pub mod WrittenReady
+pub mod WrittenStages
+pub mod WrittenRules
+pub mod WrittenRanks
+pub mod WrittenKept
+pub mod Written
 pub mod Stuck
 pub mod NeverStuck

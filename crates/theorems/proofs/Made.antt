@@ -73,7 +73,7 @@ made-step : (p : Policy) (r : Record) → Fits p r
 made-step p r f = fits-rows (λ n p r x. (x .rules ≡ addRule n r (p .rules)) × (x .tasks ≡ setTask n r (p .tasks))) rows p r f
 
 -- ---- a list of rules, of the records of kind c
-add-more : {X : Type 0} (xs : List X) (y : X) (zs : List X) → add xs y ++ zs ≡ xs ++ (y ∷ zs)
+pub add-more : {X : Type 0} (xs : List X) (y : X) (zs : List X) → add xs y ++ zs ≡ xs ++ (y ∷ zs)
 unfolding add
 add-more [] y zs = refl
 add-more (x ∷ xs) y zs = ap (λ (l : List _). x ∷ l) (add-more xs y zs)

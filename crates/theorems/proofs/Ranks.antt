@@ -24,7 +24,7 @@ use Rattle.theorems.proofs.Loads.{step, filled, Accepted, fits-rows, lo
 use Rattle.theorems.proofs.WellMade.{a-within}
 
 -- ---- chains of pairs
-leads-more : (e f : ℕ → ℕ → Bool) → ((a b : ℕ) → e a b ≡ true → f a b ≡ true) → (a : ℕ) (cs : List ℕ) (b : ℕ) → Leads e a cs b → Leads f a cs b
+pub leads-more : (e f : ℕ → ℕ → Bool) → ((a b : ℕ) → e a b ≡ true → f a b ≡ true) → (a : ℕ) (cs : List ℕ) (b : ℕ) → Leads e a cs b → Leads f a cs b
 leads-more e f h a [] b l = h a b l
 leads-more e f h a (c ∷ cs) b l = (h a c (l .0), leads-more e f h c cs b (l .1))
 
@@ -46,7 +46,7 @@ pub record Ranked (s : Seniority) : Type 0 where
 
 -- ---- one pair more
 module _ (s : Seniority) (h : Ranked s) (a b : ℕ) where
-  through : (x c y : ℕ) → has (s .below x) c ≡ true → has (s .below c) y ≡ true → has (s .below x) y ≡ true
+  pub through : (x c y : ℕ) → has (s .below x) c ≡ true → has (s .below c) y ≡ true → has (s .below x) y ≡ true
   through x c y p q =
       let l = h .chains x c .0 p in
       let k = h .chains c y .0 q in
@@ -65,7 +65,7 @@ module _ (s : Seniority) (h : Ranked s) (a b : ℕ) where
   unfolding raised
   name-new = rw (upd-same (s .juniors) a a (plus (s .juniors a) b) refl) (has-new (s .juniors a) b)
 
-  name-split : (x y : ℕ) → named z x y ≡ true → (named s x y ≡ true) ⊎ ((x ≡ a) × (y ≡ b))
+  pub name-split : (x y : ℕ) → named z x y ≡ true → (named s x y ≡ true) ⊎ ((x ≡ a) × (y ≡ b))
   unfolding raised
   name-split x y e = ⊎-elim
       (λ (q : x ≡ a). ⊎-elim (λ (i : y ≡ b). inr (q, i)) (λ (i : has (s .juniors a) y ≡ true). inl (rw q i))
@@ -147,7 +147,7 @@ module _ (s : Seniority) (h : Ranked s) (a b : ℕ) where
       go (inr e) (inl k) = below-new x y (inl (e .0)) (inr (rw (e .1) at k))
       go (inr e) (inr k) = below-new x y (inl (e .0)) (k .1)
 
-  raised-ranked : a < 64 → eqb a b ≡ false → has (s .below b) a ≡ false → Ranked z
+  pub raised-ranked : a < 64 → eqb a b ≡ false → has (s .below b) a ≡ false → Ranked z
   unfolding Up Down
   raised-ranked l other free = record {
     small = λ x y e. ⊎-elim (λ q. h .small x y q) (λ q. let i = q .0 in omega arith) (name-split x y e);
@@ -176,7 +176,7 @@ rows =
     ⨾ (λ p r g c i. raised-ranked (p .seniority) i (r .a) (r .b) (let l = a-within 63 (r .a) (ltb 63 (r .b)) g in omega arith) (c .1 .1 .0) (c .1 .1 .1 .0))
     ⨾ tt
 
-start : Ranked (noPolicy .seniority)
+pub start : Ranked (noPolicy .seniority)
 unfolding noPolicy
 start = record {
   small = λ a b e. absurd (none b e);

@@ -24,7 +24,7 @@ use Rattle.theorems.proofs.Rows.{Rows}
 use Rattle.theorems.proofs.Loads.{load-keeps, load-accepted}
 
 -- ---- what is there
-holds-just : {A : Type 0} (p : A → Bool) (x : Maybe A) → holds p x ≡ true → (y : A) × (x ≡ just y) × (p y ≡ true)
+pub holds-just : {A : Type 0} (p : A → Bool) (x : Maybe A) → holds p x ≡ true → (y : A) × (x ≡ just y) × (p y ≡ true)
 unfolding holds
 holds-just p none h = absurd (false≢true h)
 holds-just p (just y) h = (y, refl, h)

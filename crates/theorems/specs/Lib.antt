@@ -8,5 +8,6 @@ pub mod Places
 pub mod Meeting
 pub mod Joining
 pub mod Seniority
+pub mod Written
 pub mod Stuck
 pub mod Listing
