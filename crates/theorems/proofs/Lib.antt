@@ -26,4 +26,5 @@ pub mod Places
 pub mod Meeting
 pub mod Joining
 pub mod Stuck
+pub mod Mending
 pub mod NeverStuck

@@ -8,4 +8,5 @@ pub mod Places
 pub mod Meeting
 pub mod Joining
 pub mod Stuck
+pub mod Mending
 pub mod Listing
