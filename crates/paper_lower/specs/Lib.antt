@@ -7,6 +7,7 @@ pub mod Kinds
 pub mod Tables
 pub mod Policy
 pub mod Load
+pub mod Mend
 pub mod Roles
 pub mod Sessions
 pub mod Words

@@ -36,4 +36,5 @@ pub mod WrittenRanks
 pub mod WrittenKept
 pub mod Written
 pub mod Stuck
+pub mod Mending
 pub mod NeverStuck

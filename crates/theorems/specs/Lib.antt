@@ -10,4 +10,5 @@ pub mod Joining
 pub mod Seniority
 pub mod Written
 pub mod Stuck
+pub mod Mending
 pub mod Listing
