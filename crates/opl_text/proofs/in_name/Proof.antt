@@ -1,4 +1,3 @@
--- Written from Proof.tmpl by 'prove expand': edit that file.
 -- Small letters apart.
 use native.Mathlib.Omega.{arith}
 use Rattle.opl_text.proofs.Bytes.{name-small, name-other}

@@ -1,4 +1,3 @@
--- Written from Proof.tmpl by 'prove expand': edit that file.
 -- After k turns the first k words are 0.
 use Prim.Native.Nat.{_≤_, _-_}
 use mathlib.Core.List.{_++_}

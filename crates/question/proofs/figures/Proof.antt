@@ -1,4 +1,3 @@
--- Written from Proof.tmpl by 'prove expand': edit that file.
 -- An instance that is not open is unknown; else the cleared words get the two figures.
 use borrow.Author.Needs.{needs}
 use Rattle.question.proofs.Ways.{not-figured, figured}

@@ -1,4 +1,3 @@
--- Written from Proof.tmpl by 'prove expand': edit that file.
 -- Each way out is the first check that applies.
 use mathlib.Core.Path.{sym, _∙_}
 use borrow.Author.Needs.{needs}

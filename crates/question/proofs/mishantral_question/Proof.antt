@@ -1,4 +1,3 @@
--- Written from Proof.tmpl by 'prove expand': edit that file.
 -- The same, by the reply's number.
 use borrow.Author.Needs.{needs}
 use Rattle.question.proofs.Ways.{as-number}
