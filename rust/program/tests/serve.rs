@@ -362,7 +362,10 @@ fn a_reply_that_would_be_another_stops_the_server() {
     // A journal whose sums are right, and whose second reply is not the engine's: written by a library that answers otherwise.
     let journal = room.join("desk.db");
     let sql = Connection::open(&journal).unwrap();
-    sql.execute_batch("UPDATE request SET reply = 0 WHERE number = 2")
+    sql.execute("UPDATE request SET reply = 0 WHERE number = 2", [])
+        .unwrap();
+    let sum = row_sum(&sql, 2);
+    sql.execute("UPDATE request SET sum = ?1 WHERE number = 2", [sum])
         .unwrap();
     drop(sql);
     let socket = room.join("other.sock");
@@ -375,6 +378,39 @@ fn a_reply_that_would_be_another_stops_the_server() {
     ]);
     assert_eq!(status, 1);
     assert!(why.contains("request 2"), "{why}");
+    assert!(why.contains("the engine answers 5 TAKEN, and had answered 0 GRANTED"), "{why}");
+}
+
+/// The sum that a row without names should have behind the one before it, as docs/SERVE.md tells it.
+fn row_sum(sql: &Connection, number: i64) -> i64 {
+    let before: i64 = sql
+        .query_row("SELECT sum FROM request WHERE number = ?1", [number - 1], |r| r.get(0))
+        .unwrap();
+    let select = "SELECT number, at, client, coalesce(user, -1), kind, n, a, b, c, m, reply, place FROM request WHERE number = ?1";
+    let mut fields = [0i64; 12];
+    sql.query_row(select, [number], |row| {
+        for (place, field) in fields.iter_mut().enumerate() {
+            *field = row.get(place)?;
+        }
+        Ok(())
+    })
+    .unwrap();
+    let mut bytes = (before as u32).to_le_bytes().to_vec();
+    for field in &fields[..4] {
+        bytes.extend(field.to_le_bytes());
+    }
+    bytes.extend(16i64.to_le_bytes());
+    bytes.extend([fields[4] as u8, fields[5] as u8]);
+    for field in &fields[6..9] {
+        bytes.extend((*field as u16).to_le_bytes());
+    }
+    bytes.extend(fields[9].to_le_bytes());
+    bytes.push(fields[10] as u8);
+    bytes.extend((fields[11] as u16).to_le_bytes());
+    let whole = bytes.iter().fold(0xcbf2_9ce4_8422_2325u64, |sum, &byte| {
+        (sum ^ u64::from(byte)).wrapping_mul(0x100_0000_01b3)
+    });
+    i64::from((whole >> 32) as u32 ^ whole as u32)
 }
 
 #[test]
