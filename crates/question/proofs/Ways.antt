@@ -5,7 +5,7 @@ use mathlib.Core.List.{List, [], _∷_, _++_, append-assoc}
 use mathlib.Core.Path.{_≡_, refl, sym, ap, subst, _∙_}
 use borrow.Author.Tests.{eqb-true, eqb-false, eq-eqb, ne-eqb, not-true, not-false}
 use lib.Dec.{eqb, T}
-use lib.ListN.{length, set, replicate}
+use lib.ListN.{length}
 use Rattle.paper_lower.specs.Lists.{some, Every}
 use Rattle.paper_lower.specs.Checks.{Check, first, granted, ROOM, SHAPE, UNKNOWN}
 use Rattle.paper_lower.specs.Records.{Bytes, Record as PaperRecord, decode}
@@ -16,7 +16,7 @@ use Rattle.paper_lower.proofs.CheckLaws.{Numbered, passed, first-stops, none-ap
 use Rattle.paper_upper.specs.Orders.{Engine}
 use Rattle.paper_upper.specs.Stuck.{stuckOf}
 use Rattle.paper_upper.specs.Requests.{stuckChecks, upperKinds}
-use Rattle.paper_upper.specs.Questions.{figuresOf, answerWords, padded, questionNumbers, asks, answered, answerTo}
+use Rattle.paper_upper.specs.Questions.{figuresOf, figureWords, answerWords, padded, questionNumbers, asks, answered, answerTo}
 use Rattle.paper_upper.specs.Engine.{requestKinds, request}
 use Rattle.replies.specs.Replies.{numberOf}
 use Rattle.replies.specs.declared.Reply.{Reply}
@@ -36,15 +36,12 @@ use Rattle.sessions.specs.Reading.{sessionsWords}
 use Rattle.links.specs.Chains.{ordersWords, soundOf}
 use Rattle.entries.specs.Reading.{ordersOf}
 use Rattle.entries.specs.Acts.{Ready}
-use Rattle.entries.specs.Gathering.{kept}
-use Rattle.entries.specs.declared.Figures.{Figures}
 use Rattle.orders.specs.Promises.{FiguresJudged}
 use Rattle.engine.specs.Buffers.{Buffers, tablesOf, fit}
 use Rattle.engine.proofs.Ways.{unfit, fits-not, tables-sound, tables-broken}
 use Rattle.engine.proofs.EmptyLaws.{all-unknown}
 use Rattle.question.specs.Question.{questionChecks, questionReply, questionOf}
 use Rattle.question.specs.Promises.{FiguresAnswered, StuckAnswered, Answered, Questioned}
-use Rattle.question.proofs.Words.{two-words}
 
 -- checks in two lists, one behind the other
 in-layers : (xs ys : List Check) → Numbered xs → granted (first xs) (first ys) (first xs) ≡ first (xs ++ ys)
@@ -76,9 +73,8 @@ module _ {o : List ℕ} {a : ℕ} {old : List ℕ} {r : Reply} {b : Bool} (judge
   pub not-figured : not b ≡ true → FiguresAnswered o a old old r
   not-figured n = record { replies = judged; written = granted-old _ old _ (not-zero r accepts (not-true b n)) }
 
-  pub figured : not b ≡ false → {f : Figures} → f ≡ kept (figuresOf a (ordersOf o .entries)) → {l : List ℕ} → l ≡ replicate answerWords 0
-      → FiguresAnswered o a old (set (set l 0 (f .entries)) 1 (f .done .bits)) r
-  figured n {f} e {l} c = record { replies = judged; written = rw (is-zero r accepts (not-false b n), c, e) (two-words _ _) }
+  pub figured : not b ≡ false → (new : List ℕ) → new ≡ padded (figureWords (figuresOf a (ordersOf o .entries))) → FiguresAnswered o a old new r
+  figured n new w = record { replies = judged; written = rw (is-zero r accepts (not-false b n)) w }
 
 pub of-figures : (p o : List ℕ) (r : Record) {old new : List ℕ} {y : Reply} → r .kind ≡ 58 → FiguresAnswered o (r .a) old new y → Answered p o r old new y
 unfolding chosen requestKinds upperKinds answerTo answered

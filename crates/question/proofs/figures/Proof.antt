@@ -1,5 +1,6 @@
 -- An instance that is not open is unknown; else the cleared words get the two figures.
 use borrow.Author.Needs.{needs}
+use Rattle.question.proofs.Words.{two-words}
 use Rattle.question.proofs.Ways.{not-figured, figured}
 use Rattle.question.proofs.figures.Statement.{statement}
 use Rattle.question.proofs.figures.Tie as tie
@@ -29,7 +30,7 @@ same-length : tie.Need-same-length
 same-length c = search needs
 
 returns-2 : tie.Need-returns-2
-returns-2 c = figured (c .before .before .before .before .before .before .before .before .figures-reply .ensures) (c .before .before .before .before .before .before .before .accepted .ensures) (c .before .before .before .before .before .before .if1 .left) (c .before .before .before .before .before .figures-of .ensures) (c .before .before .clear .ensures)
+returns-2 c = figured (c .before .before .before .before .before .before .before .before .figures-reply .ensures) (c .before .before .before .before .before .before .before .accepted .ensures) (c .before .before .before .before .before .before .if1 .left) _ (rw (c .before .before .clear .ensures, c .before .before .before .before .before .figures-of .ensures) (two-words _ _))
 
 pub figures-spec : {M : Type 1} → statement M
 figures-spec =
