@@ -185,7 +185,7 @@ type Damage = (&'static str, fn(&mut Random, Sound));
 
 const DAMAGES: [Damage; 17] = [
     ("a bit of an entry", |random, s| {
-        s.words[s.at] ^= 1 << random.below(64);
+        s.words[s.at] ^= 1 << random.below(44);
     }),
     ("a bit of a table", |random, s| {
         let at = random.pick(&[MARK, OPEN, TEMPLATES + s.order, CHAINS + s.chain]);
