@@ -8,7 +8,7 @@ ghost use lib.ListN.{length, take, drop};
 ghost use Rattle.paper_opl.specs.Reading.{same};
 ghost use Rattle.paper_opl.specs.Naming.{placeOf};
 ghost use Rattle.opl_names.specs.Table.{quadAt, turned, markFrom, markOf, bucketOf, kept, placeAt, wordAt, sizeIn, linkIn, markIn, packed, nameAt, namesIn, startOf, Sound, foundOf, Emptied, Declares, withName};
-use opl_text::same_bytes;
+use opl_text::same_by_eights;
 
 // The number of a name, or that it has none.
 pub enum Found {
@@ -117,7 +117,7 @@ fn is_name(s: &[u8], t: &[u64], k: usize, m: u64, name: &[u8]) -> bool
     }
     let at = t[2 + 3 * k] as usize;
     let end = at + (w % 128) as usize;
-    same_bytes(&s[at..end], name)
+    same_by_eights(&s[at..end], name)
 }
 
 fn find_marked(s: &[u8], t: &[u64], n: usize, name: &[u8], m: u64) -> Found

@@ -47,21 +47,6 @@ value-high q b h = rw (ne-eqb b 60 (λ e. omega arith), ne-eqb b 38 (λ e. omega
     go false = refl
 
 -- ---- What most bytes are.
-often : ℕ → Bool
-often b = leb 95 b && leb b 122 && not (eqb b 96)
-
-often-no : (b : ℕ) → b < 256 → often b && not (inName b) ≡ false
-unfolding someBelow differ often
-often-no b h = at-each (λ b. often b && not (inName b)) (λ _. false) refl b h
-
-pub often-name : (b : ℕ) → b < 256 → leb 95 b && leb b 122 && not (eqb b 96) ≡ true → inName b ≡ true
-unfolding often
-often-name b h e = go (inName b) (sym (ap (λ (c : Bool). c && not (inName b)) e) ∙ often-no b h)
-  where
-    go : (x : Bool) → not x ≡ false → x ≡ true
-    go true q = refl
-    go false q = absurd (true≢false q)
-
 pub often-value : (q b : ℕ) → not (eqb b q) && not (eqb b 60) && leb 40 b ≡ true → inValue q b ≡ true
 often-value q b e =
     let x = both (not (eqb b q) && not (eqb b 60)) (leb 40 b) e in

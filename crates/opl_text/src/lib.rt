@@ -71,31 +71,10 @@ pub fn skip_space(s: &[u8], at: usize) -> usize
 
 // ---- Names and values are read eight bytes at a time, as long as these are such as most are; then byte by byte.
 
-// Small letters and "_".
-fn often_in_name(b: u8) -> bool
-    ensures { λ r. ⌜ Surely (inName b) r ⌝ }
-{
-    (95 <= b) & (b <= 122) & (b != 96)
-}
-
 fn often_in_value(q: u8, b: u8) -> bool
     ensures { λ r. ⌜ Surely (inValue q b) r ⌝ }
 {
     (b != q) & (b != 60) & (40 <= b)
-}
-
-fn name_run(s: &[u8], i: usize) -> bool
-    requires { ⌜ i + 8 ≤ length (now s) ⌝ }
-    ensures { λ r. ⌜ Runs inName (now (s .entry)) i r ⌝ }
-{
-    often_in_name(s[i])
-        & often_in_name(s[i + 1])
-        & often_in_name(s[i + 2])
-        & often_in_name(s[i + 3])
-        & often_in_name(s[i + 4])
-        & often_in_name(s[i + 5])
-        & often_in_name(s[i + 6])
-        & often_in_name(s[i + 7])
 }
 
 fn value_run(s: &[u8], i: usize, q: u8) -> bool
@@ -110,20 +89,6 @@ fn value_run(s: &[u8], i: usize, q: u8) -> bool
         & often_in_value(q, s[i + 5])
         & often_in_value(q, s[i + 6])
         & often_in_value(q, s[i + 7])
-}
-
-fn name_rest(s: &[u8], at: usize) -> usize
-    requires { ⌜ at ≤ length (now s) ⌝ }
-    ensures { λ r. ⌜ From (now (s .entry)) (behind inName (drop at (now (s .entry)))) r ⌝ }
-{
-    let mut i = at;
-    while i < s.len() {
-        if !in_name(s[i]) {
-            return i;
-        }
-        i += 1;
-    }
-    i
 }
 
 fn value_rest(s: &[u8], at: usize, q: u8) -> usize
@@ -146,13 +111,13 @@ pub fn name_end(s: &[u8], at: usize) -> usize
     ensures { λ r. ⌜ From (now (s .entry)) (behind inName (drop at (now (s .entry)))) r ⌝ }
 {
     let mut i = at;
-    while 8 <= s.len() - i {
-        if !name_run(s, i) {
-            return name_rest(s, i);
+    while i < s.len() {
+        if !in_name(s[i]) {
+            return i;
         }
-        i += 8;
+        i += 1;
     }
-    name_rest(s, i)
+    i
 }
 
 // The first byte from `at` on that cannot stand between quotes q.
@@ -290,8 +255,25 @@ fn same_rest(v: &[u8], w: &[u8], from: usize) -> bool
     true
 }
 
-// The two are the same, eight bytes at a time.
+// The two are the same, byte by byte: against words of the grammar, which the compiler then compares in place.
 pub fn same_bytes(v: &[u8], w: &[u8]) -> bool
+    ensures { λ r. ⌜ r ≡ same (now (v .entry)) (now (w .entry)) ⌝ }
+{
+    if v.len() != w.len() {
+        return false;
+    }
+    let mut i = 0;
+    while i < v.len() {
+        if v[i] != w[i] {
+            return false;
+        }
+        i += 1;
+    }
+    true
+}
+
+// The two are the same, eight bytes at a time.
+pub fn same_by_eights(v: &[u8], w: &[u8]) -> bool
     ensures { λ r. ⌜ r ≡ same (now (v .entry)) (now (w .entry)) ⌝ }
 {
     if v.len() != w.len() {

@@ -36,20 +36,20 @@ shared-slice-read-at c = search needs
 add-end : tie.Need-add-end
 add-end c = search needs
 
-sub-same-bytes : tie.Need-sub-same-bytes
-sub-same-bytes c = search needs
+sub-same-by-eights : tie.Need-sub-same-by-eights
+sub-same-by-eights c = search needs
 
-part-same-bytes-start : tie.Need-part-same-bytes-start
-part-same-bytes-start c = search needs
+part-same-by-eights-start : tie.Need-part-same-by-eights-start
+part-same-by-eights-start c = search needs
 
-part-same-bytes-end : tie.Need-part-same-bytes-end
-part-same-bytes-end c = search needs
+part-same-by-eights-end : tie.Need-part-same-by-eights-end
+part-same-by-eights-end c = search needs
 
-same-bytes-requires : tie.Need-same-bytes-requires
-same-bytes-requires c κs = search needs
+same-by-eights-requires : tie.Need-same-by-eights-requires
+same-by-eights-requires c κs = search needs
 
 returns-2 : tie.Need-returns-2
-returns-2 c = is-last (now (c .before .before .before .before .before .before .before .before .args .s)) (now (c .before .before .before .before .before .before .before .before .args .t)) (c .before .before .before .before .before .before .before .before .args .k) (c .before .before .before .before .before .before .before .before .args .m) (now (c .before .before .before .before .before .before .before .before .args .name)) (c .before .before .before .if1 .left) (c .same-bytes .ensures)
+returns-2 c = is-last (now (c .before .before .before .before .before .before .before .before .args .s)) (now (c .before .before .before .before .before .before .before .before .args .t)) (c .before .before .before .before .before .before .before .before .args .k) (c .before .before .before .before .before .before .before .before .args .m) (now (c .before .before .before .before .before .before .before .before .args .name)) (c .before .before .before .if1 .left) (c .same-by-eights .ensures)
 
 pub is-name-spec : {M : Type 1} → statement M
 is-name-spec =
@@ -65,8 +65,8 @@ is-name-spec =
     mul-at-2
     shared-slice-read-at
     add-end
-    sub-same-bytes
-    part-same-bytes-start
-    part-same-bytes-end
-    same-bytes-requires
+    sub-same-by-eights
+    part-same-by-eights-start
+    part-same-by-eights-end
+    same-by-eights-requires
     returns-2)

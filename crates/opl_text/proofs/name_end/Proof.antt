@@ -1,11 +1,14 @@
--- Eight bytes at a time, and then byte by byte.
+-- `name_end` goes on as long as the byte is one of a name.
 use borrow.Author.Needs.{needs}
-use Prim.Native.Nat.{_-_, _≤_}
-use mathlib.Core.Path.{_≡_, refl, sym, _∙_}
+use Rattle.opl_text.proofs.Laws.{behind-end, behind-stop, behind-more}
+use Rattle.paper_opl.specs.Reading.{inName, behind}
+use denote.Ref.{now}
 use native.Mathlib.Omega.{arith}
+use mathlib.Core.Path.{refl, sym, _∙_}
+use Prim.Native.Nat.{_-_}
+use Prim.Native.Nat.{_≤_}
+use mathlib.Core.Path.{_≡_}
 use lib.ListN.{length, drop}
-use borrow.Author.Tests.{not-false}
-use Rattle.paper_opl.specs.Reading.{behind, inName}
 use Rattle.opl_text.proofs.name_end.Statement.{statement}
 use Rattle.opl_text.proofs.name_end.Tie as tie
 
@@ -18,32 +21,26 @@ abbrev μ-loop : tie.MeasureT-loop
 loop-holds : tie.Need-loop-holds Inv-loop μ-loop
 loop-holds c = (c .before .pre, refl)
 
-sub-loop : tie.Need-sub-loop Inv-loop μ-loop
-sub-loop c = c .loop .inv .0
+shared-slice-read-in-name : tie.Need-shared-slice-read-in-name Inv-loop μ-loop
+shared-slice-read-in-name c = search needs
 
-name-run-requires : tie.Need-name-run-requires Inv-loop μ-loop
-name-run-requires c κs = omega (arith, c .before .loop .inv .0, c .loop-test .taken)
-
-name-rest-requires : tie.Need-name-rest-requires Inv-loop μ-loop
-name-rest-requires c κs = c .before .before .before .loop .inv .0
+in-name-requires : tie.Need-in-name-requires Inv-loop μ-loop
+in-name-requires c κs = search needs
 
 returns : tie.Need-returns Inv-loop μ-loop
-returns c = record { rest = c .name-rest .ensures .rest ∙ sym (c .before .before .before .before .loop .inv .1); inside = c .name-rest .ensures .inside }
+returns c = record { rest = behind-stop inName (now (c .before .before .before .before .before .before .args .s)) (c .before .before .before .before .loop .i) (c .before .before .before .loop-test .taken) (c .before .in-name .result) (c .before .in-name .ensures) (c .if1 .taken) ∙ sym (c .before .before .before .before .loop .inv .1); inside = c .before .before .before .before .loop .inv .0 }
 
 add-i : tie.Need-add-i Inv-loop μ-loop
 add-i c = search needs
 
 loop-less : tie.Need-loop-less Inv-loop μ-loop
-loop-less c = omega (arith, c .before .before .before .loop .inv .0, c .before .before .loop-test .taken)
+loop-less c = search needs
 
 loop-again : tie.Need-loop-again Inv-loop μ-loop
-loop-again c = (omega (arith, c .before .before .before .loop .inv .0, c .before .before .loop-test .taken), c .before .before .before .loop .inv .1 ∙ c .before .name-run .ensures (not-false (c .before .name-run .result) (c .if1 .left)))
-
-name-rest-requires-2 : tie.Need-name-rest-requires-2 Inv-loop μ-loop
-name-rest-requires-2 c κs = c .before .loop .inv .0
+loop-again c = (omega arith, c .before .before .before .before .loop .inv .1 ∙ behind-more inName (now (c .before .before .before .before .before .before .args .s)) (c .before .before .before .before .loop .i) (c .before .before .before .loop-test .taken) (c .before .in-name .result) (c .before .in-name .ensures) (c .if1 .left))
 
 returns-2 : tie.Need-returns-2 Inv-loop μ-loop
-returns-2 c = record { rest = c .name-rest2 .ensures .rest ∙ sym (c .before .before .loop .inv .1); inside = c .name-rest2 .ensures .inside }
+returns-2 c = record { rest = behind-end inName (now (c .before .before .before .args .s)) (c .before .loop .i) (c .loop-test .left) ∙ sym (c .before .loop .inv .1); inside = c .before .loop .inv .0 }
 
 pub name-end-spec : {M : Type 1} → statement M
 name-end-spec =
@@ -52,12 +49,10 @@ name-end-spec =
     Inv-loop
     μ-loop
     loop-holds
-    sub-loop
-    name-run-requires
-    name-rest-requires
+    shared-slice-read-in-name
+    in-name-requires
     returns
     add-i
     loop-less
     loop-again
-    name-rest-requires-2
     returns-2)

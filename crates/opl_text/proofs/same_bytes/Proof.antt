@@ -1,13 +1,14 @@
--- Two texts of one length are compared eight bytes at a time, and then byte by byte.
+-- Two texts of one length are compared byte by byte.
 use borrow.Author.Needs.{needs}
-use Prim.Native.Nat.{_-_, _≤_}
-use mathlib.Core.Path.{_≡_, refl, sym, _∙_}
-use native.Mathlib.Omega.{arith}
-use lib.ListN.{length, drop}
-use denote.Ref.{now}
-use borrow.Author.Tests.{not-false}
+use Rattle.opl_text.proofs.Same.{other-length, same-more, same-not, same-end}
 use Rattle.paper_opl.specs.Reading.{same}
-use Rattle.opl_text.proofs.Same.{other-length}
+use denote.Ref.{now}
+use native.Mathlib.Omega.{arith}
+use mathlib.Core.Path.{refl, sym, _∙_}
+use Prim.Native.Nat.{_-_}
+use Prim.Native.Nat.{_≤_}
+use mathlib.Core.Path.{_≡_}
+use lib.ListN.{length, drop}
 use Rattle.opl_text.proofs.same_bytes.Statement.{statement}
 use Rattle.opl_text.proofs.same_bytes.Tie as tie
 
@@ -18,37 +19,31 @@ abbrev μ-loop : tie.MeasureT-loop
 μ-loop v w i₀ i = length v - i
 
 returns : tie.Need-returns Inv-loop μ-loop
-returns c = other-length (now (c .before .before .before .args .v)) (now (c .before .before .before .args .w)) (c .if1 .taken)
+returns c = other-length (now (c .before .args .v)) (now (c .before .args .w)) (c .if1 .taken)
 
 loop-holds : tie.Need-loop-holds Inv-loop μ-loop
 loop-holds c = (omega arith, refl)
 
-sub-loop : tie.Need-sub-loop Inv-loop μ-loop
-sub-loop c = c .loop .inv .0
+shared-slice-read-if2 : tie.Need-shared-slice-read-if2 Inv-loop μ-loop
+shared-slice-read-if2 c = search needs
 
-same-run-requires : tie.Need-same-run-requires Inv-loop μ-loop
-same-run-requires c κs = (omega (arith, c .before .loop .inv .0, c .loop-test .taken), omega (arith, c .before .loop .inv .0, c .loop-test .taken, c .before .before .if1 .left))
-
-same-rest-requires : tie.Need-same-rest-requires Inv-loop μ-loop
-same-rest-requires c κs = (c .before .before .before .loop .inv .0, c .before .before .before .before .if1 .left)
+shared-slice-read-if2-2 : tie.Need-shared-slice-read-if2-2 Inv-loop μ-loop
+shared-slice-read-if2-2 c = search needs
 
 returns-2 : tie.Need-returns-2 Inv-loop μ-loop
-returns-2 c = c .same-rest .ensures ∙ sym (c .before .before .before .before .loop .inv .1)
+returns-2 c = same-not (now (c .before .before .before .before .before .before .args .v)) (now (c .before .before .before .before .before .before .args .w)) (c .before .before .before .before .loop .i) (c .before .before .before .loop-test .taken) (let e = c .before .before .before .before .before .if1 .left in let h = c .before .before .before .loop-test .taken in omega arith) (c .if2 .taken) ∙ sym (c .before .before .before .before .loop .inv .1)
 
 add-i : tie.Need-add-i Inv-loop μ-loop
 add-i c = search needs
 
 loop-less : tie.Need-loop-less Inv-loop μ-loop
-loop-less c = omega (arith, c .before .before .before .loop .inv .0, c .before .before .loop-test .taken)
+loop-less c = search needs
 
 loop-again : tie.Need-loop-again Inv-loop μ-loop
-loop-again c = (omega (arith, c .before .before .before .loop .inv .0, c .before .before .loop-test .taken), c .before .before .before .loop .inv .1 ∙ c .before .same-run .ensures (not-false (c .before .same-run .result) (c .if2 .left)))
-
-same-rest-requires-2 : tie.Need-same-rest-requires-2 Inv-loop μ-loop
-same-rest-requires-2 c κs = (c .before .loop .inv .0, c .before .before .if1 .left)
+loop-again c = (omega arith, c .before .before .before .before .loop .inv .1 ∙ same-more (now (c .before .before .before .before .before .before .args .v)) (now (c .before .before .before .before .before .before .args .w)) (c .before .before .before .before .loop .i) (c .before .before .before .loop-test .taken) (let e = c .before .before .before .before .before .if1 .left in let h = c .before .before .before .loop-test .taken in omega arith) (c .if2 .left))
 
 returns-3 : tie.Need-returns-3 Inv-loop μ-loop
-returns-3 c = c .same-rest2 .ensures ∙ sym (c .before .before .loop .inv .1)
+returns-3 c = same-end (now (c .before .before .before .args .v)) (now (c .before .before .before .args .w)) (c .before .loop .i) (c .loop-test .left) (let e = c .before .before .if1 .left in let h = c .loop-test .left in omega arith) ∙ sym (c .before .loop .inv .1)
 
 pub same-bytes-spec : {M : Type 1} → statement M
 same-bytes-spec =
@@ -58,12 +53,10 @@ same-bytes-spec =
     μ-loop
     returns
     loop-holds
-    sub-loop
-    same-run-requires
-    same-rest-requires
+    shared-slice-read-if2
+    shared-slice-read-if2-2
     returns-2
     add-i
     loop-less
     loop-again
-    same-rest-requires-2
     returns-3)
