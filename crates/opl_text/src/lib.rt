@@ -69,7 +69,7 @@ pub fn skip_space(s: &[u8], at: usize) -> usize
     i
 }
 
-// ---- Names and values are read eight bytes at a time, as long as these are such as most are; then byte by byte.
+// ---- Values are read eight bytes at a time, as long as these are such as most are; then byte by byte.
 
 fn often_in_value(q: u8, b: u8) -> bool
     ensures { λ r. ⌜ Surely (inValue q b) r ⌝ }
