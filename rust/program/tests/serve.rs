@@ -378,13 +378,20 @@ fn a_reply_that_would_be_another_stops_the_server() {
     ]);
     assert_eq!(status, 1);
     assert!(why.contains("request 2"), "{why}");
-    assert!(why.contains("the engine answers 5 TAKEN, and had answered 0 GRANTED"), "{why}");
+    assert!(
+        why.contains("the engine answers 5 TAKEN, and had answered 0 GRANTED"),
+        "{why}"
+    );
 }
 
 /// The sum that a row without names should have behind the one before it, as docs/SERVE.md tells it.
 fn row_sum(sql: &Connection, number: i64) -> i64 {
     let before: i64 = sql
-        .query_row("SELECT sum FROM request WHERE number = ?1", [number - 1], |r| r.get(0))
+        .query_row(
+            "SELECT sum FROM request WHERE number = ?1",
+            [number - 1],
+            |r| r.get(0),
+        )
         .unwrap();
     let select = "SELECT number, at, client, coalesce(user, -1), kind, n, a, b, c, m, reply, place FROM request WHERE number = ?1";
     let mut fields = [0i64; 12];
