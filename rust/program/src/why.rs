@@ -617,10 +617,10 @@ mod tests {
     use std::collections::BTreeMap;
 
     const POLICIES: [&str; 4] = [
-        include_str!("../../../examples/team_lead/policy.txt"),
         include_str!("../../../examples/named.txt"),
         include_str!("../../../examples/loan/policy.txt"),
         include_str!("../../../examples/stuck_order/policy.txt"),
+        include_str!("../../../examples/team_lead/policy.txt"),
     ];
 
     /// What the place must be: that of the first rule that the told entries break, in the order of docs/RULES.md.
