@@ -82,7 +82,7 @@ fn a_listing_is_explained() {
 #[test]
 fn lists_and_help() {
     let (forms, _, _) = run(&["forms"], b"");
-    assert_eq!(forms.split(|&b| b == b'\n').count(), 40);
+    assert_eq!(forms.split(|&b| b == b'\n').count(), 41);
     let (replies, _, _) = run(&["replies"], b"");
     assert!(String::from_utf8(replies).unwrap().ends_with("23 LOOP\n"));
     let (help, said, status) = run(&["--help"], b"");

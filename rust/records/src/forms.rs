@@ -38,7 +38,7 @@ pub enum Part {
 }
 
 /// The kind that a pattern is for, where the line itself does not say it, and the pattern.
-pub const FORMS: [(u8, &str); 39] = [
+pub const FORMS: [(u8, &str); 40] = [
     (1, "user <a>"),
     (2, "role <a>"),
     (3, "permission <a> is operation <b> on object <c>"),
@@ -79,6 +79,7 @@ pub const FORMS: [(u8, &str); 39] = [
     ),
     (58, "entries of order <a>"),
     (60, "stuck tasks of template <a>"),
+    (60, "stuck <a=template>"),
     (0, RAW),
     (0, "bytes <bytes>"),
 ];
