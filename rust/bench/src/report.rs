@@ -216,7 +216,7 @@ state and looks through the links of the orders buffer at each call:
 const LOAD_NOTES: &str = "\
 `tools/load` measures the program `mishantral serve` (docs/SERVE.md) with its clients on one machine: each sends a request, as a record, waits for its reply and sends the next; in the last
 rows it sends 64 at once. \"one request a transaction\" is without groups (`--group 1`), \"saved normal\" does not wait for the disk, \"no journal\" keeps nothing. This table was measured on two cores of an Arm
-machine with a network disk on which others were at work: take the ratios. Memory over ten million requests and many desks are in docs/SCALE.md.
+machine with nothing else at work: take the ratios. Memory over ten million requests and many desks are in docs/SCALE.md.
 ";
 
 /// docs/BENCH.md
