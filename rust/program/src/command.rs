@@ -192,14 +192,7 @@ fn serve() -> Command {
                 .action(ArgAction::Append)
                 .conflicts_with("journal"),
         )
-        .arg(
-            Arg::new("socket")
-                .long("socket")
-                .value_name("PATH")
-                .required(true)
-                .value_hint(ValueHint::FilePath)
-                .help("Where clients come: a Unix socket"),
-        )
+        .arg(socket("Where clients come: a Unix socket"))
         .arg(number("group", "How many requests go into one transaction at most; 4096 where it is missing"))
         .arg(number("snapshot", "Take a snapshot after so many requests; 100000 where it is missing"))
         .arg(number("clients", "How many clients there may be at once; 1000 where it is missing"))
@@ -221,17 +214,19 @@ fn serve() -> Command {
         ))
 }
 
+fn socket(help: &'static str) -> Arg {
+    Arg::new("socket")
+        .long("socket")
+        .value_name("PATH")
+        .required(true)
+        .value_hint(ValueHint::FilePath)
+        .help(help)
+}
+
 fn ask() -> Command {
     Command::new("ask")
         .about("Send requests to a desk that is served, and print its replies")
-        .arg(
-            Arg::new("socket")
-                .long("socket")
-                .value_name("PATH")
-                .required(true)
-                .value_hint(ValueHint::FilePath)
-                .help("The server's socket"),
-        )
+        .arg(socket("The server's socket"))
         .arg(value("desk", "NAME", "Which desk, where there are several"))
         .arg(
             Arg::new("lines")
