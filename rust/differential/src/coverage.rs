@@ -52,6 +52,7 @@ pub fn possible(kind: u8) -> Option<Vec<Reply>> {
         10..=12 | 15 | 16 => &[Unknown, Taken, Rule, Full],
         14 => &[Unknown, Taken, Rule],
         17 => &[Unknown, Taken, Rule, Loop, Static, Full],
+        18 => &[Taken, Rule, Full],
         33 | 35 | 41 | 49 => &[Unknown, InUse],
         37 | 43 | 58 | 60 => &[Unknown],
         40 | 42 => &[Unknown, Taken, NotAssigned, Dynamic],
@@ -59,7 +60,7 @@ pub fn possible(kind: u8) -> Option<Vec<Reply>> {
             Unknown, Taken, NoRole, Before, Separation, Block, Alone, Bound, Count, Full,
         ],
         51 | 52 => &[Unknown, NotYours],
-        56 => &[Unknown, Denied],
+        56 | 59 => &[Unknown, Denied, Wall],
         57 => &[Unknown, NotYours, Denied],
         _ => return None,
     };
