@@ -147,8 +147,12 @@ kept-after policy accepted ss =
     run-keeps requestForms requestKinds engine-order (Kept (recordsOf policy)) (kept-rows (recordsOf policy)) (engineOf (load policy .tables)) ss
     (kept-load policy accepted)
 
+pub lower-kept-load : (policy : Bytes) → load policy .reply ≡ 0 → LowerKept (recordsOf policy) (lowerOf (load policy .tables))
+unfolding lowerOf
+lower-kept-load policy h = (given policy h, loaded-limited policy h)
+
 pub lower-kept-after : AfterEvery (λ policy requests. LowerKept (recordsOf policy) (lowerAfter policy requests))
-unfolding lowerRequest lowerOf
+unfolding lowerRequest
 lower-kept-after policy accepted ss =
     run-keeps lowerForms lowerKinds lower-order (LowerKept (recordsOf policy)) (lower-rows (recordsOf policy)) (lowerOf (load policy .tables)) ss
-    (given policy accepted, loaded-limited policy accepted)
+    (lower-kept-load policy accepted)

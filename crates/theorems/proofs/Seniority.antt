@@ -42,14 +42,14 @@ seniority-is-recorded = record {
 }
 
 -- ---- rows in front that answer as those behind them
-first-behind : (xs ys zs : List Check) → first ys ≡ first zs → first (xs ++ ys) ≡ first (xs ++ zs)
+pub first-behind : (xs ys zs : List Check) → first ys ≡ first zs → first (xs ++ ys) ≡ first (xs ++ zs)
 first-behind [] ys zs e = e
 first-behind (x ∷ xs) ys zs e = ap (λ (k : ℕ). cond (x .0) (x .1) k) (first-behind xs ys zs e)
 
-abbrev Alike : {T : Type 0} → T → Record → Kind T → Kind T → Type 0
+abbrev pub Alike : {T : Type 0} → T → Record → Kind T → Kind T → Type 0
 Alike t r k j = (first (k .checks t r) ≡ first (j .checks t r)) × (k .next t r ≡ j .next t r)
 
-chosen-front : {T : Type 0} (P : Kind T → Type 0) (new ks : List (Kind T)) (n : ℕ) → P (chosen ks n) → Every (λ k. k .kind ≡ n → P k) new → P (chosen (new ++ ks) n)
+pub chosen-front : {T : Type 0} (P : Kind T → Type 0) (new ks : List (Kind T)) (n : ℕ) → P (chosen ks n) → Every (λ k. k .kind ≡ n → P k) new → P (chosen (new ++ ks) n)
 unfolding chosen
 chosen-front P [] ks n h a = h
 chosen-front P (k ∷ new) ks n h a = go (eqb (k .kind) n) refl (chosen-front P new ks n h (a .1))
@@ -58,7 +58,7 @@ chosen-front P (k ∷ new) ks n h a = go (eqb (k .kind) n) refl (chosen-front P 
     go true e rest = a .0 (eqb-true _ _ e)
     go false e rest = rest
 
-same-answer : {T : Type 0} (fs : List Form) (new ks : List (Kind T)) (t : T) (s : Bytes)
+pub same-answer : {T : Type 0} (fs : List Form) (new ks : List (Kind T)) (t : T) (s : Bytes)
     → Every (λ k. (r : Record) → Alike t r k (chosen ks (k .kind))) new → answer fs (new ++ ks) t s ≡ answer fs ks t s
 unfolding answer replyTo
 same-answer fs new ks t s rows =
