@@ -12,7 +12,7 @@ use Rattle.paper_lower.specs.Lists.Maybe.{none}
 use Rattle.paper_lower.specs.Checks.{Check, GRANTED, UNKNOWN, DENIED, WALL}
 use Rattle.paper_lower.specs.Records.{Bytes, Record, decode}
 use Rattle.paper_lower.specs.Forms.{lowerForms, requestForms}
-use Rattle.paper_lower.specs.Kinds.{Kind, on, chosen, Answer, answer, run, after}
+use Rattle.paper_lower.specs.Kinds.{Kind, on, chosen, Answer, answer, Said, run, after}
 use Rattle.paper_lower.specs.Tables.{Lower, withPolicy}
 use Rattle.paper_lower.specs.Policy.{down, blockOf}
 use Rattle.paper_lower.specs.Load.{load, recordsOf}
@@ -50,11 +50,15 @@ committing =
 unfoldable pub commit : Commits → Record → Commits
 commit x r = chosen committing (r .kind) .next x r
 
+-- after requests with their replies
+abbrev pub committed : List Said → Commits
+committed ys = followed commit noCommits ys
+
 abbrev pub commitsAfter : Bytes → List Bytes → Commits
-commitsAfter policy requests = followed commit noCommits (saidAfter policy requests)
+commitsAfter policy requests = committed (saidAfter policy requests)
 
 abbrev pub lowerCommitsAfter : Bytes → List Bytes → Commits
-lowerCommitsAfter policy requests = followed commit noCommits (run lowerRequest (lowerOf (load policy .tables)) requests)
+lowerCommitsAfter policy requests = committed (run lowerRequest (lowerOf (load policy .tables)) requests)
 
 -- ---- Demand 3: "since a user was last added, the commits granted to that user touch at most one block of each wall."
 
