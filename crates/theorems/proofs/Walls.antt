@@ -28,7 +28,7 @@ use Rattle.sets.proofs.Bits.{same-or-other}
 use Rattle.theorems.specs.OverEntries.{EveryTwo, ofKind}
 use Rattle.theorems.specs.WellMade.{WellWalled}
 use Rattle.theorems.specs.Theorems.{Reaches, AfterEvery, tablesAfter, lowerAfter}
-use Rattle.theorems.specs.Walls.{Commits, noCommits, committing, commit, commitsAfter, lowerCommitsAfter, stands, OneBlockOfEach, ClerksKeepToOneBlock, Apart, Decided, CheckOrCommit, committedBy, WallExactlyWhen, BoundNowhere, DeletingForgets}
+use Rattle.theorems.specs.Walls.{Commits, noCommits, committing, commit, commitsAfter, lowerCommitsAfter, stands, OneBlockOfEach, ClerksKeepToOneBlock, Rival, Decided, CheckOrCommit, committedBy, WallExactlyWhen, BoundNowhere, DeletingForgets}
 use Rattle.theorems.proofs.Replies.{lower-order, engine-order, numbered}
 use Rattle.theorems.proofs.Rows.{Rows, run-follows, engine-rows}
 use Rattle.theorems.proofs.Made.{aWalled, of-each}
@@ -291,9 +291,9 @@ module _ (policy : List Record) (t : Lower) (kept : LowerKept policy t) (y : Com
 
   -- ---- what WALL's check says
   module _ (u c : ℕ) (known : t .policy .people .users u ≡ true) where
-    apart : wallBetween t u c ≡ true → Apart policy (y .objects u) c
+    rival : wallBetween t u c ≡ true → Rival policy (y .objects u) c
     unfolding wallBetween
-    apart e =
+    rival e =
         let x = between-at ws (t .sessions .boundTo u) c e in
         let d = bound-from ws (y .objects u) (x .0) (x .2) (sym (h .bound u known (x .0)) ∙ x .3 .1) in
         record {
@@ -307,9 +307,9 @@ module _ (policy : List Record) (t : Lower) (kept : LowerKept policy t) (y : Com
           differ = x .3 .2;
         }
 
-    not-apart : wallBetween t u c ≡ false → Apart policy (y .objects u) c → ⊥
+    no-rival : wallBetween t u c ≡ false → Rival policy (y .objects u) c → ⊥
     unfolding wallBetween Agree
-    not-apart e x =
+    no-rival e x =
         some-elim (eqb (x .object)) ⊥ (y .objects u) (x .among)
         (every-map (y .objects u) (λ d f q.
         let tabled-c = tabled policy ws (kept .0 .walls) (kept .0 .walled) (x .wall) (x .block) c (x .stands-in) in
@@ -322,7 +322,7 @@ module _ (policy : List Record) (t : Lower) (kept : LowerKept policy t) (y : Com
     unfolding wallBetween
     one-with e = one-of-each (c ∷ y .objects u) (agrees _ _ _ _ _ y h u c known (kept .0 .walled) e)
 
-    not-one : OneBlockOfEach policy (c ∷ y .objects u) → Apart policy (y .objects u) c → ⊥
+    not-one : OneBlockOfEach policy (c ∷ y .objects u) → Rival policy (y .objects u) c → ⊥
     not-one o x =
         let w = o (x .wall) in
         let mine = w .1 .0 (x .block) (x .stands-in) in
@@ -337,12 +337,12 @@ module _ (policy : List Record) (t : Lower) (kept : LowerKept policy t) (y : Com
         go : (b : Bool) → wallBetween t u c ≡ b → reply ≡ cond b WALL 0 → Decided policy (y .objects u) c reply
         go true q e = record {
           either = inr e;
-          refused = (λ _. apart q, λ _. e);
-          free = (λ z. let n : ⊥ = omega arith in absurd n, λ o. absurd (not-one o (apart q)));
+          refused = (λ _. rival q, λ _. e);
+          free = (λ z. let n : ⊥ = omega arith in absurd n, λ o. absurd (not-one o (rival q)));
         }
         go false q e = record {
           either = inl e;
-          refused = (λ z. let n : ⊥ = omega arith in absurd n, λ x. absurd (not-apart q x));
+          refused = (λ z. let n : ⊥ = omega arith in absurd n, λ x. absurd (no-rival q x));
           free = (λ _. one-with q, λ _. e);
         }
 

@@ -77,7 +77,7 @@ pub record ClerksKeepToOneBlock : Type 0 where
 -- ---- "WALL (24), after DENIED in kinds 56 and 59, when the user is bound in some wall to another block than the object's"
 
 -- one of the objects stands in another block than c of a wall that has both
-pub record Apart (policy : List Record) (objects : List ℕ) (c : ℕ) : Type 0 where
+pub record Rival (policy : List Record) (objects : List ℕ) (c : ℕ) : Type 0 where
   pub object : ℕ
   pub among : some (eqb object) objects ≡ true
   pub wall : ℕ
@@ -90,7 +90,7 @@ pub record Apart (policy : List Record) (objects : List ℕ) (c : ℕ) : Type 0 
 -- The reply about object c, against the objects committed to: WALL or granted, and each exactly when.
 pub record Decided (policy : List Record) (objects : List ℕ) (c reply : ℕ) : Type 0 where
   pub either : (reply ≡ GRANTED) ⊎ (reply ≡ WALL)
-  pub refused : (reply ≡ WALL) ↔ Apart policy objects c
+  pub refused : (reply ≡ WALL) ↔ Rival policy objects c
   -- granted where committing it leaves one block of each wall
   pub free : (reply ≡ GRANTED) ↔ OneBlockOfEach policy (c ∷ objects)
 
