@@ -1,4 +1,3 @@
--- Written from Proof.tmpl by 'prove expand': edit that file.
 -- The row past the kept ones, its bit in the bucket of its object, and their number one higher.
 use mathlib.Core.Path.{ap, _∙_}
 use Prim.Native.Nat.{_%_}

@@ -1,4 +1,3 @@
--- Written from Proof.tmpl by 'prove expand': edit that file.
 -- The kept number, cut at the limit.
 use native.Mathlib.Omega.{arith}
 use Rattle.policy.specs.Layout.{wallCount}

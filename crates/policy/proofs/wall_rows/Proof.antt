@@ -1,4 +1,3 @@
--- Written from Proof.tmpl by 'prove expand': edit that file.
 -- The word of the object's bucket.
 use mathlib.Core.Path.{sym, ap, _∙_}
 use Rattle.replies.proofs.CellLaws.{column-at}

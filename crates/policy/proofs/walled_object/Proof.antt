@@ -1,4 +1,3 @@
--- Written from Proof.tmpl by 'prove expand': edit that file.
 -- The word of the row, if the object's bucket has the row.
 use native.Mathlib.Omega.{arith}
 use Rattle.policy.proofs.WallLaws.{object-listed, object-none}

@@ -1,4 +1,3 @@
--- Written from Proof.tmpl by 'prove expand': edit that file.
 -- The word of the row.
 use mathlib.Core.Path.{sym, ap}
 use native.Mathlib.Omega.{arith}
