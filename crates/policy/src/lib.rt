@@ -5,8 +5,8 @@ ghost use lib.Dec.{leb};
 ghost use lib.ListN.{length};
 ghost use Rattle.paper_lower.specs.Lists.{holds, there, is};
 ghost use Rattle.paper_lower.specs.Policy.{together};
-ghost use Rattle.policy.specs.Layout.{policyWords, seniorsIn, flagOf, permissionOf, tableIn, bucketTable, bucketOf, foursFor, rowIs, unlessIn, limitCount, limitAt, blockCount, blockAt, pairCount, pairAt, wallWord, wallCount, walledAt, wallRows, walledIs};
-ghost use Rattle.policy.specs.Reading.{policyOf, Cleared, Ready, rolesAnew, userAnew, assignedAnew, juniorsAnew, belowAnew, permissionAnew, holdersAnew, carriersAnew, templateAnew, openToAnew, bannedAnew, mostAnew, limitAdded, blockAdded, pairAdded, wallAdded};
+ghost use Rattle.policy.specs.Layout.{policyWords, same, seniorsIn, flagOf, permissionOf, tableIn, bucketTable, bucketOf, foursFor, rowIs, unlessIn, limitCount, limitAt, blockCount, blockAt, pairCount, pairAt, wallWord, wallCount, walledAt, wallRows, walledIs};
+ghost use Rattle.policy.specs.Reading.{policyOf, valueOf, Cleared, Ready, rolesAnew, userAnew, assignedAnew, juniorsAnew, belowAnew, permissionAnew, holdersAnew, carriersAnew, templateAnew, openToAnew, bannedAnew, mostAnew, limitAdded, blockAdded, pairAdded, wallAdded};
 use sets::Set;
 
 // ---- Where each table starts: word 0 has the declared roles, the next ones the numbers of kept rules, word 7 the roles with some role below
@@ -189,6 +189,27 @@ pub fn permission_declared(p: &[u64], b: usize) -> bool
     (word / 4294967296 % 2 == 1) & listed
 }
 
+// The operation of permission b, and its object: 0 if it is not declared.
+pub fn permission_operation(p: &[u64], b: usize) -> u64
+    requires { ⌜ (length (now p) ≡ policyWords) × (b < 256) ⌝ }
+    ensures { λ r. ⌜ (r ≡ valueOf (λ x. x .operation) (policyOf (now (p .entry)) .permissions .declared b)) × (r < 65536) ⌝ }
+{
+    if !permission_declared(p, b) {
+        return 0;
+    }
+    p[PERMISSIONS + b] % 65536
+}
+
+pub fn permission_object(p: &[u64], b: usize) -> u64
+    requires { ⌜ (length (now p) ≡ policyWords) × (b < 256) ⌝ }
+    ensures { λ r. ⌜ (r ≡ valueOf (λ x. x .object) (policyOf (now (p .entry)) .permissions .declared b)) × (r < 65536) ⌝ }
+{
+    if !permission_declared(p, b) {
+        return 0;
+    }
+    p[PERMISSIONS + b] / 65536 % 65536
+}
+
 // The fours in which every permission for this operation on this object is.
 pub fn fours_for(p: &[u64], operation: u64, object: u64) -> Set
     requires { ⌜ (length (now p) ≡ policyWords) × ((operation < 65536) × (object < 65536)) ⌝ }
@@ -285,6 +306,18 @@ pub fn task_declared(p: &[u64], t: usize) -> bool
     p[TEMPLATES + t] / 16 % 2 == 1
 }
 
+// The template of task t: 0 if it is not declared.
+pub fn template(p: &[u64], t: usize) -> u64
+    requires { ⌜ (length (now p) ≡ policyWords) × (t < 64) ⌝ }
+    ensures { λ r. ⌜ (r ≡ valueOf same (policyOf (now (p .entry)) .tasks .template t)) × (r < 16) ⌝ }
+{
+    let word = p[TEMPLATES + t];
+    if word / 16 % 2 == 1 {
+        return word % 16;
+    }
+    0
+}
+
 // Whether task t is declared, and of template j.
 pub fn task_is_of(p: &[u64], t: usize, j: u64) -> bool
     requires { ⌜ (length (now p) ≡ policyWords) × ((t < 64) × (j < 16)) ⌝ }
@@ -344,6 +377,14 @@ pub fn task_limited(p: &[u64], t: usize) -> bool
     ensures { λ r. ⌜ r ≡ there (policyOf (now (p .entry)) .tasks .most t) ⌝ }
 {
     p[MOST + t] % 256 != 0
+}
+
+// The limit of task t: 0 if it has none.
+pub fn most(p: &[u64], t: usize) -> u64
+    requires { ⌜ (length (now p) ≡ policyWords) × (t < 64) ⌝ }
+    ensures { λ r. ⌜ (r ≡ valueOf same (policyOf (now (p .entry)) .tasks .most t)) × (r < 256) ⌝ }
+{
+    p[MOST + t] % 256
 }
 
 // Whether task t has a limit, and `times` reaches it.
