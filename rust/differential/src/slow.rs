@@ -7,6 +7,9 @@ use std::collections::{BTreeMap, BTreeSet};
 type Numbers = BTreeSet<u16>;
 type Pairs = BTreeSet<(u16, u16)>;
 
+/// A file mended: the reply, how many records were kept, the output and the report afterwards.
+pub type Mended = (Reply, usize, Vec<u8>, Vec<(u64, u64)>);
+
 #[derive(Clone)]
 pub(crate) struct Entry {
     pub instance: u16,
@@ -268,6 +271,81 @@ impl Slow {
             }
         }
         (Granted, 0)
+    }
+
+    /// The policy as records, kinds rising: sets and maps go by a and then b by themselves, rules stand as they are held.
+    fn rows(&self) -> Vec<Record> {
+        let set = |members: &Numbers| members.iter().map(|m| *m as u8).collect::<Set>();
+        let sets = |kind: u8, rules: &[(u8, Numbers)]| -> Vec<Record> {
+            let row = |(n, m): &(u8, Numbers)| Record::new(kind, *n, 0, 0, 0, set(m).0);
+            rules.iter().map(row).collect()
+        };
+        let pairs = |kind: u8, pairs: &mut dyn Iterator<Item = (u16, u16)>| -> Vec<Record> {
+            let row = |(a, b)| Record::new(kind, 0, a, b, 0, 0);
+            pairs.map(row).collect()
+        };
+        let alone = |kind: u8, numbers: &Numbers| pairs(kind, &mut numbers.iter().map(|a| (*a, 0)));
+        let declared = self.permissions.iter();
+        let declared = declared.map(|(a, (b, c))| Record::permission(*a, *b, *c));
+        let blocks = self.blocks.iter().map(|(p, m)| Record::block(*p, set(m)));
+        let limits = self.limits.iter().map(|(t, n)| Record::at_most(*t, *n));
+        [
+            alone(1, &self.users),
+            alone(2, &self.roles),
+            declared.collect(),
+            pairs(4, &mut self.user_roles.iter().copied()),
+            pairs(5, &mut self.role_permissions.iter().copied()),
+            pairs(6, &mut self.tasks.iter().map(|(t, j)| (*t, *j))),
+            pairs(7, &mut self.open_to.iter().copied()),
+            pairs(8, &mut self.carries.iter().copied()),
+            sets(9, &self.static_sets),
+            sets(10, &self.dynamic_sets),
+            sets(11, &self.task_sets),
+            blocks.collect(),
+            alone(13, &self.bans),
+            limits.collect(),
+            pairs(15, &mut self.bindings.iter().copied()),
+            pairs(16, &mut self.prerequisites.iter().copied()),
+            pairs(17, &mut self.above.iter().copied()),
+        ]
+        .concat()
+    }
+
+    /// Writes the policy out: the reply, how many records, and the output afterwards.
+    pub fn write(&self, output: &[u8]) -> (Reply, usize, Vec<u8>) {
+        let rows = self.rows();
+        if 16 * rows.len() > output.len() {
+            return (Room, 0, output.to_vec());
+        }
+        let behind = &output[16 * rows.len()..];
+        let written = rows.iter().flat_map(|r| r.0).chain(behind.iter().copied());
+        (Granted, rows.len(), written.collect())
+    }
+
+    /// Mends a file: the reply, how many records were kept, and the output and the report afterwards.
+    pub fn mend(&mut self, file: &[u8], output: &[u8], report: &[(u64, u64)]) -> Mended {
+        let whole = file.len() / 16;
+        if output.len() < file.len() || report.len() < whole + 1 {
+            return (Room, 0, output.to_vec(), report.to_vec());
+        }
+        self.empty();
+        let (mut kept, mut dropped) = (Vec::new(), Vec::new());
+        for (bytes, place) in file.chunks(16).zip(1..) {
+            let judged = well_formed(bytes, true);
+            match judged.map_or_else(|refused| refused, |record| self.policy_record(record)) {
+                Granted => kept.push(bytes),
+                refused => dropped.push((place, u64::from(refused.number()))),
+            }
+        }
+        let number = kept.len();
+        let (kept, count) = (kept.concat(), dropped.len());
+        let output = [&kept, &output[kept.len()..]].concat();
+        (
+            Granted,
+            number,
+            output,
+            [dropped, report[count..].to_vec()].concat(),
+        )
     }
 
     /// Answers one request: the reply, and the place of the rule that it is about, from 1, or 0.

@@ -181,6 +181,8 @@ fn limits_are_those_of_the_library() {
     assert_eq!(number("RECORD_BYTES"), Record::block(0, none).0.len());
     #[cfg(mishantral_pile)]
     assert_eq!(number("MOST_PILED"), mishantral::PILE);
+    #[cfg(mishantral_write)]
+    assert_eq!(number("MOST_WRITTEN"), mishantral::WRITTEN);
     for (name, record) in with {
         let mut engine = mishantral::Engine::new();
         let mut reply = |record: Record| match record.kind() {

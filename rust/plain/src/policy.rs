@@ -110,8 +110,8 @@ pub(crate) struct Policy {
     pub tasks_of: [u64; 16],
     pub of_task: [TaskRules; 64],
     pub banned: u16,
-    static_sets: Rules<AtMost, 32>,
-    dynamic_sets: Rules<AtMost, 32>,
+    pub static_sets: Rules<AtMost, 32>,
+    pub dynamic_sets: Rules<AtMost, 32>,
     pub task_sets: Rules<AtMost, 32>,
     pub blocks: Rules<(usize, u64), 64>,
     /// The tasks of all blocks of each partitioning.
@@ -119,7 +119,7 @@ pub(crate) struct Policy {
     pub bindings: Rules<(usize, usize), 64>,
     pub prerequisites: Rules<(usize, usize), 64>,
     /// Which role stands above which, as the records say it.
-    seniorities: Rules<(usize, usize), 64>,
+    pub seniorities: Rules<(usize, usize), 64>,
     /// The roles that each role counts with: itself and all below.
     down_of: [u64; 64],
     pub walls: Walls,
