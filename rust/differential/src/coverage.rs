@@ -211,7 +211,7 @@ impl Coverage {
             let unseen = all.iter().filter(|r| !seen.contains_key(&r.number()));
             unseen.map(|r| format!("{of} {}", r.name())).collect()
         };
-        let kinds = (1..=17).filter(|kind| !self.rows.contains_key(kind));
+        let kinds = (1..=18).filter(|kind| !self.rows.contains_key(kind));
         let damages = damages().filter(|name| !self.damages.contains_key(name));
         let came = CAME.iter().filter(|(name, _)| !self.mended.contains(name));
         [

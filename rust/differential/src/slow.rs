@@ -289,6 +289,7 @@ impl Slow {
         let declared = declared.map(|(a, (b, c))| Record::permission(*a, *b, *c));
         let blocks = self.blocks.iter().map(|(p, m)| Record::block(*p, set(m)));
         let limits = self.limits.iter().map(|(t, n)| Record::at_most(*t, *n));
+        let walls = self.walls.iter().map(|(w, b, o)| Record::wall(*w, *b, *o));
         [
             alone(1, &self.users),
             alone(2, &self.roles),
@@ -307,6 +308,7 @@ impl Slow {
             pairs(15, &mut self.bindings.iter().copied()),
             pairs(16, &mut self.prerequisites.iter().copied()),
             pairs(17, &mut self.above.iter().copied()),
+            walls.collect(),
         ]
         .concat()
     }

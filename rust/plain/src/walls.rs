@@ -41,6 +41,12 @@ impl Walls {
         self.used == 0
     }
 
+    /// Wall, block and object of each record, in policy order.
+    pub fn rows(&self) -> impl Iterator<Item = (u16, u16, u16)> + '_ {
+        let used = self.rows[..self.used].iter();
+        used.map(|r| (r.wall.into(), r.block.into(), r.object))
+    }
+
     /// The walls that have the object, and its block in each.
     pub fn of(&self, object: u16) -> impl Iterator<Item = (usize, u8)> + '_ {
         let row = |at: u16| (at > 0).then(|| &self.rows[usize::from(at) - 1]);
