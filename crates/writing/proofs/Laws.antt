@@ -1,5 +1,5 @@
 -- Records laid one behind the other: none, one, one list behind another, one turn of a loop, and all of them as bytes.
-use Prim.Native.Nat.{ℕ, suc, _+_, _*_, _≤_, _<_}
+use Prim.Native.Nat.{ℕ, suc, _+_, _*_, _/_, _%_, _≤_, _<_}
 use mathlib.Core.Bool.{Bool, true, false, cond}
 use mathlib.Core.List.{List, [], _∷_, _++_, append-assoc}
 use mathlib.Core.Path.{_≡_, refl, sym, ap, _∙_, subst}
@@ -7,12 +7,13 @@ use native.Mathlib.Nat.{add-zero}
 use native.Mathlib.Numerals.{add-one}
 use native.Mathlib.Omega.{arith}
 use borrow.Author.Tests.{le-leb, lt-leb}
+use lib.Dec.{leb}
 use lib.ListN.{length, take, drop, length-append, length-drop, take-append-drop}
 use lib.Seq.{take-at, drop-at, drop-drop, length-take-le}
 use Rattle.paper_lower.specs.Lists.{many, each}
 use Rattle.paper_lower.specs.Records.{Bytes, Record, bytes, encode}
 use Rattle.paper_lower.specs.Words.{joined}
-use Rattle.paper_lower.specs.Written.{inTurn, when}
+use Rattle.paper_lower.specs.Written.{inTurn, when, row}
 use Rattle.paper_opl.specs.Filling.{putAt}
 use Rattle.writing.specs.Laying.{laidAt, laidFrom, Laid}
 
@@ -53,6 +54,24 @@ weaker l h = record { places = l .places; few = omega (arith, l .few); bytes = l
 pub as-row : {rs ss : List Record} {k : ℕ} (most : ℕ) {out out′ : Bytes} {place next : ℕ} → Laid ss k out out′ place next → ss ≡ rs → k ≤ most → Laid rs most out out′ place next
 as-row {rs} {ss} {k} most {out} {out′} {place} {next} l e h = weaker (subst (λ (xs : List Record). Laid xs k out out′ place next) e l) h
 
+-- ---- A record is laid by its bytes: a number past two of them is cut.
+pub same-bytes : {r q : Record} {k : ℕ} {out out′ : Bytes} {place next : ℕ} → Laid (r ∷ []) k out out′ place next → encode r ≡ encode q → Laid (q ∷ []) k out out′ place next
+unfolding many laidFrom laidAt putAt
+same-bytes {r} {q} {k} {out} {out′} {place} l e =
+    record {
+      places = l .places;
+      few = l .few;
+      bytes = l .bytes ∙ ap (λ (s : Bytes). cond (leb (16 * suc place) (length out)) (take (16 * place) out ++ (s ++ drop (16 * place + 16) out)) out) e;
+    }
+
+pub cut-third : (kind n a b c m : ℕ) → encode (row kind n a b (c % 65536) m) ≡ encode (row kind n a b c m)
+unfolding encode bytes
+cut-third kind n a b c m =
+    let low : c % 65536 % 256 ≡ c % 256 = omega arith in
+    let split : c / 256 ≡ c % 65536 / 256 + 256 * (c / 65536) = omega arith in
+    let high : (c % 65536 / 256 + 256 * (c / 65536)) % 256 ≡ c % 65536 / 256 % 256 = omega arith in
+    rw (low, split, high)
+
 -- ---- A loop over rows.
 pub begins : (f : ℕ → List Record) (out : Bytes) (place : ℕ) → Laid (inTurn 0 f) 0 out out place place
 unfolding inTurn
@@ -73,6 +92,11 @@ turns f i {k} {w} {most} {out₀} {out} {out′} {place₀} {place} {next} a b h
 encoded : (r : Record) → length (encode r) ≡ 16
 unfolding encode bytes
 encoded r = refl
+
+pub joined-length : (rs : List Record) → length (joined (each encode rs)) ≡ 16 * many rs
+unfolding joined each many
+joined-length [] = refl
+joined-length (r ∷ rs) = omega (arith, length-append (encode r) (joined (each encode rs)), encoded r, joined-length rs)
 
 module _ (out : Bytes) (p : ℕ) (r : Record) (h : 16 * suc p ≤ length out) where
   front : length (take (16 * p) out ++ encode r) ≡ 16 * suc p

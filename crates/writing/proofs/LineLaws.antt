@@ -16,9 +16,9 @@ use Rattle.paper_lower.specs.Written.{inTurn, when, ofThere, row, peopleRows, t
 use Rattle.sets.proofs.SetLaws.{has-empty}
 use Rattle.replies.specs.Cells.{column, rowsFrom, rows}
 use Rattle.records.proofs.Span.{Rest, oneEach, others}
-use Rattle.policy.specs.Layout.{same, limitCount, limitAt, blockCount, blockAt, pairCount, pairAt}
+use Rattle.policy.specs.Layout.{same, limitCount, limitAt, blockCount, blockAt, pairCount, pairAt, wallCount, walledAt}
 use Rattle.policy.specs.Reading.{rulesIn, policyOf, valueOf}
-use Rattle.writing.specs.Lines.{Line, spread, limitRow, blockRow, pairRow, linesIn, noLine, lineOf, heightIn, kindIn, kindNumbers}
+use Rattle.writing.specs.Lines.{Line, spread, limitRow, blockRow, pairRow, wallRow, linesIn, noLine, lineOf, heightIn, kindIn, kindNumbers}
 
 -- ---- One list behind the other, upwards and from the front.
 in-none : (f : ℕ → List Record) → inTurn 0 f ≡ []
@@ -63,7 +63,7 @@ pub below : (l : List ℕ) {kind a : ℕ} (n bound : ℕ) → a < heightIn l kin
 below l {kind} {a} n bound h e b = let g : a < heightIn l n = subst (λ (k : ℕ). a < heightIn l k) e h in omega arith
 
 -- ---- All of them.
-laid-lines : (l : List ℕ) → behind (rowsFrom (kindIn l) 0 18) ≡ recordsWritten (policyOf l)
+laid-lines : (l : List ℕ) → behind (rowsFrom (kindIn l) 0 19) ≡ recordsWritten (policyOf l)
 unfolding rowsFrom behind kindIn lineOf linesIn recordsWritten peopleRows taskRows ruleRows policyOf rulesIn
 laid-lines l =
     rw (
@@ -74,10 +74,11 @@ laid-lines l =
       ← each-rows blockRow (blockAt l) (blockCount l),
       ← each-rows (pairRow 15) (pairAt 0 l) (pairCount 0 l),
       ← each-rows (pairRow 16) (pairAt 1 l) (pairCount 1 l),
+      ← each-rows wallRow (walledAt l) (wallCount l),
     )
 
-pub all-lines : (l : List ℕ) → inTurn 18 (kindIn l) ≡ recordsWritten (policyOf l)
-all-lines l = sym (ap (inTurn 18) (from-zero (kindIn l))) ∙ in-behind-from (kindIn l) 0 18 ∙ laid-lines l
+pub all-lines : (l : List ℕ) → inTurn 19 (kindIn l) ≡ recordsWritten (policyOf l)
+all-lines l = sym (ap (inTurn 19) (from-zero (kindIn l))) ∙ in-behind-from (kindIn l) 0 19 ∙ laid-lines l
 
 -- ---- What a getter tells.
 pub of-number : (f : ℕ → Record) (x : Maybe ℕ) {t : Bool} {n : ℕ} → t ≡ there x → n ≡ valueOf same x → when t (f n) ≡ ofThere f x

@@ -4,10 +4,10 @@ use mathlib.Core.Bool.{cond}
 use mathlib.Core.List.{List, [], _∷_}
 use lib.Dec.{eqb}
 use Rattle.paper_lower.specs.Sets.{Set, has}
-use Rattle.paper_lower.specs.Tables.{Limit, Block, Pair}
+use Rattle.paper_lower.specs.Tables.{Limit, Block, Pair, Walled}
 use Rattle.paper_lower.specs.Records.{Record}
 use Rattle.paper_lower.specs.Written.{inTurn, when, ofThere, row}
-use Rattle.policy.specs.Layout.{limitCount, limitAt, blockCount, blockAt, pairCount, pairAt}
+use Rattle.policy.specs.Layout.{limitCount, limitAt, blockCount, blockAt, pairCount, pairAt, wallCount, walledAt}
 use Rattle.policy.specs.Reading.{policyOf}
 
 -- a kind: how many rows it has, and the records of each
@@ -39,6 +39,9 @@ blockRow x = row 12 0 (x .partitioning) 0 0 (x .tasks)
 abbrev pub pairRow : ℕ → Pair → Record
 pairRow kind x = row kind 0 (x .a) (x .b) 0 0
 
+abbrev pub wallRow : Walled → Record
+wallRow x = row 18 0 (x .wall) (x .block) (x .object) 0
+
 -- ---- The kinds.
 unfoldable pub linesIn : List ℕ → List Line
 linesIn l =
@@ -59,6 +62,7 @@ linesIn l =
     ∷ line 15 (pairCount 0 l) (λ k. pairRow 15 (pairAt 0 l k) ∷ [])
     ∷ line 16 (pairCount 1 l) (λ k. pairRow 16 (pairAt 1 l k) ∷ [])
     ∷ line 17 64 (λ a. spread 17 a (policyOf l .seniority .juniors a))
+    ∷ line 18 (wallCount l) (λ k. wallRow (walledAt l k) ∷ [])
     ∷ []
 
 -- the one with a number; a kind that is not written has no row
@@ -81,7 +85,7 @@ kindIn l kind = inTurn (heightIn l kind) (rowIn l kind)
 
 -- their numbers
 abbrev pub kindNumbers : List ℕ
-kindNumbers = 1 ∷ 2 ∷ 3 ∷ 4 ∷ 5 ∷ 6 ∷ 7 ∷ 8 ∷ 9 ∷ 10 ∷ 11 ∷ 12 ∷ 13 ∷ 14 ∷ 15 ∷ 16 ∷ 17 ∷ []
+kindNumbers = 1 ∷ 2 ∷ 3 ∷ 4 ∷ 5 ∷ 6 ∷ 7 ∷ 8 ∷ 9 ∷ 10 ∷ 11 ∷ 12 ∷ 13 ∷ 14 ∷ 15 ∷ 16 ∷ 17 ∷ 18 ∷ []
 
 -- the set of permission b that kind 5, or kind 8, looks in
 unfoldable pub sideIn : List ℕ → ℕ → ℕ → Set

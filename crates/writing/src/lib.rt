@@ -6,9 +6,9 @@ ghost use Prim.Native.Nat.{_+_, _≤_, _<_};
 ghost use lib.ListN.{length};
 ghost use Rattle.paper_lower.specs.Lists.{many};
 ghost use Rattle.paper_lower.specs.Written.{when, ofThere, row, recordsWritten};
-ghost use Rattle.policy.specs.Layout.{policyWords, limitAt, blockAt, pairAt};
+ghost use Rattle.policy.specs.Layout.{policyWords, limitAt, blockAt, pairAt, walledAt};
 ghost use Rattle.policy.specs.Reading.{policyOf};
-ghost use Rattle.writing.specs.Lines.{spread, across, limitRow, blockRow, pairRow, heightIn, rowIn, kindIn, sideIn};
+ghost use Rattle.writing.specs.Lines.{spread, across, limitRow, blockRow, pairRow, wallRow, heightIn, rowIn, kindIn, sideIn};
 ghost use Rattle.writing.specs.Laying.{Laid, Whole, far};
 ghost use Rattle.writing.specs.Answers.{fit, Wrote, Exported};
 use policy::POLICY_WORDS;
@@ -108,6 +108,17 @@ fn pair(output: &mut [u8], place: usize, p: &[u64], which: usize, k: usize) -> u
     put(output, place, true, 15 + which as u64, 0, a, b, 0, 0)
 }
 
+// An object in a block of a wall: its number in two bytes.
+fn walled(output: &mut [u8], place: usize, p: &[u64], k: usize) -> usize
+    requires { ⌜ (place < far) × ((length (now p) ≡ policyWords) × (k < 256)) ⌝ }
+    ensures { λ r. ⌜ Laid (wallRow (walledAt (now (p .entry)) k) ∷ []) 1 (now (output .entry)) (now (output .exit)) place r ⌝ }
+{
+    let a = policy::walled_wall(p, k);
+    let b = policy::walled_block(p, k);
+    let c = policy::walled_object(p, k) % 65536;
+    put(output, place, true, 18, 0, a, b, c, 0)
+}
+
 // A pair for each member of a set.
 fn members(output: &mut [u8], place: usize, kind: u64, a: u64, m: Set) -> usize
     requires { ⌜ (place + 64 < far) × ((kind < 256) × (a < 65536)) ⌝ }
@@ -176,6 +187,7 @@ fn height(p: &[u64], kind: u64) -> usize
         15 => policy::pair_count(p, 0),
         16 => policy::pair_count(p, 1),
         17 => 64,
+        18 => policy::wall_count(p),
         _ => 0,
     }
 }
@@ -214,6 +226,7 @@ fn line(output: &mut [u8], place: usize, p: &[u64], kind: u64, a: usize) -> usiz
         15 => pair(output, place, p, 0, a),
         16 => pair(output, place, p, 1, a),
         17 => members(output, place, 17, i, policy::juniors(p, a)),
+        18 => walled(output, place, p, a),
         _ => place,
     }
 }
@@ -242,7 +255,7 @@ fn all(output: &mut [u8], p: &[u64]) -> usize
 {
     let mut at = 0;
     let mut kind = 0;
-    while kind < 18 {
+    while kind < 19 {
         at = lines(output, at, p, kind);
         kind += 1;
     }

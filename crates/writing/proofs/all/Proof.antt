@@ -13,10 +13,10 @@ use Rattle.writing.proofs.all.Statement.{statement}
 use Rattle.writing.proofs.all.Tie as tie
 
 abbrev Inv-loop : tie.InvT-loop
-Inv-loop output₀ p at₀ kind₀ output at kind = (kind ≤ 18) × ((length output ≡ length output₀) × Laid (inTurn kind (kindIn p)) (262144 * kind) output₀ output 0 at)
+Inv-loop output₀ p at₀ kind₀ output at kind = (kind ≤ 19) × ((length output ≡ length output₀) × Laid (inTurn kind (kindIn p)) (262144 * kind) output₀ output 0 at)
 
 abbrev μ-loop : tie.MeasureT-loop
-μ-loop output₀ p at₀ kind₀ output at kind = 18 - kind
+μ-loop output₀ p at₀ kind₀ output at kind = 19 - kind
 
 loop-holds : tie.Need-loop-holds Inv-loop μ-loop
 loop-holds c = (omega arith, (refl, begins _ _ _))
@@ -37,7 +37,7 @@ same-length : tie.Need-same-length Inv-loop μ-loop
 same-length c = search needs
 
 returns : tie.Need-returns Inv-loop μ-loop
-returns c = let e : c .before .loop .kind ≡ 18 = omega arith in as-row far (rw e at (c .before .loop .inv .1 .1)) (all-lines (c .before .before .before .before .args .p .now)) (omega arith)
+returns c = let e : c .before .loop .kind ≡ 19 = omega arith in as-row far (rw e at (c .before .loop .inv .1 .1)) (all-lines (c .before .before .before .before .args .p .now)) (omega arith)
 
 pub all-spec : {M : Type 1} → statement M
 all-spec =

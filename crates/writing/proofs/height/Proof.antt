@@ -26,6 +26,9 @@ pair-count-requires c κs = search needs
 pair-count-requires-2 : tie.Need-pair-count-requires-2
 pair-count-requires-2 c κs = search needs
 
+wall-count-requires : tie.Need-wall-count-requires
+wall-count-requires c κs = search needs
+
 returns : tie.Need-returns
 unfolding lineOf linesIn
 returns c = rw (c .match .keys1) (refl, omega arith)
@@ -95,7 +98,11 @@ unfolding lineOf linesIn
 returns-17 c = rw (c .match .keys17) (refl, omega arith)
 
 returns-18 : tie.Need-returns-18
-returns-18 c = (sym (ap (λ (x : Line). x .height) (other-kind (now (c .before .before .args .p)) (c .before .before .args .kind) (c .match .rest))), omega arith)
+unfolding lineOf linesIn
+returns-18 c = rw (c .before .match .keys18) (c .wall-count .ensures .0, omega arith)
+
+returns-19 : tie.Need-returns-19
+returns-19 c = (sym (ap (λ (x : Line). x .height) (other-kind (now (c .before .before .args .p)) (c .before .before .args .kind) (c .match .rest))), omega arith)
 
 pub height-spec : {M : Type 1} → statement M
 height-spec =
@@ -107,6 +114,7 @@ height-spec =
     block-count-requires
     pair-count-requires
     pair-count-requires-2
+    wall-count-requires
     returns
     returns-2
     returns-3
@@ -124,4 +132,5 @@ height-spec =
     returns-15
     returns-16
     returns-17
-    returns-18)
+    returns-18
+    returns-19)

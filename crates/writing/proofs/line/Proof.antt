@@ -2,7 +2,7 @@
 use native.Mathlib.Omega.{arith}
 use denote.Ref.{now}
 use mathlib.Core.Path.{refl, sym, ap}
-use Rattle.policy.specs.Layout.{limitCount, blockCount, pairCount}
+use Rattle.policy.specs.Layout.{limitCount, blockCount, pairCount, wallCount}
 use Rattle.writing.specs.Lines.{Line, spread, linesIn, lineOf, sideIn}
 use Rattle.writing.proofs.Laws.{nothing, as-row}
 use Rattle.writing.proofs.LineLaws.{below, other-kind}
@@ -104,6 +104,10 @@ juniors-requires c κs = (c .before .before .before .before .pre .1 .0, below (n
 members-requires-3 : tie.Need-members-requires-3
 unfolding lineOf linesIn limitCount blockCount pairCount
 members-requires-3 c κs = (omega arith, (omega arith, omega (arith, below (now (c .before .before .before .before .before .args .p)) 17 64 (c .before .before .before .before .before .pre .1 .1) (c .before .before .match .keys17) (omega arith))))
+
+walled-requires : tie.Need-walled-requires
+unfolding lineOf linesIn wallCount
+walled-requires c κs = (omega arith, (c .before .before .before .before .pre .1 .0, below (now (c .before .before .before .before .args .p)) 18 256 (c .before .before .before .before .pre .1 .1) (c .before .match .keys18) (omega arith)))
 
 same-length : tie.Need-same-length
 same-length c = search needs
@@ -224,8 +228,15 @@ returns-17 : tie.Need-returns-17
 unfolding lineOf linesIn
 returns-17 c = rw (c .before .before .before .before .before .match .keys17) (as-row 256 (c .before .before .members3 .ensures) (ap (spread 17 (c .before .before .before .before .before .before .before .before .args .a)) (c .before .before .before .juniors .ensures)) (omega arith))
 
+same-length-18 : tie.Need-same-length-18
+same-length-18 c = search needs
+
 returns-18 : tie.Need-returns-18
-returns-18 c = as-row 256 (nothing (c .before .before .before .args .output .now) (c .before .before .before .args .place)) (sym (ap (λ (x : Line). x .cells (c .before .before .before .args .a)) (other-kind (now (c .before .before .before .args .p)) (c .before .before .before .args .kind) (c .match .rest)))) (omega arith)
+unfolding lineOf linesIn
+returns-18 c = rw (c .before .before .before .before .match .keys18) (as-row 256 (c .before .before .walled .ensures) (refl) (omega arith))
+
+returns-19 : tie.Need-returns-19
+returns-19 c = as-row 256 (nothing (c .before .before .before .args .output .now) (c .before .before .before .args .place)) (sym (ap (λ (x : Line). x .cells (c .before .before .before .args .a)) (other-kind (now (c .before .before .before .args .p)) (c .before .before .before .args .kind) (c .match .rest)))) (omega arith)
 
 pub line-spec : {M : Type 1} → statement M
 line-spec =
@@ -255,6 +266,7 @@ line-spec =
     pair-requires-2
     juniors-requires
     members-requires-3
+    walled-requires
     same-length
     returns
     same-length-2
@@ -289,4 +301,6 @@ line-spec =
     returns-16
     same-length-17
     returns-17
-    returns-18)
+    same-length-18
+    returns-18
+    returns-19)
