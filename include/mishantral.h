@@ -34,8 +34,8 @@ extern "C" {
 
 /* How many 64-bit words each buffer has, where a constant is wanted: uint64_t policy[MISHANTRAL_POLICY_WORDS]. The
  * library that is linked tells its own by mishantral_words; with another length than that it answers ROOM. */
-#define MISHANTRAL_POLICY_WORDS 4632
-#define MISHANTRAL_SESSIONS_WORDS 384
+#define MISHANTRAL_POLICY_WORDS 5145
+#define MISHANTRAL_SESSIONS_WORDS 2432
 #define MISHANTRAL_ORDERS_WORDS 2244
 #define MISHANTRAL_OPL_WORDS 659639
 
@@ -49,10 +49,13 @@ extern "C" {
 #define MISHANTRAL_LAST_TASK 63
 #define MISHANTRAL_LAST_TEMPLATE 15
 #define MISHANTRAL_LAST_PARTITIONING 15
+#define MISHANTRAL_LAST_WALL 15
+#define MISHANTRAL_LAST_BLOCK 15
 #define MISHANTRAL_LAST_SUBJECT 127
 #define MISHANTRAL_LAST_ORDER 63
 
-/* How many there may be: rules of a policy, entries of all orders together, bytes of a record, records of a pile. */
+/* How many there may be: rules of a policy, entries of all orders together, bytes of a record, records of a pile, records that
+ * mishantral_write writes of any state. */
 #define MISHANTRAL_MOST_STATIC_SETS 32
 #define MISHANTRAL_MOST_DYNAMIC_SETS 32
 #define MISHANTRAL_MOST_TASK_SETS 32
@@ -60,14 +63,16 @@ extern "C" {
 #define MISHANTRAL_MOST_BINDINGS 64
 #define MISHANTRAL_MOST_PREREQUISITES 64
 #define MISHANTRAL_MOST_SENIORITIES 64
+#define MISHANTRAL_MOST_WALLED 256
 #define MISHANTRAL_MOST_ENTRIES 2048
 #define MISHANTRAL_RECORD_BYTES 16
 #define MISHANTRAL_MOST_PILED 4096
+#define MISHANTRAL_MOST_WRITTEN 108272
 
 /* The three buffers, the answer to a question, and the scratch of mishantral_opl. */
 enum mishantral_group {
     MISHANTRAL_POLICY = 0,   /* users, roles, permissions, tasks, rules */
-    MISHANTRAL_SESSIONS = 1, /* subjects and their active roles */
+    MISHANTRAL_SESSIONS = 1, /* subjects and their active roles; the blocks that users are bound to */
     MISHANTRAL_ORDERS = 2,   /* open orders and their entries */
     MISHANTRAL_ANSWER = 3,
     MISHANTRAL_OPL_SCRATCH = 4
@@ -151,6 +156,43 @@ uint64_t mishantral_question(const uint8_t *record, size_t length,
                              const uint64_t *sessions, size_t sessions_words,
                              const uint64_t *orders, size_t orders_words);
 
+/* Writes the policy out as it is now, after all requests since the load, as records of sixteen bytes to the front of `output`, for
+ * mishantral_load to take: kinds rising, within kinds 1 to 8, 13, 14 and 17 rising by a and then b, the rules of the other kinds in the order of
+ * the policy. Loading them is accepted and gives the same policy, without sessions and orders; the same policy always gives the same bytes.
+ *
+ * The answer is the reply + 256 times the number of records. It is ROOM, with number 0, and nothing is written, where a state buffer has not
+ * its fixed length or the records do not fit the output; 16 times MISHANTRAL_MOST_WRITTEN bytes are always enough. Bytes behind the last record
+ * stay. The state is read, whatever it holds, and not changed.
+ *
+ * `output` points to `output_length` bytes that may be read and written, and overlaps none of the others. */
+uint64_t mishantral_write(uint8_t *output, size_t output_length,
+                          const uint64_t *policy, size_t policy_words,
+                          const uint64_t *sessions, size_t sessions_words,
+                          const uint64_t *orders, size_t orders_words);
+
+/* An entry of a report: a record that was dropped, by its place in the file, counted from 1, and the reply that refuses it. */
+struct mishantral_dropped {
+    uint64_t place;
+    uint64_t reply;
+};
+
+/* Mends a damaged policy file: `length` bytes, sixteen a record. Each record that a load would accept after those kept before it is kept, and the
+ * rest is dropped. The kept ones are written to the front of `output`, and for each dropped one an entry to `report`, both in the order of
+ * the file; an incomplete last record is dropped with SHAPE. What is written always loads; a file that loads comes out the same, with nothing
+ * dropped. The state may hold anything before, and holds the kept policy afterwards, without sessions and orders.
+ *
+ * The answer is the reply + 256 times the number of records kept; mishantral_dropped_of tells how many entries the report has. It is ROOM, with
+ * number 0, and nothing is written, where a state buffer has not its fixed length, the output is shorter than the file, or the report has fewer
+ * entries than length / 16 + 1. Bytes and entries behind the last one written stay.
+ *
+ * `output` points to `output_length` bytes and `report` to `report_entries` entries that may be read and written; none of them overlaps another. */
+uint64_t mishantral_mend(const uint8_t *bytes, size_t length,
+                         uint8_t *output, size_t output_length,
+                         struct mishantral_dropped *report, size_t report_entries,
+                         uint64_t *policy, size_t policy_words,
+                         uint64_t *sessions, size_t sessions_words,
+                         uint64_t *orders, size_t orders_words);
+
 /* Reads a dealer's OPL/XML with its task lines, and writes the policy's records, sixteen bytes each, to the front of `output`,
  * for mishantral_load to take. A task line is a task's name, one space and its template's name.
  *
@@ -171,7 +213,7 @@ uint64_t mishantral_opl(const uint8_t *policy_text, size_t policy_bytes,
                         uint64_t *scratch, size_t scratch_words);
 
 /* The lower part alone, for dealers: policy, roles and sessions, without orders. It is a library of its own,
- * libmishantral_lower.a, with these three functions and two buffers, of MISHANTRAL_POLICY_WORDS and
+ * libmishantral_lower.a, with these four functions and two buffers, of MISHANTRAL_POLICY_WORDS and
  * MISHANTRAL_SESSIONS_WORDS words. They answer as those above do; kinds 48 to 52, 57, 58 and 60 are no kinds
  * of the lower part, and are answered with SHAPE. */
 uint64_t mishantral_lower_words(uint64_t group);
@@ -184,8 +226,12 @@ uint64_t mishantral_lower_request(const uint8_t *record, size_t length,
                                   uint64_t *policy, size_t policy_words,
                                   uint64_t *sessions, size_t sessions_words);
 
-/* Replies (docs/RULES.md, "The replies"). Checks run in the order of these numbers, LOOP behind RULE, and the
- * first that applies is given. */
+uint64_t mishantral_lower_write(uint8_t *output, size_t output_length,
+                                const uint64_t *policy, size_t policy_words,
+                                const uint64_t *sessions, size_t sessions_words);
+
+/* Replies (docs/RULES.md, "The replies"). Checks run in the order of these numbers, LOOP behind RULE and WALL
+ * behind DENIED, and the first that applies is given. */
 enum mishantral_reply {
     MISHANTRAL_GRANTED = 0,      /* accepted, or granted */
     MISHANTRAL_ROOM = 1,         /* a lent buffer has not its fixed length, or an output is too short; nothing is written */
@@ -210,7 +256,8 @@ enum mishantral_reply {
     MISHANTRAL_FULL = 20,        /* no ledger entry is free, or the rule limit of that kind is reached */
     MISHANTRAL_TEXT = 21,        /* mishantral_opl: a text is not in its grammar */
     MISHANTRAL_NAMES = 22,       /* mishantral_opl: a name is too long, declared nowhere or above a limit */
-    MISHANTRAL_LOOP = 23         /* the role that is to stand below stands above already */
+    MISHANTRAL_LOOP = 23,        /* the role that is to stand below stands above already */
+    MISHANTRAL_WALL = 24         /* the user is bound in some wall to another block than the object's */
 };
 
 /* Kinds of record (docs/RULES.md, "Numbers"). A field that is not listed is zero; bit i of m stands for role or
@@ -234,6 +281,7 @@ enum mishantral_kind {
     MISHANTRAL_BOUND_TO = 15,           /* task a bound to task b */
     MISHANTRAL_BEFORE_TASK = 16,        /* task a before task b */
     MISHANTRAL_ROLE_ABOVE = 17,         /* role a stands above role b, and counts with it and all below it */
+    MISHANTRAL_WALLED = 18,             /* wall a (to 15), block b (to 15), object c */
     /* Requests. */
     MISHANTRAL_ADD_USER = 32,        /* add user a with roles m, all of it or nothing */
     MISHANTRAL_DELETE_USER = 33,
@@ -253,6 +301,7 @@ enum mishantral_kind {
     MISHANTRAL_CHECK = 56,           /* subject a, operation b, object c */
     MISHANTRAL_TASK_CHECK = 57,      /* subject a, order b, task c, m = operation + 65,536 x object */
     MISHANTRAL_ENTRIES_OF = 58,      /* order a: how many entries, which tasks done; see mishantral_question */
+    MISHANTRAL_COMMIT = 59,          /* as 56; where granted, the user is bound to the object's block in every wall that has it */
     MISHANTRAL_STUCK_TASKS = 60      /* template a: which tasks can never be claimed because of prerequisites; likewise */
 };
 
@@ -261,6 +310,17 @@ static inline unsigned mishantral_reply_of(uint64_t answer) { return (unsigned)(
 
 /* The place of an answer: of a load, that of the refused record; of a request, that of the rule that it is about; from 1, or 0. */
 static inline uint64_t mishantral_place_of(uint64_t answer) { return answer / 256; }
+
+/* The number of an answer of mishantral_write or mishantral_mend: of records that were written. */
+static inline uint64_t mishantral_written_of(uint64_t answer) { return answer / 256; }
+
+/* How many entries mishantral_mend has written to the report, by its answer and the length of the file: the records that were not kept. */
+static inline uint64_t mishantral_dropped_of(uint64_t answer, size_t length)
+{
+    if (mishantral_reply_of(answer) != MISHANTRAL_GRANTED)
+        return 0;
+    return length / 16 + (length % 16 != 0) - mishantral_written_of(answer);
+}
 
 /* The policy kind of the rules among which the place of a request's answer counts; 0 where the reply says no place. */
 static inline unsigned mishantral_rule_kind(unsigned reply)
@@ -306,6 +366,7 @@ static inline const char *mishantral_reply_name(unsigned reply)
     case MISHANTRAL_TEXT: return "TEXT";
     case MISHANTRAL_NAMES: return "NAMES";
     case MISHANTRAL_LOOP: return "LOOP";
+    case MISHANTRAL_WALL: return "WALL";
     default: return "?";
     }
 }

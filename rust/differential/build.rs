@@ -6,6 +6,9 @@ fn main() {
         ("DEP_MISHANTRAL_ENGINE", "mishantral_engine"),
         ("DEP_MISHANTRAL_LOWER", "mishantral_lower"),
         ("DEP_MISHANTRAL_PILE", "mishantral_pile"),
+        ("DEP_MISHANTRAL_WRITE", "mishantral_write"),
+        ("DEP_MISHANTRAL_LOWER_WRITE", "mishantral_lower_write"),
+        ("DEP_MISHANTRAL_MEND", "mishantral_mend"),
         (
             "DEP_MISHANTRAL_SETTLED_REQUEST",
             "mishantral_settled_request",

@@ -14,6 +14,8 @@ struct Archive {
     key: &'static str,
     made_by: &'static str,
     item: &'static str,
+    /// Functions that an archive made earlier has not: `mishantral_opl` and so on.
+    later: &'static [&'static str],
 }
 
 const ARCHIVES: [Archive; 2] = [
@@ -24,6 +26,7 @@ const ARCHIVES: [Archive; 2] = [
         key: "engine",
         made_by: "tools/archive",
         item: "mishantral::Engine",
+        later: &["opl", "pile", "settled_request", "write", "mend"],
     },
     Archive {
         variable: "MISHANTRAL_LOWER_ARCHIVE",
@@ -32,6 +35,7 @@ const ARCHIVES: [Archive; 2] = [
         key: "lower",
         made_by: "tools/archive lower",
         item: "mishantral::lower::Engine",
+        later: &["lower_write"],
     },
 ];
 
@@ -46,16 +50,13 @@ fn link(archive: &Archive, found: &Path) {
     println!("cargo:rustc-cfg={}", archive.cfg);
     // What the build scripts of crates above read as DEP_MISHANTRAL_ENGINE, DEP_MISHANTRAL_LOWER, DEP_MISHANTRAL_OPL and so on.
     println!("cargo:{}=linked", archive.key);
-    for later in LATER.iter().filter(|_| archive.key == "engine") {
+    for later in archive.later {
         if has(found, format!("mishantral_{later}\0").as_bytes()) {
             println!("cargo:rustc-cfg=mishantral_{later}");
             println!("cargo:{later}=linked");
         }
     }
 }
-
-/// Functions of the whole engine's archive that one made earlier has not: `mishantral_opl` and so on.
-const LATER: [&str; 3] = ["opl", "pile", "settled_request"];
 
 /// Whether an archive has a name in it: one that was made before there was a function has it not.
 fn has(archive: &Path, name: &[u8]) -> bool {
@@ -80,7 +81,7 @@ fn linked(root: &Path, archive: &Archive) -> bool {
 }
 
 fn main() {
-    for later in LATER {
+    for later in ARCHIVES.iter().flat_map(|archive| archive.later) {
         println!("cargo:rustc-check-cfg=cfg(mishantral_{later})");
     }
     let root = Path::new(env!("CARGO_MANIFEST_DIR")).join("../..");

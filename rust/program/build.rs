@@ -1,8 +1,7 @@
 //! The program is nothing without the proved library: where its archive is missing, the build ends with how to make it.
-//! Whether that archive has the reader of OPL/XML, the crate `mishantral` says.
+//! Whether that archive has the reader of OPL/XML, and the calls that write a policy out and mend a file, the crate `mishantral` says.
 
 fn main() {
-    println!("cargo:rustc-check-cfg=cfg(mishantral_opl)");
     println!("cargo:rerun-if-changed=build.rs");
     if std::env::var_os("DEP_MISHANTRAL_ENGINE").is_none() {
         eprintln!(
@@ -10,7 +9,14 @@ fn main() {
         );
         std::process::exit(1);
     }
-    if std::env::var_os("DEP_MISHANTRAL_OPL").is_some() {
-        println!("cargo:rustc-cfg=mishantral_opl");
+    for (told, cfg) in [
+        ("DEP_MISHANTRAL_OPL", "mishantral_opl"),
+        ("DEP_MISHANTRAL_WRITE", "mishantral_write"),
+        ("DEP_MISHANTRAL_MEND", "mishantral_mend"),
+    ] {
+        println!("cargo:rustc-check-cfg=cfg({cfg})");
+        if std::env::var_os(told).is_some() {
+            println!("cargo:rustc-cfg={cfg}");
+        }
     }
 }

@@ -1,4 +1,5 @@
-// The sessions buffer: each subject's user, active roles and all roles that it has had active, and what a user has over all subjects.
+// The sessions buffer: each subject's user, active roles and all roles that it has had active, and what a user has over all subjects; and of each user the
+// blocks that the user is bound to.
 ghost use mathlib.Core.Path.{_≡_};
 ghost use mathlib.Core.Bool.{cond};
 ghost use Prim.Native.Nat.{_<_};
@@ -7,18 +8,25 @@ ghost use Rattle.paper_lower.specs.Sets.{empty};
 ghost use Rattle.paper_lower.specs.Lists.{someBelow};
 ghost use Rattle.paper_lower.specs.Roles.{subjectOf, activeOf, countedOf};
 ghost use Rattle.paper_lower.specs.Sessions.{createNext, destroyNext};
-ghost use Rattle.sessions.specs.Reading.{sessionsWords, sessionsOf, rolesAnew, Cleared};
+ghost use Rattle.blocks.specs.Reading.{blocksOf};
+ghost use Rattle.sessions.specs.Reading.{sessionsWords, sessionsOf, rolesAnew, boundAnew, Cleared};
+use blocks::Blocks;
 use sets::Set;
 
 // The length of the buffer in words. Its subjects have a word each from the start on: live, and the user. Their active roles stand from
-// ACTIVE on, the roles that they have had active from HAD on.
-pub const SESSIONS_WORDS: usize = 384;
+// ACTIVE on, the roles that they have had active from HAD on. Its users have a word each from WALLS on, the walls in which the user is bound, and one from
+// BLOCKS on, to which blocks.
+pub const SESSIONS_WORDS: usize = 2432;
 
 const SUBJECTS: usize = 128;
 
 const ACTIVE: usize = 128;
 
 const HAD: usize = 256;
+
+const WALLS: usize = 384;
+
+const BLOCKS: usize = 1408;
 
 pub fn live(s: &[u64], a: usize) -> bool
     requires { ⌜ (length (now s) ≡ sessionsWords) × (a < 128) ⌝ }
@@ -85,6 +93,24 @@ pub fn set_roles(s: &mut [u64], a: usize, active: Set, had: Set)
 {
     s[ACTIVE + a] = active.bits;
     s[HAD + a] = had.bits;
+}
+
+pub fn bound_to(s: &[u64], u: usize) -> Blocks
+    requires { ⌜ (length (now s) ≡ sessionsWords) × (u < 1024) ⌝ }
+    ensures { λ r. ⌜ blocksOf r ≡ sessionsOf (now (s .entry)) .boundTo u ⌝ }
+{
+    Blocks {
+        walls: s[WALLS + u],
+        blocks: s[BLOCKS + u],
+    }
+}
+
+pub fn set_bound_to(s: &mut [u64], u: usize, to: Blocks)
+    requires { ⌜ (length (now s) ≡ sessionsWords) × (u < 1024) ⌝ }
+    ensures { λ _. ⌜ sessionsOf (now (s .exit)) ≡ boundAnew (sessionsOf (now (s .entry))) u (blocksOf to) ⌝ }
+{
+    s[WALLS + u] = to.walls;
+    s[BLOCKS + u] = to.blocks;
 }
 
 // Whether user u has a live subject. It asks all of them, side by side.

@@ -1,6 +1,7 @@
 //! Random cases: loads and requests in several styles, all from one seed.
 
 use crate::candidates::{damaged, other_length};
+use crate::damage::spoilt;
 use crate::pools::Pools;
 use plain::{Engine, OrderLists};
 use random::Random;
@@ -17,6 +18,44 @@ pub enum Step {
     Pile(Pile),
     /// A question for its figures.
     Question(Question),
+    /// The policy written out, with so many bytes to spare behind the last record; below 0, so many are lacking.
+    Write(i64),
+    /// A damaged file mended.
+    Mend(Mend),
+}
+
+/// A file to mend, and the room for what becomes of it.
+#[derive(Clone, PartialEq, Debug)]
+pub struct Mend {
+    /// The file.
+    pub file: Vec<u8>,
+    /// What was done to it.
+    pub damage: &'static str,
+    /// How many bytes longer than the file the output is, or shorter.
+    pub spare: i64,
+    /// How many entries the report has beyond those that it must have, or below.
+    pub entries: i64,
+}
+
+impl Mend {
+    /// The output beforehand.
+    pub fn output(&self) -> Vec<u8> {
+        junk(self.file.len() as i64 + self.spare)
+    }
+
+    /// The report beforehand.
+    pub fn report(&self) -> Vec<(u64, u64)> {
+        let entries = (self.file.len() / LENGTH) as i64 + 1 + self.entries;
+        (0..entries.max(0) as u64)
+            .map(|k| (!k, k << 32 | 7))
+            .collect()
+    }
+}
+
+/// So many bytes that stand for what was there before.
+pub fn junk(length: i64) -> Vec<u8> {
+    let byte = |k: i64| (k * 37 + 11) as u8 | 0x40;
+    (0..length.max(0)).map(byte).collect()
 }
 
 /// A question: its bytes, and what the answer holds beforehand.
@@ -299,6 +338,55 @@ fn claims(random: &mut Random) -> Case {
     Case { steps, pools }
 }
 
+/// A desk where everyone may see everything, but for walls: checks and commits, and people who come and go.
+fn walls(random: &mut Random) -> Case {
+    let pools = Pools::for_walls(random);
+    let (role, operation) = (pools.roles[0], pools.operations[0]);
+    let mut attempts: Vec<Record> = vec![Record::role(role)];
+    for &user in &pools.users {
+        attempts.extend([Record::user(user), Record::user_has_role(user, role)]);
+    }
+    for (&permission, &object) in pools.permissions.iter().zip(&pools.objects) {
+        attempts.push(Record::permission(permission, operation, object));
+        attempts.push(Record::role_has_permission(role, permission));
+    }
+    let count = random.pick(&[2, 6, 12, 600]);
+    attempts.extend((0..count).map(|_| pools.wall(random)));
+    let mut policy = Policy::of(attempts);
+    let mut steps = policy.bad_loads(random, 3);
+    steps.push(policy.load());
+    let mut ask = |record: Record| steps.push(Step::Request(record.0.to_vec()));
+    let roles = Set::EMPTY.with(role as u8);
+    for _ in 0..6 {
+        for &subject in &pools.subjects {
+            let user = random.pick(&pools.users);
+            ask(Record::create_subject(subject, user, roles));
+        }
+        for _ in 0..random.pick(&[10, 40]) {
+            let (subject, object) = (random.pick(&pools.subjects), random.pick(&pools.objects));
+            ask(match random.below(16) {
+                0 => pools.session(random),
+                1 => Record::give_permission(role, random.pick(&pools.permissions)),
+                2 => Record::take_permission(role, random.pick(&pools.permissions)),
+                3..=9 => Record::check(subject, operation, object),
+                _ => Record::commit(subject, operation, object),
+            });
+        }
+        for &subject in &pools.subjects {
+            if random.chance(1, 2) {
+                ask(Record::destroy_subject(subject));
+            }
+        }
+        for &user in &pools.users {
+            if random.chance(1, 2) {
+                ask(Record::delete_user(user));
+                ask(Record::add_user_with(user, roles));
+            }
+        }
+    }
+    Case { steps, pools }
+}
+
 /// A ledger filled to its last entry by a task that no rule is about, and requests around it.
 fn filled(random: &mut Random) -> Case {
     let mut pools = Pools::few(random);
@@ -416,8 +504,52 @@ fn asked(random: &mut Random, pools: &Pools, steps: Vec<Step>) -> Vec<Step> {
     all
 }
 
+/// How much room there is beyond what is needed, mostly enough.
+fn spare(random: &mut Random) -> i64 {
+    random.pick(&[0, 0, 0, 0, 1, 16, 40, -1])
+}
+
+/// The file, spoilt in some way or not at all, to be mended.
+fn mend(random: &mut Random, mut file: Vec<u8>) -> Mend {
+    let damage = spoilt(random, &mut file);
+    Mend {
+        file,
+        damage,
+        spare: spare(random),
+        entries: spare(random),
+    }
+}
+
+/// The steps with files mended before loads or in their place, from the bytes of those loads.
+fn mended(random: &mut Random, steps: Vec<Step>) -> Vec<Step> {
+    let mut all = Vec::new();
+    for step in steps {
+        let Step::Load(policy) = &step else {
+            all.push(step);
+            continue;
+        };
+        let mending = Step::Mend(mend(random, policy.clone()));
+        match random.below(6) {
+            0 | 1 => all.push(step),
+            2 => all.push(mending),
+            _ => all.extend([mending, step]),
+        }
+    }
+    all
+}
+
+/// The steps with the policy written out after some of them.
+fn written(random: &mut Random, mut steps: Vec<Step>) -> Vec<Step> {
+    for _ in 0..1 + random.below(4) {
+        let at = random.below(steps.len() + 1);
+        steps.insert(at, Step::Write(spare(random)));
+    }
+    steps
+}
+
 impl Case {
-    /// The case with this number, of this seed; one in two has questions, one in four has piles.
+    /// The case with this number, of this seed; one in two has questions, one in four has piles, one in three mends files, and one in two writes
+    /// the policy out on its way.
     pub fn random(seed: u64, number: u64) -> Case {
         let mut random = Random::new(seed ^ number.wrapping_mul(0xd134_2543_de82_ef95));
         let mut case = Case::of_requests(&mut random, number);
@@ -426,6 +558,12 @@ impl Case {
         }
         if random.chance(1, 4) {
             case.steps = piled(&mut random, case.steps);
+        }
+        if random.chance(1, 3) {
+            case.steps = mended(&mut random, case.steps);
+        }
+        if random.chance(1, 2) {
+            case.steps = written(&mut random, case.steps);
         }
         case
     }
@@ -440,10 +578,11 @@ impl Case {
                 day(random, pools, 60, 1000)
             }
             27 => noise(random),
+            n if n % 8 == 6 => walls(random),
             n if n % 8 == 5 => claims(random),
             n if n % 8 == 3 => {
                 let pools = Pools::for_rules(random);
-                day(random, pools, 1500, count)
+                day(random, pools, 1600, count)
             }
             _ => {
                 let pools = Pools::few(random);

@@ -1,8 +1,8 @@
 //! One case on all engines: the first difference, and the smallest case that still shows one.
 
-use crate::cases::{Case, Step};
+use crate::cases::{junk, Case, Mend, Step};
 use crate::coverage::Coverage;
-use crate::desks::{Difference, Panel};
+use crate::desks::{Answer, Difference, Panel};
 use crate::walk::{count_free, walk};
 use records::{Reply, LENGTH};
 use std::cell::Cell;
@@ -26,6 +26,8 @@ fn count(coverage: &mut Coverage, step: &Step, (reply, place): (u8, usize)) {
         // Its records are counted where it is taken.
         Step::Pile(_) => coverage.add_pile(reply),
         Step::Question(question) => coverage.add_question(question.record.first().copied(), reply),
+        // They are counted where they are taken.
+        Step::Write(_) | Step::Mend(_) => {}
         Step::Load(policy) => {
             let last = place
                 .checked_sub(1)
@@ -38,6 +40,94 @@ fn count(coverage: &mut Coverage, step: &Step, (reply, place): (u8, usize)) {
             }
         }
     }
+}
+
+/// That something is not as it should be, told as a difference.
+fn unlike(what: &'static str, found: String) -> Result<(), Difference> {
+    Err(Difference(vec![(what, found)]))
+}
+
+/// All that the policy is written as, with so many bytes to spare; the output is as long as that makes it.
+fn written(panel: &Panel, spare: i64) -> Result<(Answer, Vec<u8>), Difference> {
+    let mut room = 1 << 14;
+    let needed = loop {
+        match panel.write(&junk(room))? {
+            (0, records, _) => break (records * LENGTH) as i64,
+            _ => room *= 8,
+        }
+    };
+    let (reply, records, output) = panel.write(&junk(needed + spare))?;
+    let fits = spare >= 0 || needed + spare < 0 && needed == 0;
+    let front = if fits { needed as usize } else { 0 };
+    if fits != (reply == 0) || output[front..] != junk(needed + spare)[front..] {
+        unlike(
+            "written",
+            format!("{reply} with {spare} bytes to spare, {output:?}"),
+        )?;
+    }
+    Ok(((reply, records), output))
+}
+
+/// Has all engines write the policy out, and load what they wrote: that is accepted, and is written the same.
+fn write(panel: &Panel, spare: i64, coverage: &mut Coverage) -> Result<Answer, Difference> {
+    let (answer, output) = written(panel, spare)?;
+    coverage.add_write(answer.0);
+    let policy = &output[..answer.1 * LENGTH];
+    if answer.0 == 0 {
+        coverage.add_rows(policy);
+        loads_to(panel, policy, policy)?;
+    }
+    Ok((answer.0, 0))
+}
+
+/// On copies: these bytes are accepted, and then the policy is written as those.
+fn loads_to(panel: &Panel, bytes: &[u8], policy: &[u8]) -> Result<(), Difference> {
+    let mut copy = panel.copy();
+    match copy.load(bytes)? {
+        (0, 0) => {}
+        refused => unlike("written", format!("its load is refused: {refused:?}"))?,
+    }
+    let (_, again) = written(&copy, 0)?;
+    if again != policy {
+        unlike("loaded", notation::write(&again))?;
+    }
+    Ok(())
+}
+
+/// Has all engines mend a file. What they keep loads to what they hold; a file that loads comes out the same, and no other does; nothing
+/// behind what is written is touched.
+fn mend(panel: &mut Panel, mend: &Mend, coverage: &mut Coverage) -> Result<Answer, Difference> {
+    let loads = panel.copy().load(&mend.file)? == (0, 0);
+    let no_room = mend.spare.min(mend.entries) < 0;
+    let before = if no_room {
+        written(panel, 0)?.1
+    } else {
+        Vec::new()
+    };
+    let (reply, kept, output, report) = panel.mend(mend)?;
+    let dropped = mend.file.len().div_ceil(LENGTH) - kept;
+    let told = if reply == 0 { dropped } else { 0 };
+    coverage.add_mend(reply, mend, kept, &report[..told]);
+    let bytes = kept * LENGTH;
+    let stayed =
+        output[bytes..] == mend.output()[bytes..] && report[told..] == mend.report()[told..];
+    let now = written(panel, 0)?.1;
+    if !stayed || no_room != (reply != 0) || no_room && (kept != 0 || now != before) {
+        unlike(
+            "mended",
+            format!("{reply}, {kept} kept: more is written than that"),
+        )?;
+    }
+    if reply == 0 {
+        loads_to(panel, &output[..bytes], &now)?;
+        if loads != (dropped == 0) || loads && output[..bytes] != mend.file {
+            unlike(
+                "mended",
+                format!("{dropped} dropped, and that it loads is {loads}"),
+            )?;
+        }
+    }
+    Ok((reply, 0))
 }
 
 /// Takes the steps one after the other, up to the first that is answered differently.
@@ -60,6 +150,8 @@ fn take(panel: &mut Panel, steps: &[Step], coverage: &mut Coverage) -> Result<()
                 }
                 (reply, 0)
             }),
+            Step::Write(spare) => write(panel, *spare, coverage),
+            Step::Mend(file) => mend(panel, file, coverage),
         };
         let answer = answer.map_err(|difference| Failure {
             steps: steps[..=before].to_vec(),
@@ -72,6 +164,12 @@ fn take(panel: &mut Panel, steps: &[Step], coverage: &mut Coverage) -> Result<()
 
 /// The walk after the steps. What it asks on a copy is as good as asked of the engines themselves.
 fn after(panel: &Panel, case: &Case, fill: bool) -> Result<(), Failure> {
+    let written = Step::Write(0);
+    let all_written = write(panel, 0, &mut Coverage::default());
+    all_written.map_err(|difference| Failure {
+        steps: case.steps.iter().cloned().chain([written]).collect(),
+        difference,
+    })?;
     let mut walked = walk(panel, &case.pools);
     if walked.is_ok() && fill {
         walked = count_free(panel, &case.pools);
@@ -107,9 +205,10 @@ fn without_records(steps: Vec<Step>, fails: impl Fn(&[Step]) -> bool) -> Vec<Ste
     let mut steps = steps;
     for at in 0..steps.len() {
         let records = match &steps[at] {
-            Step::Request(_) | Step::Question(_) => continue,
+            Step::Request(_) | Step::Question(_) | Step::Write(_) => continue,
             Step::Load(policy) => policy,
             Step::Pile(pile) => &pile.records,
+            Step::Mend(mend) => &mend.file,
         };
         let records: Vec<Vec<u8>> = records.chunks(LENGTH).map(<[u8]>::to_vec).collect();
         let with = |records: &[Vec<u8>]| {
@@ -117,7 +216,8 @@ fn without_records(steps: Vec<Step>, fails: impl Fn(&[Step]) -> bool) -> Vec<Ste
             match &mut changed[at] {
                 Step::Load(bytes) => *bytes = records.concat(),
                 Step::Pile(pile) => pile.records = records.concat(),
-                Step::Request(_) | Step::Question(_) => {}
+                Step::Mend(mend) => mend.file = records.concat(),
+                Step::Request(_) | Step::Question(_) | Step::Write(_) => {}
             }
             changed
         };
@@ -154,7 +254,8 @@ fn size(steps: &[Step]) -> usize {
     let records = |step: &Step| match step {
         Step::Load(policy) => 1 + policy.len().div_ceil(LENGTH),
         Step::Pile(pile) => 1 + pile.records.len().div_ceil(LENGTH),
-        Step::Request(_) | Step::Question(_) => 1,
+        Step::Mend(mend) => 1 + mend.file.len().div_ceil(LENGTH),
+        Step::Request(_) | Step::Question(_) | Step::Write(_) => 1,
     };
     steps.iter().map(records).sum()
 }
@@ -194,6 +295,17 @@ impl Failure {
                 }
                 Step::Request(record) => {
                     let _ = writeln!(text, "{}", notation::line(record));
+                }
+                Step::Write(spare) => {
+                    let _ = writeln!(text, "write, with {spare} bytes to spare");
+                }
+                Step::Mend(mend) => {
+                    let (bytes, entries) = (mend.spare, mend.entries);
+                    let _ = writeln!(
+                        text,
+                        "mend, with {bytes} bytes and {entries} entries to spare"
+                    );
+                    within(&mut text, &mend.file);
                 }
             }
         }

@@ -1,6 +1,8 @@
 //! How often each kind was answered with each reply, and which pairs the rules allow (docs/RULES.md, "The order of checks"); and the
 //! places that a refused claim had.
 
+use crate::cases::Mend;
+use crate::damage::damages;
 use records::Reply::{self, *};
 use std::collections::{BTreeMap, BTreeSet};
 
@@ -14,7 +16,37 @@ pub struct Coverage {
     questions: BTreeMap<(Option<u8>, u8), u64>,
     /// What figures were like.
     figures: BTreeSet<&'static str>,
+    writes: BTreeMap<u8, u64>,
+    /// How many records of each kind were written.
+    rows: BTreeMap<u8, u64>,
+    mends: BTreeMap<u8, u64>,
+    /// How often each refusal was reported, and each damage was mended.
+    reported: BTreeMap<u8, u64>,
+    damages: BTreeMap<&'static str, u64>,
+    /// What came of mending.
+    mended: BTreeSet<&'static str>,
 }
+
+/// What can come of mending, and how that is seen: the file, how many records were kept, and the report.
+type Came = (&'static str, fn(&[u8], usize, &[(u64, u64)]) -> bool);
+
+const CAME: [Came; 4] = [
+    ("nothing dropped of some records", |_, kept, report| {
+        kept > 0 && report.is_empty()
+    }),
+    ("nothing kept of some records", |_, kept, report| {
+        kept == 0 && !report.is_empty()
+    }),
+    ("records kept behind a dropped one", |_, kept, report| {
+        report.iter().any(|(place, _)| (*place as usize) < kept)
+    }),
+    ("a cut record behind whole ones", |file, kept, report| {
+        kept > 0 && file.len() % 16 != 0 && report.len() == 1
+    }),
+];
+
+/// The refusals that a report can have: those of the load's step.
+const REPORTED: [Reply; 8] = [Shape, Range, Unknown, Taken, Rule, Static, Full, Loop];
 
 /// What figures are like where they tell most, and how that is seen in the words of the answer to a kind.
 type Telling = (&'static str, u8, fn(&[u64]) -> bool);
@@ -52,6 +84,7 @@ pub fn possible(kind: u8) -> Option<Vec<Reply>> {
         10..=12 | 15 | 16 => &[Unknown, Taken, Rule, Full],
         14 => &[Unknown, Taken, Rule],
         17 => &[Unknown, Taken, Rule, Loop, Static, Full],
+        18 => &[Taken, Rule, Full],
         33 | 35 | 41 | 49 => &[Unknown, InUse],
         37 | 43 | 58 | 60 => &[Unknown],
         40 | 42 => &[Unknown, Taken, NotAssigned, Dynamic],
@@ -59,7 +92,7 @@ pub fn possible(kind: u8) -> Option<Vec<Reply>> {
             Unknown, Taken, NoRole, Before, Separation, Block, Alone, Bound, Count, Full,
         ],
         51 | 52 => &[Unknown, NotYours],
-        56 => &[Unknown, Denied],
+        56 | 59 => &[Unknown, Denied, Wall],
         57 => &[Unknown, NotYours, Denied],
         _ => return None,
     };
@@ -144,6 +177,64 @@ impl Coverage {
         [Granted, Room, Shape].into_iter().filter(unseen).collect()
     }
 
+    /// Counts one reply to writing the policy out.
+    pub fn add_write(&mut self, reply: u8) {
+        *self.writes.entry(reply).or_default() += 1;
+    }
+
+    /// Counts the records that were written.
+    pub fn add_rows(&mut self, policy: &[u8]) {
+        for record in policy.chunks(16) {
+            *self.rows.entry(record[0]).or_default() += 1;
+        }
+    }
+
+    /// Counts a file that was mended.
+    pub fn add_mend(&mut self, reply: u8, mend: &Mend, kept: usize, report: &[(u64, u64)]) {
+        *self.mends.entry(reply).or_default() += 1;
+        if reply != Granted.number() {
+            return;
+        }
+        *self.damages.entry(mend.damage).or_default() += 1;
+        for (_, refusal) in report {
+            *self.reported.entry(*refusal as u8).or_default() += 1;
+        }
+        let came = CAME
+            .iter()
+            .filter(|(_, seen)| seen(&mend.file, kept, report));
+        self.mended.extend(came.map(|(name, _)| name));
+    }
+
+    /// The replies to writing and mending, the kinds written, the damages, the refusals reported and what came of it that were not seen.
+    pub fn missing_files(&self) -> Vec<String> {
+        let replies = |of: &str, seen: &BTreeMap<u8, u64>, all: &[Reply]| -> Vec<String> {
+            let unseen = all.iter().filter(|r| !seen.contains_key(&r.number()));
+            unseen.map(|r| format!("{of} {}", r.name())).collect()
+        };
+        let kinds = (1..=17).filter(|kind| !self.rows.contains_key(kind));
+        let damages = damages().filter(|name| !self.damages.contains_key(name));
+        let came = CAME.iter().filter(|(name, _)| !self.mended.contains(name));
+        [
+            replies("write", &self.writes, &[Granted, Room]),
+            kinds.map(|kind| format!("kind {kind} written")).collect(),
+            replies("mend", &self.mends, &[Granted, Room]),
+            replies("report", &self.reported, &REPORTED),
+            damages.map(String::from).collect(),
+            came.map(|(name, _)| name.to_string()).collect(),
+        ]
+        .concat()
+    }
+
+    /// The refusals that a report cannot have.
+    pub fn surprising_reports(&self) -> Vec<u8> {
+        let expected = |reply: &&u8| REPORTED.iter().any(|r| r.number() == **reply);
+        self.reported
+            .keys()
+            .filter(|r| !expected(r))
+            .copied()
+            .collect()
+    }
+
     /// Adds what was counted elsewhere.
     pub fn join(&mut self, other: &Coverage) {
         for (pair, count) in &other.seen {
@@ -159,6 +250,21 @@ impl Coverage {
             *self.questions.entry(*question).or_default() += count;
         }
         self.figures.extend(&other.figures);
+        let numbers = [
+            (&mut self.writes, &other.writes),
+            (&mut self.rows, &other.rows),
+            (&mut self.mends, &other.mends),
+            (&mut self.reported, &other.reported),
+        ];
+        for (all, more) in numbers {
+            for (number, count) in more {
+                *all.entry(*number).or_default() += count;
+            }
+        }
+        for (damage, count) in &other.damages {
+            *self.damages.entry(damage).or_default() += count;
+        }
+        self.mended.extend(&other.mended);
     }
 
     /// How often a reply came with a place from `least` on.
@@ -226,8 +332,23 @@ impl Coverage {
             format!("  {name} {count}")
         };
         let line = |of: String, replies: String| of + &replies + "\n";
-        let piles = self.piles.iter().map(named).collect();
-        let lines = lines.chain([line("piles:".to_string(), piles)]);
+        let replies = |of: &str, seen: &BTreeMap<u8, u64>| -> String {
+            line(of.to_string(), seen.iter().map(named).collect())
+        };
+        let kinds = self
+            .rows
+            .iter()
+            .map(|(kind, count)| format!("  {kind}: {count}"));
+        let damages = self.damages.iter();
+        let damages = damages.map(|(name, count)| format!("  {name} {count}"));
+        let lines = lines.chain([
+            replies("piles:", &self.piles),
+            replies("policies written out:", &self.writes),
+            line("records written by kind:".to_string(), kinds.collect()),
+            replies("files mended:", &self.mends),
+            replies("refusals reported:", &self.reported),
+            line("damages mended:".to_string(), damages.collect()),
+        ]);
         let questions = QUESTIONS.into_iter().map(Some).chain([None]).map(|kind| {
             let of = kind.map_or("questions of other kinds:".to_string(), |kind| {
                 format!("questions of kind {kind}:")

@@ -1,6 +1,6 @@
 //! The engines that are compared, behind one face, and a panel of them asked the same in step.
 
-use crate::cases::{Pile, Question};
+use crate::cases::{Mend, Pile, Question};
 use crate::slow::Slow;
 use plain::{Engine, FlatLedger, Ledger, OrderLists};
 use records::{Record, Reply, LENGTH};
@@ -40,6 +40,24 @@ pub trait Desk {
         Reply::Shape.number()
     }
 
+    /// Writes the policy out to the front of the output: the reply and the number of records. None where the engine has no call for it.
+    fn write(&self, _output: &mut [u8]) -> Option<Answer> {
+        None
+    }
+
+    /// Mends a file into the output and the report: the reply and the number of records kept. An engine without a call for it loads what the
+    /// plain one keeps.
+    fn mend(&mut self, file: &[u8], output: &mut [u8], report: &mut [(u64, u64)]) -> Answer {
+        let (reply, kept) = Engine::<OrderLists>::new().mend(file, output, report);
+        match reply {
+            plain::Reply::Granted => match self.load(&output[..kept * LENGTH]) {
+                (0, _) => (0, kept),
+                refused => refused,
+            },
+            refused => (refused.number(), 0),
+        }
+    }
+
     /// The replies to records, one after another. Each engine has its own copy of this loop with its own `request`
     /// in it, so that a time taken around it holds no call by table for each record.
     fn answer_all(&mut self, records: &[Record], replies: &mut [u8]) {
@@ -77,6 +95,16 @@ impl<L: Ledger + 'static> Desk for Plain<L> {
     fn question(&self, record: &[u8], answer: &mut [u64]) -> u8 {
         self.1.question(record, answer).number()
     }
+
+    fn write(&self, output: &mut [u8]) -> Option<Answer> {
+        let (reply, records) = self.1.write(output);
+        Some((reply.number(), records))
+    }
+
+    fn mend(&mut self, file: &[u8], output: &mut [u8], report: &mut [(u64, u64)]) -> Answer {
+        let (reply, kept) = self.1.mend(file, output, report);
+        (reply.number(), kept)
+    }
 }
 
 impl Desk for Slow {
@@ -109,6 +137,48 @@ impl Desk for Slow {
         answer.copy_from_slice(&written);
         reply.number()
     }
+
+    fn write(&self, output: &mut [u8]) -> Option<Answer> {
+        let (reply, records, written) = Slow::write(self, output);
+        output.copy_from_slice(&written);
+        Some((reply.number(), records))
+    }
+
+    fn mend(&mut self, file: &[u8], output: &mut [u8], report: &mut [(u64, u64)]) -> Answer {
+        let (reply, kept, written, told) = Slow::mend(self, file, output, report);
+        output.copy_from_slice(&written);
+        report.copy_from_slice(&told);
+        (reply.number(), kept)
+    }
+}
+
+/// What the library's call has written: the reply and the number of records.
+#[cfg(any(mishantral_write, mishantral_lower_write, mishantral_mend))]
+fn counted(written: Result<usize, Reply>) -> Answer {
+    match written {
+        Ok(records) => (0, records),
+        Err(refused) => (refused.number(), 0),
+    }
+}
+
+/// A file mended by the library, in a state.
+#[cfg(mishantral_mend)]
+fn mend_in(
+    state: &mut mishantral::State,
+    file: &[u8],
+    output: &mut [u8],
+    report: &mut [(u64, u64)],
+) -> Answer {
+    let entry = |(place, reply): &(u64, u64)| mishantral::Entry {
+        place: *place,
+        reply: *reply,
+    };
+    let mut entries: Vec<mishantral::Entry> = report.iter().map(entry).collect();
+    let answer = counted(state.mend(file, output, &mut entries));
+    for (told, entry) in report.iter_mut().zip(entries) {
+        *told = (entry.place, entry.reply);
+    }
+    answer
 }
 
 /// The proved engine's answers: the wrapper of the whole and that of the lower part have the same calls.
@@ -150,11 +220,28 @@ proved_desk!(
     },
     fn question(&self, record: &[u8], answer: &mut [u64]) -> u8 {
         mishantral::Engine::question(self, record, answer).number()
+    },
+    #[cfg(mishantral_write)]
+    fn write(&self, output: &mut [u8]) -> Option<Answer> {
+        Some(counted(self.write_into(output)))
+    },
+    #[cfg(mishantral_mend)]
+    fn mend(&mut self, file: &[u8], output: &mut [u8], report: &mut [(u64, u64)]) -> Answer {
+        let mut state = self.state().clone();
+        let answer = mend_in(&mut state, file, output, report);
+        *self = mishantral::Engine::from_state(state);
+        answer
     }
 );
 
 #[cfg(mishantral_lower)]
-proved_desk!(mishantral::lower::Engine);
+proved_desk!(
+    mishantral::lower::Engine,
+    #[cfg(mishantral_lower_write)]
+    fn write(&self, output: &mut [u8]) -> Option<Answer> {
+        Some(counted(self.write_into(output)))
+    }
+);
 
 /// The proved engine by the request that takes any content of the state.
 #[cfg(mishantral_engine)]
@@ -184,6 +271,16 @@ impl Desk for Checked {
 
     fn question(&self, record: &[u8], answer: &mut [u64]) -> u8 {
         self.0.question(record, answer).number()
+    }
+
+    #[cfg(mishantral_write)]
+    fn write(&self, output: &mut [u8]) -> Option<Answer> {
+        Some(counted(self.0.write_into(output)))
+    }
+
+    #[cfg(mishantral_mend)]
+    fn mend(&mut self, file: &[u8], output: &mut [u8], report: &mut [(u64, u64)]) -> Answer {
+        mend_in(&mut self.0, file, output, report)
     }
 }
 
@@ -221,6 +318,14 @@ impl Desk for Lowered {
     fn copy(&self) -> Box<dyn Desk> {
         Box::new(Lowered(self.0.copy()))
     }
+
+    fn write(&self, output: &mut [u8]) -> Option<Answer> {
+        self.0.write(output)
+    }
+
+    fn mend(&mut self, file: &[u8], output: &mut [u8], report: &mut [(u64, u64)]) -> Answer {
+        self.0.mend(file, output, report)
+    }
 }
 
 /// An engine that makes the requests of a pile one by one.
@@ -245,6 +350,14 @@ impl Desk for OneByOne {
 
     fn question(&self, record: &[u8], answer: &mut [u64]) -> u8 {
         self.0.question(record, answer)
+    }
+
+    fn write(&self, output: &mut [u8]) -> Option<Answer> {
+        self.0.write(output)
+    }
+
+    fn mend(&mut self, file: &[u8], output: &mut [u8], report: &mut [(u64, u64)]) -> Answer {
+        self.0.mend(file, output, report)
     }
 }
 
@@ -302,6 +415,25 @@ fn shown_question((reply, answer): &Asked) -> String {
     };
     let words: Vec<String> = runs.map(shown_run).collect();
     format!("{}, answer {}", shown(&(*reply, 0)), words.join(", "))
+}
+
+/// What writing came to: the reply, the number of records, and the output afterwards.
+pub type Written = (u8, usize, Vec<u8>);
+
+fn shown_written((reply, records, output): &Written) -> String {
+    let written = output.get(..records * LENGTH).unwrap_or_default();
+    let lines: Vec<String> = written.chunks(LENGTH).map(notation::line).collect();
+    let rest = &output[written.len()..];
+    let (reply, lines) = (shown(&(*reply, 0)), lines.join("; "));
+    format!("{reply}, {records} records: {lines}; behind them {rest:?}")
+}
+
+/// What mending came to: the reply, the number of records kept, and the output and the report afterwards.
+pub type Mended = (u8, usize, Vec<u8>, Vec<(u64, u64)>);
+
+fn shown_mended((reply, kept, output, report): &Mended) -> String {
+    let written = shown_written(&(*reply, *kept, output.clone()));
+    format!("{written}; report {report:?}")
 }
 
 /// Several engines, asked the same in step.
@@ -388,5 +520,33 @@ impl Panel {
         };
         let answers = self.0.iter().map(|desk| ask(desk.as_ref()));
         self.agreed(answers.collect(), shown_question)
+    }
+
+    /// Has all engines write the policy out that have a call for it: what it came to, or what each wrote.
+    pub fn write(&self, output: &[u8]) -> Result<Written, Difference> {
+        let mut told = Vec::new();
+        for desk in &self.0 {
+            let mut after = output.to_vec();
+            if let Some((reply, records)) = desk.write(&mut after) {
+                told.push((desk.name(), (reply, records, after)));
+            }
+        }
+        let (_, first) = &told[0];
+        if told.iter().all(|(_, written)| written == first) {
+            return Ok(first.clone());
+        }
+        let shown = told.iter().map(|(name, w)| (*name, shown_written(w)));
+        Err(Difference(shown.collect()))
+    }
+
+    /// Has all engines mend a file: what it came to, or what each did.
+    pub fn mend(&mut self, mend: &Mend) -> Result<Mended, Difference> {
+        let ask = |desk: &mut Box<dyn Desk>| {
+            let (mut output, mut report) = (mend.output(), mend.report());
+            let (reply, kept) = desk.mend(&mend.file, &mut output, &mut report);
+            (reply, kept, output, report)
+        };
+        let answers = self.0.iter_mut().map(ask).collect();
+        self.agreed(answers, shown_mended)
     }
 }

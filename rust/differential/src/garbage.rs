@@ -50,6 +50,16 @@ fn twice(engine: &mut Engine, step: &Step) -> Answer {
             assert!(reply == 0 || answer == question.answer);
             (reply, 0)
         }
+        Step::Write(_) => {
+            let mut output = vec![0x55; 16 * 108_272];
+            let written = Desk::write(engine, &mut output).unwrap_or_default();
+            assert!(written.0 == 0, "there is room for every policy");
+            written
+        }
+        Step::Mend(mend) => {
+            let (mut output, mut report) = (mend.output(), mend.report());
+            Desk::mend(engine, &mend.file, &mut output, &mut report)
+        }
     };
     let answer = take(engine);
     assert_eq!(take(&mut copy), answer, "a call has two answers");
@@ -71,7 +81,13 @@ pub fn garbage(seed: u64, number: u64) -> Result<(), String> {
         let kind = match step {
             Step::Request(record) => record.first(),
             Step::Question(_) => Some(&58),
-            Step::Load(_) | Step::Pile(_) => continue,
+            Step::Write(_) => {
+                let before = engine.clone();
+                twice(&mut engine, step);
+                assert_eq!(engine, before, "writing changed the state");
+                continue;
+            }
+            Step::Load(_) | Step::Pile(_) | Step::Mend(_) => continue,
         };
         let before = engine.clone();
         let (reply, place) = twice(&mut engine, step);
@@ -90,7 +106,11 @@ pub fn garbage(seed: u64, number: u64) -> Result<(), String> {
         Box::new(Engine::from_state(state)),
         crate::desks::plain("lists", plain),
     ]);
-    let emptied = vec![Step::Load(Vec::new())];
+    // A load and a mended file make the same of every state.
+    let mending =
+        |step: &&Step| matches!(step, Step::Mend(mend) if mend.spare.min(mend.entries) >= 0);
+    let first = case.steps.iter().find(mending).cloned();
+    let emptied = vec![first.unwrap_or(Step::Load(Vec::new()))];
     let case = Case {
         steps: [emptied, case.steps].concat(),
         pools: case.pools,

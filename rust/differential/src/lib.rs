@@ -9,6 +9,7 @@ mod cases;
 mod command;
 mod compare;
 mod coverage;
+mod damage;
 mod desks;
 #[cfg(mishantral_engine)]
 mod garbage;
@@ -18,16 +19,16 @@ mod pools;
 mod slow;
 mod walk;
 
-pub use cases::{Case, Pile, Question, Step};
+pub use cases::{Case, Mend, Pile, Question, Step};
 pub use command::command;
 pub use compare::{compare, Failure};
 pub use coverage::{possible, Coverage};
-pub use desks::{checked, plain, proved, Answer, Desk, Difference, Panel};
+pub use desks::{checked, plain, proved, Answer, Desk, Difference, Mended, Panel, Written};
 #[cfg(mishantral_engine)]
 pub use garbage::garbage;
 #[cfg(mishantral_engine)]
 pub use links::{damages, links, Links};
-pub use slow::{Place, Slow};
+pub use slow::{Place, Slow, Walling};
 
 /// Whether the proved library takes part.
 pub const PROVED: bool = cfg!(mishantral_engine);
@@ -37,6 +38,11 @@ pub const PROVED_LOWER: bool = cfg!(mishantral_lower);
 
 /// Whether the proved library has a call for piles.
 pub const PILED: bool = cfg!(mishantral_pile);
+
+/// Whether the proved library has a call that writes the policy out.
+pub const WRITES: bool = cfg!(mishantral_write);
+/// Whether the proved library has a call that mends a file.
+pub const MENDS: bool = cfg!(mishantral_mend);
 
 /// Whether the proved library has a request for states that are settled, beside the one that takes any content.
 pub const SETTLED: bool = cfg!(mishantral_settled_request);

@@ -330,7 +330,7 @@ pub fn links(seed: u64, number: u64) -> Result<Links, String> {
         Box::new(Engine::from_state(state)),
         Box::new(expected),
     ]);
-    let asks = |step: &&Step| !matches!(step, Step::Load(_));
+    let asks = |step: &&Step| !matches!(step, Step::Load(_) | Step::Mend(_));
     let steps = day.iter().rev().take(60).rev().chain(rest.iter().take(200));
     let case = Case {
         steps: steps.filter(asks).cloned().collect(),
@@ -357,6 +357,9 @@ fn take(desk: &mut dyn Desk, step: &Step) {
         Step::Pile(pile) => {
             desk.pile(&pile.records, &mut pile.buffer.clone(), pile.at);
         }
-        Step::Question(_) => {}
+        Step::Mend(mend) => {
+            desk.mend(&mend.file, &mut mend.output(), &mut mend.report());
+        }
+        Step::Question(_) | Step::Write(_) => {}
     }
 }

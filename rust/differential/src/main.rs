@@ -110,6 +110,7 @@ fn tell(options: &Options) -> Result<(), String> {
         println!("piles not seen: {:?}", coverage.missing_piles());
         println!("questions not seen: {:?}", coverage.missing_questions());
         println!("figures not seen: {:?}", coverage.missing_figures());
+        println!("of files not seen: {:?}", coverage.missing_files());
     }
     println!("{} cases of seed {} agree", options.cases, options.seed);
     Ok(())

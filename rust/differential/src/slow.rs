@@ -7,6 +7,9 @@ use std::collections::{BTreeMap, BTreeSet};
 type Numbers = BTreeSet<u16>;
 type Pairs = BTreeSet<(u16, u16)>;
 
+/// A file mended: the reply, how many records were kept, the output and the report afterwards.
+pub type Mended = (Reply, usize, Vec<u8>, Vec<(u64, u64)>);
+
 #[derive(Clone)]
 pub(crate) struct Entry {
     pub instance: u16,
@@ -54,11 +57,47 @@ impl Place {
     ];
 }
 
+/// What a wrong engine makes of walls.
+#[derive(Clone, Copy, PartialEq, Eq, Debug)]
+pub enum Walling {
+    /// A commit binds the subject, and not its user.
+    OfSubjects,
+    /// WALL is given before DENIED.
+    BeforeDenied,
+    /// A check binds as a commit does.
+    ByChecks,
+    /// A commit binds in the lowest wall alone that has the object.
+    LowestWall,
+    /// A user who is deleted stays bound.
+    Kept,
+}
+
+impl Walling {
+    /// All of them.
+    pub const ALL: [Walling; 5] = [
+        Walling::OfSubjects,
+        Walling::BeforeDenied,
+        Walling::ByChecks,
+        Walling::LowestWall,
+        Walling::Kept,
+    ];
+}
+
+/// A granted commit: subject, user and object.
+#[derive(Clone, Copy)]
+struct Commit {
+    subject: u16,
+    user: u16,
+    object: u16,
+}
+
 /// The engine: sets, pairs and lists, each as the rules name them.
 #[derive(Clone, Default)]
 pub struct Slow {
     /// A place where roles do not count with those below them, for tests that this is found.
     forgotten: Option<Place>,
+    /// What it does wrongly with walls, for tests that this is found.
+    walling: Option<Walling>,
     users: Numbers,
     roles: Numbers,
     permissions: BTreeMap<u16, (u16, u16)>,
@@ -77,6 +116,10 @@ pub struct Slow {
     prerequisites: Vec<(u16, u16)>,
     /// Senior and junior.
     above: Pairs,
+    /// Wall, block and object.
+    walls: Vec<(u16, u16, u16)>,
+    /// All that were granted to users who are declared now.
+    commits: Vec<Commit>,
     subjects: BTreeMap<u16, (u16, Numbers)>,
     /// Every role that a live subject has had active.
     had: BTreeMap<u16, Numbers>,
@@ -136,13 +179,14 @@ fn form(kind: u8) -> Option<Form> {
         9..=11 => ([None, None, None], true, true),
         12 => ([Some(15), None, None], false, true),
         13 | 60 => ([Some(15), None, None], false, false),
+        18 => ([Some(15), Some(15), Some(any)], false, false),
         14 => ([Some(63), None, None], true, false),
         40 => ([Some(127), Some(1023), None], false, true),
         41 => ([Some(127), None, None], false, false),
         42 | 43 => ([Some(127), Some(63), None], false, false),
         49 | 58 => ([Some(63), None, None], false, false),
         50..=52 => ([Some(127), Some(63), Some(63)], false, false),
-        56 => ([Some(127), Some(any), Some(any)], false, false),
+        56 | 59 => ([Some(127), Some(any), Some(any)], false, false),
         57 => ([Some(127), Some(63), Some(63)], false, true),
         _ => return None,
     })
@@ -157,7 +201,7 @@ fn well_formed(bytes: &[u8], policy: bool) -> Result<Record, Reply> {
     let unused = fields.iter().any(|(f, last)| last.is_none() && *f != 0);
     let large = r.kind() == 57 && r.m() >= 1 << 32;
     let extra = !n && r.n() != 0 || !m && r.m() != 0 || large;
-    if policy != (r.kind() <= 17) || unused || extra {
+    if policy != (r.kind() <= 18) || unused || extra {
         return Err(Shape);
     }
     let beyond = |(f, last): &(u16, Option<u16>)| last.is_some_and(|last| *f > last);
@@ -176,9 +220,18 @@ impl Slow {
         }
     }
 
+    /// An engine that is wrong about walls.
+    pub fn walling(walling: Walling) -> Slow {
+        Slow {
+            walling: Some(walling),
+            ..Slow::default()
+        }
+    }
+
     fn empty(&mut self) {
         *self = Slow {
             forgotten: self.forgotten,
+            walling: self.walling,
             ..Slow::default()
         };
     }
@@ -218,6 +271,81 @@ impl Slow {
             }
         }
         (Granted, 0)
+    }
+
+    /// The policy as records, kinds rising: sets and maps go by a and then b by themselves, rules stand as they are held.
+    fn rows(&self) -> Vec<Record> {
+        let set = |members: &Numbers| members.iter().map(|m| *m as u8).collect::<Set>();
+        let sets = |kind: u8, rules: &[(u8, Numbers)]| -> Vec<Record> {
+            let row = |(n, m): &(u8, Numbers)| Record::new(kind, *n, 0, 0, 0, set(m).0);
+            rules.iter().map(row).collect()
+        };
+        let pairs = |kind: u8, pairs: &mut dyn Iterator<Item = (u16, u16)>| -> Vec<Record> {
+            let row = |(a, b)| Record::new(kind, 0, a, b, 0, 0);
+            pairs.map(row).collect()
+        };
+        let alone = |kind: u8, numbers: &Numbers| pairs(kind, &mut numbers.iter().map(|a| (*a, 0)));
+        let declared = self.permissions.iter();
+        let declared = declared.map(|(a, (b, c))| Record::permission(*a, *b, *c));
+        let blocks = self.blocks.iter().map(|(p, m)| Record::block(*p, set(m)));
+        let limits = self.limits.iter().map(|(t, n)| Record::at_most(*t, *n));
+        [
+            alone(1, &self.users),
+            alone(2, &self.roles),
+            declared.collect(),
+            pairs(4, &mut self.user_roles.iter().copied()),
+            pairs(5, &mut self.role_permissions.iter().copied()),
+            pairs(6, &mut self.tasks.iter().map(|(t, j)| (*t, *j))),
+            pairs(7, &mut self.open_to.iter().copied()),
+            pairs(8, &mut self.carries.iter().copied()),
+            sets(9, &self.static_sets),
+            sets(10, &self.dynamic_sets),
+            sets(11, &self.task_sets),
+            blocks.collect(),
+            alone(13, &self.bans),
+            limits.collect(),
+            pairs(15, &mut self.bindings.iter().copied()),
+            pairs(16, &mut self.prerequisites.iter().copied()),
+            pairs(17, &mut self.above.iter().copied()),
+        ]
+        .concat()
+    }
+
+    /// Writes the policy out: the reply, how many records, and the output afterwards.
+    pub fn write(&self, output: &[u8]) -> (Reply, usize, Vec<u8>) {
+        let rows = self.rows();
+        if 16 * rows.len() > output.len() {
+            return (Room, 0, output.to_vec());
+        }
+        let behind = &output[16 * rows.len()..];
+        let written = rows.iter().flat_map(|r| r.0).chain(behind.iter().copied());
+        (Granted, rows.len(), written.collect())
+    }
+
+    /// Mends a file: the reply, how many records were kept, and the output and the report afterwards.
+    pub fn mend(&mut self, file: &[u8], output: &[u8], report: &[(u64, u64)]) -> Mended {
+        let whole = file.len() / 16;
+        if output.len() < file.len() || report.len() < whole + 1 {
+            return (Room, 0, output.to_vec(), report.to_vec());
+        }
+        self.empty();
+        let (mut kept, mut dropped) = (Vec::new(), Vec::new());
+        for (bytes, place) in file.chunks(16).zip(1..) {
+            let judged = well_formed(bytes, true);
+            match judged.map_or_else(|refused| refused, |record| self.policy_record(record)) {
+                Granted => kept.push(bytes),
+                refused => dropped.push((place, u64::from(refused.number()))),
+            }
+        }
+        let number = kept.len();
+        let (kept, count) = (kept.concat(), dropped.len());
+        let output = [&kept, &output[kept.len()..]].concat();
+        (
+            Granted,
+            number,
+            output,
+            [dropped, report[count..].to_vec()].concat(),
+        )
     }
 
     /// Answers one request: the reply, and the place of the rule that it is about, from 1, or 0.
@@ -379,6 +507,7 @@ impl Slow {
             1..=8 => self.judge_declaration(r),
             9..=12 => self.judge_set(r),
             17 => self.judge_seniority(r.a(), r.b()),
+            18 => self.judge_wall(r.a(), r.b(), r.c()),
             _ => self.judge_rule(r),
         };
         if reply == Granted {
@@ -522,6 +651,52 @@ impl Slow {
         ])
     }
 
+    fn judge_wall(&self, wall: u16, block: u16, object: u16) -> Reply {
+        let mut walls = self.walls.iter();
+        first(&[
+            (Taken, self.walls.contains(&(wall, block, object))),
+            (Rule, walls.any(|(w, _, o)| (*w, *o) == (wall, object))),
+            (Full, self.walls.len() == 256),
+        ])
+    }
+
+    /// Whether a commit of one object has bound to another block than the other object's, in some wall.
+    fn apart(&self, committed: u16, object: u16) -> bool {
+        let mut of_committed = self.walls.iter().filter(|(_, _, o)| *o == committed);
+        let apart = |(w, b, _): &(u16, u16, u16)| {
+            let mut walls = self.walls.iter();
+            walls.any(|(wall, block, o)| (wall, *o) == (w, object) && block != b)
+        };
+        match self.walling {
+            Some(Walling::LowestWall) => of_committed.min().is_some_and(apart),
+            _ => of_committed.any(apart),
+        }
+    }
+
+    /// DENIED and WALL for an active role of a subject.
+    fn judge_check(&self, r: Record, user: u16, active: &Numbers) -> Reply {
+        let acting = self.down(Place::Permit, active);
+        let has = |p: &u16| {
+            let mut acting = acting.iter();
+            acting.any(|r| self.role_permissions.contains(&(*r, *p)))
+        };
+        let walled = |c: &Commit| {
+            let whose = match self.walling {
+                Some(Walling::OfSubjects) => c.subject == r.a(),
+                _ => c.user == user,
+            };
+            whose && self.apart(c.object, r.c())
+        };
+        let mut checks = [
+            (Denied, !self.permissions_of(r.b(), r.c()).any(|p| has(&p))),
+            (Wall, self.commits.iter().any(walled)),
+        ];
+        if self.walling == Some(Walling::BeforeDenied) {
+            checks.reverse();
+        }
+        first(&checks)
+    }
+
     /// What an accepted policy record says from now on.
     fn enter(&mut self, r: Record) {
         let (n, a, b) = (r.n(), r.a(), r.b());
@@ -543,14 +718,15 @@ impl Slow {
             14 => self.limits.extend([(a, n)]),
             15 => self.bindings.push((a, b)),
             16 => self.prerequisites.push((a, b)),
-            _ => self.above.extend([(a, b)]),
+            17 => self.above.extend([(a, b)]),
+            _ => self.walls.push((a, b, r.c())),
         }
     }
 
     fn serve(&mut self, r: Record) -> (Reply, usize) {
         let (reply, place) = match r.kind() {
             32..=37 => (self.judge_roles(r), 0),
-            40..=43 | 56 => (self.judge_sessions(r), 0),
+            40..=43 | 56 | 59 => (self.judge_sessions(r), 0),
             48 | 49 => (self.judge_orders(r), 0),
             50 => self.judge_claim(r),
             58 | 60 => (self.judge_question(r), 0),
@@ -638,14 +814,7 @@ impl Slow {
                 ])
             }
             43 => first(&[(Unknown, !active.contains(&b))]),
-            _ => {
-                let acting = self.down(Place::Permit, active);
-                let has = |p: &u16| {
-                    let mut acting = acting.iter();
-                    acting.any(|r| self.role_permissions.contains(&(*r, *p)))
-                };
-                first(&[(Denied, !self.permissions_of(b, r.c()).any(|p| has(&p)))])
-            }
+            _ => self.judge_check(r, *user, active),
         }
     }
 
@@ -770,6 +939,8 @@ impl Slow {
             33 => {
                 self.users.retain(|user| *user != a);
                 self.user_roles.retain(|(user, _)| *user != a);
+                let kept = self.walling == Some(Walling::Kept);
+                self.commits.retain(|commit| kept || commit.user != a);
             }
             34 => self.user_roles.extend([(a, b)]),
             35 => self.user_roles.retain(|pair| *pair != (a, b)),
@@ -783,6 +954,12 @@ impl Slow {
                 self.subjects.retain(|subject, _| *subject != a);
                 self.had.retain(|subject, _| *subject != a);
             }
+            56 if self.walling != Some(Walling::ByChecks) => {}
+            56 | 59 => self.commits.push(Commit {
+                subject: a,
+                user: self.subjects[&a].0,
+                object: r.c(),
+            }),
             42 => {
                 self.active(a).extend([b]);
                 self.had.entry(a).or_default().extend([b]);

@@ -20,6 +20,8 @@ fn all_engines_agree_and_every_reply_comes_up() {
     assert_eq!(coverage.missing_piles(), [], "\n{}", coverage.table());
     assert_eq!(coverage.missing_questions(), [], "\n{}", coverage.table());
     assert_eq!(coverage.missing_figures(), [""; 0]);
+    assert_eq!(coverage.missing_files(), [""; 0], "\n{}", coverage.table());
+    assert_eq!(coverage.surprising_reports(), [0; 0]);
     assert_eq!(
         coverage.surprising_questions(),
         [],

@@ -1,6 +1,6 @@
 //! Engines with a fault each: the comparison finds every one, and shows it by a small case.
 
-use differential::{compare, plain, Answer, Case, Desk, Panel, Place, Slow};
+use differential::{compare, plain, Answer, Case, Desk, Panel, Place, Slow, Walling};
 use plain::{Engine, OrderLists, Reply};
 
 /// What a record is taken for.
@@ -23,7 +23,16 @@ struct Faulty {
     piled: Piled,
     /// What is done with a question.
     asked: Asked,
+    /// What is written for the policy, and what is done with a file to mend.
+    wrote: Wrote,
+    mended: Mended,
 }
+
+/// The records that an engine writes, by the policy that was loaded and what it should write.
+type Wrote = fn(&[u8], Vec<u8>) -> Vec<u8>;
+
+/// A file mended by an engine into an output and a report.
+type Mended = fn(&mut Engine<OrderLists>, &[u8], &mut [u8], &mut [(u64, u64)]) -> (Reply, usize);
 
 /// A question's reply by an engine, the record and the answer.
 type Asked = fn(&Engine<OrderLists>, &[u8], &mut [u64]) -> Reply;
@@ -67,6 +76,23 @@ impl Desk for Faulty {
     fn question(&self, record: &[u8], answer: &mut [u64]) -> u8 {
         (self.asked)(&self.engine, record, answer).number()
     }
+
+    fn write(&self, output: &mut [u8]) -> Option<Answer> {
+        let policy = (self.wrote)(&self.policy, self.engine.written());
+        let Some(front) = output.get_mut(..policy.len()) else {
+            return Some((1, 0));
+        };
+        front.copy_from_slice(&policy);
+        Some((0, policy.len() / 16))
+    }
+
+    fn mend(&mut self, file: &[u8], output: &mut [u8], report: &mut [(u64, u64)]) -> Answer {
+        let (reply, kept) = (self.mended)(&mut self.engine, file, output, report);
+        if reply == Reply::Granted {
+            self.policy = output[..kept * 16].to_vec();
+        }
+        (reply.number(), kept)
+    }
 }
 
 /// The requests one after the other, where the pile has room and shape.
@@ -94,6 +120,8 @@ fn sound() -> Faulty {
         placed: |_, _, (_, place)| place,
         piled: rightly,
         asked: Engine::question,
+        wrote: |_, policy| policy,
+        mended: Engine::mend,
     }
 }
 
@@ -102,7 +130,7 @@ fn found(faulty: impl Desk + 'static) -> Option<String> {
     let good = plain("plain", Engine::<OrderLists>::new());
     let panel = Panel::of(vec![good, Box::new(faulty)]);
     let failure = |number| compare(&panel, &Case::random(5, number), false).err();
-    (0..200).find_map(failure).map(|f| f.report())
+    (0..400).find_map(failure).map(|f| f.report())
 }
 
 fn finds(faulty: impl Desk + 'static, most_lines: usize) {
@@ -399,6 +427,175 @@ fn a_question_that_is_answered_wrongly_is_found() {
     ];
     for asked in wrong {
         finds(Faulty { asked, ..sound() }, 40);
+    }
+}
+
+/// The records of a policy, in another order or some of them.
+fn rows(policy: &[u8], change: impl Fn(&mut Vec<&[u8]>)) -> Vec<u8> {
+    let mut rows: Vec<&[u8]> = policy.chunks(16).collect();
+    change(&mut rows);
+    rows.concat()
+}
+
+/// A record's kind, a and b.
+fn key(row: &[u8]) -> (u8, u16, u16) {
+    let number = |at: usize| u16::from_le_bytes([row[at], row[at + 1]]);
+    (row[0], number(2), number(4))
+}
+
+#[test]
+fn a_policy_that_is_written_wrongly_is_found() {
+    let wrong: [Wrote; 8] = [
+        // The policy that was loaded, whatever was asked since.
+        |loaded, _| loaded.to_vec(),
+        // Rules written sorted.
+        |_, policy| rows(&policy, |rows| rows.sort()),
+        // Assignments by role and then user.
+        |_, policy| {
+            rows(&policy, |rows| {
+                rows.sort_by_key(|row| match key(row) {
+                    (4, user, role) => (4, role, user),
+                    (kind, ..) => (kind, 0, 0),
+                });
+            })
+        },
+        // Kinds in another order: rules before what they are about.
+        |_, policy| {
+            rows(&policy, |rows| {
+                rows.sort_by_key(|row| if row[0] == 9 { 3 } else { row[0] });
+            })
+        },
+        // The last record left out.
+        |_, mut policy| {
+            policy.truncate(policy.len().saturating_sub(16));
+            policy
+        },
+        // Senior roles in the order of the policy.
+        |loaded, policy| {
+            let others = rows(&policy, |rows| rows.retain(|row| row[0] != 17));
+            let above = loaded.chunks_exact(16).filter(|row| row[0] == 17);
+            match others.len() < policy.len() {
+                true => [others, above.collect::<Vec<_>>().concat()].concat(),
+                false => policy,
+            }
+        },
+        // A limit without its number.
+        |_, mut policy| {
+            for row in policy.chunks_mut(16).filter(|row| row[0] == 14) {
+                row[1] = 1;
+            }
+            policy
+        },
+        // Users' numbers in one byte.
+        |_, mut policy| {
+            for row in policy.chunks_mut(16).filter(|row| row[0] == 1) {
+                row[3] = 0;
+            }
+            policy
+        },
+    ];
+    for wrote in wrong {
+        finds(Faulty { wrote, ..sound() }, 60);
+    }
+}
+
+#[test]
+fn a_file_that_is_mended_wrongly_is_found() {
+    let wrong: [Mended; 9] = [
+        // A dropped record is written.
+        |engine, file, output, report| {
+            let answer = engine.mend(file, output, report);
+            if answer.0 == Reply::Granted {
+                output[..file.len()].copy_from_slice(file);
+            }
+            answer
+        },
+        // The cut record is not reported.
+        |engine, file, output, report| {
+            let whole = file.len() / 16 * 16;
+            match output.len() < file.len() {
+                true => (Reply::Room, 0),
+                false => engine.mend(&file[..whole], output, report),
+            }
+        },
+        // Judged by the first tables, as if nothing had been kept.
+        |engine, file, output, report| {
+            let answer = engine.mend(file, output, report);
+            let alone = |record: &[u8]| Engine::<OrderLists>::new().policy_record(record);
+            let refused = file.chunks(16).zip(1..).map(|(r, place)| (place, alone(r)));
+            let refused = refused.filter(|(_, reply)| *reply != Reply::Granted);
+            if answer.0 == Reply::Granted {
+                for (entry, (place, reply)) in report.iter_mut().zip(refused) {
+                    *entry = (place, reply.number().into());
+                }
+            }
+            answer
+        },
+        // An end at the first refusal.
+        |engine, file, output, report| {
+            let (_, place) = Engine::<OrderLists>::new().load(file);
+            let end = place
+                .checked_sub(1)
+                .map_or(file.len(), |before| before * 16);
+            match output.len() < file.len() || report.len() <= file.len() / 16 {
+                true => (Reply::Room, 0),
+                false => engine.mend(&file[..end], output, report),
+            }
+        },
+        // Places from 0.
+        |engine, file, output, report| {
+            let (reply, kept) = engine.mend(file, output, report);
+            let told = if reply == Reply::Granted {
+                file.len().div_ceil(16) - kept
+            } else {
+                0
+            };
+            report[..told].iter_mut().for_each(|entry| entry.0 -= 1);
+            (reply, kept)
+        },
+        // Sessions stay, and so do orders.
+        |engine, file, output, report| {
+            let mut other = Engine::new();
+            let (reply, kept) = other.mend(file, output, report);
+            if reply == Reply::Granted && kept * 16 < file.len() {
+                *engine = other;
+            }
+            (reply, kept)
+        },
+        // The output behind the last record is emptied.
+        |engine, file, output, report| {
+            let (reply, kept) = engine.mend(file, output, report);
+            if reply == Reply::Granted {
+                output[kept * 16..].fill(0);
+            }
+            (reply, kept)
+        },
+        // An entry too many.
+        |engine, file, output, report| {
+            let (reply, kept) = engine.mend(file, output, report);
+            if reply == Reply::Granted {
+                report[file.len().div_ceil(16) - kept] = (0, 0);
+            }
+            (reply, kept)
+        },
+        // Room for whole records is enough.
+        |engine, file, output, report| {
+            let mut longer = [&*output, &[0; 15]].concat();
+            let answer = engine.mend(file, &mut longer, report);
+            let length = output.len();
+            output.copy_from_slice(&longer[..length]);
+            answer
+        },
+    ];
+    for mended in wrong {
+        finds(Faulty { mended, ..sound() }, 60);
+    }
+}
+
+#[test]
+fn walls_that_are_taken_wrongly_are_found() {
+    for walling in Walling::ALL {
+        finds(Slow::walling(walling), 60);
     }
 }
 

@@ -1,6 +1,8 @@
 //! What both engines share: the number that a call of the library answers, the reply + 256 times the place, and the lent buffers.
 
 use crate::{Answer, Record, Refused, Reply};
+#[cfg(any(mishantral_write, mishantral_lower_write))]
+use crate::{LENGTH, WRITTEN};
 use alloc::{boxed::Box, format, string::String, vec, vec::Vec};
 
 /// The reply.
@@ -21,6 +23,32 @@ pub(crate) fn loaded(number: u64) -> Result<(), Refused> {
     match answered(number) {
         answer if answer.is_granted() => Ok(()),
         Answer { reply, place } => Err(Refused { reply, place }),
+    }
+}
+
+/// The number of records that a call has written, or its refusal.
+#[cfg(any(mishantral_write, mishantral_lower_write, mishantral_mend))]
+pub(crate) fn counted(number: u64) -> Result<usize, Reply> {
+    match answered(number) {
+        answer if answer.is_granted() => Ok(answer.place),
+        Answer { reply, .. } => Err(reply),
+    }
+}
+
+/// All that a call writes, in a buffer that grows until it is enough: most policies are far below the most that there can be.
+#[cfg(any(mishantral_write, mishantral_lower_write))]
+pub(crate) fn written(write: impl Fn(&mut [u8]) -> Result<usize, Reply>) -> Result<Vec<u8>, Reply> {
+    let mut room = 1 << 10;
+    loop {
+        let mut output = vec![0; room.min(WRITTEN) * LENGTH];
+        match write(&mut output) {
+            Ok(records) => {
+                output.truncate(records * LENGTH);
+                return Ok(output);
+            }
+            Err(Reply::Room) if room < WRITTEN => room *= 8,
+            Err(refused) => return Err(refused),
+        }
     }
 }
 

@@ -3,7 +3,8 @@
 //! [`Record`] has a constructor for each kind (docs/RULES.md), and [`Reply`] each reply's number and name.
 //! `Engine` owns the state that the library works on: it loads a policy and answers requests with an [`Answer`], the reply and, for a
 //! claim that a rule refuses, which rule it is; `Engine::figures` tells what it keeps of an order,
-//! `Engine::stuck_tasks` which tasks of a template can never be claimed. `lower::Engine` is the lower part alone, without orders. `Policy` is a dealer's OPL/XML as
+//! `Engine::stuck_tasks` which tasks of a template can never be claimed. `Engine::write_policy` writes the policy out as it is now, `Engine::mend` mends a
+//! damaged policy file. `lower::Engine` is the lower part alone, without orders. `Policy` is a dealer's OPL/XML as
 //! records, with the dealer's names by number.
 //!
 //! `Engine` is there where the proved library's archive was found when this crate was built: by the
@@ -32,6 +33,17 @@ mod engine;
 pub use engine::PILE;
 #[cfg(mishantral_engine)]
 pub use engine::{Engine, Figures, State, StuckTasks, ANSWER};
+
+#[cfg(mishantral_mend)]
+mod mend;
+#[cfg(mishantral_mend)]
+pub use mend::{Dropped, Entry, Mended};
+#[cfg(mishantral_write)]
+mod write;
+
+/// How many records writing a policy out gives at most, whatever the state holds.
+#[cfg(any(mishantral_write, mishantral_lower_write))]
+pub const WRITTEN: usize = 108_272;
 
 #[cfg(mishantral_lower)]
 pub mod lower;

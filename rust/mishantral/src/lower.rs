@@ -6,8 +6,12 @@
 //! The declarations are those of include/mishantral.h; nothing else here is unsafe.
 
 use crate::lent::{answered, bytes, loaded, shown, zeroed};
+#[cfg(mishantral_lower_write)]
+use crate::lent::{counted, written};
 use crate::{Record, Refused, Reply};
 use alloc::boxed::Box;
+#[cfg(mishantral_lower_write)]
+use alloc::vec::Vec;
 use core::fmt;
 
 type Call = unsafe extern "C" fn(
@@ -35,6 +39,15 @@ extern "C" {
         policy: *mut u64,
         policy_words: usize,
         sessions: *mut u64,
+        sessions_words: usize,
+    ) -> u64;
+    #[cfg(mishantral_lower_write)]
+    fn mishantral_lower_write(
+        output: *mut u8,
+        output_length: usize,
+        policy: *const u64,
+        policy_words: usize,
+        sessions: *const u64,
         sessions_words: usize,
     ) -> u64;
 }
@@ -151,5 +164,40 @@ impl Engine {
     /// answer is about a rule's place.
     pub fn request<R: AsRef<[u8]> + ?Sized>(&mut self, record: &R) -> Reply {
         answered(self.state.call(mishantral_lower_request, record.as_ref())).reply
+    }
+
+    /// The policy as it is now, after all requests since the load, as records that load again; as that of the whole engine.
+    ///
+    /// ```
+    /// use mishantral::{lower, Record, Set};
+    ///
+    /// let mut engine = lower::Engine::new();
+    /// engine.load_records(&[Record::role(1), Record::role(0)])?;
+    /// assert!(engine.request(&Record::add_user_with(300, Set::of(&[1]))).is_granted());
+    /// let policy = [Record::user(300), Record::role(0), Record::role(1), Record::user_has_role(300, 1)];
+    /// assert_eq!(engine.write_policy(), Ok(policy.map(|record| record.0).concat()));
+    /// # Ok::<(), mishantral::Refused>(())
+    /// ```
+    #[cfg(mishantral_lower_write)]
+    pub fn write_policy(&self) -> Result<Vec<u8>, Reply> {
+        written(|output| self.write_into(output))
+    }
+
+    /// The same into a buffer: how many records were written to its front. ROOM where they do not fit, and then nothing is written.
+    #[cfg(mishantral_lower_write)]
+    pub fn write_into(&self, output: &mut [u8]) -> Result<usize, Reply> {
+        let (policy, sessions) = (&self.state.policy, &self.state.sessions);
+        // SAFETY: each pointer is a slice's own, with its length in elements behind it; the output alone is written to, it is apart from the
+        // others, and the library keeps none of them.
+        counted(unsafe {
+            mishantral_lower_write(
+                output.as_mut_ptr(),
+                output.len(),
+                policy.as_ptr(),
+                policy.len(),
+                sessions.as_ptr(),
+                sessions.len(),
+            )
+        })
     }
 }

@@ -71,3 +71,31 @@ fn other_lengths_are_room_and_nothing_is_written() {
         assert_eq!(engine.into_state(), state);
     }
 }
+
+#[cfg(mishantral_lower_write)]
+#[test]
+fn the_policy_is_written_as_it_is_now() {
+    let mut engine = clerk();
+    let create = Record::create_subject(5, 300, Set::of(&[0]));
+    for step in [create, Record::add_user(7), Record::assign_role(7, 0)] {
+        assert_eq!(engine.request(&step), Reply::Granted);
+    }
+    let written = engine.write_policy().unwrap();
+    let expected = [
+        Record::user(7),
+        Record::user(300),
+        Record::role(0),
+        Record::permission(0, 1, 7),
+        Record::user_has_role(7, 0),
+        Record::user_has_role(300, 0),
+        Record::role_has_permission(0, 0),
+    ];
+    assert_eq!(written, expected.map(|record| record.0).concat());
+    let mut output = vec![9; written.len() - 1];
+    assert_eq!(engine.write_into(&mut output), Err(Reply::Room));
+    assert!(output.iter().all(|byte| *byte == 9));
+    let mut state = engine.into_state();
+    state.sessions = state.sessions[1..].into();
+    let odd = Engine::from_state(state);
+    assert_eq!(odd.write_policy(), Err(Reply::Room));
+}

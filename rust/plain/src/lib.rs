@@ -20,6 +20,8 @@ mod policy;
 mod record;
 mod reply;
 mod sessions;
+mod walls;
+mod written;
 
 pub use ledger::{Entry, FlatLedger, Ledger, OrderLists, View, ENTRIES};
 pub use record::encode;
@@ -169,6 +171,77 @@ impl<L: Ledger> Engine<L> {
         }
     }
 
+    /// The policy as it is now, as records that load again: kinds rising, within kinds 1 to 8, 13, 14 and 17 rising by a and then b, rules of the
+    /// other kinds in the order held.
+    ///
+    /// ```
+    /// use plain::{encode, Engine, OrderLists};
+    ///
+    /// let [role_1, role_0] = [1, 0].map(|role| encode(2, 0, role, 0, 0, 0));
+    /// let mut engine = Engine::<OrderLists>::new();
+    /// engine.load(&[role_1, role_0].concat());
+    /// engine.request(&encode(32, 0, 300, 0, 0, 2));
+    /// let written = [encode(1, 0, 300, 0, 0, 0), role_0, role_1, encode(4, 0, 300, 1, 0, 0)];
+    /// assert_eq!(engine.written(), written.concat());
+    /// ```
+    pub fn written(&self) -> Vec<u8> {
+        self.policy.written()
+    }
+
+    /// Writes the policy to the front of `output`: the reply, and how many records were written. ROOM where they do not fit, and then nothing
+    /// is written.
+    pub fn write(&self, output: &mut [u8]) -> (Reply, usize) {
+        let written = self.written();
+        match output.get_mut(..written.len()) {
+            Some(front) => front.copy_from_slice(&written),
+            None => return (Reply::Room, 0),
+        }
+        (Reply::Granted, written.len() / RECORD)
+    }
+
+    /// Mends a damaged policy file: keeps each record that a load would accept after those kept before it, and writes them to the front of
+    /// `output`; drops the rest, and writes the place of each, from 1, and the number of its refusal to `report`. The reply, and how many records
+    /// were kept; the engine holds them afterwards and nothing else. ROOM where the output is shorter than the file, or the report has no entry
+    /// for each whole record and one more; then nothing is written.
+    ///
+    /// ```
+    /// use plain::{encode, Engine, OrderLists, Reply};
+    ///
+    /// let user_300 = encode(1, 0, 300, 0, 0, 0);
+    /// let damaged = [&user_300[..], &user_300, &[1, 0, 5]].concat();
+    /// let (mut output, mut report) = ([99; 35], [(7, 7); 4]);
+    /// let mut engine = Engine::<OrderLists>::new();
+    /// assert_eq!(engine.mend(&damaged, &mut output, &mut report), (Reply::Granted, 1));
+    /// assert_eq!(output[..17], [&user_300[..], &[99]].concat());
+    /// assert_eq!(report, [(2, 5), (3, 2), (7, 7), (7, 7)]);
+    /// assert_eq!(engine.mend(&damaged, &mut output[..34], &mut report).0, Reply::Room);
+    /// ```
+    pub fn mend(
+        &mut self,
+        file: &[u8],
+        output: &mut [u8],
+        report: &mut [(u64, u64)],
+    ) -> (Reply, usize) {
+        if output.len() < file.len() || report.len() <= file.len() / RECORD {
+            return (Reply::Room, 0);
+        }
+        self.clear();
+        let (mut kept, mut dropped) = (0, 0);
+        for (before, record) in file.chunks(RECORD).enumerate() {
+            match self.policy_record(record) {
+                Reply::Granted => {
+                    output[kept * RECORD..][..RECORD].copy_from_slice(record);
+                    kept += 1;
+                }
+                refusal => {
+                    report[dropped] = (before as u64 + 1, refusal.number().into());
+                    dropped += 1;
+                }
+            }
+        }
+        (Reply::Granted, kept)
+    }
+
     /// All entries, in no particular order.
     pub fn entries(&self) -> Vec<Entry> {
         self.orders.ledger.entries()
@@ -196,6 +269,7 @@ impl<L: Ledger> Engine<L> {
             56 => sessions.check(policy, a, r.b, r.c),
             57 => orders.task_check(policy, sessions, r),
             58 => orders.figures(r.a as u8).map(|_| ()),
+            59 => sessions.commit(policy, a, r.b, r.c),
             _ => policy.stuck(a).map(|_| ()),
         }
     }
@@ -205,6 +279,7 @@ impl<L: Ledger> Engine<L> {
         refuse(Reply::InUse, self.orders.ledger.any_of_user(user))?;
         self.policy.is_user[usize::from(user)] = false;
         self.policy.assigned[usize::from(user)] = 0;
+        self.sessions.forget(user);
         Ok(())
     }
 

@@ -37,6 +37,12 @@ impl Permissions {
         self.declared[permission]
     }
 
+    /// The operation and the object of a declared permission.
+    pub fn pair_of(&self, permission: usize) -> (u16, u16) {
+        let pair = self.pair[permission];
+        (pair as u16, (pair >> 16) as u16)
+    }
+
     /// The permission with this pair.
     pub fn find(&self, operation: u16, object: u16) -> Option<usize> {
         let pair = pair(operation, object);

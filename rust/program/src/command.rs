@@ -93,7 +93,9 @@ fn test() -> Command {
             "Runs test files. A file has a policy, as lines of its own or by `policy FILE` (for OPL/XML `policy FILE tasks FILE`; file names \
              are taken from the test file's folder), then requests, each with the reply expected of it behind `=>`: by number, by name or both, \
              and `, rule N` where the rule's place matters; behind that of a question its figures, as `, 2 entries, done 0 3` or `, stuck none, free 0 3`. A request without one is expected to be granted. `load => REPLY, record N` says \
-             what the load is expected to answer. A policy behind requests begins anew.",
+             what the load is expected to answer. A policy behind requests begins anew. Lines between `pile` and `end pile` are requests made in one call, those between \
+             `written` and `end written` the policy that is expected to be written out, and those between `mend` and `end mend` a file to mend, with the refusal of each \
+             line that is dropped behind `=>`.",
         )
         .arg(
             Arg::new("files")
@@ -140,20 +142,90 @@ fn convert() -> Command {
                 .value_hint(ValueHint::FilePath)
                 .help("Write these requests, which use the policy's names"),
         )
-        .arg(
-            Arg::new("output")
-                .short('o')
-                .long("output")
-                .value_name("FILE")
-                .value_hint(ValueHint::FilePath)
-                .help("Where to; standard output where it is missing"),
-        )
+        .arg(output("Where to; standard output where it is missing"))
         .after_help(concat!(
             "Examples:\n",
             "  mishantral convert policy.xml --tasks tasks.txt --to text\n",
             "  mishantral convert policy.txt --to records -o policy.rec\n",
             "\n",
             "Exit status: 0 written; 2 text errors, or a file that cannot be read or written.",
+        ))
+}
+
+fn form() -> Arg {
+    Arg::new("to")
+        .long("to")
+        .value_name("FORM")
+        .value_parser(PossibleValuesParser::new(["text", "records"]))
+        .help("What to write; where it is missing, text to a file whose name ends in .txt and to standard output, else records")
+}
+
+fn output(help: &'static str) -> Arg {
+    Arg::new("output")
+        .short('o')
+        .long("output")
+        .value_name("FILE")
+        .value_hint(ValueHint::FilePath)
+        .help(help)
+}
+
+fn write() -> Command {
+    Command::new("write")
+        .about("Write a policy out as it is after requests, or as a served desk has it now")
+        .long_about(
+            "Loads a policy, makes the requests, and writes the policy as it is then: users, roles and permissions that came or went since the load \
+             are in it or are not, sessions and orders are left out. Kinds rise, what is declared and assigned goes by its numbers, rules stay in their \
+             order; so the same policy always gives the same file, and what is written loads to the same policy. Text has the names that policy and \
+             requests give.\n\n\
+             With --journal, the desk is as its journal leaves it; a server may be at work meanwhile.",
+        )
+        .args([policy().required(false).required_unless_present("journal")])
+        .arg(
+            Arg::new("requests")
+                .value_name("REQUESTS")
+                .value_hint(ValueHint::FilePath)
+                .help("The requests, text or records; none where it is missing"),
+        )
+        .args([tasks(), format(), form(), flag("numbers", "Text without names")])
+        .arg(output("Where to; standard output where it is missing"))
+        .arg(journal_file().conflicts_with("policy").help("A served desk's journal, in the place of POLICY"))
+        .after_help(concat!(
+            "Examples:\n",
+            "  mishantral write examples/month/policy.txt examples/month/requests.txt\n",
+            "  mishantral write policy.rec requests.rec -o policy.new.rec\n",
+            "  mishantral write --journal desk.db -o policy.txt\n",
+            "\n",
+            "Exit status: 0 written; 1 the policy or the journal was refused; 2 text errors, or a file that cannot be read or written.",
+        ))
+}
+
+fn mend() -> Command {
+    Command::new("mend")
+        .about("Mend a damaged policy file: what a load would accept is kept, the rest is told")
+        .long_about(
+            "Reads a policy file in order, keeps each record that a load would accept after those kept before it, and drops the rest, each of which is \
+             told with its place and its refusal. What is kept always loads; a file that loads comes out the same, with nothing dropped. An incomplete \
+             last record is told as SHAPE. The damaged file itself is never written to.",
+        )
+        .arg(
+            Arg::new("file")
+                .value_name("FILE")
+                .required(true)
+                .value_hint(ValueHint::FilePath)
+                .help("The damaged policy: records, or text"),
+        )
+        .args([format(), form(), flag("numbers", "Text without names")])
+        .arg(output("Where the mended file goes; without it only the report is made, and - is standard output, the report going to standard error"))
+        .arg(flag("json", "The report as one object a line"))
+        .after_help(concat!(
+            "Examples:\n",
+            "  mishantral mend examples/mend/damaged.rec\n",
+            "  mishantral mend damaged.rec -o policy.rec\n",
+            "\n",
+            "  A line of the report:\n",
+            "  record 17: 5 TAKEN  user 300\n",
+            "\n",
+            "Exit status: 0 nothing is dropped, the file loads; 1 records are dropped; 2 text errors, or a file that cannot be read or written.",
         ))
 }
 
@@ -361,6 +433,8 @@ pub fn command() -> Command {
             run(),
             test(),
             convert(),
+            write(),
+            mend(),
             serve(),
             ask(),
             journal(),

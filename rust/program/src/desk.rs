@@ -60,6 +60,30 @@ impl Desk {
         }
     }
 
+    /// A desk whose engine holds this policy, which was not loaded but kept of a damaged file.
+    pub fn mended(policy: Policy, engine: Engine) -> Desk {
+        Desk {
+            told: Told::loaded(&policy.records()),
+            names: policy.names.clone(),
+            policy,
+            engine,
+        }
+    }
+
+    /// The reply to a pile, whose own replies are written to a buffer from a place on.
+    pub fn pile(&mut self, records: &[u8], answers: &mut [u8], at: usize) -> Reply {
+        let reply = self.engine.pile_bytes(records, answers, at);
+        if reply.is_granted() {
+            let granted = answers[at..].iter().map(|reply| *reply == 0);
+            for (record, granted) in records.chunks(LENGTH).zip(granted) {
+                if let (true, Some(record)) = (granted, whole(record)) {
+                    self.told.granted(&record);
+                }
+            }
+        }
+        reply
+    }
+
     pub fn engine(&self) -> &Engine {
         &self.engine
     }

@@ -2,16 +2,18 @@
 //!
 //! A file has a policy, as lines of its own or by `policy FILE`, and then requests, each with `=> REPLY` behind it; a request
 //! without one is expected to be granted. Behind the reply to a question may stand its figures. A policy after requests begins anew. `load => REPLY` says what the load is expected to answer.
+//! What is about many records at once is a block of lines: requests in one call (`pile`), the policy written out (`written`), a file to mend (`mend`).
 
 use crate::check::clashes;
 use crate::desk::Desk;
+use crate::files;
 use crate::names::{name_of, Names};
 use crate::reader::{self, decode, lines, read_tokens, tokens, Line, Token, Wrong};
 use crate::source::{self, bytes_of, Policy};
 use crate::stop::{wrong, Done, Stop, REFUSED, WELL};
 use crate::why::why;
 use crate::writer;
-use records::Reply;
+use records::{Reply, LENGTH};
 use std::io::Write;
 use std::path::Path;
 
@@ -81,6 +83,54 @@ enum Says {
     /// A line of a policy, or one that names.
     Declared(Line),
     Request(Line, Expected),
+    /// The first line of a block, a line within one, and the last.
+    Begin(Block),
+    Within(Line, Option<Expected>),
+    End(Expected),
+}
+
+/// A block of lines.
+#[derive(Clone, Debug)]
+struct Block {
+    of: Of,
+    lines: Vec<Stated>,
+    /// The names that the lines may use: those of the desk, or in a file to mend those that it gives.
+    names: Names,
+}
+
+/// What a block's lines are.
+#[derive(Clone, Copy, PartialEq, Eq, Debug)]
+enum Of {
+    /// Requests in one call, whose replies go to an answer buffer from a place on; where that is not said, to one that has just their length.
+    Pile(Option<(usize, usize)>),
+    /// The policy that is expected to be written out.
+    Written,
+    /// A file to mend.
+    Mend,
+}
+
+impl Of {
+    fn word(self) -> &'static str {
+        match self {
+            Of::Pile(_) => "pile",
+            Of::Written => "written",
+            Of::Mend => "mend",
+        }
+    }
+}
+
+/// A line of a block, with its number and what is expected of it.
+#[derive(Clone, Debug)]
+struct Stated {
+    number: usize,
+    line: Line,
+    expected: Option<Expected>,
+}
+
+impl Stated {
+    fn record(&self) -> &[u8] {
+        self.line.record.as_deref().unwrap_or_default()
+    }
 }
 
 /// What was found to be otherwise than expected.
@@ -92,6 +142,8 @@ struct Failure {
     because: Vec<String>,
     /// Whether the line is the one that says what was expected, and so can be updated.
     told: bool,
+    /// What stands where the line was expected, if it is about that and no reply.
+    instead: Option<String>,
 }
 
 /// How an answer is written behind `=>`; the place of a load is that of a record.
@@ -227,6 +279,8 @@ struct Run<'a> {
     desk: Option<Desk>,
     /// Whether the load was tried; where that failed, requests are left out.
     loaded: bool,
+    /// The block that was begun.
+    block: Option<Block>,
     passed: usize,
     failures: Vec<Failure>,
 }
@@ -248,6 +302,7 @@ impl<'a> Run<'a> {
             inline: true,
             desk: None,
             loaded: false,
+            block: None,
             passed: 0,
             failures: Vec::new(),
         }
@@ -275,6 +330,17 @@ impl<'a> Run<'a> {
             arrow.map_or((&all[..], None), |at| (&all[..at], Some(&all[at + 1..])));
         let judged = behind.map(|tokens| expected(tokens, end)).transpose()?;
         let words: Vec<&str> = before.iter().map(|t| t.text).collect();
+        if let Some(block) = &self.block {
+            return within(block, before, judged);
+        }
+        if let (Some(of), true) = (begins(&words), judged.is_none()) {
+            let names = match of {
+                Of::Mend => Names::default(),
+                _ => self.names().clone(),
+            };
+            let lines = Vec::new();
+            return Ok(Some(Says::Begin(Block { of, lines, names })));
+        }
         match words[..] {
             ["policy", _] if judged.is_none() => {
                 return Ok(Some(Says::Policy(file_name(before[1]), None)))
@@ -316,8 +382,163 @@ impl<'a> Run<'a> {
             Says::Load(expected) => self.load(number, expected, true),
             Says::Declared(line) => return Ok(self.declared(number, &line)),
             Says::Request(line, expected) => self.asked(number, &line, expected),
+            Says::Begin(block) => {
+                // A block that is about the desk is behind a load; a file to mend is its own.
+                if !self.loaded && block.of != Of::Mend {
+                    self.load(number, GRANTED, false);
+                }
+                self.block = Some(block);
+            }
+            Says::Within(line, expected) => {
+                if let Some(block) = &mut self.block {
+                    let wrong = reader::give(&mut block.names, &line.namings, false);
+                    if line.record.is_some() {
+                        block.lines.push(Stated {
+                            number,
+                            line,
+                            expected,
+                        });
+                    }
+                    return Ok(wrong);
+                }
+            }
+            Says::End(expected) => {
+                if let Some(block) = self.block.take() {
+                    match block.of {
+                        Of::Pile(place) => self.piled(number, block, place, expected),
+                        Of::Written => self.written(number, &block)?,
+                        Of::Mend => self.mended(block)?,
+                    }
+                }
+            }
         }
         Ok(None)
+    }
+
+    /// A pile, and what is expected of it and, where it is taken, of each of its requests.
+    fn piled(
+        &mut self,
+        number: usize,
+        block: Block,
+        place: Option<(usize, usize)>,
+        expected: Expected,
+    ) {
+        let Some(desk) = &mut self.desk else { return };
+        let records: Vec<u8> = block
+            .lines
+            .iter()
+            .flat_map(Stated::record)
+            .copied()
+            .collect();
+        let (at, length) = place.unwrap_or((0, records.len() / LENGTH));
+        let mut answers = vec![0xff; length];
+        let reply = desk.pile(&records, &mut answers, at);
+        let got = Got::of(reply, 0);
+        let what = "end pile".to_string();
+        let taken = reply.is_granted();
+        self.judge(number, expected, got, what, Vec::new());
+        let answers = answers.get(at..).unwrap_or_default();
+        let answered = block.lines.into_iter().zip(answers).filter(|_| taken);
+        for (stated, reply) in answered {
+            let expected = stated.expected.clone().unwrap_or(GRANTED);
+            let Some(reply) = Reply::from_number((*reply).into()) else {
+                continue;
+            };
+            if let Some(desk) = self.desk.as_mut().filter(|_| reply.is_granted()) {
+                reader::give(&mut desk.names, &stated.line.namings, false);
+            }
+            let what = writer::line(stated.record(), self.names());
+            self.judge(stated.number, expected, Got::of(reply, 0), what, Vec::new());
+        }
+    }
+
+    /// The policy that is expected to be written out, record by record.
+    fn written(&mut self, number: usize, block: &Block) -> Result<(), Stop> {
+        let Some(desk) = &self.desk else {
+            return Ok(());
+        };
+        let policy = files::written(desk.engine())?;
+        let mut records = policy.chunks(LENGTH);
+        let shown = |record: &[u8]| writer::line(record, &desk.names);
+        let missing = |number: usize, what: String, instead: String| Failure {
+            line: number,
+            expected: GRANTED,
+            got: Got::of(Reply::Granted, 0),
+            what,
+            because: Vec::new(),
+            told: false,
+            instead: Some(instead),
+        };
+        let (mut passed, mut failures) = (0, Vec::new());
+        for stated in &block.lines {
+            let record = records.next();
+            if record == Some(stated.record()) {
+                passed += 1;
+                continue;
+            }
+            let instead = record.map_or("the end of the policy".to_string(), shown);
+            failures.push(missing(stated.number, shown(stated.record()), instead));
+        }
+        if let Some(record) = records.next() {
+            let what = "the end of the policy".to_string();
+            failures.push(missing(number, what, shown(record)));
+        }
+        self.passed += passed;
+        self.failures.extend(failures);
+        Ok(())
+    }
+
+    /// A file to mend: each of its records is expected to be kept, or dropped with a refusal. The desk goes on with what was kept.
+    fn mended(&mut self, block: Block) -> Result<(), Stop> {
+        let records = block.lines.iter().map(Stated::record);
+        let mended = files::mended(&records.collect::<Vec<_>>().concat())?;
+        let (mut lines, mut dropped) = (Vec::new(), mended.dropped.into_iter().peekable());
+        for (stated, place) in block.lines.into_iter().zip(1..) {
+            let reply = dropped
+                .next_if(|(at, _)| *at == place)
+                .map(|(_, reply)| reply);
+            let reply = reply.unwrap_or(Reply::Granted);
+            if reply.is_granted() {
+                lines.push(stated.number);
+            }
+            let what = writer::line(stated.record(), &block.names);
+            let expected = stated.expected.unwrap_or(GRANTED);
+            self.judge(stated.number, expected, Got::of(reply, 0), what, Vec::new());
+        }
+        let policy = Policy {
+            file: self.file.to_string(),
+            bytes: mended.records,
+            lines,
+            names: block.names,
+        };
+        self.begin(policy.clone(), true);
+        self.loaded = true;
+        self.desk = Some(Desk::mended(policy, mended.engine));
+        Ok(())
+    }
+
+    /// Counts an answer that is as expected, or keeps what is otherwise.
+    fn judge(
+        &mut self,
+        line: usize,
+        expected: Expected,
+        got: Got,
+        what: String,
+        because: Vec<String>,
+    ) {
+        if expected.is(&got) {
+            self.passed += 1;
+            return;
+        }
+        self.failures.push(Failure {
+            line,
+            expected,
+            got,
+            what,
+            because,
+            told: true,
+            instead: None,
+        });
     }
 
     /// A line of a policy; or what is wrong with its names.
@@ -346,22 +567,12 @@ impl<'a> Run<'a> {
             place: answer.place,
             figures: desk.say_figures(record),
         };
-        if expected.is(&got) {
-            self.passed += 1;
-            return;
-        }
-        let because = match answer.is_granted() {
+        let because = match answer.is_granted() || expected.is(&got) {
             true => Vec::new(),
             false => why(desk, record, answer).lines(desk),
         };
-        self.failures.push(Failure {
-            line: number,
-            expected,
-            got,
-            what: writer::line(record, &desk.names),
-            because,
-            told: true,
-        });
+        let what = writer::line(record, &desk.names);
+        self.judge(number, expected, got, what, because);
     }
 
     /// Loads the policy; that it is accepted counts where the line says what is expected.
@@ -396,8 +607,36 @@ impl<'a> Run<'a> {
             what,
             because,
             told,
+            instead: None,
         });
     }
+}
+
+/// The block that a line begins: `pile`, `pile at 2 of 5`, `written` or `mend`.
+fn begins(words: &[&str]) -> Option<Of> {
+    match words {
+        ["pile"] => Some(Of::Pile(None)),
+        ["pile", "at", at, "of", length] => {
+            Some(Of::Pile(Some((at.parse().ok()?, length.parse().ok()?))))
+        }
+        ["written"] => Some(Of::Written),
+        ["mend"] => Some(Of::Mend),
+        _ => None,
+    }
+}
+
+/// A line within a block, or its last.
+fn within(
+    block: &Block,
+    before: &[Token],
+    judged: Option<Expected>,
+) -> Result<Option<Says>, Wrong> {
+    let words: Vec<&str> = before.iter().map(|t| t.text).collect();
+    if words[..] == ["end", block.of.word()] {
+        return Ok(Some(Says::End(judged.unwrap_or(GRANTED))));
+    }
+    let line = read_tokens(before, &block.names)?;
+    Ok(line.map(|line| Says::Within(line, judged)))
 }
 
 /// How many characters a text has.
@@ -440,6 +679,17 @@ fn run<'a>(file: &'a str, text: &[u8]) -> Result<Run<'a>, Stop> {
             Err(wrong) => errors.push((number, wrong)),
         }
     }
+    if let Some(block) = &run.block {
+        let last = lines(text).last().map_or(1, |(number, _)| number);
+        let expected = format!("\"end {}\"", block.of.word());
+        let found = "the end of the file".to_string();
+        let wrong = Wrong {
+            column: 1,
+            expected,
+            found,
+        };
+        errors.push((last, wrong));
+    }
     if !errors.is_empty() {
         return Err(source::told(file, errors));
     }
@@ -451,6 +701,10 @@ fn run<'a>(file: &'a str, text: &[u8]) -> Result<Run<'a>, Stop> {
 }
 
 fn told(file: &str, failure: &Failure, out: &mut dyn Write) -> std::io::Result<()> {
+    if let Some(instead) = &failure.instead {
+        let (line, what) = (failure.line, &failure.what);
+        return writeln!(out, "{file}: line {line}: expected {what}, got {instead}");
+    }
     let load = failure.what == "load";
     let wanted = answer_text(&failure.expected.got(), load);
     let got = answer_text(&failure.got, load);

@@ -7,6 +7,7 @@ mod convert;
 mod dealer;
 mod desk;
 mod expect;
+mod files;
 mod finish;
 mod journal;
 mod manual;
@@ -78,6 +79,41 @@ fn convert(given: &ArgMatches, out: &mut dyn Write) -> Done {
         Some(requests) => convert::requests(&requests, &policy.names, to, out),
         None => convert::policy(&policy, to, out),
     }
+}
+
+fn write(given: &ArgMatches, out: &mut dyn Write) -> Done {
+    let desk = match text(given, "policy") {
+        None => stood(given)?,
+        Some(_) => {
+            let policy = policy(given)?;
+            match Desk::open(&policy) {
+                Ok(desk) => desk,
+                Err(refused) => return Err(Stop::Refused(check::refusal(&policy, refused))),
+            }
+        }
+    };
+    let requests = match text(given, "requests") {
+        Some(file) => source::requests(file, &desk.names)?,
+        None => Vec::new(),
+    };
+    let (file, to) = (text(given, "output"), text(given, "to"));
+    let output = files::Output::new(file, to, given.get_flag("numbers"));
+    files::write(desk, &requests, &output, out)
+}
+
+fn mend(given: &ArgMatches, out: &mut dyn Write) -> Done {
+    let file = text(given, "file").unwrap_or_default();
+    let format = text(given, "from").and_then(Format::of_name);
+    let policy = source::damaged(file, format)?;
+    let to_file = text(given, "output");
+    if to_file.is_some_and(|name| files::is_same(name, file)) {
+        return wrong(format!(
+            "{file}: the damaged file is kept: -o takes another name"
+        ));
+    }
+    let (to, numbers) = (text(given, "to"), given.get_flag("numbers"));
+    let output = to_file.map(|name| files::Output::new(Some(name), to, numbers));
+    files::mend(policy, output.as_ref(), given.get_flag("json"), out)
 }
 
 fn generate(given: &ArgMatches, out: &mut dyn Write) -> Done {
@@ -190,6 +226,8 @@ fn done(out: &mut dyn Write) -> Done {
             expect::test(&files, given.get_flag("update"), out)
         }
         Some(("convert", given)) => convert(given, out),
+        Some(("write", given)) => write(given, out),
+        Some(("mend", given)) => mend(given, out),
         Some(("serve", given)) => serve(given, out),
         Some(("ask", given)) => {
             let socket = text(given, "socket").unwrap_or_default();

@@ -128,14 +128,29 @@ pub fn policy(file: &str, tasks: Option<&str>, format: Option<Format>) -> Result
         ));
     }
     match format {
-        Format::Records => Ok(Policy {
-            file: shown(file).to_string(),
-            bytes,
-            lines: Vec::new(),
-            names: Names::default(),
-        }),
+        Format::Records => Ok(record_policy(file, bytes)),
         Format::Text => text_policy(file, &bytes),
         Format::Opl => opl_policy(file, &bytes, tasks),
+    }
+}
+
+/// A damaged policy file: text where its name or every byte says so, else records, whatever they are.
+pub fn damaged(file: &str, format: Option<Format>) -> Result<Policy, Stop> {
+    let bytes = bytes_of(file)?;
+    let text = file.ends_with(".txt") || notation::is_text(&bytes) && !bytes.is_empty();
+    match format {
+        Some(Format::Text) => text_policy(file, &bytes),
+        None if text => text_policy(file, &bytes),
+        _ => Ok(record_policy(file, bytes)),
+    }
+}
+
+fn record_policy(file: &str, bytes: Vec<u8>) -> Policy {
+    Policy {
+        file: shown(file).to_string(),
+        bytes,
+        lines: Vec::new(),
+        names: Names::default(),
     }
 }
 

@@ -1,11 +1,11 @@
 -- The settled request's reply and place as one number.
 use native.Mathlib.Omega.{arith}
 use Rattle.lower.proofs.Numbers.{number-small}
 use Rattle.engine.proofs.PlaceLaws.{requested-small}
 use Rattle.engine.proofs.Ways.{request-exported}
 use borrow.Author.Needs.{needs}
-use Rattle.engine.proofs.mishantral_settled_request.Statement.{statement}
-use Rattle.engine.proofs.mishantral_settled_request.Tie as tie
+use Rattle.settled.proofs.mishantral_settled_request.Statement.{statement}
+use Rattle.settled.proofs.mishantral_settled_request.Tie as tie
 
 settled-request-requires : tie.Need-settled-request-requires
 settled-request-requires c κs = search needs

@@ -1,0 +1,3 @@
+mod Laws
+mod LineLaws
+pub mod Ways
