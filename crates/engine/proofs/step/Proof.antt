@@ -97,7 +97,7 @@ same-length-3 c = search needs
 
 returns : tie.Need-returns
 unfolding chosen requestKinds upperKinds placeOf
-returns c = rw (c .before .before .before .before .before .before .before .match .keys1) (of-both (c .plain .ensures) refl (c .before .before .before .delete .ensures), c .before .before .before .before .before .before .before .before .before .before .before .pre .0 .1 .1 .1)
+returns c = rw (c .before .before .before .before .before .before .before .before .before .match .keys1) (of-both (c .plain .ensures) refl (c .before .before .before .before .before .delete .ensures), c .before .before .before .before .before .before .before .before .before .before .before .before .before .pre .0 .1 .1 .1)
 
 same-length-4 : tie.Need-same-length-4
 same-length-4 c = search needs
