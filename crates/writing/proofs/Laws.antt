@@ -74,6 +74,11 @@ encoded : (r : Record) → length (encode r) ≡ 16
 unfolding encode bytes
 encoded r = refl
 
+pub joined-length : (rs : List Record) → length (joined (each encode rs)) ≡ 16 * many rs
+unfolding joined each many
+joined-length [] = refl
+joined-length (r ∷ rs) = omega (arith, length-append (encode r) (joined (each encode rs)), encoded r, joined-length rs)
+
 module _ (out : Bytes) (p : ℕ) (r : Record) (h : 16 * suc p ≤ length out) where
   front : length (take (16 * p) out ++ encode r) ≡ 16 * suc p
   front =

@@ -1,3 +1,3 @@
-mod Laws
+pub mod Laws
 mod LineLaws
 pub mod Ways
