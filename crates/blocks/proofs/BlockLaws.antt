@@ -1,20 +1,21 @@
--- Laws of blocks of walls: the planes of a word, one plane picked from two, and blocks that are others.
+-- Laws of blocks of walls: the planes of a word, bits picked from two words, and blocks that are others.
 use Prim.Native.Nat.{ℕ, zero, suc, _+_, _*_, _/_, _%_, _^_, _<_, _≤_, min}
 use mathlib.Core.Bool.{Bool, true, false, not, cond, _&&_, _||_}
-use mathlib.Core.Logic.{_⊎_, ⊎-elim}
+use mathlib.Core.Logic.{⊎-elim}
 use mathlib.Core.Path.{_≡_, refl, sym, ap, ap₂, fun-ext, _∙_}
 use native.Mathlib.Omega.{arith}
 use borrow.Author.Tests.{eq-eqb, ne-eqb, eqb-true, eqb-false, ltb-true, ltb-false}
-use lib.Bits.{bitAnd, bitOr, bitXor, differ}
+use native.Mathlib.Nat.{zero-mul, one-mul}
+use lib.Bits.{bitAnd, bitOr, bitXor, differ, and-shr, or-shr, xor-shr, and-mod, or-mod, xor-mod}
 use lib.Dec.{eqb, ltb}
 use lib.Pow.{pow-lt}
-use Rattle.paper_lower.specs.Sets.{Set, empty, has, union, collect}
-use Rattle.paper_lower.specs.Lists.{Maybe, someBelow, holds, orElse}
+use Rattle.paper_lower.specs.Sets.{Set, has, union, collect}
+use Rattle.paper_lower.specs.Lists.{someBelow, holds, orElse}
 use Rattle.paper_lower.specs.Lists.Maybe.{none, just}
 use Rattle.paper_lower.specs.Policy.{another}
-use Rattle.sets.proofs.Bits.{bit-and, bit-or, bit-xor, bit-one, bit-other, one-shl, same-or-other}
-use Rattle.sets.proofs.SetLaws.{digit, digit-has, has-digit, bit-has, bit-hasnt, has-empty, has-union, has-above, union-lt, same-members, some-collected, collect-below, collect-above, below-members}
-use Rattle.blocks.specs.Reading.{told, blockIn, blocksIn, only, over, apart, picked}
+use Rattle.sets.proofs.Bits.{bit-and, bit-xor, bit-one, bit-other, one-shl, same-or-other}
+use Rattle.sets.proofs.SetLaws.{digit, digit-has, has-digit, bit-has, bit-hasnt, has-empty, has-union, has-above, union-lt, same-members, some-collected, collect-below, collect-above}
+use Rattle.blocks.specs.Reading.{told, blockIn, blocksIn, only, over, apart}
 
 -- ---- members
 differs : Bool → Bool → Bool
@@ -44,7 +45,11 @@ has-xor a b i = has-digit _ i _ (bit-xor i a b ∙ ap₂ differ (digit-has a i) 
     go false true = refl
     go false false = refl
 
-pub has-picked : (w a b : Set) (i : ℕ) → has (picked w a b) i ≡ cond (has w i) (has a i) (has b i)
+-- the bits of a in w, and those of b elsewhere
+abbrev picked : Set → Set → Set → Set
+picked w a b = bitOr (bitAnd a w) (bitXor b (bitAnd b w))
+
+has-picked : (w a b : Set) (i : ℕ) → has (picked w a b) i ≡ cond (has w i) (has a i) (has b i)
 unfolding differs
 has-picked w a b i =
     has-or (bitAnd a w) (bitXor b (bitAnd b w)) i
@@ -61,13 +66,19 @@ has-picked w a b i =
     go false false true = refl
     go false false false = refl
 
-pub picked-lt : (w a b : Set) → a < 65536 → b < 65536 → picked w a b < 65536
-picked-lt w a b h k =
-    below-members 16 (picked w a b) (λ i n. has-picked w a b i ∙ go (has w i) (has-above 16 a i h n) (has-above 16 b i k n))
-  where
-    go : {p q : Bool} (u : Bool) → p ≡ false → q ≡ false → cond u p q ≡ false
-    go true e f = e
-    go false e f = f
+-- part by part
+picked-shr : (k w a b : ℕ) → picked w a b / 2 ^ k ≡ picked (w / 2 ^ k) (a / 2 ^ k) (b / 2 ^ k)
+picked-shr k w a b =
+    or-shr (bitAnd a w) (bitXor b (bitAnd b w)) k
+    ∙ ap₂ bitOr (and-shr a w k) (xor-shr b (bitAnd b w) k ∙ ap (bitXor (b / 2 ^ k)) (and-shr b w k))
+
+picked-mod : (k w a b : ℕ) → picked w a b % 2 ^ k ≡ picked (w % 2 ^ k) (a % 2 ^ k) (b % 2 ^ k)
+picked-mod k w a b =
+    or-mod (bitAnd a w) (bitXor b (bitAnd b w)) k
+    ∙ ap₂ bitOr (and-mod a w k) (xor-mod b (bitAnd b w) k ∙ ap (bitXor (b % 2 ^ k)) (and-mod b w k))
+
+picked-part : (k w a b : ℕ) → picked w a b / 2 ^ k % 2 ^ 16 ≡ picked (w / 2 ^ k % 2 ^ 16) (a / 2 ^ k % 2 ^ 16) (b / 2 ^ k % 2 ^ 16)
+picked-part k w a b = ap (λ (x : ℕ). x % 2 ^ 16) (picked-shr k w a b) ∙ picked-mod 16 (w / 2 ^ k) (a / 2 ^ k) (b / 2 ^ k)
 
 or-below : (a b : Set) → a < 65536 → b < 65536 → bitOr a b < 65536
 unfolding union
@@ -86,22 +97,26 @@ halves p q h = omega arith
 top : (p q : ℕ) → p < 281474976710656 → (p + 281474976710656 * q) / 281474976710656 ≡ q
 top p q h = omega arith
 
-module _ (p₀ p₁ p₂ p₃ : ℕ) (h₀ : p₀ < 65536) (h₁ : p₁ < 65536) (h₂ : p₂ < 65536) (h₃ : p₃ < 65536) where
-  pub in-planes : (w : ℕ) → blockIn (p₀ + 65536 * p₁ + 4294967296 * p₂ + 281474976710656 * p₃) w ≡ told (has p₀ w) (has p₁ w) (has p₂ w) (has p₃ w)
-  unfolding blockIn
-  in-planes w =
-      let x = p₀ + 65536 * p₁ + 4294967296 * p₂ + 281474976710656 * p₃ in
+module _ (p₀ p₁ p₂ p₃ : ℕ) (h₀ : p₀ < 65536) (h₁ : p₁ < 65536) (h₂ : p₂ < 65536) (h₃ : p₃ < 65536) (x : ℕ) (is : x ≡ p₀ + 65536 * p₁ + 4294967296 * p₂ + 281474976710656 * p₃) where
+  planes : (x % 65536 ≡ p₀) × ((x / 65536 % 65536 ≡ p₁) × ((x / 4294967296 % 65536 ≡ p₂) × (x / 281474976710656 % 65536 ≡ p₃)))
+  planes =
       let y = p₁ + 65536 * (p₂ + 65536 * p₃) in
       let z = p₂ + 65536 * p₃ in
       let r₁ : x ≡ p₀ + 65536 * y = omega arith in
-      let r₂ : x ≡ p₀ + 65536 * p₁ + 4294967296 * z = omega arith in
-      let e₀ : x % 65536 ≡ p₀ = ap (λ (k : ℕ). k % 65536) r₁ ∙ low-part p₀ y h₀ in
-      let e₁ : x / 65536 % 65536 ≡ p₁ = ap (λ (k : ℕ). k / 65536 % 65536) r₁ ∙ ap (λ (k : ℕ). k % 65536) (high-part p₀ y h₀) ∙ low-part p₁ z h₁ in
-      let e₂ : x / 4294967296 % 65536 ≡ p₂ =
-      ap (λ (k : ℕ). k / 4294967296 % 65536) r₂ ∙ ap (λ (k : ℕ). k % 65536) (halves (p₀ + 65536 * p₁) z (omega arith)) ∙ low-part p₂ p₃ h₂ in
-      let e₃ : x / 281474976710656 % 65536 ≡ p₃ =
-      ap (λ (k : ℕ). k % 65536) (top (p₀ + 65536 * p₁ + 4294967296 * p₂) p₃ (omega arith)) ∙ (let m : p₃ % 65536 ≡ p₃ = omega arith in m) in
-      λ i. told (has (e₀ i) w) (has (e₁ i) w) (has (e₂ i) w) (has (e₃ i) w)
+      let r₂ : x ≡ p₀ + 65536 * p₁ + 4294967296 * z = omega arith in (
+        ap (λ (k : ℕ). k % 65536) r₁ ∙ low-part p₀ y h₀,
+        (
+          ap (λ (k : ℕ). k / 65536 % 65536) r₁ ∙ ap (λ (k : ℕ). k % 65536) (high-part p₀ y h₀) ∙ low-part p₁ z h₁,
+          (
+            ap (λ (k : ℕ). k / 4294967296 % 65536) r₂ ∙ ap (λ (k : ℕ). k % 65536) (halves (p₀ + 65536 * p₁) z (omega arith)) ∙ low-part p₂ p₃ h₂,
+            ap (λ (k : ℕ). k / 281474976710656 % 65536) is ∙ ap (λ (k : ℕ). k % 65536) (top (p₀ + 65536 * p₁ + 4294967296 * p₂) p₃ (omega arith)) ∙ (let m : p₃ % 65536 ≡ p₃ = omega arith in m),
+          ),
+        ),
+      )
+
+  in-planes : (w : ℕ) → blockIn x w ≡ told (has p₀ w) (has p₁ w) (has p₂ w) (has p₃ w)
+  unfolding blockIn
+  in-planes w = λ i. told (has (planes .0 i) w) (has (planes .1 .0 i) w) (has (planes .1 .1 .0 i) w) (has (planes .1 .1 .1 i) w)
 
 pub no-words : blocksIn 0 0 ≡ (λ w. none)
 unfolding blocksIn
@@ -117,31 +132,31 @@ chosen true v a₀ a₁ a₂ a₃ b₀ b₁ b₂ b₃ = refl
 chosen false true a₀ a₁ a₂ a₃ b₀ b₁ b₂ b₃ = refl
 chosen false false a₀ a₁ a₂ a₃ b₀ b₁ b₂ b₃ = refl
 
-pub over-words : (u a v b : ℕ) (p₀ p₁ p₂ p₃ : ℕ)
-    → p₀ ≡ picked (u % 65536) (a % 65536) (b % 65536)
-    → p₁ ≡ picked (u % 65536) (a / 65536 % 65536) (b / 65536 % 65536)
-    → p₂ ≡ picked (u % 65536) (a / 4294967296 % 65536) (b / 4294967296 % 65536)
-    → p₃ ≡ picked (u % 65536) (a / 281474976710656 % 65536) (b / 281474976710656 % 65536)
-    → p₀ < 65536 → p₁ < 65536 → p₂ < 65536 → p₃ < 65536
-    → blocksIn (bitOr (u % 65536) (v % 65536)) (p₀ + 65536 * p₁ + 4294967296 * p₂ + 281474976710656 * p₃) ≡ over (blocksIn u a) (blocksIn v b)
+-- the walls of the first word in every plane pick
+pub over-words : (u a v b : ℕ) → blocksIn (bitOr (u % 65536) (v % 65536)) (picked (u % 65536 * 281479271743489) a b) ≡ over (blocksIn u a) (blocksIn v b)
 unfolding blocksIn blockIn
-over-words u a v b p₀ p₁ p₂ p₃ e₀ e₁ e₂ e₃ h₀ h₁ h₂ h₃ = fun-ext at
+over-words u a v b = fun-ext at
   where
-    at-plane : (p x y w : ℕ) → p ≡ picked (u % 65536) x y → has p w ≡ cond (has (u % 65536) w) (has x w) (has y w)
-    at-plane p x y w e = ap (λ (k : ℕ). has k w) e ∙ has-picked (u % 65536) x y w
+    mask : ℕ
+    mask = u % 65536 * 281479271743489
+
+    every : (mask % 65536 ≡ u % 65536) × ((mask / 65536 % 65536 ≡ u % 65536) × ((mask / 4294967296 % 65536 ≡ u % 65536) × (mask / 281474976710656 % 65536 ≡ u % 65536)))
+    every = planes (u % 65536) (u % 65536) (u % 65536) (u % 65536) (omega arith) (omega arith) (omega arith) (omega arith) mask (omega arith)
+
+    at-plane : (p m x y w : ℕ) → p ≡ picked m x y → m ≡ u % 65536 → has p w ≡ cond (has (u % 65536) w) (has x w) (has y w)
+    at-plane p m x y w e is = ap (λ (k : ℕ). has k w) (e ∙ ap (λ (k : ℕ). picked k x y) is) ∙ has-picked (u % 65536) x y w
 
     low : bitOr (u % 65536) (v % 65536) % 65536 ≡ bitOr (u % 65536) (v % 65536)
     low = let l = or-below (u % 65536) (v % 65536) (omega arith) (omega arith) in omega arith
 
-    at : (w : ℕ) → blocksIn (bitOr (u % 65536) (v % 65536)) (p₀ + 65536 * p₁ + 4294967296 * p₂ + 281474976710656 * p₃) w ≡ orElse (blocksIn u a w) (blocksIn v b w)
+    at : (w : ℕ) → blocksIn (bitOr (u % 65536) (v % 65536)) (picked mask a b) w ≡ orElse (blocksIn u a w) (blocksIn v b w)
     at w =
         let walls = ap (λ (k : ℕ). has k w) low ∙ has-or (u % 65536) (v % 65536) w in
-        let block = in-planes p₀ p₁ p₂ p₃ h₀ h₁ h₂ h₃ w in
-        let q₀ = at-plane p₀ _ _ w e₀ in
-        let q₁ = at-plane p₁ _ _ w e₁ in
-        let q₂ = at-plane p₂ _ _ w e₂ in
-        let q₃ = at-plane p₃ _ _ w e₃ in
-        ap₂ (λ (t : Bool) (k : ℕ). cond t (just k) none) walls (block ∙ λ i. told (q₀ i) (q₁ i) (q₂ i) (q₃ i))
+        let q₀ = at-plane (picked mask a b % 65536) (mask % 65536) (a % 65536) (b % 65536) w (picked-mod 16 mask a b) (every .0) in
+        let q₁ = at-plane (picked mask a b / 65536 % 65536) (mask / 65536 % 65536) (a / 65536 % 65536) (b / 65536 % 65536) w (picked-part 16 mask a b) (every .1 .0) in
+        let q₂ = at-plane (picked mask a b / 4294967296 % 65536) (mask / 4294967296 % 65536) (a / 4294967296 % 65536) (b / 4294967296 % 65536) w (picked-part 32 mask a b) (every .1 .1 .0) in
+        let q₃ = at-plane (picked mask a b / 281474976710656 % 65536) (mask / 281474976710656 % 65536) (a / 281474976710656 % 65536) (b / 281474976710656 % 65536) w (picked-part 48 mask a b) (every .1 .1 .1) in
+        ap₂ (λ (t : Bool) (k : ℕ). cond t (just k) none) walls (λ i. told (q₀ i) (q₁ i) (q₂ i) (q₃ i))
         ∙ chosen (has (u % 65536) w) (has (v % 65536) w) _ _ _ _ _ _ _ _
 
 -- ---- a single block
@@ -178,6 +193,19 @@ one-wall wall h = one-shl wall (omega arith)
 pub small-wall : (wall : ℕ) → wall < 16 → (1 * 2 ^ wall) % 2 ^ 64 < 65536
 small-wall wall h = rw (one-wall wall h) (below-power wall h)
 
+-- the wall's bit, or none
+digit-times : (digit one : ℕ) → digit < 2 → digit * one ≡ cond (eqb digit 1) one 0
+digit-times zero one h = zero-mul one
+digit-times (suc zero) one h = one-mul one
+digit-times (suc (suc d)) one h = let z : ⊥ = omega arith in absurd z
+
+pub digit-plane : (digit one : ℕ) → digit < 2 → (digit * one ≡ cond (eqb digit 1) one 0) × (digit * one ≤ one)
+digit-plane digit one h = (digit-times digit one h, rw (digit-times digit one h) (go (eqb digit 1)))
+  where
+    go : (t : Bool) → cond t one 0 ≤ one
+    go true = omega arith
+    go false = omega arith
+
 pub single-words : (wall block one p₀ p₁ p₂ p₃ : ℕ) → wall < 16 → block < 16 → one ≡ 2 ^ wall
     → p₀ ≡ cond (eqb (block % 2) 1) one 0 → p₁ ≡ cond (eqb (block / 2 % 2) 1) one 0
     → p₂ ≡ cond (eqb (block / 4 % 2) 1) one 0 → p₃ ≡ cond (eqb (block / 8 % 2) 1) one 0
@@ -206,7 +234,7 @@ single-words wall block one p₀ p₁ p₂ p₃ h k o e₀ e₁ e₂ e₃ l₀ l
         let q₁ = plane-in p₁ _ e₁ in
         let q₂ = plane-in p₂ _ e₂ in
         let q₃ = plane-in p₃ _ e₃ in
-        in-planes p₀ p₁ p₂ p₃ (omega arith) (omega arith) (omega arith) (omega arith) wall
+        in-planes p₀ p₁ p₂ p₃ (omega arith) (omega arith) (omega arith) (omega arith) (p₀ + 65536 * p₁ + 4294967296 * p₂ + 281474976710656 * p₃) refl wall
         ∙ (λ i. told (q₀ i) (q₁ i) (q₂ i) (q₃ i)) ∙ digits block k
 
     at : (w : ℕ) → cond (has (one % 65536) w) (just (blockIn (p₀ + 65536 * p₁ + 4294967296 * p₂ + 281474976710656 * p₃) w)) none ≡ cond (eqb wall w) (just block) none

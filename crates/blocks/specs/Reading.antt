@@ -2,9 +2,8 @@
 -- second is set. Every content reads as some blocks.
 use Prim.Native.Nat.{ℕ, _+_, _*_, _/_, _%_}
 use mathlib.Core.Bool.{Bool, cond}
-use lib.Bits.{bitAnd, bitOr, bitXor}
 use lib.Dec.{eqb}
-use Rattle.paper_lower.specs.Sets.{Set, has}
+use Rattle.paper_lower.specs.Sets.{has}
 use Rattle.paper_lower.specs.Lists.{Maybe, holds, orElse}
 use Rattle.paper_lower.specs.Lists.Maybe.{none, just}
 use Rattle.paper_lower.specs.Policy.{another}
@@ -36,7 +35,3 @@ over f g w = orElse (f w) (g w)
 
 abbrev pub apart : (ℕ → Maybe ℕ) → (ℕ → Maybe ℕ) → ℕ → Bool
 apart f g w = holds (λ k. another k (g w)) (f w)
-
--- a plane's bits of a in the walls of w, and of b elsewhere
-abbrev pub picked : Set → Set → Set → Set
-picked w a b = bitOr (bitAnd a w) (bitXor b (bitAnd b w))

@@ -3,13 +3,17 @@
 ghost use mathlib.Core.Path.{_≡_};
 ghost use mathlib.Core.Bool.{cond};
 ghost use Prim.Native.Nat.{_<_, _≤_};
+ghost use lib.Dec.{eqb};
 ghost use Rattle.paper_lower.specs.Lists.{someBelow};
-ghost use Rattle.blocks.specs.Reading.{blocksOf, nowhere, only, over, apart, picked};
+ghost use Rattle.blocks.specs.Reading.{blocksOf, nowhere, only, over, apart};
 
 pub struct Blocks {
     pub walls: u64,
     pub blocks: u64,
 }
+
+// A bit in each plane: sixteen bits times this are the same bits in every plane.
+const EVERY_PLANE: u64 = 281479271743489;
 
 pub fn none() -> Blocks
     ensures { λ r. ⌜ blocksOf r ≡ nowhere ⌝ }
@@ -20,42 +24,24 @@ pub fn none() -> Blocks
     }
 }
 
-// The numbers of a where w has them, and those of b elsewhere.
-fn pick(w: u64, a: u64, b: u64) -> u64
-    requires { ⌜ (a < 65536) × (b < 65536) ⌝ }
-    ensures { λ r. ⌜ (r ≡ picked w a b) × (r < 65536) ⌝ }
-{
-    (a & w) | (b ^ (b & w))
-}
-
 // The blocks of a, and in the walls where a has none those of b.
 pub fn over(a: Blocks, b: Blocks) -> Blocks
     ensures { λ r. ⌜ blocksOf r ≡ over (blocksOf a) (blocksOf b) ⌝ }
 {
     let w = a.walls % 65536;
-    let p0 = pick(w, a.blocks % 65536, b.blocks % 65536);
-    let p1 = pick(w, a.blocks / 65536 % 65536, b.blocks / 65536 % 65536);
-    let p2 = pick(
-        w,
-        a.blocks / 4294967296 % 65536,
-        b.blocks / 4294967296 % 65536,
-    );
-    let p3 = pick(
-        w,
-        a.blocks / 281474976710656 % 65536,
-        b.blocks / 281474976710656 % 65536,
-    );
+    let mask = w * EVERY_PLANE;
     Blocks {
         walls: w | (b.walls % 65536),
-        blocks: p0 + 65536 * p1 + 4294967296 * p2 + 281474976710656 * p3,
+        blocks: (a.blocks & mask) | (b.blocks ^ (b.blocks & mask)),
     }
 }
 
-// One plane of a single block: the wall's bit, where the block's number has the plane's.
-fn plane(one: u64, bit: bool) -> u64
-    ensures { λ r. ⌜ (r ≡ cond bit one 0) × (r ≤ one) ⌝ }
+// One plane of a single block: the wall's bit, if the block's number has the plane's.
+fn plane(one: u64, digit: u64) -> u64
+    requires { ⌜ (one < 65536) × (digit < 2) ⌝ }
+    ensures { λ r. ⌜ (r ≡ cond (eqb digit 1) one 0) × (r ≤ one) ⌝ }
 {
-    if bit { one } else { 0 }
+    digit * one
 }
 
 fn single(wall: u64, block: u64) -> Blocks
@@ -63,10 +49,10 @@ fn single(wall: u64, block: u64) -> Blocks
     ensures { λ r. ⌜ blocksOf r ≡ only wall block ⌝ }
 {
     let one = 1 << wall;
-    let p0 = plane(one, block % 2 == 1);
-    let p1 = plane(one, block / 2 % 2 == 1);
-    let p2 = plane(one, block / 4 % 2 == 1);
-    let p3 = plane(one, block / 8 % 2 == 1);
+    let p0 = plane(one, block % 2);
+    let p1 = plane(one, block / 2 % 2);
+    let p2 = plane(one, block / 4 % 2);
+    let p3 = plane(one, block / 8 % 2);
     Blocks {
         walls: one,
         blocks: p0 + 65536 * p1 + 4294967296 * p2 + 281474976710656 * p3,
