@@ -92,7 +92,7 @@ impl Set {
         requires { ⌜ 0 < self .bits ⌝ }
         ensures { λ r. ⌜ (has (self .bits) r ≡ true) × (r < 64) ⌝ }
     {
-        u64::trailing_zeros(self.bits) as u64
+        self.least()
     }
 
     // The least of them.

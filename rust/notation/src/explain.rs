@@ -9,7 +9,7 @@ use crate::write::line_named;
 use records::{Reply, LENGTH};
 
 /// A line of the listing, of which each word is asked for in turn.
-struct Listed<'a> {
+pub(crate) struct Listed<'a> {
     number: usize,
     tokens: Vec<Token<'a>>,
     at: usize,
@@ -17,7 +17,7 @@ struct Listed<'a> {
 }
 
 impl<'a> Listed<'a> {
-    fn new(before: usize, line: &'a str) -> Listed<'a> {
+    pub fn new(before: usize, line: &'a str) -> Listed<'a> {
         Listed {
             number: before + 1,
             tokens: tokens(line),
@@ -63,7 +63,7 @@ impl<'a> Listed<'a> {
     }
 }
 
-fn load_line(
+pub(crate) fn load_line(
     mut listed: Listed,
     policy: Option<&[u8]>,
     names: &Names,
@@ -109,7 +109,7 @@ fn rule_words(
 }
 
 /// The request's reply, its line, and a line below it for the rule.
-fn request_line(
+pub(crate) fn request_line(
     mut listed: Listed,
     place: usize,
     record: &[u8],

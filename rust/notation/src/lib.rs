@@ -26,6 +26,7 @@ mod figures;
 mod names;
 mod read;
 mod write;
+mod written;
 
 pub use explain::{explain, explain_named, refused, refused_named};
 pub use figures::{figures, stuck_named, ANSWER};
@@ -34,6 +35,7 @@ pub use read::{read, read_lines, read_named, Error};
 use records::forms::{parts, FORMS};
 pub use records::Reply;
 pub use write::{line, line_named, write, write_named};
+pub use written::{written, WRITER};
 
 /// Every line that the notation has, one for each kind and two for any bytes.
 pub fn forms() -> String {

@@ -26,6 +26,12 @@ Records as lines of words (docs/RULES.md), and back.
                                                   --policy: the policy's records, to show a refused one,
                                                   the rule that a refused claim is about and the figures
                                                   of a granted question
+  mishantral-notation written [--dealer POLICY TASKS] [--words] POLICY REQUESTS
+                                                  the policy's records as they are after the requests, which
+                                                  a desk program has answered with the listing on standard
+                                                  input; --words: as text
+  mishantral-notation written --writer            which engine writes: \"proved\", or \"plain\" where no library
+                                                  with that call was there at the build
   mishantral-notation refused [--dealer POLICY TASKS] [--name NAME] FILE REPLY PLACE
                                                   which record of a policy, text or records, a load's
                                                   refusal is about; --name: what to call the file
@@ -120,15 +126,35 @@ fn explain(arguments: &[&str]) -> Made {
         return Err(usage("explain takes one file of request records"));
     };
     let requests = input(requests)?;
-    let listing = String::from_utf8(input("-")?).map_err(|_| {
-        Stop(
-            vec!["standard input: the listing is not text".to_string()],
-            1,
-        )
-    })?;
-    notation::explain_named(policy.as_deref(), &requests, &listing, &names)
+    notation::explain_named(policy.as_deref(), &requests, &listing()?, &names)
         .map(String::into_bytes)
         .map_err(|error| within("-", vec![error]))
+}
+
+/// A desk program's listing, from standard input.
+fn listing() -> Result<String, Stop> {
+    let no_text = "standard input: the listing is not text".to_string();
+    String::from_utf8(input("-")?).map_err(|_| Stop(vec![no_text], 1))
+}
+
+fn written(arguments: &[&str]) -> Made {
+    if arguments == ["--writer"] {
+        return Ok(format!("{}\n", notation::WRITER).into_bytes());
+    }
+    let (names, rest) = dealer::names_of(arguments)?;
+    let (words, files) = match rest {
+        ["--words", files @ ..] => (true, files),
+        files => (false, files),
+    };
+    let [policy, requests] = files else {
+        return Err(usage("written takes a policy and requests, as records"));
+    };
+    let written = notation::written(&input(policy)?, &input(requests)?, &listing()?)
+        .map_err(|error| within("-", vec![error]))?;
+    Ok(match words {
+        true => notation::write_named(&written, &names).into_bytes(),
+        false => written,
+    })
 }
 
 fn refused(arguments: &[&str]) -> Made {
@@ -167,6 +193,7 @@ fn made(arguments: &[&str]) -> Made {
         ["words", rest @ ..] => words(rest),
         ["opl", rest @ ..] => dealer::opl(rest),
         ["explain", rest @ ..] => explain(rest),
+        ["written", rest @ ..] => written(rest),
         ["refused", rest @ ..] => refused(rest),
         ["stuck", rest @ ..] => stuck(rest),
         ["forms"] => Ok(notation::forms().into_bytes()),

@@ -104,3 +104,35 @@ fn wrong_use_is_status_2() {
         assert!(said.starts_with("mishantral-notation: "), "{said}");
     }
 }
+
+#[test]
+fn the_policy_after_requests_is_written_where_the_listing_is_the_engine_s() {
+    let folder = std::path::Path::new(env!("CARGO_TARGET_TMPDIR"));
+    let file = |name: &str, text: &[u8]| {
+        let path = folder.join(name);
+        std::fs::write(&path, run(&["records"], text).0).unwrap();
+        path.to_str().unwrap().to_string()
+    };
+    let policy = file("written policy.rec", b"role 1\nrole 0\nuser 300\n");
+    let requests = b"add user 7 with roles 1\nadd user 300\nassign role 0 to user 300\n";
+    let requests = file("written requests.rec", requests);
+    let listing = b"load 0 0\n1 0 0\n2 5 0\n3 0 0\n";
+    let written = "user 7\nuser 300\nrole 0\nrole 1\nuser 7 has role 1\nuser 300 has role 0\n";
+    let (text, said, status) = run(&["written", "--words", &policy, &requests], listing);
+    assert_eq!(String::from_utf8(text).unwrap(), written);
+    assert_eq!((&said[..], status), ("", 0));
+    let (records, _, _) = run(&["written", &policy, &requests], listing);
+    assert_eq!(run(&["words"], &records).0, written.as_bytes());
+    for (listing, line) in [
+        (&b"load 0 0\n1 0 0\n2 0 0\n3 0 0\n"[..], "line 3"),
+        (b"load 5 1\n", "line 1"),
+        (b"load 0 0\n1 0 0\n", "line 3"),
+    ] {
+        let (written, said, status) = run(&["written", &policy, &requests], listing);
+        assert_eq!((written.len(), status), (0, 1));
+        assert!(said.contains(line), "{said}");
+    }
+    assert_eq!(run(&["written", &policy], b"").2, 2);
+    let writer = run(&["written", "--writer"], b"").0;
+    assert!([&b"proved\n"[..], b"plain\n"].contains(&&writer[..]));
+}

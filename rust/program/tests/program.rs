@@ -107,7 +107,14 @@ fn plain_is_the_desk_listing_from_text_and_from_records() {
 
 #[test]
 fn a_listing_in_words_has_the_replies_of_the_example() {
-    for example in ["listing", "loan", "night_shift", "stuck_order", "team_lead"] {
+    for example in [
+        "listing",
+        "loan",
+        "month",
+        "night_shift",
+        "stuck_order",
+        "team_lead",
+    ] {
         let name = |file: &str| format!("examples/{example}/{file}");
         let (words, _, status) =
             run(&["run", "--brief", &name("policy.txt"), &name("requests.txt")]);
@@ -250,6 +257,165 @@ fn a_failed_test_says_what_came_instead_and_update_writes_it() {
         errors[1].ends_with("line 3, column 1: expected \"claim\", found \"clam\""),
         "{errors:?}"
     );
+}
+
+#[test]
+fn blocks_of_a_test_file_fail_line_by_line() {
+    let room = room("blocks");
+    let text = "user 1 anna\nrole 0 clerk\nrole 1 lead\npile\n  add user 2\n  add user anna\nend pile\n\
+                pile at 1 of 1\n  add user 3\nend pile\nwritten\n  user anna\n  role clerk\n  role lead\nend written\n\
+                mend\n  user 5 eva\n  user eva\n  bytes 01 => TAKEN\nend mend\nadd user eva => 5\n";
+    let test = file(&room, "a.test", text);
+    let (told, wrong, status) = run(&["test", &test]);
+    let expected = [
+        "6: expected 0 GRANTED, got 5 TAKEN: add user anna",
+        "10: expected 0 GRANTED, got 1 ROOM: end pile",
+        "13: expected role clerk, got user 2",
+        "14: expected role lead, got role clerk",
+        "15: expected the end of the policy, got role lead",
+        "18: expected 0 GRANTED, got 5 TAKEN: user eva",
+        "19: expected 5 TAKEN, got 2 SHAPE: bytes 01",
+    ];
+    let expected = expected.map(|line| format!("{test}: line {line}\n"));
+    let expected = format!("{}5 passed, 7 failed\n", expected.concat());
+    assert_eq!((told, wrong.as_str(), status), (expected, "", 1));
+    let (told, _, _) = run(&["test", "--update", &test]);
+    assert!(told.contains(": 4 updated\n"), "{told}");
+    let now = std::fs::read_to_string(&test).unwrap();
+    assert!(
+        now.contains("end pile") && now.contains("=> 1 ROOM"),
+        "{now}"
+    );
+    assert!(run(&["test", &test]).0.ends_with("9 passed, 3 failed\n"));
+    let open = file(&room, "open.test", "user 1\npile\nadd user 2\n");
+    let (_, wrong, status) = run(&["test", &open]);
+    assert_eq!(status, 2);
+    let end = "expected \"end pile\", found the end of the file\n";
+    assert!(wrong.ends_with(end), "{wrong}");
+}
+
+const MONTH: [&str; 2] = ["examples/month/policy.txt", "examples/month/requests.txt"];
+
+#[test]
+fn a_policy_is_written_out_as_it_is_after_the_requests() {
+    let room = room("write");
+    let [policy, requests] = MONTH;
+    let written = std::fs::read_to_string(root().join("examples/month/written.txt")).unwrap();
+    let arguments = ["write", policy, requests];
+    assert_eq!(run(&arguments), (written.clone(), String::new(), 0));
+    // To a file by its name: text, or records; what is written is written the same again.
+    let name = |file: &str| room.join(file).to_str().unwrap().to_string();
+    let (text, records) = (name("now.txt"), name("now.rec"));
+    for to in [&text, &records] {
+        let (told, _, status) = run(&[&arguments[..], &["-o", to]].concat());
+        let line = format!("{to}: 26 records, 13 requests granted and 2 refused\n");
+        assert_eq!((told, status), (line, 0));
+    }
+    assert_eq!(std::fs::read_to_string(&text).unwrap(), written);
+    assert_eq!(std::fs::read(&records).unwrap().len(), 16 * 26);
+    for again in [&text, &records] {
+        assert_eq!(run(&["write", again]).0, written);
+    }
+    // A refused policy writes nothing, and a file that is there stays.
+    let wrong = file(&room, "wrong.txt", "user 1\nuser 1\n");
+    let (told, why, status) = run(&["write", &wrong, "-o", &text]);
+    assert_eq!((told.as_str(), status), ("", 1));
+    assert!(why.contains("line 2: 5 TAKEN: user 1"), "{why}");
+    assert_eq!(std::fs::read_to_string(&text).unwrap(), written);
+    assert_eq!(run(&["write"]).2, 2);
+    assert_eq!(run(&["write", policy, "-o", "/nowhere/at/all"]).2, 2);
+}
+
+/// Names of the policy and of its requests are written where their numbers are declared.
+#[test]
+fn a_policy_is_written_with_its_names() {
+    let room = room("named");
+    let policy =
+        "role 1 signer\nrole 0 \"the clerk\"\nuser 300 anna\ntask 0 sign of template 2 loan\n";
+    let policy = file(&room, "policy.txt", policy);
+    let requests = "add user 44 bert with roles \"the clerk\"\nassign role signer to user anna\n";
+    let requests = file(&room, "requests.txt", requests);
+    let (named, _, status) = run(&["write", &policy, &requests]);
+    let expected = "user 44 bert\nuser 300 anna\nrole 0 \"the clerk\"\nrole 1 signer\nuser bert has role \"the clerk\"\n\
+                    user anna has role signer\ntask 0 sign of template 2 loan\n";
+    assert_eq!((named.as_str(), status), (expected, 0));
+    let (numbers, _, _) = run(&["write", "--numbers", &policy, &requests]);
+    assert!(
+        numbers.starts_with("user 44\nuser 300\nrole 0\n"),
+        "{numbers}"
+    );
+    let again = file(&room, "again.txt", &named);
+    assert_eq!(run(&["write", &again]).0, named);
+}
+
+#[test]
+fn a_damaged_file_is_mended_and_its_report_is_in_words() {
+    let room = room("mend");
+    let read =
+        |name: &str| std::fs::read_to_string(root().join("examples/mend").join(name)).unwrap();
+    let damaged = "examples/mend/damaged.rec";
+    let report = read("report.txt");
+    let (told, wrong, status) = run(&["mend", damaged]);
+    let nothing = "; nothing is written, -o says where to\n";
+    assert_eq!(told, format!("{}{nothing}", report.trim_end()));
+    assert_eq!((wrong.as_str(), status), ("", 1));
+    let mended = room.join("mended.rec").to_str().unwrap().to_string();
+    let (told, _, status) = run(&["mend", damaged, "-o", &mended]);
+    assert_eq!(
+        told,
+        format!("{}; written to {mended}\n", report.trim_end())
+    );
+    assert_eq!(status, 1);
+    let (text, _, _) = run(&["convert", &mended, "--to", "text"]);
+    assert_eq!(text, read("mended.txt"));
+    // On standard output, the report goes beside it.
+    let (text, told, status) = run(&["mend", damaged, "-o", "-"]);
+    assert_eq!(
+        (text, told, status),
+        (read("mended.txt"), report.clone(), 1)
+    );
+    // What is written loads, and comes out the same.
+    let (told, _, status) = run(&["mend", &mended]);
+    let line = format!("{mended}: 19 records kept, 0 dropped{nothing}");
+    assert_eq!((told, status), (line, 0));
+    assert_eq!(run(&["check", &mended]).2, 0);
+    // The damaged file itself is never written to.
+    let before = std::fs::read(&mended).unwrap();
+    let (_, wrong, status) = run(&["mend", &mended, "-o", &mended]);
+    assert_eq!(status, 2);
+    assert!(wrong.contains("the damaged file is kept"), "{wrong}");
+    assert_eq!(std::fs::read(&mended).unwrap(), before);
+    // One object a line.
+    let (objects, _, _) = run(&["mend", "--json", damaged]);
+    let objects: Vec<Value> = objects
+        .lines()
+        .map(|line| serde_json::from_str(line).unwrap())
+        .collect();
+    assert_eq!(objects[0]["record"], 2);
+    assert_eq!(objects[0]["name"], "RANGE");
+    assert_eq!(objects.last().unwrap()["kept"], 19);
+}
+
+/// A text may be mended too: its lines are told by their numbers, and its names stay.
+#[test]
+fn a_text_is_mended_with_its_names() {
+    let room = room("mend_text");
+    let text = "# two annas\nuser 300 anna\nrole 0 clerk\nuser 300\nuser anna has role clerk\nuser anna has role 7\n";
+    let damaged = file(&room, "damaged.txt", text);
+    let mended = room.join("mended.txt").to_str().unwrap().to_string();
+    let (told, _, status) = run(&["mend", &damaged, "-o", &mended]);
+    let expected = format!(
+        "line 4: 5 TAKEN  user anna\nline 6: 4 UNKNOWN  user anna has role 7\n{damaged}: 3 records kept, 2 dropped; written to {mended}\n"
+    );
+    assert_eq!((told, status), (expected, 1));
+    let kept = "user 300 anna\nrole 0 clerk\nuser anna has role clerk\n";
+    assert_eq!(std::fs::read_to_string(&mended).unwrap(), kept);
+    // Records that begin as OPL/XML would are records all the same.
+    let odd = file(&room, "odd", [&b"<\0\0\0"[..], &[0; 12]].concat());
+    assert!(run(&["mend", &odd])
+        .0
+        .starts_with("record 1: 2 SHAPE  stuck tasks of template 0\n"));
+    assert_eq!(run(&["mend", "/nowhere/at/all"]).2, 2);
 }
 
 #[test]
@@ -582,7 +748,14 @@ fn conversions_lead_back() {
         "examples/opl_loan/tasks.txt",
     ];
     let mut policies: Vec<Vec<&str>> = vec![opl.to_vec(), vec!["examples/named.txt"]];
-    for example in ["listing", "loan", "night_shift", "stuck_order", "team_lead"] {
+    for example in [
+        "listing",
+        "loan",
+        "month",
+        "night_shift",
+        "stuck_order",
+        "team_lead",
+    ] {
         policies.push(vec![Box::leak(
             format!("examples/{example}/policy.txt").into_boxed_str(),
         )]);
@@ -640,7 +813,9 @@ fn opl_policies_have_their_names_and_their_errors() {
 
 #[test]
 fn every_command_has_help_with_an_example_and_the_pages_have_every_command() {
-    let commands = ["check", "run", "test", "convert", "generate"];
+    let commands = [
+        "check", "run", "test", "convert", "write", "mend", "generate",
+    ];
     let man = run(&["generate", "man"]).0;
     for command in commands {
         let (help, _, status) = run(&[command, "--help"]);
