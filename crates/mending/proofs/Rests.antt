@@ -1,12 +1,12 @@
 -- A record behind so many: kept, it goes behind the others that are; dropped, it is an entry of the report. And the file's end.
-use Prim.Native.Nat.{ℕ, zero, suc, _+_, _-_, _*_, _/_, _≤_, _<_}
+use Prim.Native.Nat.{ℕ, suc, _+_, _-_, _*_, _/_, _≤_, _<_}
 use mathlib.Core.Bool.{Bool, true, false, not, cond}
 use mathlib.Core.List.{List, [], _∷_, _++_, append-assoc}
-use mathlib.Core.Path.{_≡_, refl, sym, ap, ap₂, _∙_}
+use mathlib.Core.Path.{_≡_, refl, sym, ap, _∙_}
 use native.Mathlib.Omega.{arith}
 use native.Mathlib.Numerals.{add-one}
 use lib.Dec.{eqb, ltb}
-use lib.ListN.{length, take, drop, set, getD, length-take, length-drop, length-append, take-append-drop}
+use lib.ListN.{length, take, drop, set, getD, length-drop, length-append, take-append-drop}
 use lib.Seq.{paste, paste-suc, getD-drop, take-paste, drop-paste, drop-drop, length-take-le}
 use borrow.Author.Tests.{eq-eqb, ne-eqb, lt-ltb, le-ltb, not-true, not-false}
 use Rattle.paper_lower.specs.Lists.{each}
@@ -22,13 +22,13 @@ use Rattle.replies.proofs.ReplyLaws.{is-zero, not-zero}
 use Rattle.replies.proofs.DoneLaws.{granted-old}
 use Rattle.policy.specs.Reading.{policyOf}
 use Rattle.mending.specs.declared.Dropped.{Dropped}
-use Rattle.mending.specs.Rest.{Kept, entries, restOf, laid, Rest, restBy, restFrom, over, before, told, Found}
+use Rattle.mending.specs.Rest.{Kept, entries, restOf, laid, restBy, restFrom, over, before, told, Found}
 
 -- ---- One record more.
 one : (i : ℕ) (s : Bytes) (t : Policy) → i < length s / 16
     → restOf i s t ≡ granted (policyAnswer t (take 16 (drop (16 * i) s)) .reply)
-      (keeping (take 16 (drop (16 * i) s)) (restOf (suc i) s (policyAnswer t (take 16 (drop (16 * i) s)) .tables)))
-      (dropping (dropped (suc i) (policyAnswer t (take 16 (drop (16 * i) s)) .reply)) (restOf (suc i) s t))
+    (keeping (take 16 (drop (16 * i) s)) (restOf (suc i) s (policyAnswer t (take 16 (drop (16 * i) s)) .tables)))
+    (dropping (dropped (suc i) (policyAnswer t (take 16 (drop (16 * i) s)) .reply)) (restOf (suc i) s t))
 unfolding restOf mendFrom
 one i s t h =
     let a : ltb (length s / 16) i ≡ false = le-ltb (length s / 16) i (omega arith) in
@@ -50,7 +50,7 @@ module _ (kept : ℕ) (out r : Bytes) (h : 16 * kept + 16 ≤ length out) (l : 1
       let f : 16 * suc kept ≡ 16 * kept + 16 = omega arith in
       let a : take (16 * kept + 16) next-out ≡ take (16 * kept) out ++ take 16 r = take-paste out (16 * kept) r 16 (omega arith) l in
       let b : drop (16 * kept + 16 + length w) next-out ≡ drop (16 * kept + 16 + length w) out =
-        sym (drop-drop (length w) (16 * kept + 16) next-out) ∙ ap (drop (length w)) (drop-paste out (16 * kept) r 16 (omega arith) l) ∙ drop-drop (length w) (16 * kept + 16) out in
+      sym (drop-drop (length w) (16 * kept + 16) next-out) ∙ ap (drop (length w)) (drop-paste out (16 * kept) r 16 (omega arith) l) ∙ drop-drop (length w) (16 * kept + 16) out in
       rw (e, m, f, a, b)
       (ap (λ (x : Bytes). take (16 * kept) out ++ x) (append-assoc (take 16 r) w (drop (16 * kept + 16 + length w) out))
       ∙ sym (append-assoc (take (16 * kept) out) (take 16 r) (w ++ drop (16 * kept + 16 + length w) out)))
@@ -87,11 +87,11 @@ module _ (i k : ℕ) (s out : Bytes) (p : List ℕ) (out′ : Bytes) (p′ : Lis
       let w : out′ ≡ out = d .written ∙ sym (granted-old (paste out (16 * (i - k)) (drop (16 * i) s) 16) out (numberOf r) z) in
       let e : i + 1 - suc k ≡ i - k = omega arith in
       let o : restOf i s (policyOf p) ≡ granted (numberOf r)
-            (keeping (take 16 (drop (16 * i) s)) (restOf (suc i) s (policyAnswer (policyOf p) (take 16 (drop (16 * i) s)) .tables)))
-            (dropping (dropped (suc i) (numberOf r)) (restOf (suc i) s (policyOf p))) = rw (d .judged .replies) (one i s (policyOf p) h) in
+      (keeping (take 16 (drop (16 * i) s)) (restOf (suc i) s (policyAnswer (policyOf p) (take 16 (drop (16 * i) s)) .tables)))
+      (dropping (dropped (suc i) (numberOf r)) (restOf (suc i) s (policyOf p))) = rw (d .judged .replies) (one i s (policyOf p) h) in
       let g : restOf i s (policyOf p) ≡ dropping (dropped (suc i) (numberOf r)) (restOf (suc i) s (policyOf p)) =
-            o ∙ sym (granted-old (keeping (take 16 (drop (16 * i) s)) (restOf (suc i) s (policyAnswer (policyOf p) (take 16 (drop (16 * i) s)) .tables)))
-            (dropping (dropped (suc i) (numberOf r)) (restOf (suc i) s (policyOf p))) (numberOf r) z) in
+      o ∙ sym (granted-old (keeping (take 16 (drop (16 * i) s)) (restOf (suc i) s (policyAnswer (policyOf p) (take 16 (drop (16 * i) s)) .tables)))
+      (dropping (dropped (suc i) (numberOf r)) (restOf (suc i) s (policyOf p))) (numberOf r) z) in
       record {
         rest =
             sym (granted-old (over (i + 1) out′ (policyOf p′)) (before (record { place = i + 1; reply = numberOf r }) (restBy (i + 1 - suc k) out′ (restOf (i + 1) s (policyOf p′)))) (numberOf r) z)

@@ -55,12 +55,12 @@ pub fn next(input: &[u8], place: u64, dropped: usize, output: &mut [u8], p: &mut
         };
     }
     while i < whole {
-        let r = keep(input, 16 * i, output, 16 * (i - dropped), p);
+        let x = keep(input, 16 * i, output, 16 * (i - dropped), p);
         i += 1;
-        if !replies::accepted(r) {
+        if !replies::accepted(x) {
             return Dropped {
                 place: i as u64,
-                reply: replies::number(r),
+                reply: replies::number(x),
             };
         }
     }

@@ -1,11 +1,11 @@
 -- Written from Proof.tmpl by 'prove expand': edit that file.
 -- What is copied so far.
-use Prim.Native.Nat.{_+_, _-_, _≤_}
-use mathlib.Core.Path.{_≡_, refl, _∙_}
+use Prim.Native.Nat.{_-_, _≤_}
+use mathlib.Core.Path.{_≡_, refl}
 use native.Mathlib.Omega.{arith}
 use borrow.Author.Needs.{needs}
 use denote.Ref.{now}
-use lib.ListN.{length, drop, length-set}
+use lib.ListN.{length, drop}
 use lib.Seq.{paste, paste-zero}
 use Rattle.mending.proofs.Rests.{one-byte}
 use Rattle.mending.proofs.copy.Statement.{statement}
