@@ -60,7 +60,7 @@ fn step(r: Record, p: &mut [u64]) -> Reply
 }
 
 // One record of a policy, whatever its bytes.
-fn record(bytes: &[u8], p: &mut [u64]) -> Reply
+pub fn record(bytes: &[u8], p: &mut [u64]) -> Reply
     requires { ⌜ length (now p) ≡ policyWords ⌝ }
     ensures { λ x. ⌜ Done policyOf (policyAnswer (policyOf (now (p .entry))) (now (bytes .entry)) .reply) (policyAnswer (policyOf (now (p .entry))) (now (bytes .entry)) .tables) (now (p .entry)) (now (p .exit)) x ⌝ }
 {
