@@ -64,7 +64,7 @@ extern "C" {
 #define MISHANTRAL_MOST_ENTRIES 2048
 #define MISHANTRAL_RECORD_BYTES 16
 #define MISHANTRAL_MOST_PILED 4096
-#define MISHANTRAL_MOST_WRITTEN 108272
+#define MISHANTRAL_MOST_WRITTEN 108528
 
 /* The three buffers, the answer to a question, and the scratch of mishantral_opl. */
 enum mishantral_group {

@@ -51,7 +51,7 @@ fn twice(engine: &mut Engine, step: &Step) -> Answer {
             (reply, 0)
         }
         Step::Write(_) => {
-            let mut output = vec![0x55; 16 * 108_272];
+            let mut output = vec![0x55; 16 * 108_528];
             let written = Desk::write(engine, &mut output).unwrap_or_default();
             assert!(written.0 == 0, "there is room for every policy");
             written

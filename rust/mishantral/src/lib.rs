@@ -43,7 +43,7 @@ mod write;
 
 /// How many records writing a policy out gives at most, whatever the state holds.
 #[cfg(any(mishantral_write, mishantral_lower_write))]
-pub const WRITTEN: usize = 108_272;
+pub const WRITTEN: usize = 108_528;
 
 #[cfg(mishantral_lower)]
 pub mod lower;
