@@ -1,5 +1,6 @@
 /* The stack that each exported call uses: the call runs on a stack of its own that is painted, and the deepest byte is sought that was
- * painted over. Built and run by tools/stack, with LOWER for the lower part alone, with OPL for the reader of OPL/XML. */
+ * painted over. Built and run by tools/stack, with LOWER for the lower part alone, with OPL for the reader of OPL/XML, with WRITE_OUT and MEND for the
+ * calls that write a policy out and mend a file. */
 #include <mishantral.h>
 #include <stdio.h>
 #include <string.h>
@@ -23,7 +24,24 @@ static void (*call)(void);
 
 static void nothing(void) {}
 
-#ifndef OPL
+#if defined WRITE_OUT || defined MEND
+
+static unsigned char output[16 * MISHANTRAL_MOST_WRITTEN];
+
+#ifdef MEND
+static struct mishantral_dropped report[257];
+
+static void file(void) {
+    answer = mishantral_mend(bytes, length, output, sizeof output, report, 257, policy, MISHANTRAL_POLICY_WORDS, sessions, MISHANTRAL_SESSIONS_WORDS,
+                             orders, MISHANTRAL_ORDERS_WORDS);
+}
+#else
+static void file(void) {
+    answer = mishantral_write(output, sizeof output, policy, MISHANTRAL_POLICY_WORDS, sessions, MISHANTRAL_SESSIONS_WORDS, orders, MISHANTRAL_ORDERS_WORDS);
+}
+#endif
+
+#elif !defined OPL
 
 static void load(void) {
 #ifdef LOWER
@@ -100,13 +118,28 @@ int main(int count, char **words) {
     printf("opl %zu\n", deepest - own);
     return 0;
 }
+#elif defined WRITE_OUT
+/* The policy that says nothing, the one that says all there is, and some between. */
+int main(void) {
+    size_t own = used_by(nothing), deepest = 0;
+    for (unsigned round = 0; round < 66; round++) {
+        for (size_t i = 0; i < MISHANTRAL_POLICY_WORDS; i++) policy[i] = round == 0 ? 0 : ~UINT64_C(0) >> (round - 1);
+        size_t n = used_by(file);
+        if (answer % 256 != MISHANTRAL_GRANTED) return printf("the policy is not written: %llu\n", (unsigned long long)answer), 1;
+        if (n > deepest) deepest = n;
+    }
+    printf("write %zu\n", deepest - own);
+    return 0;
+}
 #else
+#ifndef MEND
 static uint64_t seed = 20240607;
 static unsigned below(unsigned n) {
     seed = seed * 6364136223846793005u + 1442695040888963407u;
     return (unsigned)(seed >> 33) % n;
 }
 
+#endif
 static size_t put(unsigned char *to, unsigned kind, unsigned n, unsigned a, unsigned b, unsigned c, uint64_t m) {
     unsigned fields[] = {a, b, c};
     to[0] = (unsigned char)kind;
@@ -132,6 +165,26 @@ static size_t some_policy(unsigned char *to) {
     return n;
 }
 
+#ifdef MEND
+/* The policy whole, and with each of its bytes turned. */
+int main(void) {
+    static unsigned char text[16 * 256];
+    size_t whole = some_policy(text), own = used_by(nothing), deepest = 0;
+    bytes = text;
+    for (size_t at = 0; at <= whole; at++) {
+        length = whole;
+        text[at] ^= 0x55;
+        size_t n = used_by(file);
+        text[at] ^= 0x55;
+        if (answer % 256 != MISHANTRAL_GRANTED) return printf("the file is not mended: %llu\n", (unsigned long long)answer), 1;
+        if (n > deepest) deepest = n;
+        length = whole - at, n = used_by(file);
+        if (n > deepest) deepest = n;
+    }
+    printf("mend %zu\n", deepest - own);
+    return 0;
+}
+#else
 int main(void) {
     static const unsigned kinds[] = {32, 33, 34, 35, 36, 37, 40, 41, 42, 43, 48, 49, 50, 51, 52, 56, 57};
     static unsigned char text[16 * 256];
@@ -160,4 +213,5 @@ int main(void) {
     printf(", words %zu\n", used_by(words) - own);
     return 0;
 }
+#endif
 #endif

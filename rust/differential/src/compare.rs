@@ -57,7 +57,7 @@ fn written(panel: &Panel, spare: i64) -> Result<(Answer, Vec<u8>), Difference> {
         }
     };
     let (reply, records, output) = panel.write(&junk(needed + spare))?;
-    let fits = spare >= 0 || needed + spare < 0 && needed == 0;
+    let fits = spare >= 0 || needed == 0;
     let front = if fits { needed as usize } else { 0 };
     if fits != (reply == 0) || output[front..] != junk(needed + spare)[front..] {
         unlike(
@@ -98,7 +98,8 @@ fn loads_to(panel: &Panel, bytes: &[u8], policy: &[u8]) -> Result<(), Difference
 /// behind what is written is touched.
 fn mend(panel: &mut Panel, mend: &Mend, coverage: &mut Coverage) -> Result<Answer, Difference> {
     let loads = panel.copy().load(&mend.file)? == (0, 0);
-    let no_room = mend.spare.min(mend.entries) < 0;
+    let no_room =
+        mend.output().len() < mend.file.len() || mend.report().len() <= mend.file.len() / LENGTH;
     let before = if no_room {
         written(panel, 0)?.1
     } else {
