@@ -8,8 +8,8 @@ use lib.Dec.{eqb}
 use Rattle.paper_lower.specs.Lists.{every, each}
 use Rattle.paper_lower.specs.Records.{Bytes}
 use Rattle.paper_lower.specs.Kinds.{Said, after}
-use Rattle.paper_lower.specs.Checks.{GRANTED, SHAPE, RANGE, UNKNOWN, TAKEN, IN-USE, RULE, NOT-ASSIGNED, STATIC, DYNAMIC, NO-ROLE, NOT-YOURS, DENIED, BEFORE, SEPARATION, BLOCK, ALONE, BOUND, COUNT, LOOP}
-use Rattle.paper_lower.specs.Words.{Case, refuses, accepts, _⇒_, joined, comesOut, wordsOpen, record-of, user, role, permission, userHas, roleHas, task, openTo, carries, staticSet, dynamicSet, taskSet, block, ban, atMost, bound, isBefore, standsAbove, addUser, deleteUser, assign, takeBack, give, withdraw, create, destroy, activate, deactivate, openOrder, endOrder, claim, release, done, check, taskCheck, figures, stuckTasks}
+use Rattle.paper_lower.specs.Checks.{GRANTED, SHAPE, RANGE, UNKNOWN, TAKEN, IN-USE, RULE, NOT-ASSIGNED, STATIC, DYNAMIC, NO-ROLE, NOT-YOURS, DENIED, BEFORE, SEPARATION, BLOCK, ALONE, BOUND, COUNT, LOOP, WALL}
+use Rattle.paper_lower.specs.Words.{Case, refuses, accepts, _⇒_, joined, comesOut, wordsOpen, record-of, user, role, permission, userHas, roleHas, task, openTo, carries, staticSet, dynamicSet, taskSet, block, ban, atMost, bound, isBefore, standsAbove, walled, addUser, join, deleteUser, assign, takeBack, give, withdraw, create, destroy, activate, deactivate, openOrder, endOrder, claim, release, done, check, taskCheck, figures, commit, stuckTasks}
 use Rattle.paper_lower.specs.Load.{load}
 use Rattle.paper_upper.specs.Questions.{figuresOf, questionsOpen}
 use Rattle.paper_upper.specs.Engine.{request, Placed, placedRun, engineOf, engineOpen}
@@ -254,6 +254,16 @@ seniors =
     ∷ refuses (leads ++ (standsAbove 0 2 ∷ [])) LOOP 18
     ∷ []
 
+-- ---- 02, Ask 11: two dealers' price books, objects 7 and 8, of which task 0 carries the second.
+unfoldable pub walls : List Case
+walls =
+    -- "Kind 57 is not walled."; a deleted user's binding is forgotten, also where entries kept the user until then
+    accepts (clerks 300 301 ++ (permission 0 1 7 ∷ permission 1 1 8 ∷ roleHas 0 0 ∷ roleHas 0 1 ∷ carries 0 1 ∷ walled 0 1 7 ∷ walled 0 2 8 ∷ []))
+    (desks 300 301 ++ (commit 5 1 7 ⇒ GRANTED ∷ check 5 1 8 ⇒ WALL ∷ commit 5 1 8 ⇒ WALL ∷ claim 5 0 0 ⇒ GRANTED ∷ taskCheck 5 0 0 1 8 ⇒ GRANTED ∷ commit 6 1 8 ⇒ GRANTED ∷ check 6 1 7 ⇒ WALL ∷ done 5 0 0 ⇒ GRANTED
+    ∷ destroy 5 ⇒ GRANTED ∷ deleteUser 300 ⇒ IN-USE ∷ endOrder 0 ⇒ GRANTED ∷ deleteUser 300 ⇒ GRANTED ∷ join 300 1 ⇒ GRANTED ∷ create 5 300 1 ⇒ GRANTED ∷ commit 5 1 8 ⇒ GRANTED ∷ check 5 1 7 ⇒ WALL ∷ []))
+    ∷ refuses (clerks 300 301 ++ (walled 0 1 7 ∷ walled 0 2 7 ∷ [])) RULE 11
+    ∷ []
+
 -- ---- 02, Ask 2: the place beside each reply. "each request line of 01's listing gains " 0", but for requests 4, 6 and 8, which gain " 1""
 pub record Places : Type 0 where
   pub of : Case
@@ -321,6 +331,10 @@ further-come-out = refl
 pub seniors-come-out : every (comesOut request engineOf) seniors ≡ true
 unfolding engineOpen wordsOpen clerks desks leads seniors
 seniors-come-out = refl
+
+pub walls-come-out : every (comesOut request engineOf) walls ≡ true
+unfolding engineOpen wordsOpen clerks desks walls
+walls-come-out = refl
 
 pub places-come-out : every placesComeOut placed ≡ true
 unfolding engineOpen wordsOpen clerks desks listing countLimit clerksOfThree placed samePlaces placesComeOut
