@@ -34,8 +34,8 @@ extern "C" {
 
 /* How many 64-bit words each buffer has, where a constant is wanted: uint64_t policy[MISHANTRAL_POLICY_WORDS]. The
  * library that is linked tells its own by mishantral_words; with another length than that it answers ROOM. */
-#define MISHANTRAL_POLICY_WORDS 4632
-#define MISHANTRAL_SESSIONS_WORDS 384
+#define MISHANTRAL_POLICY_WORDS 5145
+#define MISHANTRAL_SESSIONS_WORDS 2432
 #define MISHANTRAL_ORDERS_WORDS 2244
 #define MISHANTRAL_OPL_WORDS 659639
 
@@ -49,6 +49,8 @@ extern "C" {
 #define MISHANTRAL_LAST_TASK 63
 #define MISHANTRAL_LAST_TEMPLATE 15
 #define MISHANTRAL_LAST_PARTITIONING 15
+#define MISHANTRAL_LAST_WALL 15
+#define MISHANTRAL_LAST_BLOCK 15
 #define MISHANTRAL_LAST_SUBJECT 127
 #define MISHANTRAL_LAST_ORDER 63
 
@@ -61,6 +63,7 @@ extern "C" {
 #define MISHANTRAL_MOST_BINDINGS 64
 #define MISHANTRAL_MOST_PREREQUISITES 64
 #define MISHANTRAL_MOST_SENIORITIES 64
+#define MISHANTRAL_MOST_WALLED 256
 #define MISHANTRAL_MOST_ENTRIES 2048
 #define MISHANTRAL_RECORD_BYTES 16
 #define MISHANTRAL_MOST_PILED 4096
@@ -69,7 +72,7 @@ extern "C" {
 /* The three buffers, the answer to a question, and the scratch of mishantral_opl. */
 enum mishantral_group {
     MISHANTRAL_POLICY = 0,   /* users, roles, permissions, tasks, rules */
-    MISHANTRAL_SESSIONS = 1, /* subjects and their active roles */
+    MISHANTRAL_SESSIONS = 1, /* subjects and their active roles; the blocks that users are bound to */
     MISHANTRAL_ORDERS = 2,   /* open orders and their entries */
     MISHANTRAL_ANSWER = 3,
     MISHANTRAL_OPL_SCRATCH = 4
@@ -227,8 +230,8 @@ uint64_t mishantral_lower_write(uint8_t *output, size_t output_length,
                                 const uint64_t *policy, size_t policy_words,
                                 const uint64_t *sessions, size_t sessions_words);
 
-/* Replies (docs/RULES.md, "The replies"). Checks run in the order of these numbers, LOOP behind RULE, and the
- * first that applies is given. */
+/* Replies (docs/RULES.md, "The replies"). Checks run in the order of these numbers, LOOP behind RULE and WALL
+ * behind DENIED, and the first that applies is given. */
 enum mishantral_reply {
     MISHANTRAL_GRANTED = 0,      /* accepted, or granted */
     MISHANTRAL_ROOM = 1,         /* a lent buffer has not its fixed length, or an output is too short; nothing is written */
@@ -253,7 +256,8 @@ enum mishantral_reply {
     MISHANTRAL_FULL = 20,        /* no ledger entry is free, or the rule limit of that kind is reached */
     MISHANTRAL_TEXT = 21,        /* mishantral_opl: a text is not in its grammar */
     MISHANTRAL_NAMES = 22,       /* mishantral_opl: a name is too long, declared nowhere or above a limit */
-    MISHANTRAL_LOOP = 23         /* the role that is to stand below stands above already */
+    MISHANTRAL_LOOP = 23,        /* the role that is to stand below stands above already */
+    MISHANTRAL_WALL = 24         /* the user is bound in some wall to another block than the object's */
 };
 
 /* Kinds of record (docs/RULES.md, "Numbers"). A field that is not listed is zero; bit i of m stands for role or
@@ -277,6 +281,7 @@ enum mishantral_kind {
     MISHANTRAL_BOUND_TO = 15,           /* task a bound to task b */
     MISHANTRAL_BEFORE_TASK = 16,        /* task a before task b */
     MISHANTRAL_ROLE_ABOVE = 17,         /* role a stands above role b, and counts with it and all below it */
+    MISHANTRAL_WALLED = 18,             /* wall a (to 15), block b (to 15), object c */
     /* Requests. */
     MISHANTRAL_ADD_USER = 32,        /* add user a with roles m, all of it or nothing */
     MISHANTRAL_DELETE_USER = 33,
@@ -296,6 +301,7 @@ enum mishantral_kind {
     MISHANTRAL_CHECK = 56,           /* subject a, operation b, object c */
     MISHANTRAL_TASK_CHECK = 57,      /* subject a, order b, task c, m = operation + 65,536 x object */
     MISHANTRAL_ENTRIES_OF = 58,      /* order a: how many entries, which tasks done; see mishantral_question */
+    MISHANTRAL_COMMIT = 59,          /* as 56; where granted, the user is bound to the object's block in every wall that has it */
     MISHANTRAL_STUCK_TASKS = 60      /* template a: which tasks can never be claimed because of prerequisites; likewise */
 };
 
@@ -360,6 +366,7 @@ static inline const char *mishantral_reply_name(unsigned reply)
     case MISHANTRAL_TEXT: return "TEXT";
     case MISHANTRAL_NAMES: return "NAMES";
     case MISHANTRAL_LOOP: return "LOOP";
+    case MISHANTRAL_WALL: return "WALL";
     default: return "?";
     }
 }

@@ -187,7 +187,7 @@ fn attempt(line: &[u8], r: Fields, p: &mut [u64], s: &mut [u64], o: &mut [u64]) 
     let bytes = scripts::bytes(r);
     let a = answered(&bytes, p, POLICY_WORDS, s, SESSIONS_WORDS, o, ORDERS_WORDS);
     say(line);
-    say_if((a.reply <= 20) & (a.place <= 64), b": answered");
+    say_if((a.reply <= 24) & (a.place <= 64), b": answered");
     say_if((a.reply != 0) & !a.kept, b", and words changed");
     say(b"\n");
 }

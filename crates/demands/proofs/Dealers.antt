@@ -1,11 +1,11 @@
--- The lower part alone: one answer, the role limits, and senior roles.
+-- The lower part alone: one answer, the role limits, senior roles and walls.
 use Prim.Native.Nat.{ℕ}
 use mathlib.Core.Bool.{Bool, true, false, cond}
 use mathlib.Core.List.{List, []}
 use mathlib.Core.Path.{_≡_, refl, sym, ap, subst, _∙_}
 use native.Mathlib.Omega.{arith}
-use Rattle.paper_lower.specs.Checks.{GRANTED, ROOM}
-use Rattle.paper_lower.specs.Records.{Bytes}
+use Rattle.paper_lower.specs.Checks.{GRANTED, ROOM, WALL}
+use Rattle.paper_lower.specs.Records.{Bytes, decode}
 use Rattle.paper_lower.specs.Kinds.{Answer, Said, run}
 use Rattle.paper_lower.specs.Tables.{Lower}
 use Rattle.paper_lower.specs.Load.{Loaded, load, recordsOf}
@@ -17,12 +17,16 @@ use Rattle.lower.proofs.Ways.{request-exported, load-exported}
 use Rattle.theorems.specs.Outside.{hear, outside}
 use Rattle.theorems.specs.Replies.{inTable}
 use Rattle.theorems.specs.OverEntries.{ofKind, RoleLimits}
+use Rattle.theorems.specs.Theorems.{lowerAfter, Reaches}
 use Rattle.theorems.specs.Seniority.{AsRecorded, lowerRequestBefore, loadBefore, NoneBelow}
+use Rattle.theorems.specs.Walls.{noCommits, commit, committed, lowerCommitsAfter, OneBlockOfEach, Decided, CheckOrCommit, committedBy}
 use Rattle.theorems.proofs.Replies.{replies-are-listed}
 use Rattle.theorems.proofs.Theorems.{dealers-keep-the-limits}
 use Rattle.theorems.proofs.Seniority.{seniority-is-recorded, as-before}
+use Rattle.theorems.proofs.Walls.{clerks-keep-to-one-block, wall-exactly-when}
+use Rattle.theorems.proofs.Unwalled.{as-before-walls}
 use Rattle.demands.specs.Calls.{Chain, fitting, asked}
-use Rattle.demands.specs.Dealers.{Buffers, tablesOf, fit, Request, Called, Load, OneAnswer, LimitsHold, SeniorRoles}
+use Rattle.demands.specs.Dealers.{Buffers, tablesOf, fit, Request, Called, Load, OneAnswer, LimitsHold, SeniorRoles, WallsHold}
 use Rattle.demands.specs.Dealers.Request.{within, exported}
 use Rattle.demands.specs.Dealers.Load.{within as load-within, exported as load-exported-here}
 use Rattle.demands.proofs.Calls.{first-byte, Reading, after-all, chain-run, told-fitting}
@@ -127,21 +131,35 @@ module _ {policy : Bytes} {x y z : Buffers} {reply : ℕ} {said : List Said} (l 
   accepted : load policy .reply ≡ GRANTED
   accepted = sym (loads l fits .0) ∙ g
 
+  abbrev ss : List Bytes
+  ss = asked (λ y. y) (fitting (λ y. y) said)
+
+  ran : (fitting (λ y. y) said ≡ run lowerRequest (lowerOf (load policy .tables)) ss) × (tablesOf z ≡ lowerAfter policy ss) × (fit z ≡ true)
+  ran =
+      let a = chain-run Called fit tablesOf (λ t s. lowerRequest t s .tables) (λ y. y) told (run lowerRequest) (λ t u. t ≡ u) reading c still-fits
+      (lowerOf (load policy .tables)) (loads l fits .1) in
+      (a .0, a .1 ∙ after-all lowerRequest (lowerOf (load policy .tables)) ss, a .2)
+
   limits : RoleLimits (recordsOf policy) (outside policy said)
   unfolding outside
   limits =
-      let a = chain-run Called fit tablesOf (λ t s. lowerRequest t s .tables) (λ y. y) told (run lowerRequest) (λ t u. t ≡ u) reading c still-fits
-      (lowerOf (load policy .tables)) (loads l fits .1) in
-      let heard = ap (outside policy) (sym (a .0)) ∙ told-fitting hear _ said in
-      rw heard at (dealers-keep-the-limits policy accepted (asked (λ y. y) (fitting (λ y. y) said)))
+      let heard = ap (outside policy) (sym (ran .0)) ∙ told-fitting hear _ said in
+      rw heard at (dealers-keep-the-limits policy accepted ss)
 
   recorded : AsRecorded (recordsOf policy) (tablesOf z .policy .seniority)
-  recorded =
-      let a = chain-run Called fit tablesOf (λ t s. lowerRequest t s .tables) (λ y. y) told (run lowerRequest) (λ t u. t ≡ u) reading c still-fits
-      (lowerOf (load policy .tables)) (loads l fits .1) in
-      subst (λ (t : Lower). AsRecorded (recordsOf policy) (t .policy .seniority))
-      (sym (a .1 ∙ after-all lowerRequest (lowerOf (load policy .tables)) (asked (λ y. y) (fitting (λ y. y) said))))
-      (seniority-is-recorded .dealers policy accepted (asked (λ y. y) (fitting (λ y. y) said)))
+  recorded = subst (λ (t : Lower). AsRecorded (recordsOf policy) (t .policy .seniority)) (sym (ran .1)) (seniority-is-recorded .dealers policy accepted ss)
+
+  commits-heard : lowerCommitsAfter policy ss ≡ committed said
+  commits-heard = ap committed (sym (ran .0)) ∙ told-fitting commit noCommits said
+
+  one-block : (u : ℕ) → OneBlockOfEach (recordsOf policy) (committed said .objects u)
+  one-block = rw commits-heard at (clerks-keep-to-one-block .dealers policy accepted ss)
+
+  walled : {check : Bytes} {w : Buffers} {q : ℕ} → CheckOrCommit check → Request check z w q → Reaches WALL q
+      → Decided (recordsOf policy) (committedBy (committed said) (decode check)) (decode check .c) q
+  walled {check} {w} {q} e r h =
+      let n : q ≡ lowerRequest (lowerAfter policy ss) check .reply = answers r (ran .2) .0 ∙ ap (λ (t : Lower). lowerRequest t check .reply) (ran .1) in
+      rw n (rw commits-heard at (wall-exactly-when .dealers policy accepted ss check e (subst (Reaches WALL) n h)))
 
 pub limits-hold : LimitsHold
 limits-hold = record { upheld = λ l g c. limits l g c }
@@ -166,4 +184,12 @@ senior-roles = record {
   recorded = λ l g c. recorded l g c;
   requests = λ f none r. request-as-before f none r;
   loads = λ f h l. load-as-before f h l;
+}
+
+-- ---- walls
+pub walls-hold : WallsHold
+walls-hold = record {
+  upheld = λ l g c. one-block l g c;
+  checks = λ l g c e r h. walled l g c e r h;
+  requests = λ {bytes} {x} f none r. answers r f .0 ∙ as-before-walls .lowerReplies (tablesOf x) none bytes;
 }

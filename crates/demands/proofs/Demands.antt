@@ -4,7 +4,7 @@ use mathlib.Core.Bool.{Bool, true, false}
 use mathlib.Core.List.{List, []}
 use mathlib.Core.Path.{_≡_, refl, sym, ap, subst, _∙_}
 use native.Mathlib.Omega.{arith}
-use Rattle.paper_lower.specs.Checks.{GRANTED, ROOM, BEFORE}
+use Rattle.paper_lower.specs.Checks.{GRANTED, ROOM, BEFORE, WALL}
 use Rattle.paper_lower.specs.Records.{Bytes}
 use Rattle.paper_lower.specs.Forms.{requestForms}
 use Rattle.paper_lower.specs.Kinds.{Answer, run}
@@ -29,14 +29,17 @@ use Rattle.theorems.specs.InUse.{noTally, count, inUse}
 use Rattle.theorems.specs.Places.{placedAfter, placeAfter}
 use Rattle.theorems.specs.Meeting.{Apart}
 use Rattle.theorems.specs.Seniority.{AsRecorded, requestBefore, loadBefore, NoneBelow}
+use Rattle.theorems.specs.Walls.{noCommits, commit, committed, commitsAfter, requestUnwalled, Unwalled}
 use Rattle.theorems.proofs.Replies.{checks-in-order, refused-loads-are-empty}
 use Rattle.theorems.proofs.Theorems.{orders-keep-the-rules, clerks-keep-the-limits, first-rule-broken}
 use Rattle.theorems.proofs.Places.{places-are-true, placed-said}
 use Rattle.theorems.proofs.Meeting.{claims-do-not-meet}
 use Rattle.theorems.proofs.NeverStuck.{stuck-are-never-entered, before-refuses-nobody}
 use Rattle.theorems.proofs.Seniority.{seniority-is-recorded, as-before}
+use Rattle.theorems.proofs.Walls.{clerks-keep-to-one-block, wall-exactly-when}
+use Rattle.theorems.proofs.Unwalled.{as-before-walls}
 use Rattle.demands.specs.Calls.{Request, Load, Called, Requests, allSaid, fitting, asked}
-use Rattle.demands.specs.Demands.{DemandOne, DemandTwo, OneAnswer, Upheld, DemandThree, EitherFirst, ClaimsDoNotMeet, CanFinish, SeniorRoles, StuckAreNeverEntered}
+use Rattle.demands.specs.Demands.{DemandOne, DemandTwo, OneAnswer, Upheld, DemandThree, EitherFirst, ClaimsDoNotMeet, CanFinish, SeniorRoles, WithoutWalls, StuckAreNeverEntered}
 use Rattle.demands.proofs.Calls.{fit-kept, request-listed, answered, answers, no-room, as-load, load-listed, load-reply, after-all, chain-run, told-fitting, said-fitting, told, reading}
 
 -- ---- loads
@@ -151,11 +154,15 @@ module _ {policy : Bytes} {x y z : Buffers} {reply : ℕ} {said : List Placed} (
   accepted : load policy .reply ≡ GRANTED
   accepted = sym (loads l (fits l g) .0) ∙ g
 
+  said-after : saidAfter policy ss ≡ fitting (λ y. y) (allSaid said)
+  said-after = sym (placed-said (engineOf (load policy .tables)) ss) ∙ ap allSaid (sym (runs (fits l g) l c .0)) ∙ said-fitting said
+
   heard : outside policy (saidAfter policy ss) ≡ outside policy (allSaid said)
   unfolding outside
-  heard =
-      ap (outside policy) (sym (placed-said (engineOf (load policy .tables)) ss) ∙ ap allSaid (sym (runs (fits l g) l c .0)) ∙ said-fitting said)
-      ∙ told-fitting hear _ (allSaid said)
+  heard = ap (outside policy) said-after ∙ told-fitting hear _ (allSaid said)
+
+  commits-heard : commitsAfter policy ss ≡ committed (allSaid said)
+  commits-heard = ap committed said-after ∙ told-fitting commit noCommits (allSaid said)
 
   claimed : {claim : Bytes} {w : Buffers} {q i : ℕ} → Request claim z w q i → (q ≡ replyAfter policy ss claim) × (i ≡ placeAfter policy ss claim)
   claimed {claim} r =
@@ -172,6 +179,10 @@ module _ {policy : Bytes} {x y z : Buffers} {reply : ℕ} {said : List Placed} (
         let n = claimed r .0 in
         rw n (rw heard at (first-rule-broken policy accepted ss claim e (subst (Reaches BEFORE) n h)));
     places = λ {claim} e r. let n = claimed r in rw (n .0, n .1) (rw heard at (places-are-true policy accepted ss claim e));
+    walls = rw commits-heard at (clerks-keep-to-one-block .engine policy accepted ss);
+    checks = λ {check} e r h.
+        let n = claimed r .0 in
+        rw n (rw commits-heard at (wall-exactly-when .engine policy accepted ss check e (subst (Reaches WALL) n h)));
   }
 
   recorded : AsRecorded (recordsOf policy) (tablesOf z .lower .policy .seniority)
@@ -260,4 +271,25 @@ senior-roles = record {
   loads = λ {policy} f h l. load-as-before policy h f l;
   places = λ {policy} f h d. place-of f d ∙ ap (λ (q : Loaded). q .place) (loaded policy h);
   runs = λ {policy} f h l c. run-as-before policy h f l c;
+}
+
+-- ---- without walls
+tables-unwalled : {bytes : Bytes} {x y : Buffers} {reply place : ℕ} → fit x ≡ true → Unwalled (tablesOf x .lower) → Request bytes x y reply place
+    → SameTables (tablesOf y) (requestUnwalled (tablesOf x) bytes .tables)
+tables-unwalled {bytes} {x} {y} f none r =
+    subst (λ (q : Answer Engine). SameTables (tablesOf y) (q .tables)) (as-before-walls .requests (tablesOf x) none bytes .0) (answers r f .2)
+
+run-unwalled : (policy : Bytes) → ofKind 18 (recordsOf policy) ≡ [] → {x y z : Buffers} {reply : ℕ} {said : List Placed} → fit x ≡ true → Load policy x y reply
+    → Requests y said z → allSaid (fitted said) ≡ run requestUnwalled (engineOf (load policy .tables)) (requestsIn said)
+unfolding engineOf
+run-unwalled policy h {said = said} f l c =
+    ap allSaid (runs f l c .0)
+    ∙ placed-said (engineOf (load policy .tables)) (requestsIn said)
+    ∙ as-before-walls .runs (engineOf (load policy .tables)) (as-before-walls .loads policy h) (requestsIn said) .0
+
+pub without-walls : WithoutWalls
+without-walls = record {
+  requests = λ {bytes} {x} f none r. answers r f .0 ∙ as-before-walls .replies (tablesOf x) none bytes;
+  tables = λ f none r. tables-unwalled f none r;
+  runs = λ {policy} f h l c. run-unwalled policy h f l c;
 }

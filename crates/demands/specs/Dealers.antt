@@ -1,11 +1,11 @@
 -- "dealers build the lower part alone": one answer of its two calls, by the functions of Rattle and by those that C and Rust link, and the
--- role limits. (What demands 1 and 2 say of a call is its contract itself: lower/specs/Answers.)
+-- role limits, and walls. (What demands 1 and 2 say of a call is its contract itself: lower/specs/Answers.)
 use Prim.Native.Nat.{ℕ, _%_}
 use mathlib.Core.Bool.{Bool, true}
 use mathlib.Core.List.{List, []}
 use mathlib.Core.Path.{_≡_}
-use Rattle.paper_lower.specs.Checks.{GRANTED}
-use Rattle.paper_lower.specs.Records.{Bytes}
+use Rattle.paper_lower.specs.Checks.{GRANTED, WALL}
+use Rattle.paper_lower.specs.Records.{Bytes, decode}
 use Rattle.paper_lower.specs.Kinds.{Said}
 use Rattle.paper_lower.specs.Load.{recordsOf}
 use Rattle.paper_lower.specs.Sessions.{lowerOf}
@@ -17,7 +17,9 @@ use Rattle.lower.specs.Answers as lower
 use Rattle.lower.specs.Exports as exports
 use Rattle.theorems.specs.Outside.{outside}
 use Rattle.theorems.specs.OverEntries.{ofKind, RoleLimits}
+use Rattle.theorems.specs.Theorems.{Reaches}
 use Rattle.theorems.specs.Seniority.{AsRecorded, lowerRequestBefore, loadBefore, NoneBelow}
+use Rattle.theorems.specs.Walls.{committed, OneBlockOfEach, Decided, CheckOrCommit, committedBy, lowerRequestUnwalled}
 use Rattle.demands.specs.Calls.{Chain}
 
 -- its two buffers, the tables that they read as, and whether each has its length
@@ -68,3 +70,15 @@ pub record SeniorRoles : Type 0 where
       → (reply ≡ lowerRequestBefore (tablesOf x) bytes .reply) × (tablesOf y ≡ lowerRequestBefore (tablesOf x) bytes .tables)
   pub loads : {policy : Bytes} {x y : Buffers} {reply : ℕ} → fit x ≡ true → ofKind 17 (recordsOf policy) ≡ [] → Load policy x y reply
       → (reply ≡ loadBefore policy .reply) × (tablesOf y ≡ lowerOf (loadBefore policy .tables))
+
+-- ---- 02, Ask 11: walls, here too.
+pub record WallsHold : Type 0 where
+  -- "since a user was last added, the commits granted to that user touch at most one block of each wall."
+  pub upheld : {policy : Bytes} {x y z : Buffers} {reply : ℕ} {said : List Said} → Load policy x y reply → reply ≡ GRANTED → Chain Called fit y said z
+      → (u : ℕ) → OneBlockOfEach (recordsOf policy) (committed said .objects u)
+  pub checks : {policy : Bytes} {x y z : Buffers} {reply : ℕ} {said : List Said} → Load policy x y reply → reply ≡ GRANTED → Chain Called fit y said z
+      → {check : Bytes} {w : Buffers} {q : ℕ} → CheckOrCommit check → Request check z w q → Reaches WALL q
+      → Decided (recordsOf policy) (committedBy (committed said) (decode check)) (decode check .c) q
+  -- without walls every reply is as before
+  pub requests : {bytes : Bytes} {x y : Buffers} {reply : ℕ} → fit x ≡ true → tablesOf x .policy .walls ≡ [] → Request bytes x y reply
+      → reply ≡ lowerRequestUnwalled (tablesOf x) bytes .reply

@@ -4,7 +4,7 @@ use mathlib.Core.Bool.{true, false}
 use mathlib.Core.List.{List, []}
 use mathlib.Core.Path.{_≡_}
 use Rattle.paper_lower.specs.Lists.{Every}
-use Rattle.paper_lower.specs.Checks.{GRANTED, ROOM, BEFORE}
+use Rattle.paper_lower.specs.Checks.{GRANTED, ROOM, BEFORE, WALL}
 use Rattle.paper_lower.specs.Records.{Bytes, decode}
 use Rattle.paper_lower.specs.Forms.{requestForms}
 use Rattle.paper_lower.specs.Kinds.{run}
@@ -27,6 +27,7 @@ use Rattle.theorems.specs.Places.{placedAfter, RuleAt}
 use Rattle.theorems.specs.Meeting.{Apart}
 use Rattle.theorems.specs.Stuck.{NoneStuck, NextOnList}
 use Rattle.theorems.specs.Seniority.{AsRecorded, requestBefore, loadBefore, NoneBelow}
+use Rattle.theorems.specs.Walls.{committed, OneBlockOfEach, Decided, CheckOrCommit, committedBy, requestUnwalled, Unwalled}
 use Rattle.demands.specs.Calls.{Request, Load, Requests, allSaid, fitting, asked}
 
 -- ---- Demand 1
@@ -100,6 +101,11 @@ pub record Upheld (policy : Bytes) (said : List Placed) (z : Buffers) : Type 0 w
   -- 02, Ask 2: and its place is that of the first record of the rule's kind that entering it would break; of BLOCK, where 01's search ends
   pub places : {claim : Bytes} {w : Buffers} {reply place : ℕ} → decode claim .kind ≡ 50 → Request claim z w reply place
       → RuleAt (recordsOf policy) (outside policy (allSaid said)) (decode claim) reply place
+  -- 02, Ask 11: "since a user was last added, the commits granted to that user touch at most one block of each wall."
+  pub walls : (u : ℕ) → OneBlockOfEach (recordsOf policy) (committed (allSaid said) .objects u)
+  -- A check or a commit that passes the earlier checks is refused with WALL exactly when committing would touch a second one.
+  pub checks : {check : Bytes} {w : Buffers} {reply place : ℕ} → CheckOrCommit check → Request check z w reply place → Reaches WALL reply
+      → Decided (recordsOf policy) (committedBy (committed (allSaid said)) (decode check)) (decode check .c) reply
 
 -- "After an accepted load and any further requests"
 pub record DemandThree : Type 0 where
@@ -137,6 +143,19 @@ pub record SeniorRoles : Type 0 where
       → Requests y said z
       → let fitted = fitting (λ a. a .said) said in
       allSaid fitted ≡ run requestBefore (engineOf (loadBefore policy .tables)) (asked (λ a. a .said) fitted)
+
+-- ---- 02, Ask 11: without a record of kind 18 every reply is as before.
+pub record WithoutWalls : Type 0 where
+  -- of a request, on buffers of any content without walls; where nobody is bound, the tables too;
+  pub requests : {bytes : Bytes} {x y : Buffers} {reply place : ℕ} → fit x ≡ true → tablesOf x .lower .policy .walls ≡ [] → Request bytes x y reply place
+      → reply ≡ requestUnwalled (tablesOf x) bytes .reply
+  pub tables : {bytes : Bytes} {x y : Buffers} {reply place : ℕ} → fit x ≡ true → Unwalled (tablesOf x .lower) → Request bytes x y reply place
+      → SameTables (tablesOf y) (requestUnwalled (tablesOf x) bytes .tables)
+  -- and of all requests after a load
+  pub runs : {policy : Bytes} {x y z : Buffers} {reply : ℕ} {said : List Placed} → fit x ≡ true → ofKind 18 (recordsOf policy) ≡ [] → Load policy x y reply
+      → Requests y said z
+      → let fitted = fitting (λ a. a .said) said in
+      allSaid fitted ≡ run requestUnwalled (engineOf (load policy .tables)) (asked (λ a. a .said) fitted)
 
 -- ---- 02, Ask 13: "which of its tasks can never be claimed because of prerequisites"
 pub record CanFinish (policy : Bytes) (said : List Placed) (z : Buffers) : Type 0 where

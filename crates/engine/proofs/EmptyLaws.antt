@@ -62,7 +62,7 @@ all-lone : Every Lone requestKinds
 unfolding requestKinds upperKinds sharedKinds raised lowerKinds roleKinds sessionKinds keep each engineOf lowerOf noPolicy noSessions noOrders deleteChecks destroyChecks deleteAbove destroyAbove endChecks unknown claimChecks holdChecks taskCheckChecks figuresChecks assignChecks takeBackChecks giveChecks withdrawChecks createChecks activateChecks deactivateChecks checkChecks holds
 all-lone =
     (λ r h. refl) ⨾ (λ r h. refl) ⨾ (λ r h. lone-open (r .a) (r .b)) ⨾ (λ r h. refl) ⨾ (λ r h. refl) ⨾ (λ r h. refl) ⨾ (λ r h. refl) ⨾ (λ r h. refl) ⨾ (λ r h. refl) ⨾ (λ r h. lone-stuck (r .a))
-    ⨾ (λ r h. absurd (h refl)) ⨾ (λ r h. refl) ⨾ (λ r h. refl) ⨾ (λ r h. rw (has-empty (r .a))) ⨾ (λ r h. rw (has-empty (r .a))) ⨾ (λ r h. refl) ⨾ (λ r h. refl) ⨾ (λ r h. refl) ⨾ (λ r h. refl) ⨾ tt
+    ⨾ (λ r h. absurd (h refl)) ⨾ (λ r h. refl) ⨾ (λ r h. refl) ⨾ (λ r h. rw (has-empty (r .a))) ⨾ (λ r h. rw (has-empty (r .a))) ⨾ (λ r h. refl) ⨾ (λ r h. refl) ⨾ (λ r h. refl) ⨾ (λ r h. refl) ⨾ (λ r h. refl) ⨾ tt
 
 -- a kind that has a form has a row
 has-row : (ks : List (Kind Engine)) (n : ℕ) → some (λ k. eqb (k .kind) n) ks ≡ true → Every Lone ks → (r : Record) → (n ≡ 32 → ⊥) → first (chosen ks n .checks noEngine r) ≡ UNKNOWN
@@ -86,7 +86,7 @@ known-row p (f ∷ fs) h n t = go (eqb (f .kind) n) refl t (known-row p fs (h .1
 
 all-rows : Every (λ f. some (λ k. eqb (k .kind) (f .kind)) requestKinds ≡ true) requestForms
 unfolding requestForms lowerForms upperForms requestKinds upperKinds sharedKinds raised lowerKinds roleKinds sessionKinds keep each some
-all-rows = refl ⨾ refl ⨾ refl ⨾ refl ⨾ refl ⨾ refl ⨾ refl ⨾ refl ⨾ refl ⨾ refl ⨾ refl ⨾ refl ⨾ refl ⨾ refl ⨾ refl ⨾ refl ⨾ refl ⨾ refl ⨾ refl ⨾ tt
+all-rows = refl ⨾ refl ⨾ refl ⨾ refl ⨾ refl ⨾ refl ⨾ refl ⨾ refl ⨾ refl ⨾ refl ⨾ refl ⨾ refl ⨾ refl ⨾ refl ⨾ refl ⨾ refl ⨾ refl ⨾ refl ⨾ refl ⨾ refl ⨾ tt
 
 -- ---- 32
 no-roles : (r : Record) → (r .m ≡ 0 → ⊥) → first (chosen requestKinds 32 .checks noEngine r) ≡ UNKNOWN

@@ -10,6 +10,7 @@ use Rattle.replies.specs.Replies.{numberOf}
 use Rattle.replies.specs.Done.{Done}
 use Rattle.replies.specs.declared.Reply.{Reply}
 use Rattle.sessions.specs.Lower.{lowerTables}
+use Rattle.sessions.specs.Both.{Both}
 use Rattle.entries.specs.Reading.{ordersOf}
 use Rattle.links.proofs.SameLaws.{tables-refl}
 use Rattle.lower.specs.Stepped.{Stepped}
@@ -24,8 +25,9 @@ alike {t} e = subst (λ (x : Engine). SameTables t x) e (tables-refl t)
 
 -- a reply of no rule: its place is 0
 module _ {p s o : List ℕ} {reply place : ℕ} {next : Engine} {r : Reply} {j : Judged} (is : j ≡ record { reply = r; place = 0 }) (none : 0 ≡ place) where
-  pub of-policy : {p′ : List ℕ} → Done (λ l. engineTables l s o) reply next p p′ r → Step (engineTables p s o) (engineTables p′ s o) reply place next (buffers p s o) (buffers p′ s o) j
-  of-policy d = rw is (record { replies = d .replies; places = none; tables = alike (d .tables); kept = λ h. ap (λ (l : List ℕ). buffers l s o) (d .kept h) })
+  pub of-both : {p′ s′ : List ℕ} → Both (λ k l. engineTables k l o) reply next p s p′ s′ r → Step (engineTables p s o) (engineTables p′ s′ o) reply place next (buffers p s o) (buffers p′ s′ o) j
+  of-both d =
+      rw is (record { replies = d .replies; places = none; tables = alike (d .tables); kept = λ h. λ i. buffers (d .kept h .0 i) (d .kept h .1 i) o })
 
   pub of-sessions : {s′ : List ℕ} → Done (λ l. engineTables p l o) reply next s s′ r → Step (engineTables p s o) (engineTables p s′ o) reply place next (buffers p s o) (buffers p s′ o) j
   of-sessions d = rw is (record { replies = d .replies; places = none; tables = alike (d .tables); kept = λ h. ap (λ (l : List ℕ). buffers p l o) (d .kept h) })

@@ -11,7 +11,7 @@ ghost use Rattle.entries.specs.Acts.{Ready};
 ghost use Rattle.engine.specs.Buffers.{buffers, noEngine, tablesOf};
 ghost use Rattle.engine.specs.Step.{StepOf, SoundStep};
 ghost use Rattle.engine.specs.Answers.{Requested, LoadDone};
-ghost use Rattle.engine.specs.Settling.{Settling, Settled, SettledAs, SettledRequest, SettledExported};
+ghost use Rattle.engine.specs.Settling.{Settling, Settled, SettledAs, SettledRequest};
 ghost use Rattle.engine.specs.Exports.{LoadExported, RequestExported, wordsOf};
 use links::ORDERS_WORDS;
 use loading::Loaded;
@@ -180,22 +180,6 @@ pub extern "C" fn mishantral_settle(
 {
     let r = settle(policy, sessions, orders);
     replies::number(r)
-}
-
-// It asks that the state is settled, by mishantral_settle or a load, and that only settled requests and loads were made of it since.
-#[no_mangle]
-pub extern "C" fn mishantral_settled_request(
-    bytes: &[u8],
-    policy: &mut [u64],
-    sessions: &mut [u64],
-    orders: &mut [u64],
-) -> u64
-    requires { ⌜ Settling (buffers (now policy) (now sessions) (now orders)) ⌝ }
-    ensures { λ n. ⌜ SettledExported (now (bytes .entry)) (buffers (now (policy .entry)) (now (sessions .entry)) (now (orders .entry))) (buffers (now (policy .exit)) (now (sessions .exit)) (now (orders .exit))) n ⌝ }
-{
-    let r = settled_request(bytes, policy, sessions, orders);
-    let reply = r.reply;
-    replies::number(reply) + 256 * r.place
 }
 
 // The length of a buffer in words: 0 the policy's, 1 the sessions', 2 the orders', 3 that of a question's answer, 4 that of the scratch with which OPL/XML is read.

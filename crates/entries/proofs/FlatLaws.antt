@@ -1,13 +1,12 @@
 -- A search through the words up to the mark: each of them is in one chain, so that it finds what a walk along all chains finds.
-use Prim.Native.Nat.{ℕ, zero, suc, _+_, _/_, _%_, _*_, _<_}
-use mathlib.Core.Bool.{Bool, true, false, _&&_, _||_, and-true, true≢false}
+use Prim.Native.Nat.{ℕ, zero, suc, _+_, _/_, _%_, _*_, _≤_, _<_}
+use mathlib.Core.Bool.{Bool, true, false, cond, _&&_, _||_, and-true, true≢false}
 use mathlib.Core.List.{List, [], _∷_}
-use mathlib.Core.Path.{_≡_, refl, sym, ap, _∙_}
+use mathlib.Core.Path.{_≡_, refl, sym, ap, ap₂, _∙_}
 use native.Mathlib.Numerals.{add-one}
 use native.Mathlib.Omega.{arith}
-use borrow.Author.Tests.{eq-eqb, ne-eqb, eqb-true}
-use lib.Bits.{bitAnd}
-use lib.Dec.{eqb}
+use borrow.Author.Tests.{lt-ltb, eq-eqb, ne-eqb, eqb-true}
+use lib.Dec.{ltb, eqb}
 use Rattle.paper_lower.specs.Lists.{someBelow, some, Every}
 use Rattle.paper_lower.proofs.ListLaws.{both, none-below, below-none, every-map, some-none, none-some}
 use Rattle.paper_upper.specs.Orders.{Entry}
@@ -33,9 +32,17 @@ below-up : (f : ℕ → Bool) (k : ℕ) → someBelow (k + 1) f ≡ f k || someB
 unfolding someBelow
 below-up f k = rw add-one
 
-pub up-more : (l : List ℕ) (k mask key : ℕ) → anyUpTo l (k + 1) mask key ≡ eqb (bitAnd (wordAt l (k + 1)) mask) key || anyUpTo l k mask key
-unfolding fits
-up-more l k mask key = below-up (λ k. fits mask key (wordAt l (k + 1))) k
+-- a hit is counted: some were hit where the number is not 0
+more-some : (hit : Bool) (n : ℕ) → ltb 0 (cond hit (n + 1) n) ≡ hit || ltb 0 n
+more-some true n = lt-ltb 0 (n + 1) (omega arith)
+more-some false n = refl
+
+pub more-le : (hit : Bool) (n k : ℕ) → n ≤ k → cond hit (n + 1) n ≤ k + 1
+more-le true n k h = omega arith
+more-le false n k h = omega arith
+
+pub up-more : (l : List ℕ) (k mask key w n n′ : ℕ) (hit : Bool) → w ≡ wordAt l (k + 1) → hit ≡ fits mask key w → n′ ≡ cond hit (n + 1) n → ltb 0 n ≡ anyUpTo l k mask key → ltb 0 n′ ≡ anyUpTo l (k + 1) mask key
+up-more l k mask key w n n′ hit ew eh en e = ap (ltb 0) en ∙ more-some hit n ∙ ap₂ _||_ (eh ∙ ap (fits mask key) ew) e ∙ sym (below-up (λ k. fits mask key (wordAt l (k + 1))) k)
 
 -- ---- A chain's entries, by their numbers.
 module _ (l : List ℕ) (p : Entry → Bool) where

@@ -1,10 +1,10 @@
 -- One masked compare of an entry's word is a test of the entry.
 use Prim.Native.Nat.{ℕ, zero, suc, _+_, _*_, _/_, _%_, _<_}
 use mathlib.Core.Bool.{Bool, true, false, not, cond, _&&_, and-true, and-false}
-use mathlib.Core.Path.{_≡_, refl, sym, ap, _∙_}
+use mathlib.Core.Path.{_≡_, refl, sym, ap, ap₂, _∙_}
 use native.Mathlib.Omega.{arith}
 use borrow.Author.Tests.{eq-eqb, ne-eqb, eqb-true, eqb-false}
-use lib.Bits.{bitAnd, and-mask, and-high, and-block}
+use lib.Bits.{bitAnd, and-zero-r, and-mask, and-high, and-block}
 use lib.Dec.{eqb, lit<}
 use Rattle.paper_upper.specs.Orders.{isHeld, isHeldBy, inOrder, ofTask, heldBy}
 use Rattle.paper_upper.specs.Orders.Standing.{held, done}
@@ -44,6 +44,15 @@ user-part x u h = scaled (x % 2048) (eqb (x % 2048) u) refl ∙ parts (x % 2048)
     scaled : (y : ℕ) (b : Bool) → eqb y u ≡ b → eqb (y * 1048576) (1048576 * u) ≡ eqb y u
     scaled y true e = let same = eqb-true y u e in eq-eqb (y * 1048576) (1048576 * u) (omega arith) ∙ sym e
     scaled y false e = let other = eqb-false y u e in ne-eqb (y * 1048576) (1048576 * u) (λ (z : y * 1048576 ≡ 1048576 * u). other (omega arith)) ∙ sym e
+
+-- a mask of half a word looks at no more
+pub half-word : (w mask key : ℕ) → mask < 4294967296 → eqb (bitAnd (w % 4294967296) mask) key ≡ fits mask key w
+unfolding fits
+half-word w mask key h =
+    let e : w ≡ w / 4294967296 * 4294967296 + w % 4294967296 = omega arith in
+    let m : mask ≡ 0 * 4294967296 + mask = omega arith in
+    ap (λ (n : ℕ). eqb n key)
+    (sym (ap₂ bitAnd e m ∙ and-block 32 (w / 4294967296) 0 (w % 4294967296) mask (omega arith) h ∙ (let z = and-zero-r (w / 4294967296) in omega arith)))
 
 module _ (w : ℕ) where
   not-done-bit : not (eqb (w / 64 % 2) 1) ≡ eqb (w / 64 % 2) 0

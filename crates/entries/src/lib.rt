@@ -11,7 +11,7 @@ ghost use Rattle.paper_lower.specs.Lists.Maybe.{just};
 ghost use Rattle.paper_upper.specs.Orders.{isHeld, isHeldBy, inOrder, heldBy};
 ghost use Rattle.paper_upper.specs.Questions.{figuresOf};
 ghost use Rattle.links.specs.Chains.{ordersWords, markOf};
-ghost use Rattle.entries.specs.Reading.{Cleared, ordersOf, withInstance, openedOf, inOpenOrder, keyOf, anyIn, anyUpTo};
+ghost use Rattle.entries.specs.Reading.{Cleared, ordersOf, withInstance, openedOf, inOpenOrder, keyOf, fits, anyIn, anyUpTo};
 ghost use Rattle.entries.specs.Acts.{InLimits, Ready, afterEnter, afterRelease, afterFinish, afterEnd, Acts, Enters};
 ghost use Rattle.entries.specs.Gathering.{gatheredOf, takenIn, kept};
 use links::FREE;
@@ -25,9 +25,9 @@ const ORDER_HELD: u64 = 127;
 
 const HELD_BY: u64 = 1048575;
 
-const HOLDER: u64 = 1074782272;
+const HOLDER: u32 = 1074782272;
 
-const USER: u64 = 2146435072;
+const USER: u32 = 2146435072;
 
 pub struct Instance {
     pub open: bool,
@@ -162,20 +162,36 @@ fn any_in(o: &[u64], i: u64, mask: u64, key: u64) -> bool
     found
 }
 
+// The same of a word's lower half, as four of these are compared at once; and hits are counted, as a count keeps their width.
+fn half_fits(w: u64, mask: u32, key: u32) -> bool
+    ensures { λ r. ⌜ r ≡ fits mask key w ⌝ }
+{
+    let half = (w % 4294967296) as u32;
+    half & mask == key
+}
+
+fn one_more(hit: bool, n: u32) -> u32
+    requires { ⌜ n < 4096 ⌝ }
+    ensures { λ r. ⌜ r ≡ cond hit (n + 1) n ⌝ }
+{
+    if hit { n + 1 } else { n }
+}
+
 // Whether that of some entry up to the mark is: side by side, without a look at the links.
-fn any(o: &[u64], mask: u64, key: u64) -> bool
+fn any(o: &[u64], mask: u32, key: u32) -> bool
     requires { ⌜ Ready (now o) ⌝ }
     ensures { λ r. ⌜ r ≡ anyUpTo (now (o .entry)) (markOf (now (o .entry))) mask key ⌝ }
 {
     let m = links::mark(o);
     let mut k = 0;
-    let mut found = false;
+    let mut hits: u32 = 0;
     while k < m {
         let w = links::word(o, k + 1);
-        found = (w & mask == key) | found;
+        let hit = half_fits(w, mask, key);
+        hits = one_more(hit, hits);
         k += 1;
     }
-    found
+    0 < hits
 }
 
 // The part of an entry's word below its user: task t of instance i, held by subject a.
@@ -206,7 +222,7 @@ pub fn holds_any(o: &[u64], a: u64) -> bool
     requires { ⌜ Ready (now o) × (a < 128) ⌝ }
     ensures { λ r. ⌜ r ≡ some (λ e. isHeldBy a (e .standing)) (ordersOf (now (o .entry)) .entries) ⌝ }
 {
-    any(o, HOLDER, 8192 * a)
+    any(o, HOLDER, (8192 * a) as u32)
 }
 
 // Whether the user has an entry in an open instance: no other has any.
@@ -214,7 +230,7 @@ pub fn in_open_order(o: &[u64], u: u64) -> bool
     requires { ⌜ Ready (now o) × (u < 1024) ⌝ }
     ensures { λ r. ⌜ r ≡ some (inOpenOrder (ordersOf (now (o .entry))) u) (ordersOf (now (o .entry)) .entries) ⌝ }
 {
-    any(o, USER, 1048576 * u)
+    any(o, USER, (1048576 * u) as u32)
 }
 
 // ---- Kept figures.

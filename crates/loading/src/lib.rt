@@ -1,5 +1,5 @@
 // The load of a policy: one record judged by its form and done, and all records of a policy one after the other.
-// It rests on the forms of records, on the seventeen kinds, and on the policy buffer.
+// It rests on the forms of records, on the eighteen kinds, and on the policy buffer.
 ghost use mathlib.Core.Path.{_≡_};
 ghost use Prim.Native.Nat.{_/_};
 ghost use lib.ListN.{length};
@@ -54,12 +54,13 @@ fn step(r: Record, p: &mut [u64]) -> Reply
         15 => rule_records::bind(p, a, b),
         16 => rule_records::before(p, a, b),
         17 => senior_records::raise(p, a, b),
+        18 => wall_records::wall(p, a, b, c),
         _ => Reply::Shape,
     }
 }
 
 // One record of a policy, whatever its bytes.
-fn record(bytes: &[u8], p: &mut [u64]) -> Reply
+pub fn record(bytes: &[u8], p: &mut [u64]) -> Reply
     requires { ⌜ length (now p) ≡ policyWords ⌝ }
     ensures { λ x. ⌜ Done policyOf (policyAnswer (policyOf (now (p .entry))) (now (bytes .entry)) .reply) (policyAnswer (policyOf (now (p .entry))) (now (bytes .entry)) .tables) (now (p .entry)) (now (p .exit)) x ⌝ }
 {

@@ -3,9 +3,9 @@ use Prim.Native.Nat.{_≤_}
 use native.Mathlib.Omega.{arith}
 use Rattle.replies.specs.Replies.{numberOf}
 use Rattle.replies.specs.declared.Reply.{Reply}
-use Rattle.replies.specs.declared.Reply.the-variants.{Granted, Room, Shape, Range, Unknown, Taken, InUse, Rule, NotAssigned, Static, Dynamic, NoRole, NotYours, Denied, Before, Separation, Block, Alone, Bound, Count, Full, Loop}
+use Rattle.replies.specs.declared.Reply.the-variants.{Granted, Room, Shape, Range, Unknown, Taken, InUse, Rule, NotAssigned, Static, Dynamic, NoRole, NotYours, Denied, Before, Separation, Block, Alone, Bound, Count, Full, Loop, Wall}
 
-pub number-small : (r : Reply) → numberOf r ≤ 23
+pub number-small : (r : Reply) → numberOf r ≤ 24
 number-small Granted = omega arith
 number-small Room = omega arith
 number-small Shape = omega arith
@@ -28,3 +28,4 @@ number-small Bound = omega arith
 number-small Count = omega arith
 number-small Full = omega arith
 number-small Loop = omega arith
+number-small Wall = omega arith

@@ -113,7 +113,7 @@ fn attempt(line: &[u8], r: Fields, p: &mut [u64], s: &mut [u64]) {
     let bytes = scripts::bytes(r);
     let a = answered(&bytes, p, POLICY_WORDS, s, SESSIONS_WORDS);
     say(line);
-    say_if(a.reply <= 20, b": answered");
+    say_if(a.reply <= 24, b": answered");
     say_if((a.reply != 0) & !a.kept, b", and words changed");
     say(b"\n");
 }
@@ -271,7 +271,7 @@ fn run_front(text: &[u8], n: usize, policy: &mut [u8], p: &mut [u64], s: &mut [u
 fn main() {
     let mut text = [0u8; 65536];
     let n = io::read_full(0, &mut text);
-    let mut policy = [0u8; 4096];
+    let mut policy = [0u8; 8192];
     let mut p = [0u64; POLICY_WORDS + 1];
     let mut s = [0u64; SESSIONS_WORDS + 1];
     run_front(&text, n, &mut policy, &mut p, &mut s);

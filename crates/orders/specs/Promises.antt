@@ -9,6 +9,7 @@ use Rattle.paper_upper.specs.Requests.{openChecks, openNext, endChecks, endNext
 use Rattle.replies.specs.Replies.{numberOf}
 use Rattle.replies.specs.Done.{Done}
 use Rattle.replies.specs.declared.Reply.{Reply}
+use Rattle.sessions.specs.Both.{Both}
 use Rattle.links.specs.Chains.{soundOf}
 use Rattle.orders.specs.Tables.{engineTables, deleteWhole, deleteWholeNext, destroyWhole, destroyWholeNext}
 
@@ -16,9 +17,9 @@ use Rattle.orders.specs.Tables.{engineTables, deleteWhole, deleteWholeNe
 abbrev pub DeleteJudged : List ℕ → List ℕ → List ℕ → ℕ → Reply → Type 0
 DeleteJudged p s o a r = numberOf r ≡ first (deleteWhole (engineTables p s o) a)
 
-abbrev pub Deleted : List ℕ → List ℕ → List ℕ → List ℕ → ℕ → Reply → Type 0
-Deleted p p′ s o a r =
-    Done (λ l. engineTables l s o) (first (deleteWhole (engineTables p s o) a)) (deleteWholeNext (engineTables p s o) a) p p′ r
+abbrev pub Deleted : List ℕ → List ℕ → List ℕ → List ℕ → List ℕ → ℕ → Reply → Type 0
+Deleted p s p′ s′ o a r =
+    Both (λ k l. engineTables k l o) (first (deleteWhole (engineTables p s o) a)) (deleteWholeNext (engineTables p s o) a) p s p′ s′ r
 
 -- ---- 41, whatever the policy is
 abbrev pub DestroyJudged : List ℕ → List ℕ → ℕ → Reply → Type 0

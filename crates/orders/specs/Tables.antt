@@ -2,8 +2,8 @@
 use Prim.Native.Nat.{ℕ}
 use mathlib.Core.List.{List, _++_}
 use Rattle.paper_lower.specs.Checks.{Check}
-use Rattle.paper_lower.specs.Tables.{withPolicy, withSessions}
-use Rattle.paper_lower.specs.Roles.{deleteChecks, deleteNext}
+use Rattle.paper_lower.specs.Tables.{withSessions}
+use Rattle.paper_lower.specs.Roles.{deleteChecks, userGone}
 use Rattle.paper_lower.specs.Sessions.{destroyChecks, destroyNext}
 use Rattle.paper_upper.specs.Orders.{Engine, withLower}
 use Rattle.paper_upper.specs.Requests.{deleteAbove, destroyAbove}
@@ -18,7 +18,7 @@ abbrev pub deleteWhole : Engine → ℕ → List Check
 deleteWhole t a = deleteChecks (t .lower) a ++ deleteAbove t a
 
 abbrev pub deleteWholeNext : Engine → ℕ → Engine
-deleteWholeNext t a = withLower t (withPolicy (t .lower) (deleteNext (t .lower .policy) a))
+deleteWholeNext t a = withLower t (userGone (t .lower) a)
 
 -- ---- 41
 abbrev pub destroyWhole : Engine → ℕ → List Check

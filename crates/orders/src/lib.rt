@@ -25,15 +25,15 @@ fn delete_reply(p: &[u64], s: &[u64], o: &[u64], a: u64) -> Reply
     if used { Reply::InUse } else { Reply::Granted }
 }
 
-pub fn delete(p: &mut [u64], s: &[u64], o: &[u64], a: u64) -> Reply
+pub fn delete(p: &mut [u64], s: &mut [u64], o: &[u64], a: u64) -> Reply
     requires { ⌜ (length (now p) ≡ policyWords) × ((length (now s) ≡ sessionsWords) × (Ready (now o) × (a < 1024))) ⌝ }
-    ensures { λ r. ⌜ Deleted (now (p .entry)) (now (p .exit)) (now (s .entry)) (now (o .entry)) a r ⌝ }
+    ensures { λ r. ⌜ Deleted (now (p .entry)) (now (s .entry)) (now (p .exit)) (now (s .exit)) (now (o .entry)) a r ⌝ }
 {
     let r = delete_reply(p, s, o, a);
     if !accepted(r) {
         return r;
     }
-    roles::remove(p, a);
+    roles::remove(p, s, a);
     r
 }
 

@@ -71,6 +71,10 @@ FULL = 20
 abbrev pub LOOP : ℕ
 LOOP = 23
 
+-- 02, Ask 11: "WALL (24), after DENIED in kinds 56 and 59"
+abbrev pub WALL : ℕ
+WALL = 24
+
 -- A check: when it applies, and the refusal that it gives.
 abbrev pub Check : Type 0
 Check = Bool × ℕ

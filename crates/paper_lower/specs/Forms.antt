@@ -36,6 +36,13 @@ aTemplate = to 15
 abbrev pub aPartitioning : Field
 aPartitioning = to 15
 
+-- 02, Ask 11: "wall a (0 to 15), block b (0 to 15), object c"
+abbrev pub aWall : Field
+aWall = to 15
+
+abbrev pub aBlock : Field
+aBlock = to 15
+
 abbrev pub aSubject : Field
 aSubject = to 127
 
@@ -73,6 +80,7 @@ policyForms =
     ∷ form 15 · aTask aTask · ·
     ∷ form 16 · aTask aTask · ·
     ∷ form 17 · aRole aRole · ·
+    ∷ form 18 · aWall aBlock any ·
     ∷ []
 
 -- "Request kinds:", those of the lower part
@@ -89,6 +97,8 @@ lowerForms =
     ∷ form 42 · aSubject aRole · ·
     ∷ form 43 · aSubject aRole · ·
     ∷ form 56 · aSubject any any ·
+    -- 02, Ask 11: "Request kind 59, commit, has the fields of kind 56"
+    ∷ form 59 · aSubject any any ·
     ∷ []
 
 -- and those of the upper part

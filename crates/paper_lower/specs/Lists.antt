@@ -39,6 +39,11 @@ there x = holds (λ _. true) x
 abbrev pub is : ℕ → Maybe ℕ → Bool
 is k x = holds (λ n. eqb n k) x
 
+-- the first if it is there, and else the second
+unfoldable pub orElse : {A : Type 0} → Maybe A → Maybe A → Maybe A
+orElse none y = y
+orElse (just x) y = just x
+
 -- ---- Lists in policy order.
 
 unfoldable pub some : {A : Type 0} → (A → Bool) → List A → Bool
@@ -88,5 +93,5 @@ Every P (x ∷ xs) = P x × Every P xs
 
 -- What this page defines, and those before it, opened together where a case is computed.
 unfoldable pub listsOpen : Unit {0}
-unfolding setsOpen upd someBelow sumBelow holds some every many add keep each placeFrom place firstOf
+unfolding setsOpen upd someBelow sumBelow holds orElse some every many add keep each placeFrom place firstOf
 listsOpen = tt

@@ -1,14 +1,14 @@
--- The seventeen policy kinds: for each its checks, in the order of their numbers, and the next tables.
+-- The eighteen policy kinds: for each its checks, in the order of their numbers, and the next tables.
 use Prim.Native.Nat.{ℕ}
 use mathlib.Core.Bool.{Bool, true, not, cond, _&&_, _||_}
 use mathlib.Core.List.{List, [], _∷_}
 use lib.Dec.{eqb, ltb, leb}
 use Rattle.paper_lower.specs.Sets.{Set, empty, has, plus, union, size, overlap, meets, within, collect, unionBelow}
-use Rattle.paper_lower.specs.Lists.{upd, someBelow, sumBelow, holds, there, is, some, many, add}
-use Rattle.paper_lower.specs.Lists.Maybe.{just}
+use Rattle.paper_lower.specs.Lists.{Maybe, upd, someBelow, sumBelow, holds, there, is, some, many, add}
+use Rattle.paper_lower.specs.Lists.Maybe.{none, just}
 use Rattle.paper_lower.specs.Checks.{Check, UNKNOWN, TAKEN, RULE, STATIC, FULL, LOOP}
 use Rattle.paper_lower.specs.Kinds.{Kind, on}
-use Rattle.paper_lower.specs.Tables.{Seniority, Permission, Tasks, Limit, Block, Pair, Policy, withPeople, withSeniority, withPermissions, withTasks, withRules, withAssigned, withHolders, withStatics, withDynamics, withTaskSets, withBlocks, withBindings, withBefores}
+use Rattle.paper_lower.specs.Tables.{Seniority, Permission, Tasks, Limit, Block, Pair, Walled, Policy, withPeople, withSeniority, withPermissions, withTasks, withRules, withAssigned, withHolders, withStatics, withDynamics, withTaskSets, withBlocks, withBindings, withBefores, withWalls}
 
 -- ---- Questions to the tables.
 
@@ -279,6 +279,30 @@ raiseChecks p a b =
 unfoldable pub raiseNext : Policy → ℕ → ℕ → Policy
 raiseNext p a b = withSeniority p (raised (p .seniority) a b)
 
+-- ---- 02, Ask 11: "policy kind 18, wall a (0 to 15), block b (0 to 15), object c".
+-- the block of a wall that has the object
+unfoldable pub blockOf : List Walled → ℕ → ℕ → Maybe ℕ
+blockOf [] object wall = none
+blockOf (x ∷ xs) object wall = cond (eqb (x .object) object && eqb (x .wall) wall) (just (x .block)) (blockOf xs object wall)
+
+-- a block is there, and is another than b
+unfoldable pub another : ℕ → Maybe ℕ → Bool
+another b x = holds (λ k. not (eqb k b)) x
+
+unfoldable pub sameWalled : ℕ → ℕ → ℕ → Walled → Bool
+sameWalled a b c x = eqb (x .wall) a && eqb (x .block) b && eqb (x .object) c
+
+-- "an object stands in at most one block of a wall; at most 256 records": "RULE for an object twice in a wall", "FULL"
+unfoldable pub wallChecks : Policy → ℕ → ℕ → ℕ → List Check
+wallChecks p a b c =
+    (some (sameWalled a b c) (p .walls), TAKEN)
+    ∷ (another b (blockOf (p .walls) c a), RULE)
+    ∷ (leb 256 (many (p .walls)), FULL)
+    ∷ []
+
+unfoldable pub wallNext : Policy → ℕ → ℕ → ℕ → Policy
+wallNext p a b c = withWalls p (add (p .walls) (record { wall = a; block = b; object = c }))
+
 -- ---- All of them.
 unfoldable pub policyKinds : List (Kind Policy)
 policyKinds =
@@ -299,9 +323,10 @@ policyKinds =
     ∷ on 15 (λ p r. bindChecks p (r .a) (r .b)) (λ p r. bindNext p (r .a) (r .b))
     ∷ on 16 (λ p r. beforeChecks p (r .a) (r .b)) (λ p r. beforeNext p (r .a) (r .b))
     ∷ on 17 (λ p r. raiseChecks p (r .a) (r .b)) (λ p r. raiseNext p (r .a) (r .b))
+    ∷ on 18 (λ p r. wallChecks p (r .a) (r .b) (r .c)) (λ p r. wallNext p (r .a) (r .b) (r .c))
     ∷ []
 
 -- What this page defines, opened together where a case is computed.
 unfoldable pub policyOpen : Unit {0}
-unfolding down breaks isFor declaredTasks tasksOf hasTask oneTemplate together sameLimit sameBlock samePair illMade userChecks userNext roleChecks roleNext permissionChecks permissionNext assignChecks assignNext giveChecks giveNext taskChecks taskNext openToChecks openToNext carriesChecks carriesNext staticChecks staticNext dynamicChecks dynamicNext taskSetChecks taskSetNext partitioned blockChecks blockNext banChecks banNext mostChecks mostNext bindChecks bindNext beforeChecks beforeNext raised raisings raiseChecks raiseNext policyKinds
+unfolding down breaks isFor declaredTasks tasksOf hasTask oneTemplate together sameLimit sameBlock samePair illMade userChecks userNext roleChecks roleNext permissionChecks permissionNext assignChecks assignNext giveChecks giveNext taskChecks taskNext openToChecks openToNext carriesChecks carriesNext staticChecks staticNext dynamicChecks dynamicNext taskSetChecks taskSetNext partitioned blockChecks blockNext banChecks banNext mostChecks mostNext bindChecks bindNext beforeChecks beforeNext raised raisings raiseChecks raiseNext blockOf another sameWalled wallChecks wallNext policyKinds
 policyOpen = tt

@@ -5,9 +5,10 @@ use mathlib.Core.List.{List, [], _∷_}
 use lib.Dec.{eqb}
 use Rattle.paper_lower.specs.Sets.{Set, empty, has, minus, meets, within, without, unionBelow}
 use Rattle.paper_lower.specs.Lists.{upd, someBelow, there, some}
+use Rattle.paper_lower.specs.Lists.Maybe.{none}
 use Rattle.paper_lower.specs.Checks.{Check, UNKNOWN, TAKEN, IN-USE, STATIC}
 use Rattle.paper_lower.specs.Kinds.{Kind, on}
-use Rattle.paper_lower.specs.Tables.{Policy, Sessions, Lower, withPeople, withPermissions, withPolicy, withAssigned, withHolders}
+use Rattle.paper_lower.specs.Tables.{Policy, Sessions, Lower, withPeople, withPermissions, withPolicy, withSessions, withAssigned, withHolders, withBoundTo}
 use Rattle.paper_lower.specs.Policy.{down, breaks, assignChecks, assignNext, giveChecks, giveNext}
 
 -- subject k is a live one of user u
@@ -49,6 +50,13 @@ unfoldable pub deleteNext : Policy → ℕ → Policy
 deleteNext p a =
     withPeople p (record { users = upd (p .people .users) a false; roles = p .people .roles; assigned = upd (p .people .assigned) a empty })
 
+-- 02, Ask 11: "Deleting a user forgets the binding"
+unfoldable pub forgetNext : Sessions → ℕ → Sessions
+forgetNext s a = withBoundTo s (upd (s .boundTo) a (λ _. none))
+
+unfoldable pub userGone : Lower → ℕ → Lower
+userGone t a = withSessions (withPolicy t (deleteNext (t .policy) a)) (forgetNext (t .sessions) a)
+
 -- the roles that user a would no longer have without role b, those below counted
 unfoldable pub lostBy : Policy → ℕ → ℕ → Set
 lostBy p a b = without (down (p .seniority) (p .people .assigned a)) (down (p .seniority) (minus (p .people .assigned a) b))
@@ -78,7 +86,7 @@ withdrawNext p a b =
 unfoldable pub roleKinds : List (Kind Lower)
 roleKinds =
     on 32 (λ t r. joinChecks (t .policy) (r .a) (r .m)) (λ t r. withPolicy t (joinNext (t .policy) (r .a) (r .m)))
-    ∷ on 33 (λ t r. deleteChecks t (r .a)) (λ t r. withPolicy t (deleteNext (t .policy) (r .a)))
+    ∷ on 33 (λ t r. deleteChecks t (r .a)) (λ t r. userGone t (r .a))
     ∷ on 34 (λ t r. assignChecks (t .policy) (r .a) (r .b)) (λ t r. withPolicy t (assignNext (t .policy) (r .a) (r .b)))
     ∷ on 35 (λ t r. takeBackChecks t (r .a) (r .b)) (λ t r. withPolicy t (takeBackNext (t .policy) (r .a) (r .b)))
     ∷ on 36 (λ t r. giveChecks (t .policy) (r .a) (r .b)) (λ t r. withPolicy t (giveNext (t .policy) (r .a) (r .b)))
@@ -87,5 +95,5 @@ roleKinds =
 
 -- What this page defines, opened together where a case is computed.
 unfoldable pub rolesOpen : Unit {0}
-unfolding subjectOf ofSubjects activeOf countedOf joinChecks joinNext deleteChecks deleteNext lostBy takeBackChecks takeBackNext withdrawChecks withdrawNext roleKinds
+unfolding subjectOf ofSubjects activeOf countedOf joinChecks joinNext deleteChecks deleteNext forgetNext userGone lostBy takeBackChecks takeBackNext withdrawChecks withdrawNext roleKinds
 rolesOpen = tt

@@ -7,9 +7,9 @@ use lib.Dec.{eqb, ltb}
 use Rattle.paper_lower.specs.Sets.{empty}
 use Rattle.paper_lower.specs.Lists.{every, each}
 use Rattle.paper_lower.specs.Lists.Maybe.{none, just}
-use Rattle.paper_lower.specs.Checks.{GRANTED, SHAPE, RANGE, UNKNOWN, TAKEN, IN-USE, RULE, NOT-ASSIGNED, STATIC, DYNAMIC, DENIED, FULL, LOOP}
-use Rattle.paper_lower.specs.Words.{Case, refuses, accepts, _⇒_, comesOut, wordsOpen, record-of, user, role, permission, userHas, roleHas, task, openTo, carries, staticSet, dynamicSet, taskSet, block, ban, atMost, bound, isBefore, standsAbove, addUser, join, deleteUser, assign, takeBack, give, withdraw, create, destroy, activate, deactivate, openOrder, check}
-use Rattle.paper_lower.specs.Tables.{Policy, noPolicy}
+use Rattle.paper_lower.specs.Checks.{GRANTED, SHAPE, RANGE, UNKNOWN, TAKEN, IN-USE, RULE, NOT-ASSIGNED, STATIC, DYNAMIC, DENIED, FULL, LOOP, WALL}
+use Rattle.paper_lower.specs.Words.{Case, refuses, accepts, _⇒_, comesOut, wordsOpen, record-of, user, role, permission, userHas, roleHas, task, openTo, carries, staticSet, dynamicSet, taskSet, block, ban, atMost, bound, isBefore, standsAbove, walled, addUser, join, deleteUser, assign, takeBack, give, withdraw, create, destroy, activate, deactivate, openOrder, check, commit}
+use Rattle.paper_lower.specs.Tables.{Policy, noPolicy, withWalls}
 use Rattle.paper_lower.specs.Records.{Bytes}
 use Rattle.paper_lower.specs.Load.{policyAnswer}
 use Rattle.paper_lower.specs.Sessions.{lowerRequest, lowerOf, lowerOpen}
@@ -126,6 +126,36 @@ seniors =
     (create 5 300 3 ⇒ GRANTED ∷ takeBack 300 0 ⇒ UNKNOWN ∷ takeBack 300 1 ⇒ GRANTED ∷ takeBack 300 2 ⇒ IN-USE ∷ takeBack 300 3 ⇒ GRANTED ∷ deactivate 5 1 ⇒ GRANTED ∷ takeBack 300 2 ⇒ IN-USE ∷ assign 300 0 ⇒ GRANTED ∷ takeBack 300 2 ⇒ GRANTED ∷ takeBack 300 0 ⇒ IN-USE ∷ [])
     ∷ []
 
+-- ---- 02, Ask 11: two dealers' price books, objects 7 and 8, in two blocks of wall 0; 7 and 9 in two of wall 1; object 20 outside both.
+unfoldable pub books : List Bytes
+books =
+    user 44 ∷ user 300 ∷ role 0 ∷ permission 0 1 7 ∷ permission 1 1 8 ∷ permission 2 1 9 ∷ permission 3 1 20 ∷ userHas 44 0 ∷ userHas 300 0 ∷ roleHas 0 0 ∷ roleHas 0 1 ∷ roleHas 0 2 ∷ roleHas 0 3
+    ∷ walled 0 1 7 ∷ walled 0 2 8 ∷ walled 1 5 7 ∷ walled 1 6 9 ∷ []
+
+unfoldable pub walls : List Case
+walls =
+    -- the refusals of kind 18: SHAPE, RANGE, TAKEN, RULE for an object twice in a wall; an object need not be known, and stands in many walls
+    refuses (record-of 18 1 0 0 7 0 ∷ []) SHAPE 1
+    ∷ refuses (record-of 18 0 0 0 7 1 ∷ []) SHAPE 1
+    ∷ refuses (walled 16 0 7 ∷ []) RANGE 1
+    ∷ refuses (walled 0 16 7 ∷ []) RANGE 1
+    ∷ refuses (walled 0 1 7 ∷ walled 0 1 7 ∷ []) TAKEN 2
+    ∷ refuses (walled 0 1 7 ∷ walled 0 0 7 ∷ []) RULE 2
+    ∷ refuses (walled 0 1 7 ∷ walled 1 0 7 ∷ walled 0 1 8 ∷ walled 1 1 7 ∷ []) RULE 4
+    ∷ accepts (walled 15 15 65535 ∷ walled 0 15 65535 ∷ walled 15 15 0 ∷ []) []
+    -- a check binds nobody; a commit binds the user, whatever the subject, and no other user; outside a wall all is free
+    ∷ accepts books
+    (create 5 300 1 ⇒ GRANTED ∷ create 6 300 1 ⇒ GRANTED ∷ create 7 44 1 ⇒ GRANTED ∷ check 5 1 7 ⇒ GRANTED ∷ check 5 1 8 ⇒ GRANTED ∷ commit 5 1 7 ⇒ GRANTED ∷ check 5 1 8 ⇒ WALL ∷ commit 5 1 8 ⇒ WALL ∷ check 6 1 8 ⇒ WALL ∷ check 7 1 8 ⇒ GRANTED ∷ commit 5 1 7 ⇒ GRANTED ∷ commit 5 1 20 ⇒ GRANTED ∷ commit 7 1 8 ⇒ GRANTED ∷ check 7 1 7 ⇒ WALL ∷ check 7 1 9 ⇒ GRANTED ∷ [])
+    -- every wall that has the object, and one is enough
+    ∷ accepts books (create 5 300 1 ⇒ GRANTED ∷ commit 5 1 7 ⇒ GRANTED ∷ check 5 1 9 ⇒ WALL ∷ create 7 44 1 ⇒ GRANTED ∷ commit 7 1 9 ⇒ GRANTED ∷ check 7 1 7 ⇒ WALL ∷ commit 7 1 8 ⇒ GRANTED ∷ [])
+    -- the order of refusals: SHAPE, RANGE, UNKNOWN, DENIED, WALL; what is refused binds nobody
+    ∷ accepts books
+    (create 5 300 1 ⇒ GRANTED ∷ commit 5 1 7 ⇒ GRANTED ∷ record-of 59 0 128 1 8 1 ⇒ SHAPE ∷ commit 128 1 8 ⇒ RANGE ∷ commit 6 1 8 ⇒ UNKNOWN ∷ commit 5 2 8 ⇒ DENIED ∷ check 5 2 8 ⇒ DENIED ∷ commit 5 1 8 ⇒ WALL ∷ create 7 44 0 ⇒ GRANTED ∷ commit 7 1 7 ⇒ DENIED ∷ activate 7 0 ⇒ GRANTED ∷ commit 7 1 8 ⇒ GRANTED ∷ [])
+    -- the binding is the user's: it outlives the session, and goes with the user
+    ∷ accepts books
+    (create 5 300 1 ⇒ GRANTED ∷ commit 5 1 7 ⇒ GRANTED ∷ destroy 5 ⇒ GRANTED ∷ create 6 300 1 ⇒ GRANTED ∷ check 6 1 8 ⇒ WALL ∷ destroy 6 ⇒ GRANTED ∷ create 6 44 1 ⇒ GRANTED ∷ commit 6 1 8 ⇒ GRANTED ∷ deleteUser 300 ⇒ GRANTED ∷ join 300 1 ⇒ GRANTED ∷ create 5 300 1 ⇒ GRANTED ∷ commit 5 1 8 ⇒ GRANTED ∷ check 5 1 7 ⇒ WALL ∷ check 6 1 7 ⇒ WALL ∷ [])
+    ∷ []
+
 pub all-come-out : every (comesOut lowerRequest lowerOf) samples ≡ true
 unfolding lowerOpen wordsOpen samples
 all-come-out = refl
@@ -137,6 +167,10 @@ policies-come-out = refl
 pub seniors-come-out : every (comesOut lowerRequest lowerOf) seniors ≡ true
 unfolding lowerOpen wordsOpen ranks seniors
 seniors-come-out = refl
+
+pub walls-come-out : every (comesOut lowerRequest lowerOf) walls ≡ true
+unfolding lowerOpen wordsOpen books walls
+walls-come-out = refl
 
 -- ---- "Rules per policy: 32 of each of kinds 9, 10, 11; 64 blocks; 64 bindings; 64 prerequisites."
 unfoldable pub copies : {A : Type 0} → ℕ → A → List A
@@ -158,6 +192,7 @@ standing k = record {
     bindings = copies k (record { a = 2; b = 3 });
     befores = copies k (record { a = 2; b = 3 });
   };
+  walls = [];
 }
 
 -- the replies to one more of each kind
@@ -184,6 +219,7 @@ raisedSo k = record {
   permissions = noPolicy .permissions;
   tasks = noPolicy .tasks;
   rules = record { statics = record { n = 1; members = 12 } ∷ []; dynamics = []; taskSets = []; blocks = []; bindings = []; befores = [] };
+  walls = [];
 }
 
 -- the replies to one more: taken, ill made, in a circle, against a set, and well made
@@ -193,3 +229,14 @@ oneAbove k = each (λ s. policyAnswer (raisedSo k) s .reply) (standsAbove 40 31 
 pub raisings-per-policy : each oneAbove (63 ∷ 64 ∷ []) ≡ (TAKEN ∷ RULE ∷ LOOP ∷ STATIC ∷ GRANTED ∷ []) ∷ (TAKEN ∷ RULE ∷ LOOP ∷ STATIC ∷ FULL ∷ []) ∷ []
 unfolding lowerOpen raisedSo oneAbove
 raisings-per-policy = refl
+
+-- ---- 02, Ask 11: "at most 256 records". So many stand; the replies to one more: taken, in another block, and well made.
+unfoldable pub walledSo : ℕ → Policy
+walledSo k = withWalls noPolicy (copies k (record { wall = 0; block = 1; object = 7 }))
+
+unfoldable pub oneWalled : ℕ → List ℕ
+oneWalled k = each (λ s. policyAnswer (walledSo k) s .reply) (walled 0 1 7 ∷ walled 0 2 7 ∷ walled 1 2 7 ∷ [])
+
+pub walls-per-policy : each oneWalled (255 ∷ 256 ∷ []) ≡ (TAKEN ∷ RULE ∷ GRANTED ∷ []) ∷ (TAKEN ∷ RULE ∷ FULL ∷ []) ∷ []
+unfolding lowerOpen copies walledSo oneWalled
+walls-per-policy = refl

@@ -60,19 +60,29 @@ pub record Rules : Type 0 where
   pub bindings : List Pair
   pub befores : List Pair
 
+-- 02, Ask 11: "wall a, block b, object c"
+pub record Walled : Type 0 where
+  pub wall : ℕ
+  pub block : ℕ
+  pub object : ℕ
+
 pub record Policy : Type 0 where
   pub people : People
   pub seniority : Seniority
   pub permissions : Permissions
   pub tasks : Tasks
   pub rules : Rules
+  -- in policy order
+  pub walls : List Walled
 
--- ---- Sessions: the live subjects, the user of each, its active roles, and every role that it has had active (02, Ask 5).
+-- ---- Sessions: the live subjects, the user of each, its active roles, and every role that it has had active (02, Ask 5); and of each user the block
+-- that the user is bound to in each wall (Ask 11).
 pub record Sessions : Type 0 where
   pub live : ℕ → Bool
   pub user : ℕ → ℕ
   pub active : ℕ → Set
   pub had : ℕ → Set
+  pub boundTo : ℕ → ℕ → Maybe ℕ
 
 pub record Lower : Type 0 where
   pub policy : Policy
@@ -87,26 +97,30 @@ noPolicy =
       permissions = record { declared = λ _. none; holders = λ _. empty; carriers = λ _. empty };
       tasks = record { template = λ _. none; openTo = λ _. empty; banned = λ _. false; most = λ _. none };
       rules = record { statics = []; dynamics = []; taskSets = []; blocks = []; bindings = []; befores = [] };
+      walls = [];
     }
 
 unfoldable pub noSessions : Sessions
-noSessions = record { live = λ _. false; user = λ _. 0; active = λ _. empty; had = λ _. empty }
+noSessions = record { live = λ _. false; user = λ _. 0; active = λ _. empty; had = λ _. empty; boundTo = λ _ _. none }
 
 -- ---- The tables with one of them anew.
 abbrev pub withPeople : Policy → People → Policy
-withPeople p x = record { people = x; seniority = p .seniority; permissions = p .permissions; tasks = p .tasks; rules = p .rules }
+withPeople p x = record { people = x; seniority = p .seniority; permissions = p .permissions; tasks = p .tasks; rules = p .rules; walls = p .walls }
 
 abbrev pub withSeniority : Policy → Seniority → Policy
-withSeniority p x = record { people = p .people; seniority = x; permissions = p .permissions; tasks = p .tasks; rules = p .rules }
+withSeniority p x = record { people = p .people; seniority = x; permissions = p .permissions; tasks = p .tasks; rules = p .rules; walls = p .walls }
 
 abbrev pub withPermissions : Policy → Permissions → Policy
-withPermissions p x = record { people = p .people; seniority = p .seniority; permissions = x; tasks = p .tasks; rules = p .rules }
+withPermissions p x = record { people = p .people; seniority = p .seniority; permissions = x; tasks = p .tasks; rules = p .rules; walls = p .walls }
 
 abbrev pub withTasks : Policy → Tasks → Policy
-withTasks p x = record { people = p .people; seniority = p .seniority; permissions = p .permissions; tasks = x; rules = p .rules }
+withTasks p x = record { people = p .people; seniority = p .seniority; permissions = p .permissions; tasks = x; rules = p .rules; walls = p .walls }
 
 abbrev pub withRules : Policy → Rules → Policy
-withRules p x = record { people = p .people; seniority = p .seniority; permissions = p .permissions; tasks = p .tasks; rules = x }
+withRules p x = record { people = p .people; seniority = p .seniority; permissions = p .permissions; tasks = p .tasks; rules = x; walls = p .walls }
+
+abbrev pub withWalls : Policy → List Walled → Policy
+withWalls p x = record { people = p .people; seniority = p .seniority; permissions = p .permissions; tasks = p .tasks; rules = p .rules; walls = x }
 
 abbrev pub withPolicy : Lower → Policy → Lower
 withPolicy t p = record { policy = p; sessions = t .sessions }
@@ -121,10 +135,13 @@ abbrev pub withHolders : Permissions → (ℕ → Set) → Permissions
 withHolders p x = record { declared = p .declared; holders = x; carriers = p .carriers }
 
 abbrev pub withActive : Sessions → (ℕ → Set) → Sessions
-withActive s x = record { live = s .live; user = s .user; active = x; had = s .had }
+withActive s x = record { live = s .live; user = s .user; active = x; had = s .had; boundTo = s .boundTo }
 
 abbrev pub withHad : Sessions → (ℕ → Set) → Sessions
-withHad s x = record { live = s .live; user = s .user; active = s .active; had = x }
+withHad s x = record { live = s .live; user = s .user; active = s .active; had = x; boundTo = s .boundTo }
+
+abbrev pub withBoundTo : Sessions → (ℕ → ℕ → Maybe ℕ) → Sessions
+withBoundTo s x = record { live = s .live; user = s .user; active = s .active; had = s .had; boundTo = x }
 
 abbrev pub withStatics : Rules → List Limit → Rules
 withStatics k x = record { statics = x; dynamics = k .dynamics; taskSets = k .taskSets; blocks = k .blocks; bindings = k .bindings; befores = k .befores }

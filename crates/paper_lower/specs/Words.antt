@@ -66,6 +66,10 @@ isBefore a b = record-of 16 0 a b 0 0
 abbrev pub standsAbove : ℕ → ℕ → Bytes
 standsAbove a b = record-of 17 0 a b 0 0
 
+-- 02, Ask 11: "kind 18, wall a (0 to 15), block b (0 to 15), object c"
+abbrev pub walled : ℕ → ℕ → ℕ → Bytes
+walled a b object = record-of 18 0 a b object 0
+
 -- ---- "Request kinds:"
 abbrev pub addUser : ℕ → Bytes
 addUser a = record-of 32 0 a 0 0 0
@@ -123,6 +127,9 @@ taskCheck s i a operation object = record-of 57 0 s i a (operation + 65536 * obj
 
 abbrev pub figures : ℕ → Bytes
 figures i = record-of 58 0 i 0 0 0
+
+abbrev pub commit : ℕ → ℕ → ℕ → Bytes
+commit s operation object = record-of 59 0 s operation object 0
 
 abbrev pub stuckTasks : ℕ → Bytes
 stuckTasks j = record-of 60 0 j 0 0 0

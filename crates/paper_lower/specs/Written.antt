@@ -1,5 +1,5 @@
 -- 02, Ask 8: the policy tables written as records. "kinds rising, within kinds 1 to 8, 13, 14 and 17 rising by a and then b, rules of the other kinds in
--- the order held".
+-- the order held"; Ask 11: "kind 18 in the order held", no binding of a user.
 use Prim.Native.Nat.{ℕ, zero, suc, _+_, _%_, _^_}
 use mathlib.Core.Bool.{Bool, cond}
 use mathlib.Core.Path.{_≡_, refl}
@@ -11,7 +11,7 @@ use Rattle.paper_lower.specs.Records.{Bytes, Record, encode}
 use Rattle.paper_lower.specs.Tables.{Policy}
 use Rattle.paper_lower.specs.Load.{load}
 use Rattle.paper_lower.specs.Sessions.{lowerOpen}
-use Rattle.paper_lower.specs.Words.{joined, wordsOpen, user, role, permission, userHas, roleHas, task, openTo, carries, staticSet, dynamicSet, taskSet, block, ban, atMost, bound, isBefore, standsAbove}
+use Rattle.paper_lower.specs.Words.{joined, wordsOpen, user, role, permission, userHas, roleHas, task, openTo, carries, staticSet, dynamicSet, taskSet, block, ban, atMost, bound, isBefore, standsAbove, walled}
 
 -- what is written for 0, 1, .. below n
 unfoldable pub inTurn : ℕ → (ℕ → List Record) → List Record
@@ -58,6 +58,7 @@ ruleRows p =
     ∷ each (λ x. row 15 0 (x .a) (x .b) 0 0) (p .rules .bindings)
     ∷ each (λ x. row 16 0 (x .a) (x .b) 0 0) (p .rules .befores)
     ∷ inTurn 64 (λ a. inTurn 64 (λ b. when (has (p .seniority .juniors a) b) (row 17 0 a b 0 0)))
+    ∷ each (λ x. row 18 0 (x .wall) (x .block) (x .object) 0) (p .walls)
     ∷ []
 
 -- one list behind the other
@@ -81,11 +82,11 @@ unfoldable pub inOrder : List Bytes
 inOrder =
     user 44 ∷ user 300 ∷ role 0 ∷ role 1 ∷ role 63 ∷ permission 7 65535 2 ∷ userHas 44 0 ∷ userHas 300 0 ∷ userHas 300 63 ∷ roleHas 0 7 ∷ roleHas 1 7 ∷ task 0 3 ∷ task 1 3 ∷ openTo 0 0 ∷ openTo 0 1
     ∷ carries 1 7 ∷ staticSet 1 3 ∷ dynamicSet 1 (1 + 2 ^ 63) ∷ dynamicSet 1 3 ∷ taskSet 1 3 ∷ block 9 2 ∷ block 2 1 ∷ ban 3 ∷ atMost 255 1 ∷ bound 1 0 ∷ isBefore 1 0 ∷ isBefore 0 1
-    ∷ standsAbove 63 0 ∷ []
+    ∷ standsAbove 63 0 ∷ walled 15 1 65535 ∷ walled 0 15 2 ∷ []
 
 unfoldable pub outOfOrder : List Bytes
 outOfOrder =
-    role 63 ∷ role 1 ∷ role 0 ∷ standsAbove 63 0 ∷ dynamicSet 1 (1 + 2 ^ 63) ∷ task 1 3 ∷ task 0 3 ∷ isBefore 1 0 ∷ block 9 2 ∷ isBefore 0 1 ∷ openTo 0 1 ∷ openTo 0 0 ∷ permission 7 65535 2 ∷ user 300
+    walled 15 1 65535 ∷ role 63 ∷ walled 0 15 2 ∷ role 1 ∷ role 0 ∷ standsAbove 63 0 ∷ dynamicSet 1 (1 + 2 ^ 63) ∷ task 1 3 ∷ task 0 3 ∷ isBefore 1 0 ∷ block 9 2 ∷ isBefore 0 1 ∷ openTo 0 1 ∷ openTo 0 0 ∷ permission 7 65535 2 ∷ user 300
     ∷ staticSet 1 3 ∷ user 44 ∷ userHas 300 63 ∷ userHas 300 0 ∷ userHas 44 0 ∷ roleHas 1 7 ∷ roleHas 0 7 ∷ dynamicSet 1 3 ∷ block 2 1 ∷ taskSet 1 3 ∷ bound 1 0 ∷ atMost 255 1 ∷ ban 3 ∷ carries 1 7 ∷ []
 
 pub written-in-order : written (load (joined outOfOrder) .tables) ≡ joined inOrder

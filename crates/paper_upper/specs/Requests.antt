@@ -8,9 +8,9 @@ use Rattle.paper_lower.specs.Lists.{upd, someBelow, holds, there, is, some, man
 use Rattle.paper_lower.specs.Lists.Maybe.{none, just}
 use Rattle.paper_lower.specs.Checks.{Check, UNKNOWN, TAKEN, IN-USE, NO-ROLE, NOT-YOURS, DENIED, FULL}
 use Rattle.paper_lower.specs.Kinds.{Kind, on}
-use Rattle.paper_lower.specs.Tables.{Permissions, Tasks, withPolicy, withSessions}
+use Rattle.paper_lower.specs.Tables.{Permissions, Tasks, withSessions}
 use Rattle.paper_lower.specs.Policy.{down, hasTask, isFor}
-use Rattle.paper_lower.specs.Roles.{deleteChecks, deleteNext}
+use Rattle.paper_lower.specs.Roles.{deleteChecks, userGone}
 use Rattle.paper_lower.specs.Sessions.{destroyChecks, destroyNext}
 use Rattle.paper_upper.specs.Orders.{isHeld, isHeldBy, Entry, entry, Engine, withLower, withOrders, withEntries, inOrder, ofTask, heldBy, tasksBy, tasksDone, tasksOthers}
 use Rattle.paper_upper.specs.Orders.Standing.{held, done}
@@ -101,7 +101,7 @@ stuckChecks k a = (not (hasTask k a), UNKNOWN) ∷ []
 unfoldable pub upperKinds : List (Kind Engine)
 upperKinds =
     on 33 (λ t r. deleteChecks (t .lower) (r .a) ++ deleteAbove t (r .a))
-    (λ t r. withLower t (withPolicy (t .lower) (deleteNext (t .lower .policy) (r .a))))
+    (λ t r. withLower t (userGone (t .lower) (r .a)))
     ∷ on 41 (λ t r. destroyChecks (t .lower) (r .a) ++ destroyAbove t (r .a))
     (λ t r. withLower t (withSessions (t .lower) (destroyNext (t .lower .sessions) (r .a))))
     ∷ on 48 (λ t r. openChecks t (r .a) (r .b)) (λ t r. openNext t (r .a) (r .b))

@@ -1,4 +1,4 @@
--- One rule more: its words stored past the kept rows, and the kept number one higher.
+-- One rule or one row of a wall more: its words stored past the kept rows, and the kept number one higher.
 use Prim.Native.Nat.{ℕ, _+_, _*_, _≤_, _<_, _/_, _%_, min}
 use mathlib.Core.Bool.{Bool, true, false, cond}
 use mathlib.Core.List.{List, [], _∷_}
@@ -8,14 +8,16 @@ use borrow.Author.Tests.{eqb-true, eqb-false}
 use lib.Dec.{eqb}
 use lib.ListN.{length, getD, set, length-set}
 use lib.Seq.{getD-set-same}
+use Rattle.paper_lower.specs.Sets.{plus}
 use Rattle.paper_lower.specs.Lists.{upd, add, Every}
-use Rattle.paper_lower.specs.Tables.{Limit, Block, Pair, withRules}
+use Rattle.paper_lower.specs.Tables.{Limit, Block, Pair, Walled, withRules, withWalls}
 use Rattle.paper_lower.proofs.ListLaws.{upd-same, upd-other}
 use Rattle.replies.specs.Cells.{rows}
 use Rattle.replies.proofs.RowLaws.{rows-same, rows-more}
-use Rattle.policy.specs.Layout.{policyWords, same, Table, behind, tableIn, limitsKept, blocksKept, pairsKept, limitTable, memberTable, limitCount, limitAt, limitsIn, partitioningTable, blockTable, blockCount, blockAt, blocksIn, pairTable, pairCount, pairAt, pairsIn}
-use Rattle.policy.specs.Reading.{rulesIn, policyOf, withLimits, withPairs, limitAdded, blockAdded, pairAdded}
-use Rattle.policy.proofs.TableLaws.{InRules, table-same, table-off, limits-off, blocks-off, pairs-off, in-rules}
+use Rattle.policy.specs.Layout.{policyWords, same, Table, behind, tableIn, limitsKept, blocksKept, pairsKept, limitTable, memberTable, limitCount, limitAt, limitsIn, partitioningTable, blockTable, blockCount, blockAt, blocksIn, pairTable, pairCount, pairAt, pairsIn, wallsKept, walledTable, wallBucketTable, wallWord, listedRow, wallCount, walledAt, wallRows, wallsIn}
+use Rattle.policy.specs.Reading.{rulesIn, policyOf, withLimits, withPairs, limitAdded, blockAdded, pairAdded, wallAdded}
+use Rattle.policy.proofs.TableLaws.{InRules, table-same, table-off, limits-off, blocks-off, pairs-off, in-rules, in-walls}
+use Rattle.policy.proofs.WallLaws.{walled-word, walled-added}
 use Rattle.policy.proofs.RuleLaws.{limits-are, pairs-are}
 
 -- ---- Several stores, first to last: each at a word, of a value.
@@ -164,3 +166,45 @@ module _ (l : List ℕ) (room : length l ≡ policyWords) (which k a b : ℕ) (s
       (keeps blocks-off (pairWords which k a b) (omega arith) l)
       (λ w h. by-kind pairsIn which l (stores (pairWords which k a b) l) _ pairs-more w (λ other. keeps (pairs-off w) (pairWords which k a b) (omega arith) l))
       ∙ ap (λ xs. withRules (policyOf l) (withPairs (policyOf l .rules) which (add xs (record { a = a; b = b })))) (sym (pairs-are l which small))
+
+-- ---- Walls: the row, its bit in the bucket of its object, and the kept number.
+only-walls : (ws : List (ℕ × ℕ)) → Every (λ w. wallsKept ≤ w .0) ws → (l : List ℕ) → policyOf (stores ws l) ≡ withWalls (policyOf l) (wallsIn (stores ws l))
+unfolding policyOf
+only-walls [] h l = refl
+only-walls (w ∷ ws) h l =
+    only-walls ws (h .1) (set l (w .0) (w .1))
+    ∙ ap (λ t. withWalls t (wallsIn (stores ws (set l (w .0) (w .1))))) (in-walls l (w .0) (w .1) (h .0))
+
+abbrev wallWords : ℕ → ℕ → ℕ → ℕ → ℕ → List (ℕ × ℕ)
+wallWords k wall block object m = (walledTable .first + k, wall + 16 * block + 256 * object) ∷ (wallBucketTable .first + wallWord object (k / 64), m) ∷ (wallsKept, k + 1) ∷ []
+
+module _ (l : List ℕ) (room : length l ≡ policyWords) (k wall block object m : ℕ) (first : wall < 16) (second : block < 16) (third : object < 65536) (free : k < 256) (kept : k ≡ wallCount l) (bit : m ≡ plus (wallRows l object (k / 64)) (k % 64)) where
+  walls-more : wallsIn (stores (wallWords k wall block object m) l) ≡ add (wallsIn l) (record { wall = wall; block = block; object = object })
+  unfolding walledAt wallCount wallRows
+  walls-more =
+      let w = wall + 16 * block + 256 * object in
+      let at = wallWord object (k / 64) in
+      let new : Walled = record { wall = wall; block = block; object = object } in
+      let l₁ = set l (walledTable .first + k) w in
+      let l₂ = set l₁ (wallBucketTable .first + at) m in
+      let room₁ : length l₁ ≡ policyWords = rw length-set room in
+      let room₂ : length l₂ ≡ policyWords = rw length-set room₁ in
+      let inside : at < 256 = omega arith in
+      let row : tableIn walledTable (set l₂ wallsKept (k + 1)) ≡ upd (tableIn walledTable l) k new =
+      table-off walledTable l₂ wallsKept (k + 1) (omega arith)
+      ∙ table-off walledTable l₁ (wallBucketTable .first + at) m (omega arith)
+      ∙ table-same walledTable l k w free (omega arith)
+      ∙ ap (upd (tableIn walledTable l) k) (walled-word wall block object first second third) in
+      let buckets : tableIn wallBucketTable (set l₂ wallsKept (k + 1)) ≡ upd (tableIn wallBucketTable l) at (plus (tableIn wallBucketTable l at) (k % 64)) =
+      table-off wallBucketTable l₂ wallsKept (k + 1) (omega arith)
+      ∙ table-same wallBucketTable l₁ at m inside (omega arith)
+      ∙ (λ x. upd (table-off wallBucketTable l (walledTable .first + k) w (omega arith) x) at (bit x)) in
+      let stored : getD (set l₂ wallsKept (k + 1)) wallsKept 0 ≡ k + 1 = getD-set-same l₂ wallsKept (k + 1) 0 (omega arith) in
+      let count : min (getD (set l₂ wallsKept (k + 1)) wallsKept 0) 256 ≡ k + 1 = omega arith in
+      (λ x. rows (λ i. listedRow (buckets x) i (row x i)) (count x))
+      ∙ walled-added (tableIn walledTable l) (tableIn wallBucketTable l) new k free
+      ∙ ap (λ j. add (rows (λ i. listedRow (tableIn wallBucketTable l) i (tableIn walledTable l i)) j) new) kept
+
+  pub wall-added : policyOf (stores (wallWords k wall block object m) l) ≡ wallAdded (policyOf l) wall block object
+  unfolding policyOf
+  wall-added = only-walls (wallWords k wall block object m) (omega arith) l ∙ ap (withWalls (policyOf l)) walls-more

@@ -1,6 +1,6 @@
 -- Rows that their bucket lists: what such a row answers, rows emptied that a bucket does not list, and one row listed anew.
 use Prim.Native.Nat.{ℕ, _+_, _*_, _/_, _%_, _<_}
-use mathlib.Core.Bool.{Bool, true, false, cond, _&&_, true≢false}
+use mathlib.Core.Bool.{Bool, true, false, cond, _&&_, true≢false, false≢true}
 use mathlib.Core.List.{List}
 use mathlib.Core.Path.{_≡_, refl, sym, ap, _∙_, fun-ext}
 use native.Mathlib.Omega.{arith}
@@ -16,8 +16,8 @@ use Rattle.paper_lower.proofs.ListLaws.{both, and-false, upd-same, upd-other}
 use Rattle.sets.proofs.SetLaws.{has-new, has-other}
 use Rattle.replies.proofs.CellLaws.{column-at}
 use Rattle.policy.specs.Layout.{permissionOf, tableIn, permissionTable, bucketTable, bucketOf, lists, listed, foursFor, rowIs, inBucket, unlessIn}
-use Rattle.policy.specs.Reading.{permissionsIn, policyOf}
-use Rattle.policy.proofs.WordLaws.{permission-holds, permission-is}
+use Rattle.policy.specs.Reading.{permissionsIn, policyOf, valueOf}
+use Rattle.policy.proofs.WordLaws.{permission-holds, permission-is, permission-value}
 
 -- the bucket of its pair
 abbrev its : Permission → ℕ
@@ -40,6 +40,15 @@ module _ (rows : ℕ → Maybe Permission) (buckets : ℕ → Set) (b : ℕ) whe
       go : (r : Maybe Permission) → there (counted buckets b r) ≡ holds (λ x. lists buckets (its x) b) r
       go none = refl
       go (just x) = at x (lists buckets (its x) b)
+
+  -- a row that counts is there as it stands
+  listed-row : there (listed rows buckets b) ≡ true → listed rows buckets b ≡ rows b
+  unfolding listed holds
+  listed-row = go (holds (λ x. lists buckets (its x) b) (rows b))
+    where
+      go : (t : Bool) → there (cond t (rows b) none) ≡ true → cond t (rows b) none ≡ rows b
+      go true h = refl
+      go false h = absurd (false≢true h)
 
   module _ (operation object : ℕ) where
     listed-for : holds (isFor operation object) (listed rows buckets b) ≡ lists buckets (bucketOf operation object) b && holds (isFor operation object) (rows b)
@@ -79,6 +88,15 @@ module _ (l : List ℕ) (b : ℕ) (room : b < 256) where
       ap (_&&_ (eqb (getD l (permissionTable .first + b) 0 / 4294967296 % 2) 1)) e
       ∙ permission-holds (getD l (permissionTable .first + b) 0) (λ x. lists (tableIn bucketTable l) (its x) b)
       ∙ sym (listed-there (tableIn permissionTable l) (tableIn bucketTable l) b ∙ ap (holds (λ x. lists (tableIn bucketTable l) (its x) b)) (column-at permissionOf none (permissionTable .first) 256 l b room))
+
+  -- and its numbers are those of its word
+  pub declared-value : (f : Permission → ℕ) → there (permissionsIn l .declared b) ≡ true
+      → f (record { operation = getD l (permissionTable .first + b) 0 % 65536; object = getD l (permissionTable .first + b) 0 / 65536 % 65536 }) ≡ valueOf f (permissionsIn l .declared b)
+  unfolding permissionsIn
+  declared-value f h =
+      let row : permissionsIn l .declared b ≡ permissionOf (getD l (permissionTable .first + b) 0)
+      = listed-row (tableIn permissionTable l) (tableIn bucketTable l) b h ∙ column-at permissionOf none (permissionTable .first) 256 l b room in
+      permission-value (getD l (permissionTable .first + b) 0) f (sym (ap there row) ∙ h) ∙ sym (ap (valueOf f) row)
 
   pub row-word : (operation object : ℕ) → operation < 65536 → object < 65536 → eqb (getD l (permissionTable .first + b) 0 % 8589934592) (4294967296 + operation + 65536 * object) ≡ rowIs l operation object b
   unfolding rowIs

@@ -12,7 +12,7 @@ use Rattle.paper_lower.specs.Tables.{noPolicy}
 use Rattle.replies.specs.Cells.{rows}
 use Rattle.replies.proofs.CellLaws.{column-zeros, zeros-at}
 use Rattle.replies.proofs.RowLaws.{rows-end}
-use Rattle.policy.specs.Layout.{policyWords, permissionOf, templateOf, mostOf, Table, tableIn, rolesWord, limitsKept, blocksKept, pairsKept, userTable, assignedTable, permissionTable, holderTable, carrierTable, templateTable, openToTable, mostTable, bannedTable, bucketTable, juniorTable, belowTable, seniorsWord, seniorsIn, belowIn, listed, limitCount, limitsIn, blockCount, blocksIn, pairCount, pairsIn}
+use Rattle.policy.specs.Layout.{policyWords, permissionOf, templateOf, mostOf, Table, tableIn, rolesWord, limitsKept, blocksKept, pairsKept, userTable, assignedTable, permissionTable, holderTable, carrierTable, templateTable, openToTable, mostTable, bannedTable, bucketTable, juniorTable, belowTable, seniorsWord, seniorsIn, belowIn, listed, limitCount, limitsIn, blockCount, blocksIn, pairCount, pairsIn, wallsKept, wallCount, wallsIn}
 use Rattle.policy.specs.Reading.{peopleIn, seniorityIn, permissionsIn, tasksIn, rulesIn, policyOf, Cleared}
 
 table-zeros : {A : Type 0} (t : Table A) (n : ℕ) → t .read 0 ≡ t .past → tableIn t (replicate n 0) ≡ (λ i. t .past)
@@ -33,6 +33,10 @@ module _ (n : ℕ) where
   pairs-zeros : (which : ℕ) → pairsIn which (replicate n 0) ≡ []
   unfolding pairCount
   pairs-zeros which = rows-none _ _ (omega (arith, zeros-at n (pairsKept which)))
+
+  walls-zeros : wallsIn (replicate n 0) ≡ []
+  unfolding wallCount
+  walls-zeros = rows-none _ _ (omega (arith, zeros-at n wallsKept))
 
   listed-zeros : permissionsIn (replicate n 0) .declared ≡ (λ b. none)
   unfolding permissionsIn permissionOf
@@ -74,6 +78,7 @@ module _ (n : ℕ) where
               bindings = pairs-zeros 0 x;
               befores = pairs-zeros 1 x;
             };
+        walls = walls-zeros x;
       }
 
 -- zeros stored from the front, past the last word

@@ -6,7 +6,7 @@ use native.Mathlib.Omega.{arith}
 use Rattle.paper_lower.specs.Lists.{many}
 use Rattle.replies.specs.Cells.{rows}
 use Rattle.replies.proofs.RowLaws.{many-rows}
-use Rattle.policy.specs.Layout.{limitCount, limitAt, blockCount, blockAt, pairCount, pairAt}
+use Rattle.policy.specs.Layout.{limitCount, limitAt, blockCount, blockAt, pairCount, pairAt, wallCount, walledAt}
 use Rattle.policy.specs.Reading.{rulesIn, policyOf, limitsOf, pairsOf}
 
 module _ (l : List ℕ) where
@@ -28,6 +28,10 @@ module _ (l : List ℕ) where
   pairs-are (suc zero) h = refl
   pairs-are (suc (suc which)) h = let no : ⊥ = omega arith in absurd no
 
+  pub walls-are : policyOf l .walls ≡ rows (walledAt l) (wallCount l)
+  unfolding policyOf
+  walls-are = refl
+
   -- ---- So many of them.
   pub limits-many : (which : ℕ) → which < 3 → many (limitsOf (policyOf l .rules) which) ≡ limitCount which l
   limits-many which h = ap many (limits-are which h) ∙ many-rows (limitAt which l) 0 (limitCount which l)
@@ -37,3 +41,6 @@ module _ (l : List ℕ) where
 
   pub pairs-many : (which : ℕ) → which < 2 → many (pairsOf (policyOf l .rules) which) ≡ pairCount which l
   pairs-many which h = ap many (pairs-are which h) ∙ many-rows (pairAt which l) 0 (pairCount which l)
+
+  pub walls-many : many (policyOf l .walls) ≡ wallCount l
+  walls-many = ap many walls-are ∙ many-rows (walledAt l) 0 (wallCount l)

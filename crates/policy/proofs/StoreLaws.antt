@@ -19,7 +19,7 @@ use Rattle.policy.specs.Layout.{policyWords, flagOf, Table, behind, tabl
 use Rattle.policy.specs.Reading.{peopleIn, seniorityIn, permissionsIn, tasksIn, policyOf, Ready, rolesAnew, userAnew, assignedAnew, juniorsAnew, belowAnew, permissionAnew, holdersAnew, carriersAnew, templateAnew, openToAnew, bannedAnew, mostAnew}
 use Rattle.policy.proofs.WordLaws.{permission-word, template-word, most-word}
 use Rattle.policy.proofs.BucketLaws.{emptied-out, listed-emptied, listing, listed-set, bucket-small}
-use Rattle.policy.proofs.TableLaws.{Outside, narrow, table-same, table-off, people-off, below-off, seniority-off, declared-off, permissions-off, tasks-off, rules-off}
+use Rattle.policy.proofs.TableLaws.{Outside, narrow, table-same, table-off, people-off, below-off, seniority-off, declared-off, permissions-off, tasks-off, rules-off, walls-off}
 
 -- the word b + i is the table's row i if the table starts at b, and else none of its words
 abbrev Beside : {A : Type 0} → Table A → ℕ → ℕ → Type 0
@@ -67,6 +67,7 @@ rowAnew b i v t =
             most = rowIf mostTable b (t .tasks .most) i v;
           };
       rules = t .rules;
+      walls = t .walls;
     }
 
 module _ (l : List ℕ) (room : length l ≡ policyWords) where
@@ -104,6 +105,7 @@ module _ (l : List ℕ) (room : length l ≡ policyWords) where
               most = table-after mostTable b i v (h .most) (omega arith) x;
             };
         rules = rules-off l (b + i) v (omega (arith, h .first, h .last)) x;
+        walls = walls-off l (b + i) v (omega (arith, h .last)) x;
       }
 
   pub roles-set : (v : ℕ) → policyOf (set l rolesWord v) ≡ rolesAnew (policyOf l) v
@@ -120,6 +122,7 @@ module _ (l : List ℕ) (room : length l ≡ policyWords) where
         permissions = permissions-off l rolesWord v (omega arith) x;
         tasks = tasks-off l rolesWord v (omega arith) x;
         rules = rules-off l rolesWord v (omega arith) x;
+        walls = walls-off l rolesWord v (omega arith) x;
       }
 
   module _ (i : ℕ) where
@@ -150,7 +153,7 @@ user-set l room i v m h =
     assigned-set (set l (userTable .first + i) v) next i m h ∙ ap (λ t. assignedAnew t i m) (row-set l room (userTable .first) i v (omega arith))
 
 -- ---- Senior roles: a store in one of their tables, or among the roles with some role below them.
-in-seniority : (l : List ℕ) (j v : ℕ) → Outside (seniorsWord + 1) (juniorTable .first) j × (seniorsWord ≤ j) → policyOf (set l j v) ≡ withSeniority (policyOf l) (seniorityIn (set l j v))
+in-seniority : (l : List ℕ) (j v : ℕ) → Outside (seniorsWord + 1) (juniorTable .first) j × ((seniorsWord ≤ j) × (j < behind belowTable)) → policyOf (set l j v) ≡ withSeniority (policyOf l) (seniorityIn (set l j v))
 unfolding policyOf
 in-seniority l j v h = λ x.
     record {
@@ -159,6 +162,7 @@ in-seniority l j v h = λ x.
       permissions = permissions-off l j v (narrow (h .0) (omega arith), narrow (h .0) (omega arith)) x;
       tasks = tasks-off l j v (narrow (h .0) (omega arith)) x;
       rules = rules-off l j v (omega arith, narrow (h .0) (omega arith)) x;
+      walls = walls-off l j v (omega arith) x;
     }
 
 module _ (l : List ℕ) (room : length l ≡ policyWords) (i m : ℕ) (h : i < 64) where
@@ -224,6 +228,7 @@ in-declared l j v h = λ x.
           };
       tasks = tasks-off l j v (narrow (h .1 .0) (omega arith)) x;
       rules = rules-off l j v (omega arith, narrow (h .1 .0) (omega arith)) x;
+      walls = walls-off l j v (omega arith) x;
     }
 
 -- rows of four t up to b emptied that have a pair of bucket h

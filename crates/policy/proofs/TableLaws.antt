@@ -10,10 +10,10 @@ use lib.ListN.{length, set}
 use lib.Seq.{getD-set-other}
 use Rattle.paper_lower.specs.Sets.{empty, has}
 use Rattle.paper_lower.specs.Lists.{upd}
-use Rattle.paper_lower.specs.Tables.{withRules}
+use Rattle.paper_lower.specs.Tables.{withRules, withWalls}
 use Rattle.replies.specs.Cells.{rows}
 use Rattle.replies.proofs.CellLaws.{column-same, column-below, column-above}
-use Rattle.policy.specs.Layout.{same, Table, behind, tableIn, rolesWord, limitsKept, blocksKept, pairsKept, userTable, assignedTable, permissionTable, holderTable, carrierTable, templateTable, openToTable, mostTable, bannedTable, bucketTable, juniorTable, belowTable, seniorsWord, seniorsIn, belowIn, listed, limitTable, memberTable, limitCount, limitAt, limitsIn, partitioningTable, blockTable, blockCount, blockAt, blocksIn, pairTable, pairCount, pairAt, pairsIn}
+use Rattle.policy.specs.Layout.{same, Table, behind, tableIn, rolesWord, limitsKept, blocksKept, pairsKept, userTable, assignedTable, permissionTable, holderTable, carrierTable, templateTable, openToTable, mostTable, bannedTable, bucketTable, juniorTable, belowTable, seniorsWord, seniorsIn, belowIn, listed, limitTable, memberTable, limitCount, limitAt, limitsIn, partitioningTable, blockTable, blockCount, blockAt, blocksIn, pairTable, pairCount, pairAt, pairsIn, wallsKept, walledTable, wallBucketTable, listedRow, wallCount, walledAt, wallsIn, policyWords}
 use Rattle.policy.specs.Reading.{peopleIn, seniorityIn, permissionsIn, tasksIn, rulesIn, policyOf}
 
 -- not one of the words from first to before last
@@ -67,9 +67,16 @@ pairs-off which l j v h = λ x.
     })
     (min (getD-set-other l j (pairsKept which) v 0 (λ e. omega (arith, h .0 (omega arith))) x) 64)
 
+pub walls-off : (l : List ℕ) (j v : ℕ) → Outside wallsKept policyWords j → wallsIn (set l j v) ≡ wallsIn l
+unfolding walledAt wallCount
+walls-off l j v h = λ x.
+    rows
+    (λ k. listedRow (table-off wallBucketTable l j v (narrow h (omega arith)) x) k (table-off walledTable l j v (narrow h (omega arith)) x k))
+    (min (getD-set-other l j wallsKept v 0 (λ e. omega (arith, h (omega arith))) x) 256)
+
 -- in the rules, if in a table at all
 abbrev pub InRules : ℕ → Type 0
-InRules j = (rolesWord < j) × (Outside seniorsWord (behind bannedTable) j × Outside (bucketTable .first) (behind belowTable) j)
+InRules j = (rolesWord < j) × (Outside seniorsWord (behind bannedTable) j × Outside (bucketTable .first) policyWords j)
 
 -- ---- The groups of tables.
 module _ (l : List ℕ) (j v : ℕ) where
@@ -138,4 +145,17 @@ module _ (l : List ℕ) (j v : ℕ) where
         permissions = permissions-off (narrow (h .1 .0) (omega arith), narrow (h .1 .1) (omega arith)) x;
         tasks = tasks-off (narrow (h .1 .0) (omega arith)) x;
         rules = rulesIn (set l j v);
+        walls = walls-off l j v (narrow (h .1 .1) (omega arith)) x;
+      }
+
+  pub in-walls : wallsKept ≤ j → policyOf (set l j v) ≡ withWalls (policyOf l) (wallsIn (set l j v))
+  unfolding policyOf
+  in-walls h = λ x.
+      record {
+        people = people-off (omega arith) x;
+        seniority = seniority-off (omega arith) x;
+        permissions = permissions-off (omega arith) x;
+        tasks = tasks-off (omega arith) x;
+        rules = rules-off (omega arith) x;
+        walls = wallsIn (set l j v);
       }

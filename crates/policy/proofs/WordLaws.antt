@@ -1,16 +1,17 @@
 -- Packed words: the one compare by which a getter reads a word, and what a setter's word reads as.
 use Prim.Native.Nat.{ℕ, _+_, _*_, _<_, _/_, _%_}
-use mathlib.Core.Bool.{Bool, true, false, not, cond, _&&_}
-use mathlib.Core.Path.{_≡_, refl, ap, _∙_}
+use mathlib.Core.Bool.{Bool, true, false, not, cond, _&&_, true≢false, false≢true}
+use mathlib.Core.Path.{_≡_, refl, sym, ap, _∙_}
 use native.Mathlib.Omega.{arith}
 use borrow.Author.Tests.{eqb-true, ne-eqb}
 use lib.Dec.{eqb, leb}
-use Rattle.paper_lower.specs.Lists.{holds, there, is}
+use Rattle.paper_lower.specs.Lists.{Maybe, holds, there, is}
 use Rattle.paper_lower.specs.Lists.Maybe.{none, just}
 use Rattle.paper_lower.specs.Tables.{Permission}
 use Rattle.paper_lower.specs.Policy.{isFor}
 use Rattle.replies.proofs.CellLaws.{two-parts}
-use Rattle.policy.specs.Layout.{permissionOf, templateOf, mostOf}
+use Rattle.policy.specs.Layout.{same, permissionOf, templateOf, mostOf}
+use Rattle.policy.specs.Reading.{valueOf}
 
 there-if : {A : Type 0} (t : Bool) (x : A) → t ≡ there (cond t (just x) none)
 unfolding holds
@@ -22,7 +23,40 @@ unfolding holds
 holds-if p true x = refl
 holds-if p false x = refl
 
+-- ---- A number of what is there.
+module _ {A : Type 0} (f : A → ℕ) where
+  value-there : (t : Bool) (x : A) → there (cond t (just x) none) ≡ true → valueOf f (cond t (just x) none) ≡ f x
+  unfolding holds valueOf
+  value-there true x h = refl
+  value-there false x h = absurd (false≢true h)
+
+  pub value-none : (x : Maybe A) → there x ≡ false → valueOf f x ≡ 0
+  unfolding holds valueOf
+  value-none none h = refl
+  value-none (just x) h = absurd (true≢false h)
+
 module _ (w : ℕ) where
+  pub template-value : eqb (w / 16 % 2) 1 ≡ true → w % 16 ≡ valueOf same (templateOf w)
+  unfolding templateOf valueOf
+  template-value e = rw e
+
+  pub template-none : eqb (w / 16 % 2) 1 ≡ false → 0 ≡ valueOf same (templateOf w)
+  unfolding templateOf valueOf
+  template-none e = rw e
+
+  -- 0 is no limit
+  pub most-value : w % 256 ≡ valueOf same (mostOf w)
+  unfolding mostOf valueOf
+  most-value = at (eqb (w % 256) 0) refl
+    where
+      at : (t : Bool) → eqb (w % 256) 0 ≡ t → w % 256 ≡ valueOf same (cond (not t) (just (w % 256)) none)
+      at true e = eqb-true (w % 256) 0 e
+      at false e = refl
+
+  pub permission-value : (f : Permission → ℕ) → there (permissionOf w) ≡ true → f (record { operation = w % 65536; object = w / 65536 % 65536 }) ≡ valueOf f (permissionOf w)
+  unfolding permissionOf
+  permission-value f h = sym (value-there f (eqb (w / 4294967296 % 2) 1) (record { operation = w % 65536; object = w / 65536 % 65536 }) h)
+
   pub permission-holds : (p : Permission → Bool) → eqb (w / 4294967296 % 2) 1 && p (record { operation = w % 65536; object = w / 65536 % 65536 }) ≡ holds p (permissionOf w)
   unfolding permissionOf
   permission-holds p = holds-if p (eqb (w / 4294967296 % 2) 1) (record { operation = w % 65536; object = w / 65536 % 65536 })

@@ -7,7 +7,7 @@ use lib.ListN.{getD}
 use Rattle.paper_lower.specs.Lists.{Maybe, holds}
 use Rattle.paper_lower.specs.Lists.Maybe.{none, just}
 use Rattle.paper_lower.specs.Sets.{Set, empty, has}
-use Rattle.paper_lower.specs.Tables.{Permission, Limit, Block, Pair}
+use Rattle.paper_lower.specs.Tables.{Permission, Limit, Block, Pair, Walled}
 use Rattle.paper_lower.specs.Policy.{isFor}
 use Rattle.replies.specs.Cells.{column, rows}
 
@@ -180,6 +180,53 @@ seniorsIn l = getD l seniorsWord 0
 unfoldable pub belowIn : List ℕ → ℕ → Set
 belowIn l r = cond (has (seniorsIn l) r) (tableIn belowTable l r) empty
 
+-- ---- Walls (02, Ask 11): a kept number, cut at the limit; the rows; and of each object's bucket which rows it has.
+abbrev pub wallsKept : ℕ
+wallsKept = behind belowTable
+
+-- the wall in the lowest 4 bits, the block in the next 4, the object in the next 16
+unfoldable pub walledOf : ℕ → Walled
+walledOf w = record { wall = w % 16; block = w / 16 % 16; object = w / 256 % 65536 }
+
+abbrev pub walledTable : Table Walled
+walledTable = record { first = wallsKept + 1; height = 256; read = walledOf; past = walledOf 0 }
+
+-- of each of 64 buckets four words, a bit for each row
+abbrev pub wallBucketTable : Table Set
+wallBucketTable = record { first = behind walledTable; height = 256; read = same; past = empty }
+
+-- the word of an object's bucket that has the rows 64 part to 64 part + 63
+abbrev pub wallWord : ℕ → ℕ → ℕ
+wallWord object part = 4 * (object % 64) + part
+
+-- the object's bucket has row k
+unfoldable pub listsRow : (ℕ → Set) → ℕ → ℕ → Bool
+listsRow buckets object k = has (buckets (wallWord object (k / 64))) (k % 64)
+
+-- A row that its object's bucket does not have is about an object that no record names, 65,536. So an object is looked for in its bucket alone, whatever
+-- the buffer has in it, and the rows keep their number.
+abbrev pub noObject : ℕ
+noObject = 65536
+
+unfoldable pub listedRow : (ℕ → Set) → ℕ → Walled → Walled
+listedRow buckets k x = record { wall = x .wall; block = x .block; object = cond (listsRow buckets (x .object) k) (x .object) noObject }
+
+unfoldable pub wallCount : List ℕ → ℕ
+wallCount l = min (getD l wallsKept 0) 256
+
+unfoldable pub walledAt : List ℕ → ℕ → Walled
+walledAt l k = listedRow (tableIn wallBucketTable l) k (tableIn walledTable l k)
+
+-- an object is looked for in these rows, by this test of a row
+unfoldable pub wallRows : List ℕ → ℕ → ℕ → Set
+wallRows l object part = tableIn wallBucketTable l (wallWord object part)
+
+unfoldable pub walledIs : List ℕ → ℕ → ℕ → Bool
+walledIs l object k = eqb (tableIn walledTable l k .object) object
+
+abbrev pub wallsIn : List ℕ → List Walled
+wallsIn l = rows (walledAt l) (wallCount l)
+
 -- ---- The length of the buffer: behind the last table.
 abbrev pub policyWords : ℕ
-policyWords = behind belowTable
+policyWords = behind wallBucketTable

@@ -6,10 +6,10 @@ use mathlib.Core.Path.{_≡_}
 use lib.Dec.{eqb}
 use lib.ListN.{getD, length}
 use Rattle.paper_lower.specs.Sets.{Set, empty, has}
-use Rattle.paper_lower.specs.Lists.{upd, add}
-use Rattle.paper_lower.specs.Lists.Maybe.{just}
-use Rattle.paper_lower.specs.Tables.{People, Seniority, Permissions, Tasks, Limit, Pair, Rules, Policy, noPolicy, withPeople, withSeniority, withPermissions, withTasks, withRules, withAssigned, withHolders, withBlocks}
-use Rattle.policy.specs.Layout.{policyWords, rolesWord, tableIn, userTable, assignedTable, permissionTable, holderTable, carrierTable, templateTable, openToTable, mostTable, bannedTable, bucketTable, juniorTable, belowIn, listed, inBucket, limitsIn, blocksIn, pairsIn}
+use Rattle.paper_lower.specs.Lists.{Maybe, upd, add}
+use Rattle.paper_lower.specs.Lists.Maybe.{none, just}
+use Rattle.paper_lower.specs.Tables.{People, Seniority, Permissions, Tasks, Limit, Pair, Rules, Policy, noPolicy, withPeople, withSeniority, withPermissions, withTasks, withRules, withWalls, withAssigned, withHolders, withBlocks}
+use Rattle.policy.specs.Layout.{policyWords, rolesWord, tableIn, userTable, assignedTable, permissionTable, holderTable, carrierTable, templateTable, openToTable, mostTable, bannedTable, bucketTable, juniorTable, belowIn, listed, inBucket, limitsIn, blocksIn, pairsIn, wallsIn}
 
 unfoldable pub peopleIn : List ℕ → People
 peopleIn l = record { users = tableIn userTable l; roles = getD l rolesWord 0; assigned = tableIn assignedTable l }
@@ -27,7 +27,12 @@ unfoldable pub rulesIn : List ℕ → Rules
 rulesIn l = record { statics = limitsIn 0 l; dynamics = limitsIn 1 l; taskSets = limitsIn 2 l; blocks = blocksIn l; bindings = pairsIn 0 l; befores = pairsIn 1 l }
 
 unfoldable pub policyOf : List ℕ → Policy
-policyOf l = record { people = peopleIn l; seniority = seniorityIn l; permissions = permissionsIn l; tasks = tasksIn l; rules = rulesIn l }
+policyOf l = record { people = peopleIn l; seniority = seniorityIn l; permissions = permissionsIn l; tasks = tasksIn l; rules = rulesIn l; walls = wallsIn l }
+
+-- a number of what is there, 0 if nothing is
+unfoldable pub valueOf : {A : Type 0} → (A → ℕ) → Maybe A → ℕ
+valueOf f none = 0
+valueOf f (just x) = f x
 
 -- the emptied buffer: the empty policy, and not one word besides
 pub record Cleared (l : List ℕ) : Type 0 where
@@ -120,3 +125,6 @@ blockAdded t partitioning m = withRules t (withBlocks (t .rules) (add (t .rules 
 
 abbrev pub pairAdded : Policy → ℕ → ℕ → ℕ → Policy
 pairAdded t which a b = withRules t (withPairs (t .rules) which (add (pairsOf (t .rules) which) (record { a = a; b = b })))
+
+abbrev pub wallAdded : Policy → ℕ → ℕ → ℕ → Policy
+wallAdded t wall block object = withWalls t (add (t .walls) (record { wall = wall; block = block; object = object }))

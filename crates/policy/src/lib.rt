@@ -5,8 +5,8 @@ ghost use lib.Dec.{leb};
 ghost use lib.ListN.{length};
 ghost use Rattle.paper_lower.specs.Lists.{holds, there, is};
 ghost use Rattle.paper_lower.specs.Policy.{together};
-ghost use Rattle.policy.specs.Layout.{policyWords, seniorsIn, flagOf, permissionOf, tableIn, bucketTable, bucketOf, foursFor, rowIs, unlessIn, limitCount, limitAt, blockCount, blockAt, pairCount, pairAt};
-ghost use Rattle.policy.specs.Reading.{policyOf, Cleared, Ready, rolesAnew, userAnew, assignedAnew, juniorsAnew, belowAnew, permissionAnew, holdersAnew, carriersAnew, templateAnew, openToAnew, bannedAnew, mostAnew, limitAdded, blockAdded, pairAdded};
+ghost use Rattle.policy.specs.Layout.{policyWords, same, seniorsIn, flagOf, permissionOf, tableIn, bucketTable, bucketOf, foursFor, rowIs, unlessIn, limitCount, limitAt, blockCount, blockAt, pairCount, pairAt, wallWord, wallCount, walledAt, wallRows, walledIs};
+ghost use Rattle.policy.specs.Reading.{policyOf, valueOf, Cleared, Ready, rolesAnew, userAnew, assignedAnew, juniorsAnew, belowAnew, permissionAnew, holdersAnew, carriersAnew, templateAnew, openToAnew, bannedAnew, mostAnew, limitAdded, blockAdded, pairAdded, wallAdded};
 use sets::Set;
 
 // ---- Where each table starts: word 0 has the declared roles, the next ones the numbers of kept rules, word 7 the roles with some role below
@@ -55,8 +55,14 @@ const JUNIORS: usize = BUCKETS + 1024;
 
 const BELOW: usize = JUNIORS + 64;
 
+const WALL_COUNT: usize = BELOW + 64;
+
+const WALLED: usize = WALL_COUNT + 1;
+// of each of 64 buckets, four words
+const WALL_BUCKETS: usize = WALLED + 256;
+
 // The length of the buffer. A new table stands here, and moves no other.
-pub const POLICY_WORDS: usize = BELOW + 64;
+pub const POLICY_WORDS: usize = WALL_BUCKETS + 256;
 
 // ---- People.
 
@@ -183,6 +189,27 @@ pub fn permission_declared(p: &[u64], b: usize) -> bool
     (word / 4294967296 % 2 == 1) & listed
 }
 
+// The operation of permission b, and its object: 0 if it is not declared.
+pub fn permission_operation(p: &[u64], b: usize) -> u64
+    requires { ⌜ (length (now p) ≡ policyWords) × (b < 256) ⌝ }
+    ensures { λ r. ⌜ (r ≡ valueOf (λ x. x .operation) (policyOf (now (p .entry)) .permissions .declared b)) × (r < 65536) ⌝ }
+{
+    if !permission_declared(p, b) {
+        return 0;
+    }
+    p[PERMISSIONS + b] % 65536
+}
+
+pub fn permission_object(p: &[u64], b: usize) -> u64
+    requires { ⌜ (length (now p) ≡ policyWords) × (b < 256) ⌝ }
+    ensures { λ r. ⌜ (r ≡ valueOf (λ x. x .object) (policyOf (now (p .entry)) .permissions .declared b)) × (r < 65536) ⌝ }
+{
+    if !permission_declared(p, b) {
+        return 0;
+    }
+    p[PERMISSIONS + b] / 65536 % 65536
+}
+
 // The fours in which every permission for this operation on this object is.
 pub fn fours_for(p: &[u64], operation: u64, object: u64) -> Set
     requires { ⌜ (length (now p) ≡ policyWords) × ((operation < 65536) × (object < 65536)) ⌝ }
@@ -279,6 +306,18 @@ pub fn task_declared(p: &[u64], t: usize) -> bool
     p[TEMPLATES + t] / 16 % 2 == 1
 }
 
+// The template of task t: 0 if it is not declared.
+pub fn template(p: &[u64], t: usize) -> u64
+    requires { ⌜ (length (now p) ≡ policyWords) × (t < 64) ⌝ }
+    ensures { λ r. ⌜ (r ≡ valueOf same (policyOf (now (p .entry)) .tasks .template t)) × (r < 16) ⌝ }
+{
+    let word = p[TEMPLATES + t];
+    if word / 16 % 2 == 1 {
+        return word % 16;
+    }
+    0
+}
+
 // Whether task t is declared, and of template j.
 pub fn task_is_of(p: &[u64], t: usize, j: u64) -> bool
     requires { ⌜ (length (now p) ≡ policyWords) × ((t < 64) × (j < 16)) ⌝ }
@@ -340,6 +379,14 @@ pub fn task_limited(p: &[u64], t: usize) -> bool
     p[MOST + t] % 256 != 0
 }
 
+// The limit of task t: 0 if it has none.
+pub fn most(p: &[u64], t: usize) -> u64
+    requires { ⌜ (length (now p) ≡ policyWords) × (t < 64) ⌝ }
+    ensures { λ r. ⌜ (r ≡ valueOf same (policyOf (now (p .entry)) .tasks .most t)) × (r < 256) ⌝ }
+{
+    p[MOST + t] % 256
+}
+
 // Whether task t has a limit, and `times` reaches it.
 pub fn limit_reached(p: &[u64], t: usize, times: u64) -> bool
     requires { ⌜ (length (now p) ≡ policyWords) × (t < 64) ⌝ }
@@ -367,7 +414,7 @@ pub fn limit_count(p: &[u64], which: usize) -> usize
 
 // A kept number of rows, cut at its limit.
 fn cut(count: u64, most: usize) -> usize
-    requires { ⌜ most ≤ 64 ⌝ }
+    requires { ⌜ most ≤ 256 ⌝ }
     ensures { λ r. ⌜ r ≡ min count most ⌝ }
 {
     if count < most as u64 {
@@ -464,6 +511,80 @@ pub fn add_pair(p: &mut [u64], which: usize, a: u64, b: u64)
     let k = pair_count(p, which);
     p[PAIRS + 64 * which + k] = a + 64 * b;
     p[PAIR_COUNTS + which] = k as u64 + 1;
+}
+
+// ---- Walls: of each row a wall, a block and an object.
+
+pub fn wall_count(p: &[u64]) -> usize
+    requires { ⌜ length (now p) ≡ policyWords ⌝ }
+    ensures { λ r. ⌜ (r ≡ wallCount (now (p .entry))) × (r ≤ 256) ⌝ }
+{
+    cut(p[WALL_COUNT], 256)
+}
+
+pub fn walled_wall(p: &[u64], k: usize) -> u64
+    requires { ⌜ (length (now p) ≡ policyWords) × (k < 256) ⌝ }
+    ensures { λ r. ⌜ (r ≡ walledAt (now (p .entry)) k .wall) × (r < 16) ⌝ }
+{
+    p[WALLED + k] % 16
+}
+
+pub fn walled_block(p: &[u64], k: usize) -> u64
+    requires { ⌜ (length (now p) ≡ policyWords) × (k < 256) ⌝ }
+    ensures { λ r. ⌜ (r ≡ walledAt (now (p .entry)) k .block) × (r < 16) ⌝ }
+{
+    p[WALLED + k] / 16 % 16
+}
+
+// The object of row k, or 65,536 for none.
+pub fn walled_object(p: &[u64], k: usize) -> u64
+    requires { ⌜ (length (now p) ≡ policyWords) × (k < 256) ⌝ }
+    ensures { λ r. ⌜ (r ≡ walledAt (now (p .entry)) k .object) × (r ≤ 65536) ⌝ }
+{
+    let object = p[WALLED + k] / 256 % 65536;
+    if !wall_rows(p, object, k / 64).has((k % 64) as u64) {
+        return 65536;
+    }
+    object
+}
+
+// The word of the object's bucket that has the rows 64 part to 64 part + 63.
+fn wall_word(object: u64, part: usize) -> usize
+    requires { ⌜ part < 4 ⌝ }
+    ensures { λ r. ⌜ (r ≡ wallWord object part) × (r < 256) ⌝ }
+{
+    4 * (object % 64) as usize + part
+}
+
+// The rows of the object's bucket among the rows 64 part to 64 part + 63. Every row about the object is one of them.
+pub fn wall_rows(p: &[u64], object: u64, part: usize) -> Set
+    requires { ⌜ (length (now p) ≡ policyWords) × (part < 4) ⌝ }
+    ensures { λ r. ⌜ r .bits ≡ wallRows (now (p .entry)) object part ⌝ }
+{
+    Set {
+        bits: p[WALL_BUCKETS + wall_word(object, part)],
+    }
+}
+
+// Whether row k is about this object: one compare of its word. It counts if it is one of wall_rows.
+pub fn walled_is(p: &[u64], k: usize, object: u64) -> bool
+    requires { ⌜ (length (now p) ≡ policyWords) × (k < 256) ⌝ }
+    ensures { λ r. ⌜ r ≡ walledIs (now (p .entry)) object k ⌝ }
+{
+    p[WALLED + k] / 256 % 65536 == object
+}
+
+// The row past the kept ones, in the bucket of its object, and their number one higher.
+pub fn add_wall(p: &mut [u64], wall: u64, block: u64, object: u64)
+    requires { ⌜ (length (now p) ≡ policyWords) × ((wall < 16) × ((block < 16) × ((object < 65536) × (wallCount (now p) < 256)))) ⌝ }
+    ensures { λ _. ⌜ policyOf (now (p .exit)) ≡ wallAdded (policyOf (now (p .entry))) wall block object ⌝ }
+{
+    let k = wall_count(p);
+    let rows = wall_rows(p, object, k / 64).with((k % 64) as u64);
+    let word = wall_word(object, k / 64);
+    p[WALLED + k] = wall + 16 * block + 256 * object;
+    p[WALL_BUCKETS + word] = rows.bits;
+    p[WALL_COUNT] = k as u64 + 1;
 }
 
 // ---- The empty policy: every word 0.

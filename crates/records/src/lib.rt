@@ -101,6 +101,10 @@ const TEMPLATE: u64 = 15;
 
 const PARTITIONING: u64 = 15;
 
+const WALL: u64 = 15;
+
+const BLOCK: u64 = 15;
+
 const SUBJECT: u64 = 127;
 
 const ORDER: u64 = 63;
@@ -140,6 +144,7 @@ fn form_of(kind: u64) -> Form
         15 => Form(LOAD, NO_N | NO_C, NO_M, TASK, TASK, 0),
         16 => Form(LOAD, NO_N | NO_C, NO_M, TASK, TASK, 0),
         17 => Form(LOAD, NO_N | NO_C, NO_M, ROLE, ROLE, 0),
+        18 => Form(LOAD, NO_N, NO_M, WALL, BLOCK, ANY),
         32 => Form(LOWER, NO_N | NO_B | NO_C, ANY_M, USER, 0, 0),
         33 => Form(LOWER, NO_N | NO_B | NO_C, NO_M, USER, 0, 0),
         34 => Form(LOWER, NO_N | NO_C, NO_M, USER, ROLE, 0),
@@ -158,6 +163,7 @@ fn form_of(kind: u64) -> Form
         56 => Form(LOWER, NO_N, NO_M, SUBJECT, ANY, ANY),
         57 => Form(UPPER, NO_N, PAIR, SUBJECT, ORDER, TASK),
         58 => Form(UPPER, NO_N | NO_B | NO_C, NO_M, ORDER, 0, 0),
+        59 => Form(LOWER, NO_N, NO_M, SUBJECT, ANY, ANY),
         60 => Form(UPPER, NO_N | NO_B | NO_C, NO_M, TEMPLATE, 0, 0),
         _ => Form(0, 0, 0, 0, 0, 0),
     }

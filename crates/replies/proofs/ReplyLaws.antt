@@ -6,7 +6,7 @@ use borrow.Author.Tests.{eqb-true, eqb-false}
 use lib.Dec.{eqb}
 use Rattle.replies.specs.Replies.{numberOf}
 use Rattle.replies.specs.declared.Reply.{Reply}
-use Rattle.replies.specs.declared.Reply.the-variants.{Granted, Room, Shape, Range, Unknown, Taken, InUse, Rule, NotAssigned, Static, Dynamic, NoRole, NotYours, Denied, Before, Separation, Block, Alone, Bound, Count, Full, Loop}
+use Rattle.replies.specs.declared.Reply.the-variants.{Granted, Room, Shape, Range, Unknown, Taken, InUse, Rule, NotAssigned, Static, Dynamic, NoRole, NotYours, Denied, Before, Separation, Block, Alone, Bound, Count, Full, Loop, Wall}
 
 -- what `accepted` says of the number
 pub is-zero : (r : Reply) {b : Bool} → b ≡ eqb (numberOf r) 0 → b ≡ true → numberOf r ≡ 0
@@ -39,7 +39,8 @@ named n =
     (cond (eqb n 19) Count
     (cond (eqb n 20) Full
     (cond (eqb n 23) Loop
-    Granted))))))))))))))))))))
+    (cond (eqb n 24) Wall
+    Granted)))))))))))))))))))))
 
 named-number : (r : Reply) → named (numberOf r) ≡ r
 unfolding named
@@ -65,6 +66,7 @@ named-number Bound = refl
 named-number Count = refl
 named-number Full = refl
 named-number Loop = refl
+named-number Wall = refl
 
 -- two replies with one number are one
 pub one-reply : (r s : Reply) → numberOf r ≡ numberOf s → r ≡ s

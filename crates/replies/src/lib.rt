@@ -26,6 +26,7 @@ pub enum Reply {
     Count,
     Full,
     Loop,
+    Wall,
 }
 
 // The table's number of a reply.
@@ -55,6 +56,7 @@ pub fn number(r: Reply) -> u64
         Reply::Count => 19,
         Reply::Full => 20,
         Reply::Loop => 23,
+        Reply::Wall => 24,
     }
 }
 

@@ -1,15 +1,16 @@
 -- What requests 32, 33, 35 and 37 promise of the policy buffer p and the sessions buffer s: a judge the reply of the definition's checks, an act that
--- reply and the policy afterwards, with not one word changed where it refuses.
+-- reply and the tables afterwards, with not one word changed where it refuses.
 use Prim.Native.Nat.{ℕ}
 use mathlib.Core.List.{List}
 use mathlib.Core.Path.{_≡_}
 use Rattle.paper_lower.specs.Checks.{first}
-use Rattle.paper_lower.specs.Roles.{joinChecks, joinNext, deleteChecks, deleteNext, takeBackChecks, takeBackNext, withdrawChecks, withdrawNext}
+use Rattle.paper_lower.specs.Roles.{joinChecks, joinNext, deleteChecks, userGone, takeBackChecks, takeBackNext, withdrawChecks, withdrawNext}
 use Rattle.replies.specs.Replies.{numberOf}
 use Rattle.replies.specs.Done.{Done}
 use Rattle.replies.specs.declared.Reply.{Reply}
 use Rattle.policy.specs.Reading.{policyOf}
 use Rattle.sessions.specs.Lower.{lowerTables}
+use Rattle.sessions.specs.Both.{Both}
 
 -- ---- 32, whatever the sessions are
 abbrev pub JoinJudged : List ℕ → ℕ → ℕ → Reply → Type 0
@@ -22,8 +23,8 @@ Joined p p′ a m r = Done policyOf (first (joinChecks (policyOf p) a m)) (joinN
 abbrev pub DeleteJudged : List ℕ → List ℕ → ℕ → Reply → Type 0
 DeleteJudged p s a r = numberOf r ≡ first (deleteChecks (lowerTables p s) a)
 
-abbrev pub Deleted : List ℕ → List ℕ → List ℕ → ℕ → Reply → Type 0
-Deleted p p′ s a r = Done policyOf (first (deleteChecks (lowerTables p s) a)) (deleteNext (policyOf p) a) p p′ r
+abbrev pub Deleted : List ℕ → List ℕ → List ℕ → List ℕ → ℕ → Reply → Type 0
+Deleted p s p′ s′ a r = Both lowerTables (first (deleteChecks (lowerTables p s) a)) (userGone (lowerTables p s) a) p s p′ s′ r
 
 -- ---- 35
 abbrev pub TakeBackJudged : List ℕ → List ℕ → ℕ → ℕ → Reply → Type 0

@@ -3,10 +3,11 @@
 ghost use mathlib.Core.Path.{_≡_};
 ghost use Prim.Native.Nat.{_<_};
 ghost use lib.ListN.{length};
-ghost use Rattle.paper_lower.specs.Roles.{deleteNext, lostBy};
+ghost use Rattle.paper_lower.specs.Roles.{userGone, lostBy};
 ghost use Rattle.policy.specs.Layout.{policyWords};
 ghost use Rattle.policy.specs.Reading.{policyOf};
 ghost use Rattle.sessions.specs.Reading.{sessionsWords};
+ghost use Rattle.sessions.specs.Lower.{lowerTables};
 ghost use Rattle.roles.specs.Promises.{JoinJudged, Joined, DeleteJudged, Deleted, TakeBackJudged, TakenBack, WithdrawJudged, Withdrawn};
 use replies::Reply;
 use replies::accepted;
@@ -58,23 +59,25 @@ pub fn delete_reply(p: &[u64], s: &[u64], a: u64) -> Reply
     if used { Reply::InUse } else { Reply::Granted }
 }
 
-// The user is no longer one, and has no roles: for those who have judged.
-pub fn remove(p: &mut [u64], a: u64)
-    requires { ⌜ (length (now p) ≡ policyWords) × (a < 1024) ⌝ }
-    ensures { λ _. ⌜ policyOf (now (p .exit)) ≡ deleteNext (policyOf (now (p .entry))) a ⌝ }
+// The user is no longer one, has no roles, and is bound to no block: for those who have judged.
+pub fn remove(p: &mut [u64], s: &mut [u64], a: u64)
+    requires { ⌜ (length (now p) ≡ policyWords) × ((length (now s) ≡ sessionsWords) × (a < 1024)) ⌝ }
+    ensures { λ _. ⌜ lowerTables (now (p .exit)) (now (s .exit)) ≡ userGone (lowerTables (now (p .entry)) (now (s .entry))) a ⌝ }
 {
     policy::set_user(p, a as usize, 0, Set::EMPTY);
+    let nowhere = blocks::none();
+    sessions::set_bound_to(s, a as usize, nowhere);
 }
 
-pub fn delete(p: &mut [u64], s: &[u64], a: u64) -> Reply
+pub fn delete(p: &mut [u64], s: &mut [u64], a: u64) -> Reply
     requires { ⌜ (length (now p) ≡ policyWords) × ((length (now s) ≡ sessionsWords) × (a < 1024)) ⌝ }
-    ensures { λ r. ⌜ Deleted (now (p .entry)) (now (p .exit)) (now (s .entry)) a r ⌝ }
+    ensures { λ r. ⌜ Deleted (now (p .entry)) (now (s .entry)) (now (p .exit)) (now (s .exit)) a r ⌝ }
 {
     let r = delete_reply(p, s, a);
     if !accepted(r) {
         return r;
     }
-    remove(p, a);
+    remove(p, s, a);
     r
 }
 

@@ -1,2 +1,3 @@
 pub mod SessionLaws
 pub mod StoreLaws
+pub mod BothLaws

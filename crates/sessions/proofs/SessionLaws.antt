@@ -10,6 +10,7 @@ use lib.ListN.{getD}
 use Rattle.paper_lower.specs.Sets.{union}
 use Rattle.paper_lower.specs.Roles.{subjectOf}
 use Rattle.replies.proofs.CellLaws.{column-at, two-parts}
+use Rattle.blocks.specs.Reading.{blocksIn}
 use Rattle.sessions.specs.Reading.{sessionsOf, liveIn, userIn, same}
 
 module _ (l : List ℕ) (a : ℕ) (h : a < 128) where
@@ -34,3 +35,7 @@ module _ (l : List ℕ) (a : ℕ) (h : a < 128) where
   of-user-at u k =
       let w = getD l a 0 in
       two-parts (w % 2048) (1024 + u) (w / 1024 % 2) 1 (w % 1024) u (omega arith) (omega arith) ∙ rw (live-at, user-at)
+
+pub bound-at : (l : List ℕ) (u : ℕ) → u < 1024 → sessionsOf l .boundTo u ≡ blocksIn (getD l (384 + u) 0) (getD l (1408 + u) 0)
+unfolding sessionsOf
+bound-at l u h = ap₂ blocksIn (column-at same 0 384 1024 l u h) (column-at same 0 1408 1024 l u h)

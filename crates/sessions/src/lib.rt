@@ -1,24 +1,32 @@
-// The sessions buffer: each subject's user, active roles and all roles that it has had active, and what a user has over all subjects.
+// The sessions buffer: each subject's user, active roles and all roles that it has had active, and what a user has over all subjects; and of each user the
+// blocks that the user is bound to.
 ghost use mathlib.Core.Path.{_≡_};
 ghost use mathlib.Core.Bool.{cond};
-ghost use Prim.Native.Nat.{_<_};
+ghost use Prim.Native.Nat.{_+_, _<_};
 ghost use lib.ListN.{length};
 ghost use Rattle.paper_lower.specs.Sets.{empty};
 ghost use Rattle.paper_lower.specs.Lists.{someBelow};
 ghost use Rattle.paper_lower.specs.Roles.{subjectOf, activeOf, countedOf};
 ghost use Rattle.paper_lower.specs.Sessions.{createNext, destroyNext};
-ghost use Rattle.sessions.specs.Reading.{sessionsWords, sessionsOf, rolesAnew, Cleared};
+ghost use Rattle.blocks.specs.Reading.{blocksOf};
+ghost use Rattle.sessions.specs.Reading.{sessionsWords, sessionsOf, rolesAnew, boundAnew, Cleared};
+use blocks::Blocks;
 use sets::Set;
 
 // The length of the buffer in words. Its subjects have a word each from the start on: live, and the user. Their active roles stand from
-// ACTIVE on, the roles that they have had active from HAD on.
-pub const SESSIONS_WORDS: usize = 384;
+// ACTIVE on, the roles that they have had active from HAD on. Its users have a word each from WALLS on, the walls in which the user is bound, and one from
+// BLOCKS on, to which blocks.
+pub const SESSIONS_WORDS: usize = 2432;
 
 const SUBJECTS: usize = 128;
 
 const ACTIVE: usize = 128;
 
 const HAD: usize = 256;
+
+const WALLS: usize = 384;
+
+const BLOCKS: usize = 1408;
 
 pub fn live(s: &[u64], a: usize) -> bool
     requires { ⌜ (length (now s) ≡ sessionsWords) × (a < 128) ⌝ }
@@ -60,6 +68,22 @@ fn of_user(s: &[u64], u: u64, a: usize) -> bool
     s[a] % 2048 == 1024 + u
 }
 
+// The same by the lower quarter of the word: eight of these are compared at once, and hits are counted, as a count keeps their width.
+fn quarter_of(s: &[u64], u: u16, a: usize) -> bool
+    requires { ⌜ (length (now s) ≡ sessionsWords) × ((u < 1024) × (a < 128)) ⌝ }
+    ensures { λ r. ⌜ r ≡ subjectOf (sessionsOf (now (s .entry))) u a ⌝ }
+{
+    let quarter = (s[a] % 2048) as u16;
+    quarter == 1024 + u
+}
+
+fn one_more(hit: bool, n: u16) -> u16
+    requires { ⌜ n < 4096 ⌝ }
+    ensures { λ r. ⌜ r ≡ cond hit (n + 1) n ⌝ }
+{
+    if hit { n + 1 } else { n }
+}
+
 pub fn create(s: &mut [u64], a: usize, u: u64, roles: Set)
     requires { ⌜ (length (now s) ≡ sessionsWords) × ((a < 128) × (u < 1024)) ⌝ }
     ensures { λ _. ⌜ sessionsOf (now (s .exit)) ≡ createNext (sessionsOf (now (s .entry))) a u (roles .bits) ⌝ }
@@ -87,18 +111,37 @@ pub fn set_roles(s: &mut [u64], a: usize, active: Set, had: Set)
     s[HAD + a] = had.bits;
 }
 
+pub fn bound_to(s: &[u64], u: usize) -> Blocks
+    requires { ⌜ (length (now s) ≡ sessionsWords) × (u < 1024) ⌝ }
+    ensures { λ r. ⌜ blocksOf r ≡ sessionsOf (now (s .entry)) .boundTo u ⌝ }
+{
+    Blocks {
+        walls: s[WALLS + u],
+        blocks: s[BLOCKS + u],
+    }
+}
+
+pub fn set_bound_to(s: &mut [u64], u: usize, to: Blocks)
+    requires { ⌜ (length (now s) ≡ sessionsWords) × (u < 1024) ⌝ }
+    ensures { λ _. ⌜ sessionsOf (now (s .exit)) ≡ boundAnew (sessionsOf (now (s .entry))) u (blocksOf to) ⌝ }
+{
+    s[WALLS + u] = to.walls;
+    s[BLOCKS + u] = to.blocks;
+}
+
 // Whether user u has a live subject. It asks all of them, side by side.
 pub fn has_subject(s: &[u64], u: u64) -> bool
     requires { ⌜ (length (now s) ≡ sessionsWords) × (u < 1024) ⌝ }
     ensures { λ r. ⌜ r ≡ someBelow 128 (subjectOf (sessionsOf (now (s .entry))) u) ⌝ }
 {
     let mut a = 0;
-    let mut found = false;
+    let mut hits: u16 = 0;
     while a < SUBJECTS {
-        found = of_user(s, u, a) | found;
+        let hit = quarter_of(s, u as u16, a);
+        hits = one_more(hit, hits);
         a += 1;
     }
-    found
+    0 < hits
 }
 
 // The active roles of subject a where it is a live one of user u, else none: both words are read before the choice.

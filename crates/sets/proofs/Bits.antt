@@ -87,6 +87,17 @@ lowest-bit (suc k) m h n = go (m % 2) refl (lowest-bit k (m / 2) (let p = pow-su
     go zero q rest = let r = rest (omega arith) in (r .0, omega arith)
     go (suc d) q rest = (omega arith, omega arith)
 
+-- and there is no bit below it
+pub zeros-below : (k m i : ℕ) → i < trailingZeros k m → bit i m ≡ 0
+unfolding bit trailingZeros
+zeros-below zero m i h = absurd (not-suc-le-zero h)
+zeros-below (suc k) m i h = go (m % 2) refl i h (zeros-below k (m / 2))
+  where
+    go : (d : ℕ) → m % 2 ≡ d → (i : ℕ) → i < under d (trailingZeros k (m / 2)) → ((i : ℕ) → i < trailingZeros k (m / 2) → bit i (m / 2) ≡ 0) → bit i m ≡ 0
+    go zero q zero h rest = q
+    go zero q (suc i) h rest = rest i (omega arith)
+    go (suc d) q i h rest = absurd (not-suc-le-zero h)
+
 -- a number below 2 ^ n has no bit from n on, and a number that has none is below
 pub bit-above : (n i m : ℕ) → m < 2 ^ n → n ≤ i → bit i m ≡ 0
 unfolding bit

@@ -1,8 +1,8 @@
 // Sets of roles or of tasks, one word each: bit i stands for role or task i.
 // Each operation equals its definition (paper_lower, Sets; docs/RULES.md, "Numbers").
 ghost use mathlib.Core.Path.{_≡_};
-ghost use mathlib.Core.Bool.{true};
-ghost use Prim.Native.Nat.{_<_};
+ghost use mathlib.Core.Bool.{true, false};
+ghost use Prim.Native.Nat.{ℕ, _<_};
 ghost use lib.Dec.{eqb};
 ghost use Rattle.paper_lower.specs.Sets.{empty, has, plus, minus, union, cut, size, overlap, meets, within, without};
 
@@ -91,6 +91,14 @@ impl Set {
     pub fn member(self) -> u64
         requires { ⌜ 0 < self .bits ⌝ }
         ensures { λ r. ⌜ (has (self .bits) r ≡ true) × (r < 64) ⌝ }
+    {
+        self.least()
+    }
+
+    // The least of them.
+    pub fn least(self) -> u64
+        requires { ⌜ 0 < self .bits ⌝ }
+        ensures { λ r. ⌜ (has (self .bits) r ≡ true) × ((r < 64) × ((i : ℕ) → i < r → has (self .bits) i ≡ false)) ⌝ }
     {
         u64::trailing_zeros(self.bits) as u64
     }

@@ -1,11 +1,11 @@
--- What requests 40 to 43 and 56 promise of the policy buffer p and the sessions buffer s: a judge the reply of the definition's checks, an act that
+-- What requests 40 to 43, 56 and 59 promise of the policy buffer p and the sessions buffer s: a judge the reply of the definition's checks, an act that
 -- reply and the sessions afterwards, with not one word changed where it refuses.
 use Prim.Native.Nat.{ℕ}
 use mathlib.Core.List.{List}
 use mathlib.Core.Path.{_≡_}
 use Rattle.paper_lower.specs.Checks.{first}
 use Rattle.paper_lower.specs.Tables.{Policy, Lower}
-use Rattle.paper_lower.specs.Sessions.{createChecks, createNext, destroyChecks, destroyNext, activateChecks, activateNext, deactivateChecks, deactivateNext, checkChecks}
+use Rattle.paper_lower.specs.Sessions.{createChecks, createNext, destroyChecks, destroyNext, activateChecks, activateNext, deactivateChecks, deactivateNext, checkChecks, commitNext}
 use Rattle.replies.specs.Replies.{numberOf}
 use Rattle.replies.specs.Done.{Done}
 use Rattle.replies.specs.declared.Reply.{Reply}
@@ -46,3 +46,8 @@ Deactivated p s s′ a b r = Done sessionsOf (first (deactivateChecks (lowerTabl
 -- ---- 56
 abbrev pub CheckJudged : List ℕ → List ℕ → ℕ → ℕ → ℕ → Reply → Type 0
 CheckJudged p s a operation object r = numberOf r ≡ first (checkChecks (lowerTables p s) a operation object)
+
+-- ---- 59
+abbrev pub Committed : List ℕ → List ℕ → List ℕ → ℕ → ℕ → ℕ → Reply → Type 0
+Committed p s s′ a operation object r =
+    Done sessionsOf (first (checkChecks (lowerTables p s) a operation object)) (commitNext (lowerTables p s) a object) s s′ r

@@ -1,11 +1,13 @@
-// Requests 40 to 43 and 56: subjects, their active roles, and the check. Each is judged over what is only read, and then done; specs/Promises says
+// Requests 40 to 43, 56 and 59: subjects, their active roles, the check and the commit. Each is judged over what is only read, and then done; specs/Promises says
 // what each promises.
 ghost use mathlib.Core.Path.{_≡_};
 ghost use Prim.Native.Nat.{_<_};
 ghost use lib.ListN.{length};
 ghost use Rattle.policy.specs.Layout.{policyWords};
+ghost use Rattle.paper_lower.specs.Sessions.{wallBetween};
 ghost use Rattle.sessions.specs.Reading.{sessionsWords};
-ghost use Rattle.subjects.specs.Promises.{CreateJudged, Created, DestroyJudged, Destroyed, ActivateJudged, Activated, DeactivateJudged, Deactivated, CheckJudged};
+ghost use Rattle.sessions.specs.Lower.{lowerTables};
+ghost use Rattle.subjects.specs.Promises.{CreateJudged, Created, DestroyJudged, Destroyed, ActivateJudged, Activated, DeactivateJudged, Deactivated, CheckJudged, Committed};
 use replies::Reply;
 use replies::accepted;
 use sets::Set;
@@ -141,6 +143,19 @@ pub fn deactivate(p: &[u64], s: &mut [u64], a: u64, b: u64) -> Reply
 
 // ---- 56: may subject a do the operation on the object? It changes nothing.
 
+// Whether the user is bound in some wall to another block than the object's. Without walls it reads one word.
+fn wall_between(p: &[u64], s: &[u64], user: u64, object: u64) -> bool
+    requires { ⌜ (length (now p) ≡ policyWords) × ((length (now s) ≡ sessionsWords) × ((user < 1024) × (object < 65536))) ⌝ }
+    ensures { λ r. ⌜ r ≡ wallBetween (lowerTables (now (p .entry)) (now (s .entry))) user object ⌝ }
+{
+    if policy::wall_count(p) == 0 {
+        return false;
+    }
+    let own = walls::blocks_of(p, object);
+    let bound = sessions::bound_to(s, user as usize);
+    blocks::between(own, bound)
+}
+
 pub fn check_reply(p: &[u64], s: &[u64], a: u64, operation: u64, object: u64) -> Reply
     requires { ⌜ (length (now p) ≡ policyWords) × ((length (now s) ≡ sessionsWords) × ((a < 128) × ((operation < 65536) × (object < 65536)))) ⌝ }
     ensures { λ r. ⌜ CheckJudged (now (p .entry)) (now (s .entry)) a operation object r ⌝ }
@@ -152,5 +167,27 @@ pub fn check_reply(p: &[u64], s: &[u64], a: u64, operation: u64, object: u64) ->
     if !permissions::allowed(p, roles, operation, object) {
         return Reply::Denied;
     }
+    let user = sessions::user(s, a as usize);
+    if wall_between(p, s, user, object) {
+        return Reply::Wall;
+    }
     Reply::Granted
+}
+
+// ---- 59: the same, and if granted, the subject's user is bound to the object's block in every wall that has it.
+
+pub fn commit(p: &[u64], s: &mut [u64], a: u64, operation: u64, object: u64) -> Reply
+    requires { ⌜ (length (now p) ≡ policyWords) × ((length (now s) ≡ sessionsWords) × ((a < 128) × ((operation < 65536) × (object < 65536)))) ⌝ }
+    ensures { λ r. ⌜ Committed (now (p .entry)) (now (s .entry)) (now (s .exit)) a operation object r ⌝ }
+{
+    let r = check_reply(p, s, a, operation, object);
+    if !accepted(r) {
+        return r;
+    }
+    let user = sessions::user(s, a as usize);
+    let own = walls::blocks_of(p, object);
+    let bound = sessions::bound_to(s, user as usize);
+    let all = blocks::over(own, bound);
+    sessions::set_bound_to(s, user as usize, all);
+    r
 }

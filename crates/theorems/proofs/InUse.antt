@@ -162,7 +162,7 @@ rows policy =
     ⨾ (λ t r g p i y h. h)
     ⨾ (λ t r g p i y h. h)
     ⨾ (λ t r g p i y h. h) ⨾ (λ t r g p i y h. h) ⨾ (λ t r g p i y h. h) ⨾ (λ t r g p i y h. h) ⨾ (λ t r g p i y h. h) ⨾ (λ t r g p i y h. h)
-    ⨾ (λ t r g p i y h. h) ⨾ (λ t r g p i y h. h) ⨾ (λ t r g p i y h. h) ⨾ tt
+    ⨾ (λ t r g p i y h. h) ⨾ (λ t r g p i y h. h) ⨾ (λ t r g p i y h. h) ⨾ (λ t r g p i y h. h) ⨾ tt
 
 -- ---- the whole
 pub counted : (policy : Bytes) → load policy .reply ≡ 0 → (ss : List Bytes)

@@ -38,3 +38,5 @@ pub mod Written
 pub mod Stuck
 pub mod Mending
 pub mod NeverStuck
+pub mod Walls
+pub mod Unwalled

@@ -11,7 +11,7 @@ use Rattle.paper_lower.specs.Lists.{upd, someBelow, some, add}
 use Rattle.paper_lower.specs.Records.{Bytes}
 use Rattle.paper_lower.specs.Forms.{policyForms, formOf, above, outOfRange}
 use Rattle.paper_lower.specs.Tables.{Seniority, Limit, Policy, noPolicy, noSessions}
-use Rattle.paper_lower.specs.Policy.{down, breaks, userNext, roleNext, permissionNext, assignChecks, assignNext, giveNext, taskNext, openToNext, carriesNext, staticChecks, staticNext, dynamicNext, taskSetNext, blockNext, banNext, mostNext, bindNext, beforeNext, raised, raiseChecks, raiseNext, policyKinds}
+use Rattle.paper_lower.specs.Policy.{down, breaks, userNext, roleNext, permissionNext, assignChecks, assignNext, giveNext, taskNext, openToNext, carriesNext, staticChecks, staticNext, dynamicNext, taskSetNext, blockNext, banNext, mostNext, bindNext, beforeNext, raised, raiseChecks, raiseNext, wallNext, policyKinds}
 use Rattle.paper_lower.specs.Load.{load, recordsOf}
 use Rattle.paper_lower.proofs.ListLaws.{or-none, not-both, upd-same, upd-other, none-below, every-added, _⨾_}
 use Rattle.sets.proofs.Bits.{same-or-other}
@@ -68,7 +68,7 @@ abbrev InOrder : Policy → Type 0
 InOrder p = Assigned (p .seniority) (p .people .users) (p .people .assigned) (p .rules .statics)
 
 rows : Rows policyForms (λ n p r x. InOrder p → InOrder x) policyKinds
-unfolding policyKinds policyForms formOf outOfRange above userNext roleNext permissionNext assignChecks assignNext giveNext taskNext openToNext carriesNext staticChecks staticNext dynamicNext taskSetNext blockNext banNext mostNext bindNext beforeNext raiseChecks raiseNext
+unfolding policyKinds policyForms formOf outOfRange above userNext roleNext permissionNext assignChecks assignNext giveNext taskNext openToNext carriesNext staticChecks staticNext dynamicNext taskSetNext blockNext banNext mostNext bindNext beforeNext raiseChecks raiseNext wallNext
 rows =
     (λ p r g c i. declares _ _ _ _ i (r .a) (let l = a-within 1023 (r .a) false g in omega arith))
     ⨾ (λ p r g c i. i) ⨾ (λ p r g c i. i)
@@ -78,6 +78,7 @@ rows =
     ⨾ (λ p r g c i. limits _ _ _ _ i (record { n = r .n; members = r .m }) (c .1 .1 .1 .0))
     ⨾ (λ p r g c i. i) ⨾ (λ p r g c i. i) ⨾ (λ p r g c i. i) ⨾ (λ p r g c i. i) ⨾ (λ p r g c i. i) ⨾ (λ p r g c i. i) ⨾ (λ p r g c i. i)
     ⨾ (λ p r g c i. raises _ _ _ _ i (raised (p .seniority) (r .a) (r .b)) (c .1 .1 .1 .1 .0))
+    ⨾ (λ p r g c i. i)
     ⨾ tt
 
 pub loaded-limited : (policy : Bytes) → load policy .reply ≡ 0 → Limited (load policy .tables .people) (load policy .tables .seniority) noSessions (load policy .tables .rules)

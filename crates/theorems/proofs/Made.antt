@@ -1,4 +1,4 @@
--- The rules and the tasks of an accepted policy are its records.
+-- The rules, the tasks and the walls of an accepted policy are its records.
 use Prim.Native.Nat.{ℕ}
 use mathlib.Core.Path.{_≡_, refl, sym, ap, subst, _∙_}
 use mathlib.Core.Bool.{Bool, true, false, not, cond, _&&_, _||_, true≢false, or-true, or-false}
@@ -12,8 +12,8 @@ use Rattle.paper_lower.specs.Lists.Maybe.{none, just}
 use Rattle.paper_lower.specs.Records.{Bytes, Record}
 use Rattle.paper_lower.specs.Forms.{policyForms}
 use Rattle.paper_lower.specs.Kinds.{chosen}
-use Rattle.paper_lower.specs.Tables.{Tasks, Limit, Block, Pair, Rules, Policy, noPolicy}
-use Rattle.paper_lower.specs.Policy.{userNext, roleNext, permissionNext, assignNext, giveNext, taskChecks, taskNext, openToNext, carriesNext, staticNext, dynamicNext, taskSetNext, blockNext, banNext, mostChecks, mostNext, bindNext, beforeNext, raiseNext, policyKinds}
+use Rattle.paper_lower.specs.Tables.{Tasks, Limit, Block, Pair, Rules, Walled, Policy, noPolicy}
+use Rattle.paper_lower.specs.Policy.{userNext, roleNext, permissionNext, assignNext, giveNext, taskChecks, taskNext, openToNext, carriesNext, staticNext, dynamicNext, taskSetNext, blockNext, banNext, mostChecks, mostNext, bindNext, beforeNext, raiseNext, wallNext, policyKinds}
 use Rattle.paper_lower.specs.Load.{load, recordsOf}
 use Rattle.paper_lower.proofs.ListLaws.{every-each, place-none, none-place, _⨾_}
 use Rattle.paper_lower.proofs.CheckLaws.{Passed}
@@ -29,6 +29,9 @@ aBlock r = record { partitioning = r .a; tasks = r .m }
 
 abbrev pub aPair : Record → Pair
 aPair r = record { a = r .a; b = r .b }
+
+abbrev pub aWalled : Record → Walled
+aWalled r = record { wall = r .a; block = r .b; object = r .c }
 
 pub record Made (policy : List Record) (tasks : Tasks) (rules : Rules) : Type 0 where
   pub template : (p : ℕ → Bool) (t : ℕ) → holds p (tasks .template t) ≡ some (λ r. eqb t (r .a) && p (r .b)) (ofKind 6 policy)
@@ -60,37 +63,38 @@ setTask n r k = record {
   most = cond (eqb n 14) (upd (k .most) (r .a) (just (r .n))) (k .most);
 }
 
-rows : Rows policyForms (λ n p r x. (x .rules ≡ addRule n r (p .rules)) × (x .tasks ≡ setTask n r (p .tasks))) policyKinds
-unfolding policyKinds userNext roleNext permissionNext assignNext giveNext taskNext openToNext carriesNext staticNext dynamicNext taskSetNext blockNext banNext mostNext bindNext beforeNext raiseNext
+-- the rules, the tasks and the walls that a record of kind n leaves
+abbrev Makes : ℕ → Policy → Record → Policy → Type 0
+Makes n p r x =
+    (x .rules ≡ addRule n r (p .rules)) × (x .tasks ≡ setTask n r (p .tasks)) × (x .walls ≡ cond (eqb n 18) (add (p .walls) (aWalled r)) (p .walls))
+
+rows : Rows policyForms Makes policyKinds
+unfolding policyKinds userNext roleNext permissionNext assignNext giveNext taskNext openToNext carriesNext staticNext dynamicNext taskSetNext blockNext banNext mostNext bindNext beforeNext raiseNext wallNext
 rows =
-    (λ p r g c. (refl, refl)) ⨾ (λ p r g c. (refl, refl)) ⨾ (λ p r g c. (refl, refl)) ⨾ (λ p r g c. (refl, refl)) ⨾ (λ p r g c. (refl, refl))
-    ⨾ (λ p r g c. (refl, refl)) ⨾ (λ p r g c. (refl, refl)) ⨾ (λ p r g c. (refl, refl)) ⨾ (λ p r g c. (refl, refl)) ⨾ (λ p r g c. (refl, refl))
-    ⨾ (λ p r g c. (refl, refl)) ⨾ (λ p r g c. (refl, refl)) ⨾ (λ p r g c. (refl, refl)) ⨾ (λ p r g c. (refl, refl)) ⨾ (λ p r g c. (refl, refl))
-    ⨾ (λ p r g c. (refl, refl)) ⨾ (λ p r g c. (refl, refl)) ⨾ tt
+    (λ p r g c. (refl, refl, refl)) ⨾ (λ p r g c. (refl, refl, refl)) ⨾ (λ p r g c. (refl, refl, refl)) ⨾ (λ p r g c. (refl, refl, refl)) ⨾ (λ p r g c. (refl, refl, refl))
+    ⨾ (λ p r g c. (refl, refl, refl)) ⨾ (λ p r g c. (refl, refl, refl)) ⨾ (λ p r g c. (refl, refl, refl)) ⨾ (λ p r g c. (refl, refl, refl)) ⨾ (λ p r g c. (refl, refl, refl))
+    ⨾ (λ p r g c. (refl, refl, refl)) ⨾ (λ p r g c. (refl, refl, refl)) ⨾ (λ p r g c. (refl, refl, refl)) ⨾ (λ p r g c. (refl, refl, refl)) ⨾ (λ p r g c. (refl, refl, refl))
+    ⨾ (λ p r g c. (refl, refl, refl)) ⨾ (λ p r g c. (refl, refl, refl)) ⨾ (λ p r g c. (refl, refl, refl)) ⨾ tt
 
-made-step : (p : Policy) (r : Record) → Fits p r
-    → (step p r .rules ≡ addRule (r .kind) r (p .rules)) × (step p r .tasks ≡ setTask (r .kind) r (p .tasks))
-made-step p r f = fits-rows (λ n p r x. (x .rules ≡ addRule n r (p .rules)) × (x .tasks ≡ setTask n r (p .tasks))) rows p r f
+made-step : (p : Policy) (r : Record) → Fits p r → Makes (r .kind) p r (step p r)
+made-step p r f = fits-rows Makes rows p r f
 
--- ---- a list of rules, of the records of kind c
+-- ---- a list, of the records of kind c
 pub add-more : {X : Type 0} (xs : List X) (y : X) (zs : List X) → add xs y ++ zs ≡ xs ++ (y ∷ zs)
 unfolding add
 add-more [] y zs = refl
 add-more (x ∷ xs) y zs = ap (λ (l : List _). x ∷ l) (add-more xs y zs)
 
-listed : {X : Type 0} (f : Rules → List X) (c : ℕ) (item : Record → X)
-    → ((n : ℕ) (r : Record) (k : Rules) → f (addRule n r k) ≡ cond (eqb n c) (add (f k) (item r)) (f k))
-    → (p : Policy) (rs : List Record) → Accepted p rs → f (filled p rs .rules) ≡ f (p .rules) ++ each item (ofKind c rs)
+listed : {X : Type 0} (f : Policy → List X) (c : ℕ) (item : Record → X)
+    → ((p : Policy) (r : Record) → Fits p r → f (step p r) ≡ cond (eqb (r .kind) c) (add (f p) (item r)) (f p))
+    → (p : Policy) (rs : List Record) → Accepted p rs → f (filled p rs) ≡ f p ++ each item (ofKind c rs)
 unfolding filled ofKind keep each
-listed f c item one p [] a = sym (append-nil (f (p .rules)))
+listed f c item one p [] a = sym (append-nil (f p))
 listed {X} f c item one p (r ∷ rs) a =
-    listed f c item one (step p r) rs (a .1)
-    ∙ ap (λ (xs : List X). xs ++ each item (ofKind c rs)) (ap f (made-step p r (a .0) .0) ∙ one (r .kind) r (p .rules))
-    ∙ go (eqb (r .kind) c)
+    listed f c item one (step p r) rs (a .1) ∙ ap (λ (xs : List X). xs ++ each item (ofKind c rs)) (one p r (a .0)) ∙ go (eqb (r .kind) c)
   where
-    go : (b : Bool)
-        → cond b (add (f (p .rules)) (item r)) (f (p .rules)) ++ each item (ofKind c rs) ≡ f (p .rules) ++ each item (cond b (r ∷ ofKind c rs) (ofKind c rs))
-    go true = add-more (f (p .rules)) (item r) (each item (ofKind c rs))
+    go : (b : Bool) → cond b (add (f p) (item r)) (f p) ++ each item (ofKind c rs) ≡ f p ++ each item (cond b (r ∷ ofKind c rs) (ofKind c rs))
+    go true = add-more (f p) (item r) (each item (ofKind c rs))
     go false = refl
 
 -- ---- a table of numbers, set once by a record of kind c: a second one is TAKEN
@@ -168,15 +172,21 @@ made policy h =
     rw (x .1)
     (record {
       template = λ q t. noted (λ k. k .template) 6 (λ r. r .b) (λ n r k. refl) task-new q t noPolicy (recordsOf policy) (x .0);
-      statics = listed (λ k. k .statics) 9 aLimit (λ n r k. refl) noPolicy (recordsOf policy) (x .0);
-      dynamics = listed (λ k. k .dynamics) 10 aLimit (λ n r k. refl) noPolicy (recordsOf policy) (x .0);
-      taskSets = listed (λ k. k .taskSets) 11 aLimit (λ n r k. refl) noPolicy (recordsOf policy) (x .0);
-      blocks = listed (λ k. k .blocks) 12 aBlock (λ n r k. refl) noPolicy (recordsOf policy) (x .0);
+      statics = listed (λ p. p .rules .statics) 9 aLimit (λ p r f. ap (λ (k : Rules). k .statics) (made-step p r f .0)) noPolicy (recordsOf policy) (x .0);
+      dynamics = listed (λ p. p .rules .dynamics) 10 aLimit (λ p r f. ap (λ (k : Rules). k .dynamics) (made-step p r f .0)) noPolicy (recordsOf policy) (x .0);
+      taskSets = listed (λ p. p .rules .taskSets) 11 aLimit (λ p r f. ap (λ (k : Rules). k .taskSets) (made-step p r f .0)) noPolicy (recordsOf policy) (x .0);
+      blocks = listed (λ p. p .rules .blocks) 12 aBlock (λ p r f. ap (λ (k : Rules). k .blocks) (made-step p r f .0)) noPolicy (recordsOf policy) (x .0);
       banned = λ j. marked j noPolicy (recordsOf policy) (x .0);
       most = λ q t. noted (λ k. k .most) 14 (λ r. r .n) (λ n r k. refl) most-new q t noPolicy (recordsOf policy) (x .0);
-      bindings = listed (λ k. k .bindings) 15 aPair (λ n r k. refl) noPolicy (recordsOf policy) (x .0);
-      befores = listed (λ k. k .befores) 16 aPair (λ n r k. refl) noPolicy (recordsOf policy) (x .0);
+      bindings = listed (λ p. p .rules .bindings) 15 aPair (λ p r f. ap (λ (k : Rules). k .bindings) (made-step p r f .0)) noPolicy (recordsOf policy) (x .0);
+      befores = listed (λ p. p .rules .befores) 16 aPair (λ p r f. ap (λ (k : Rules). k .befores) (made-step p r f .0)) noPolicy (recordsOf policy) (x .0);
     })
+
+pub walls-made : (policy : Bytes) → load policy .reply ≡ 0 → load policy .tables .walls ≡ each aWalled (ofKind 18 (recordsOf policy))
+unfolding noPolicy
+walls-made policy h =
+    let x = load-accepted policy h in
+    rw (x .1) (listed (λ p. p .walls) 18 aWalled (λ p r f. made-step p r f .2) noPolicy (recordsOf policy) (x .0))
 
 -- ---- what is asked of the rules is asked of the records
 pub of-each : {A B : Type 0} (P : B → Type 0) (f : A → B) (xs : List A) → Every P (each f xs) → Every (λ x. P (f x)) xs

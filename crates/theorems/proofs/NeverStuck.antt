@@ -16,7 +16,7 @@ use Rattle.paper_lower.specs.Forms.{requestForms}
 use Rattle.paper_lower.specs.Tables.{Pair, Rules}
 use Rattle.paper_lower.specs.Policy.{tasksOf}
 use Rattle.paper_lower.specs.Load.{load, recordsOf}
-use Rattle.paper_lower.specs.Roles.{deleteNext}
+use Rattle.paper_lower.specs.Roles.{deleteNext, userGone}
 use Rattle.paper_lower.specs.Kinds.{after}
 use Rattle.paper_lower.specs.Sessions.{lowerKinds, lowerOf}
 use Rattle.paper_lower.proofs.ListLaws.{or-none, both, upd-other, every-map, every-both, every-kept, every-each, some-elim, some-none, none-some, place-none, none-place, _⨾_}
@@ -87,7 +87,7 @@ abbrev Unstuck : List Record → Engine → Type 0
 Unstuck policy t = Kept policy t × NoneStuck (fixed (t .lower .policy)) (t .orders)
 
 upper-rows : (policy : List Record) → Rows requestForms (λ n t r x. Unstuck policy t → NoneStuck (fixed (x .lower .policy)) (x .orders)) upperKinds
-unfolding upperKinds deleteNext openChecks openNext endNext claimNext releaseNext doneNext inOrder
+unfolding upperKinds deleteNext userGone openChecks openNext endNext claimNext releaseNext doneNext inOrder
 upper-rows policy =
     (λ t r g p i. i .1)
     ⨾ (λ t r g p i. i .1)

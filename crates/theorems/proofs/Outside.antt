@@ -6,10 +6,10 @@ use Rattle.paper_lower.specs.Records.{Bytes, Record}
 use Rattle.paper_lower.specs.Forms.{lowerForms, requestForms}
 use Rattle.paper_lower.specs.Kinds.{Kind, chosen}
 use Rattle.paper_lower.specs.Tables.{Policy, Lower, noPolicy}
-use Rattle.paper_lower.specs.Policy.{userNext, roleNext, permissionNext, assignNext, giveNext, taskNext, openToNext, carriesNext, staticNext, dynamicNext, taskSetNext, blockNext, banNext, mostNext, bindNext, beforeNext, raiseNext, policyKinds}
+use Rattle.paper_lower.specs.Policy.{userNext, roleNext, permissionNext, assignNext, giveNext, taskNext, openToNext, carriesNext, staticNext, dynamicNext, taskSetNext, blockNext, banNext, mostNext, bindNext, beforeNext, raiseNext, wallNext, policyKinds}
 use Rattle.paper_lower.specs.Load.{load, recordsOf}
-use Rattle.paper_lower.specs.Roles.{joinNext, deleteNext, takeBackNext, withdrawNext, roleKinds}
-use Rattle.paper_lower.specs.Sessions.{createNext, destroyNext, activateNext, deactivateNext, sessionKinds, lowerKinds, lowerRequest, lowerOf}
+use Rattle.paper_lower.specs.Roles.{joinNext, deleteNext, forgetNext, userGone, takeBackNext, withdrawNext, roleKinds}
+use Rattle.paper_lower.specs.Sessions.{createNext, destroyNext, activateNext, deactivateNext, commitNext, sessionKinds, lowerKinds, lowerRequest, lowerOf}
 use Rattle.paper_lower.proofs.ListLaws.{every-map, every-all, _⨾_}
 use Rattle.paper_upper.specs.Orders.{Orders, Engine, noOrders}
 use Rattle.paper_upper.specs.Requests.{openNext, endNext, claimNext, releaseNext, doneNext, turned, upperKinds}
@@ -26,16 +26,16 @@ over o t = record { lower = t; orders = o }
 
 -- ---- requests
 lower-rows : Every (λ k. (o : Orders) (t : Lower) (r : Record) → chosen telling (k .kind) .next (shown (over o t)) r ≡ shown (over o (k .next t r))) lowerKinds
-unfolding lowerKinds roleKinds sessionKinds telling chosen joinNext assignNext giveNext deleteNext takeBackNext withdrawNext createNext destroyNext activateNext deactivateNext
+unfolding lowerKinds roleKinds sessionKinds telling chosen joinNext assignNext giveNext deleteNext forgetNext userGone takeBackNext withdrawNext createNext destroyNext activateNext deactivateNext commitNext
 lower-rows =
     (λ o t r. refl) ⨾ (λ o t r. refl) ⨾ (λ o t r. refl) ⨾ (λ o t r. refl) ⨾ (λ o t r. refl) ⨾ (λ o t r. refl)
-    ⨾ (λ o t r. refl) ⨾ (λ o t r. refl) ⨾ (λ o t r. refl) ⨾ (λ o t r. refl) ⨾ (λ o t r. refl) ⨾ tt
+    ⨾ (λ o t r. refl) ⨾ (λ o t r. refl) ⨾ (λ o t r. refl) ⨾ (λ o t r. refl) ⨾ (λ o t r. refl) ⨾ (λ o t r. refl) ⨾ tt
 
 abbrev Heard : Kind Engine → Type 0
 Heard k = (t : Engine) (r : Record) → chosen telling (k .kind) .next (shown t) r ≡ shown (k .next t r)
 
 upper-rows : Every Heard upperKinds
-unfolding upperKinds telling chosen deleteNext destroyNext openNext endNext claimNext releaseNext doneNext turned
+unfolding upperKinds telling chosen deleteNext forgetNext userGone destroyNext openNext endNext claimNext releaseNext doneNext turned
 upper-rows =
     (λ t r. refl) ⨾ (λ t r. refl) ⨾ (λ t r. refl) ⨾ (λ t r. refl) ⨾ (λ t r. refl) ⨾ (λ t r. refl) ⨾ (λ t r. refl) ⨾ (λ t r. refl) ⨾ (λ t r. refl) ⨾ (λ t r. refl) ⨾ tt
 
@@ -45,10 +45,10 @@ request-rows = of-both Heard upper-rows (every-map lowerKinds (λ k h t r. h (t 
 
 -- ---- the load
 load-rows : Every (λ k. (p : Policy) (r : Record) → chosen telling (k .kind) .next (shown (engineOf p)) r ≡ shown (engineOf (k .next p r))) policyKinds
-unfolding policyKinds engineOf lowerOf telling chosen userNext roleNext permissionNext assignNext giveNext taskNext openToNext carriesNext staticNext dynamicNext taskSetNext blockNext banNext mostNext bindNext beforeNext raiseNext
+unfolding policyKinds engineOf lowerOf telling chosen userNext roleNext permissionNext assignNext giveNext taskNext openToNext carriesNext staticNext dynamicNext taskSetNext blockNext banNext mostNext bindNext beforeNext raiseNext wallNext
 load-rows =
     (λ p r. refl) ⨾ (λ p r. refl) ⨾ (λ p r. refl) ⨾ (λ p r. refl) ⨾ (λ p r. refl) ⨾ (λ p r. refl) ⨾ (λ p r. refl) ⨾ (λ p r. refl)
-    ⨾ (λ p r. refl) ⨾ (λ p r. refl) ⨾ (λ p r. refl) ⨾ (λ p r. refl) ⨾ (λ p r. refl) ⨾ (λ p r. refl) ⨾ (λ p r. refl) ⨾ (λ p r. refl) ⨾ (λ p r. refl) ⨾ tt
+    ⨾ (λ p r. refl) ⨾ (λ p r. refl) ⨾ (λ p r. refl) ⨾ (λ p r. refl) ⨾ (λ p r. refl) ⨾ (λ p r. refl) ⨾ (λ p r. refl) ⨾ (λ p r. refl) ⨾ (λ p r. refl) ⨾ (λ p r. refl) ⨾ tt
 
 heard-records : (p : Policy) (rs : List Record) → Accepted p rs → hearAll (shown (engineOf p)) rs ≡ shown (engineOf (filled p rs))
 unfolding hearAll hear filled

@@ -12,7 +12,7 @@ use Rattle.paper_lower.specs.Lists.{some, keep}
 use Rattle.paper_lower.specs.Records.{Bytes, Record}
 use Rattle.paper_lower.specs.Forms.{policyForms, formOf, above, outOfRange}
 use Rattle.paper_lower.specs.Tables.{Seniority, Policy, noPolicy}
-use Rattle.paper_lower.specs.Policy.{userNext, roleNext, permissionNext, assignNext, giveNext, taskNext, openToNext, carriesNext, staticNext, dynamicNext, taskSetNext, blockNext, banNext, mostNext, bindNext, beforeNext, raised, raiseChecks, raiseNext, policyKinds}
+use Rattle.paper_lower.specs.Policy.{userNext, roleNext, permissionNext, assignNext, giveNext, taskNext, openToNext, carriesNext, staticNext, dynamicNext, taskSetNext, blockNext, banNext, mostNext, bindNext, beforeNext, raised, raiseChecks, raiseNext, wallNext, policyKinds}
 use Rattle.paper_lower.specs.Load.{load, recordsOf}
 use Rattle.paper_lower.proofs.ListLaws.{upd-same, upd-other, _⨾_}
 use Rattle.sets.proofs.Bits.{same-or-other}
@@ -169,12 +169,12 @@ module _ (s : Seniority) (h : Ranked s) (a b : ℕ) where
 
 -- ---- the load
 rows : Rows policyForms (λ n p r x. Ranked (p .seniority) → Ranked (x .seniority)) policyKinds
-unfolding policyKinds policyForms formOf outOfRange above userNext roleNext permissionNext assignNext giveNext taskNext openToNext carriesNext staticNext dynamicNext taskSetNext blockNext banNext mostNext bindNext beforeNext raiseChecks raiseNext
+unfolding policyKinds policyForms formOf outOfRange above userNext roleNext permissionNext assignNext giveNext taskNext openToNext carriesNext staticNext dynamicNext taskSetNext blockNext banNext mostNext bindNext beforeNext raiseChecks raiseNext wallNext
 rows =
     (λ p r g c i. i) ⨾ (λ p r g c i. i) ⨾ (λ p r g c i. i) ⨾ (λ p r g c i. i) ⨾ (λ p r g c i. i) ⨾ (λ p r g c i. i) ⨾ (λ p r g c i. i) ⨾ (λ p r g c i. i)
     ⨾ (λ p r g c i. i) ⨾ (λ p r g c i. i) ⨾ (λ p r g c i. i) ⨾ (λ p r g c i. i) ⨾ (λ p r g c i. i) ⨾ (λ p r g c i. i) ⨾ (λ p r g c i. i) ⨾ (λ p r g c i. i)
     ⨾ (λ p r g c i. raised-ranked (p .seniority) i (r .a) (r .b) (let l = a-within 63 (r .a) (ltb 63 (r .b)) g in omega arith) (c .1 .1 .0) (c .1 .1 .1 .0))
-    ⨾ tt
+    ⨾ (λ p r g c i. i) ⨾ tt
 
 pub start : Ranked (noPolicy .seniority)
 unfolding noPolicy
@@ -193,11 +193,11 @@ start = record {
 
 -- ---- the pairs by name are the policy's records
 pub step-rows : Rows policyForms (λ n p r x. x .seniority ≡ cond (eqb n 17) (raised (p .seniority) (r .a) (r .b)) (p .seniority)) policyKinds
-unfolding policyKinds userNext roleNext permissionNext assignNext giveNext taskNext openToNext carriesNext staticNext dynamicNext taskSetNext blockNext banNext mostNext bindNext beforeNext raiseNext
+unfolding policyKinds userNext roleNext permissionNext assignNext giveNext taskNext openToNext carriesNext staticNext dynamicNext taskSetNext blockNext banNext mostNext bindNext beforeNext raiseNext wallNext
 step-rows =
     (λ p r g c. refl) ⨾ (λ p r g c. refl) ⨾ (λ p r g c. refl) ⨾ (λ p r g c. refl) ⨾ (λ p r g c. refl) ⨾ (λ p r g c. refl) ⨾ (λ p r g c. refl) ⨾ (λ p r g c. refl)
     ⨾ (λ p r g c. refl) ⨾ (λ p r g c. refl) ⨾ (λ p r g c. refl) ⨾ (λ p r g c. refl) ⨾ (λ p r g c. refl) ⨾ (λ p r g c. refl) ⨾ (λ p r g c. refl) ⨾ (λ p r g c. refl)
-    ⨾ (λ p r g c. refl) ⨾ tt
+    ⨾ (λ p r g c. refl) ⨾ (λ p r g c. refl) ⨾ tt
 
 eqb-turned : (x y : ℕ) → eqb x y ≡ eqb y x
 eqb-turned x y = ⊎-elim (λ (e : x ≡ y). eq-eqb x y e ∙ sym (eq-eqb y x (sym e))) (λ n. ne-eqb x y n ∙ sym (ne-eqb y x (λ e. n (sym e)))) (same-or-other x y)

@@ -2,19 +2,19 @@
 use Prim.Native.Nat.{ℕ, zero, suc, _+_, _*_, _≤_, _/_}
 use mathlib.Core.Path.{_≡_, refl, sym, ap, _∙_}
 use mathlib.Core.Bool.{Bool, true, false, not, cond, _&&_, _||_, true≢false, false≢true, or-true}
-use mathlib.Core.List.{List, [], _∷_, _++_}
+use mathlib.Core.List.{List, [], _∷_}
 use native.Mathlib.Omega.{arith}
 use borrow.Author.Tests.{eqb-true, eq-eqb, ne-eqb, leb-true, le-leb}
 use lib.Dec.{eqb, leb}
 use lib.ListN.{length, take, drop}
 use Rattle.paper_lower.specs.Lists.{some, keep, each, Every}
 use Rattle.paper_lower.specs.Lists.Maybe.{none, just}
-use Rattle.paper_lower.specs.Checks.{Check, first, granted, SHAPE, RANGE, UNKNOWN, RULE, FULL, LOOP}
+use Rattle.paper_lower.specs.Checks.{Check, first, granted, SHAPE, RANGE, UNKNOWN, RULE, DENIED, FULL, LOOP, WALL}
 use Rattle.paper_lower.specs.Records.{Bytes, Record, decode}
 use Rattle.paper_lower.specs.Forms.{Form, policyForms, lowerForms, upperForms, requestForms, formOf, misshapen, formChecks}
 use Rattle.paper_lower.specs.Kinds.{Kind, chosen, replyTo, answer}
 use Rattle.paper_lower.specs.Tables.{Policy, noPolicy}
-use Rattle.paper_lower.specs.Policy.{userChecks, roleChecks, permissionChecks, assignChecks, giveChecks, taskChecks, openToChecks, carriesChecks, staticChecks, dynamicChecks, taskSetChecks, blockChecks, banChecks, mostChecks, bindChecks, beforeChecks, raiseChecks, policyKinds}
+use Rattle.paper_lower.specs.Policy.{userChecks, roleChecks, permissionChecks, assignChecks, giveChecks, taskChecks, openToChecks, carriesChecks, staticChecks, dynamicChecks, taskSetChecks, blockChecks, banChecks, mostChecks, bindChecks, beforeChecks, raiseChecks, wallChecks, policyKinds}
 use Rattle.paper_lower.specs.Load.{Loaded, accepted, refused, policyAnswer, loadFrom, load}
 use Rattle.paper_lower.specs.Roles.{joinChecks, deleteChecks, takeBackChecks, withdrawChecks, roleKinds}
 use Rattle.paper_lower.specs.Sessions.{createChecks, destroyChecks, activateChecks, deactivateChecks, checkChecks, sessionKinds, lowerKinds, lowerRequest}
@@ -36,16 +36,16 @@ of-both P upper lower =
 
 -- ---- by computing
 pub policy-order : InOrder policyKinds
-unfolding rising rank inTable policyKinds userChecks roleChecks permissionChecks assignChecks giveChecks taskChecks openToChecks carriesChecks staticChecks dynamicChecks taskSetChecks blockChecks banChecks mostChecks bindChecks beforeChecks raiseChecks
+unfolding rising rank inTable policyKinds userChecks roleChecks permissionChecks assignChecks giveChecks taskChecks openToChecks carriesChecks staticChecks dynamicChecks taskSetChecks blockChecks banChecks mostChecks bindChecks beforeChecks raiseChecks wallChecks
 policy-order =
     (λ t r. refl) ⨾ (λ t r. refl) ⨾ (λ t r. refl) ⨾ (λ t r. refl) ⨾ (λ t r. refl) ⨾ (λ t r. refl) ⨾ (λ t r. refl) ⨾ (λ t r. refl)
-    ⨾ (λ t r. refl) ⨾ (λ t r. refl) ⨾ (λ t r. refl) ⨾ (λ t r. refl) ⨾ (λ t r. refl) ⨾ (λ t r. refl) ⨾ (λ t r. refl) ⨾ (λ t r. refl) ⨾ (λ t r. refl) ⨾ tt
+    ⨾ (λ t r. refl) ⨾ (λ t r. refl) ⨾ (λ t r. refl) ⨾ (λ t r. refl) ⨾ (λ t r. refl) ⨾ (λ t r. refl) ⨾ (λ t r. refl) ⨾ (λ t r. refl) ⨾ (λ t r. refl) ⨾ (λ t r. refl) ⨾ tt
 
 pub lower-order : InOrder lowerKinds
 unfolding rising rank inTable lowerKinds roleKinds sessionKinds joinChecks assignChecks giveChecks deleteChecks takeBackChecks withdrawChecks createChecks destroyChecks activateChecks deactivateChecks checkChecks
 lower-order =
     (λ t r. refl) ⨾ (λ t r. refl) ⨾ (λ t r. refl) ⨾ (λ t r. refl) ⨾ (λ t r. refl) ⨾ (λ t r. refl)
-    ⨾ (λ t r. refl) ⨾ (λ t r. refl) ⨾ (λ t r. refl) ⨾ (λ t r. refl) ⨾ (λ t r. refl) ⨾ tt
+    ⨾ (λ t r. refl) ⨾ (λ t r. refl) ⨾ (λ t r. refl) ⨾ (λ t r. refl) ⨾ (λ t r. refl) ⨾ (λ t r. refl) ⨾ tt
 
 upper-order : InOrder upperKinds
 unfolding rising rank inTable upperKinds deleteChecks deleteAbove destroyChecks destroyAbove openChecks endChecks claimChecks ruleChecks holdChecks taskCheckChecks figuresChecks stuckChecks
@@ -65,24 +65,26 @@ not-granted k l e = let q = ap rank e in omega arith
 -- a number that stands behind RANGE is none of the first
 from-shape : (k : ℕ) → rank SHAPE ≤ rank k → SHAPE ≤ k
 unfolding rank
-from-shape k l = go (eqb k LOOP) refl l
+from-shape k l = go (eqb k LOOP) refl (eqb k WALL) refl l
   where
-    go : (b : Bool) → eqb k LOOP ≡ b → rank SHAPE ≤ cond b (2 * RULE + 1) (2 * k) → SHAPE ≤ k
-    go true e l = let q = eqb-true k LOOP e in omega arith
-    go false e l = omega arith
+    go : (b : Bool) → eqb k LOOP ≡ b → (d : Bool) → eqb k WALL ≡ d → rank SHAPE ≤ cond b (2 * RULE + 1) (cond d (2 * DENIED + 1) (2 * k)) → SHAPE ≤ k
+    go true e d f l = let q = eqb-true k LOOP e in omega arith
+    go false e true f l = let q = eqb-true k WALL f in omega arith
+    go false e false f l = omega arith
 
 unknown-behind : (rank SHAPE ≤ rank UNKNOWN) × (rank RANGE ≤ rank UNKNOWN) × (1 ≤ rank SHAPE)
 unfolding rank
 unknown-behind = (omega arith, omega arith, omega arith)
 
 -- every number of the table is a byte's
-pub in-byte : (k : ℕ) → inTable k ≡ true → k ≤ LOOP
+pub in-byte : (k : ℕ) → inTable k ≡ true → k ≤ WALL
 unfolding inTable
-in-byte k h = go (leb k FULL) refl h
+in-byte k h = go (leb k FULL) refl (eqb k LOOP) refl h
   where
-    go : (b : Bool) → leb k FULL ≡ b → b || eqb k LOOP ≡ true → k ≤ LOOP
-    go true e h = let l = leb-true k FULL e in omega arith
-    go false e h = let q = eqb-true k LOOP h in omega arith
+    go : (b : Bool) → leb k FULL ≡ b → (d : Bool) → eqb k LOOP ≡ d → b || d || eqb k WALL ≡ true → k ≤ WALL
+    go true e d f h = let l = leb-true k FULL e in omega arith
+    go false e true f h = let q = eqb-true k LOOP f in omega arith
+    go false e false f h = let q = eqb-true k WALL h in omega arith
 
 -- ---- what rising numbers say
 Within : ℕ → Check → Type 0
@@ -198,15 +200,15 @@ module _ {A : Type 0} (fs : List Form) (ks : List (Kind A)) (order : InOrder ks)
 
 policy-forms : Every (λ f. takes policyKinds (f .kind) ≡ true) policyForms
 unfolding some policyForms policyKinds
-policy-forms = refl ⨾ refl ⨾ refl ⨾ refl ⨾ refl ⨾ refl ⨾ refl ⨾ refl ⨾ refl ⨾ refl ⨾ refl ⨾ refl ⨾ refl ⨾ refl ⨾ refl ⨾ refl ⨾ refl ⨾ tt
+policy-forms = refl ⨾ refl ⨾ refl ⨾ refl ⨾ refl ⨾ refl ⨾ refl ⨾ refl ⨾ refl ⨾ refl ⨾ refl ⨾ refl ⨾ refl ⨾ refl ⨾ refl ⨾ refl ⨾ refl ⨾ refl ⨾ tt
 
 lower-forms : Every (λ f. takes lowerKinds (f .kind) ≡ true) lowerForms
 unfolding some lowerForms lowerKinds roleKinds sessionKinds
-lower-forms = refl ⨾ refl ⨾ refl ⨾ refl ⨾ refl ⨾ refl ⨾ refl ⨾ refl ⨾ refl ⨾ refl ⨾ refl ⨾ tt
+lower-forms = refl ⨾ refl ⨾ refl ⨾ refl ⨾ refl ⨾ refl ⨾ refl ⨾ refl ⨾ refl ⨾ refl ⨾ refl ⨾ refl ⨾ tt
 
 request-forms : Every (λ f. takes requestKinds (f .kind) ≡ true) requestForms
 unfolding some requestForms lowerForms upperForms requestKinds upperKinds sharedKinds lowerKinds roleKinds sessionKinds keep each raised
-request-forms = refl ⨾ refl ⨾ refl ⨾ refl ⨾ refl ⨾ refl ⨾ refl ⨾ refl ⨾ refl ⨾ refl ⨾ refl ⨾ refl ⨾ refl ⨾ refl ⨾ refl ⨾ refl ⨾ refl ⨾ refl ⨾ refl ⨾ tt
+request-forms = refl ⨾ refl ⨾ refl ⨾ refl ⨾ refl ⨾ refl ⨾ refl ⨾ refl ⨾ refl ⨾ refl ⨾ refl ⨾ refl ⨾ refl ⨾ refl ⨾ refl ⨾ refl ⨾ refl ⨾ refl ⨾ refl ⨾ refl ⨾ tt
 
 pub checks-in-order : ChecksInOrder
 checks-in-order = record {

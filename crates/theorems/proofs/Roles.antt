@@ -8,8 +8,8 @@ use native.Mathlib.Omega.{arith}
 use borrow.Author.Tests.{eqb-true, eq-eqb, ltb-false}
 use lib.Dec.{eqb}
 use Rattle.paper_lower.specs.Sets.{Set, empty, has, plus, minus, union, overlap, meets, within, without}
-use Rattle.paper_lower.specs.Lists.{upd, someBelow, some, Every}
-use Rattle.paper_lower.specs.Tables.{Limit, Rules, People, Seniority, Sessions, noSessions, withAssigned}
+use Rattle.paper_lower.specs.Lists.{upd, someBelow, Maybe, some, Every}
+use Rattle.paper_lower.specs.Tables.{Limit, Rules, People, Seniority, Sessions, noSessions, withAssigned, withBoundTo}
 use Rattle.paper_lower.specs.Policy.{down, breaks}
 use Rattle.paper_lower.specs.Roles.{subjectOf, ofSubjects, activeOf, countedOf}
 use Rattle.paper_lower.specs.Sessions.{createNext, destroyNext, activateNext, deactivateNext}
@@ -126,6 +126,11 @@ module _ (p : People) (se : Seniority) (s : Sessions) (ru : Rules) (h : Limited 
       go k l e t x false q =
           let stood : has (down se (p .assigned a)) t ≡ true = within-has (s .active k) (down se (p .assigned a)) t (rw (← e) (h .active k l)) x in
           absurd (none-common (activeOf s a) _ t c (has-part _ _ t (own-active s a k (h .small k l) l e) x) (has-without _ _ t ∙ rw (stood, q) refl))
+
+-- ---- bindings do not count
+pub bound : (p : People) (se : Seniority) (s : Sessions) (ru : Rules) → Limited p se s ru → (x : ℕ → ℕ → Maybe ℕ) → Limited p se (withBoundTo s x) ru
+unfolding countedOf ofSubjects subjectOf
+bound p se s ru h x = record { statics = h .statics; dynamics = h .dynamics; small = h .small; known = h .known; active = h .active }
 
 -- ---- subjects: one subject's row anew
 record Elsewhere (a : ℕ) (s z : Sessions) : Type 0 where

@@ -70,7 +70,7 @@ module _ {T : Type 0} (fs : List Form) (ks : List (Kind T)) (order : InOrder ks)
 -- ---- the whole engine's rows: the upper part's, and the lower part's with the orders beside them
 same-forms : Every (λ k. formOf requestForms (k .kind) ≡ formOf lowerForms (k .kind)) lowerKinds
 unfolding lowerKinds roleKinds sessionKinds requestForms lowerForms upperForms formOf
-same-forms = refl ⨾ refl ⨾ refl ⨾ refl ⨾ refl ⨾ refl ⨾ refl ⨾ refl ⨾ refl ⨾ refl ⨾ refl ⨾ tt
+same-forms = refl ⨾ refl ⨾ refl ⨾ refl ⨾ refl ⨾ refl ⨾ refl ⨾ refl ⨾ refl ⨾ refl ⨾ refl ⨾ refl ⨾ tt
 
 pub engine-rows : (P : ℕ → Engine → Record → Engine → Type 0) → Rows requestForms P upperKinds
     → Every (λ k. (t : Engine) (r : Record) → outOfRange (formOf lowerForms (k .kind)) r ≡ false → Passed (k .checks (t .lower) r)

@@ -9,7 +9,7 @@ use lib.Dec.{eqb, leb}
 use lib.ListN.{length, take, drop}
 use Rattle.paper_lower.specs.Sets.{Set, has, plus, minus, union, meets, within, without}
 use Rattle.paper_lower.specs.Lists.{someBelow, some, many, keep, each, Every}
-use Rattle.paper_lower.specs.Checks.{Check, first, granted, SHAPE, UNKNOWN, TAKEN, IN-USE, RULE, NOT-ASSIGNED, STATIC, DYNAMIC, NO-ROLE, DENIED, FULL}
+use Rattle.paper_lower.specs.Checks.{Check, first, granted, SHAPE, UNKNOWN, TAKEN, IN-USE, RULE, NOT-ASSIGNED, STATIC, DYNAMIC, NO-ROLE, DENIED, FULL, WALL}
 use Rattle.paper_lower.specs.Records.{Bytes, Record, decode}
 use Rattle.paper_lower.specs.Forms.{Form, policyForms, lowerForms, requestForms, formChecks}
 use Rattle.paper_lower.specs.Kinds.{Kind, chosen, Answer, replyTo, answer, run, after}
@@ -17,7 +17,7 @@ use Rattle.paper_lower.specs.Tables.{Seniority, Policy, Lower, noPolicy}
 use Rattle.paper_lower.specs.Policy.{down, breaks, sameLimit, illMade, assignChecks, staticChecks, raised, policyKinds}
 use Rattle.paper_lower.specs.Load.{Loaded, accepted, refused, policyAnswer, loadFrom, load, recordsFrom, recordsOf}
 use Rattle.paper_lower.specs.Roles.{activeOf, countedOf, joinChecks, lostBy, takeBackChecks, roleKinds}
-use Rattle.paper_lower.specs.Sessions.{allowed, createChecks, activateChecks, checkChecks, sessionKinds, lowerKinds, lowerRequest}
+use Rattle.paper_lower.specs.Sessions.{allowed, wallBetween, createChecks, activateChecks, checkChecks, sessionKinds, lowerKinds, lowerRequest}
 use Rattle.paper_lower.proofs.ListLaws.{every-map, _⨾_}
 use Rattle.paper_upper.specs.Orders.{isHeld, Engine, ofTask}
 use Rattle.paper_upper.specs.Rules.{ruleChecks}
@@ -42,14 +42,14 @@ seniority-is-recorded = record {
 }
 
 -- ---- rows in front that answer as those behind them
-first-behind : (xs ys zs : List Check) → first ys ≡ first zs → first (xs ++ ys) ≡ first (xs ++ zs)
+pub first-behind : (xs ys zs : List Check) → first ys ≡ first zs → first (xs ++ ys) ≡ first (xs ++ zs)
 first-behind [] ys zs e = e
 first-behind (x ∷ xs) ys zs e = ap (λ (k : ℕ). cond (x .0) (x .1) k) (first-behind xs ys zs e)
 
-abbrev Alike : {T : Type 0} → T → Record → Kind T → Kind T → Type 0
+abbrev pub Alike : {T : Type 0} → T → Record → Kind T → Kind T → Type 0
 Alike t r k j = (first (k .checks t r) ≡ first (j .checks t r)) × (k .next t r ≡ j .next t r)
 
-chosen-front : {T : Type 0} (P : Kind T → Type 0) (new ks : List (Kind T)) (n : ℕ) → P (chosen ks n) → Every (λ k. k .kind ≡ n → P k) new → P (chosen (new ++ ks) n)
+pub chosen-front : {T : Type 0} (P : Kind T → Type 0) (new ks : List (Kind T)) (n : ℕ) → P (chosen ks n) → Every (λ k. k .kind ≡ n → P k) new → P (chosen (new ++ ks) n)
 unfolding chosen
 chosen-front P [] ks n h a = h
 chosen-front P (k ∷ new) ks n h a = go (eqb (k .kind) n) refl (chosen-front P new ks n h (a .1))
@@ -58,7 +58,7 @@ chosen-front P (k ∷ new) ks n h a = go (eqb (k .kind) n) refl (chosen-front P 
     go true e rest = a .0 (eqb-true _ _ e)
     go false e rest = rest
 
-same-answer : {T : Type 0} (fs : List Form) (new ks : List (Kind T)) (t : T) (s : Bytes)
+pub same-answer : {T : Type 0} (fs : List Form) (new ks : List (Kind T)) (t : T) (s : Bytes)
     → Every (λ k. (r : Record) → Alike t r k (chosen ks (k .kind))) new → answer fs (new ++ ks) t s ≡ answer fs ks t s
 unfolding answer replyTo
 same-answer fs new ks t s rows =
@@ -68,7 +68,7 @@ same-answer fs new ks t s rows =
     let q = first-behind (formChecks fs s) _ _ (a .0) in
     λ i. record { reply = q i; tables = granted (q i) (a .1 i) t }
 
--- ---- the nine kinds
+-- ---- the kinds whose checks count roles
 flat : (p : Policy) → NoneBelow p → down (p .seniority) ≡ (λ m. m)
 flat p none = λ i m. down-alone (p .seniority) m (λ r l h. none r) i
 
@@ -147,7 +147,10 @@ module _ (t : Lower) (none : NoneBelow (t .policy)) where
   unfolding checkBefore checkChecks
   same-check a b c =
       sym (ap (λ (d : Set → Set).
-      first ((not (t .sessions .live a), UNKNOWN) ∷ (not (allowed (t .policy .permissions) (d (t .sessions .active a)) b c), DENIED) ∷ []))
+      first ((not (t .sessions .live a), UNKNOWN)
+      ∷ (not (allowed (t .policy .permissions) (d (t .sessions .active a)) b c), DENIED)
+      ∷ (wallBetween t (t .sessions .user a) c, WALL)
+      ∷ []))
       (flat (t .policy) none))
 
 same-claim : (t : Engine) → NoneBelow (t .lower .policy) → (a b c : ℕ) → first (claimBefore t a b c) ≡ first (claimChecks t a b c)
@@ -177,6 +180,7 @@ same-lower t none s =
     ⨾ (λ r. (same-create t none (r .a) (r .b) (r .m), refl))
     ⨾ (λ r. (same-activate t none (r .a) (r .b), refl))
     ⨾ (λ r. (same-check t none (r .a) (r .b) (r .c), refl))
+    ⨾ (λ r. (same-check t none (r .a) (r .b) (r .c), refl))
     ⨾ tt))
 
 same-request : (t : Engine) → NoneBelow (t .lower .policy) → (s : Bytes) → request t s ≡ requestBefore t s
@@ -189,6 +193,7 @@ same-request t none s =
     ⨾ (λ r. (same-take (t .lower) none (r .a) (r .b), refl))
     ⨾ (λ r. (same-create (t .lower) none (r .a) (r .b) (r .m), refl))
     ⨾ (λ r. (same-activate (t .lower) none (r .a) (r .b), refl))
+    ⨾ (λ r. (same-check (t .lower) none (r .a) (r .b) (r .c), refl))
     ⨾ (λ r. (same-check (t .lower) none (r .a) (r .b) (r .c), refl))
     ⨾ tt))
 

@@ -15,7 +15,7 @@ use Rattle.paper_lower.specs.Forms.{requestForms}
 use Rattle.paper_lower.specs.Tables.{Seniority, Limit, Lower}
 use Rattle.paper_lower.specs.Policy.{down, assignNext, giveNext}
 use Rattle.paper_lower.specs.Load.{recordsOf}
-use Rattle.paper_lower.specs.Roles.{countedOf, joinNext, deleteNext, takeBackNext, withdrawNext, roleKinds}
+use Rattle.paper_lower.specs.Roles.{countedOf, joinNext, deleteNext, userGone, takeBackNext, withdrawNext, roleKinds}
 use Rattle.paper_lower.specs.Sessions.{sessionKinds, lowerKinds}
 use Rattle.paper_lower.proofs.ListLaws.{every-map, _⨾_}
 use Rattle.paper_upper.specs.Orders.{Orders}
@@ -24,7 +24,7 @@ use Rattle.paper_upper.specs.Engine.{requestKinds, request}
 use Rattle.theorems.specs.Outside.{Told}
 use Rattle.theorems.specs.OverEntries.{ofKind, Leads, AtOrBelow, Allowed, RoleLimits}
 use Rattle.theorems.specs.InUse.{inUse}
-use Rattle.theorems.specs.Theorems.{tablesAfter, saidAfter, lowerAfter, shown, OrdersKeepTheRules, ClerksKeepTheLimits, DealersKeepTheLimits, FirstRuleBroken, EntriesInUse, RulesAreWellMade, LedgerIsSound, fixed, RequestsChangeNoRule}
+use Rattle.theorems.specs.Theorems.{tablesAfter, saidAfter, lowerAfter, shown, OrdersKeepTheRules, ClerksKeepTheLimits, DealersKeepTheLimits, FirstRuleBroken, EntriesInUse, RulesAreWellMade, WallsAreWellMade, LedgerIsSound, fixed, RequestsChangeNoRule}
 use Rattle.theorems.specs.Seniority.{AsRecorded}
 use Rattle.sets.proofs.SetLaws.{has-part, within-has}
 use Rattle.theorems.proofs.Replies.{engine-order}
@@ -86,18 +86,21 @@ dealers-keep-the-limits policy accepted ss =
 pub rules-are-well-made : RulesAreWellMade
 rules-are-well-made policy accepted ss = kept-after policy accepted ss .0 .well
 
+pub walls-are-well-made : WallsAreWellMade
+walls-are-well-made policy accepted ss = kept-after policy accepted ss .0 .walled
+
 pub ledger-is-sound : LedgerIsSound
 ledger-is-sound policy accepted ss = kept-after policy accepted ss .1 .ledger
 
 -- ---- no request writes roles, tasks or rules
 pub lower-rows : Every (λ k. (t : Lower) (r : Record) → fixed (k .next t r .policy) ≡ fixed (t .policy)) lowerKinds
-unfolding lowerKinds roleKinds sessionKinds joinNext assignNext giveNext deleteNext takeBackNext withdrawNext
+unfolding lowerKinds roleKinds sessionKinds joinNext assignNext giveNext deleteNext userGone takeBackNext withdrawNext
 lower-rows =
     (λ t r. refl) ⨾ (λ t r. refl) ⨾ (λ t r. refl) ⨾ (λ t r. refl) ⨾ (λ t r. refl) ⨾ (λ t r. refl)
-    ⨾ (λ t r. refl) ⨾ (λ t r. refl) ⨾ (λ t r. refl) ⨾ (λ t r. refl) ⨾ (λ t r. refl) ⨾ tt
+    ⨾ (λ t r. refl) ⨾ (λ t r. refl) ⨾ (λ t r. refl) ⨾ (λ t r. refl) ⨾ (λ t r. refl) ⨾ (λ t r. refl) ⨾ tt
 
 upper-rows : Rows requestForms (λ n t r x. fixed (x .lower .policy) ≡ fixed (t .lower .policy)) upperKinds
-unfolding upperKinds deleteNext openNext endNext claimNext releaseNext doneNext
+unfolding upperKinds deleteNext userGone openNext endNext claimNext releaseNext doneNext
 upper-rows =
     (λ t r g p. refl) ⨾ (λ t r g p. refl) ⨾ (λ t r g p. refl) ⨾ (λ t r g p. refl) ⨾ (λ t r g p. refl)
     ⨾ (λ t r g p. refl) ⨾ (λ t r g p. refl) ⨾ (λ t r g p. refl) ⨾ (λ t r g p. refl) ⨾ (λ t r g p. refl) ⨾ tt

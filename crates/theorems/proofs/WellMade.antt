@@ -1,25 +1,25 @@
--- Every accepted load leaves rules that are well made.
+-- Every accepted load leaves rules and walls that are well made.
 use Prim.Native.Nat.{ℕ, zero, suc, _≤_, _<_}
 use mathlib.Core.Path.{_≡_, refl, sym, ap, _∙_}
 use mathlib.Core.Bool.{Bool, true, false, not, cond, _&&_, _||_, true≢false, false≢true}
 use mathlib.Core.List.{List, [], _∷_}
 use mathlib.Core.Logic.{⊎-elim}
 use native.Mathlib.Omega.{arith}
-use borrow.Author.Tests.{eqb-true, leb-true, ltb-true, ltb-false, eqb-false, not-false}
+use borrow.Author.Tests.{eqb-true, leb-true, leb-false, ltb-true, ltb-false, eqb-false, not-false}
 use lib.Dec.{eqb, leb, ltb}
 use Rattle.paper_lower.specs.Sets.{Set, empty, has, union, size, meets, within, collect}
-use Rattle.paper_lower.specs.Lists.{upd, someBelow, Maybe, holds, there, is, add, Every}
+use Rattle.paper_lower.specs.Lists.{upd, someBelow, Maybe, holds, there, is, some, many, add, Every}
 use Rattle.paper_lower.specs.Lists.Maybe.{none, just}
 use Rattle.paper_lower.specs.Records.{Bytes}
 use Rattle.paper_lower.specs.Forms.{policyForms, formOf, above, outOfRange}
-use Rattle.paper_lower.specs.Tables.{Tasks, Limit, Block, Pair, Rules, noPolicy, withStatics, withDynamics, withTaskSets, withBlocks, withBindings, withBefores}
-use Rattle.paper_lower.specs.Policy.{tasksOf, oneTemplate, together, illMade, userNext, roleNext, permissionNext, assignNext, giveNext, taskChecks, taskNext, openToNext, carriesNext, staticChecks, staticNext, dynamicChecks, dynamicNext, taskSetChecks, taskSetNext, partitioned, blockChecks, blockNext, banNext, mostChecks, mostNext, bindChecks, bindNext, beforeChecks, beforeNext, raiseNext, policyKinds}
+use Rattle.paper_lower.specs.Tables.{Tasks, Limit, Block, Pair, Rules, Walled, noPolicy, withStatics, withDynamics, withTaskSets, withBlocks, withBindings, withBefores}
+use Rattle.paper_lower.specs.Policy.{tasksOf, oneTemplate, together, illMade, userNext, roleNext, permissionNext, assignNext, giveNext, taskChecks, taskNext, openToNext, carriesNext, staticChecks, staticNext, dynamicChecks, dynamicNext, taskSetChecks, taskSetNext, partitioned, blockChecks, blockNext, banNext, mostChecks, mostNext, bindChecks, bindNext, beforeChecks, beforeNext, raiseNext, blockOf, another, sameWalled, wallChecks, wallNext, policyKinds}
 use Rattle.paper_lower.specs.Load.{load, recordsOf}
 use Rattle.paper_lower.proofs.ListLaws.{or-none, both, upd-same, upd-other, every-map, every-added, _⨾_}
 use Rattle.sets.proofs.Bits.{same-or-other}
 use Rattle.sets.proofs.SetLaws.{Part, part-trans, part-left, part-right, within-part, has-part, collect-above, collect-below, none-common, meets-none}
 use Rattle.theorems.specs.OverEntries.{EveryTwo}
-use Rattle.theorems.specs.WellMade.{Limits, AllOf, Linked, WellCut, WellMade}
+use Rattle.theorems.specs.WellMade.{Limits, AllOf, Linked, WellCut, WellMade, WellWalled}
 use Rattle.theorems.proofs.Rows.{Rows}
 use Rattle.theorems.proofs.Loads.{load-keeps, load-accepted}
 
@@ -200,8 +200,12 @@ task-set k n m h =
 pub a-within : (k a : ℕ) (b : Bool) → false || ltb k a || b || false || false ≡ false → a ≤ k
 a-within k a b g = ltb-false k a (or-none (ltb k a) b (or-none _ _ (or-none _ _ g .0) .0) .0)
 
+-- a and b are within their limits
+pub b-within : (n m a b : ℕ) → false || ltb n a || ltb m b || false || false ≡ false → (a ≤ n) × (b ≤ m)
+b-within n m a b h = let s = or-none (ltb n a) (ltb m b) (or-none _ _ (or-none _ _ h .0) .0) in (ltb-false n a (s .0), ltb-false m b (s .1))
+
 rows : Rows policyForms (λ n p r x. WellMade (p .tasks .template) (p .tasks .most) (p .rules) → WellMade (x .tasks .template) (x .tasks .most) (x .rules)) policyKinds
-unfolding policyKinds policyForms formOf outOfRange above userNext roleNext permissionNext assignNext giveNext taskChecks taskNext openToNext carriesNext staticChecks staticNext dynamicChecks dynamicNext taskSetChecks taskSetNext blockChecks blockNext banNext mostChecks mostNext bindChecks bindNext beforeChecks beforeNext raiseNext
+unfolding policyKinds policyForms formOf outOfRange above userNext roleNext permissionNext assignNext giveNext taskChecks taskNext openToNext carriesNext staticChecks staticNext dynamicChecks dynamicNext taskSetChecks taskSetNext blockChecks blockNext banNext mostChecks mostNext bindChecks bindNext beforeChecks beforeNext raiseNext wallNext
 rows =
     (λ p r g c i. i) ⨾ (λ p r g c i. i) ⨾ (λ p r g c i. i) ⨾ (λ p r g c i. i) ⨾ (λ p r g c i. i)
     ⨾ (λ p r g c i. task-more _ (r .a) (r .b) (c .0) _ (p .rules) (let l = a-within 63 (r .a) (ltb 15 (r .b)) g in omega arith) i)
@@ -220,7 +224,7 @@ rows =
     ⨾ (λ p r g c i. with-bindings _ _ (p .rules) i _
     (every-added _ (p .rules .bindings) _ (i .bindings) (linked (p .tasks) (r .a) (r .b) (c .1 .1 .0))))
     ⨾ (λ p r g c i. with-befores _ _ (p .rules) i _ (every-added _ (p .rules .befores) _ (i .befores) (linked (p .tasks) (r .a) (r .b) (c .1 .1 .0))))
-    ⨾ (λ p r g c i. i)
+    ⨾ (λ p r g c i. i) ⨾ (λ p r g c i. i)
     ⨾ tt
 
 start : WellMade (noPolicy .tasks .template) (noPolicy .tasks .most) (noPolicy .rules)
@@ -240,3 +244,54 @@ pub load-well-made : (policy : Bytes) → load policy .reply ≡ 0 → WellMade 
 load-well-made policy h =
     let x = load-accepted policy h in
     rw (x .1) (load-keeps (λ p. WellMade (p .tasks .template) (p .tasks .most) (p .rules)) rows noPolicy (recordsOf policy) (x .0) start)
+
+-- ---- walls
+-- a wall that has the object in no other block than b, and has it not in b, has it not
+not-walled : (xs : List Walled) (a b c : ℕ) → some (sameWalled a b c) xs ≡ false → another b (blockOf xs c a) ≡ false
+    → Every (λ x. x .wall ≡ a → x .object ≡ c → ⊥) xs
+unfolding some sameWalled another blockOf holds
+not-walled [] a b c h k = tt
+not-walled (x ∷ xs) a b c h k = go (eqb (x .wall) a) refl (eqb (x .object) c) refl (eqb (x .block) b) refl h k (not-walled xs a b c)
+  where
+    go : (e : Bool) → eqb (x .wall) a ≡ e → (f : Bool) → eqb (x .object) c ≡ f → (d : Bool) → eqb (x .block) b ≡ d → (e && d && f) || some (sameWalled a b c) xs ≡ false
+        → holds (λ j. not (eqb j b)) (cond (f && e) (just (x .block)) (blockOf xs c a)) ≡ false
+        → (some (sameWalled a b c) xs ≡ false → another b (blockOf xs c a) ≡ false → Every (λ x. x .wall ≡ a → x .object ≡ c → ⊥) xs)
+        → Every (λ x. x .wall ≡ a → x .object ≡ c → ⊥) (x ∷ xs)
+    go true p true q true o h k rest = absurd (true≢false h)
+    go true p true q false o h k rest = absurd (true≢false (sym (ap not o) ∙ k))
+    go true p false q d o h k rest = (λ w u. absurd (eqb-false _ _ q u), rest (or-none (d && false) _ h .1) k)
+    go false p true q d o h k rest = (λ w u. absurd (eqb-false _ _ p w), rest h k)
+    go false p false q d o h k rest = (λ w u. absurd (eqb-false _ _ p w), rest h k)
+
+one-more : {A : Type 0} (xs : List A) (y : A) → many (add xs y) ≡ suc (many xs)
+unfolding add many
+one-more [] y = refl
+one-more (x ∷ xs) y = ap suc (one-more xs y)
+
+wall-more : (xs : List Walled) (a b c : ℕ) → a < 16 → b < 16 → some (sameWalled a b c) xs ≡ false → another b (blockOf xs c a) ≡ false → leb 256 (many xs) ≡ false
+    → WellWalled xs → WellWalled (add xs (record { wall = a; block = b; object = c }))
+wall-more xs a b c la lb new one free i = record {
+  numbers = every-added _ xs _ (i .numbers) (la, lb);
+  once = two-added _ xs _ (i .once) (not-walled xs a b c new one);
+  room = let n = one-more xs (record { wall = a; block = b; object = c }) in let l = leb-false 256 (many xs) free in omega arith;
+}
+
+wall-rows : Rows policyForms (λ n p r x. WellWalled (p .walls) → WellWalled (x .walls)) policyKinds
+unfolding policyKinds policyForms formOf outOfRange above userNext roleNext permissionNext assignNext giveNext taskNext openToNext carriesNext staticNext dynamicNext taskSetNext blockNext banNext mostNext bindNext beforeNext raiseNext wallChecks wallNext
+wall-rows =
+    (λ p r g c i. i) ⨾ (λ p r g c i. i) ⨾ (λ p r g c i. i) ⨾ (λ p r g c i. i) ⨾ (λ p r g c i. i) ⨾ (λ p r g c i. i) ⨾ (λ p r g c i. i) ⨾ (λ p r g c i. i)
+    ⨾ (λ p r g c i. i) ⨾ (λ p r g c i. i) ⨾ (λ p r g c i. i) ⨾ (λ p r g c i. i) ⨾ (λ p r g c i. i) ⨾ (λ p r g c i. i) ⨾ (λ p r g c i. i) ⨾ (λ p r g c i. i)
+    ⨾ (λ p r g c i. i)
+    ⨾ (λ p r g c i.
+    let l = b-within 15 15 (r .a) (r .b) g in
+    let la = l .0 in
+    let lb = l .1 in
+    wall-more (p .walls) (r .a) (r .b) (r .c) (omega arith) (omega arith) (c .0) (c .1 .0) (c .1 .1 .0) i)
+    ⨾ tt
+
+pub load-well-walled : (policy : Bytes) → load policy .reply ≡ 0 → WellWalled (load policy .tables .walls)
+unfolding noPolicy many
+load-well-walled policy h =
+    let x = load-accepted policy h in
+    rw (x .1)
+    (load-keeps (λ p. WellWalled (p .walls)) wall-rows noPolicy (recordsOf policy) (x .0) (record { numbers = tt; once = tt; room = omega arith }))

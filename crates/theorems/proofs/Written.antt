@@ -1,21 +1,21 @@
 -- What is written of a running engine's policy tables loads again.
-use Prim.Native.Nat.{ℕ, zero, suc, _/_, _<_, _≤_}
+use Prim.Native.Nat.{ℕ, zero, suc, _/_, _<_}
 use mathlib.Core.Path.{_≡_, refl, sym, ap, subst, _∙_}
 use mathlib.Core.Bool.{Bool, true, false, not, _||_, false≢true}
 use mathlib.Core.List.{List, [], _∷_}
 use native.Mathlib.Omega.{arith}
-use borrow.Author.Tests.{not-false, ltb-false}
-use lib.Dec.{eqb, ltb}
+use borrow.Author.Tests.{not-false}
+use lib.Dec.{eqb}
 use lib.ListN.{length, getD, take, drop, take-append-drop}
-use Rattle.paper_lower.specs.Sets.{empty, has, union, meets, within, onesIn, size}
+use Rattle.paper_lower.specs.Sets.{empty, has, union, meets, onesIn, size}
 use Rattle.paper_lower.specs.Lists.{Maybe, holds, there, sumBelow, Every}
 use Rattle.paper_lower.specs.Lists.Maybe.{none, just}
 use Rattle.paper_lower.specs.Records.{Bytes, Record, number, decode}
 use Rattle.paper_lower.specs.Forms.{policyForms, lowerForms, requestForms, formOf, above, outOfRange}
 use Rattle.paper_lower.specs.Tables.{Policy, noPolicy}
-use Rattle.paper_lower.specs.Policy.{down, oneTemplate, illMade, partitioned, raisings, userNext, roleNext, permissionChecks, permissionNext, assignChecks, assignNext, giveChecks, giveNext, taskChecks, taskNext, openToChecks, openToNext, carriesChecks, carriesNext, staticChecks, staticNext, dynamicChecks, dynamicNext, taskSetChecks, taskSetNext, blockChecks, blockNext, banChecks, banNext, mostChecks, mostNext, bindChecks, bindNext, beforeChecks, beforeNext, raiseChecks, raiseNext, policyKinds}
+use Rattle.paper_lower.specs.Policy.{down, oneTemplate, illMade, partitioned, raisings, userNext, roleNext, permissionChecks, permissionNext, assignChecks, assignNext, giveChecks, giveNext, taskChecks, taskNext, openToChecks, openToNext, carriesChecks, carriesNext, staticChecks, staticNext, dynamicChecks, dynamicNext, taskSetChecks, taskSetNext, blockChecks, blockNext, banChecks, banNext, mostChecks, mostNext, bindChecks, bindNext, beforeChecks, beforeNext, raiseChecks, raiseNext, wallChecks, wallNext, policyKinds}
 use Rattle.paper_lower.specs.Load.{Loaded, load, recordsFrom, recordsOf}
-use Rattle.paper_lower.specs.Roles.{joinChecks, joinNext, deleteNext, takeBackChecks, takeBackNext, withdrawNext, roleKinds}
+use Rattle.paper_lower.specs.Roles.{joinChecks, joinNext, deleteNext, userGone, takeBackChecks, takeBackNext, withdrawNext, roleKinds}
 use Rattle.paper_lower.specs.Sessions.{sessionKinds, lowerKinds, lowerOf}
 use Rattle.paper_lower.specs.Written.{peopleRows, taskRows, ruleRows, behind, recordsWritten, written}
 use Rattle.paper_lower.proofs.ListLaws.{or-none, every-map, every-left, every-right, _⨾_}
@@ -26,18 +26,18 @@ use Rattle.theorems.specs.Written.{Running, policyOf, LoadsAgain, BytesT
 use Rattle.theorems.proofs.Replies.{engine-order}
 use Rattle.theorems.proofs.Rows.{Rows, run-keeps, engine-rows}
 use Rattle.theorems.proofs.Loads.{step, filled, Accepted, fits-rows, load-accepted}
-use Rattle.theorems.proofs.WellMade.{a-within}
-use Rattle.theorems.proofs.Made.{aLimit, aBlock, aPair}
+use Rattle.theorems.proofs.WellMade.{a-within, b-within}
+use Rattle.theorems.proofs.Made.{aLimit, aBlock, aPair, aWalled}
 use Rattle.theorems.proofs.Ranks.{start}
 use Rattle.theorems.proofs.Down.{down-has}
 use Rattle.theorems.proofs.Roles.{Within, within-less}
 use Rattle.theorems.proofs.Keeps.{kept-after}
 use Rattle.theorems.proofs.WrittenRuns.{Run, run-none, run-then, load-run}
-use Rattle.theorems.proofs.WrittenReady.{Ready}
+use Rattle.theorems.proofs.WrittenReady.{WallOk, Ready}
 use Rattle.theorems.proofs.WrittenStages.{run-1, run-2, run-3, run-4, run-5, run-6, run-7, run-8}
-use Rattle.theorems.proofs.WrittenRules.{run-9, run-10, run-11, run-12, run-13, run-14, run-15, run-16}
+use Rattle.theorems.proofs.WrittenRules.{run-9, run-10, run-11, run-12, run-13, run-14, run-15, run-16, run-18}
 use Rattle.theorems.proofs.WrittenRanks.{run-17}
-use Rattle.theorems.proofs.WrittenKept.{with-statics, with-dynamics, with-task-sets, with-blocks, with-bindings, with-befores, a-pair, with-people, with-permissions, joins, leaves, gains, loses, more-roles, ranks-more, ranks-raised, new-grows, rules-grow, permissions-grow, rules-more, permissions-more, tasks-more, declares, gives, withdraws, carries, task-new, opens, bans, limits}
+use Rattle.theorems.proofs.WrittenKept.{prefixed-add, with-statics, with-dynamics, with-task-sets, with-blocks, with-bindings, with-befores, a-pair, with-people, with-permissions, joins, leaves, gains, loses, more-roles, ranks-more, ranks-raised, new-grows, rules-grow, permissions-grow, rules-more, permissions-more, tasks-more, declares, gives, withdraws, carries, task-new, opens, bans, limits}
 
 -- ---- operations and objects are two bytes each, and n is one
 abbrev Bounded : Record → Type 0
@@ -46,13 +46,9 @@ Bounded r = (r .b < 65536) × (r .c < 65536) × (r .n < 256)
 two-known : (x y : Bool) → not x || not y ≡ false → (x ≡ true) × (y ≡ true)
 two-known x y h = let s = or-none (not x) (not y) h in (not-false x (s .0), not-false y (s .1))
 
--- a and b are within their limits
-b-within : (n m a b : ℕ) → false || ltb n a || ltb m b || false || false ≡ false → (a ≤ n) × (b ≤ m)
-b-within n m a b h = let s = or-none (ltb n a) (ltb m b) (or-none _ _ (or-none _ _ h .0) .0) in (ltb-false n a (s .0), ltb-false m b (s .1))
-
 -- ---- the load
 rows : Rows policyForms (λ n p r x. Bounded r → Ready p → Ready x) policyKinds
-unfolding policyKinds policyForms formOf outOfRange above userNext roleNext permissionChecks permissionNext assignChecks assignNext giveChecks giveNext taskChecks taskNext openToChecks openToNext carriesChecks carriesNext staticChecks staticNext dynamicChecks dynamicNext taskSetChecks taskSetNext blockChecks blockNext banChecks banNext mostChecks mostNext bindChecks bindNext beforeChecks beforeNext raiseChecks raiseNext
+unfolding policyKinds policyForms formOf outOfRange above userNext roleNext permissionChecks permissionNext assignChecks assignNext giveChecks giveNext taskChecks taskNext openToChecks openToNext carriesChecks carriesNext staticChecks staticNext dynamicChecks dynamicNext taskSetChecks taskSetNext blockChecks blockNext banChecks banNext mostChecks mostNext bindChecks bindNext beforeChecks beforeNext raiseChecks raiseNext wallChecks wallNext
 rows =
     (λ p r g c w i. record {
       people = joins (p .people) (i .people) (r .a) empty (let l = a-within 1023 (r .a) false g in omega arith) (λ q e. absurd (false≢true (sym (has-empty q) ∙ e)));
@@ -60,6 +56,7 @@ rows =
       permissions = i .permissions;
       tasks = i .tasks;
       rules = i .rules;
+      walls = i .walls;
     })
     ⨾ (λ p r g c w i. record {
       people = more-roles (p .people) (i .people) (r .a) (let l = a-within 63 (r .a) false g in omega arith);
@@ -67,6 +64,7 @@ rows =
       permissions = permissions-more _ _ _ (r .a) (i .permissions);
       tasks = tasks-more _ _ (r .a) (i .tasks);
       rules = rules-more _ _ _ (r .a) (i .rules);
+      walls = i .walls;
     })
     ⨾ (λ p r g c w i. record {
       people = i .people;
@@ -74,6 +72,7 @@ rows =
       permissions = declares _ _ _ (i .permissions) (r .a) (r .b) (r .c) (let l = a-within 255 (r .a) false g in omega arith) (w .0) (w .1) (c .0);
       tasks = i .tasks;
       rules = i .rules;
+      walls = i .walls;
     })
     ⨾ (λ p r g c w i. let k = two-known (p .people .users (r .a)) (has (p .people .roles) (r .b)) (c .0) in record {
       people = gains (p .people) (i .people) (r .a) (r .b) (k .0) (k .1);
@@ -81,6 +80,7 @@ rows =
       permissions = i .permissions;
       tasks = i .tasks;
       rules = i .rules;
+      walls = i .walls;
     })
     ⨾ (λ p r g c w i. let k = two-known (has (p .people .roles) (r .a)) (there (p .permissions .declared (r .b))) (c .0) in record {
       people = i .people;
@@ -88,6 +88,7 @@ rows =
       permissions = gives _ _ _ (i .permissions) (r .a) (r .b) (k .0) (k .1);
       tasks = i .tasks;
       rules = i .rules;
+      walls = i .walls;
     })
     ⨾ (λ p r g c w i.
     let z = taskNext p (r .a) (r .b) .tasks in
@@ -101,6 +102,7 @@ rows =
       permissions = permissions-grow (p .tasks) z grown _ _ (i .permissions);
       tasks = task-new _ _ (i .tasks) (r .a) (r .b) (omega arith) (omega arith) (c .0);
       rules = rules-grow (p .tasks) z grown _ _ (i .rules);
+      walls = i .walls;
     })
     ⨾ (λ p r g c w i. let k = two-known (there (p .tasks .template (r .a))) (has (p .people .roles) (r .b)) (c .0) in record {
       people = i .people;
@@ -108,6 +110,7 @@ rows =
       permissions = i .permissions;
       tasks = opens _ _ (i .tasks) (r .a) (r .b) (k .0) (k .1);
       rules = rules-grow (p .tasks) (openToNext p (r .a) (r .b) .tasks) (λ t j e. e) _ _ (i .rules);
+      walls = i .walls;
     })
     ⨾ (λ p r g c w i. let k = two-known (there (p .tasks .template (r .a))) (there (p .permissions .declared (r .b))) (c .0) in record {
       people = i .people;
@@ -115,6 +118,7 @@ rows =
       permissions = carries _ _ _ (i .permissions) (r .a) (r .b) (k .0) (k .1);
       tasks = i .tasks;
       rules = i .rules;
+      walls = i .walls;
     })
     ⨾ (λ p r g c w i. record {
       people = i .people;
@@ -122,6 +126,7 @@ rows =
       permissions = i .permissions;
       tasks = i .tasks;
       rules = with-statics _ _ _ (i .rules) (aLimit r) (not-false _ (c .0), c .1 .0, c .1 .1 .0, c .1 .1 .1 .1 .0, w .2);
+      walls = i .walls;
     })
     ⨾ (λ p r g c w i. record {
       people = i .people;
@@ -129,6 +134,7 @@ rows =
       permissions = i .permissions;
       tasks = i .tasks;
       rules = with-dynamics _ _ _ (i .rules) (aLimit r) (not-false _ (c .0), c .1 .0, c .1 .1 .0, c .1 .1 .1 .0, w .2);
+      walls = i .walls;
     })
     ⨾ (λ p r g c w i. let q = or-none (illMade (r .n) (r .m)) (not (oneTemplate (p .tasks) (r .m))) (c .1 .1 .0) in record {
       people = i .people;
@@ -136,6 +142,7 @@ rows =
       permissions = i .permissions;
       tasks = i .tasks;
       rules = with-task-sets _ _ _ (i .rules) (aLimit r) (not-false _ (c .0), c .1 .0, q .0, not-false _ (q .1), c .1 .1 .1 .0, w .2);
+      walls = i .walls;
     })
     ⨾ (λ p r g c w i.
     let l = a-within 15 (r .a) false g in
@@ -148,6 +155,7 @@ rows =
       permissions = i .permissions;
       tasks = i .tasks;
       rules = with-blocks _ _ _ (i .rules) (aBlock r) (omega arith, not-false _ (c .0), c .1 .0, o .0, not-false _ (o .1), q .1, c .1 .1 .1 .0);
+      walls = i .walls;
     })
     ⨾ (λ p r g c w i. record {
       people = i .people;
@@ -155,6 +163,7 @@ rows =
       permissions = i .permissions;
       tasks = bans _ _ (i .tasks) (r .a) (let l = a-within 15 (r .a) false g in omega arith) (not-false _ (c .0));
       rules = rules-grow (p .tasks) (banNext p (r .a) .tasks) (λ t j e. e) _ _ (i .rules);
+      walls = i .walls;
     })
     ⨾ (λ p r g c w i. record {
       people = i .people;
@@ -162,6 +171,7 @@ rows =
       permissions = i .permissions;
       tasks = limits _ _ (i .tasks) (r .a) (r .n) (not-false _ (c .0)) (c .1 .1 .0);
       rules = rules-grow (p .tasks) (mostNext p (r .n) (r .a) .tasks) (λ t j e. e) _ _ (i .rules);
+      walls = i .walls;
     })
     ⨾ (λ p r g c w i. record {
       people = i .people;
@@ -169,6 +179,7 @@ rows =
       permissions = i .permissions;
       tasks = i .tasks;
       rules = with-bindings _ _ _ (i .rules) (aPair r) (a-pair (p .tasks) (r .a) (r .b) (c .0) (c .1 .1 .0), c .1 .0, c .1 .1 .1 .0);
+      walls = i .walls;
     })
     ⨾ (λ p r g c w i. record {
       people = i .people;
@@ -176,6 +187,7 @@ rows =
       permissions = i .permissions;
       tasks = i .tasks;
       rules = with-befores _ _ _ (i .rules) (aPair r) (a-pair (p .tasks) (r .a) (r .b) (c .0) (c .1 .1 .0), c .1 .0, c .1 .1 .1 .0);
+      walls = i .walls;
     })
     ⨾ (λ p r g c w i.
     let k = two-known (has (p .people .roles) (r .a)) (has (p .people .roles) (r .b)) (c .0) in
@@ -186,6 +198,19 @@ rows =
       permissions = i .permissions;
       tasks = i .tasks;
       rules = i .rules;
+      walls = i .walls;
+    })
+    ⨾ (λ p r g c w i.
+    let l = b-within 15 15 (r .a) (r .b) g in
+    let la = l .0 in
+    let lb = l .1 in
+    record {
+      people = i .people;
+      ranks = i .ranks;
+      permissions = i .permissions;
+      tasks = i .tasks;
+      rules = i .rules;
+      walls = prefixed-add WallOk (p .walls) (aWalled r) (i .walls) (omega arith, omega arith, w .1, c .0, c .1 .0, c .1 .1 .0);
     })
     ⨾ tt
 
@@ -219,6 +244,7 @@ ready-start = record {
     most = λ t n e. absurd (none-just n e);
   };
   rules = record { statics = tt; dynamics = tt; taskSets = tt; blocks = tt; bindings = tt; befores = tt };
+  walls = tt;
 }
 
 ready-filled : (p : Policy) (rs : List Record) → Accepted p rs → Every Bounded rs → Ready p → Ready (filled p rs)
@@ -252,7 +278,7 @@ all-bounded (suc n) s h =
 
 -- ---- requests
 lower-rows : Rows lowerForms (λ n t r x. Ready (t .policy) → Ready (x .policy)) lowerKinds
-unfolding lowerKinds roleKinds sessionKinds lowerForms formOf outOfRange above joinChecks joinNext assignChecks assignNext giveChecks giveNext deleteNext takeBackChecks takeBackNext withdrawNext
+unfolding lowerKinds roleKinds sessionKinds lowerForms formOf outOfRange above joinChecks joinNext assignChecks assignNext giveChecks giveNext deleteNext userGone takeBackChecks takeBackNext withdrawNext
 lower-rows =
     (λ t r g c i. with-people _ i _ _ (joins _ (i .people) (r .a) (r .m) (let l = a-within 1023 (r .a) false g in omega arith)
     (λ q e. within-has (r .m) _ q (not-false _ (c .0)) e)))
@@ -265,11 +291,11 @@ lower-rows =
     ⨾ (λ t r g c i. let k = two-known (has (t .policy .people .roles) (r .a)) (there (t .policy .permissions .declared (r .b))) (c .0) in
     with-permissions _ i _ (gives _ _ _ (i .permissions) (r .a) (r .b) (k .0) (k .1)))
     ⨾ (λ t r g c i. with-permissions _ i _ (withdraws _ _ _ (i .permissions) (r .a) (r .b)))
-    ⨾ (λ t r g c i. i) ⨾ (λ t r g c i. i) ⨾ (λ t r g c i. i) ⨾ (λ t r g c i. i) ⨾ (λ t r g c i. i)
+    ⨾ (λ t r g c i. i) ⨾ (λ t r g c i. i) ⨾ (λ t r g c i. i) ⨾ (λ t r g c i. i) ⨾ (λ t r g c i. i) ⨾ (λ t r g c i. i)
     ⨾ tt
 
 upper-rows : Rows requestForms (λ n t r x. Ready (t .lower .policy) → Ready (x .lower .policy)) upperKinds
-unfolding upperKinds deleteNext openNext endNext claimNext releaseNext doneNext
+unfolding upperKinds deleteNext userGone openNext endNext claimNext releaseNext doneNext
 upper-rows =
     (λ t r g c i. with-people _ i _ _ (leaves _ (i .people) (r .a)))
     ⨾ (λ t r g c i. i) ⨾ (λ t r g c i. i) ⨾ (λ t r g c i. i) ⨾ (λ t r g c i. i) ⨾ (λ t r g c i. i) ⨾ (λ t r g c i. i) ⨾ (λ t r g c i. i) ⨾ (λ t r g c i. i) ⨾ (λ t r g c i. i)
@@ -306,7 +332,8 @@ all-runs p h hold =
     (run-then _ _ p _ _ (run-15 p h bare-hold)
     (run-then _ _ p _ _ (run-16 p h bare-hold)
     (run-then _ _ p _ _ (run-17 p h hold start)
-    (run-none p p refl)))))))))))))))))
+    (run-then _ _ p _ _ (run-18 p h)
+    (run-none p p refl))))))))))))))))))
 
 pub loads-again : LoadsAgain
 unfolding written

@@ -400,7 +400,7 @@ a-pair k a b known well =
 -- ---- one group anew, the declared roles staying
 pub with-people : (p : Policy) → Ready p → (users : ℕ → Bool) (assigned : ℕ → Set) → PeopleReady (folk users (p .people .roles) assigned)
     → Ready (withPeople p (folk users (p .people .roles) assigned))
-with-people p i users assigned q = record { people = q; ranks = i .ranks; permissions = i .permissions; tasks = i .tasks; rules = i .rules }
+with-people p i users assigned q = record { people = q; ranks = i .ranks; permissions = i .permissions; tasks = i .tasks; rules = i .rules; walls = i .walls }
 
 pub with-permissions : (p : Policy) → Ready p → (x : Permissions) → PermissionsReady (p .people .roles) (p .tasks .template) x → Ready (withPermissions p x)
-with-permissions p i x q = record { people = i .people; ranks = i .ranks; permissions = q; tasks = i .tasks; rules = i .rules }
+with-permissions p i x q = record { people = i .people; ranks = i .ranks; permissions = q; tasks = i .tasks; rules = i .rules; walls = i .walls }

@@ -7,8 +7,8 @@ use lib.Dec.{eqb, leb}
 use Rattle.paper_lower.specs.Sets.{Set, empty, has, union, meets, within}
 use Rattle.paper_lower.specs.Lists.{Maybe, there, some, many}
 use Rattle.paper_lower.specs.Lists.Maybe.{just}
-use Rattle.paper_lower.specs.Tables.{Limit, Block, Pair, People, Seniority, Permission, Permissions, Tasks, Rules, Policy}
-use Rattle.paper_lower.specs.Policy.{declaredTasks, hasTask, oneTemplate, together, sameLimit, sameBlock, samePair, illMade, partitioned, raisings}
+use Rattle.paper_lower.specs.Tables.{Limit, Block, Pair, People, Seniority, Permission, Permissions, Tasks, Rules, Walled, Policy}
+use Rattle.paper_lower.specs.Policy.{declaredTasks, hasTask, oneTemplate, together, sameLimit, sameBlock, samePair, illMade, partitioned, raisings, blockOf, another, sameWalled}
 use Rattle.theorems.proofs.Ranks.{Ranked}
 use Rattle.theorems.proofs.WrittenRuns.{Prefixed}
 
@@ -78,9 +78,19 @@ pub record RulesReady (roles : Set) (k : Tasks) (ru : Rules) : Type 0 where
   pub bindings : Prefixed (BindingOk k) [] (ru .bindings)
   pub befores : Prefixed (BeforeOk k) [] (ru .befores)
 
+abbrev pub WallOk : List Walled → Walled → Type 0
+WallOk acc x =
+    (x .wall < 16)
+    × (x .block < 16)
+    × (x .object < 65536)
+    × (some (sameWalled (x .wall) (x .block) (x .object)) acc ≡ false)
+    × (another (x .block) (blockOf acc (x .object) (x .wall)) ≡ false)
+    × (leb 256 (many acc) ≡ false)
+
 pub record Ready (p : Policy) : Type 0 where
   pub people : PeopleReady (p .people)
   pub ranks : RanksReady (p .people .roles) (p .seniority)
   pub permissions : PermissionsReady (p .people .roles) (p .tasks .template) (p .permissions)
   pub tasks : TasksReady (p .people .roles) (p .tasks)
   pub rules : RulesReady (p .people .roles) (p .tasks) (p .rules)
+  pub walls : Prefixed WallOk [] (p .walls)

@@ -1,4 +1,4 @@
--- What is written of rules, bans and limits that are ready leads to them.
+-- What is written of rules, bans, limits and walls that are ready leads to them.
 use Prim.Native.Nat.{ℕ, _<_, _≤_, _^_, _%_}
 use mathlib.Core.Path.{_≡_, refl, ap, subst, _∙_}
 use mathlib.Core.Bool.{Bool, true, false, not, _&&_}
@@ -9,8 +9,8 @@ use Rattle.paper_lower.specs.Sets.{Set, has, overlap, within}
 use Rattle.paper_lower.specs.Lists.{someBelow, Maybe, holds, there, add, each, Every}
 use Rattle.paper_lower.specs.Forms.{policyForms, formOf, misplaced, above, misshapen, outOfRange}
 use Rattle.paper_lower.specs.Kinds.{chosen}
-use Rattle.paper_lower.specs.Tables.{Limit, Block, Pair, People, Permissions, Tasks, Rules, Policy}
-use Rattle.paper_lower.specs.Policy.{down, breaks, declaredTasks, tasksOf, hasTask, oneTemplate, staticChecks, staticNext, dynamicChecks, dynamicNext, taskSetChecks, taskSetNext, blockChecks, blockNext, banChecks, banNext, mostChecks, mostNext, bindChecks, bindNext, beforeChecks, beforeNext, policyKinds}
+use Rattle.paper_lower.specs.Tables.{Limit, Block, Pair, People, Permissions, Tasks, Rules, Policy, withWalls}
+use Rattle.paper_lower.specs.Policy.{down, breaks, declaredTasks, tasksOf, hasTask, oneTemplate, staticChecks, staticNext, dynamicChecks, dynamicNext, taskSetChecks, taskSetNext, blockChecks, blockNext, banChecks, banNext, mostChecks, mostNext, bindChecks, bindNext, beforeChecks, beforeNext, wallChecks, wallNext, policyKinds}
 use Rattle.paper_lower.specs.Records.{Record}
 use Rattle.paper_lower.specs.Written.{inTurn, when, ofThere, row}
 use Rattle.paper_lower.proofs.ListLaws.{and-false, below-none, every-pull}
@@ -19,7 +19,7 @@ use Rattle.sets.proofs.DownLaws.{down-alone}
 use Rattle.theorems.proofs.Loads.{step}
 use Rattle.theorems.proofs.Roles.{Within}
 use Rattle.theorems.proofs.WrittenRuns.{Clean, Run, Prefixed, nowhere, run-marks, run-theres, run-rules, mix-from}
-use Rattle.theorems.proofs.WrittenReady.{SetOk, TaskSetOk, BlockOk, BindingOk, BeforeOk, Ready}
+use Rattle.theorems.proofs.WrittenReady.{SetOk, TaskSetOk, BlockOk, BindingOk, BeforeOk, WallOk, Ready}
 use Rattle.theorems.proofs.WrittenStages.{whole, work, no, unranked, no-mark, no-there, role-small, task-small}
 
 -- something more of every one
@@ -248,3 +248,24 @@ module _ (p : Policy) (h : Ready p) (hold : (u : ℕ) → Within (p .rules .stat
         refl,
       ))
       [] (ru .befores) (h .rules .befores)
+
+-- ---- 18: walls, last of all
+pub run-18 : (p : Policy) → Ready p → Run (withWalls p []) (each (λ y. row 18 0 (y .wall) (y .block) (y .object) 0) (p .walls)) p
+unfolding chosen policyKinds wallChecks wallNext policyForms formOf misshapen misplaced outOfRange above
+run-18 p h =
+    run-rules (λ acc. withWalls p acc) WallOk (λ y. row 18 0 (y .wall) (y .block) (y .object) 0)
+    (λ acc y q.
+    let la = q .0 in
+    let lb = q .1 in (
+      record {
+        a = omega arith;
+        b = omega arith;
+        c = q .2;
+        m = omega arith;
+        shape = refl;
+        range = rw (le-ltb 15 (y .wall) (omega arith), le-ltb 15 (y .block) (omega arith)) refl;
+        checks = (q .3, (q .4, (q .5, tt)));
+      },
+      refl,
+    ))
+    [] (p .walls) (h .walls)

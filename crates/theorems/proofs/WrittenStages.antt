@@ -19,8 +19,9 @@ use Rattle.sets.proofs.SetLaws.{has-empty, same-members, collect-above}
 use Rattle.theorems.proofs.WrittenRuns.{Run, run-turns, run-when, run-as, bare, nowhere, run-marks, run-theres, run-rows, run-columns, mix, mix-below, mix-from, upd-idle, collect-next, collect-skip, collect-all}
 use Rattle.theorems.proofs.WrittenReady.{Ready}
 
+-- (walls come last of all)
 abbrev pub whole : People → Seniority → Permissions → Tasks → Rules → Policy
-whole x s k t ru = record { people = x; seniority = s; permissions = k; tasks = t; rules = ru }
+whole x s k t ru = record { people = x; seniority = s; permissions = k; tasks = t; rules = ru; walls = [] }
 
 abbrev pub folk : (ℕ → Bool) → Set → (ℕ → Set) → People
 folk users roles assigned = record { users = users; roles = roles; assigned = assigned }

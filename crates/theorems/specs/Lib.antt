@@ -12,3 +12,4 @@ pub mod Written
 pub mod Stuck
 pub mod Mending
 pub mod Listing
+pub mod Walls

@@ -1,16 +1,21 @@
--- 01's listing read from outside, by computing: after its ninth request task 0 is done by user 300, and subject 6 holds task 1 for user 301.
+-- 01's listing read from outside, by computing: after its ninth request task 0 is done by user 300, and subject 6 holds task 1 for user 301. And the commits of
+-- a clerk (02, Ask 11).
 use mathlib.Core.Path.{_≡_, refl}
 use mathlib.Core.List.{[], _∷_}
 use lib.ListN.{take}
-use Rattle.paper_lower.specs.Words.{joined, wordsOpen}
-use Rattle.paper_lower.specs.Load.{recordsFrom, recordsOf}
-use Rattle.paper_lower.specs.Sessions.{lowerOpen}
+use Rattle.paper_lower.specs.Kinds.{run}
+use Rattle.paper_lower.specs.Words.{joined, wordsOpen, addUser, deleteUser, create, destroy, commit}
+use Rattle.paper_lower.specs.Load.{load, recordsFrom, recordsOf}
+use Rattle.paper_lower.specs.Sessions.{lowerRequest, lowerOf, lowerOpen}
+use Rattle.paper_lower.specs.Samples.{books}
 use Rattle.paper_upper.specs.Orders.{entry, ordersOpen}
 use Rattle.paper_upper.specs.Orders.Standing.{held, done}
 use Rattle.paper_upper.specs.PTable.{listing}
 use Rattle.paper_upper.specs.Requests.{turned}
 use Rattle.theorems.specs.Outside.{nothing, telling, hear, hearAll, followed, outside}
 use Rattle.theorems.specs.InUse.{noTally, counting, count, inUse}
+use Rattle.theorems.specs.Walls as walls
+use Rattle.theorems.specs.Walls.{noCommits, committing, committed}
 
 pub after-nine : outside (joined (listing .policy)) (take 9 (listing .requests)) .orders .entries ≡ entry 0 301 1 (held 6) ∷ entry 0 300 0 done ∷ []
 unfolding lowerOpen ordersOpen wordsOpen listing recordsFrom recordsOf nothing telling hear hearAll followed outside turned
@@ -24,3 +29,12 @@ in-use-then = refl
 pub in-use-last : inUse (listing .requests) ≡ 0
 unfolding lowerOpen listing followed noTally counting count inUse
 in-use-last = refl
+
+-- both subjects' commits are user 300's, a refused one is none, and who is added again begins anew
+pub one-clerk : committed (run lowerRequest (lowerOf (load (joined books) .tables)) (create 5 300 1 ∷ create 6 300 1 ∷ commit 5 1 7 ∷ commit 6 1 8 ∷ commit 6 1 20 ∷ [])) .objects 300 ≡ 20 ∷ 7 ∷ []
+unfolding lowerOpen wordsOpen books followed noCommits committing walls.commit
+one-clerk = refl
+
+pub added-again : committed (run lowerRequest (lowerOf (load (joined books) .tables)) (create 5 300 1 ∷ commit 5 1 7 ∷ destroy 5 ∷ deleteUser 300 ∷ addUser 300 ∷ [])) .objects 300 ≡ []
+unfolding lowerOpen wordsOpen books followed noCommits committing walls.commit
+added-again = refl

@@ -3,32 +3,41 @@ use Prim.Native.Nat.{ℕ}
 use mathlib.Core.Bool.{Bool, true, false, not}
 use mathlib.Core.List.{List, [], _∷_}
 use Rattle.paper_lower.specs.Sets.{Set, empty, plus, minus}
-use Rattle.paper_lower.specs.Lists.{upd, Maybe, keep, each}
+use Rattle.paper_lower.specs.Lists.{upd, Maybe, orElse, add, keep, each}
 use Rattle.paper_lower.specs.Lists.Maybe.{none, just}
 use Rattle.paper_lower.specs.Checks.{granted}
 use Rattle.paper_lower.specs.Records.{Bytes, Record, decode}
 use Rattle.paper_lower.specs.Kinds.{Kind, on, chosen, Said}
-use Rattle.paper_lower.specs.Tables.{Sessions, noSessions}
+use Rattle.paper_lower.specs.Tables.{Walled, Sessions, noSessions, withBoundTo}
+use Rattle.paper_lower.specs.Policy.{blockOf}
 use Rattle.paper_lower.specs.Load.{recordsOf}
 use Rattle.paper_upper.specs.Orders.{Entry, entry, Orders, noOrders, inOrder, heldBy}
 use Rattle.paper_upper.specs.Orders.Standing.{held}
 use Rattle.paper_upper.specs.Requests.{turned}
 
--- the users' assigned roles; each live subject's user, its active roles and all that it has had active; the open orders, each with its template, and their entries
+-- the users' assigned roles; the objects that stand in walls; each live subject's user, its active roles and all that it has had active, and the block that
+-- each user is bound to in each wall; the open orders, each with its template, and their entries
 pub record Told : Type 0 where
   pub assigned : ℕ → Set
+  pub walls : List Walled
   pub sessions : Sessions
   pub orders : Orders
 
 unfoldable pub nothing : Told
-nothing = record { assigned = λ _. empty; sessions = noSessions; orders = noOrders }
+nothing = record { assigned = λ _. empty; walls = []; sessions = noSessions; orders = noOrders }
 
 -- ---- One of them anew.
 abbrev pub toldRoles : Told → ℕ → Set → Told
-toldRoles x u m = record { assigned = upd (x .assigned) u m; sessions = x .sessions; orders = x .orders }
+toldRoles x u m = record { assigned = upd (x .assigned) u m; walls = x .walls; sessions = x .sessions; orders = x .orders }
+
+abbrev pub toldWalls : Told → List Walled → Told
+toldWalls x walls = record { assigned = x .assigned; walls = walls; sessions = x .sessions; orders = x .orders }
 
 abbrev pub toldSessions : Told → Sessions → Told
-toldSessions x s = record { assigned = x .assigned; sessions = s; orders = x .orders }
+toldSessions x s = record { assigned = x .assigned; walls = x .walls; sessions = s; orders = x .orders }
+
+abbrev pub toldBound : Told → ℕ → (ℕ → Maybe ℕ) → Told
+toldBound x u blocks = toldSessions x (withBoundTo (x .sessions) (upd (x .sessions .boundTo) u blocks))
 
 abbrev pub toldSubject : Told → ℕ → Bool → ℕ → Set → Told
 toldSubject x s live user roles =
@@ -38,13 +47,15 @@ toldSubject x s live user roles =
       user = upd (x .sessions .user) s user;
       active = upd (x .sessions .active) s roles;
       had = upd (x .sessions .had) s roles;
+      boundTo = x .sessions .boundTo;
     })
 
 abbrev pub toldActive : Told → (ℕ → Set) → (ℕ → Set) → Told
-toldActive x active had = toldSessions x (record { live = x .sessions .live; user = x .sessions .user; active = active; had = had })
+toldActive x active had =
+    toldSessions x (record { live = x .sessions .live; user = x .sessions .user; active = active; had = had; boundTo = x .sessions .boundTo })
 
 abbrev pub toldOrders : Told → (ℕ → Maybe ℕ) → List Entry → Told
-toldOrders x f es = record { assigned = x .assigned; sessions = x .sessions; orders = record { opened = f; entries = es } }
+toldOrders x f es = record { assigned = x .assigned; walls = x .walls; sessions = x .sessions; orders = record { opened = f; entries = es } }
 
 abbrev pub toldEntries : Told → List Entry → Told
 toldEntries x es = toldOrders x (x .orders .opened) es
@@ -55,10 +66,10 @@ tells k f = on k (λ x r. []) f
 
 unfoldable pub telling : List (Kind Told)
 telling =
-    -- "1 user a." "33 delete user a.": no roles. "kind 32 now takes roles in m"
+    -- "1 user a." "33 delete user a.": no roles. "kind 32 now takes roles in m". 02, Ask 11: "Deleting a user forgets the binding"
     tells 1 (λ x r. toldRoles x (r .a) empty)
     ∷ tells 32 (λ x r. toldRoles x (r .a) (r .m))
-    ∷ tells 33 (λ x r. toldRoles x (r .a) empty)
+    ∷ tells 33 (λ x r. toldBound (toldRoles x (r .a) empty) (r .a) (λ _. none))
     -- "4 user a has role b." "34 assign role b to user a. 35 take it back."
     ∷ tells 4 (λ x r. toldRoles x (r .a) (plus (x .assigned (r .a)) (r .b)))
     ∷ tells 34 (λ x r. toldRoles x (r .a) (plus (x .assigned (r .a)) (r .b)))
@@ -79,6 +90,11 @@ telling =
     ∷ tells 50 (λ x r. toldEntries x (entry (r .b) (x .sessions .user (r .a)) (r .c) (held (r .a)) ∷ x .orders .entries))
     ∷ tells 51 (λ x r. toldEntries x (keep (λ e. not (heldBy (r .b) (r .c) (r .a) e)) (x .orders .entries)))
     ∷ tells 52 (λ x r. toldEntries x (each (turned (r .b) (r .c) (r .a)) (x .orders .entries)))
+    -- 02, Ask 11: "policy kind 18, wall a (0 to 15), block b (0 to 15), object c"; "Request kind 59, commit": "if granted, the user is bound to the object's
+    -- block in every wall that has it"
+    ∷ tells 18 (λ x r. toldWalls x (add (x .walls) (record { wall = r .a; block = r .b; object = r .c })))
+    ∷ tells 59 (λ x r.
+    toldBound x (x .sessions .user (r .a)) (λ w. orElse (blockOf (x .walls) (r .c) w) (x .sessions .boundTo (x .sessions .user (r .a)) w)))
     ∷ []
 
 unfoldable pub hear : Told → Record → Told

@@ -5,7 +5,7 @@ use mathlib.Core.Bool.{Bool, true, false, cond, _&&_, _||_}
 use mathlib.Core.List.{List, [], _∷_, _++_}
 use lib.Dec.{eqb, leb}
 use Rattle.paper_lower.specs.Lists.{some, Every}
-use Rattle.paper_lower.specs.Checks.{Check, GRANTED, SHAPE, UNKNOWN, RULE, FULL, LOOP}
+use Rattle.paper_lower.specs.Checks.{Check, GRANTED, SHAPE, UNKNOWN, RULE, DENIED, FULL, LOOP, WALL}
 use Rattle.paper_lower.specs.Records.{Bytes, Record, decode}
 use Rattle.paper_lower.specs.Forms.{Form, policyForms, lowerForms, requestForms, formChecks}
 use Rattle.paper_lower.specs.Kinds.{Kind, chosen, answer}
@@ -18,13 +18,13 @@ use Rattle.paper_upper.specs.Engine.{requestKinds, request}
 
 -- ---- "Checks run in the order of their numbers"
 
--- where a number stands among them: by its size, but "LOOP (23) after RULE" (02, Ask 7)
+-- where a number stands among them: by its size, but "LOOP (23) after RULE" (02, Ask 7) and "WALL (24), after DENIED" (Ask 11)
 unfoldable pub rank : ℕ → ℕ
-rank k = cond (eqb k LOOP) (2 * RULE + 1) (2 * k)
+rank k = cond (eqb k LOOP) (2 * RULE + 1) (cond (eqb k WALL) (2 * DENIED + 1) (2 * k))
 
--- a number of 01's table, or LOOP
+-- a number of 01's table, or LOOP, or WALL
 unfoldable pub inTable : ℕ → Bool
-inTable k = leb k FULL || eqb k LOOP
+inTable k = leb k FULL || eqb k LOOP || eqb k WALL
 
 -- numbers of the table, none before k, and none before the one that it stands behind
 unfoldable pub rising : ℕ → List Check → Bool

@@ -9,7 +9,7 @@ use lib.Dec.{eqb, leb}
 use lib.ListN.{length, take, drop}
 use Rattle.paper_lower.specs.Sets.{Set, empty, has, plus, union, meets, within}
 use Rattle.paper_lower.specs.Lists.{someBelow, some, many, each}
-use Rattle.paper_lower.specs.Checks.{Check, SHAPE, UNKNOWN, TAKEN, IN-USE, RULE, NOT-ASSIGNED, STATIC, DYNAMIC, NO-ROLE, DENIED, FULL, granted}
+use Rattle.paper_lower.specs.Checks.{Check, SHAPE, UNKNOWN, TAKEN, IN-USE, RULE, NOT-ASSIGNED, STATIC, DYNAMIC, NO-ROLE, DENIED, FULL, WALL, granted}
 use Rattle.paper_lower.specs.Records.{Bytes, Record, decode}
 use Rattle.paper_lower.specs.Forms.{policyForms, lowerForms, requestForms}
 use Rattle.paper_lower.specs.Kinds.{Kind, on, Answer, answer, run, after}
@@ -17,7 +17,7 @@ use Rattle.paper_lower.specs.Tables.{Seniority, Policy, Lower, noPolicy, withPo
 use Rattle.paper_lower.specs.Policy.{breaks, sameLimit, illMade, assignNext, staticNext, policyKinds}
 use Rattle.paper_lower.specs.Load.{Loaded, accepted, refused, policyAnswer, load, recordsOf}
 use Rattle.paper_lower.specs.Roles.{activeOf, countedOf, joinNext, takeBackNext}
-use Rattle.paper_lower.specs.Sessions.{allowed, createNext, activateNext, lowerKinds, lowerRequest}
+use Rattle.paper_lower.specs.Sessions.{allowed, wallBetween, createNext, activateNext, commitNext, lowerKinds, lowerRequest}
 use Rattle.paper_upper.specs.Orders.{isHeld, Engine, ofTask}
 use Rattle.paper_upper.specs.Rules.{ruleChecks}
 use Rattle.paper_upper.specs.Requests.{unknown, claimNext}
@@ -38,7 +38,7 @@ pub record SeniorityIsRecorded : Type 0 where
   pub engine : AfterEvery (λ policy requests. AsRecorded (recordsOf policy) (tablesAfter policy requests .lower .policy .seniority))
   pub dealers : AfterEvery (λ policy requests. AsRecorded (recordsOf policy) (lowerAfter policy requests .policy .seniority))
 
--- ---- As before: the nine kinds whose checks count roles, as they stood.
+-- ---- As before: the kinds whose checks count roles, with roles counted as they stood. (The commit of Ask 11 counts them as the check does.)
 
 -- "4 user a has role b." "34 assign role b to user a."
 unfoldable pub assignBefore : Policy → ℕ → ℕ → List Check
@@ -91,11 +91,12 @@ activateBefore t a b =
     ∷ (some (breaks (plus (countedOf (t .sessions) (t .sessions .user a)) b)) (t .policy .rules .dynamics), DYNAMIC)
     ∷ []
 
--- "56: no active role of the subject has the permission"
+-- "56: no active role of the subject has the permission", and the wall of Ask 11
 unfoldable pub checkBefore : Lower → ℕ → ℕ → ℕ → List Check
 checkBefore t a b c =
     (not (t .sessions .live a), UNKNOWN)
     ∷ (not (allowed (t .policy .permissions) (t .sessions .active a) b c), DENIED)
+    ∷ (wallBetween t (t .sessions .user a) c, WALL)
     ∷ []
 
 -- "no active role of the subject opens the task (50)"
@@ -122,6 +123,7 @@ lowerRowsBefore =
     ∷ on 40 (λ t r. createBefore t (r .a) (r .b) (r .m)) (λ t r. withSessions t (createNext (t .sessions) (r .a) (r .b) (r .m)))
     ∷ on 42 (λ t r. activateBefore t (r .a) (r .b)) (λ t r. withSessions t (activateNext (t .sessions) (r .a) (r .b)))
     ∷ on 56 (λ t r. checkBefore t (r .a) (r .b) (r .c)) (λ t r. t)
+    ∷ on 59 (λ t r. checkBefore t (r .a) (r .b) (r .c)) (λ t r. withSessions t (commitNext t (r .a) (r .c)))
     ∷ []
 
 unfoldable pub rowsBefore : List (Kind Engine)

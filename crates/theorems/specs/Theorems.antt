@@ -8,14 +8,14 @@ use Rattle.paper_lower.specs.Lists.{Maybe, many, Every}
 use Rattle.paper_lower.specs.Checks.{GRANTED, BEFORE, FULL}
 use Rattle.paper_lower.specs.Records.{Bytes, Record, decode}
 use Rattle.paper_lower.specs.Kinds.{Said, run, after}
-use Rattle.paper_lower.specs.Tables.{Seniority, Permission, Tasks, Rules, Policy, Lower}
+use Rattle.paper_lower.specs.Tables.{Seniority, Permission, Tasks, Rules, Walled, Policy, Lower}
 use Rattle.paper_lower.specs.Load.{load, recordsOf}
 use Rattle.paper_lower.specs.Sessions.{lowerRequest, lowerOf}
 use Rattle.paper_upper.specs.Orders.{Orders, Engine}
 use Rattle.paper_upper.specs.Engine.{request, engineOf}
 use Rattle.theorems.specs.Outside.{Told, hear, followed, outside}
 use Rattle.theorems.specs.OverEntries.{Rule, claimRules, RoleLimits}
-use Rattle.theorems.specs.WellMade.{WellMade, Ledger}
+use Rattle.theorems.specs.WellMade.{WellMade, WellWalled, Ledger}
 use Rattle.theorems.specs.InUse.{noTally, count, inUse}
 
 -- ---- After a policy and the requests that followed it:
@@ -49,7 +49,7 @@ AfterEvery P = (policy : Bytes) → load policy .reply ≡ GRANTED → (requests
 
 -- ---- What is told is what the tables hold.
 abbrev pub shown : Engine → Told
-shown t = record { assigned = t .lower .policy .people .assigned; sessions = t .lower .sessions; orders = t .orders }
+shown t = record { assigned = t .lower .policy .people .assigned; walls = t .lower .policy .walls; sessions = t .lower .sessions; orders = t .orders }
 
 abbrev pub ToldIsTrue : Type 0
 ToldIsTrue = AfterEvery (λ policy requests. toldAfter policy requests ≡ shown (tablesAfter policy requests))
@@ -107,10 +107,14 @@ RulesAreWellMade =
     let p = tablesAfter policy requests .lower .policy in
     WellMade (p .tasks .template) (p .tasks .most) (p .rules))
 
+abbrev pub WallsAreWellMade : Type 0
+WallsAreWellMade = AfterEvery (λ policy requests. WellWalled (tablesAfter policy requests .lower .policy .walls))
+
 abbrev pub LedgerIsSound : Type 0
 LedgerIsSound = AfterEvery (λ policy requests. Ledger (tablesAfter policy requests .orders))
 
--- "Deleting roles and changing rules after a load are not offered.": the declared roles, which stands above which, the tasks, what they carry, and the rules
+-- "Deleting roles and changing rules after a load are not offered.": the declared roles, which stands above which, the tasks, what they carry, the rules, and
+-- the walls
 pub record Fixed : Type 0 where
   pub roles : Set
   pub seniority : Seniority
@@ -118,6 +122,7 @@ pub record Fixed : Type 0 where
   pub declared : ℕ → Maybe Permission
   pub carriers : ℕ → Set
   pub rules : Rules
+  pub walls : List Walled
 
 abbrev pub fixed : Policy → Fixed
 fixed p = record {
@@ -127,6 +132,7 @@ fixed p = record {
   declared = p .permissions .declared;
   carriers = p .permissions .carriers;
   rules = p .rules;
+  walls = p .walls;
 }
 
 abbrev pub RequestsChangeNoRule : Type 0

@@ -1,4 +1,4 @@
--- What every accepted load gives, and every request keeps: rules that are well made, and a sound ledger.
+-- What every accepted load gives, and every request keeps: rules and walls that are well made, and a sound ledger.
 use Prim.Native.Nat.{ℕ, _<_, _≤_}
 use mathlib.Core.Path.{_≡_}
 use mathlib.Core.Bool.{true, false, _&&_}
@@ -6,7 +6,7 @@ use mathlib.Core.List.{List}
 use Rattle.paper_lower.specs.Sets.{Set, empty, has, size, meets}
 use Rattle.paper_lower.specs.Lists.{Maybe, there, many, keep, Every}
 use Rattle.paper_lower.specs.Lists.Maybe.{just}
-use Rattle.paper_lower.specs.Tables.{Limit, Block, Pair, Rules}
+use Rattle.paper_lower.specs.Tables.{Limit, Block, Pair, Rules, Walled}
 use Rattle.paper_upper.specs.Orders.{isHeld, Orders, ofTask}
 use Rattle.theorems.specs.OverEntries.{EveryTwo}
 
@@ -47,6 +47,15 @@ pub record WellMade (template most : ℕ → Maybe ℕ) (rules : Rules) : Type 0
   -- "15 and 16 if a = b or the templates differ"
   pub bindings : Every (Linked template) (rules .bindings)
   pub befores : Every (Linked template) (rules .befores)
+
+-- ---- The walls (02, Ask 11).
+pub record WellWalled (walls : List Walled) : Type 0 where
+  -- "wall a (0 to 15), block b (0 to 15)"
+  pub numbers : Every (λ x. (x .wall < 16) × (x .block < 16)) walls
+  -- "an object stands in at most one block of a wall": no wall has it twice
+  pub once : EveryTwo (λ x y. x .wall ≡ y .wall → x .object ≡ y .object → ⊥) walls
+  -- "at most 256 records"
+  pub room : many walls ≤ 256
 
 -- ---- The ledger.
 pub record Ledger (o : Orders) : Type 0 where

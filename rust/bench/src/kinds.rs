@@ -106,6 +106,29 @@ fn checks_of_seniors() -> Workload {
     at_desk(name, desk_of_seniors(), Vec::new(), stream.collect())
 }
 
+/// Each clerk's commit to an object of one side.
+fn committed(subject: u16) -> Record {
+    let (operation, object) = walled_pair(2 * (subject % 8));
+    Record::commit(subject, operation, object)
+}
+
+/// Access checks of objects, every other one of which stands behind the walls where there are any.
+fn checks_of_books(name: &str, policy: Policy) -> Workload {
+    let stream = (0..LENGTH).map(|number| {
+        let (operation, object) = walled_pair(turn(number * 7, WALLED));
+        Record::check(a_clerk(number), operation, object)
+    });
+    let more = (0..96).map(|number| committed(a_clerk(number))).collect();
+    at_desk(name, policy, more, stream.collect())
+}
+
+/// Commits on the side that each clerk is bound to.
+fn commits() -> Workload {
+    let stream = (0..LENGTH).map(|number| committed(a_clerk(number)));
+    let name = "59 commit, 16 walls of 16 objects";
+    at_desk(name, desk_of_walls(), Vec::new(), stream.collect())
+}
+
 /// A thousand held tasks: the one that is held longest is released and claimed again.
 fn oldest_first() -> Workload {
     let held = || {
@@ -136,7 +159,7 @@ fn ill_formed(number: usize) -> [Record; 2] {
     [Record::new(99, 0, user, 0, 0, 0), Record::add_user(user)]
 }
 
-/// Every kind but the access check, which has a table of its own; that one with senior roles.
+/// Every kind but the access check, which has a table of its own; that one with senior roles and with walls.
 pub fn kinds() -> Vec<Workload> {
     let plainly = |name, pair| at_desk(name, desk(), Vec::new(), pairs(pair));
     let all_rules = |name, pair| at_desk(name, desk_of_all_rules(), Vec::new(), pairs(pair));
@@ -165,6 +188,9 @@ pub fn kinds() -> Vec<Workload> {
         claims("50, 51 the same, 64 roles above others", desk_of_seniors()),
         oldest_first(),
         checks_of_seniors(),
+        checks_of_books("56 check of 16 objects", desk_of_books()),
+        checks_of_books("56 the same, 16 walls of these objects", desk_of_walls()),
+        commits(),
         task_checks(),
         plainly("refused by SHAPE or RANGE", ill_formed),
     ]

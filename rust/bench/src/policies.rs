@@ -143,6 +143,7 @@ fn add_tasks(policy: &mut Policy) {
     policy.add_all((0..8).map(|i| Record::dynamic_set(1, pair_of(i, i + 32))));
     // Of roles that no set has.
     policy.add_all((0..16).map(|i| Record::role_above(40 + i, 8 + i)));
+    policy.add_all((0..16).map(|i| Record::wall(i, i / 2, 100 + i)));
 }
 
 /// A policy of 4,096 records of every kind: what `People` has, tasks and rules, and assignments for the rest.
@@ -235,6 +236,33 @@ pub fn desk_of_seniors() -> Policy {
     policy
         .add_all([(CLERK, 10), (CLERK, 20), (CASHIER, 40)].map(|(a, b)| Record::role_above(a, b)));
     policy.add(Record::role_has_permission(LOWEST, CARRIED));
+    policy
+}
+
+/// How many objects the walls have, each of them in all walls.
+pub const WALLED: u16 = 16;
+
+/// The pair of a walled object.
+pub const fn walled_pair(object: u16) -> (u16, u16) {
+    (7, 300 + 37 * object)
+}
+
+/// The desk with permissions of its own for the objects of walls, which clerks have.
+pub fn desk_of_books() -> Policy {
+    let mut policy = desk();
+    for object in 0..WALLED {
+        let (operation, number) = walled_pair(object);
+        policy.add(Record::permission(object, operation, number));
+        policy.add(Record::role_has_permission(CLERK, object));
+    }
+    policy
+}
+
+/// The same with as many objects in walls as there is room for, every other one on one side of each.
+pub fn desk_of_walls() -> Policy {
+    let mut policy = desk_of_books();
+    let every = (0..16).flat_map(|wall| (0..WALLED).map(move |object| (wall, object)));
+    policy.add_all(every.map(|(wall, o)| Record::wall(wall, o % 2, walled_pair(o).1)));
     policy
 }
 

@@ -4,10 +4,10 @@
 use bench::{checks, day, day_among, kinds, load, Race, Workload};
 
 /// How many records of a workload are answered with each reply, after some passes on which all engines agreed.
-fn replies(workload: &Workload) -> [usize; 21] {
+fn replies(workload: &Workload) -> [usize; 25] {
     let mut race = Race::new(workload).expect("all engines take what comes before");
     race.run(3).expect("all engines agree");
-    let mut counts = [0; 21];
+    let mut counts = [0; 25];
     for &reply in race.replies() {
         counts[usize::from(reply)] += 1;
     }
@@ -16,7 +16,7 @@ fn replies(workload: &Workload) -> [usize; 21] {
 
 fn seen(workload: &Workload) -> Vec<usize> {
     let counts = replies(workload);
-    (0..21).filter(|&reply| counts[reply] > 0).collect()
+    (0..25).filter(|&reply| counts[reply] > 0).collect()
 }
 
 const GRANTED: usize = 0;
@@ -48,7 +48,7 @@ fn the_largest_policy_is_accepted() {
     let mut used: Vec<u8> = workload.policy.iter().map(|record| record.kind()).collect();
     used.sort_unstable();
     used.dedup();
-    assert_eq!(used, (1..=17).collect::<Vec<u8>>());
+    assert_eq!(used, (1..=18).collect::<Vec<u8>>());
     Race::new(&workload)
         .and_then(|mut race| race.run(2))
         .unwrap();
@@ -59,6 +59,7 @@ fn kinds_are_granted_but_where_refusals_are_timed() {
     for workload in kinds() {
         let expected: &[usize] = match workload.name.as_str() {
             "56 check, by a role 32 below the active one" => &[GRANTED, 13],
+            "56 the same, 16 walls of these objects" => &[GRANTED, 24],
             "57 task check" => &[GRANTED, 12, 13],
             "refused by SHAPE or RANGE" => &[2, 3],
             _ => &[GRANTED],

@@ -62,7 +62,7 @@ impl Pools {
         let tasks = members(random, &self.tasks);
         let roles = members(random, &self.roles);
         let (senior, junior) = (random.pick(&self.roles), random.pick(&self.roles));
-        match random.below(19) {
+        match random.below(20) {
             0 | 1 => Record::static_set(limit(random, roles), roles),
             2 | 3 => Record::dynamic_set(limit(random, roles), roles),
             4 | 5 => Record::task_set(limit(random, tasks), tasks),
@@ -71,12 +71,19 @@ impl Pools {
             10 | 11 => Record::at_most(one, random.pick(&[0, 1, 1, 1, 2, 2, 3, 255])),
             12 | 13 => Record::bound(one, other),
             14 | 15 => Record::before(one, other),
-            _ => Record::role_above(senior, junior),
+            16..=18 => Record::role_above(senior, junior),
+            _ => self.wall(random),
         }
     }
 
+    /// An object in a block of a wall.
+    pub fn wall(&self, random: &mut Random) -> Record {
+        let (wall, block) = (random.pick(&self.walls), random.pick(&self.blocks));
+        Record::wall(wall, block, random.pick(&self.objects))
+    }
+
     /// A request about users, roles and permissions.
-    fn people(&self, random: &mut Random) -> Record {
+    pub fn people(&self, random: &mut Random) -> Record {
         let (user, role) = (random.pick(&self.users), random.pick(&self.roles));
         let permission = random.pick(&self.permissions);
         match random.below(10) {
@@ -91,10 +98,10 @@ impl Pools {
     }
 
     /// A request about subjects.
-    fn session(&self, random: &mut Random) -> Record {
+    pub fn session(&self, random: &mut Random) -> Record {
         let (subject, role) = (random.pick(&self.subjects), random.pick(&self.roles));
         let (operation, object) = (random.pick(&self.operations), random.pick(&self.objects));
-        match random.below(10) {
+        match random.below(11) {
             0..=3 => {
                 let roles = members(random, &self.roles);
                 Record::create_subject(subject, random.pick(&self.users), roles)
@@ -102,7 +109,8 @@ impl Pools {
             4 if random.chance(1, 2) => Record::destroy_subject(subject),
             4..=6 => Record::activate_role(subject, role),
             7 => Record::deactivate_role(subject, role),
-            _ => Record::check(subject, operation, object),
+            8 | 9 => Record::check(subject, operation, object),
+            _ => Record::commit(subject, operation, object),
         }
     }
 

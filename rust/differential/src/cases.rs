@@ -338,6 +338,55 @@ fn claims(random: &mut Random) -> Case {
     Case { steps, pools }
 }
 
+/// A desk where everyone may see everything, but for walls: checks and commits, and people who come and go.
+fn walls(random: &mut Random) -> Case {
+    let pools = Pools::for_walls(random);
+    let (role, operation) = (pools.roles[0], pools.operations[0]);
+    let mut attempts: Vec<Record> = vec![Record::role(role)];
+    for &user in &pools.users {
+        attempts.extend([Record::user(user), Record::user_has_role(user, role)]);
+    }
+    for (&permission, &object) in pools.permissions.iter().zip(&pools.objects) {
+        attempts.push(Record::permission(permission, operation, object));
+        attempts.push(Record::role_has_permission(role, permission));
+    }
+    let count = random.pick(&[2, 6, 12, 600]);
+    attempts.extend((0..count).map(|_| pools.wall(random)));
+    let mut policy = Policy::of(attempts);
+    let mut steps = policy.bad_loads(random, 3);
+    steps.push(policy.load());
+    let mut ask = |record: Record| steps.push(Step::Request(record.0.to_vec()));
+    let roles = Set::EMPTY.with(role as u8);
+    for _ in 0..6 {
+        for &subject in &pools.subjects {
+            let user = random.pick(&pools.users);
+            ask(Record::create_subject(subject, user, roles));
+        }
+        for _ in 0..random.pick(&[10, 40]) {
+            let (subject, object) = (random.pick(&pools.subjects), random.pick(&pools.objects));
+            ask(match random.below(16) {
+                0 => pools.session(random),
+                1 => Record::give_permission(role, random.pick(&pools.permissions)),
+                2 => Record::take_permission(role, random.pick(&pools.permissions)),
+                3..=9 => Record::check(subject, operation, object),
+                _ => Record::commit(subject, operation, object),
+            });
+        }
+        for &subject in &pools.subjects {
+            if random.chance(1, 2) {
+                ask(Record::destroy_subject(subject));
+            }
+        }
+        for &user in &pools.users {
+            if random.chance(1, 2) {
+                ask(Record::delete_user(user));
+                ask(Record::add_user_with(user, roles));
+            }
+        }
+    }
+    Case { steps, pools }
+}
+
 /// A ledger filled to its last entry by a task that no rule is about, and requests around it.
 fn filled(random: &mut Random) -> Case {
     let mut pools = Pools::few(random);
@@ -529,10 +578,11 @@ impl Case {
                 day(random, pools, 60, 1000)
             }
             27 => noise(random),
+            n if n % 8 == 6 => walls(random),
             n if n % 8 == 5 => claims(random),
             n if n % 8 == 3 => {
                 let pools = Pools::for_rules(random);
-                day(random, pools, 1500, count)
+                day(random, pools, 1600, count)
             }
             _ => {
                 let pools = Pools::few(random);

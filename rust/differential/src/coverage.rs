@@ -84,6 +84,7 @@ pub fn possible(kind: u8) -> Option<Vec<Reply>> {
         10..=12 | 15 | 16 => &[Unknown, Taken, Rule, Full],
         14 => &[Unknown, Taken, Rule],
         17 => &[Unknown, Taken, Rule, Loop, Static, Full],
+        18 => &[Taken, Rule, Full],
         33 | 35 | 41 | 49 => &[Unknown, InUse],
         37 | 43 | 58 | 60 => &[Unknown],
         40 | 42 => &[Unknown, Taken, NotAssigned, Dynamic],
@@ -91,7 +92,7 @@ pub fn possible(kind: u8) -> Option<Vec<Reply>> {
             Unknown, Taken, NoRole, Before, Separation, Block, Alone, Bound, Count, Full,
         ],
         51 | 52 => &[Unknown, NotYours],
-        56 => &[Unknown, Denied],
+        56 | 59 => &[Unknown, Denied, Wall],
         57 => &[Unknown, NotYours, Denied],
         _ => return None,
     };
@@ -210,7 +211,7 @@ impl Coverage {
             let unseen = all.iter().filter(|r| !seen.contains_key(&r.number()));
             unseen.map(|r| format!("{of} {}", r.name())).collect()
         };
-        let kinds = (1..=17).filter(|kind| !self.rows.contains_key(kind));
+        let kinds = (1..=18).filter(|kind| !self.rows.contains_key(kind));
         let damages = damages().filter(|name| !self.damages.contains_key(name));
         let came = CAME.iter().filter(|(name, _)| !self.mended.contains(name));
         [

@@ -28,7 +28,7 @@ pub use desks::{checked, plain, proved, Answer, Desk, Difference, Mended, Panel,
 pub use garbage::garbage;
 #[cfg(mishantral_engine)]
 pub use links::{damages, links, Links};
-pub use slow::{Place, Slow};
+pub use slow::{Place, Slow, Walling};
 
 /// Whether the proved library takes part.
 pub const PROVED: bool = cfg!(mishantral_engine);

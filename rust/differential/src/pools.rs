@@ -13,6 +13,8 @@ pub struct Pools {
     pub orders: Vec<u16>,
     pub operations: Vec<u16>,
     pub objects: Vec<u16>,
+    pub walls: Vec<u16>,
+    pub blocks: Vec<u16>,
 }
 
 /// Different numbers up to `last`, often those near its edges or equal in their lower byte.
@@ -73,6 +75,8 @@ impl Pools {
             orders: of(1, 4, 63),
             operations: of(1, 3, u16::MAX),
             objects: of(1, 3, u16::MAX),
+            walls: of(1, 3, 15),
+            blocks: of(1, 3, 15),
         }
     }
 
@@ -95,6 +99,22 @@ impl Pools {
             templates: some(random, 1, 15),
             partitionings: some(random, 4, 15),
             subjects: some(random, 8, 127),
+            ..Pools::few(random)
+        }
+    }
+
+    /// One role that may do everything, and more objects, some alike in their lower byte or their lowest bits.
+    pub fn for_walls(random: &mut Random) -> Pools {
+        let count = random.pick(&[4, 8, 20]);
+        let mut objects = some(random, count, u16::MAX);
+        objects.extend([objects[0] ^ 256, objects[1] ^ 64]);
+        objects.dedup();
+        Pools {
+            roles: some(random, 1, 63),
+            permissions: some(random, objects.len(), 255),
+            operations: some(random, 1, u16::MAX),
+            walls: some(random, if count > 8 { 16 } else { 3 }, 15),
+            objects,
             ..Pools::few(random)
         }
     }

@@ -57,11 +57,47 @@ impl Place {
     ];
 }
 
+/// What a wrong engine makes of walls.
+#[derive(Clone, Copy, PartialEq, Eq, Debug)]
+pub enum Walling {
+    /// A commit binds the subject, and not its user.
+    OfSubjects,
+    /// WALL is given before DENIED.
+    BeforeDenied,
+    /// A check binds as a commit does.
+    ByChecks,
+    /// A commit binds in the lowest wall alone that has the object.
+    LowestWall,
+    /// A user who is deleted stays bound.
+    Kept,
+}
+
+impl Walling {
+    /// All of them.
+    pub const ALL: [Walling; 5] = [
+        Walling::OfSubjects,
+        Walling::BeforeDenied,
+        Walling::ByChecks,
+        Walling::LowestWall,
+        Walling::Kept,
+    ];
+}
+
+/// A granted commit: subject, user and object.
+#[derive(Clone, Copy)]
+struct Commit {
+    subject: u16,
+    user: u16,
+    object: u16,
+}
+
 /// The engine: sets, pairs and lists, each as the rules name them.
 #[derive(Clone, Default)]
 pub struct Slow {
     /// A place where roles do not count with those below them, for tests that this is found.
     forgotten: Option<Place>,
+    /// What it does wrongly with walls, for tests that this is found.
+    walling: Option<Walling>,
     users: Numbers,
     roles: Numbers,
     permissions: BTreeMap<u16, (u16, u16)>,
@@ -80,6 +116,10 @@ pub struct Slow {
     prerequisites: Vec<(u16, u16)>,
     /// Senior and junior.
     above: Pairs,
+    /// Wall, block and object.
+    walls: Vec<(u16, u16, u16)>,
+    /// All that were granted to users who are declared now.
+    commits: Vec<Commit>,
     subjects: BTreeMap<u16, (u16, Numbers)>,
     /// Every role that a live subject has had active.
     had: BTreeMap<u16, Numbers>,
@@ -139,13 +179,14 @@ fn form(kind: u8) -> Option<Form> {
         9..=11 => ([None, None, None], true, true),
         12 => ([Some(15), None, None], false, true),
         13 | 60 => ([Some(15), None, None], false, false),
+        18 => ([Some(15), Some(15), Some(any)], false, false),
         14 => ([Some(63), None, None], true, false),
         40 => ([Some(127), Some(1023), None], false, true),
         41 => ([Some(127), None, None], false, false),
         42 | 43 => ([Some(127), Some(63), None], false, false),
         49 | 58 => ([Some(63), None, None], false, false),
         50..=52 => ([Some(127), Some(63), Some(63)], false, false),
-        56 => ([Some(127), Some(any), Some(any)], false, false),
+        56 | 59 => ([Some(127), Some(any), Some(any)], false, false),
         57 => ([Some(127), Some(63), Some(63)], false, true),
         _ => return None,
     })
@@ -160,7 +201,7 @@ fn well_formed(bytes: &[u8], policy: bool) -> Result<Record, Reply> {
     let unused = fields.iter().any(|(f, last)| last.is_none() && *f != 0);
     let large = r.kind() == 57 && r.m() >= 1 << 32;
     let extra = !n && r.n() != 0 || !m && r.m() != 0 || large;
-    if policy != (r.kind() <= 17) || unused || extra {
+    if policy != (r.kind() <= 18) || unused || extra {
         return Err(Shape);
     }
     let beyond = |(f, last): &(u16, Option<u16>)| last.is_some_and(|last| *f > last);
@@ -179,9 +220,18 @@ impl Slow {
         }
     }
 
+    /// An engine that is wrong about walls.
+    pub fn walling(walling: Walling) -> Slow {
+        Slow {
+            walling: Some(walling),
+            ..Slow::default()
+        }
+    }
+
     fn empty(&mut self) {
         *self = Slow {
             forgotten: self.forgotten,
+            walling: self.walling,
             ..Slow::default()
         };
     }
@@ -239,6 +289,7 @@ impl Slow {
         let declared = declared.map(|(a, (b, c))| Record::permission(*a, *b, *c));
         let blocks = self.blocks.iter().map(|(p, m)| Record::block(*p, set(m)));
         let limits = self.limits.iter().map(|(t, n)| Record::at_most(*t, *n));
+        let walls = self.walls.iter().map(|(w, b, o)| Record::wall(*w, *b, *o));
         [
             alone(1, &self.users),
             alone(2, &self.roles),
@@ -257,6 +308,7 @@ impl Slow {
             pairs(15, &mut self.bindings.iter().copied()),
             pairs(16, &mut self.prerequisites.iter().copied()),
             pairs(17, &mut self.above.iter().copied()),
+            walls.collect(),
         ]
         .concat()
     }
@@ -457,6 +509,7 @@ impl Slow {
             1..=8 => self.judge_declaration(r),
             9..=12 => self.judge_set(r),
             17 => self.judge_seniority(r.a(), r.b()),
+            18 => self.judge_wall(r.a(), r.b(), r.c()),
             _ => self.judge_rule(r),
         };
         if reply == Granted {
@@ -600,6 +653,52 @@ impl Slow {
         ])
     }
 
+    fn judge_wall(&self, wall: u16, block: u16, object: u16) -> Reply {
+        let mut walls = self.walls.iter();
+        first(&[
+            (Taken, self.walls.contains(&(wall, block, object))),
+            (Rule, walls.any(|(w, _, o)| (*w, *o) == (wall, object))),
+            (Full, self.walls.len() == 256),
+        ])
+    }
+
+    /// Whether a commit of one object has bound to another block than the other object's, in some wall.
+    fn apart(&self, committed: u16, object: u16) -> bool {
+        let mut of_committed = self.walls.iter().filter(|(_, _, o)| *o == committed);
+        let apart = |(w, b, _): &(u16, u16, u16)| {
+            let mut walls = self.walls.iter();
+            walls.any(|(wall, block, o)| (wall, *o) == (w, object) && block != b)
+        };
+        match self.walling {
+            Some(Walling::LowestWall) => of_committed.min().is_some_and(apart),
+            _ => of_committed.any(apart),
+        }
+    }
+
+    /// DENIED and WALL for an active role of a subject.
+    fn judge_check(&self, r: Record, user: u16, active: &Numbers) -> Reply {
+        let acting = self.down(Place::Permit, active);
+        let has = |p: &u16| {
+            let mut acting = acting.iter();
+            acting.any(|r| self.role_permissions.contains(&(*r, *p)))
+        };
+        let walled = |c: &Commit| {
+            let whose = match self.walling {
+                Some(Walling::OfSubjects) => c.subject == r.a(),
+                _ => c.user == user,
+            };
+            whose && self.apart(c.object, r.c())
+        };
+        let mut checks = [
+            (Denied, !self.permissions_of(r.b(), r.c()).any(|p| has(&p))),
+            (Wall, self.commits.iter().any(walled)),
+        ];
+        if self.walling == Some(Walling::BeforeDenied) {
+            checks.reverse();
+        }
+        first(&checks)
+    }
+
     /// What an accepted policy record says from now on.
     fn enter(&mut self, r: Record) {
         let (n, a, b) = (r.n(), r.a(), r.b());
@@ -621,14 +720,15 @@ impl Slow {
             14 => self.limits.extend([(a, n)]),
             15 => self.bindings.push((a, b)),
             16 => self.prerequisites.push((a, b)),
-            _ => self.above.extend([(a, b)]),
+            17 => self.above.extend([(a, b)]),
+            _ => self.walls.push((a, b, r.c())),
         }
     }
 
     fn serve(&mut self, r: Record) -> (Reply, usize) {
         let (reply, place) = match r.kind() {
             32..=37 => (self.judge_roles(r), 0),
-            40..=43 | 56 => (self.judge_sessions(r), 0),
+            40..=43 | 56 | 59 => (self.judge_sessions(r), 0),
             48 | 49 => (self.judge_orders(r), 0),
             50 => self.judge_claim(r),
             58 | 60 => (self.judge_question(r), 0),
@@ -716,14 +816,7 @@ impl Slow {
                 ])
             }
             43 => first(&[(Unknown, !active.contains(&b))]),
-            _ => {
-                let acting = self.down(Place::Permit, active);
-                let has = |p: &u16| {
-                    let mut acting = acting.iter();
-                    acting.any(|r| self.role_permissions.contains(&(*r, *p)))
-                };
-                first(&[(Denied, !self.permissions_of(b, r.c()).any(|p| has(&p)))])
-            }
+            _ => self.judge_check(r, *user, active),
         }
     }
 
@@ -848,6 +941,8 @@ impl Slow {
             33 => {
                 self.users.retain(|user| *user != a);
                 self.user_roles.retain(|(user, _)| *user != a);
+                let kept = self.walling == Some(Walling::Kept);
+                self.commits.retain(|commit| kept || commit.user != a);
             }
             34 => self.user_roles.extend([(a, b)]),
             35 => self.user_roles.retain(|pair| *pair != (a, b)),
@@ -861,6 +956,12 @@ impl Slow {
                 self.subjects.retain(|subject, _| *subject != a);
                 self.had.retain(|subject, _| *subject != a);
             }
+            56 if self.walling != Some(Walling::ByChecks) => {}
+            56 | 59 => self.commits.push(Commit {
+                subject: a,
+                user: self.subjects[&a].0,
+                object: r.c(),
+            }),
             42 => {
                 self.active(a).extend([b]);
                 self.had.entry(a).or_default().extend([b]);

@@ -1,6 +1,6 @@
 //! Engines with a fault each: the comparison finds every one, and shows it by a small case.
 
-use differential::{compare, plain, Answer, Case, Desk, Panel, Place, Slow};
+use differential::{compare, plain, Answer, Case, Desk, Panel, Place, Slow, Walling};
 use plain::{Engine, OrderLists, Reply};
 
 /// What a record is taken for.
@@ -130,7 +130,7 @@ fn found(faulty: impl Desk + 'static) -> Option<String> {
     let good = plain("plain", Engine::<OrderLists>::new());
     let panel = Panel::of(vec![good, Box::new(faulty)]);
     let failure = |number| compare(&panel, &Case::random(5, number), false).err();
-    (0..200).find_map(failure).map(|f| f.report())
+    (0..400).find_map(failure).map(|f| f.report())
 }
 
 fn finds(faulty: impl Desk + 'static, most_lines: usize) {
@@ -589,6 +589,13 @@ fn a_file_that_is_mended_wrongly_is_found() {
     ];
     for mended in wrong {
         finds(Faulty { mended, ..sound() }, 60);
+    }
+}
+
+#[test]
+fn walls_that_are_taken_wrongly_are_found() {
+    for walling in Walling::ALL {
+        finds(Slow::walling(walling), 60);
     }
 }
 

@@ -102,7 +102,7 @@ fn comes_out(text: &str) {
 fn every_example_comes_out() {
     let whole = blocks("desk");
     let rules = blocks("desk two clerks");
-    assert_eq!((whole.len(), rules.len()), (3, 10));
+    assert_eq!((whole.len(), rules.len()), (4, 10));
     whole.iter().for_each(|text| comes_out(text));
     for text in rules {
         comes_out(&[TWO_CLERKS, &text].concat());

@@ -60,6 +60,7 @@ fn kinds_have_one_number() {
         ("BOUND_TO", Record::bound(0, 0)),
         ("BEFORE_TASK", Record::before(0, 0)),
         ("ROLE_ABOVE", Record::role_above(0, 0)),
+        ("WALLED", Record::wall(0, 0, 0)),
         ("ADD_USER", Record::add_user(0)),
         ("DELETE_USER", Record::delete_user(0)),
         ("ASSIGN_ROLE", Record::assign_role(0, 0)),
@@ -78,6 +79,7 @@ fn kinds_have_one_number() {
         ("CHECK", Record::check(0, 0, 0)),
         ("TASK_CHECK", Record::task_check(0, 0, 0, 0, 0)),
         ("ENTRIES_OF", Record::entries_of(0)),
+        ("COMMIT", Record::commit(0, 0, 0)),
         ("STUCK_TASKS", Record::stuck_tasks(0)),
     ];
     let constants = constants();
@@ -164,13 +166,15 @@ fn the_lower_part_has_the_same_lengths() {
 fn limits_are_those_of_the_library() {
     let none = Set::EMPTY;
     type Named = fn(u16) -> Record;
-    let with: [(&str, Named); 8] = [
+    let with: [(&str, Named); 10] = [
         ("LAST_USER", Record::add_user),
         ("LAST_ROLE", |role| Record::give_permission(role, 0)),
         ("LAST_PERMISSION", |p| Record::give_permission(0, p)),
         ("LAST_TASK", |task| Record::claim(0, 0, task)),
         ("LAST_TEMPLATE", |template| Record::open_order(0, template)),
         ("LAST_PARTITIONING", |p| Record::block(p, Set::EMPTY)),
+        ("LAST_WALL", |wall| Record::wall(wall, 0, 0)),
+        ("LAST_BLOCK", |block| Record::wall(0, block, 0)),
         ("LAST_SUBJECT", Record::destroy_subject),
         ("LAST_ORDER", Record::end_order),
     ];
@@ -182,7 +186,10 @@ fn limits_are_those_of_the_library() {
     for (name, record) in with {
         let mut engine = mishantral::Engine::new();
         let mut reply = |record: Record| match record.kind() {
-            12 => engine.load_records(&[record]).unwrap_err().reply,
+            12 | 18 => match engine.load_records(&[record]) {
+                Ok(()) => Reply::Granted,
+                Err(refused) => refused.reply,
+            },
             _ => engine.request(&record).reply,
         };
         let last = number(name) as u16;
@@ -196,24 +203,25 @@ fn limits_are_those_of_the_library() {
 #[test]
 fn rules_have_the_limits_of_the_library() {
     // Members 0 and up to 63 in pairs, so that no two rules are alike.
-    let pair = |i: u8| Set::of(&[i / 60, 2 + i % 60]);
-    type Rule = fn(Set, u8) -> Record;
-    let kinds: [(&str, Rule); 7] = [
+    let pair = |i: u16| Set::of(&[(i / 60) as u8, (2 + i % 60) as u8]);
+    type Rule = fn(Set, u16) -> Record;
+    let kinds: [(&str, Rule); 8] = [
         ("MOST_STATIC_SETS", |set, _| Record::static_set(1, set)),
         ("MOST_DYNAMIC_SETS", |set, _| Record::dynamic_set(1, set)),
         ("MOST_TASK_SETS", |set, _| Record::task_set(1, set)),
         ("MOST_BLOCKS", |_, i| {
-            Record::block((i / 60).into(), Set::of(&[i % 60]))
+            Record::block(i / 60, Set::of(&[(i % 60) as u8]))
         }),
         ("MOST_BINDINGS", |set, _| two(set, Record::bound)),
         ("MOST_PREREQUISITES", |set, _| two(set, Record::before)),
         ("MOST_SENIORITIES", |set, _| two(set, Record::role_above)),
+        ("MOST_WALLED", |_, i| Record::wall(i % 16, i % 7, i)),
     ];
     let declared = (0..64).flat_map(|i| [Record::role(i), Record::task(i, 0)]);
     let declared: Vec<Record> = declared.collect();
     for (name, rule) in kinds {
         let most = number(name);
-        let rules = (0..=most as u8).map(|i| rule(pair(i), i));
+        let rules = (0..=most as u16).map(|i| rule(pair(i), i));
         let all: Vec<Record> = declared.iter().copied().chain(rules).collect();
         let mut engine = mishantral::Engine::new();
         let (good, place) = (&all[..all.len() - 1], all.len());

@@ -44,8 +44,8 @@ fn a_wrong_word() {
 /// All words that a line may begin with.
 fn first_words() -> String {
     let words =
-        "user role permission task static dynamic block lone-worker add delete assign take give \
-        create destroy activate deactivate open end claim release done check entries stuck record";
+        "user role permission task static dynamic block lone-worker wall add delete assign take give \
+        create destroy activate deactivate open end claim release done check entries commit stuck record";
     let quoted: Vec<String> = words
         .split_whitespace()
         .map(|w| format!("\"{w}\""))

@@ -103,8 +103,8 @@ fn a_listing_that_does_not_fit() {
         "line 1, column 7: expected the place of a record, found the end of the line",
     );
     refused(
-        "load 24 0",
-        "line 1, column 6: expected a reply, 0 to 23, found \"24\"",
+        "load 25 0",
+        "line 1, column 6: expected a reply, 0 to 24, found \"25\"",
     );
     refused(
         "load 0 0\n1 0 0\n",

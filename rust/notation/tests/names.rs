@@ -53,14 +53,14 @@ fn every_kind_is_read_back_with_its_names() {
         }
     }
     let with_names = [
-        1..=17,
+        1..=18,
         32..=37,
         40..=40,
         42..=43,
         48..=48,
         50..=52,
         56..=57,
-        60..=60,
+        59..=60,
     ];
     assert_eq!(named, with_names.into_iter().flatten().collect());
 }

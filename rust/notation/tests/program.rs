@@ -82,9 +82,9 @@ fn a_listing_is_explained() {
 #[test]
 fn lists_and_help() {
     let (forms, _, _) = run(&["forms"], b"");
-    assert_eq!(forms.split(|&b| b == b'\n').count(), 41);
+    assert_eq!(forms.split(|&b| b == b'\n').count(), 44);
     let (replies, _, _) = run(&["replies"], b"");
-    assert!(String::from_utf8(replies).unwrap().ends_with("23 LOOP\n"));
+    assert!(String::from_utf8(replies).unwrap().ends_with("24 WALL\n"));
     let (help, said, status) = run(&["--help"], b"");
     assert!(help.starts_with(b"Records as lines"));
     assert_eq!((&said[..], status), ("", 0));

@@ -28,6 +28,7 @@ fn every_kind() -> Vec<(&'static str, Record)> {
         ("task 5 bound to task 6", Record::bound(5, 6)),
         ("task 5 before task 6", Record::before(5, 6)),
         ("role 7 above role 3", Record::role_above(7, 3)),
+        ("wall 0 block 1 object 7", Record::wall(0, 1, 7)),
         ("add user 65535", Record::add_user(65535)),
         ("delete user 300", Record::delete_user(300)),
         ("assign role 7 to user 300", Record::assign_role(300, 7)),
@@ -66,6 +67,7 @@ fn every_kind() -> Vec<(&'static str, Record)> {
             Record::task_check(9, 2, 5, 65535, 65535),
         ),
         ("entries of order 2", Record::entries_of(2)),
+        ("commit 5 operation 2 object 7", Record::commit(5, 2, 7)),
         ("stuck tasks of template 3", Record::stuck_tasks(3)),
     ]
 }
@@ -79,8 +81,8 @@ fn every_kind_in_words_and_back() {
         kinds.push(record.kind());
     }
     kinds.dedup();
-    let all = (1..=17).chain(32..=37).chain(40..=43).chain(48..=52);
-    let all: Vec<u8> = all.chain(56..=58).chain([60]).collect();
+    let all = (1..=18).chain(32..=37).chain(40..=43).chain(48..=52);
+    let all: Vec<u8> = all.chain(56..=60).collect();
     assert_eq!(kinds, all);
 }
 

@@ -20,6 +20,7 @@ mod policy;
 mod record;
 mod reply;
 mod sessions;
+mod walls;
 mod written;
 
 pub use ledger::{Entry, FlatLedger, Ledger, OrderLists, View, ENTRIES};
@@ -268,6 +269,7 @@ impl<L: Ledger> Engine<L> {
             56 => sessions.check(policy, a, r.b, r.c),
             57 => orders.task_check(policy, sessions, r),
             58 => orders.figures(r.a as u8).map(|_| ()),
+            59 => sessions.commit(policy, a, r.b, r.c),
             _ => policy.stuck(a).map(|_| ()),
         }
     }
@@ -277,6 +279,7 @@ impl<L: Ledger> Engine<L> {
         refuse(Reply::InUse, self.orders.ledger.any_of_user(user))?;
         self.policy.is_user[usize::from(user)] = false;
         self.policy.assigned[usize::from(user)] = 0;
+        self.sessions.forget(user);
         Ok(())
     }
 

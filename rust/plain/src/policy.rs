@@ -1,9 +1,10 @@
-//! The policy's tables and the seventeen kinds of record that a load fills them with.
+//! The policy's tables and the eighteen kinds of record that a load fills them with.
 //! Rules over tasks are also kept by task, so that a claim asks a mask and walks no list; the roles at or below each role are kept too.
 
 use crate::permissions::Permissions;
 use crate::record::Record;
 use crate::reply::{refuse, Outcome, Refusal, Reply};
+use crate::walls::Walls;
 
 /// The one-member set of role or task `i`.
 pub(crate) const fn bit(i: usize) -> u64 {
@@ -121,6 +122,7 @@ pub(crate) struct Policy {
     pub seniorities: Rules<(usize, usize), 64>,
     /// The roles that each role counts with: itself and all below.
     down_of: [u64; 64],
+    pub walls: Walls,
 }
 
 /// The roles that each role counts with where none stands above another.
@@ -159,6 +161,7 @@ impl Policy {
         prerequisites: Rules::none((0, 0)),
         seniorities: Rules::none((0, 0)),
         down_of: ALONE,
+        walls: Walls::NONE,
     };
 
     pub fn has_role(&self, role: usize) -> bool {
@@ -227,7 +230,8 @@ impl Policy {
             14 => self.at_most(a, r.n),
             15 => self.bind(a, b),
             16 => self.before(a, b),
-            _ => self.above(a, b),
+            17 => self.above(a, b),
+            _ => self.walls.take(a, b as u8, r.c),
         }
     }
 

@@ -79,6 +79,8 @@ const PERMISSION: u16 = 255;
 const TASK: u16 = 63;
 const TEMPLATE: u16 = 15;
 const PARTITIONING: u16 = 15;
+const WALL: u16 = 15;
+const BLOCK: u16 = 15;
 const SUBJECT: u16 = 127;
 const INSTANCE: u16 = 63;
 const ANY: u16 = u16::MAX;
@@ -148,6 +150,7 @@ const fn forms() -> [Option<Form>; 64] {
     f[15] = Some(load.a(TASK).b(TASK));
     f[16] = Some(load.a(TASK).b(TASK));
     f[17] = Some(load.a(ROLE).b(ROLE));
+    f[18] = Some(load.a(WALL).b(BLOCK).c(ANY));
     f[32] = Some(request.a(USER).m(!0));
     f[33] = Some(request.a(USER));
     f[34] = Some(request.a(USER).b(ROLE));
@@ -166,6 +169,7 @@ const fn forms() -> [Option<Form>; 64] {
     f[56] = Some(request.a(SUBJECT).b(ANY).c(ANY));
     f[57] = Some(request.a(SUBJECT).b(INSTANCE).c(TASK).m(0xffff_ffff));
     f[58] = Some(request.a(INSTANCE));
+    f[59] = Some(request.a(SUBJECT).b(ANY).c(ANY));
     f[60] = Some(request.a(TEMPLATE));
     f
 }

@@ -1,6 +1,6 @@
 //! The replies (docs/RULES.md, "The replies"), by name and number.
 
-/// What a record is answered with. The numbers are also the order of the checks, but for LOOP, which comes behind RULE.
+/// What a record is answered with. The numbers are also the order of the checks, but for LOOP, which comes behind RULE, and WALL, behind DENIED.
 #[derive(Clone, Copy, PartialEq, Eq, PartialOrd, Ord, Debug)]
 #[repr(u8)]
 pub enum Reply {
@@ -48,6 +48,8 @@ pub enum Reply {
     Full = 20,
     /// The role that is to stand below stands above already.
     Loop = 23,
+    /// The user is bound in some wall to another block than the object's.
+    Wall = 24,
 }
 
 impl Reply {

@@ -16,7 +16,12 @@ pub(crate) struct Sessions {
     acting: [u64; 128],
     /// Every role that the subject has had active.
     had: [u64; 128],
+    /// The block that each user is bound to in each wall.
+    bound: [[u8; 16]; 1024],
 }
+
+/// The block of a user who is bound to none.
+const FREE: u8 = u8::MAX;
 
 impl Sessions {
     pub const EMPTY: Sessions = Sessions {
@@ -24,6 +29,7 @@ impl Sessions {
         active: [0; 128],
         acting: [0; 128],
         had: [0; 128],
+        bound: [[FREE; 16]; 1024],
     };
 
     /// The user of a live subject.
@@ -117,11 +123,39 @@ impl Sessions {
 
     /// Kind 56.
     pub fn check(&self, policy: &Policy, subject: usize, operation: u16, object: u16) -> Outcome {
-        self.user_of(subject)?;
+        let user = self.user_of(subject)?;
         let having = policy
             .permissions
             .find(operation, object)
             .map_or(0, |permission| policy.permissions.given_to[permission]);
-        refuse(Reply::Denied, having & self.acting[subject] == 0)
+        refuse(Reply::Denied, having & self.acting[subject] == 0)?;
+        if policy.walls.is_empty() {
+            return Ok(());
+        }
+        let bound = &self.bound[usize::from(user)];
+        let mut blocks = policy.walls.of(object);
+        let apart = blocks.any(|(wall, block)| bound[wall] != FREE && bound[wall] != block);
+        refuse(Reply::Wall, apart)
+    }
+
+    /// Kind 59: what the check grants binds the user to the object's block in every wall that has it.
+    pub fn commit(
+        &mut self,
+        policy: &Policy,
+        subject: usize,
+        operation: u16,
+        object: u16,
+    ) -> Outcome {
+        self.check(policy, subject, operation, object)?;
+        let bound = &mut self.bound[usize::from(self.user[subject])];
+        for (wall, block) in policy.walls.of(object) {
+            bound[wall] = block;
+        }
+        Ok(())
+    }
+
+    /// Kind 33 forgets what the user is bound to.
+    pub fn forget(&mut self, user: u16) {
+        self.bound[usize::from(user)] = [FREE; 16];
     }
 }

@@ -60,6 +60,8 @@ impl Policy {
         all.extend(pairs(15, self.bindings.rows().iter().copied()));
         all.extend(pairs(16, self.prerequisites.rows().iter().copied()));
         all.extend(pairs(17, seniorities.into_iter()));
+        let walls = self.walls.rows();
+        all.extend(walls.map(|(wall, block, object)| encode(18, 0, wall, block, object, 0)));
         all.into_flattened()
     }
 }

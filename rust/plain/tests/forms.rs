@@ -20,13 +20,14 @@ const fn form(kind: u8, n: bool, abc: &'static [u16], m: bool) -> Form {
 }
 
 #[rustfmt::skip]
-const FORMS: [Form; 36] = [
+const FORMS: [Form; 38] = [
     form(1, false, &[1023], false), form(2, false, &[63], false), form(3, false, &[255, ANY, ANY], false),
     form(4, false, &[1023, 63], false), form(5, false, &[63, 255], false), form(6, false, &[63, 15], false),
     form(7, false, &[63, 63], false), form(8, false, &[63, 255], false), form(9, true, &[], true),
     form(10, true, &[], true), form(11, true, &[], true), form(12, false, &[15], true),
     form(13, false, &[15], false), form(14, true, &[63], false), form(15, false, &[63, 63], false),
     form(16, false, &[63, 63], false), form(17, false, &[63, 63], false),
+    form(18, false, &[15, 15, ANY], false),
     form(32, false, &[1023], true), form(33, false, &[1023], false), form(34, false, &[1023, 63], false),
     form(35, false, &[1023, 63], false), form(36, false, &[63, 255], false), form(37, false, &[63, 255], false),
     form(40, false, &[127, 1023], true), form(41, false, &[127], false), form(42, false, &[127, 63], false),
@@ -34,12 +35,13 @@ const FORMS: [Form; 36] = [
     form(50, false, &[127, 63, 63], false), form(51, false, &[127, 63, 63], false),
     form(52, false, &[127, 63, 63], false), form(56, false, &[127, ANY, ANY], false),
     form(57, false, &[127, 63, 63], true), form(58, false, &[63], false),
+    form(59, false, &[127, ANY, ANY], false),
     form(60, false, &[15], false),
 ];
 
 impl Form {
     fn is_policy(&self) -> bool {
-        self.kind <= 17
+        self.kind <= 18
     }
 
     /// The reply of the call that the kind is for.

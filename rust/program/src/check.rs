@@ -208,6 +208,9 @@ fn ill_made(desk: &Desk, record: Record) -> Vec<String> {
     if record.kind() == 17 {
         lines.push("the roles must be two".to_string());
     }
+    if record.kind() == 18 {
+        lines.extend(other_block(desk, record));
+    }
     let template = |task: &u16| desk.told.tasks.get(task).copied();
     if let Some(other) = tasks.iter().find(|t| template(t) != template(&tasks[0])) {
         let of = |task: &u16| {
@@ -247,6 +250,16 @@ fn meeting_block(desk: &Desk, record: Record) -> Option<String> {
         Set::EMPTY => format!("{at} has a block of another template: {line}"),
         shared => format!("{at} has {} too: {line}", desk.say_set(Sort::Task, shared)),
     })
+}
+
+/// The record that puts the object into another block of the wall.
+fn other_block(desk: &Desk, record: Record) -> Option<String> {
+    let same = |(_, r): &(usize, Record)| (r.a(), r.c()) == (record.a(), record.c());
+    let (place, _) = desk.told.rules_of(18).find(same)?;
+    let (at, line) = (desk.policy.place_within(place), desk.policy.line(place));
+    Some(format!(
+        "an object stands in one block of a wall; {at} says: {line}"
+    ))
 }
 
 /// How one role comes to stand above another: `line 9: lead above clerk, line 10: clerk above helper`.
@@ -318,6 +331,7 @@ fn exceeding(desk: &Desk, record: Record) -> Vec<String> {
 fn limit(kind: u8) -> usize {
     match kind {
         9..=11 => 32,
+        18 => 256,
         _ => 64,
     }
 }
@@ -340,7 +354,7 @@ mod tests {
         let mut small = || below(state, 5) as u16;
         let (a, b, c, kind) = (small(), small(), small(), small());
         let (n, set) = (small() as u8, Set(below(state, 32)));
-        match below(state, 21) + u64::from(kind == 0) * 22 {
+        match below(state, 22) + u64::from(kind == 0) * 23 {
             0 | 1 => Record::user(a),
             2 => Record::role(a),
             3 => Record::permission(a, b, c),
@@ -359,6 +373,7 @@ mod tests {
             17 => Record::before(a, b),
             18 => Record::new(a as u8 * 20, n, b, c, 0, 0),
             19 | 20 => Record::role_above(a, b),
+            21 => Record::wall(a, b, c),
             _ => Record::user(1020 + 2 * a),
         }
     }
@@ -404,6 +419,6 @@ mod tests {
             );
         }
         let kinds: Vec<u8> = met.keys().map(|(kind, _)| *kind).collect();
-        assert!((1..=17).all(|kind| kinds.contains(&kind)), "{met:?}");
+        assert!((1..=18).all(|kind| kinds.contains(&kind)), "{met:?}");
     }
 }

@@ -43,10 +43,12 @@ pub struct Told {
     pub carried: Vec<(u16, u16)>,
     /// Senior and junior roles, with the places of their records in the policy, from 0.
     pub above: Vec<(usize, (u16, u16))>,
-    /// Records of kinds 9 to 16 with their places in the policy, from 0.
+    /// Records of kinds 9 to 16 and 18 with their places in the policy, from 0.
     pub rules: Vec<(usize, Record)>,
     pub subjects: BTreeMap<u16, Session>,
     pub orders: BTreeMap<u16, Order>,
+    /// Users and the objects of the commits that they were granted.
+    pub commits: Vec<(u16, u16)>,
 }
 
 fn with(set: &mut Set, member: u16) {
@@ -88,7 +90,10 @@ impl Told {
         let (a, b, m) = (record.a(), record.b(), Set(record.m()));
         match record.kind() {
             32 => drop(self.users.insert(a, m)),
-            33 => drop(self.users.remove(&a)),
+            33 => {
+                self.users.remove(&a);
+                self.commits.retain(|&(user, _)| user != a);
+            }
             34 => with(self.users.entry(a).or_default(), b),
             35 => without(self.users.entry(a).or_default(), b),
             36 => self.allowed.push((a, b)),
@@ -114,6 +119,10 @@ impl Told {
             }
             49 => drop(self.orders.remove(&a)),
             50..=52 => self.worked(record),
+            59 => {
+                let user = self.user_of(a);
+                self.commits.extend(user.map(|user| (user, record.c())));
+            }
             _ => {}
         }
     }

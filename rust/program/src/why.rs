@@ -115,6 +115,7 @@ pub fn why(desk: &Desk, bytes: &[u8], answer: Answer) -> Why {
         Reply::Dynamic => role_limit(desk, record, 10),
         Reply::NotYours => Why::because(holder(desk, record.b(), record.c())),
         Reply::Denied => denied(desk, record),
+        Reply::Wall => wall(desk, record),
         Reply::NoRole => no_role(desk, record),
         Reply::Before | Reply::Separation | Reply::Block | Reply::Bound => {
             claim_rule(desk, record, answer)
@@ -416,7 +417,7 @@ fn had_by(desk: &Desk, user: u16) -> Set {
 fn denied(desk: &Desk, record: Record) -> Why {
     let told = &desk.told;
     let pair = match record.kind() {
-        56 => (record.b(), record.c()),
+        56 | 59 => (record.b(), record.c()),
         _ => ((record.m() & 0xffff) as u16, (record.m() >> 16) as u16),
     };
     let named = told.permissions.iter().find(|(_, &p)| p == pair);
@@ -435,7 +436,7 @@ fn denied(desk: &Desk, record: Record) -> Why {
         desk.say_all(sort, with.map(|&(of, _)| of))
     };
     Why::all(match record.kind() {
-        56 => {
+        56 | 59 => {
             let subject = record.a();
             let active = told.subjects.get(&subject).map_or(Set::EMPTY, |s| s.active);
             let active = desk.say_set(Sort::Role, active);
@@ -453,6 +454,30 @@ fn denied(desk: &Desk, record: Record) -> Why {
             )]
         }
     })
+}
+
+/// The record that puts the object behind a wall, and what its user has committed to on the other side.
+fn wall(desk: &Desk, record: Record) -> Why {
+    let told = &desk.told;
+    let user = told.user_of(record.a()).unwrap_or_default();
+    let of = |object: u16| told.rules_of(18).filter(move |(_, r)| r.c() == object);
+    let commits = || told.commits.iter().filter(move |(of, _)| *of == user);
+    for rule in of(record.c()) {
+        let apart = |r: &Record| r.a() == rule.1.a() && r.b() != rule.1.b();
+        let committed = commits().find_map(|&(_, object)| of(object).find(|(_, r)| apart(r)));
+        if let Some((_, other)) = committed {
+            let (user, object) = (
+                desk.say(Sort::User, user),
+                desk.say(Sort::Object, other.c()),
+            );
+            let (wall, block) = (other.a(), other.b());
+            return Why::because(format!(
+                "{user} has committed to {object}, in block {block} of wall {wall}"
+            ))
+            .by(Some(rule));
+        }
+    }
+    Why::default()
 }
 
 fn no_role(desk: &Desk, record: Record) -> Why {
@@ -616,11 +641,12 @@ mod tests {
     use crate::source::text_policy;
     use std::collections::BTreeMap;
 
-    const POLICIES: [&str; 4] = [
+    const POLICIES: [&str; 5] = [
         include_str!("../../../examples/named.txt"),
         include_str!("../../../examples/loan/policy.txt"),
         include_str!("../../../examples/stuck_order/policy.txt"),
         include_str!("../../../examples/team_lead/policy.txt"),
+        include_str!("../../../examples/price_books/policy.txt"),
     ];
 
     /// What the place must be: that of the first rule that the told entries break, in the order of docs/RULES.md.
@@ -699,7 +725,8 @@ mod tests {
         let template = random.pick(&templates);
         let (subject, order) = (random.below(6) as u16, random.below(3) as u16);
         let (role, roles) = (random.below(5) as u16, Set(random.below(32)));
-        match random.below(29) {
+        let object = 7 + random.below(3) as u16;
+        match random.below(31) {
             0 => Record::add_user_with(user, roles),
             1 => Record::delete_user(user),
             2 => Record::assign_role(user, role),
@@ -719,6 +746,8 @@ mod tests {
             19 => Record::release(subject, order, task),
             22 => Record::delete_user(1024 + user),
             20 | 21 => Record::done(subject, order, task),
+            23 => Record::check(subject, 2, object),
+            24 => Record::commit(subject, 2, object),
             _ => Record::claim(subject, order, task),
         }
     }
@@ -778,6 +807,7 @@ mod tests {
             Reply::Dynamic,
             Reply::NotYours,
             Reply::Denied,
+            Reply::Wall,
         ];
         for reply in claims.into_iter().chain(others).chain(last) {
             assert!(met.contains_key(&reply), "{reply} was not met: {met:?}");

@@ -38,7 +38,7 @@ pub enum Part {
 }
 
 /// The kind that a pattern is for, where the line itself does not say it, and the pattern.
-pub const FORMS: [(u8, &str); 40] = [
+pub const FORMS: [(u8, &str); 43] = [
     (1, "user <a>"),
     (2, "role <a>"),
     (3, "permission <a> is operation <b> on object <c>"),
@@ -56,6 +56,7 @@ pub const FORMS: [(u8, &str); 40] = [
     (15, "task <a> bound to task <b>"),
     (16, "task <a> before task <b>"),
     (17, "role <a> above role <b>"),
+    (18, "wall <a> block <b> object <c>"),
     (32, "add user <a>"),
     (32, "add user <a> with roles <set>"),
     (33, "delete user <a>"),
@@ -78,6 +79,8 @@ pub const FORMS: [(u8, &str); 40] = [
         "task check <a=subject> <b=order> <c=task> operation <low> object <high>",
     ),
     (58, "entries of order <a>"),
+    (59, "commit <a=subject> operation <b> object <c>"),
+    (59, "commit <a=subject> <b=operation> <c=object>"),
     (60, "stuck tasks of template <a>"),
     (60, "stuck <a=template>"),
     (0, RAW),

@@ -76,7 +76,7 @@ impl Record {
     }
 }
 
-/// Kinds 1 to 17: the records of a policy.
+/// Kinds 1 to 18: the records of a policy.
 impl Record {
     /// Declares a user.
     pub const fn user(user: u16) -> Record {
@@ -166,6 +166,16 @@ impl Record {
     /// ```
     pub const fn role_above(senior: u16, junior: u16) -> Record {
         record(17, 0, [senior, junior, 0], 0)
+    }
+
+    /// The object stands in the block of the wall: who commits to it may not go over to another block.
+    ///
+    /// ```
+    /// # use records::Record;
+    /// assert_eq!(Record::wall(0, 1, 7).to_string(), "wall 0 block 1 object 7");
+    /// ```
+    pub const fn wall(wall: u16, block: u16, object: u16) -> Record {
+        record(18, 0, [wall, block, object], 0)
     }
 }
 
@@ -278,6 +288,16 @@ impl Record {
     /// How many entries has the order, and which of its tasks are done? A question, whose figures have a call of their own.
     pub const fn entries_of(order: u16) -> Record {
         record(58, 0, [order, 0, 0], 0)
+    }
+
+    /// As the check; where it is granted, the subject's user is bound to the object's block in every wall that has it.
+    ///
+    /// ```
+    /// # use records::Record;
+    /// assert_eq!(Record::commit(5, 2, 7).to_string(), "commit 5 operation 2 object 7");
+    /// ```
+    pub const fn commit(subject: u16, operation: u16, object: u16) -> Record {
+        record(59, 0, [subject, operation, object], 0)
     }
 
     /// Which tasks of the template can never be claimed because of prerequisites? A question, whose figures have a call of their own.

@@ -2,8 +2,8 @@
 
 use core::fmt;
 
-/// What a record is answered with. The checks run in the order of these numbers, LOOP behind RULE, and the first that
-/// applies is the reply.
+/// What a record is answered with. The checks run in the order of these numbers, LOOP behind RULE and WALL behind
+/// DENIED, and the first that applies is the reply.
 ///
 /// Later versions may have further replies.
 #[must_use = "a record that was refused has changed nothing"]
@@ -59,6 +59,8 @@ pub enum Reply {
     Names = 22,
     /// The role that is to stand below stands above already.
     Loop = 23,
+    /// The user is bound in some wall to another block than the object's.
+    Wall = 24,
 }
 
 use Reply::*;
@@ -90,6 +92,7 @@ impl Reply {
         Text,
         Names,
         Loop,
+        Wall,
     ];
 
     /// The reply's number in docs/RULES.md.
@@ -130,6 +133,7 @@ impl Reply {
             Text => "TEXT",
             Names => "NAMES",
             Loop => "LOOP",
+            Wall => "WALL",
         }
     }
 

@@ -7,7 +7,7 @@ use Rattle.paper_upper.specs.Requests.{upperKinds}
 use Rattle.paper_upper.specs.Engine.{raised, requestKinds, placeOf}
 use Rattle.records.specs.Limits.{limitA, limitB, limitC, limitM, limitsOpen}
 use Rattle.records.proofs.Passing.{below}
-use Rattle.engine.proofs.Lifts.{of-policy, of-sessions, of-orders, of-claim, of-none, of-lower}
+use Rattle.engine.proofs.Lifts.{of-both, of-sessions, of-orders, of-claim, of-none, of-lower}
 use Rattle.engine.proofs.PlaceLaws.{no-claim}
 use Rattle.engine.proofs.LowerKinds.{lower-row, lower-limits, no-claim-number}
 use Rattle.engine.proofs.step.Statement.{statement}
@@ -97,7 +97,7 @@ same-length-3 c = search needs
 
 returns : tie.Need-returns
 unfolding chosen requestKinds upperKinds placeOf
-returns c = rw (c .before .before .before .before .before .before .before .match .keys1) (of-policy (c .plain .ensures) refl (c .before .before .before .delete .ensures), c .before .before .before .before .before .before .before .before .before .before .before .pre .0 .1 .1 .1)
+returns c = rw (c .before .before .before .before .before .before .before .before .before .match .keys1) (of-both (c .plain .ensures) refl (c .before .before .before .before .before .delete .ensures), c .before .before .before .before .before .before .before .before .before .before .before .before .before .pre .0 .1 .1 .1)
 
 same-length-4 : tie.Need-same-length-4
 same-length-4 c = search needs

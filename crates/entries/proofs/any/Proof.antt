@@ -1,34 +1,41 @@
--- None but what was found is among the words so far.
+-- None but what was hit is among the words so far.
 use Prim.Native.Nat.{ℕ, _≤_, _-_}
-use mathlib.Core.Path.{_≡_, refl, sym, ap, _∙_}
+use mathlib.Core.Path.{_≡_, refl, ap, _∙_}
 use native.Mathlib.Omega.{arith}
 use borrow.Author.Needs.{needs}
+use lib.Dec.{ltb}
 use Rattle.paper_lower.specs.Lists.{someBelow}
 use Rattle.links.proofs.ActLaws.{whole}
 use Rattle.links.specs.Chains.{markOf}
 use Rattle.entries.specs.Reading.{anyUpTo}
-use Rattle.entries.proofs.FlatLaws.{up-more}
+use Rattle.entries.proofs.FlatLaws.{more-le, up-more}
 use Rattle.entries.proofs.any.Statement.{statement}
 use Rattle.entries.proofs.any.Tie as tie
 
 abbrev Inv-loop : tie.InvT-loop
-Inv-loop o mask key m k₀ found₀ k found = (k ≤ m) × (found ≡ anyUpTo o k mask key)
+Inv-loop o mask key m k₀ hits₀ k hits = (k ≤ m) × ((hits ≤ k) × (ltb 0 hits ≡ anyUpTo o k mask key))
 
 abbrev μ-loop : tie.MeasureT-loop
-μ-loop o mask key m k₀ found₀ k found = m - k
+μ-loop o mask key m k₀ hits₀ k hits = m - k
 
 mark-requires : tie.Need-mark-requires Inv-loop μ-loop
 mark-requires c κs = search needs
 
 loop-holds : tie.Need-loop-holds Inv-loop μ-loop
 unfolding someBelow
-loop-holds c = (omega arith, refl)
+loop-holds c = (omega arith, (omega arith, refl))
 
 add-word : tie.Need-add-word Inv-loop μ-loop
 add-word c = let m = (whole (c .before .before .before .before .args .o .now) (c .before .before .before .before .pre .1) .woven) .mark in omega arith
 
 word-requires : tie.Need-word-requires Inv-loop μ-loop
 word-requires c κs = (c .before .before .before .before .pre .0, (let m = (whole (c .before .before .before .before .args .o .now) (c .before .before .before .before .pre .1) .woven) .mark in omega arith))
+
+half-fits-requires : tie.Need-half-fits-requires Inv-loop μ-loop
+half-fits-requires c κs = search needs
+
+one-more-requires : tie.Need-one-more-requires Inv-loop μ-loop
+one-more-requires c κs = let m = (whole (c .before .before .before .before .before .before .args .o .now) (c .before .before .before .before .before .before .pre .1) .woven) .mark in omega arith
 
 add-k : tie.Need-add-k Inv-loop μ-loop
 add-k c = omega arith
@@ -37,10 +44,10 @@ loop-less : tie.Need-loop-less Inv-loop μ-loop
 loop-less c = omega arith
 
 loop-again : tie.Need-loop-again Inv-loop μ-loop
-loop-again c = (omega arith, rw (c .word .ensures, c .before .before .loop .inv .1) (sym (up-more (c .before .before .before .before .before .args .o .now) (c .before .before .loop .k) (c .before .before .before .before .before .args .mask) (c .before .before .before .before .before .args .key))))
+loop-again c = (omega arith, (rw (c .one-more .ensures) (more-le (c .before .half-fits .result) (c .before .before .before .before .loop .hits) (c .before .before .before .before .loop .k) (c .before .before .before .before .loop .inv .1 .0)), up-more (c .before .before .before .before .before .before .before .args .o .now) (c .before .before .before .before .loop .k) (c .before .before .before .before .before .before .before .args .mask) (c .before .before .before .before .before .before .before .args .key) (c .before .before .word .result) (c .before .before .before .before .loop .hits) (c .one-more .result) (c .before .half-fits .result) (c .before .before .word .ensures) (c .before .half-fits .ensures) (c .one-more .ensures) (c .before .before .before .before .loop .inv .1 .1)))
 
 returns : tie.Need-returns Inv-loop μ-loop
-returns c = let e : c .before .loop .k ≡ markOf (c .before .before .before .before .args .o .now) = omega arith in c .before .loop .inv .1 ∙ ap (λ (n : ℕ). anyUpTo (c .before .before .before .before .args .o .now) n (c .before .before .before .before .args .mask) (c .before .before .before .before .args .key)) e
+returns c = let e : c .before .loop .k ≡ markOf (c .before .before .before .before .args .o .now) = omega arith in c .before .loop .inv .1 .1 ∙ ap (λ (n : ℕ). anyUpTo (c .before .before .before .before .args .o .now) n (c .before .before .before .before .args .mask) (c .before .before .before .before .args .key)) e
 
 pub any-spec : {M : Type 1} → statement M
 any-spec =
@@ -52,6 +59,8 @@ any-spec =
     loop-holds
     add-word
     word-requires
+    half-fits-requires
+    one-more-requires
     add-k
     loop-less
     loop-again

@@ -9,6 +9,9 @@ use Rattle.entries.proofs.in_open_order.Tie as tie
 mul-any : tie.Need-mul-any
 mul-any c = search needs
 
+cast-any : tie.Need-cast-any
+cast-any c = search needs
+
 any-requires : tie.Need-any-requires
 any-requires c κs = search needs
 
@@ -16,4 +19,4 @@ returns : tie.Need-returns
 returns c = c .any .ensures ∙ any-open (c .before .before .args .o .now) (sound (c .before .before .args .o .now) (c .before .before .pre .0 .1)) (c .before .before .args .u) (c .before .before .pre .1)
 
 pub in-open-order-spec : {M : Type 1} → statement M
-in-open-order-spec = tie.close (tie.spec mul-any any-requires returns)
+in-open-order-spec = tie.close (tie.spec mul-any cast-any any-requires returns)

@@ -78,6 +78,10 @@ raise-requires : tie.Need-raise-requires
 unfolding limitsOpen
 raise-requires c κs = (c .before .before .before .before .pre .0, (below (limitA policyForms) (c .before .before .before .before .pre .1 .a) (c .before .match .keys17) 64 tt, below (limitB policyForms) (c .before .before .before .before .pre .1 .b) (c .before .match .keys17) 64 tt))
 
+wall-requires : tie.Need-wall-requires
+unfolding limitsOpen
+wall-requires c κs = (c .before .before .before .before .pre .0, (below (limitA policyForms) (c .before .before .before .before .pre .1 .a) (c .before .match .keys18) 16 tt, (below (limitB policyForms) (c .before .before .before .before .pre .1 .b) (c .before .match .keys18) 16 tt, c .before .before .before .before .pre .1 .small .c)))
+
 same-length : tie.Need-same-length
 same-length c = search needs
 
@@ -197,9 +201,16 @@ returns-17 : tie.Need-returns-17
 unfolding chosen policyKinds
 returns-17 c = rw (c .before .before .before .before .match .keys17) (c .before .before .raise .ensures)
 
+same-length-18 : tie.Need-same-length-18
+same-length-18 c = search needs
+
 returns-18 : tie.Need-returns-18
 unfolding chosen policyKinds
-returns-18 c = simp (apart _ _ (c .match .rest .0 .0 .0 .0 .0 .0 .0 .0 .0 .0 .0 .0 .0 .0 .0 .0 .1), apart _ _ (c .match .rest .0 .0 .0 .0 .0 .0 .0 .0 .0 .0 .0 .0 .0 .0 .0 .1), apart _ _ (c .match .rest .0 .0 .0 .0 .0 .0 .0 .0 .0 .0 .0 .0 .0 .0 .1), apart _ _ (c .match .rest .0 .0 .0 .0 .0 .0 .0 .0 .0 .0 .0 .0 .0 .1), apart _ _ (c .match .rest .0 .0 .0 .0 .0 .0 .0 .0 .0 .0 .0 .0 .1), apart _ _ (c .match .rest .0 .0 .0 .0 .0 .0 .0 .0 .0 .0 .0 .1), apart _ _ (c .match .rest .0 .0 .0 .0 .0 .0 .0 .0 .0 .0 .1), apart _ _ (c .match .rest .0 .0 .0 .0 .0 .0 .0 .0 .0 .1), apart _ _ (c .match .rest .0 .0 .0 .0 .0 .0 .0 .0 .1), apart _ _ (c .match .rest .0 .0 .0 .0 .0 .0 .0 .1), apart _ _ (c .match .rest .0 .0 .0 .0 .0 .0 .1), apart _ _ (c .match .rest .0 .0 .0 .0 .0 .1), apart _ _ (c .match .rest .0 .0 .0 .0 .1), apart _ _ (c .match .rest .0 .0 .0 .1), apart _ _ (c .match .rest .0 .0 .1), apart _ _ (c .match .rest .0 .1), apart _ _ (c .match .rest .1)) (record { replies = refl; tables = refl; kept = λ _. refl })
+returns-18 c = rw (c .before .before .before .before .match .keys18) (c .before .before .wall .ensures)
+
+returns-19 : tie.Need-returns-19
+unfolding chosen policyKinds
+returns-19 c = simp (apart _ _ (c .match .rest .0 .0 .0 .0 .0 .0 .0 .0 .0 .0 .0 .0 .0 .0 .0 .0 .0 .1), apart _ _ (c .match .rest .0 .0 .0 .0 .0 .0 .0 .0 .0 .0 .0 .0 .0 .0 .0 .0 .1), apart _ _ (c .match .rest .0 .0 .0 .0 .0 .0 .0 .0 .0 .0 .0 .0 .0 .0 .0 .1), apart _ _ (c .match .rest .0 .0 .0 .0 .0 .0 .0 .0 .0 .0 .0 .0 .0 .0 .1), apart _ _ (c .match .rest .0 .0 .0 .0 .0 .0 .0 .0 .0 .0 .0 .0 .0 .1), apart _ _ (c .match .rest .0 .0 .0 .0 .0 .0 .0 .0 .0 .0 .0 .0 .1), apart _ _ (c .match .rest .0 .0 .0 .0 .0 .0 .0 .0 .0 .0 .0 .1), apart _ _ (c .match .rest .0 .0 .0 .0 .0 .0 .0 .0 .0 .0 .1), apart _ _ (c .match .rest .0 .0 .0 .0 .0 .0 .0 .0 .0 .1), apart _ _ (c .match .rest .0 .0 .0 .0 .0 .0 .0 .0 .1), apart _ _ (c .match .rest .0 .0 .0 .0 .0 .0 .0 .1), apart _ _ (c .match .rest .0 .0 .0 .0 .0 .0 .1), apart _ _ (c .match .rest .0 .0 .0 .0 .0 .1), apart _ _ (c .match .rest .0 .0 .0 .0 .1), apart _ _ (c .match .rest .0 .0 .0 .1), apart _ _ (c .match .rest .0 .0 .1), apart _ _ (c .match .rest .0 .1), apart _ _ (c .match .rest .1)) (record { replies = refl; tables = refl; kept = λ _. refl })
 
 pub step-spec : {M : Type 1} → statement M
 step-spec =
@@ -223,6 +234,7 @@ step-spec =
     bind-requires
     before-requires
     raise-requires
+    wall-requires
     same-length
     returns
     same-length-2
@@ -257,4 +269,6 @@ step-spec =
     returns-16
     same-length-17
     returns-17
-    returns-18)
+    same-length-18
+    returns-18
+    returns-19)

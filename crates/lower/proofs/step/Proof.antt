@@ -16,7 +16,7 @@ use Rattle.lower.proofs.step.Statement.{statement}
 use Rattle.lower.proofs.step.Tie as tie
 
 abbrev kinds : List ℕ
-kinds = 32 ∷ 33 ∷ 34 ∷ 35 ∷ 36 ∷ 37 ∷ 40 ∷ 41 ∷ 42 ∷ 43 ∷ 56 ∷ []
+kinds = 32 ∷ 33 ∷ 34 ∷ 35 ∷ 36 ∷ 37 ∷ 40 ∷ 41 ∷ 42 ∷ 43 ∷ 56 ∷ 59 ∷ []
 
 join-requires : tie.Need-join-requires
 unfolding limitsOpen
@@ -62,6 +62,10 @@ check-reply-requires : tie.Need-check-reply-requires
 unfolding limitsOpen
 check-reply-requires c κs = (c .before .before .before .before .before .pre .0, (c .before .before .before .before .before .pre .1 .0, (below (limitA lowerForms) (c .before .before .before .before .before .pre .1 .1 .a) (c .before .before .match .keys11) 128 tt, (below (limitB lowerForms) (c .before .before .before .before .before .pre .1 .1 .b) (c .before .before .match .keys11) 65536 tt, below (limitC lowerForms) (c .before .before .before .before .before .pre .1 .1 .c) (c .before .before .match .keys11) 65536 tt))))
 
+commit-requires : tie.Need-commit-requires
+unfolding limitsOpen
+commit-requires c κs = (c .before .before .before .before .before .pre .0, (c .before .before .before .before .before .pre .1 .0, (below (limitA lowerForms) (c .before .before .before .before .before .pre .1 .1 .a) (c .before .before .match .keys12) 128 tt, (below (limitB lowerForms) (c .before .before .before .before .before .pre .1 .1 .b) (c .before .before .match .keys12) 65536 tt, below (limitC lowerForms) (c .before .before .before .before .before .pre .1 .1 .c) (c .before .before .match .keys12) 65536 tt))))
+
 same-length : tie.Need-same-length
 same-length c = search needs
 
@@ -77,7 +81,7 @@ same-length-3 c = search needs
 
 returns-2 : tie.Need-returns-2
 unfolding chosen lowerKinds roleKinds sessionKinds
-returns-2 c = rw (c .before .before .before .before .before .match .keys2) (of-policy (c .before .before .delete .ensures))
+returns-2 c = rw (c .before .before .before .before .before .before .before .match .keys2) (c .before .before .before .before .delete .ensures)
 
 same-length-4 : tie.Need-same-length-4
 same-length-4 c = search needs
@@ -157,9 +161,19 @@ returns-11 : tie.Need-returns-11
 unfolding chosen lowerKinds roleKinds sessionKinds
 returns-11 c = rw (c .before .before .before .match .keys11) (of-neither (c .check-reply .ensures))
 
+same-length-18 : tie.Need-same-length-18
+same-length-18 c = search needs
+
+same-length-19 : tie.Need-same-length-19
+same-length-19 c = search needs
+
 returns-12 : tie.Need-returns-12
+unfolding chosen lowerKinds roleKinds sessionKinds
+returns-12 c = rw (c .before .before .before .before .before .match .keys12) (of-sessions (c .before .before .commit .ensures))
+
+returns-13 : tie.Need-returns-13
 unfolding limitsOpen
-returns-12 c = absurd (no-other (λ k. there (formOf lowerForms k)) (λ k. k) (oneEach kinds) 256 tt (c .before .before .before .args .r .kind) (c .before .before .before .pre .1 .1 .small .kind) (c .before .before .before .pre .1 .1 .known) (c .match .rest))
+returns-13 c = absurd (no-other (λ k. there (formOf lowerForms k)) (λ k. k) (oneEach kinds) 256 tt (c .before .before .before .args .r .kind) (c .before .before .before .pre .1 .1 .small .kind) (c .before .before .before .pre .1 .1 .known) (c .match .rest))
 
 pub step-spec : {M : Type 1} → statement M
 step-spec =
@@ -176,6 +190,7 @@ step-spec =
     activate-requires
     deactivate-requires
     check-reply-requires
+    commit-requires
     same-length
     returns
     same-length-2
@@ -204,4 +219,7 @@ step-spec =
     same-length-16
     same-length-17
     returns-11
-    returns-12)
+    same-length-18
+    same-length-19
+    returns-12
+    returns-13)

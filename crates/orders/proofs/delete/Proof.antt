@@ -1,8 +1,8 @@
 -- Judged, and then the user removed.
 use mathlib.Core.Path.{ap}
 use borrow.Author.Needs.{needs}
-use Rattle.replies.proofs.DoneLaws.{refused, done}
-use Rattle.sessions.specs.Reading.{sessionsOf}
+use Rattle.paper_lower.specs.Tables.{Lower}
+use Rattle.sessions.proofs.BothLaws.{both-refused, both-done}
 use Rattle.entries.specs.Reading.{ordersOf}
 use Rattle.orders.proofs.delete.Statement.{statement}
 use Rattle.orders.proofs.delete.Tie as tie
@@ -16,20 +16,25 @@ accepted-requires c κs = search needs
 same-length : tie.Need-same-length
 same-length c = search needs
 
+same-length-2 : tie.Need-same-length-2
+same-length-2 c = search needs
+
 returns : tie.Need-returns
-returns c = refused (c .before .before .delete-reply .ensures) (c .before .accepted .ensures) (c .if1 .taken)
+returns c = both-refused (c .before .before .delete-reply .ensures) (c .before .accepted .ensures) (c .if1 .taken)
 
 remove-requires : tie.Need-remove-requires
 remove-requires c κs = search needs
 
-same-length-2 : tie.Need-same-length-2
-same-length-2 c = search needs
+same-length-3 : tie.Need-same-length-3
+same-length-3 c = search needs
+
+same-length-4 : tie.Need-same-length-4
+same-length-4 c = search needs
 
 returns-2 : tie.Need-returns-2
 returns-2 c =
-    let z = c .before .before .before .before .before .before .before .before .before .before .before .args in
-    done (c .before .before .before .before .before .before .delete-reply .ensures) (c .before .before .before .before .before .accepted .ensures) (c .before .before .before .before .if1 .left)
-    (ap (λ x. record { lower = record { policy = x; sessions = sessionsOf (z .s .now) }; orders = ordersOf (z .o .now) }) (c .before .before .remove .ensures))
+    both-done (c .before .before .before .before .before .before .before .before .before .delete-reply .ensures) (c .before .before .before .before .before .before .before .before .accepted .ensures) (c .before .before .before .before .before .before .before .if1 .left)
+    (ap (λ (x : Lower). record { lower = x; orders = ordersOf (c .before .before .before .before .before .before .before .before .before .before .before .before .before .before .before .args .o .now) }) (c .before .before .before .before .remove .ensures))
 
 pub delete-spec : {M : Type 1} → statement M
 delete-spec =
@@ -38,7 +43,9 @@ delete-spec =
     delete-reply-requires
     accepted-requires
     same-length
+    same-length-2
     returns
     remove-requires
-    same-length-2
+    same-length-3
+    same-length-4
     returns-2)

@@ -1,6 +1,6 @@
--- Judged, and then the user's row emptied.
+-- Judged, and then the user's row emptied and the binding forgotten.
+use Rattle.sessions.proofs.BothLaws.{both-refused, both-done}
 use borrow.Author.Needs.{needs}
-use Rattle.replies.proofs.DoneLaws.{refused, done}
 use Rattle.roles.proofs.delete.Statement.{statement}
 use Rattle.roles.proofs.delete.Tie as tie
 
@@ -13,17 +13,23 @@ accepted-requires c κs = search needs
 same-length : tie.Need-same-length
 same-length c = search needs
 
+same-length-2 : tie.Need-same-length-2
+same-length-2 c = search needs
+
 returns : tie.Need-returns
-returns c = refused (c .before .before .delete-reply .ensures) (c .before .accepted .ensures) (c .if1 .taken)
+returns c = both-refused (c .before .before .delete-reply .ensures) (c .before .accepted .ensures) (c .if1 .taken)
 
 remove-requires : tie.Need-remove-requires
 remove-requires c κs = search needs
 
-same-length-2 : tie.Need-same-length-2
-same-length-2 c = search needs
+same-length-3 : tie.Need-same-length-3
+same-length-3 c = search needs
+
+same-length-4 : tie.Need-same-length-4
+same-length-4 c = search needs
 
 returns-2 : tie.Need-returns-2
-returns-2 c = done (c .before .before .before .before .before .before .delete-reply .ensures) (c .before .before .before .before .before .accepted .ensures) (c .before .before .before .before .if1 .left) (c .before .before .remove .ensures)
+returns-2 c = both-done (c .before .before .before .before .before .before .before .before .before .delete-reply .ensures) (c .before .before .before .before .before .before .before .before .accepted .ensures) (c .before .before .before .before .before .before .before .if1 .left) (c .before .before .before .before .remove .ensures)
 
 pub delete-spec : {M : Type 1} → statement M
 delete-spec =
@@ -32,7 +38,9 @@ delete-spec =
     delete-reply-requires
     accepted-requires
     same-length
+    same-length-2
     returns
     remove-requires
-    same-length-2
+    same-length-3
+    same-length-4
     returns-2)

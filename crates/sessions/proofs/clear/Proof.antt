@@ -11,10 +11,10 @@ use Rattle.sessions.proofs.clear.Statement.{statement}
 use Rattle.sessions.proofs.clear.Tie as tie
 
 abbrev Inv-loop : tie.InvT-loop
-Inv-loop s₀ i₀ s i = (i ≤ 384) × ((length s ≡ 384) × (s ≡ replicate i 0 ++ drop i s₀))
+Inv-loop s₀ i₀ s i = (i ≤ 2432) × ((length s ≡ 2432) × (s ≡ replicate i 0 ++ drop i s₀))
 
 abbrev μ-loop : tie.MeasureT-loop
-μ-loop s₀ i₀ s i = 384 - i
+μ-loop s₀ i₀ s i = 2432 - i
 
 loop-holds : tie.Need-loop-holds Inv-loop μ-loop
 loop-holds c = (search needs, (search needs, fill-none (c .args .s .now) 0))

@@ -1,10 +1,12 @@
--- What was found is what the subjects passed have.
+-- What was hit is what the subjects passed have.
 use Prim.Native.Nat.{ℕ, _+_, _≤_, _-_}
-use mathlib.Core.Bool.{Bool, _||_}
-use mathlib.Core.Path.{_≡_, refl, sym}
+use mathlib.Core.Bool.{Bool, true, false, cond, _||_}
+use mathlib.Core.Path.{_≡_, refl, sym, ap, ap₂, _∙_}
 use native.Mathlib.Numerals.{add-one}
 use native.Mathlib.Omega.{arith}
 use borrow.Author.Needs.{needs}
+use borrow.Author.Tests.{lt-ltb}
+use lib.Dec.{ltb}
 use Rattle.paper_lower.specs.Lists.{someBelow}
 use Rattle.paper_lower.specs.Roles.{subjectOf}
 use Rattle.sessions.specs.Reading.{sessionsOf}
@@ -15,18 +17,35 @@ below-up : (f : ℕ → Bool) (k : ℕ) → someBelow (k + 1) f ≡ f k || someB
 unfolding someBelow
 below-up f k = rw add-one
 
+more-some : (hit : Bool) (n : ℕ) → ltb 0 (cond hit (n + 1) n) ≡ hit || ltb 0 n
+more-some true n = lt-ltb 0 (n + 1) (omega arith)
+more-some false n = refl
+
+more-le : (hit : Bool) (n k : ℕ) → n ≤ k → cond hit (n + 1) n ≤ k + 1
+more-le true n k h = omega arith
+more-le false n k h = omega arith
+
+hit-more : (f : ℕ → Bool) (k n n′ : ℕ) (hit : Bool) → hit ≡ f k → n′ ≡ cond hit (n + 1) n → ltb 0 n ≡ someBelow k f → ltb 0 n′ ≡ someBelow (k + 1) f
+hit-more f k n n′ hit eh en e = ap (ltb 0) en ∙ more-some hit n ∙ ap₂ _||_ eh e ∙ sym (below-up f k)
+
 abbrev Inv-loop : tie.InvT-loop
-Inv-loop s u a₀ found₀ a found = (a ≤ 128) × (found ≡ someBelow a (subjectOf (sessionsOf s) u))
+Inv-loop s u a₀ hits₀ a hits = (a ≤ 128) × ((hits ≤ a) × (ltb 0 hits ≡ someBelow a (subjectOf (sessionsOf s) u)))
 
 abbrev μ-loop : tie.MeasureT-loop
-μ-loop s u a₀ found₀ a found = 128 - a
+μ-loop s u a₀ hits₀ a hits = 128 - a
 
 loop-holds : tie.Need-loop-holds Inv-loop μ-loop
 unfolding someBelow
-loop-holds c = (search needs, refl)
+loop-holds c = (search needs, (search needs, refl))
 
-of-user-requires : tie.Need-of-user-requires Inv-loop μ-loop
-of-user-requires c κs = search needs
+cast-quarter-of : tie.Need-cast-quarter-of Inv-loop μ-loop
+cast-quarter-of c = search needs
+
+quarter-of-requires : tie.Need-quarter-of-requires Inv-loop μ-loop
+quarter-of-requires c κs = search needs
+
+one-more-requires : tie.Need-one-more-requires Inv-loop μ-loop
+one-more-requires c κs = omega arith
 
 add-a : tie.Need-add-a Inv-loop μ-loop
 add-a c = search needs
@@ -35,10 +54,10 @@ loop-less : tie.Need-loop-less Inv-loop μ-loop
 loop-less c = search needs
 
 loop-again : tie.Need-loop-again Inv-loop μ-loop
-loop-again c = (search needs, rw (c .of-user .ensures, c .before .before .loop .inv .1) (sym (below-up _ (c .before .before .loop .a))))
+loop-again c = (search needs, (rw (c .one-more .ensures) (more-le (c .before .quarter-of .result) (c .before .before .before .loop .hits) (c .before .before .before .loop .a) (c .before .before .before .loop .inv .1 .0)), hit-more (subjectOf (sessionsOf (c .before .before .before .before .before .args .s .now)) (c .before .before .before .before .before .args .u)) (c .before .before .before .loop .a) (c .before .before .before .loop .hits) (c .one-more .result) (c .before .quarter-of .result) (c .before .quarter-of .ensures) (c .one-more .ensures) (c .before .before .before .loop .inv .1 .1)))
 
 returns : tie.Need-returns Inv-loop μ-loop
-returns c = let e : 128 ≡ c .before .loop .a = omega arith in rw e (c .before .loop .inv .1)
+returns c = let e : 128 ≡ c .before .loop .a = omega arith in rw e (c .before .loop .inv .1 .1)
 
 pub has-subject-spec : {M : Type 1} → statement M
 has-subject-spec =
@@ -47,7 +66,9 @@ has-subject-spec =
     Inv-loop
     μ-loop
     loop-holds
-    of-user-requires
+    cast-quarter-of
+    quarter-of-requires
+    one-more-requires
     add-a
     loop-less
     loop-again

@@ -1,6 +1,6 @@
 -- Each way out is the first check of the definition that applies.
-use borrow.Author.Needs.{needs}
 use Rattle.paper_lower.specs.Sessions.{checkChecks}
+use borrow.Author.Needs.{needs}
 use Rattle.subjects.proofs.check_reply.Statement.{statement}
 use Rattle.subjects.proofs.check_reply.Tie as tie
 
@@ -24,10 +24,31 @@ returns-2 : tie.Need-returns-2
 unfolding checkChecks
 returns-2 c = simp (← c .before .before .before .before .before .live .ensures, c .before .before .before .before .if1 .left, ← c .before .before .before .active .ensures, ← c .before .before .down .ensures, ← c .before .allowed .ensures, c .if2 .taken)
 
+user-requires : tie.Need-user-requires
+user-requires c κs = search needs
+
+wall-between-requires : tie.Need-wall-between-requires
+wall-between-requires c κs = search needs
+
 returns-3 : tie.Need-returns-3
 unfolding checkChecks
-returns-3 c = simp (← c .before .before .before .before .before .live .ensures, c .before .before .before .before .if1 .left, ← c .before .before .before .active .ensures, ← c .before .before .down .ensures, ← c .before .allowed .ensures, c .if2 .left)
+returns-3 c = simp (← c .before .before .before .before .before .before .before .before .live .ensures, c .before .before .before .before .before .before .before .if1 .left, ← c .before .before .before .before .before .before .active .ensures, ← c .before .before .before .before .before .down .ensures, ← c .before .before .before .before .allowed .ensures, c .before .before .before .if2 .left, ← c .before .before .user .ensures .0, ← c .before .wall-between .ensures, c .if3 .taken)
+
+returns-4 : tie.Need-returns-4
+unfolding checkChecks
+returns-4 c = simp (← c .before .before .before .before .before .before .before .before .live .ensures, c .before .before .before .before .before .before .before .if1 .left, ← c .before .before .before .before .before .before .active .ensures, ← c .before .before .before .before .before .down .ensures, ← c .before .before .before .before .allowed .ensures, c .before .before .before .if2 .left, ← c .before .before .user .ensures .0, ← c .before .wall-between .ensures, c .if3 .left)
 
 pub check-reply-spec : {M : Type 1} → statement M
 check-reply-spec =
-    tie.close (tie.spec live-requires returns active-requires down-requires allowed-requires returns-2 returns-3)
+    tie.close
+    (tie.spec
+    live-requires
+    returns
+    active-requires
+    down-requires
+    allowed-requires
+    returns-2
+    user-requires
+    wall-between-requires
+    returns-3
+    returns-4)

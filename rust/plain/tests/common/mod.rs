@@ -70,6 +70,10 @@ pub fn above(a: u16, b: u16) -> Bytes {
     ab(17, a, b)
 }
 
+pub fn wall(wall: u16, block: u16, object: u16) -> Bytes {
+    record(18, 0, wall, block, object, 0)
+}
+
 pub fn add_user(a: u16) -> Bytes {
     ab(32, a, 0)
 }
@@ -128,6 +132,10 @@ pub fn task_check(subject: u16, instance: u16, task: u16, operation: u16, object
 
 pub fn entries_of(instance: u16) -> Bytes {
     ab(58, instance, 0)
+}
+
+pub fn commit(subject: u16, operation: u16, object: u16) -> Bytes {
+    record(59, 0, subject, operation, object, 0)
 }
 
 pub fn stuck_tasks(template: u16) -> Bytes {

@@ -85,7 +85,7 @@ mod tests {
 
     #[test]
     fn a_request_is_about_the_user_of_its_subject() {
-        let mut sessions = vec![0; 384];
+        let mut sessions = vec![0; 2432];
         sessions[5] = 1 << 10 | 300;
         let of = |record: Record| user_of(&record, &sessions);
         assert_eq!(of(Record::claim(5, 0, 1)), Some(300));

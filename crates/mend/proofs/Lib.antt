@@ -1,0 +1,5 @@
+mod Again
+mod Lent
+mod Steps
+mod Going
+pub mod Statements

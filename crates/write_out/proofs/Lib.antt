@@ -1,0 +1,3 @@
+mod Ways
+mod Statements
+mod Reloads

@@ -1,0 +1,44 @@
+-- 02, Ask 8, of the real calls: what was written of an engine in use loads again, and tells the tables.
+use Prim.Native.Nat.{ℕ, _*_, _<_}
+use mathlib.Core.Bool.{true}
+use mathlib.Core.List.{List}
+use mathlib.Core.Logic.{_↔_}
+use mathlib.Core.Path.{_≡_}
+use lib.ListN.{take}
+use Rattle.paper_lower.specs.Lists.{Every}
+use Rattle.paper_lower.specs.Checks.{GRANTED}
+use Rattle.paper_lower.specs.Records.{Bytes}
+use Rattle.paper_upper.specs.Engine.{Placed, engineOf}
+use Rattle.replies.specs.Replies.{numberOf}
+use Rattle.writing.specs.declared.Written.{Written}
+use Rattle.engine.specs.Buffers.{Buffers, tablesOf, fit}
+use Rattle.demands.specs.Calls.{Load, Requests}
+use Rattle.write_out.specs.Promises.{policyIn, WroteOut}
+
+-- "Starting from an accepted load and any requests": the buffers z, after calls of whichever functions
+pub record Reached (z : Buffers) : Type 0 where
+  pub policy : Bytes
+  pub bytes : Every (λ b. b < 256) policy
+  pub x : Buffers
+  pub y : Buffers
+  pub reply : ℕ
+  pub loaded : Load policy x y reply
+  pub granted : reply ≡ GRANTED
+  pub said : List Placed
+  pub requests : Requests y said z
+
+-- what was written of them: the records' bytes, at the front of the output
+pub record Out (z : Buffers) (bytes : Bytes) : Type 0 where
+  pub output : Bytes
+  pub after : Bytes
+  pub answer : Written
+  pub wrote : WroteOut z output after answer
+  pub granted : numberOf (answer .reply) ≡ GRANTED
+  pub front : bytes ≡ take (16 * answer .records) after
+
+pub record WrittenOut : Type 0 where
+  -- "loading what was written is accepted and gives the same policy tables, without sessions, instances or entries"
+  pub again : {z u v : Buffers} {bytes : Bytes} {reply : ℕ} → Reached z → Out z bytes → fit u ≡ true → Load bytes u v reply
+      → (reply ≡ GRANTED) × (tablesOf v ≡ engineOf (policyIn z))
+  -- "Two such engines have equal policy tables, the orders held included, exactly when the written bytes are equal."
+  pub tell : {z u : Buffers} {a b : Bytes} → Reached z → Reached u → Out z a → Out u b → (policyIn z ≡ policyIn u) ↔ (a ≡ b)

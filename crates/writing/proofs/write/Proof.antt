@@ -1,0 +1,33 @@
+-- Another length; an output too short; all records.
+use native.Mathlib.Omega.{arith}
+use denote.Ref.{now}
+use Rattle.writing.proofs.Ways.{no-buffer, too-short, all-written}
+use borrow.Author.Needs.{needs}
+use Rattle.writing.proofs.write.Statement.{statement}
+use Rattle.writing.proofs.write.Tie as tie
+
+returns : tie.Need-returns
+returns c = record { answers = no-buffer (now (c .before .before .before .args .p)) (c .before .before .before .args .output .now) (c .if1 .taken); few = omega arith }
+
+count-requires : tie.Need-count-requires
+count-requires c κs = search needs
+
+mul-if2 : tie.Need-mul-if2
+mul-if2 c = search needs
+
+returns-2 : tie.Need-returns-2
+returns-2 c = record { answers = too-short (now (c .before .before .before .before .before .args .p)) (c .before .before .before .before .before .args .output .now) (c .before .before .if1 .left) (c .before .count .ensures .0) (c .if2 .taken); few = omega arith }
+
+all-requires : tie.Need-all-requires
+all-requires c κs = search needs
+
+same-length : tie.Need-same-length
+same-length c = search needs
+
+returns-3 : tie.Need-returns-3
+returns-3 c = record { answers = all-written (now (c .before .before .before .before .before .before .before .before .before .args .p)) (c .before .before .before .before .before .before .before .before .before .args .output .now) (c .before .before .before .before .before .before .if1 .left) (c .before .before .before .before .before .count .ensures .0) (omega arith) (c .before .before .all .ensures); few = c .before .before .before .before .before .count .ensures .1 }
+
+pub write-spec : {M : Type 1} → statement M
+write-spec =
+    tie.close
+    (tie.spec returns count-requires mul-if2 returns-2 all-requires same-length returns-3)
