@@ -73,7 +73,7 @@ impl<'a> Output<'a> {
         Output { file, to }
     }
 
-    /// Writes the policy; a file is made whole, or stays as it was.
+    /// Writes the policy; a file is touched when all of it is there.
     fn put(&self, policy: &Policy, out: &mut dyn Write) -> Result<(), Stop> {
         let Some(name) = self.file else {
             convert::policy(policy, self.to, out)?;
@@ -81,12 +81,7 @@ impl<'a> Output<'a> {
         };
         let mut made = Vec::new();
         convert::policy(policy, self.to, &mut made)?;
-        let beside = format!("{name}.part");
-        let put = fs::write(&beside, made).and_then(|()| fs::rename(&beside, name));
-        put.or_else(|why| {
-            let _ = fs::remove_file(&beside);
-            wrong(format!("{name}: it cannot be written: {why}"))
-        })
+        fs::write(name, made).or_else(|why| wrong(format!("{name}: it cannot be written: {why}")))
     }
 }
 

@@ -593,3 +593,31 @@ fn many_desks_are_apart() {
         server.told
     );
 }
+
+/// The policy of a desk that is being served, as it is now: with those who joined, by their names, and without sessions and orders.
+#[test]
+fn the_policy_of_a_served_desk_is_written_out() {
+    let room = room("written");
+    let journal = room.join("desk.db").to_str().unwrap().to_string();
+    let server = Server::start(&room, &[POLICY]);
+    let (before, _, status) = run(&["write", "--journal", &journal]);
+    assert_eq!((run(&["write", POLICY]).0, status), (before.clone(), 0));
+    let said = server.lines("add user 900 zoe with roles fitter\ncreate subject 1 for user zoe with roles fitter\ndelete user bert\n");
+    assert_eq!(said, ["1 0 GRANTED", "2 0 GRANTED", "3 0 GRANTED"]);
+    let (after, _, _) = run(&["write", "--journal", &journal]);
+    let mut expected: Vec<&str> = before
+        .lines()
+        .filter(|line| !line.contains("bert"))
+        .collect();
+    let roles = expected
+        .iter()
+        .position(|line| line.starts_with("role "))
+        .unwrap();
+    expected.insert(roles, "user 900 zoe");
+    let has = expected
+        .iter()
+        .rposition(|line| line.starts_with("user ") && line.contains(" has role "));
+    expected.insert(has.unwrap() + 1, "user zoe has role fitter");
+    assert_eq!(after.lines().collect::<Vec<_>>(), expected);
+    assert_eq!(run(&["write", POLICY, "--journal", &journal]).2, 2);
+}
