@@ -725,8 +725,15 @@ mod tests {
         let template = random.pick(&templates);
         let (subject, order) = (random.below(6) as u16, random.below(3) as u16);
         let (role, roles) = (random.below(5) as u16, Set(random.below(32)));
-        let object = 7 + random.below(3) as u16;
-        match random.below(31) {
+        let walled = desk.told.rules_of(18).next().is_some();
+        if walled && random.below(4) == 0 {
+            let object = 7 + random.below(3) as u16;
+            return match random.below(2) {
+                0 => Record::check(subject, 2, object),
+                _ => Record::commit(subject, 2, object),
+            };
+        }
+        match random.below(29) {
             0 => Record::add_user_with(user, roles),
             1 => Record::delete_user(user),
             2 => Record::assign_role(user, role),
@@ -746,8 +753,6 @@ mod tests {
             19 => Record::release(subject, order, task),
             22 => Record::delete_user(1024 + user),
             20 | 21 => Record::done(subject, order, task),
-            23 => Record::check(subject, 2, object),
-            24 => Record::commit(subject, 2, object),
             _ => Record::claim(subject, order, task),
         }
     }
