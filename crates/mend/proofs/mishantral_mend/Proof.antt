@@ -264,7 +264,8 @@ module _ {M : Type 1} (𝓤 : URA M) (H : Heap 𝓤) (A : Atoms 𝓤) (W : Given
         use1 W (later (some (λ (g : ℕ × GName). Lent₄ g (z .s) ⊛ Away₄ g (z .s)))) (lend 𝓤 H A W u64 κ₄ q₄ (x₄ .name) (x₄ .ptr .0) (x₄ .ptr .1) (length (x₄ .now)) (named 4) (named 3) (z .s) (same .e₄)) $ await ! tt $ pick ! (λ g₄. split ! $ move ! (2 ∷ []) $
         use1 W (later (some (λ (g : ℕ × GName). Lent₅ g (z .o) ⊛ Away₅ g (z .o)))) (lend 𝓤 H A W u64 κ₅ q₅ (x₅ .name) (x₅ .ptr .0) (x₅ .ptr .1) (length (x₅ .now)) (named 5) (named 4) (z .o) (same .e₅)) $ await ! tt $ pick ! (λ g₅. split ! $
         -- [orders, lent and kept; sessions; policy; output; input]
-        move ! (8 ∷ []) $ split ! $ use1 W (‵ (ShrSlice (named 0) κ₀ u8 .own x₀ (val x₀)) ⊛ ‵ (ShrSlice (named 0) κ₀ u8 .own x₀ (val x₀))) (shr-slice-copy 𝓤 H A W (named 0) κ₀ u8 .twice x₀ (val x₀)) $ split ! $
+        move ! (8 ∷ []) $ split ! $
+        use1 W (‵ (ShrSlice (named 0) κ₀ u8 .own x₀ (val x₀)) ⊛ ‵ (ShrSlice (named 0) κ₀ u8 .own x₀ (val x₀))) (shr-slice-copy 𝓤 H A W (named 0) κ₀ u8 .twice x₀ (val x₀)) $ split ! $
         -- [i; i; 0; lent 5; kept 5; lent 4; kept 4; lent 3; kept 3; lent 1; kept 1]
         move ! (0 ∷ 2 ∷ []) $ join ! $ move ! (4 ∷ 2 ∷ []) $ join ! $ move ! (5 ∷ 0 ∷ []) $ join ! $ move ! (6 ∷ 0 ∷ []) $ join ! $ move ! (1 ∷ 0 ∷ []) $ join ! $
         use1 W (raw (Step 𝓤 H A mem run .pre (to (g₁, (g₃, (g₄, g₅)))))) (asked ready (g₁, (g₃, (g₄, g₅)))) $
@@ -295,13 +296,18 @@ module _ {M : Type 1} (𝓤 : URA M) (H : Heap 𝓤) (A : Atoms 𝓤) (W : Given
         -- [last 5; last 4; last 3; last 1; kept 4; kept 5; kept 3; kept 1; i; tokens and result]
         move ! (9 ∷ []) $ split ! $ split ! $ move ! (1 ∷ []) $ split ! $
         -- [token 1; tokens; token 0; r; last 5; last 4; last 3; last 1; kept 4; kept 5; kept 3; kept 1; i]
-        move ! (0 ∷ 11 ∷ 7 ∷ []) $ use3 W (later (Output (ws .1 .0))) (back 𝓤 H A W u8 κ₁ q₁ (x₁ .name) (x₁ .ptr .0) (x₁ .ptr .1) (length (x₁ .now)) (named 1) (named 1) (g .0) (z .out) (ws .1 .0) (same .e₁) m₁ e₁) $ await ! tt $ move ! (1 ∷ []) $ split ! $
+        move ! (0 ∷ 11 ∷ 7 ∷ []) $
+        use3 W (later (Output (ws .1 .0))) (back 𝓤 H A W u8 κ₁ q₁ (x₁ .name) (x₁ .ptr .0) (x₁ .ptr .1) (length (x₁ .now)) (named 1) (named 1) (g .0) (z .out) (ws .1 .0) (same .e₁) m₁ e₁) $
+        await ! tt $ move ! (1 ∷ []) $ split ! $
         -- [token 3; tokens; output; token 0; r; last 5; last 4; last 3; kept 4; kept 5; kept 3; i]
-        move ! (0 ∷ 10 ∷ 7 ∷ []) $ use3 W (later (Policy (ws .1 .1 .1 .1 .1 .0))) (back 𝓤 H A W u64 κ₃ q₃ (x₃ .name) (x₃ .ptr .0) (x₃ .ptr .1) (length (x₃ .now)) (named 3) (named 2) (g .1 .0) (z .p) (ws .1 .1 .1 .1 .1 .0) (same .e₃) m₃ e₃) $ await ! tt $ move ! (1 ∷ []) $ split ! $
+        move ! (0 ∷ 10 ∷ 7 ∷ []) $
+        use3 W (later (Policy (ws .1 .1 .1 .1 .1 .0))) (back 𝓤 H A W u64 κ₃ q₃ (x₃ .name) (x₃ .ptr .0) (x₃ .ptr .1) (length (x₃ .now)) (named 3) (named 2) (g .1 .0) (z .p) (ws .1 .1 .1 .1 .1 .0) (same .e₃) m₃ e₃) $ await ! tt $ move ! (1 ∷ []) $ split ! $
         -- [token 4; tokens; policy; output; token 0; r; last 5; last 4; kept 4; kept 5; i]
-        move ! (0 ∷ 8 ∷ 7 ∷ []) $ use3 W (later (Sessions (ws .1 .1 .1 .1 .1 .1 .0))) (back 𝓤 H A W u64 κ₄ q₄ (x₄ .name) (x₄ .ptr .0) (x₄ .ptr .1) (length (x₄ .now)) (named 4) (named 3) (g .1 .1 .0) (z .s) (ws .1 .1 .1 .1 .1 .1 .0) (same .e₄) m₄ e₄) $ await ! tt $ move ! (1 ∷ []) $ split ! $
+        move ! (0 ∷ 8 ∷ 7 ∷ []) $
+        use3 W (later (Sessions (ws .1 .1 .1 .1 .1 .1 .0))) (back 𝓤 H A W u64 κ₄ q₄ (x₄ .name) (x₄ .ptr .0) (x₄ .ptr .1) (length (x₄ .now)) (named 4) (named 3) (g .1 .1 .0) (z .s) (ws .1 .1 .1 .1 .1 .1 .0) (same .e₄) m₄ e₄) $ await ! tt $ move ! (1 ∷ []) $ split ! $
         -- [token 5; true; sessions; policy; output; token 0; r; last 5; kept 5; i]
-        move ! (0 ∷ 8 ∷ 7 ∷ []) $ use3 W (later (Orders (ws .1 .1 .1 .1 .1 .1 .1 .0))) (back 𝓤 H A W u64 κ₅ q₅ (x₅ .name) (x₅ .ptr .0) (x₅ .ptr .1) (length (x₅ .now)) (named 5) (named 4) (g .1 .1 .1) (z .o) (ws .1 .1 .1 .1 .1 .1 .1 .0) (same .e₅) m₅ e₅) $ await ! tt $
+        move ! (0 ∷ 8 ∷ 7 ∷ []) $
+        use3 W (later (Orders (ws .1 .1 .1 .1 .1 .1 .1 .0))) (back 𝓤 H A W u64 κ₅ q₅ (x₅ .name) (x₅ .ptr .0) (x₅ .ptr .1) (length (x₅ .now)) (named 5) (named 4) (g .1 .1 .1) (z .o) (ws .1 .1 .1 .1 .1 .1 .1 .0) (same .e₅) m₅ e₅) $ await ! tt $
         -- [orders; true; sessions; policy; output; token 0; r; i]
         at-once ! $ show ! (λ (y : Dropped × Lists). mean 𝓤 H A (Back v y)) (r, (ws .1 .0, (ws .1 .1 .1 .1 .1 .0, (ws .1 .1 .1 .1 .1 .1 .0, ws .1 .1 .1 .1 .1 .1 .1 .0)))) $ check ! (told, (e₁, (e₃, (e₄, e₅)))) $
         move ! (6 ∷ []) $ frame ! $ move ! (6 ∷ 5 ∷ []) $ join ! $ keep ! (0 ∷ 5 ∷ 4 ∷ 3 ∷ 1 ∷ []) $ done !)))))))
@@ -317,11 +323,28 @@ module _ {M : Type 1} (𝓤 : URA M) (H : Heap 𝓤) (A : Atoms 𝓤) (W : Given
     word = tyInt w64
 
     abbrev En : Env 𝓤 H
-    En = (word, l₀) ∷ (sliceTy (tyRef (named 0) imm (tyInt w8)), l₁) ∷ (sliceTy (tyRef (named 1) mut (tyInt w8)), l₂) ∷ (sliceTy (tyRef (named 2) mut (pointee (T.the-row .written))), l₃) ∷ (sliceTy (tyRef (named 3) mut word), l₄) ∷ (sliceTy (tyRef (named 4) mut word), l₅) ∷ (sliceTy (tyRef (named 5) mut word), l₆) ∷ (word, l₇) ∷ (word, l₈) ∷ (word, l₉) ∷ (T′.mir, l₁₀) ∷ (tyRef erased mut (tyInt w8), l₁₁) ∷ (sliceTy (tyRef erased mut (tyInt w8)), l₁₂) ∷ (tyRef erased mut word, l₁₃) ∷ (sliceTy (tyRef erased mut word), l₁₄) ∷ (tyRef erased mut word, l₁₅) ∷ (sliceTy (tyRef erased mut word), l₁₆) ∷ (tyRef erased mut word, l₁₇) ∷ (sliceTy (tyRef erased mut word), l₁₈) ∷ (tyBool, l₁₉) ∷ (word, l₂₀) ∷ (tyPtr, l₂₁) ∷ []
+    En = (word, l₀) ∷ (sliceTy (tyRef (named 0) imm (tyInt w8)), l₁) ∷ (sliceTy (tyRef (named 1) mut (tyInt w8)), l₂) ∷ (sliceTy (tyRef (named 2) mut (pointee (T.the-row .written))), l₃)
+        ∷ (sliceTy (tyRef (named 3) mut word), l₄) ∷ (sliceTy (tyRef (named 4) mut word), l₅) ∷ (sliceTy (tyRef (named 5) mut word), l₆) ∷ (word, l₇) ∷ (word, l₈) ∷ (word, l₉) ∷ (T′.mir, l₁₀)
+        ∷ (tyRef erased mut (tyInt w8), l₁₁) ∷ (sliceTy (tyRef erased mut (tyInt w8)), l₁₂) ∷ (tyRef erased mut word, l₁₃) ∷ (sliceTy (tyRef erased mut word), l₁₄) ∷ (tyRef erased mut word, l₁₅)
+        ∷ (sliceTy (tyRef erased mut word), l₁₆) ∷ (tyRef erased mut word, l₁₇) ∷ (sliceTy (tyRef erased mut word), l₁₈) ∷ (tyBool, l₁₉) ∷ (word, l₂₀) ∷ (tyPtr, l₂₁) ∷ []
 
     -- at the head of a turn
     abbrev At : Now → List (Item 𝓤)
-    At z = State (lists z) ∷ Report (z .ys) ∷ ‵ (froom tyPtr l₂₁ 0) ∷ ‵ (fdies tyPtr l₂₁) ∷ ‵ (froom word l₂₀ 0) ∷ ‵ (fdies word l₂₀) ∷ ‵ (froom tyBool l₁₉ 0) ∷ ‵ (fdies tyBool l₁₉) ∷ ‵ (froom (sliceTy (tyRef erased mut word)) l₁₈ 0) ∷ ‵ (fdies (sliceTy (tyRef erased mut word)) l₁₈) ∷ ‵ (froom (tyRef erased mut word) l₁₇ 0) ∷ ‵ (fdies (tyRef erased mut word) l₁₇) ∷ ‵ (froom (sliceTy (tyRef erased mut word)) l₁₆ 0) ∷ ‵ (fdies (sliceTy (tyRef erased mut word)) l₁₆) ∷ ‵ (froom (tyRef erased mut word) l₁₅ 0) ∷ ‵ (fdies (tyRef erased mut word) l₁₅) ∷ ‵ (froom (sliceTy (tyRef erased mut word)) l₁₄ 0) ∷ ‵ (fdies (sliceTy (tyRef erased mut word)) l₁₄) ∷ ‵ (froom (tyRef erased mut word) l₁₃ 0) ∷ ‵ (fdies (tyRef erased mut word) l₁₃) ∷ ‵ (froom (sliceTy (tyRef erased mut (tyInt w8))) l₁₂ 0) ∷ ‵ (fdies (sliceTy (tyRef erased mut (tyInt w8))) l₁₂) ∷ ‵ (froom (tyRef erased mut (tyInt w8)) l₁₁ 0) ∷ ‵ (fdies (tyRef erased mut (tyInt w8)) l₁₁) ∷ ‵ (froom T′.mir l₁₀ 0) ∷ ‵ (fdies T′.mir l₁₀) ∷ ‵ (fat fullShare word l₉ 0 (vint w64 (z .k))) ∷ ‵ (fdies word l₉) ∷ ‵ (fat fullShare word l₈ 0 (vint w64 (z .place))) ∷ ‵ (fdies word l₈) ∷ ‵ (fat fullShare word l₇ 0 (vint w64 room)) ∷ ‵ (fdies word l₇) ∷ ‵ (fat fullShare (sliceTy (tyRef (named 5) mut word)) l₆ 0 (sliceVal (x₅ .ptr .0, x₅ .ptr .1) (length (x₅ .now)))) ∷ ‵ (fdies (sliceTy (tyRef (named 5) mut word)) l₆) ∷ ‵ (fat fullShare (sliceTy (tyRef (named 4) mut word)) l₅ 0 (sliceVal (x₄ .ptr .0, x₄ .ptr .1) (length (x₄ .now)))) ∷ ‵ (fdies (sliceTy (tyRef (named 4) mut word)) l₅) ∷ ‵ (fat fullShare (sliceTy (tyRef (named 3) mut word)) l₄ 0 (sliceVal (x₃ .ptr .0, x₃ .ptr .1) (length (x₃ .now)))) ∷ ‵ (fdies (sliceTy (tyRef (named 3) mut word)) l₄) ∷ ‵ (fat fullShare (sliceTy (tyRef (named 2) mut (pointee (T.the-row .written)))) l₃ 0 (sliceVal (x₂ .ptr .0, x₂ .ptr .1) (length (x₂ .now)))) ∷ ‵ (fdies (sliceTy (tyRef (named 2) mut (pointee (T.the-row .written)))) l₃) ∷ ‵ (fat fullShare (sliceTy (tyRef (named 1) mut (tyInt w8))) l₂ 0 (sliceVal (x₁ .ptr .0, x₁ .ptr .1) (length (x₁ .now)))) ∷ ‵ (fdies (sliceTy (tyRef (named 1) mut (tyInt w8))) l₂) ∷ ‵ (fat fullShare (sliceTy (tyRef (named 0) imm (tyInt w8))) l₁ 0 (sliceVal (x₀ .ptr .0, x₀ .ptr .1) (length (x₀ .now)))) ∷ ‵ (fdies (sliceTy (tyRef (named 0) imm (tyInt w8))) l₁) ∷ ‵ (froom word l₀ 0) ∷ ‵ (fdies word l₀) ∷ []
+    At z = State (lists z) ∷ Report (z .ys) ∷ ‵ (froom tyPtr l₂₁ 0) ∷ ‵ (fdies tyPtr l₂₁) ∷ ‵ (froom word l₂₀ 0) ∷ ‵ (fdies word l₂₀) ∷ ‵ (froom tyBool l₁₉ 0) ∷ ‵ (fdies tyBool l₁₉)
+        ∷ ‵ (froom (sliceTy (tyRef erased mut word)) l₁₈ 0) ∷ ‵ (fdies (sliceTy (tyRef erased mut word)) l₁₈) ∷ ‵ (froom (tyRef erased mut word) l₁₇ 0) ∷ ‵ (fdies (tyRef erased mut word) l₁₇)
+        ∷ ‵ (froom (sliceTy (tyRef erased mut word)) l₁₆ 0) ∷ ‵ (fdies (sliceTy (tyRef erased mut word)) l₁₆) ∷ ‵ (froom (tyRef erased mut word) l₁₅ 0) ∷ ‵ (fdies (tyRef erased mut word) l₁₅)
+        ∷ ‵ (froom (sliceTy (tyRef erased mut word)) l₁₄ 0) ∷ ‵ (fdies (sliceTy (tyRef erased mut word)) l₁₄) ∷ ‵ (froom (tyRef erased mut word) l₁₃ 0) ∷ ‵ (fdies (tyRef erased mut word) l₁₃)
+        ∷ ‵ (froom (sliceTy (tyRef erased mut (tyInt w8))) l₁₂ 0) ∷ ‵ (fdies (sliceTy (tyRef erased mut (tyInt w8))) l₁₂) ∷ ‵ (froom (tyRef erased mut (tyInt w8)) l₁₁ 0)
+        ∷ ‵ (fdies (tyRef erased mut (tyInt w8)) l₁₁) ∷ ‵ (froom T′.mir l₁₀ 0) ∷ ‵ (fdies T′.mir l₁₀) ∷ ‵ (fat fullShare word l₉ 0 (vint w64 (z .k))) ∷ ‵ (fdies word l₉)
+        ∷ ‵ (fat fullShare word l₈ 0 (vint w64 (z .place))) ∷ ‵ (fdies word l₈) ∷ ‵ (fat fullShare word l₇ 0 (vint w64 room)) ∷ ‵ (fdies word l₇)
+        ∷ ‵ (fat fullShare (sliceTy (tyRef (named 5) mut word)) l₆ 0 (sliceVal (x₅ .ptr .0, x₅ .ptr .1) (length (x₅ .now)))) ∷ ‵ (fdies (sliceTy (tyRef (named 5) mut word)) l₆)
+        ∷ ‵ (fat fullShare (sliceTy (tyRef (named 4) mut word)) l₅ 0 (sliceVal (x₄ .ptr .0, x₄ .ptr .1) (length (x₄ .now)))) ∷ ‵ (fdies (sliceTy (tyRef (named 4) mut word)) l₅)
+        ∷ ‵ (fat fullShare (sliceTy (tyRef (named 3) mut word)) l₄ 0 (sliceVal (x₃ .ptr .0, x₃ .ptr .1) (length (x₃ .now)))) ∷ ‵ (fdies (sliceTy (tyRef (named 3) mut word)) l₄)
+        ∷ ‵ (fat fullShare (sliceTy (tyRef (named 2) mut (pointee (T.the-row .written)))) l₃ 0 (sliceVal (x₂ .ptr .0, x₂ .ptr .1) (length (x₂ .now))))
+        ∷ ‵ (fdies (sliceTy (tyRef (named 2) mut (pointee (T.the-row .written)))) l₃)
+        ∷ ‵ (fat fullShare (sliceTy (tyRef (named 1) mut (tyInt w8))) l₂ 0 (sliceVal (x₁ .ptr .0, x₁ .ptr .1) (length (x₁ .now)))) ∷ ‵ (fdies (sliceTy (tyRef (named 1) mut (tyInt w8))) l₂)
+        ∷ ‵ (fat fullShare (sliceTy (tyRef (named 0) imm (tyInt w8))) l₁ 0 (sliceVal (x₀ .ptr .0, x₀ .ptr .1) (length (x₀ .now)))) ∷ ‵ (fdies (sliceTy (tyRef (named 0) imm (tyInt w8))) l₁)
+        ∷ ‵ (froom word l₀ 0) ∷ ‵ (fdies word l₀) ∷ []
 
     abbrev On : ℕ → Now → Type 0
     On t z = Same z × Going (x₀ .now) room z₀ t z
@@ -373,8 +396,13 @@ module _ {M : Type 1} (𝓤 : URA M) (H : Heap 𝓤) (A : Atoms 𝓤) (W : Given
           assigns ! (bin ! (load ! (from ! (fld ! refl (stop !))) (look-in ! 24 (sub ! 1 refl (whole !)))) (lit ! tt) tt) (from ! (stop !)) (init ! 6 refl (tt, tt)) $
           first ! $ branches ! (load ! (from ! (stop !)) (look ! 6 refl))
           (λ over. assigns ! (of-opd ! (load ! (from ! (stop !)) (look ! 28 refl))) (from ! (stop !)) (init ! 44 refl (tt, record { fits = fits y v is })) $ returns-within ! Post refl (look ! 44 refl) $
-          forget ! 44 refl $ forget ! 42 refl $ forget ! 40 refl $ forget ! 38 refl $ forget ! 36 refl $ forget ! 34 refl $ forget ! 32 refl $ forget ! 30 refl $ forget ! 28 refl $ forget ! 26 refl $ forget ! 24 refl $ forget ! 22 refl $ forget ! 20 refl $ forget ! 18 refl $ forget ! 16 refl $ forget ! 14 refl $ forget ! 12 refl $ forget ! 10 refl $ forget ! 8 refl $ forget ! 6 refl $
-          move ! (44 ∷ 45 ∷ []) $ free1 ! $ move ! (42 ∷ 43 ∷ []) $ free1 ! $ move ! (40 ∷ 41 ∷ []) $ free1 ! $ move ! (38 ∷ 39 ∷ []) $ free1 ! $ move ! (36 ∷ 37 ∷ []) $ free1 ! $ move ! (34 ∷ 35 ∷ []) $ free1 ! $ move ! (32 ∷ 33 ∷ []) $ free1 ! $ move ! (30 ∷ 31 ∷ []) $ free1 ! $ move ! (28 ∷ 29 ∷ []) $ free1 ! $ move ! (26 ∷ 27 ∷ []) $ free1 ! $ move ! (24 ∷ 25 ∷ []) $ free1 ! $ move ! (22 ∷ 23 ∷ []) $ free1 ! $ move ! (20 ∷ 21 ∷ []) $ free1 ! $ move ! (18 ∷ 19 ∷ []) $ free1 ! $ move ! (16 ∷ 17 ∷ []) $ free1 ! $ move ! (14 ∷ 15 ∷ []) $ free1 ! $ move ! (12 ∷ 13 ∷ []) $ free1 ! $ move ! (10 ∷ 11 ∷ []) $ free1 ! $ move ! (8 ∷ 9 ∷ []) $ free1 ! $ move ! (6 ∷ 7 ∷ []) $ free1 ! $ move ! (4 ∷ 5 ∷ []) $ free1 ! $ move ! (2 ∷ 3 ∷ []) $ free1 ! $ free0 ! $
+          forget ! 44 refl $ forget ! 42 refl $ forget ! 40 refl $ forget ! 38 refl $ forget ! 36 refl $ forget ! 34 refl $ forget ! 32 refl $ forget ! 30 refl $ forget ! 28 refl $ forget ! 26 refl $
+          forget ! 24 refl $ forget ! 22 refl $ forget ! 20 refl $ forget ! 18 refl $ forget ! 16 refl $ forget ! 14 refl $ forget ! 12 refl $ forget ! 10 refl $ forget ! 8 refl $ forget ! 6 refl $
+          move ! (44 ∷ 45 ∷ []) $ free1 ! $ move ! (42 ∷ 43 ∷ []) $ free1 ! $ move ! (40 ∷ 41 ∷ []) $ free1 ! $ move ! (38 ∷ 39 ∷ []) $ free1 ! $ move ! (36 ∷ 37 ∷ []) $ free1 ! $
+          move ! (34 ∷ 35 ∷ []) $ free1 ! $ move ! (32 ∷ 33 ∷ []) $ free1 ! $ move ! (30 ∷ 31 ∷ []) $ free1 ! $ move ! (28 ∷ 29 ∷ []) $ free1 ! $ move ! (26 ∷ 27 ∷ []) $ free1 ! $
+          move ! (24 ∷ 25 ∷ []) $ free1 ! $ move ! (22 ∷ 23 ∷ []) $ free1 ! $ move ! (20 ∷ 21 ∷ []) $ free1 ! $ move ! (18 ∷ 19 ∷ []) $ free1 ! $ move ! (16 ∷ 17 ∷ []) $ free1 ! $
+          move ! (14 ∷ 15 ∷ []) $ free1 ! $ move ! (12 ∷ 13 ∷ []) $ free1 ! $ move ! (10 ∷ 11 ∷ []) $ free1 ! $ move ! (8 ∷ 9 ∷ []) $ free1 ! $ move ! (6 ∷ 7 ∷ []) $ free1 ! $ move ! (4 ∷ 5 ∷ []) $
+          free1 ! $ move ! (2 ∷ 3 ∷ []) $ free1 ! $ free0 ! $
           by ! (exits (y .1) (z .ys) (y .0 .place) (fits y v is) (f .1 .0 ∙ same .e₁) (same .e₂) (f .1 .1 .0 ∙ same .e₃) (f .1 .1 .1 .0 ∙ same .e₄) (f .1 .1 .1 .1 ∙ same .e₅) (ends y f over)))
           (λ on′. skips ! $ exec ! C Λ En stores (anyQ (afterTurn 𝓤 H (Below t) Left)) $
           assigns ! (bin ! (load ! (from ! (stop !)) (look ! 26 refl)) (lit ! tt) (scaled y f on′)) (from ! (stop !)) (init ! 4 refl (tt, scaled y f on′)) $
@@ -389,7 +417,8 @@ module _ {M : Type 1} (𝓤 : URA M) (H : Heap 𝓤) (A : Atoms 𝓤) (W : Given
           closes-slice ! tt T.the-row (z .ys) (set (z .ys) (z .k) (y .0)) (length-set (z .ys) (z .k) (y .0)) (x₂ .ptr .0) (x₂ .ptr .1) $
           fjoin ! $ pureI ! (at-slice T.the-row (at x₂ (x₂ .name) (set (z .ys) (z .k) (y .0))) (val x₂)) (tt, (tt, tt)) (ap (λ (m : ℕ). sliceVal (x₂ .ptr .0, x₂ .ptr .1) m ∷ []) (sym (long y)), subst (Room T.the-row) (sym (long y)) m₂) $ fjoin ! $ join ! $ move ! (1 ∷ []) $
           assigns-last ! (bin ! (load ! (from ! (stop !)) (look ! 26 refl)) (lit ! tt) (record { fits = next-fits y f on′ })) (from ! (stop !)) (store ! 26 refl (tt, record { fits = next-fits y f on′ })) $
-          forget ! 24 refl $ forget ! 22 refl $ forget ! 20 refl $ forget ! 18 refl $ forget ! 16 refl $ forget ! 14 refl $ forget ! 12 refl $ forget ! 10 refl $ forget ! 8 refl $ forget ! 6 refl $ forget ! 4 refl $ forget ! 2 refl $
+          forget ! 24 refl $ forget ! 22 refl $ forget ! 20 refl $ forget ! 18 refl $ forget ! 16 refl $ forget ! 14 refl $ forget ! 12 refl $ forget ! 10 refl $ forget ! 8 refl $ forget ! 6 refl $
+          forget ! 4 refl $ forget ! 2 refl $
           rewrite ! 26 (λ (j : ℕ). ‵ (fat fullShare word l₉ 0 (vint w64 j))) (one-more (z .k)) refl $ by ! (onward y v is f on′))))))))
         where
           fits : (y : Dropped × Lists) (v : Val) → Is T.the-row (y .0) (v ∷ []) → y .0 .place < 2 ^ 64
@@ -456,8 +485,12 @@ module _ {M : Type 1} (𝓤 : URA M) (H : Heap 𝓤) (A : Atoms 𝓤) (W : Given
         qed W (raw (onEntry 𝓤 H A mend.signature (κ₀, (κ₁, (κ₂, (κ₃, (κ₄, (κ₅, tt)))))) (q₀, (q₁, (q₂, (q₃, (q₄, (q₅, tt)))))) args vals) ∷ []) ∵
         use1 W (State (lists z₀) ⊛ Report (x₂ .now)) opened $ split ! $
         enter ! (𝓣 .C) (𝓣 .Λ) code.function (sliceVal (x₀ .ptr) (length (x₀ .now)) ∷ sliceVal (x₁ .ptr) (length (x₁ .now)) ∷ sliceVal (x₂ .ptr) (length (x₂ .now)) ∷ sliceVal (x₃ .ptr) (length (x₃ .now)) ∷ sliceVal (x₄ .ptr) (length (x₄ .now)) ∷ sliceVal (x₅ .ptr) (length (x₅ .now)) ∷ []) _ $
-        alloc1 ! (λ l₀. alloc1 ! (λ l₁. alloc1 ! (λ l₂. alloc1 ! (λ l₃. alloc1 ! (λ l₄. alloc1 ! (λ l₅. alloc1 ! (λ l₆. alloc1 ! (λ l₇. alloc1 ! (λ l₈. alloc1 ! (λ l₉. alloc1 ! (λ l₁₀. alloc1 ! (λ l₁₁. alloc1 ! (λ l₁₂. alloc1 ! (λ l₁₃. alloc1 ! (λ l₁₄. alloc1 ! (λ l₁₅. alloc1 ! (λ l₁₆. alloc1 ! (λ l₁₇. alloc1 ! (λ l₁₈. alloc1 ! (λ l₁₉. alloc1 ! (λ l₂₀. alloc1 ! (λ l₂₁. alloc0 ! $ params1 ! $
-        pass1 ! (init ! 40 refl (tt, (tt, (record { fits = m₀ .0 }, tt)))) $ pass1 ! (init ! 38 refl (tt, (tt, (record { fits = m₁ .0 }, tt)))) $ pass1 ! (init ! 36 refl (tt, (tt, (record { fits = m₂ .0 }, tt)))) $ pass1 ! (init ! 34 refl (tt, (tt, (record { fits = m₃ .0 }, tt)))) $ pass1 ! (init ! 32 refl (tt, (tt, (record { fits = m₄ .0 }, tt)))) $ pass1 ! (init ! 30 refl (tt, (tt, (record { fits = m₅ .0 }, tt)))) $ pass0 ! $
+        alloc1 ! (λ l₀. alloc1 ! (λ l₁. alloc1 ! (λ l₂. alloc1 ! (λ l₃. alloc1 ! (λ l₄. alloc1 ! (λ l₅. alloc1 ! (λ l₆. alloc1 ! (λ l₇. alloc1 ! (λ l₈. alloc1 ! (λ l₉. alloc1 ! (λ l₁₀.
+        alloc1 ! (λ l₁₁. alloc1 ! (λ l₁₂. alloc1 ! (λ l₁₃. alloc1 ! (λ l₁₄. alloc1 ! (λ l₁₅. alloc1 ! (λ l₁₆. alloc1 ! (λ l₁₇. alloc1 ! (λ l₁₈. alloc1 ! (λ l₁₉. alloc1 ! (λ l₂₀.
+        alloc1 ! (λ l₂₁. alloc0 ! $ params1 ! $
+        pass1 ! (init ! 40 refl (tt, (tt, (record { fits = m₀ .0 }, tt)))) $ pass1 ! (init ! 38 refl (tt, (tt, (record { fits = m₁ .0 }, tt)))) $
+        pass1 ! (init ! 36 refl (tt, (tt, (record { fits = m₂ .0 }, tt)))) $ pass1 ! (init ! 34 refl (tt, (tt, (record { fits = m₃ .0 }, tt)))) $
+        pass1 ! (init ! 32 refl (tt, (tt, (record { fits = m₄ .0 }, tt)))) $ pass1 ! (init ! 30 refl (tt, (tt, (record { fits = m₅ .0 }, tt)))) $ pass0 ! $
         assigns ! (of-opd ! (load ! (from ! (fld ! refl (stop !))) (look-in ! 36 (sub ! 1 refl (whole !))))) (from ! (stop !)) (init ! 28 refl (tt, record { fits = m₂ .0 })) $
         assigns ! (of-opd ! (lit ! tt)) (from ! (stop !)) (init ! 26 refl (tt, record { fits = lit< tt })) $
         assigns ! (of-opd ! (lit ! tt)) (from ! (stop !)) (init ! 24 refl (tt, record { fits = lit< tt })) $
