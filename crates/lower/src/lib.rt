@@ -38,8 +38,7 @@ pub fn step(r: Record, p: &mut [u64], s: &mut [u64]) -> Reply
         41 => subjects::destroy(s, r.a),
         42 => subjects::activate(p, s, r.a, r.b),
         43 => subjects::deactivate(p, s, r.a, r.b),
-        56 => subjects::check_reply(p, s, r.a, r.b, r.c),
-        59 => subjects::commit(p, s, r.a, r.b, r.c),
+        56 | 59 => subjects::ask(p, s, kind, r.a, r.b, r.c),
         _ => Reply::Shape,
     }
 }

@@ -1,8 +1,10 @@
 -- What requests 40 to 43, 56 and 59 promise of the policy buffer p and the sessions buffer s: a judge the reply of the definition's checks, an act that
 -- reply and the sessions afterwards, with not one word changed where it refuses.
 use Prim.Native.Nat.{ℕ}
+use mathlib.Core.Bool.{cond}
 use mathlib.Core.List.{List}
 use mathlib.Core.Path.{_≡_}
+use lib.Dec.{eqb}
 use Rattle.paper_lower.specs.Checks.{first}
 use Rattle.paper_lower.specs.Tables.{Policy, Lower}
 use Rattle.paper_lower.specs.Sessions.{createChecks, createNext, destroyChecks, destroyNext, activateChecks, activateNext, deactivateChecks, deactivateNext, checkChecks, commitNext}
@@ -47,7 +49,7 @@ Deactivated p s s′ a b r = Done sessionsOf (first (deactivateChecks (lowerTabl
 abbrev pub CheckJudged : List ℕ → List ℕ → ℕ → ℕ → ℕ → Reply → Type 0
 CheckJudged p s a operation object r = numberOf r ≡ first (checkChecks (lowerTables p s) a operation object)
 
--- ---- 59
-abbrev pub Committed : List ℕ → List ℕ → List ℕ → ℕ → ℕ → ℕ → Reply → Type 0
-Committed p s s′ a operation object r =
-    Done sessionsOf (first (checkChecks (lowerTables p s) a operation object)) (commitNext (lowerTables p s) a object) s s′ r
+-- ---- 59; and 56, which is judged the same and stores nothing
+abbrev pub Asked : List ℕ → List ℕ → List ℕ → ℕ → ℕ → ℕ → ℕ → Reply → Type 0
+Asked p s s′ kind a operation object r =
+    Done sessionsOf (first (checkChecks (lowerTables p s) a operation object)) (cond (eqb kind 56) (sessionsOf s) (commitNext (lowerTables p s) a object)) s s′ r

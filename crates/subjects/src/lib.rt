@@ -4,10 +4,10 @@ ghost use mathlib.Core.Path.{_≡_};
 ghost use Prim.Native.Nat.{_<_};
 ghost use lib.ListN.{length};
 ghost use Rattle.policy.specs.Layout.{policyWords};
-ghost use Rattle.paper_lower.specs.Sessions.{wallBetween};
-ghost use Rattle.sessions.specs.Reading.{sessionsWords};
+ghost use Rattle.paper_lower.specs.Sessions.{wallBetween, commitNext};
+ghost use Rattle.sessions.specs.Reading.{sessionsWords, sessionsOf};
 ghost use Rattle.sessions.specs.Lower.{lowerTables};
-ghost use Rattle.subjects.specs.Promises.{CreateJudged, Created, DestroyJudged, Destroyed, ActivateJudged, Activated, DeactivateJudged, Deactivated, CheckJudged, Committed};
+ghost use Rattle.subjects.specs.Promises.{CreateJudged, Created, DestroyJudged, Destroyed, ActivateJudged, Activated, DeactivateJudged, Deactivated, CheckJudged, Asked};
 use replies::Reply;
 use replies::accepted;
 use sets::Set;
@@ -156,7 +156,7 @@ fn wall_between(p: &[u64], s: &[u64], user: u64, object: u64) -> bool
     blocks::between(own, bound)
 }
 
-pub fn check_reply(p: &[u64], s: &[u64], a: u64, operation: u64, object: u64) -> Reply
+fn check_reply(p: &[u64], s: &[u64], a: u64, operation: u64, object: u64) -> Reply
     requires { ⌜ (length (now p) ≡ policyWords) × ((length (now s) ≡ sessionsWords) × ((a < 128) × ((operation < 65536) × (object < 65536)))) ⌝ }
     ensures { λ r. ⌜ CheckJudged (now (p .entry)) (now (s .entry)) a operation object r ⌝ }
 {
@@ -176,18 +176,26 @@ pub fn check_reply(p: &[u64], s: &[u64], a: u64, operation: u64, object: u64) ->
 
 // ---- 59: the same, and if granted, the subject's user is bound to the object's block in every wall that has it.
 
-pub fn commit(p: &[u64], s: &mut [u64], a: u64, operation: u64, object: u64) -> Reply
-    requires { ⌜ (length (now p) ≡ policyWords) × ((length (now s) ≡ sessionsWords) × ((a < 128) × ((operation < 65536) × (object < 65536)))) ⌝ }
-    ensures { λ r. ⌜ Committed (now (p .entry)) (now (s .entry)) (now (s .exit)) a operation object r ⌝ }
+fn bind(p: &[u64], s: &mut [u64], a: u64, object: u64)
+    requires { ⌜ (length (now p) ≡ policyWords) × ((length (now s) ≡ sessionsWords) × ((a < 128) × (object < 65536))) ⌝ }
+    ensures { λ _. ⌜ sessionsOf (now (s .exit)) ≡ commitNext (lowerTables (now (p .entry)) (now (s .entry))) a object ⌝ }
 {
-    let r = check_reply(p, s, a, operation, object);
-    if !accepted(r) {
-        return r;
-    }
     let user = sessions::user(s, a as usize);
     let own = walls::blocks_of(p, object);
     let bound = sessions::bound_to(s, user as usize);
     let all = blocks::over(own, bound);
     sessions::set_bound_to(s, user as usize, all);
+}
+
+// Kind 56 or 59. Both are judged at one place, so that the check is not a call of its own to the compiled code.
+pub fn ask(p: &[u64], s: &mut [u64], kind: u64, a: u64, operation: u64, object: u64) -> Reply
+    requires { ⌜ (length (now p) ≡ policyWords) × ((length (now s) ≡ sessionsWords) × ((a < 128) × ((operation < 65536) × (object < 65536)))) ⌝ }
+    ensures { λ r. ⌜ Asked (now (p .entry)) (now (s .entry)) (now (s .exit)) kind a operation object r ⌝ }
+{
+    let r = check_reply(p, s, a, operation, object);
+    if (kind == 56) | !accepted(r) {
+        return r;
+    }
+    bind(p, s, a, object);
     r
 }

@@ -1,6 +1,7 @@
 -- Each kind's act, as a step of both buffers; a record in the limits has one of these kinds.
 use Prim.Native.Nat.{ℕ}
 use mathlib.Core.List.{List, [], _∷_}
+use mathlib.Core.Logic.{⊎-elim}
 use borrow.Author.Needs.{needs}
 use Rattle.paper_lower.specs.Lists.{there}
 use Rattle.paper_lower.specs.Forms.{lowerForms, formOf}
@@ -11,12 +12,12 @@ use Rattle.policy.specs.Reading.{policyOf}
 use Rattle.records.specs.Limits.{limitA, limitB, limitC, limitsOpen}
 use Rattle.records.proofs.Passing.{below}
 use Rattle.records.proofs.Span.{no-other, oneEach}
-use Rattle.lower.proofs.Lifts.{of-policy, of-sessions, of-neither}
+use Rattle.lower.proofs.Lifts.{of-policy, of-sessions}
 use Rattle.lower.proofs.step.Statement.{statement}
 use Rattle.lower.proofs.step.Tie as tie
 
 abbrev kinds : List ℕ
-kinds = 32 ∷ 33 ∷ 34 ∷ 35 ∷ 36 ∷ 37 ∷ 40 ∷ 41 ∷ 42 ∷ 43 ∷ 56 ∷ 59 ∷ []
+kinds = 32 ∷ 33 ∷ 34 ∷ 35 ∷ 36 ∷ 37 ∷ 40 ∷ 41 ∷ 42 ∷ 43 ∷ []
 
 join-requires : tie.Need-join-requires
 unfolding limitsOpen
@@ -58,13 +59,9 @@ deactivate-requires : tie.Need-deactivate-requires
 unfolding limitsOpen
 deactivate-requires c κs = (c .before .before .before .before .before .pre .0, (c .before .before .before .before .before .pre .1 .0, (below (limitA lowerForms) (c .before .before .before .before .before .pre .1 .1 .a) (c .before .before .match .keys10) 128 tt, below (limitB lowerForms) (c .before .before .before .before .before .pre .1 .1 .b) (c .before .before .match .keys10) 64 tt)))
 
-check-reply-requires : tie.Need-check-reply-requires
+ask-requires : tie.Need-ask-requires
 unfolding limitsOpen
-check-reply-requires c κs = (c .before .before .before .before .before .pre .0, (c .before .before .before .before .before .pre .1 .0, (below (limitA lowerForms) (c .before .before .before .before .before .pre .1 .1 .a) (c .before .before .match .keys11) 128 tt, (below (limitB lowerForms) (c .before .before .before .before .before .pre .1 .1 .b) (c .before .before .match .keys11) 65536 tt, below (limitC lowerForms) (c .before .before .before .before .before .pre .1 .1 .c) (c .before .before .match .keys11) 65536 tt))))
-
-commit-requires : tie.Need-commit-requires
-unfolding limitsOpen
-commit-requires c κs = (c .before .before .before .before .before .pre .0, (c .before .before .before .before .before .pre .1 .0, (below (limitA lowerForms) (c .before .before .before .before .before .pre .1 .1 .a) (c .before .before .match .keys12) 128 tt, (below (limitB lowerForms) (c .before .before .before .before .before .pre .1 .1 .b) (c .before .before .match .keys12) 65536 tt, below (limitC lowerForms) (c .before .before .before .before .before .pre .1 .1 .c) (c .before .before .match .keys12) 65536 tt))))
+ask-requires c κs = (c .before .before .before .before .before .pre .0, (c .before .before .before .before .before .pre .1 .0, (⊎-elim (λ k. below (limitA lowerForms) (c .before .before .before .before .before .pre .1 .1 .a) k 128 tt) (λ k. below (limitA lowerForms) (c .before .before .before .before .before .pre .1 .1 .a) k 128 tt) (c .before .before .match .keys11), (⊎-elim (λ k. below (limitB lowerForms) (c .before .before .before .before .before .pre .1 .1 .b) k 65536 tt) (λ k. below (limitB lowerForms) (c .before .before .before .before .before .pre .1 .1 .b) k 65536 tt) (c .before .before .match .keys11), ⊎-elim (λ k. below (limitC lowerForms) (c .before .before .before .before .before .pre .1 .1 .c) k 65536 tt) (λ k. below (limitC lowerForms) (c .before .before .before .before .before .pre .1 .1 .c) k 65536 tt) (c .before .before .match .keys11)))))
 
 same-length : tie.Need-same-length
 same-length c = search needs
@@ -159,21 +156,11 @@ same-length-17 c = search needs
 
 returns-11 : tie.Need-returns-11
 unfolding chosen lowerKinds roleKinds sessionKinds
-returns-11 c = rw (c .before .before .before .match .keys11) (of-neither (c .check-reply .ensures))
-
-same-length-18 : tie.Need-same-length-18
-same-length-18 c = search needs
-
-same-length-19 : tie.Need-same-length-19
-same-length-19 c = search needs
+returns-11 c = ⊎-elim (λ k. rw k (of-sessions (rw k at (c .before .before .ask .ensures)))) (λ k. rw k (of-sessions (rw k at (c .before .before .ask .ensures)))) (c .before .before .before .before .before .match .keys11)
 
 returns-12 : tie.Need-returns-12
-unfolding chosen lowerKinds roleKinds sessionKinds
-returns-12 c = rw (c .before .before .before .before .before .match .keys12) (of-sessions (c .before .before .commit .ensures))
-
-returns-13 : tie.Need-returns-13
 unfolding limitsOpen
-returns-13 c = absurd (no-other (λ k. there (formOf lowerForms k)) (λ k. k) (oneEach kinds) 256 tt (c .before .before .before .args .r .kind) (c .before .before .before .pre .1 .1 .small .kind) (c .before .before .before .pre .1 .1 .known) (c .match .rest))
+returns-12 c = absurd (no-other (λ k. there (formOf lowerForms k)) (λ k. k) ((56 ∷ 59 ∷ []) ∷ oneEach kinds) 256 tt (c .before .before .before .args .r .kind) (c .before .before .before .pre .1 .1 .small .kind) (c .before .before .before .pre .1 .1 .known) (c .match .rest))
 
 pub step-spec : {M : Type 1} → statement M
 step-spec =
@@ -189,8 +176,7 @@ step-spec =
     destroy-requires
     activate-requires
     deactivate-requires
-    check-reply-requires
-    commit-requires
+    ask-requires
     same-length
     returns
     same-length-2
@@ -219,7 +205,4 @@ step-spec =
     same-length-16
     same-length-17
     returns-11
-    same-length-18
-    same-length-19
-    returns-12
-    returns-13)
+    returns-12)

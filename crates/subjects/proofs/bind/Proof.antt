@@ -1,0 +1,40 @@
+-- The user's blocks with the object's over them.
+use mathlib.Core.Path.{_∙_}
+use Rattle.sessions.specs.Lower.{lowerTables}
+use Rattle.subjects.proofs.WallLaws.{committed}
+use borrow.Author.Needs.{needs}
+use Rattle.subjects.proofs.bind.Statement.{statement}
+use Rattle.subjects.proofs.bind.Tie as tie
+
+user-requires : tie.Need-user-requires
+user-requires c κs = search needs
+
+blocks-of-requires : tie.Need-blocks-of-requires
+blocks-of-requires c κs = search needs
+
+bound-to-requires : tie.Need-bound-to-requires
+bound-to-requires c κs = search needs
+
+over-requires : tie.Need-over-requires
+over-requires c κs = search needs
+
+set-bound-to-requires : tie.Need-set-bound-to-requires
+set-bound-to-requires c κs = search needs
+
+same-length : tie.Need-same-length
+same-length c = search needs
+
+returns : tie.Need-returns
+returns c = c .before .before .set-bound-to .ensures ∙ committed (lowerTables (c .before .before .before .before .before .before .before .before .before .before .before .before .args .p .now) (c .before .before .before .before .before .before .before .before .before .before .before .before .args .s .now)) (c .before .before .before .before .before .before .before .before .before .before .before .before .args .a) (c .before .before .before .before .before .before .before .before .before .before .before .before .args .object) _ _ _ _ (c .before .before .before .before .before .before .before .before .user .ensures .0) (c .before .before .before .before .before .before .before .blocks-of .ensures) (c .before .before .before .before .before .bound-to .ensures) (c .before .before .before .before .over .ensures)
+
+pub bind-spec : {M : Type 1} → statement M
+bind-spec =
+    tie.close
+    (tie.spec
+    user-requires
+    blocks-of-requires
+    bound-to-requires
+    over-requires
+    set-bound-to-requires
+    same-length
+    returns)
