@@ -5,6 +5,8 @@ use replies::Reply;
 ghost use Prim.Native.Nat.{_+_, _%_, _<_, _≤_, min};
 ghost use mathlib.Core.Path.{_≡_};
 ghost use lib.ListN.{length};
+ghost use Rattle.engine.specs.Buffers.{buffers};
+ghost use Rattle.engine.specs.Settling.{Settling};
 
 // What was read: this many bytes, or nothing, where a read failed.
 enum Got {
@@ -140,16 +142,15 @@ fn answer(
     orders: &mut [u64],
     out: &mut [u8; 16384],
 ) -> usize
-    requires { ⌜ length (now block) ≤ 4096 ⌝ }
-    requires { ⌜ first < 1152921504606846976 ⌝ }
-    ensures { λ r. ⌜ r ≤ 16384 ⌝ }
+    requires { ⌜ (length (now block) ≤ 4096) × ((first < 1152921504606846976) × Settling (buffers (now policy) (now sessions) (now orders))) ⌝ }
+    ensures { λ r. ⌜ (r ≤ 16384) × Settling (buffers (now (policy .exit)) (now (sessions .exit)) (now (orders .exit))) ⌝ }
 {
     let mut i = 0;
     let mut to = 0;
     while i * 16 < block.len() {
         let at = i * 16;
         let end = record_end(at, block.len());
-        let answer = engine::request(&block[at..end], policy, sessions, orders);
+        let answer = engine::settled_request(&block[at..end], policy, sessions, orders);
         let reply = answer.reply;
         to = put_answer(
             out,
@@ -180,8 +181,8 @@ fn serve_front(
     sessions: &mut [u64],
     orders: &mut [u64],
 ) -> bool
-    requires { ⌜ length (now buffer) ≤ 4096 ⌝ }
-    requires { ⌜ first < 1152921504606846976 ⌝ }
+    requires { ⌜ (length (now buffer) ≤ 4096) × ((first < 1152921504606846976) × Settling (buffers (now policy) (now sessions) (now orders))) ⌝ }
+    ensures { λ _. ⌜ Settling (buffers (now (policy .exit)) (now (sessions .exit)) (now (orders .exit))) ⌝ }
 {
     if buffer.len() < n {
         return false;
@@ -223,8 +224,8 @@ fn serve_some(
     sessions: &mut [u64],
     orders: &mut [u64],
 ) -> u64
-    requires { ⌜ seen < 1152921504606846976 ⌝ }
-    ensures { λ r. ⌜ r ≤ seen + 4096 ⌝ }
+    requires { ⌜ (seen < 1152921504606846976) × Settling (buffers (now policy) (now sessions) (now orders)) ⌝ }
+    ensures { λ r. ⌜ (r ≤ seen + 4096) × Settling (buffers (now (policy .exit)) (now (sessions .exit)) (now (orders .exit))) ⌝ }
 {
     let kept = (seen % 16) as usize;
     let Got::Bytes(n) = read_some(0, buffer, kept) else {
@@ -242,8 +243,12 @@ fn serve_some(
     seen + n as u64
 }
 
-// The bound on the bytes seen, 2^60, makes the end of the loop plain; no input is that long.
+// The links are looked at once, before the first request. The bound on the bytes seen, 2^60, makes the end of the loop plain; no input is that long.
 fn serve(policy: &mut [u64], sessions: &mut [u64], orders: &mut [u64]) {
+    let r = engine::settle(policy, sessions, orders);
+    if !replies::accepted(r) {
+        return;
+    }
     let mut buffer = [0u8; 4096];
     let mut seen = 0;
     while seen < 1152921504606846976 {

@@ -1,19 +1,20 @@
--- Each record before this one has added at most 63 bytes, and a block has at most 256 records.
+-- Each record before this one has added at most 63 bytes, and a block has at most 256 records; each request leaves the links sound.
 use borrow.Author.Needs.{needs}
 use Prim.Native.Nat.{_≤_, _-_, _*_}
-use mathlib.Core.Path.{_≡_}
-use lib.ListN.{length}
+use mathlib.Core.Path.{sym, _∙_}
+use Rattle.engine.specs.Buffers.{buffers}
+use Rattle.engine.specs.Settling.{Settling}
 use Rattle.desk.proofs.answer.Statement.{statement}
 use Rattle.desk.proofs.answer.Tie as tie
 
 abbrev Inv-loop : tie.InvT-loop
-Inv-loop block first policy₀ sessions₀ orders₀ out₀ i₀ to₀ policy sessions orders out i to = (i ≤ 256) × ((to ≤ i * 63) × ((length policy ≡ length policy₀) × ((length sessions ≡ length sessions₀) × (length orders ≡ length orders₀))))
+Inv-loop block first policy₀ sessions₀ orders₀ out₀ i₀ to₀ policy sessions orders out i to = (i ≤ 256) × ((to ≤ i * 63) × Settling (buffers policy sessions orders))
 
 abbrev μ-loop : tie.MeasureT-loop
 μ-loop block first policy₀ sessions₀ orders₀ out₀ i₀ to₀ policy sessions orders out i to = 256 - i
 
 loop-holds : tie.Need-loop-holds Inv-loop μ-loop
-loop-holds c = search needs
+loop-holds c = (search needs, (search needs, c .before .before .before .before .pre .1 .1))
 
 mul-loop : tie.Need-mul-loop Inv-loop μ-loop
 mul-loop c = search needs
@@ -24,17 +25,17 @@ mul-at c = search needs
 record-end-requires : tie.Need-record-end-requires Inv-loop μ-loop
 record-end-requires c κs = search needs
 
-sub-request : tie.Need-sub-request Inv-loop μ-loop
-sub-request c = search needs
+sub-settled-request : tie.Need-sub-settled-request Inv-loop μ-loop
+sub-settled-request c = search needs
 
-part-request-start : tie.Need-part-request-start Inv-loop μ-loop
-part-request-start c = search needs
+part-settled-request-start : tie.Need-part-settled-request-start Inv-loop μ-loop
+part-settled-request-start c = search needs
 
-part-request-end : tie.Need-part-request-end Inv-loop μ-loop
-part-request-end c = search needs
+part-settled-request-end : tie.Need-part-settled-request-end Inv-loop μ-loop
+part-settled-request-end c = search needs
 
-request-requires : tie.Need-request-requires Inv-loop μ-loop
-request-requires c κs = search needs
+settled-request-requires : tie.Need-settled-request-requires Inv-loop μ-loop
+settled-request-requires c κs = c .before .before .before .before .before .before .loop .inv .1 .1
 
 add-put-answer : tie.Need-add-put-answer Inv-loop μ-loop
 add-put-answer c = search needs
@@ -52,19 +53,19 @@ loop-less : tie.Need-loop-less Inv-loop μ-loop
 loop-less c = search needs
 
 loop-again : tie.Need-loop-again Inv-loop μ-loop
-loop-again c = search needs
+loop-again c = (search needs, (search needs, c .before .before .before .before .before .before .before .before .before .settled-request .ensures .1))
 
 same-length : tie.Need-same-length Inv-loop μ-loop
-same-length c = search needs
+same-length c = c .before .loop .inv .1 .1 .0 ∙ sym (c .before .before .before .before .before .before .pre .1 .1 .0)
 
 same-length-2 : tie.Need-same-length-2 Inv-loop μ-loop
-same-length-2 c = search needs
+same-length-2 c = c .before .loop .inv .1 .1 .1 .0 ∙ sym (c .before .before .before .before .before .before .pre .1 .1 .1 .0)
 
 same-length-3 : tie.Need-same-length-3 Inv-loop μ-loop
-same-length-3 c = search needs
+same-length-3 c = c .before .loop .inv .1 .1 .1 .1 .0 ∙ sym (c .before .before .before .before .before .before .pre .1 .1 .1 .1 .0)
 
 returns : tie.Need-returns Inv-loop μ-loop
-returns c = search needs
+returns c = (search needs, c .before .loop .inv .1 .1)
 
 pub answer-spec : {M : Type 1} → statement M
 answer-spec =
@@ -76,10 +77,10 @@ answer-spec =
     mul-loop
     mul-at
     record-end-requires
-    sub-request
-    part-request-start
-    part-request-end
-    request-requires
+    sub-settled-request
+    part-settled-request-start
+    part-settled-request-end
+    settled-request-requires
     add-put-answer
     number-requires
     put-answer-requires
