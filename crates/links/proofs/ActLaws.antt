@@ -1,6 +1,6 @@
 -- What the acts on one instance leave, from the chains' stacks to its entries.
 use Prim.Native.Nat.{ℕ, _+_, _*_, _%_, _≤_, _<_}
-use mathlib.Core.Bool.{Bool, true, false, not}
+use mathlib.Core.Bool.{Bool, true, false, not, cond, _&&_}
 use mathlib.Core.List.{List, [], _∷_}
 use mathlib.Core.Path.{_≡_, refl, sym, ap, _∙_}
 use native.Mathlib.Omega.{arith}
@@ -11,12 +11,12 @@ use lib.Seq.{getD-set-same, getD-set-other}
 use Rattle.paper_lower.specs.Sets.{has, plus, minus}
 use Rattle.paper_lower.specs.Lists.{Maybe, many, add, keep, each}
 use Rattle.paper_lower.specs.Lists.Maybe.{none, just}
-use Rattle.paper_upper.specs.Orders.{Entry, entry, heldBy, tasksWhere, tasksDone}
+use Rattle.paper_upper.specs.Orders.{Entry, entry, isDone, inOrder, heldBy, tasksWhere, tasksDone}
 use Rattle.paper_upper.specs.Orders.Standing.{held}
 use Rattle.paper_upper.specs.Requests.{turned}
 use Rattle.sets.proofs.SetLaws.{has-new, has-other, has-gone, has-kept}
 use Rattle.links.specs.Chains.{ordersWords, markOf, openOf, templateAt, doneWord, headOf, countOf, chainWord, wordAt, walkOver, entriesIn, figures, Fine, soundOf}
-use Rattle.links.specs.Stacks.{payloadsIn, Woven, Pushed, Taken, revOnto, entryFrom, stays, turnedLoad, Still, Dropped, Turned, Restored}
+use Rattle.links.specs.Stacks.{payloadsIn, Woven, Pushed, Taken, revOnto, entryFrom, stays, turnedLoad, Still, Sifted, Dropped, Turned, Restored}
 use Rattle.links.specs.Acts.{Leaves}
 use Rattle.links.proofs.ReadLaws.{chain-read, chain-closed, chain-as, chain-same, done-read, done-as, done-same, done-closed, template-read, template-as, template-same, template-closed, read-open}
 use Rattle.links.proofs.ChainLaws.{linked-same}
@@ -24,7 +24,7 @@ use Rattle.links.proofs.OnceLaws.{sum-same}
 use Rattle.links.proofs.SoundLaws.{Sound, sound, is-sound}
 use Rattle.links.proofs.StackLaws.{stack-same, relink, payloads-at}
 use Rattle.links.proofs.SameLaws.{same-sym}
-use Rattle.links.proofs.EntryLaws.{entries-stack, entries-bag, entries-same, many-payloads, last-onto, keep-turned, each-turned, twice, keep-read, each-read, held-entry, held-key, turned-read, done-bag, done-add}
+use Rattle.links.proofs.EntryLaws.{entries-stack, entries-bag, entries-same, many-payloads, last-onto, keep-turned, each-turned, twice, keep-read, each-read, held-entry, held-key, held-not-done, turned-read, done-bag, done-add}
 use Rattle.links.proofs.CarryLaws.{none-left}
 
 -- ---- Soundness in parts.
@@ -155,7 +155,7 @@ module _ (l₀ l₁ l : List ℕ) (k i u t a : ℕ) (room : length l₀ ≡ orde
       leaves i l₀ l s enter-changed (templateAt l₀ i) (add (entriesIn l₀ i) (entry i u t (held a))) (template-same l₀ l i enter-opens (λ h. pushed .beside .templates i h ∙ taken .beside .templates i h)) enter-own
       (done-same l₀ l i enter-opens (pushed .beside .dones i hi ∙ taken .beside .dones i hi) ∙ s .dones i hi ∙ sym (done-add i u t a (entriesIn l₀ i)))
 
--- ---- Put back, with the figure stored: release and done.
+-- ---- Put back, with the figure stored: done.
 none-many : many {A = ℕ} [] ≡ 0
 unfolding many
 none-many = refl
@@ -217,15 +217,43 @@ module _ (l₀ l₁ l₂ : List ℕ) (i d : ℕ) (room : length l₀ ≡ ordersW
 restored-own : (i d : ℕ) (l₀ l₁ l₂ : List ℕ) (xs : List ℕ) → countOf (chainWord l₀ 65) ≡ 0 → payloadsIn l₁ 65 ≡ revOnto xs (payloadsIn l₀ 65) → Restored i l₁ l₂ d → payloadsIn l₂ i ≡ xs
 restored-own i d l₀ l₁ l₂ xs empty aside back = back .own ∙ ap (λ (ys : List ℕ). revOnto ys []) (aside ∙ ap (revOnto xs) (none-left l₀ 65 empty)) ∙ twice xs
 
-pub released : (l₀ l₁ l₂ : List ℕ) (i t a d : ℕ) → length l₀ ≡ ordersWords → Whole l₀ → i < 64 → t < 64 → a < 128 → has (openOf l₀) i ≡ true → Dropped i false (2 * t + 128 * a) l₀ l₁ → Restored i l₁ l₂ d
-    → Leaves i (templateAt l₀ i) (keep (λ e. not (heldBy i t a e)) (entriesIn l₀ i)) l₀ (set l₂ (132 + i) d)
+-- ---- Released: no entry that is held makes a task done.
+done-kept : (i t a : ℕ) (es : List Entry) → tasksDone i es ≡ tasksDone i (keep (λ e. not (heldBy i t a e)) es)
+unfolding tasksDone tasksWhere keep
+done-kept i t a [] = refl
+done-kept i t a (e ∷ es) = go (heldBy i t a e) refl (done-kept i t a es)
+  where
+    go : (b : Bool) → heldBy i t a e ≡ b → tasksDone i es ≡ tasksDone i (keep (λ e. not (heldBy i t a e)) es)
+        → cond (inOrder i e && isDone (e .standing)) (plus (tasksDone i es) (e .task)) (tasksDone i es) ≡ tasksDone i (cond (not (heldBy i t a e)) (e ∷ keep (λ e. not (heldBy i t a e)) es) (keep (λ e. not (heldBy i t a e)) es))
+    go true h q = rw (h, held-not-done i t a e h) q
+    go false h q = rw h (ap (λ (m : ℕ). cond (inOrder i e && isDone (e .standing)) (plus m (e .task)) m) q)
+
+pub released : (l₀ l : List ℕ) (i t a : ℕ) → length l₀ ≡ ordersWords → Whole l₀ → i < 64 → t < 64 → a < 128 → has (openOf l₀) i ≡ true → Sifted i (2 * t + 128 * a) l₀ l
+    → Leaves i (templateAt l₀ i) (keep (λ e. not (heldBy i t a e)) (entriesIn l₀ i)) l₀ l
 unfolding stays
-released l₀ l₁ l₂ i t a d room s hi ht ha opens drop back =
-    put-back l₀ l₁ l₂ i d room s hi opens (drop .still) back (keep (λ e. not (heldBy i t a e)) (entriesIn l₀ i))
-    (ap (λ (xs : List ℕ). revOnto (each (entryFrom i) xs) []) (restored-own i d l₀ l₁ l₂ (keep (stays false (2 * t + 128 * a)) (payloadsIn l₀ i)) (s .aside) (drop .aside) back)
-    ∙ ap (λ (es : List Entry). revOnto es []) (keep-read (entryFrom i) (stays false (2 * t + 128 * a)) (λ e. not (heldBy i t a e)) (λ p. ap not (sym (held-key i t a p ht ha))) (payloadsIn l₀ i))
-    ∙ keep-turned (λ e. not (heldBy i t a e)) (each (entryFrom i) (payloadsIn l₀ i))
-    ∙ ap (keep (λ e. not (heldBy i t a e))) (sym (entries-stack l₀ (s .woven) i hi)))
+released l₀ l i t a room s hi ht ha opens sift =
+    leaves i l₀ l s changed (templateAt l₀ i) (keep (λ e. not (heldBy i t a e)) (entriesIn l₀ i)) (template-same l₀ l i (sift .still .beside .opens) (λ h. sift .still .beside .templates i h)) own
+    (done-same l₀ l i (sift .still .beside .opens) (sift .still .beside .dones i hi) ∙ s .dones i hi ∙ done-kept i t a (entriesIn l₀ i))
+  where
+    changed : Changed i l₀ l
+    changed =
+        record {
+          room = sift .still .beside .room ∙ room;
+          woven = sift .still .woven;
+          others = sift .still .others;
+          reads = λ j d. ap (λ (m : ℕ). has m j) (sift .still .beside .opens);
+          templates = λ j h d. sift .still .beside .templates j h;
+          dones = λ j h d. sift .still .beside .dones j h;
+          aside = sym (many-payloads l 65) ∙ ap many (sift .aside) ∙ many-payloads l₀ 65 ∙ s .aside;
+        }
+
+    own : entriesIn l i ≡ keep (λ e. not (heldBy i t a e)) (entriesIn l₀ i)
+    own =
+        entries-stack l (sift .still .woven) i hi
+        ∙ ap (λ (xs : List ℕ). revOnto (each (entryFrom i) xs) []) (sift .own)
+        ∙ ap (λ (es : List Entry). revOnto es []) (keep-read (entryFrom i) (stays false (2 * t + 128 * a)) (λ e. not (heldBy i t a e)) (λ p. ap not (sym (held-key i t a p ht ha))) (payloadsIn l₀ i))
+        ∙ keep-turned (λ e. not (heldBy i t a e)) (each (entryFrom i) (payloadsIn l₀ i))
+        ∙ ap (keep (λ e. not (heldBy i t a e))) (sym (entries-stack l₀ (s .woven) i hi))
 
 pub finished : (l₀ l₁ l₂ : List ℕ) (i t a d : ℕ) → length l₀ ≡ ordersWords → Whole l₀ → i < 64 → t < 64 → a < 128 → has (openOf l₀) i ≡ true → Turned i (2 * t + 128 * a) l₀ l₁ → Restored i l₁ l₂ d
     → Leaves i (templateAt l₀ i) (each (turned i t a) (entriesIn l₀ i)) l₀ (set l₂ (132 + i) d)

@@ -1,14 +1,14 @@
 -- Entries and what their words hold beside chain and link: the entries of a chain are its stack, read from the oldest on.
 use Prim.Native.Nat.{ℕ, zero, suc, _+_, _*_, _/_, _%_, _<_}
-use mathlib.Core.Bool.{Bool, true, false, not, cond, _&&_}
+use mathlib.Core.Bool.{Bool, true, false, not, cond, _&&_, true≢false}
 use mathlib.Core.List.{List, [], _∷_, _++_}
 use mathlib.Core.Path.{_≡_, refl, sym, ap, _∙_}
 use native.Mathlib.Omega.{arith}
 use borrow.Author.Tests.{eq-eqb, ne-eqb, eqb-true, eqb-false}
 use lib.Dec.{eqb}
 use Rattle.paper_lower.specs.Lists.{many, add, keep, each}
-use Rattle.paper_lower.proofs.ListLaws.{and-false}
-use Rattle.paper_upper.specs.Orders.{Entry, entry, isDone, isHeldBy, inOrder, ofTask, heldBy, tasksWhere, tasksDone}
+use Rattle.paper_lower.proofs.ListLaws.{and-false, both}
+use Rattle.paper_upper.specs.Orders.{Standing, Entry, entry, isDone, isHeldBy, inOrder, ofTask, heldBy, tasksWhere, tasksDone}
 use Rattle.paper_upper.specs.Orders.Standing.{held, done}
 use Rattle.paper_upper.specs.Orders.{Same}
 use Rattle.paper_upper.specs.Orders.Same.{one, swap, then}
@@ -243,6 +243,15 @@ done-bag i h = tasks-same (λ e. inOrder i e && isDone (e .standing)) h
 done-held : (i u t a : ℕ) (es : List Entry) → tasksDone i (entry i u t (held a) ∷ es) ≡ tasksDone i es
 unfolding tasksDone tasksWhere isDone
 done-held i u t a es = rw (and-false (inOrder i (entry i u t (held a))))
+
+not-done : (a : ℕ) (s : Standing) → isHeldBy a s ≡ true → isDone s ≡ false
+unfolding isHeldBy isDone
+not-done a (held x) q = refl
+not-done a done q = let z : ⊥ = true≢false (sym q) in absurd z
+
+pub held-not-done : (i t a : ℕ) (e : Entry) → heldBy i t a e ≡ true → (inOrder i e && isDone (e .standing)) ≡ false
+unfolding heldBy
+held-not-done i t a e h = ap (λ (b : Bool). inOrder i e && b) (not-done a (e .standing) (both (ofTask i t e) (isHeldBy a (e .standing)) h .1)) ∙ and-false (inOrder i e)
 
 pub same-add : (xs : List Entry) (e : Entry) → Same (add xs e) (e ∷ xs)
 unfolding add

@@ -1,5 +1,6 @@
 pub mod ReadLaws
 pub mod ChainLaws
+mod StepLaws
 pub mod OnceLaws
 pub mod SoundLaws
 pub mod CheckLaws
@@ -7,5 +8,6 @@ pub mod StackLaws
 pub mod SameLaws
 pub mod EntryLaws
 pub mod CarryLaws
+mod CutLaws
 pub mod ActLaws
 pub mod ZeroLaws

@@ -9,8 +9,9 @@ use lib.Dec.{eqb}
 use lib.ListN.{length, getD, set, length-set}
 use lib.Seq.{getD-set-same, getD-set-other}
 use Rattle.links.specs.Chains.{ordersWords, markOf, openOf, headOf, countOf, isRead, chainWord, ownerOf, linkOf, wordAt, Fine, Linked}
-use Rattle.links.specs.Stacks.{payloadOf, wordFor, stackOf, payloadsIn, Woven, Loose, Popped, Pushed, Taken}
+use Rattle.links.specs.Stacks.{payloadOf, wordFor, stackOf, payloadsIn, stepTo, beforeTo, without, Woven, Loose, Popped, Pushed, Taken, Cut}
 use Rattle.links.proofs.ChainLaws.{linked-here, linked-on, no-return, linked-same}
+use Rattle.links.proofs.StepLaws.{fine-at, steps-same}
 use Rattle.links.proofs.OnceLaws.{sum-step, sum-same, sum-ge}
 use Rattle.links.proofs.ReadLaws.{chain-read, read-some, read-same, chain-same}
 
@@ -110,12 +111,33 @@ module _ (l : List ℕ) (room : length l ≡ ordersWords) (s : Woven l) (i : ℕ
       rest = sym (payloads-at after i (linkOf (wordAt l head)) (countOf (chainWord l i) - 1) new-head new-count
           ∙ stack-same l after (Fine l i (markOf l)) (λ h f. same-word h) (linkOf (wordAt l head)) (countOf (chainWord l i) - 1) (linked-on l (Fine l i (markOf l)) head (countOf (chainWord l i)) some (s .chain i hi)))
 
+  -- the same said of its place
+  cut-first : Cut l after i 0 head
+  unfolding stepTo beforeTo without
+  cut-first =
+      record {
+        loose = popped .loose;
+        beside = popped .beside;
+        rest = sym (ap (without 0) (popped .top));
+        others = popped .others;
+        here = new-head;
+        back = refl;
+      }
+
+  pub cut-newest : (x kept k : ℕ) → chainWord l i ≡ x → kept ≡ 0 → k ≡ stepTo l (headOf (chainWord l i)) kept → Cut l (set l (66 + i) (linkOf (wordAt l k) + 4096 * (countOf x - 1))) i kept k
+  unfolding stepTo
+  cut-newest x kept k ex ea ek =
+      let e : k ≡ head = ek ∙ ap (stepTo l head) ea in
+      subst (λ (x : ℕ). Cut l (set l (66 + i) (linkOf (wordAt l k) + 4096 * (countOf x - 1))) i kept k) ex
+      (subst (λ (k : ℕ). Cut l (set l (66 + i) (linkOf (wordAt l k) + 4096 * (countOf (chainWord l i) - 1))) i kept k) (sym e)
+      (subst (λ (a : ℕ). Cut l after i a head) (sym ea) cut-first))
+
   -- as the code reads the chain's word
   pub popped-at : (x : ℕ) → chainWord l i ≡ x → Popped l (set l (66 + i) (linkOf (wordAt l (headOf x)) + 4096 * (countOf x - 1))) i (headOf x)
   popped-at x e = subst (λ (x : ℕ). Popped l (set l (66 + i) (linkOf (wordAt l (headOf x)) + 4096 * (countOf x - 1))) i (headOf x)) e popped
 
 -- ---- The parts of a word that is put together.
-link-part : (q h : ℕ) → q < 4294967296 → h < 4096 → (q + 4294967296 * h) / 4294967296 % 4096 ≡ h
+pub link-part : (q h : ℕ) → q < 4294967296 → h < 4096 → (q + 4294967296 * h) / 4294967296 % 4096 ≡ h
 link-part q h a b = let e : (q + 4294967296 * h) / 4294967296 ≡ h = omega arith in omega arith
 
 flag-part : (r b h : ℕ) → r < 1073741824 → b < 2 → (r + 1073741824 * (b + 4 * h)) / 1073741824 % 2 ≡ b
@@ -235,6 +257,8 @@ module _ (l : List ℕ) (room : length l ≡ ordersWords) (k : ℕ) (s : Loose l
         };
         top = payloads-at put i k (suc (countOf (chainWord l i))) its-head (let c = its-count in omega arith) ∙ stack-turn put k (suc (countOf (chainWord l i))) (countOf (chainWord l i)) refl ∙ (λ x. its-payload x ∷ rest x);
         others = λ j hj d. payloads-at put j (headOf (chainWord l j)) (countOf (chainWord l j)) (ap headOf (kept-chain j hj d)) (ap countOf (kept-chain j hj d)) ∙ stack-kept j hj;
+        steps = λ j hj d a le. ap (λ (x : ℕ). stepTo put x a) (ap headOf (kept-chain j hj d))
+            ∙ steps-same l put (headOf (chainWord l j)) a (λ b less. ap linkOf (other-word (stepTo l (headOf (chainWord l j)) b) (fine-at l (λ h. Fine l j (markOf l) h × (h ≡ k → ⊥)) (headOf (chainWord l j)) (countOf (chainWord l j)) b (omega arith) (s .chain j hj) .1)));
       }
     where
       rest : stackOf put (linkOf (wordAt put k)) (countOf (chainWord l i)) ≡ payloadsIn l i

@@ -1,6 +1,6 @@
 -- What an act does to the chains on its way: a chain as a stack, from which an entry is taken, and on which it is put.
 use Prim.Native.Nat.{ℕ, zero, suc, _+_, _*_, _/_, _%_, _≤_, _<_}
-use mathlib.Core.Bool.{Bool, not, cond, _||_}
+use mathlib.Core.Bool.{Bool, false, not, cond, _||_}
 use mathlib.Core.List.{List, [], _∷_}
 use mathlib.Core.Path.{_≡_}
 use lib.Dec.{eqb}
@@ -25,6 +25,15 @@ stackOf l h (suc n) = payloadOf (wordAt l h) ∷ stackOf l (linkOf (wordAt l h))
 -- the newest first
 unfoldable pub payloadsIn : List ℕ → ℕ → List ℕ
 payloadsIn l i = stackOf l (headOf (chainWord l i)) (countOf (chainWord l i))
+
+-- the entry that a steps along the links from h come to; and the one before it, or 0
+unfoldable pub stepTo : List ℕ → ℕ → ℕ → ℕ
+stepTo l h zero = h
+stepTo l h (suc a) = stepTo l (linkOf (wordAt l h)) a
+
+unfoldable pub beforeTo : List ℕ → ℕ → ℕ → ℕ
+beforeTo l h zero = 0
+beforeTo l h (suc a) = stepTo l h a
 
 -- the links are as they should be, whatever the figures
 pub record Woven (l : List ℕ) : Type 0 where
@@ -59,12 +68,35 @@ pub record Pushed (l l′ : List ℕ) (i p : ℕ) : Type 0 where
   pub beside : Beside l l′
   pub top : payloadsIn l′ i ≡ p ∷ payloadsIn l i
   pub others : (j : ℕ) → j ≤ 65 → (j ≡ i → ⊥) → payloadsIn l′ j ≡ payloadsIn l j
+  pub steps : (j : ℕ) → j ≤ 65 → (j ≡ i → ⊥) → (a : ℕ) → a ≤ countOf (chainWord l j) → stepTo l′ (headOf (chainWord l′ j)) a ≡ stepTo l (headOf (chainWord l j)) a
 
 -- a free entry is taken: from the free chain, or past the mark
 pub record Taken (l l′ : List ℕ) (k : ℕ) : Type 0 where
   pub loose : Loose l′ k
   pub beside : Beside l l′
   pub others : (j : ℕ) → j ≤ 65 → (j ≡ 64 → ⊥) → payloadsIn l′ j ≡ payloadsIn l j
+
+-- ---- An entry taken out of the middle.
+-- a list without what stands behind the first a of it
+unfoldable pub without : ℕ → List ℕ → List ℕ
+without a [] = []
+without zero (x ∷ xs) = xs
+without (suc a) (x ∷ xs) = x ∷ without a xs
+
+-- the first a of it, and of the others those that are kept
+unfoldable pub keptFrom : (ℕ → Bool) → ℕ → List ℕ → List ℕ
+keptFrom p zero xs = keep p xs
+keptFrom p (suc a) [] = []
+keptFrom p (suc a) (x ∷ xs) = x ∷ keptFrom p a xs
+
+-- entry k, behind the first a of chain i, is taken out of it
+pub record Cut (l l′ : List ℕ) (i a k : ℕ) : Type 0 where
+  pub loose : Loose l′ k
+  pub beside : Beside l l′
+  pub rest : payloadsIn l′ i ≡ without a (payloadsIn l i)
+  pub others : (j : ℕ) → j ≤ 65 → (j ≡ i → ⊥) → payloadsIn l′ j ≡ payloadsIn l j
+  pub here : stepTo l′ (headOf (chainWord l′ i)) a ≡ linkOf (wordAt l k)
+  pub back : beforeTo l′ (headOf (chainWord l′ i)) a ≡ beforeTo l (headOf (chainWord l i)) a
 
 -- ---- Whole chains moved.
 -- xs put onto ys, one after the other
@@ -107,6 +139,20 @@ pub record Still (i : ℕ) (l l′ : List ℕ) : Type 0 where
   pub woven : Woven l′
   pub beside : Beside l l′
   pub others : (j : ℕ) → j < 64 → (j ≡ i → ⊥) → payloadsIn l′ j ≡ payloadsIn l j
+
+-- the entry behind the first a of chain i becomes free
+pub record Freed (l l′ : List ℕ) (i a k : ℕ) : Type 0 where
+  pub still : Still i l l′
+  pub aside : payloadsIn l′ 65 ≡ payloadsIn l 65
+  pub rest : payloadsIn l′ i ≡ without a (payloadsIn l i)
+  pub here : stepTo l′ (headOf (chainWord l′ i)) a ≡ linkOf (wordAt l k)
+  pub back : beforeTo l′ (headOf (chainWord l′ i)) a ≡ beforeTo l (headOf (chainWord l i)) a
+
+-- of chain i what does not stay becomes free
+pub record Sifted (i key : ℕ) (l l′ : List ℕ) : Type 0 where
+  pub still : Still i l l′
+  pub aside : payloadsIn l′ 65 ≡ payloadsIn l 65
+  pub own : payloadsIn l′ i ≡ keep (stays false key) (payloadsIn l i)
 
 -- all of chain i is set aside, but for what does not stay; or each turned
 pub record Dropped (i : ℕ) (all : Bool) (key : ℕ) (l l′ : List ℕ) : Type 0 where

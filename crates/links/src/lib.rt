@@ -12,8 +12,8 @@ ghost use Rattle.paper_lower.specs.Lists.Maybe.{none, just};
 ghost use Rattle.paper_upper.specs.Orders.{entry, heldBy};
 ghost use Rattle.paper_upper.specs.Orders.Standing.{held};
 ghost use Rattle.paper_upper.specs.Requests.{turned};
-ghost use Rattle.links.specs.Chains.{ordersWords, Counted, markOf, openOf, templateIn, templateAt, doneWord, isRead, chainWord, countOf, wordAt, entriesIn, astray, figures, chainSound, sumTo, soundOf};
-ghost use Rattle.links.specs.Stacks.{payloadOf, payloadsIn, Woven, Loose, Popped, Pushed, Taken, Carried, Dropped, Turned, Restored, turnedLoad};
+ghost use Rattle.links.specs.Chains.{ordersWords, Counted, markOf, openOf, templateIn, templateAt, doneWord, isRead, chainWord, headOf, countOf, wordAt, entriesIn, astray, figures, chainSound, sumTo, soundOf};
+ghost use Rattle.links.specs.Stacks.{payloadOf, payloadsIn, stepTo, beforeTo, Woven, Loose, Popped, Pushed, Taken, Cut, Carried, Freed, Sifted, Dropped, Turned, Restored, turnedLoad};
 ghost use Rattle.links.specs.Acts.{Leaves};
 use sets::set_of;
 
@@ -362,13 +362,64 @@ pub fn enter(o: &mut [u64], i: u64, u: u64, t: u64, a: u64)
     push(o, i, k, 2 * t + 128 * a + 16384 * u);
 }
 
+// ---- An entry taken out of the middle of a chain.
+
+// Entry k, behind the first `kept` of chain i, of which q is the last, is unlinked.
+fn cut(o: &mut [u64], i: u64, kept: u64, q: u64, k: u64)
+    requires { ⌜ (length (now o) ≡ ordersWords) × (Woven (now o) × ((i < 64) × ((kept < countOf (chainWord (now o) i)) × ((k ≡ stepTo (now o) (headOf (chainWord (now o) i)) kept) × (q ≡ beforeTo (now o) (headOf (chainWord (now o) i)) kept))))) ⌝ }
+    ensures { λ _. ⌜ Cut (now (o .entry)) (now (o .exit)) i kept k ⌝ }
+{
+    let x = o[CHAINS + i as usize];
+    let w = o[BEFORE + k as usize];
+    let next = w / 4294967296 % 4096;
+    if kept == 0 {
+        o[CHAINS + i as usize] = next + 4096 * (x / 4096 % 4096 - 1);
+        return;
+    }
+    let v = o[BEFORE + q as usize];
+    o[BEFORE + q as usize] = v % 4294967296 + 4294967296 * next;
+    o[CHAINS + i as usize] = x % 4096 + 4096 * (x / 4096 % 4096 - 1);
+}
+
+// And becomes free.
+fn free(o: &mut [u64], i: u64, kept: u64, q: u64, k: u64)
+    requires { ⌜ (length (now o) ≡ ordersWords) × (Woven (now o) × ((i < 64) × ((kept < countOf (chainWord (now o) i)) × ((k ≡ stepTo (now o) (headOf (chainWord (now o) i)) kept) × (q ≡ beforeTo (now o) (headOf (chainWord (now o) i)) kept))))) ⌝ }
+    ensures { λ _. ⌜ Freed (now (o .entry)) (now (o .exit)) i kept k ⌝ }
+{
+    cut(o, i, kept, q, k);
+    let p = payload(o, k);
+    push(o, FREE, k, p);
+}
+
+// All that fit the key become free, in one walk.
+fn sift(o: &mut [u64], i: u64, key: u64)
+    requires { ⌜ (length (now o) ≡ ordersWords) × (Woven (now o) × (i < 64)) ⌝ }
+    ensures { λ _. ⌜ Sifted i key (now (o .entry)) (now (o .exit)) ⌝ }
+{
+    let x = chain(o, i);
+    let mut h = x % 4096;
+    let mut n = x / 4096 % 4096;
+    let mut kept = 0;
+    let mut q = 0;
+    while kept < n {
+        let w = word(o, h);
+        if w / 64 % 16777216 % 16384 == key {
+            free(o, i, kept, q, h);
+            h = w / 4294967296 % 4096;
+            n -= 1;
+            continue;
+        }
+        q = h;
+        h = w / 4294967296 % 4096;
+        kept += 1;
+    }
+}
+
 pub fn release(o: &mut [u64], i: u64, t: u64, a: u64)
     requires { ⌜ (length (now o) ≡ ordersWords) × ((soundOf (now o) ≡ true) × ((has (openOf (now o)) i ≡ true) × ((i < 64) × ((t < 64) × (a < 128))))) ⌝ }
     ensures { λ _. ⌜ Leaves i (templateAt (now (o .entry)) i) (keep (λ e. not (heldBy i t a e)) (entriesIn (now (o .entry)) i)) (now (o .entry)) (now (o .exit)) ⌝ }
 {
-    drop_held(o, i, false, 2 * t + 128 * a);
-    let d = put_back(o, i);
-    o[DONE + i as usize] = d;
+    sift(o, i, 2 * t + 128 * a);
 }
 
 pub fn finish(o: &mut [u64], i: u64, t: u64, a: u64)
