@@ -25,7 +25,9 @@ use Rattle.opl_text.specs.declared.Step.the-variants.{Next, Bad}
 use Rattle.opl_reader.specs.Grammar.{forget}
 use Rattle.opl_lines.specs.Lines.{linesIn, forget as forgetLines}
 use Rattle.opl_spaces.specs.Spaces.{scratchWords}
-use Rattle.opl_declared.specs.Names.{short, walkAt, accepted}
+use Rattle.opl_tags.specs.Tags.{walkAt}
+use Rattle.opl_tags.proofs.Walked.{tags-met}
+use Rattle.opl_declared.specs.Names.{short, accepted}
 use Rattle.opl_declared.proofs.FilledLaws.{users-are, roles-are, permissions-are, operations-are, objects-are}
 use Rattle.opl_declared.proofs.LineNames.{tasks-are, templates-are}
 use Rattle.opl_said.specs.Said.{allNames, Held}
@@ -120,8 +122,7 @@ module _ (s t : Text) (a : Accepts s t) (p : Step) (reads : Reads s (stepOf s) (
     begins-inside = rw e at (reads .inside)
 
     pub begins-there : tags s ≡ walkAt s from
-    unfolding tags
-    begins-there = rw (← rw e at (reads .read-is))
+    begins-there = reads-on (document s) (a .policy) (λ es z u. tags-met s es z (drop from s) u (sym (rw e at (reads .read-is))))
 
     smalls : (ts : List Tag) → AllCardinal ts → Every SmallTag ts
     smalls [] h = tt

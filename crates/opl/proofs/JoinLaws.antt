@@ -21,7 +21,7 @@ use Rattle.paper_opl.proofs.Inversion.{on-test}
 use Rattle.paper_opl.proofs.Judging.{judged}
 use Rattle.paper_opl.proofs.Filled.{fill-writes}
 use Rattle.opl_lines.specs.Lines.{linesIn}
-use Rattle.opl_declared.specs.Names.{walkAt}
+use Rattle.opl_tags.specs.Tags.{walkAt}
 use Rattle.opl_said.specs.Said.{allNames}
 use Rattle.opl_passes.specs.Lines.{linesAt, linesThere, LinesFit}
 use Rattle.opl_passes.specs.Tags.{of, allThere, ChecksAll, begins, Begun, FitsAll}

@@ -14,7 +14,8 @@ use Rattle.paper_opl.specs.Naming.{lines, TEXT, NAMES, Answer as Translated, re
 use Rattle.paper_opl.specs.Walk.{tags, recordsIn}
 use Rattle.opl_lines.specs.Lines.{linesIn}
 use Rattle.opl_spaces.specs.Spaces.{scratchWords}
-use Rattle.opl_declared.specs.Names.{walkAt, accepted}
+use Rattle.opl_tags.specs.Tags.{walkAt}
+use Rattle.opl_declared.specs.Names.{accepted}
 use Rattle.opl_said.specs.Said.{allNames, Held}
 use Rattle.opl_turns.specs.Turning.{SmallTag}
 use Rattle.opl.specs.declared.Answer.{Answer}

@@ -12,20 +12,19 @@ use Rattle.paper_opl.specs.Reading.{Text, Read, same}
 use Rattle.paper_opl.specs.Reading.Read.{got, bad}
 use Rattle.paper_opl.specs.Tree.{Tag as Tagged}
 use Rattle.paper_opl.specs.Naming.{valueOf}
-use Rattle.paper_opl.specs.Walk.{tag, tagsFrom}
 use Rattle.paper_opl.proofs.Inversion.{bad≢got}
 use Rattle.paper_opl.proofs.Counts.{below-of}
-use Rattle.paper_opl.proofs.Tags.{step, stop, tag-below}
 use Rattle.opl_names.specs.Table.{namesIn, Sound}
 use Rattle.opl_names.specs.declared.Found.{Found}
 use Rattle.opl_table.specs.Numbers.{nameOf}
-use Rattle.opl_tags.specs.Tags.{placeless, givenAt, Valued, Opens, ReadsTag}
+use Rattle.opl_tags.specs.Tags.{placeless, givenAt, Valued, nextTag, nextTags, walkAt, Opens, ReadsTag}
 use Rattle.opl_tags.specs.declared.Tag.{Tag}
 use Rattle.opl_tags.specs.declared.Tag.the-variants.{Start, End, Halt}
 use Rattle.opl_tags.specs.declared.Part.{Part}
 use Rattle.opl_tags.proofs.AttributeLaws.{placed}
+use Rattle.opl_tags.proofs.Walked.{step, stop, next-below}
 use Rattle.opl_spaces.specs.Spaces.{limitOf, tableOf, Apart, DeclaresIn}
-use Rattle.opl_declared.specs.Names.{attributeOf, declaredAt, short, walkAt, tagNames, keptName, filled, Onward, Walks, Walking, DeclaresAll}
+use Rattle.opl_declared.specs.Names.{attributeOf, declaredAt, short, tagNames, keptName, filled, Onward, Walks, Walking, DeclaresAll}
 use Rattle.opl_declared.specs.declared.Walked.{Walked}
 use Rattle.opl_declared.specs.declared.Walked.the-variants.{Next, Long, Done}
 
@@ -33,48 +32,48 @@ pub untouched : (i : ℕ) (l : List ℕ) → Apart i l l
 untouched i l = record { room = refl; others = λ j h d. refl }
 
 -- ---- What the tags at a place declare.
-module _ (s : Text) (i at : ℕ) (r : Tag) (reads : ReadsTag s (tag (drop at s)) r) (l : List ℕ) (sound : Sound s (limitOf i) (tableOf i l)) where
+module _ (s : Text) (i at : ℕ) (r : Tag) (reads : ReadsTag s (nextTag (drop at s)) r) (l : List ℕ) (sound : Sound s (limitOf i) (tableOf i l)) where
   pub walked-halt : r ≡ Halt → Walking s i (tagNames s i) at l l Done
   unfolding declaredAt keep each
-  walked-halt e = record { walks = (go (tag (drop at s)) refl (rw e at (reads .read-is)), refl); apart = untouched i l }
+  walked-halt e = record { walks = (go (nextTag (drop at s)) refl (rw e at (reads .read-is)), refl); apart = untouched i l }
     where
-      go : (x : Read (List Tagged)) → tag (drop at s) ≡ x → bad [] ≡ placeless x → declaredAt i (walkAt s at) ≡ []
+      go : (x : Read (List Tagged)) → nextTag (drop at s) ≡ x → bad [] ≡ placeless x → declaredAt i (walkAt s at) ≡ []
       go (got ts u) p q = absurd (bad≢got q)
       go (bad u) p q = ap (declaredAt i) (stop (drop at s) u p)
 
-  onward : (n : ℕ) (ts : List Tagged) → n ≤ length s → tag (drop at s) ≡ got ts (drop n s) → at < n
-  onward n ts h e = omega (arith, below-of e (tag-below (drop at s)), length-drop at s, length-drop n s)
+  onward : (n : ℕ) (ts : List Tagged) → n ≤ length s → nextTag (drop at s) ≡ got ts (drop n s) → at < n
+  onward n ts h e = omega (arith, below-of e (next-below (drop at s)), length-drop at s, length-drop n s)
 
   pub walked-end : (n : ℕ) → r ≡ End n → Walking s i (tagNames s i) at l l (Next n)
   walked-end n e =
-      let q = placed (tag (drop at s)) [] (drop n s) (rw e at (reads .read-is)) in
+      let q = placed (nextTag (drop at s)) [] (drop n s) (rw e at (reads .read-is)) in
       let u : n ≤ length s = rw e at (reads .stands) in
       let w = step (drop at s) (drop n s) [] q in
       record { walks = record { past = onward n [] u q; inside = u; sound = sound; fills = ap (λ ts. filled (limitOf i) (namesIn s (tableOf i l)) (declaredAt i ts)) w; shorts = ap (λ ts. every short (declaredAt i ts)) w }; apart = untouched i l }
 
-  module _ (name end next : ℕ) (e : r ≡ Start name end next) where
-    pub start-stands : Opens s name end next
+  module _ (name end : ℕ) (e : r ≡ Start name end) where
+    pub start-stands : Opens s name end
     start-stands = rw e at (reads .stands)
 
     abbrev pub here : Tagged
     here = record { name = take (end - name) (drop name s); given = givenAt s end }
 
-    start-is : tag (drop at s) ≡ got (here ∷ []) (drop next s)
-    start-is = placed (tag (drop at s)) (here ∷ []) (drop next s) (rw e at (reads .read-is))
+    start-is : nextTag (drop at s) ≡ got (here ∷ []) (drop end s)
+    start-is = placed (nextTag (drop at s)) (here ∷ []) (drop end s) (rw e at (reads .read-is))
 
-    walk-is : walkAt s at ≡ here ∷ walkAt s next
-    walk-is = step (drop at s) (drop next s) (here ∷ []) start-is
+    walk-is : walkAt s at ≡ here ∷ walkAt s end
+    walk-is = step (drop at s) (drop end s) (here ∷ []) start-is
 
     module _ (b : Bool) (is : b ≡ same (take (end - name) (drop name s)) (nameOf (12 + i))) where
-      other : b ≡ false → declaredAt i (walkAt s at) ≡ declaredAt i (walkAt s next)
+      other : b ≡ false → declaredAt i (walkAt s at) ≡ declaredAt i (walkAt s end)
       unfolding declaredAt keep each
       other q = rw (walk-is, ← is, q)
 
-      pub walked-other : not b ≡ true → Walking s i (tagNames s i) at l l (Next next)
+      pub walked-other : not b ≡ true → Walking s i (tagNames s i) at l l (Next end)
       walked-other q =
           let o = start-stands in
           let w = other (not-true b q) in
-          record { walks = record { past = onward next (here ∷ []) (o .inside) start-is; inside = o .inside; sound = sound; fills = ap (filled (limitOf i) (namesIn s (tableOf i l))) w; shorts = ap (every short) w }; apart = untouched i l }
+          record { walks = record { past = onward end (here ∷ []) (o .inside) start-is; inside = o .inside; sound = sound; fills = ap (filled (limitOf i) (namesIn s (tableOf i l))) w; shorts = ap (every short) w }; apart = untouched i l }
 
       module _ (q : not b ≡ false) (p : Part) (valued : Valued s (valueOf (nameOf (attributeOf i)) (givenAt s end)) p) where
         abbrev pub said : Text
@@ -83,7 +82,7 @@ module _ (s : Text) (i at : ℕ) (r : Tag) (reads : ReadsTag s (tag (drop at s))
         said-length : length said ≡ p .to - p .from
         said-length = length-take-le (p .to - p .from) (drop (p .from) s) (omega (arith, length-drop (p .from) s, valued .inside, valued .order))
 
-        declares : declaredAt i (walkAt s at) ≡ said ∷ declaredAt i (walkAt s next)
+        declares : declaredAt i (walkAt s at) ≡ said ∷ declaredAt i (walkAt s end)
         unfolding declaredAt keep each
         declares = rw (walk-is, ← is, not-false b q, ← valued .value)
 
@@ -91,14 +90,14 @@ module _ (s : Text) (i at : ℕ) (r : Tag) (reads : ReadsTag s (tag (drop at s))
         unfolding every
         walked-long h = record { walks = rw (declares, lt-leb (length said) 64 (omega (arith, said-length))); apart = untouched i l }
 
-        pub walked-on : (l′ : List ℕ) (k : Found) → p .to - p .from ≤ 64 → DeclaresIn s i said l l′ k → Walking s i (tagNames s i) at l l′ (Next next)
+        pub walked-on : (l′ : List ℕ) (k : Found) → p .to - p .from ≤ 64 → DeclaresIn s i said l l′ k → Walking s i (tagNames s i) at l l′ (Next end)
         unfolding every filled keptName
         walked-on l′ k h d =
             let o = start-stands in
             let z : namesIn s (tableOf i l′) ≡ keptName (limitOf i) said (namesIn s (tableOf i l)) = d .declares .names ∙ rw (d .declares .number) in
             record {
               walks = record {
-                past = onward next (here ∷ []) (o .inside) start-is;
+                past = onward end (here ∷ []) (o .inside) start-is;
                 inside = o .inside;
                 sound = d .declares .sound;
                 fills = rw (declares, z);
@@ -153,5 +152,5 @@ module _ (s : Text) (i : ℕ) (names : ℕ → List Text) (from at : ℕ) (l l�
           record { inside = o .inside; sound = o .sound; fills = left .fills ∙ o .fills; shorts = left .shorts ∙ o .shorts; apart = together i l l′ l″ (left .apart) (walking .apart) }
 
 pub no-tags : (s : Text) (i at : ℕ) → length s ≤ at → tagNames s i at ≡ []
-unfolding declaredAt keep each tagsFrom
+unfolding declaredAt keep each nextTags
 no-tags s i at h = let e : drop at s ≡ [] = drop-of-length-le s h in rw e

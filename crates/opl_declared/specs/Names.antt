@@ -10,10 +10,10 @@ use Rattle.paper_opl.specs.Reading.{Text, Read, same}
 use Rattle.paper_opl.specs.Reading.Read.{got, bad}
 use Rattle.paper_opl.specs.Tree.{Tag, if-found}
 use Rattle.paper_opl.specs.Naming.{Line, lines, placeOf, valueOf}
-use Rattle.paper_opl.specs.Walk.{tagsFrom}
 use Rattle.opl_names.specs.Table.{namesIn, Sound, added, below}
 use Rattle.opl_table.specs.Numbers.{nameOf}
 use Rattle.opl_lines.specs.Lines.{linesRead}
+use Rattle.opl_tags.specs.Tags.{walkAt}
 use Rattle.opl_tags.specs.declared.Part.{Part}
 use Rattle.opl_spaces.specs.Spaces.{limitOf, tableOf, Apart}
 use Rattle.opl_declared.specs.declared.Walked.{Walked}
@@ -29,10 +29,6 @@ declaredAt i ts = each (λ t. valueOf (nameOf (attributeOf i)) (t .given)) (keep
 
 abbrev pub short : Text → Bool
 short w = leb (length w) 64
-
--- the tags from a place on
-abbrev pub walkAt : Text → ℕ → List Tag
-walkAt s at = tagsFrom (length (drop at s)) (drop at s)
 
 -- a table of n names, with one more where there is room for it; with several more
 unfoldable pub keptName : ℕ → Text → List Text → List Text

@@ -10,17 +10,17 @@ use borrow.Author.Tests.{ne-eqb, eq-eqb, eqb-true, eqb-false, lt-ltb, le-ltb}
 use Rattle.paper_lower.specs.Lists.{every}
 use Rattle.paper_opl.specs.Reading.{Text, same}
 use Rattle.paper_opl.specs.Naming.{valueOf}
-use Rattle.paper_opl.specs.Walk.{tag, tags}
+use Rattle.paper_opl.specs.Walk.{tags}
 use Rattle.paper_opl.proofs.Inversion.{on-test}
 use Rattle.opl_names.specs.Table.{namesIn, Sound, Emptied}
 use Rattle.opl_names.specs.declared.Found.{Found}
 use Rattle.opl_table.specs.Numbers.{nameOf, digit}
-use Rattle.opl_tags.specs.Tags.{givenAt, Valued, Opens, ReadsTag}
+use Rattle.opl_tags.specs.Tags.{givenAt, Valued, nextTag, walkAt, Opens, ReadsTag}
 use Rattle.opl_tags.specs.declared.Tag.{Tag}
 use Rattle.opl_tags.specs.declared.Tag.the-variants.{Start, End, Halt}
 use Rattle.opl_tags.specs.declared.Part.{Part}
 use Rattle.opl_spaces.specs.Spaces.{limitOf, scratchWords, tableOf, Empties, DeclaresIn}
-use Rattle.opl_declared.specs.Names.{attributeOf, declaredAt, short, walkAt, tagNames, lineNames, filled, Onward, DeclaresAll}
+use Rattle.opl_declared.specs.Names.{attributeOf, declaredAt, short, tagNames, lineNames, filled, Onward, DeclaresAll}
 use Rattle.opl_declared.specs.declared.Walked.{Walked}
 use Rattle.opl_declared.specs.declared.Walked.the-variants.{Next, Long, Done}
 use Rattle.opl_declared.proofs.DeclaredLaws.{walked-halt, walked-end, walked-other, walked-long, walked-on, start-stands, no-tags}
@@ -46,7 +46,7 @@ attribute-is (suc (suc (suc (suc (suc i))))) h = absurd (omega arith)
 keeps : (s : Text) (i at n : ℕ) (l l₁ l′ : List ℕ) → Onward s i (tagNames s i) at n l l₁ → tableOf i l′ ≡ tableOf i l₁ → Keeps s i at n l l′
 keeps s i at n l l₁ l′ o e = record { sound = rw e (o .sound); fills = rw e (o .fills); shorts = o .shorts }
 
-module _ (s : Text) (at : ℕ) (r : Tag) (reads : ReadsTag s (tag (drop at s)) r) (l : List ℕ) (sound : AllSound s l) where
+module _ (s : Text) (at : ℕ) (r : Tag) (reads : ReadsTag s (nextTag (drop at s)) r) (l : List ℕ) (sound : AllSound s l) where
   pub goes-halt : r ≡ Halt → Goes s at l l Done
   goes-halt e = (λ i h. walked-halt s i at r reads l (sound i h) e .walks .0, refl)
 
@@ -61,26 +61,26 @@ module _ (s : Text) (at : ℕ) (r : Tag) (reads : ReadsTag s (tag (drop at s)) r
         others = λ j a b. refl;
       }
 
-  module _ (name end next : ℕ) (e : r ≡ Start name end next) where
-    pub goes-stands : Opens s name end next
-    goes-stands = start-stands s 0 at r reads l (sound 0 (omega arith)) name end next e
+  module _ (name end : ℕ) (e : r ≡ Start name end) where
+    pub goes-stands : Opens s name end
+    goes-stands = start-stands s 0 at r reads l (sound 0 (omega arith)) name end e
 
     abbrev v : Text
     v = take (end - name) (drop name s)
 
-    other : (i : ℕ) (h : i < 5) → (elementOf v ≡ 12 + i → ⊥) → Onward s i (tagNames s i) at next l l
+    other : (i : ℕ) (h : i < 5) → (elementOf v ≡ 12 + i → ⊥) → Onward s i (tagNames s i) at end l l
     other i h d =
         let q : same v (nameOf (12 + i)) ≡ false = declares-by v i h ∙ ne-eqb (elementOf v) (12 + i) d in
-        walked-other s i at r reads l (sound i h) name end next e (same v (nameOf (12 + i))) refl (ap not q) .walks
+        walked-other s i at r reads l (sound i h) name end e (same v (nameOf (12 + i))) refl (ap not q) .walks
 
-    pub goes-other : ((i : ℕ) → i < 5 → elementOf v ≡ 12 + i → ⊥) → Goes s at l l (Next next)
+    pub goes-other : ((i : ℕ) → i < 5 → elementOf v ≡ 12 + i → ⊥) → Goes s at l l (Next end)
     goes-other d =
         let o = other 0 (omega arith) (d 0 (omega arith)) in
         record {
           past = o .past;
           inside = o .inside;
           room = refl;
-          keeps = λ i h. keeps s i at next l l l (other i h (d i h)) refl;
+          keeps = λ i h. keeps s i at end l l l (other i h (d i h)) refl;
           others = λ j a b. refl;
         }
 
@@ -93,19 +93,19 @@ module _ (s : Text) (at : ℕ) (r : Tag) (reads : ReadsTag s (tag (drop at s)) r
           record {
             space = i;
             of-tags = h;
-            long = walked-long s i at r reads l (sound i h) name end next e (same v (nameOf (12 + i))) refl named p valued q .walks;
+            long = walked-long s i at r reads l (sound i h) name end e (same v (nameOf (12 + i))) refl named p valued q .walks;
           }
 
-      pub goes-on : (l′ : List ℕ) (k : Found) → p .to - p .from ≤ 64 → DeclaresIn s i (take (p .to - p .from) (drop (p .from) s)) l l′ k → Goes s at l l′ (Next next)
+      pub goes-on : (l′ : List ℕ) (k : Found) → p .to - p .from ≤ 64 → DeclaresIn s i (take (p .to - p .from) (drop (p .from) s)) l l′ k → Goes s at l l′ (Next end)
       goes-on l′ k q d =
-          let o = walked-on s i at r reads l (sound i h) name end next e (same v (nameOf (12 + i))) refl named p valued l′ k q d .walks in
+          let o = walked-on s i at r reads l (sound i h) name end e (same v (nameOf (12 + i))) refl named p valued l′ k q d .walks in
           record {
             past = o .past;
             inside = o .inside;
             room = d .apart .room;
             keeps = λ j a. on-test (eqb j i)
-                (λ u. let z = eqb-true j i u in rw z (keeps s i at next l l′ l′ o refl))
-                (λ u. let z = eqb-false j i u in keeps s j at next l l l′ (other j a (λ w. z (omega (arith, is, w)))) (d .apart .others j (omega arith) z));
+                (λ u. let z = eqb-true j i u in rw z (keeps s i at end l l′ l′ o refl))
+                (λ u. let z = eqb-false j i u in keeps s j at end l l l′ (other j a (λ w. z (omega (arith, is, w)))) (d .apart .others j (omega arith) z));
             others = λ j a b. d .apart .others j b (λ w. omega (arith, w));
           }
 

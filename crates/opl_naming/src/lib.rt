@@ -7,7 +7,8 @@ ghost use lib.ListN.{length};
 ghost use Rattle.paper_opl.specs.Naming.{lines};
 ghost use Rattle.paper_opl.specs.Walk.{tags};
 ghost use Rattle.opl_spaces.specs.Spaces.{scratchWords};
-ghost use Rattle.opl_declared.specs.Names.{attributeOf, walkAt, accepted};
+ghost use Rattle.opl_tags.specs.Tags.{walkAt};
+ghost use Rattle.opl_declared.specs.Names.{attributeOf, accepted};
 ghost use Rattle.opl_naming.specs.Naming.{AllSound, Goes, Fills, AllEmptied, Names};
 use opl_declared::Walked;
 use opl_declared::declare_lines;
@@ -35,13 +36,13 @@ fn declare_tag(s: &[u8], w: &mut [u64], at: usize) -> Walked
     match t {
         Tag::Halt => Walked::Done,
         Tag::End(next) => Walked::Next(next),
-        Tag::Start { name, end, next } => {
+        Tag::Start { name, end } => {
             let id = element(&s[name..end]) as usize;
             if id < 12 {
-                return Walked::Next(next);
+                return Walked::Next(end);
             }
             if 16 < id {
-                return Walked::Next(next);
+                return Walked::Next(end);
             }
             let i = id - 12;
             let v = value_of(s, end, attribute(i));
@@ -51,7 +52,7 @@ fn declare_tag(s: &[u8], w: &mut [u64], at: usize) -> Walked
                 return Walked::Long;
             }
             declare(s, w, i, from, size);
-            Walked::Next(next)
+            Walked::Next(end)
         }
     }
 }

@@ -15,13 +15,13 @@ use Rattle.paper_lower.proofs.ListLaws.{upd-same, upd-other}
 use Rattle.paper_opl.specs.Reading.{Text}
 use Rattle.paper_opl.specs.Tree.{Tag}
 use Rattle.paper_opl.specs.Naming.{Names}
-use Rattle.paper_opl.specs.Walk.{called, start, sayings, recordSaid, tagsFrom}
+use Rattle.paper_opl.specs.Walk.{called, start, sayings, recordSaid}
 use Rattle.paper_opl.specs.Filling.{putAt, fill, tally}
 use Rattle.paper_opl.proofs.Inversion.{on-test}
 use Rattle.paper_opl.proofs.Tallied.{tally-is}
 use Rattle.opl_output.specs.Output.{twoWords, Fits, recordOf}
 use Rattle.opl_spaces.specs.Spaces.{keptRoom}
-use Rattle.opl_declared.specs.Names.{walkAt}
+use Rattle.opl_tags.specs.Tags.{nextTags, walkAt}
 use Rattle.opl_said.specs.Said.{Held, SaysIt, Small}
 use Rattle.opl_said.specs.declared.Fields.{Fields}
 use Rattle.opl_said.specs.declared.Fields.the-variants.{Numbers, Unnamed}
@@ -153,7 +153,7 @@ module _ (ns : Names) (s : Text) (c : Cursor) where
 
 -- ---- All tags from a place on.
 pub no-tags : (s : Text) (at : ℕ) → length s ≤ at → walkAt s at ≡ []
-unfolding tagsFrom
+unfolding nextTags
 no-tags s at h = let e : drop at s ≡ [] = drop-of-length-le s h in rw e
 
 pub record CheckLeft (ns : Names) (s : Text) (ts : List Tag) (l₀ : List ℕ) (c : Cursor) (l : List ℕ) : Type 0 where

@@ -10,7 +10,7 @@ ghost use Rattle.paper_opl.specs.Walk.{start};
 ghost use Rattle.paper_opl.specs.Filling.{fill, fillLines};
 ghost use Rattle.opl_lines.specs.Lines.{Apart, linesIn};
 ghost use Rattle.opl_spaces.specs.Spaces.{keptRoom, scratchWords};
-ghost use Rattle.opl_declared.specs.Names.{walkAt};
+ghost use Rattle.opl_tags.specs.Tags.{walkAt};
 ghost use Rattle.opl_said.specs.Said.{allNames, Holds};
 ghost use Rattle.opl_turns.specs.Turning.{Stood, SmallTag};
 ghost use Rattle.opl_passes.specs.Lines.{linesAt, linesGood, linesThere, Pairs, lineBetween, RowIs, LinesAre, LineWritten, LinesFit};

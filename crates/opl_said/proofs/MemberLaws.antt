@@ -14,20 +14,19 @@ use Rattle.paper_opl.specs.Elements.{elements}
 use Rattle.paper_opl.specs.Tree.{Tag as Tagged}
 use Rattle.paper_opl.specs.Naming.{Names}
 use Rattle.paper_opl.specs.Filling.{setFrom}
-use Rattle.paper_opl.specs.Walk.{tag, tagsFrom, innerNames, leading}
+use Rattle.paper_opl.specs.Walk.{innerNames, leading}
 use Rattle.paper_opl.proofs.Inversion.{bad≢got}
 use Rattle.paper_opl.proofs.Conforms.{same-true}
 use Rattle.paper_opl.proofs.Counts.{below-of}
 use Rattle.paper_opl.proofs.SetsFrom.{set-from}
-use Rattle.paper_opl.proofs.Tags.{step, stop, tag-below}
 use Rattle.opl_names.specs.declared.Found.{Found}
 use Rattle.opl_names.specs.declared.Found.the-variants.{At, Nowhere}
 use Rattle.opl_table.specs.Numbers.{names, nameOf}
-use Rattle.opl_tags.specs.Tags.{placeless, givenAt, Opens, ReadsTag}
+use Rattle.opl_tags.specs.Tags.{placeless, givenAt, nextTag, nextTags, walkAt, Opens, ReadsTag}
 use Rattle.opl_tags.specs.declared.Tag.{Tag}
 use Rattle.opl_tags.specs.declared.Tag.the-variants.{Start, End, Halt}
 use Rattle.opl_tags.proofs.AttributeLaws.{placed}
-use Rattle.opl_declared.specs.Names.{walkAt}
+use Rattle.opl_tags.proofs.Walked.{step, stop, next-below}
 use Rattle.opl_said.specs.Said.{NumberIs}
 use Rattle.opl_said.specs.Forms.{numberBy, givensOf, insideAt, Inner, Onward, HereIs, MemberIs, NextIs, firstBy, setBy}
 use Rattle.opl_said.specs.declared.Member.{Member}
@@ -50,62 +49,62 @@ unfolding nameOf names elements each some innerNames
 inner-is v = six (same v (text "operation")) (same v (text "object")) (same v (text "critical_roles")) (same v (text "critical_role")) (same v (text "critical_task")) (same v (text "partition_task"))
 
 -- ---- One tag.
-module _ (s : Text) (e at : ℕ) (r : Tag) (reads : ReadsTag s (tag (drop at s)) r) where
+module _ (s : Text) (e at : ℕ) (r : Tag) (reads : ReadsTag s (nextTag (drop at s)) r) where
   pub member-halt : r ≡ Halt → MemberIs s e at Last
   unfolding keep each leading
-  member-halt q = go (tag (drop at s)) refl (rw q at (reads .read-is))
+  member-halt q = go (nextTag (drop at s)) refl (rw q at (reads .read-is))
     where
-      go : (x : Read (List Tagged)) → tag (drop at s) ≡ x → bad [] ≡ placeless x → insideAt s e at ≡ []
+      go : (x : Read (List Tagged)) → nextTag (drop at s) ≡ x → bad [] ≡ placeless x → insideAt s e at ≡ []
       go (got ts u) p q = absurd (bad≢got q)
       go (bad u) p q = ap (λ ts. givensOf e (leading ts)) (stop (drop at s) u p)
 
-  onward : (n : ℕ) (ts : List Tagged) → n ≤ length s → tag (drop at s) ≡ got ts (drop n s) → at < n
-  onward n ts h q = omega (arith, below-of q (tag-below (drop at s)), length-drop at s, length-drop n s)
+  onward : (n : ℕ) (ts : List Tagged) → n ≤ length s → nextTag (drop at s) ≡ got ts (drop n s) → at < n
+  onward n ts h q = omega (arith, below-of q (next-below (drop at s)), length-drop at s, length-drop n s)
 
   pub member-end : (n : ℕ) → r ≡ End n → MemberIs s e at (Other n)
   member-end n q =
-      let p = placed (tag (drop at s)) [] (drop n s) (rw q at (reads .read-is)) in
+      let p = placed (nextTag (drop at s)) [] (drop n s) (rw q at (reads .read-is)) in
       let u : n ≤ length s = rw q at (reads .stands) in
       record { past = onward n [] u p; inside = u; rest = ap (λ ts. givensOf e (leading ts)) (step (drop at s) (drop n s) [] p) }
 
-  module _ (name end next : ℕ) (q : r ≡ Start name end next) where
-    pub start-stands : Opens s name end next
+  module _ (name end : ℕ) (q : r ≡ Start name end) where
+    pub start-stands : Opens s name end
     start-stands = rw q at (reads .stands)
 
     abbrev here : Tagged
     here = record { name = take (end - name) (drop name s); given = givenAt s end }
 
-    start-is : tag (drop at s) ≡ got (here ∷ []) (drop next s)
-    start-is = placed (tag (drop at s)) (here ∷ []) (drop next s) (rw q at (reads .read-is))
+    start-is : nextTag (drop at s) ≡ got (here ∷ []) (drop end s)
+    start-is = placed (nextTag (drop at s)) (here ∷ []) (drop end s) (rw q at (reads .read-is))
 
-    walk-is : walkAt s at ≡ here ∷ walkAt s next
-    walk-is = step (drop at s) (drop next s) (here ∷ []) start-is
+    walk-is : walkAt s at ≡ here ∷ walkAt s end
+    walk-is = step (drop at s) (drop end s) (here ∷ []) start-is
 
-    next-past : at < next
-    next-past = onward next (here ∷ []) (start-stands .inside) start-is
+    end-past : at < end
+    end-past = onward end (here ∷ []) (start-stands .inside) start-is
 
     module _ (b : Bool) (is : b ≡ same (take (end - name) (drop name s)) (nameOf e)) where
-      pub member-here : b ≡ true → Inner e → MemberIs s e at (Here end next)
+      pub member-here : b ≡ true → Inner e → MemberIs s e at (Here end end)
       unfolding keep each leading
       member-here h i =
           let o = start-stands in
           let k : same (here .name) (nameOf e) ≡ true = sym is ∙ h in
           let n : some (same (here .name)) innerNames ≡ true = rw (same-true (here .name) (nameOf e) k) i in
-          record { past = next-past; inside = o .inside; name-ends = omega (arith, o .past, o .inside); first = rw (walk-is, n, k) }
+          record { past = end-past; inside = o .inside; name-ends = o .inside; first = rw (walk-is, n, k) }
 
       module _ (h : b ≡ false) (d : Bool) (in-is : d ≡ some (same (take (end - name) (drop name s))) innerNames) where
-        pub member-other : d ≡ true → MemberIs s e at (Other next)
+        pub member-other : d ≡ true → MemberIs s e at (Other end)
         unfolding keep each leading
         member-other i =
             let o = start-stands in
-            record { past = next-past; inside = o .inside; rest = rw (walk-is, ← in-is, i, ← is, h) }
+            record { past = end-past; inside = o .inside; rest = rw (walk-is, ← in-is, i, ← is, h) }
 
         pub member-past : d ≡ false → MemberIs s e at Last
         unfolding keep each leading
         member-past i = rw (walk-is, ← in-is, i)
 
 pub no-members : (s : Text) (e at : ℕ) → length s ≤ at → insideAt s e at ≡ []
-unfolding keep each leading tagsFrom
+unfolding keep each leading nextTags
 no-members s e at h = let q : drop at s ≡ [] = drop-of-length-le s h in rw q
 
 -- ---- The next of them.

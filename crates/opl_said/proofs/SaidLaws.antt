@@ -18,8 +18,7 @@ use Rattle.paper_lower.proofs.ListLaws.{both}
 use Rattle.paper_opl.proofs.Inversion.{on-test}
 use Rattle.paper_opl.proofs.SaidBy.{fields, said-1, said-2, said-3, said-4, said-5, said-7, said-8, said-9, said-10, said-11, said-12, said-13, said-14, said-15, said-16}
 use Rattle.opl_table.specs.Numbers.{names, nameOf}
-use Rattle.opl_tags.specs.Tags.{givenAt}
-use Rattle.opl_declared.specs.Names.{walkAt}
+use Rattle.opl_tags.specs.Tags.{givenAt, walkAt}
 use Rattle.opl_said.specs.Said.{spaceAt, cardinalityAt, sayingAt, recordOf, SaysIt}
 use Rattle.opl_said.specs.Forms.{numberBy, insideAt, headOf, firstBy, setBy, oneSaid, twoSaid, threeSaid, setSaid, partitioningOf, FieldsAre}
 use Rattle.opl_said.specs.declared.Fields.{Fields}

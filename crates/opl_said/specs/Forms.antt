@@ -12,8 +12,7 @@ use Rattle.paper_opl.specs.Tree.{Given, Tag}
 use Rattle.paper_opl.specs.Naming.{Names, valueOf, numberIn, setOf}
 use Rattle.paper_opl.specs.Walk.{innerNames, leading}
 use Rattle.opl_table.specs.Numbers.{nameOf}
-use Rattle.opl_tags.specs.Tags.{givenAt}
-use Rattle.opl_declared.specs.Names.{walkAt}
+use Rattle.opl_tags.specs.Tags.{givenAt, walkAt}
 use Rattle.opl_said.specs.declared.Member.{Member}
 use Rattle.opl_said.specs.declared.Member.the-variants.{Other, Here, Last}
 use Rattle.opl_said.specs.declared.Next.{Next}

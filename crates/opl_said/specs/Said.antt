@@ -14,9 +14,8 @@ use Rattle.opl_names.specs.Table.{Sound, foundOf}
 use Rattle.opl_names.specs.declared.Found.{Found}
 use Rattle.opl_names.specs.declared.Found.the-variants.{At, Nowhere}
 use Rattle.opl_lines.specs.Lines.{linesIn}
-use Rattle.opl_tags.specs.Tags.{givenAt}
+use Rattle.opl_tags.specs.Tags.{givenAt, walkAt}
 use Rattle.opl_spaces.specs.Spaces.{limitOf, scratchWords, tableOf, numbered}
-use Rattle.opl_declared.specs.Names.{walkAt}
 use Rattle.opl_said.specs.declared.Fields.{Fields}
 use Rattle.opl_said.specs.declared.Fields.the-variants.{Numbers, Unnamed}
 

@@ -130,12 +130,12 @@ fn member_at(s: &[u8], e: u64, at: usize) -> Member
     match t {
         Tag::Halt => Member::Last,
         Tag::End(next) => Member::Other(next),
-        Tag::Start { name, end, next } => {
+        Tag::Start { name, end } => {
             if is_name(&s[name..end], e) {
-                return Member::Here { end, next };
+                return Member::Here { end, next: end };
             }
             if inner(&s[name..end]) {
-                return Member::Other(next);
+                return Member::Other(end);
             }
             Member::Last
         }

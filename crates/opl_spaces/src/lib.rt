@@ -14,22 +14,38 @@ pub const TABLES: usize = 397495;
 
 pub const KEPT: usize = 131072;
 
-const LIMITS: [usize; 7] = [1024, 64, 256, 65536, 65536, 64, 16];
-
-const BASES: [usize; 7] = [0, 3073, 3266, 4035, 200644, 397253, 397446];
+// Found by a match: an array would be laid on the stack at each use.
 
 fn limit(i: usize) -> usize
     requires { ⌜ i < 7 ⌝ }
     ensures { λ r. ⌜ r ≡ limitOf i ⌝ }
 {
-    LIMITS[i]
+    match i {
+        0 => 1024,
+        1 => 64,
+        2 => 256,
+        3 => 65536,
+        4 => 65536,
+        5 => 64,
+        6 => 16,
+        _ => 0,
+    }
 }
 
 fn base(i: usize) -> usize
     requires { ⌜ i < 7 ⌝ }
     ensures { λ r. ⌜ r ≡ baseOf i ⌝ }
 {
-    BASES[i]
+    match i {
+        0 => 0,
+        1 => 3073,
+        2 => 3266,
+        3 => 4035,
+        4 => 200644,
+        5 => 397253,
+        6 => 397446,
+        _ => 0,
+    }
 }
 
 // No names in a space, whatever the words were.
@@ -65,5 +81,9 @@ pub fn number(s: &[u8], w: &[u64], i: usize, name: &[u8]) -> Found
     let n = limit(i);
     let from = base(i);
     let to = from + 1 + 3 * n;
-    opl_names::find(s, &w[from..to], n, name)
+    let r = opl_names::find(s, &w[from..to], n, name);
+    match r {
+        Found::At(k) => Found::At(k),
+        Found::Nowhere => Found::Nowhere,
+    }
 }

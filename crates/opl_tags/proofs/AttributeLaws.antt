@@ -14,13 +14,13 @@ use Rattle.paper_opl.specs.Naming.{valueOf as valueIn}
 use Rattle.paper_opl.specs.Walk.{plain, givens}
 use Rattle.paper_opl.proofs.Inversion.{on, on-test, bad≢got, got-rest, got-value}
 use Rattle.paper_opl.proofs.Counts.{below-of, word-strict, space-strict, equals-below}
-use Rattle.paper_opl.proofs.Tags.{plain-below, givens-enough}
+use Rattle.paper_opl.proofs.Tags.{plain-below}
 use Rattle.opl_text.specs.declared.Step.{Step}
 use Rattle.opl_text.specs.declared.Step.the-variants.{Next, Bad}
 use Rattle.opl_text.specs.Steps.{Reads, stepOf, wordOf, valueOf, placeOf}
 use Rattle.opl_text.proofs.Laws.{onward, no-word, a-word}
 use Rattle.opl_text.proofs.Literals.{value-room}
-use Rattle.opl_tags.specs.Tags.{placeless, given, Within, Stands, ReadsAttribute, collectedOn, collected, givenAt, Valued, forget}
+use Rattle.opl_tags.specs.Tags.{placeless, given, Within, Stands, ReadsAttribute, collectedOn, collected, givenAt, Valued}
 use Rattle.opl_tags.specs.declared.Attribute.{Attribute}
 use Rattle.opl_tags.specs.declared.Attribute.the-variants.{Pair, Done, Stop}
 
@@ -194,7 +194,7 @@ module _ (s : Text) (at i : ℕ) (w : Text) (left : valueIn w (givenAt s at) ≡
     unfolding valueIn
     value-later q = left ∙ rw (collected-pair s i r reads from end value close pair (length s) (omega arith), ← is, q)
 
--- ---- The end of a start tag: the attributes one by one.
+-- ---- All of them, one by one.
 by-given : (n : ℕ) (s : Text) → givens (suc n) s ≡ after (given s) (λ m u. if-found m (got [] u) (λ g. after (givens n u) (λ gs z. got (g ∷ gs) z)))
 unfolding givens given
 by-given n s =
@@ -214,43 +214,3 @@ collected-is (suc n) s gs r e = go (given s) refl (sym (by-given n s) ∙ e) (co
     go (got none u) p q rest = got-value (rw p at q)
     go (got (just g) u) p q rest = more g (givens n u) (collected n u) (rw p at q) (rest u)
     go (bad u) p q rest = absurd (bad≢got (rw p at q))
-
-forget-on : (x : Read (List Given)) (g : Given) → forget (after x (λ gs z. got (g ∷ gs) z)) ≡ forget x
-forget-on (got gs r) g = refl
-forget-on (bad r) g = refl
-
-module _ (s : Text) (i : ℕ) (r : Attribute) (reads : ReadsAttribute s i (given (drop i s)) r) where
-  pub ends-done : (n j : ℕ) → 0 < n → r ≡ Done j → got tt (drop j s) ≡ placeless (forget (givens n (drop i s)))
-  ends-done zero j h e = absurd (omega arith)
-  ends-done (suc n) j h e =
-      let q = placed (given (drop i s)) none (drop j s) (rw e at (reads .read-is)) in
-      let z : givens (suc n) (drop i s) ≡ got [] (drop j s) = by-given n (drop i s) ∙ rw q in
-      rw z
-
-  pub done-inside : (j : ℕ) → r ≡ Done j → j ≤ length s
-  done-inside j e = let w : Stands s i (Done j) = rw e at (reads .stands) in w .1
-
-  pub ends-stop : (n : ℕ) → 0 < n → r ≡ Stop → bad [] ≡ placeless (forget (givens n (drop i s)))
-  ends-stop zero h e = absurd (omega arith)
-  ends-stop (suc n) h e = go (given (drop i s)) (rw e at (reads .read-is)) (by-given n (drop i s))
-    where
-      go : (x : Read (Maybe Given)) → bad [] ≡ placeless x → givens (suc n) (drop i s) ≡ after x (λ m u. if-found m (got [] u) (λ g. after (givens n u) (λ gs z. got (g ∷ gs) z))) → bad [] ≡ placeless (forget (givens (suc n) (drop i s)))
-      go (got g z) q p = absurd (bad≢got q)
-      go (bad z) q p = sym (ap (λ x. placeless (forget x)) p)
-
-  module _ (from end value close : ℕ) (pair : r ≡ Pair from end value close) where
-    pub ends-later : (n : ℕ) → length s ≤ n → forget (givens n (drop i s)) ≡ forget (givens n (drop (close + 1) s))
-    ends-later zero h = let w = within s i r reads from end value close pair in absurd (omega (arith, w .inside))
-    ends-later (suc n) h =
-        let w = within s i r reads from end value close pair in
-        let z : givens (suc n) (drop i s) ≡ after (givens (suc n) (drop (close + 1) s)) (λ gs u. got (record { name = take (end - from) (drop from s); value = take (close - value) (drop value s) } ∷ gs) u)
-        = by-given n (drop i s) ∙ rw (given-is-pair s i r reads from end value close pair, givens-enough n (suc n) (drop (close + 1) s) (omega (arith, length-drop (close + 1) s, w .inside)) (omega (arith, length-drop (close + 1) s, w .inside))) in
-        ap forget z ∙ forget-on (givens (suc n) (drop (close + 1) s)) _
-
-pub ends-never : (s : Text) (i : ℕ) → length s ≤ i → (n : ℕ) → bad [] ≡ placeless (forget (givens n (drop i s)))
-unfolding givens starts text behind word
-ends-never s i h n = let z : drop i s ≡ [] = drop-of-length-le s h in rw z (go n)
-  where
-    go : (n : ℕ) → bad [] ≡ placeless (forget (givens n []))
-    go zero = refl
-    go (suc n) = refl

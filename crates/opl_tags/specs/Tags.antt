@@ -2,23 +2,21 @@
 -- place is told: the text was judged before.
 use Prim.Native.Nat.{ℕ, zero, suc, _+_, _-_, _≤_, _<_}
 use mathlib.Core.Path.{_≡_}
-use mathlib.Core.Bool.{cond, _||_}
+use mathlib.Core.Bool.{Bool, not, cond, _||_}
 use mathlib.Core.List.{List, [], _∷_}
+use lib.Dec.{eqb}
 use lib.ListN.{length, take, drop}
 use Rattle.paper_lower.specs.Lists.{Maybe}
 use Rattle.paper_lower.specs.Lists.Maybe.{none, just}
-use Rattle.paper_opl.specs.Reading.{Text, text, Read, after, starts, skip, space}
+use Rattle.paper_opl.specs.Reading.{Text, text, Read, after, starts, expect, behind, skip, space, misc, name}
 use Rattle.paper_opl.specs.Reading.Read.{got, bad}
 use Rattle.paper_opl.specs.Tree.{Given, Tag as Tagged}
-use Rattle.paper_opl.specs.Walk.{plain}
+use Rattle.paper_opl.specs.Walk.{plain, onward}
 use Rattle.opl_tags.specs.declared.Attribute.{Attribute}
 use Rattle.opl_tags.specs.declared.Attribute.the-variants.{Pair, Done, Stop}
 use Rattle.opl_tags.specs.declared.Part.{Part}
 use Rattle.opl_tags.specs.declared.Tag.{Tag}
 use Rattle.opl_tags.specs.declared.Tag.the-variants.{Start, End, Halt}
-use Rattle.opl_text.specs.Steps.{placeOf}
-use Rattle.opl_text.specs.declared.Step.{Step}
-use Rattle.opl_text.specs.declared.Step.the-variants.{Next, Bad}
 
 -- a reading without the place of its refusal
 abbrev pub placeless : {A : Type 0} → Read A → Read A
@@ -79,31 +77,36 @@ pub record Valued (s w : Text) (p : Part) : Type 0 where
 
 -- ---- A tag.
 
--- what was read, without what it says
-abbrev pub forget : {A : Type 0} → Read A → Read (Unit {0})
-forget (got x r) = got tt r
-forget (bad r) = bad r
+-- a byte that begins no tag
+abbrev pub shut : ℕ → Bool
+shut b = not (eqb b 60)
 
-abbrev pub endOf : Text → Step → Read (Unit {0})
-endOf s (Next i) = got tt (drop i s)
-endOf s (Bad i) = bad []
+-- The next tag, up to the end of its name, from the next "<" on that begins no comment; an end tag counts for nothing. In an accepted text that is the tag
+-- behind what was read, though the rest of a tag is not read: no "<" stands in it.
+unfoldable pub nextTag : Text → Read (List Tagged)
+nextTag s =
+    after (misc (length (behind shut s)) (behind shut s)) (λ _ r. after (expect (text "<") r) (λ _ u. cond (starts (text "/") u) (got [] u)
+    (after (name u) (λ w z. got (record { name = w; given = collected (length z) z } ∷ []) z))))
 
-pub record Ends (s : Text) (at : ℕ) (read : Read (Unit {0})) (r : Step) : Type 0 where
-  pub read-is : endOf s r ≡ placeless read
-  pub inside : placeOf r ≤ length s
+unfoldable pub nextTags : ℕ → Text → List Tagged
+nextTags zero s = []
+nextTags (suc n) s = onward (nextTag s) (λ r. nextTags n r)
+
+-- the tags from a place on
+abbrev pub walkAt : Text → ℕ → List Tagged
+walkAt s at = nextTags (length (drop at s)) (drop at s)
 
 abbrev pub tagOf : Text → Tag → Read (List Tagged)
-tagOf s (Start name end next) = got (record { name = take (end - name) (drop name s); given = givenAt s end } ∷ []) (drop next s)
+tagOf s (Start name end) = got (record { name = take (end - name) (drop name s); given = givenAt s end } ∷ []) (drop end s)
 tagOf s (End next) = got [] (drop next s)
 tagOf s Halt = bad []
 
-pub record Opens (s : Text) (name end next : ℕ) : Type 0 where
+pub record Opens (s : Text) (name end : ℕ) : Type 0 where
   pub named : name < end
-  pub past : end ≤ next
-  pub inside : next ≤ length s
+  pub inside : end ≤ length s
 
 abbrev pub TagStands : Text → Tag → Type 0
-TagStands s (Start name end next) = Opens s name end next
+TagStands s (Start name end) = Opens s name end
 TagStands s (End next) = next ≤ length s
 TagStands s Halt = Unit {0}
 

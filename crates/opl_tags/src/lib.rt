@@ -1,14 +1,16 @@
 // The tags of an accepted policy text, one behind the other, and the values of their attributes. It rests on paper_opl's walk, on the readers of
 // opl_text and on the names of opl_table.
+ghost use mathlib.Core.Path.{_≡_};
 ghost use Prim.Native.Nat.{_+_, _-_, _≤_, _<_};
 ghost use lib.ListN.{length, drop};
 ghost use Rattle.paper_lower.specs.Lists.Maybe.{just};
-ghost use Rattle.paper_opl.specs.Reading.{after};
+ghost use Rattle.paper_opl.specs.Reading.{after, behind};
 ghost use Rattle.paper_opl.specs.Reading.Read.{got};
 ghost use Rattle.paper_opl.specs.Naming.{valueOf};
-ghost use Rattle.paper_opl.specs.Walk.{plain as plainOf, givens, startTag, endTag, tag};
+ghost use Rattle.paper_opl.specs.Walk.{plain as plainOf};
+ghost use Rattle.opl_text.specs.Steps.{From, Runs};
 ghost use Rattle.opl_table.specs.Numbers.{nameOf};
-ghost use Rattle.opl_tags.specs.Tags.{given as givenOf, givenAt, ReadsAttribute, Valued, forget, Ends, ReadsTag};
+ghost use Rattle.opl_tags.specs.Tags.{given as givenOf, givenAt, ReadsAttribute, Valued, shut as shutOf, nextTag, ReadsTag};
 use opl_table::is_name;
 use opl_text::Step;
 use opl_text::equals;
@@ -17,7 +19,6 @@ use opl_text::read_name;
 use opl_text::read_value;
 use opl_text::skip_misc;
 use opl_text::skip_space;
-use opl_text::starts_with;
 
 // An attribute: its name from `from` to `end`, its value from `value` to its closing quote at `close`; or the end of the start tag, at its "/" or ">".
 pub enum Attribute {
@@ -37,13 +38,9 @@ pub struct Part {
     pub to: usize,
 }
 
-// A start tag: its name from `name` to `end`; or an end tag. Behind either the text goes on at `next`.
+// A start tag, its name from `name` to `end`; or an end tag, its "/" at this place.
 pub enum Tag {
-    Start {
-        name: usize,
-        end: usize,
-        next: usize,
-    },
+    Start { name: usize, end: usize },
     End(usize),
     Halt,
 }
@@ -122,98 +119,78 @@ pub fn value_of(s: &[u8], at: usize, id: u64) -> Part
     Part { from: 0, to: 0 }
 }
 
-// The "/" or ">" that ends the start tag whose name ends at `at`.
-fn attributes_end(s: &[u8], at: usize) -> Step
+// ---- Tags. In an accepted text "<" begins a tag or a comment, and stands nowhere else but in comments: from the name of a tag on, the next "<" is looked
+// for, and nothing between is read.
+
+fn shut(b: u8) -> bool
+    ensures { λ r. ⌜ r ≡ shutOf b ⌝ }
+{
+    b != 60
+}
+
+fn shut_run(s: &[u8], i: usize) -> bool
+    requires { ⌜ i + 8 ≤ length (now s) ⌝ }
+    ensures { λ r. ⌜ Runs shutOf (now (s .entry)) i r ⌝ }
+{
+    shut(s[i])
+        & shut(s[i + 1])
+        & shut(s[i + 2])
+        & shut(s[i + 3])
+        & shut(s[i + 4])
+        & shut(s[i + 5])
+        & shut(s[i + 6])
+        & shut(s[i + 7])
+}
+
+fn open_rest(s: &[u8], at: usize) -> usize
     requires { ⌜ at ≤ length (now s) ⌝ }
-    ensures { λ r. ⌜ Ends (now (s .entry)) at (forget (givens (length (drop at (now (s .entry)))) (drop at (now (s .entry))))) r ⌝ }
+    ensures { λ r. ⌜ From (now (s .entry)) (behind shutOf (drop at (now (s .entry)))) r ⌝ }
 {
     let mut i = at;
     while i < s.len() {
-        let g = given(s, i);
-        match g {
-            Attribute::Done(k) => {
-                return Step::Next(k);
-            }
-            Attribute::Stop => {
-                return Step::Bad(0);
-            }
-            Attribute::Pair {
-                from: _,
-                end: _,
-                value: _,
-                close,
-            } => {
-                i = close + 1;
-            }
+        if !shut(s[i]) {
+            return i;
         }
+        i += 1;
     }
-    Step::Bad(0)
+    i
 }
 
-// The start tag at `at`.
-fn start_tag(s: &[u8], at: usize) -> Tag
+// The first "<" from `at` on, eight bytes at a time.
+fn open_at(s: &[u8], at: usize) -> usize
     requires { ⌜ at ≤ length (now s) ⌝ }
-    ensures { λ r. ⌜ ReadsTag (now (s .entry)) (startTag (drop at (now (s .entry)))) r ⌝ }
+    ensures { λ r. ⌜ From (now (s .entry)) (behind shutOf (drop at (now (s .entry)))) r ⌝ }
 {
-    if !is_at(s, at, 60) {
+    let mut i = at;
+    while 8 <= s.len() - i {
+        if !shut_run(s, i) {
+            return open_rest(s, i);
+        }
+        i += 8;
+    }
+    open_rest(s, i)
+}
+
+// The next tag from `at` on, up to the end of its name.
+pub fn read_tag(s: &[u8], at: usize) -> Tag
+    requires { ⌜ at ≤ length (now s) ⌝ }
+    ensures { λ r. ⌜ ReadsTag (now (s .entry)) (nextTag (drop at (now (s .entry)))) r ⌝ }
+{
+    let o = open_at(s, at);
+    let m = skip_misc(s, o);
+    let Step::Next(i) = m else {
+        return Tag::Halt;
+    };
+    if !is_at(s, i, 60) {
         return Tag::Halt;
     }
-    let name = at + 1;
+    let name = i + 1;
+    if is_at(s, name, 47) {
+        return Tag::End(name);
+    }
     let n = read_name(s, name);
     let Step::Next(end) = n else {
         return Tag::Halt;
     };
-    let a = attributes_end(s, end);
-    let Step::Next(i) = a else {
-        return Tag::Halt;
-    };
-    if s.len() <= i {
-        return Tag::Halt;
-    }
-    if is_at(s, i, 62) {
-        return Tag::Start {
-            name,
-            end,
-            next: i + 1,
-        };
-    }
-    if !is_at(s, i + 1, 62) {
-        return Tag::Halt;
-    }
-    Tag::Start {
-        name,
-        end,
-        next: i + 2,
-    }
-}
-
-// The end tag at `at`.
-fn end_tag(s: &[u8], at: usize) -> Tag
-    requires { ⌜ at + 2 ≤ length (now s) ⌝ }
-    ensures { λ r. ⌜ ReadsTag (now (s .entry)) (endTag (drop at (now (s .entry)))) r ⌝ }
-{
-    let n = read_name(s, at + 2);
-    let Step::Next(end) = n else {
-        return Tag::Halt;
-    };
-    let i = skip_space(s, end);
-    if !is_at(s, i, 62) {
-        return Tag::Halt;
-    }
-    Tag::End(i + 1)
-}
-
-// The next tag from `at` on.
-pub fn read_tag(s: &[u8], at: usize) -> Tag
-    requires { ⌜ at ≤ length (now s) ⌝ }
-    ensures { λ r. ⌜ ReadsTag (now (s .entry)) (tag (drop at (now (s .entry)))) r ⌝ }
-{
-    let m = skip_misc(s, at);
-    let Step::Next(i) = m else {
-        return Tag::Halt;
-    };
-    if starts_with(s, i, b"</") {
-        return end_tag(s, i);
-    }
-    start_tag(s, i)
+    Tag::Start { name, end }
 }

@@ -13,16 +13,15 @@ use Rattle.paper_opl.specs.Reading.{Text, Read}
 use Rattle.paper_opl.specs.Reading.Read.{got, bad}
 use Rattle.paper_opl.specs.Tree.{Tag as Tagged}
 use Rattle.paper_opl.specs.Naming.{Names}
-use Rattle.paper_opl.specs.Walk.{called, Context, turn, kindAt, leading, Saying, sayings, recordSaid, tag}
+use Rattle.paper_opl.specs.Walk.{called, Context, turn, kindAt, leading, Saying, sayings, recordSaid}
 use Rattle.paper_opl.specs.Filling.{putAt, valued, fill, tally}
 use Rattle.paper_opl.proofs.Inversion.{on-test, bad≢got}
 use Rattle.paper_opl.proofs.Counts.{below-of}
-use Rattle.paper_opl.proofs.Tags.{step, stop, tag-below}
-use Rattle.opl_tags.specs.Tags.{placeless, givenAt, Opens, ReadsTag}
+use Rattle.opl_tags.specs.Tags.{placeless, givenAt, nextTag, walkAt, Opens, ReadsTag}
 use Rattle.opl_tags.specs.declared.Tag.{Tag}
 use Rattle.opl_tags.specs.declared.Tag.the-variants.{Start, End, Halt}
 use Rattle.opl_tags.proofs.AttributeLaws.{placed}
-use Rattle.opl_declared.specs.Names.{walkAt}
+use Rattle.opl_tags.proofs.Walked.{step, stop, next-below}
 use Rattle.opl_turns.specs.Meaning.{elementOf, kindBy, setsBy, partsBy, numberBy}
 use Rattle.opl_turns.specs.Turning.{contextOf, tagsAt, behind, turnedBy, SmallTag, Stood, partitionings, Steps, Passes, Turns}
 use Rattle.opl_turns.specs.declared.Cursor.{Cursor}
@@ -61,20 +60,20 @@ module _ (c : Context) (t : Tagged) (ts : List Tagged) (k : ℕ) (kind : kindAt 
     loud-fills ns f out = rw (kind, q, turned, numbered)
 
 -- ---- A tag at a cursor.
-module _ (s : Text) (c : Cursor) (stood : Stood s c) (r : Tag) (reads : ReadsTag s (tag (drop (c .at) s)) r) where
+module _ (s : Text) (c : Cursor) (stood : Stood s c) (r : Tag) (reads : ReadsTag s (nextTag (drop (c .at) s)) r) where
   pub turn-halt : r ≡ Halt → tagsAt s c ≡ []
-  turn-halt e = go (tag (drop (c .at) s)) refl (rw e at (reads .read-is))
+  turn-halt e = go (nextTag (drop (c .at) s)) refl (rw e at (reads .read-is))
     where
-      go : (x : Read (List Tagged)) → tag (drop (c .at) s) ≡ x → bad [] ≡ placeless x → walkAt s (c .at) ≡ []
+      go : (x : Read (List Tagged)) → nextTag (drop (c .at) s) ≡ x → bad [] ≡ placeless x → walkAt s (c .at) ≡ []
       go (got ts u) p q = absurd (bad≢got q)
       go (bad u) p q = stop (drop (c .at) s) u p
 
-  onward : (n : ℕ) (ts : List Tagged) → n ≤ length s → tag (drop (c .at) s) ≡ got ts (drop n s) → c .at < n
-  onward n ts h e = omega (arith, below-of e (tag-below (drop (c .at) s)), length-drop (c .at) s, length-drop n s)
+  onward : (n : ℕ) (ts : List Tagged) → n ≤ length s → nextTag (drop (c .at) s) ≡ got ts (drop n s) → c .at < n
+  onward n ts h e = omega (arith, below-of e (next-below (drop (c .at) s)), length-drop (c .at) s, length-drop n s)
 
   pub turn-end : (n : ℕ) → r ≡ End n → Passes s c (record { at = n; sets = c .sets; parts = c .parts })
   turn-end n e =
-      let q = placed (tag (drop (c .at) s)) [] (drop n s) (rw e at (reads .read-is)) in
+      let q = placed (nextTag (drop (c .at) s)) [] (drop n s) (rw e at (reads .read-is)) in
       let u : n ≤ length s = rw e at (reads .stands) in
       let w : walkAt s (c .at) ≡ walkAt s n = step (drop (c .at) s) (drop n s) [] q in
       let p = onward n [] u q in
@@ -89,8 +88,8 @@ module _ (s : Text) (c : Cursor) (stood : Stood s c) (r : Tag) (reads : ReadsTag
         fills = λ ns f out. ap (λ (ts : List Tagged). fill ns (contextOf c) f ts out) w;
       }
 
-  module _ (name end next : ℕ) (e : r ≡ Start name end next) where
-    pub turn-stands : Opens s name end next
+  module _ (name end : ℕ) (e : r ≡ Start name end) where
+    pub turn-stands : Opens s name end
     turn-stands = rw e at (reads .stands)
 
     abbrev here : Tagged
@@ -100,24 +99,24 @@ module _ (s : Text) (c : Cursor) (stood : Stood s c) (r : Tag) (reads : ReadsTag
     id = elementOf (take (end - name) (drop name s))
 
     abbrev n : Cursor
-    n = behind id c next
+    n = behind id c end
 
-    start-is : tag (drop (c .at) s) ≡ got (here ∷ []) (drop next s)
-    start-is = placed (tag (drop (c .at) s)) (here ∷ []) (drop next s) (rw e at (reads .read-is))
+    start-is : nextTag (drop (c .at) s) ≡ got (here ∷ []) (drop end s)
+    start-is = placed (nextTag (drop (c .at) s)) (here ∷ []) (drop end s) (rw e at (reads .read-is))
 
-    walk-is : walkAt s (c .at) ≡ here ∷ walkAt s next
-    walk-is = step (drop (c .at) s) (drop next s) (here ∷ []) start-is
+    walk-is : walkAt s (c .at) ≡ here ∷ walkAt s end
+    walk-is = step (drop (c .at) s) (drop end s) (here ∷ []) start-is
 
     turned : turn (contextOf c) here ≡ contextOf n
     turned = turn-is (contextOf c) here
 
-    smalls : SmallTag here × Every SmallTag (walkAt s next)
+    smalls : SmallTag here × Every SmallTag (walkAt s end)
     smalls = rw walk-is at (stood .small)
 
-    past : c .at < next
-    past = onward next (here ∷ []) (turn-stands .inside) start-is
+    past : c .at < end
+    past = onward end (here ∷ []) (turn-stands .inside) start-is
 
-    few : partsBy (c .parts) id ≤ next
+    few : partsBy (c .parts) id ≤ end
     few = on-test (eqb id 38) (λ q. rw q (omega (arith, stood .few, past))) (λ q. rw q (omega (arith, stood .few, past)))
 
     low : setsBy (c .sets) id ≤ 10
@@ -133,7 +132,7 @@ module _ (s : Text) (c : Cursor) (stood : Stood s c) (r : Tag) (reads : ReadsTag
     steps : Steps s c n
     steps = record { past = past; stood = record { inside = turn-stands .inside; few = few; low = low; small = smalls .1 }; begun = begun }
 
-    pub turn-start : Turns s c (turnedBy id c end next)
+    pub turn-start : Turns s c (turnedBy id c end end)
     turn-start = go (eqb (kindBy (c .sets) id) 0) refl
       where
         k : kindAt (contextOf c) here ≡ kindBy (c .sets) id
@@ -146,19 +145,19 @@ module _ (s : Text) (c : Cursor) (stood : Stood s c) (r : Tag) (reads : ReadsTag
         go true q =
             record {
               steps = steps;
-              says = ap (sayings (contextOf c)) walk-is ∙ quiet-says (contextOf c) here (walkAt s next) _ k (contextOf n) turned q;
-              tallies = λ f. ap (tally (contextOf c) f) walk-is ∙ quiet-tallies (contextOf c) here (walkAt s next) _ k (contextOf n) turned q f;
-              fills = λ ns f out. ap (λ (ts : List Tagged). fill ns (contextOf c) f ts out) walk-is ∙ quiet-fills (contextOf c) here (walkAt s next) _ k (contextOf n) turned q ns f out;
+              says = ap (sayings (contextOf c)) walk-is ∙ quiet-says (contextOf c) here (walkAt s end) _ k (contextOf n) turned q;
+              tallies = λ f. ap (tally (contextOf c) f) walk-is ∙ quiet-tallies (contextOf c) here (walkAt s end) _ k (contextOf n) turned q f;
+              fills = λ ns f out. ap (λ (ts : List Tagged). fill ns (contextOf c) f ts out) walk-is ∙ quiet-fills (contextOf c) here (walkAt s end) _ k (contextOf n) turned q ns f out;
             }
         go false q =
             let z = eqb-false (kindBy (c .sets) id) 0 q in
             record {
               steps = steps;
-              named = omega (arith, turn-stands .past, turn-stands .inside);
+              named = turn-stands .inside;
               cardinal = smalls .0;
               some = omega (arith, z);
               small = kind-small (c .sets) (take (end - name) (drop name s)) (stood .low);
-              says = ap (sayings (contextOf c)) walk-is ∙ loud-says (contextOf c) here (walkAt s next) _ k (contextOf n) turned q _ m;
-              tallies = λ f. ap (tally (contextOf c) f) walk-is ∙ loud-tallies (contextOf c) here (walkAt s next) _ k (contextOf n) turned q _ m f;
-              fills = λ ns f out. ap (λ (ts : List Tagged). fill ns (contextOf c) f ts out) walk-is ∙ loud-fills (contextOf c) here (walkAt s next) _ k (contextOf n) turned q _ m ns f out;
+              says = ap (sayings (contextOf c)) walk-is ∙ loud-says (contextOf c) here (walkAt s end) _ k (contextOf n) turned q _ m;
+              tallies = λ f. ap (tally (contextOf c) f) walk-is ∙ loud-tallies (contextOf c) here (walkAt s end) _ k (contextOf n) turned q _ m f;
+              fills = λ ns f out. ap (λ (ts : List Tagged). fill ns (contextOf c) f ts out) walk-is ∙ loud-fills (contextOf c) here (walkAt s end) _ k (contextOf n) turned q _ m ns f out;
             }

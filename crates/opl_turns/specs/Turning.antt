@@ -12,8 +12,7 @@ use Rattle.paper_opl.specs.Tree.{Tag, decimal}
 use Rattle.paper_opl.specs.Naming.{Names, valueOf}
 use Rattle.paper_opl.specs.Walk.{called, Context, leading, Saying, sayings, recordSaid}
 use Rattle.paper_opl.specs.Filling.{putAt, valued, fill, tally}
-use Rattle.opl_tags.specs.Tags.{givenAt}
-use Rattle.opl_declared.specs.Names.{walkAt}
+use Rattle.opl_tags.specs.Tags.{givenAt, walkAt}
 use Rattle.opl_turns.specs.Meaning.{kindBy, setsBy, partsBy, numberBy}
 use Rattle.opl_turns.specs.declared.Cursor.{Cursor}
 use Rattle.opl_turns.specs.declared.Turned.{Turned}

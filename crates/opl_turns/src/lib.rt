@@ -175,6 +175,6 @@ pub fn turn(s: &[u8], c: Cursor) -> Turned
             sets: c.sets,
             parts: c.parts,
         }),
-        Tag::Start { name, end, next } => told(&s[name..end], c, end, next),
+        Tag::Start { name, end } => told(&s[name..end], c, end, end),
     }
 }

@@ -1,5 +1,5 @@
 -- Counted, begun, written, as the definition has them.
-use Rattle.opl_declared.specs.Names.{walkAt}
+use Rattle.opl_tags.specs.Tags.{walkAt}
 use Rattle.opl.proofs.JoinLaws.{no-line, zeros-at, no-tag, room₂, no-room, lines-fit, tags-there, tags-fit, all-written}
 use lib.ListN.{replicate}
 use mathlib.Core.Path.{refl}

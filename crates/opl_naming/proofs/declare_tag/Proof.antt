@@ -20,34 +20,34 @@ enum-known-t-2 : tie.Need-enum-known-t-2
 enum-known-t-2 c = search needs
 
 sub-element : tie.Need-sub-element
-sub-element c = let o = goes-stands (now (c .before .before .before .before .before .before .args .s)) (c .before .before .before .before .before .before .args .at) (c .before .before .before .read-tag .result) (c .before .before .before .read-tag .ensures) (now (c .before .before .before .before .before .before .args .w)) (c .before .before .before .before .before .before .pre .1 .0) (c .before .t2 .given .0 .0) (c .before .t2 .given .0 .1 .0) (c .before .t2 .given .0 .1 .1 .0) (c .before .t2 .given .1) in omega (arith, o .named)
+sub-element c = let o = goes-stands (now (c .before .before .before .before .before .before .args .s)) (c .before .before .before .before .before .before .args .at) (c .before .before .before .read-tag .result) (c .before .before .before .read-tag .ensures) (now (c .before .before .before .before .before .before .args .w)) (c .before .before .before .before .before .before .pre .1 .0) (c .before .t2 .given .0 .0) (c .before .t2 .given .0 .1 .0) (c .before .t2 .given .1) in omega (arith, o .named)
 
 part-element-start : tie.Need-part-element-start
-part-element-start c = let o = goes-stands (now (c .before .before .before .before .before .before .args .s)) (c .before .before .before .before .before .before .args .at) (c .before .before .before .read-tag .result) (c .before .before .before .read-tag .ensures) (now (c .before .before .before .before .before .before .args .w)) (c .before .before .before .before .before .before .pre .1 .0) (c .before .t2 .given .0 .0) (c .before .t2 .given .0 .1 .0) (c .before .t2 .given .0 .1 .1 .0) (c .before .t2 .given .1) in search needs
+part-element-start c = let o = goes-stands (now (c .before .before .before .before .before .before .args .s)) (c .before .before .before .before .before .before .args .at) (c .before .before .before .read-tag .result) (c .before .before .before .read-tag .ensures) (now (c .before .before .before .before .before .before .args .w)) (c .before .before .before .before .before .before .pre .1 .0) (c .before .t2 .given .0 .0) (c .before .t2 .given .0 .1 .0) (c .before .t2 .given .1) in search needs
 
 part-element-end : tie.Need-part-element-end
-part-element-end c = let o = goes-stands (now (c .before .before .before .before .before .before .args .s)) (c .before .before .before .before .before .before .args .at) (c .before .before .before .read-tag .result) (c .before .before .before .read-tag .ensures) (now (c .before .before .before .before .before .before .args .w)) (c .before .before .before .before .before .before .pre .1 .0) (c .before .t2 .given .0 .0) (c .before .t2 .given .0 .1 .0) (c .before .t2 .given .0 .1 .1 .0) (c .before .t2 .given .1) in search needs
+part-element-end c = let o = goes-stands (now (c .before .before .before .before .before .before .args .s)) (c .before .before .before .before .before .before .args .at) (c .before .before .before .read-tag .result) (c .before .before .before .read-tag .ensures) (now (c .before .before .before .before .before .before .args .w)) (c .before .before .before .before .before .before .pre .1 .0) (c .before .t2 .given .0 .0) (c .before .t2 .given .0 .1 .0) (c .before .t2 .given .1) in search needs
 
 element-requires : tie.Need-element-requires
 element-requires c κs = search needs
 
 returns : tie.Need-returns
-returns c = goes-other (now (c .before .before .before .before .before .before .before .before .before .args .s)) (c .before .before .before .before .before .before .before .before .before .args .at) (c .before .before .before .before .before .before .read-tag .result) (c .before .before .before .before .before .before .read-tag .ensures) (now (c .before .before .before .before .before .before .before .before .before .args .w)) (c .before .before .before .before .before .before .before .before .before .pre .1 .0) (c .before .before .before .before .t2 .given .0 .0) (c .before .before .before .before .t2 .given .0 .1 .0) (c .before .before .before .before .t2 .given .0 .1 .1 .0) (c .before .before .before .before .t2 .given .1) (λ i h u. omega (arith, u, c .before .element .ensures, c .if1 .taken))
+returns c = goes-other (now (c .before .before .before .before .before .before .before .before .before .args .s)) (c .before .before .before .before .before .before .before .before .before .args .at) (c .before .before .before .before .before .before .read-tag .result) (c .before .before .before .before .before .before .read-tag .ensures) (now (c .before .before .before .before .before .before .before .before .before .args .w)) (c .before .before .before .before .before .before .before .before .before .pre .1 .0) (c .before .before .before .before .t2 .given .0 .0) (c .before .before .before .before .t2 .given .0 .1 .0) (c .before .before .before .before .t2 .given .1) (λ i h u. omega (arith, u, c .before .element .ensures, c .if1 .taken))
 
 returns-2 : tie.Need-returns-2
-returns-2 c = goes-other (now (c .before .before .before .before .before .before .before .before .before .before .args .s)) (c .before .before .before .before .before .before .before .before .before .before .args .at) (c .before .before .before .before .before .before .before .read-tag .result) (c .before .before .before .before .before .before .before .read-tag .ensures) (now (c .before .before .before .before .before .before .before .before .before .before .args .w)) (c .before .before .before .before .before .before .before .before .before .before .pre .1 .0) (c .before .before .before .before .before .t2 .given .0 .0) (c .before .before .before .before .before .t2 .given .0 .1 .0) (c .before .before .before .before .before .t2 .given .0 .1 .1 .0) (c .before .before .before .before .before .t2 .given .1) (λ i h u. omega (arith, u, c .before .before .element .ensures, c .if2 .taken))
+returns-2 c = goes-other (now (c .before .before .before .before .before .before .before .before .before .before .args .s)) (c .before .before .before .before .before .before .before .before .before .before .args .at) (c .before .before .before .before .before .before .before .read-tag .result) (c .before .before .before .before .before .before .before .read-tag .ensures) (now (c .before .before .before .before .before .before .before .before .before .before .args .w)) (c .before .before .before .before .before .before .before .before .before .before .pre .1 .0) (c .before .before .before .before .before .t2 .given .0 .0) (c .before .before .before .before .before .t2 .given .0 .1 .0) (c .before .before .before .before .before .t2 .given .1) (λ i h u. omega (arith, u, c .before .before .element .ensures, c .if2 .taken))
 
 attribute-requires : tie.Need-attribute-requires
 attribute-requires c κs = search needs
 
 value-of-requires : tie.Need-value-of-requires
-value-of-requires c κs = let o = goes-stands (now (c .before .before .before .before .before .before .before .before .before .before .before .args .s)) (c .before .before .before .before .before .before .before .before .before .before .before .args .at) (c .before .before .before .before .before .before .before .before .read-tag .result) (c .before .before .before .before .before .before .before .before .read-tag .ensures) (now (c .before .before .before .before .before .before .before .before .before .before .before .args .w)) (c .before .before .before .before .before .before .before .before .before .before .before .pre .1 .0) (c .before .before .before .before .before .before .t2 .given .0 .0) (c .before .before .before .before .before .before .t2 .given .0 .1 .0) (c .before .before .before .before .before .before .t2 .given .0 .1 .1 .0) (c .before .before .before .before .before .before .t2 .given .1) in omega (arith, o .past, o .inside)
+value-of-requires c κs = let o = goes-stands (now (c .before .before .before .before .before .before .before .before .before .before .before .args .s)) (c .before .before .before .before .before .before .before .before .before .before .before .args .at) (c .before .before .before .before .before .before .before .before .read-tag .result) (c .before .before .before .before .before .before .before .before .read-tag .ensures) (now (c .before .before .before .before .before .before .before .before .before .before .before .args .w)) (c .before .before .before .before .before .before .before .before .before .before .before .pre .1 .0) (c .before .before .before .before .before .before .t2 .given .0 .0) (c .before .before .before .before .before .before .t2 .given .0 .1 .0) (c .before .before .before .before .before .before .t2 .given .1) in omega (arith, o .inside)
 
 sub-size : tie.Need-sub-size
 sub-size c = search needs
 
 returns-3 : tie.Need-returns-3
-returns-3 c = goes-long (now (c .before .before .before .before .before .before .before .before .before .before .before .before .before .before .args .s)) (c .before .before .before .before .before .before .before .before .before .before .before .before .before .before .args .at) (c .before .before .before .before .before .before .before .before .before .before .before .read-tag .result) (c .before .before .before .before .before .before .before .before .before .before .before .read-tag .ensures) (now (c .before .before .before .before .before .before .before .before .before .before .before .before .before .before .args .w)) (c .before .before .before .before .before .before .before .before .before .before .before .before .before .before .pre .1 .0) (c .before .before .before .before .before .before .before .before .before .t2 .given .0 .0) (c .before .before .before .before .before .before .before .before .before .t2 .given .0 .1 .0) (c .before .before .before .before .before .before .before .before .before .t2 .given .0 .1 .1 .0) (c .before .before .before .before .before .before .before .before .before .t2 .given .1) (c .before .before .before .before .before .before .element .result - 12) (omega (arith, c .before .before .before .before .before .if1 .left, c .before .before .before .before .if2 .left)) (omega (arith, c .before .before .before .before .before .before .element .ensures, c .before .before .before .before .before .if1 .left)) (c .before .before .value-of .result) (rw (c .before .before .before .attribute .ensures) at (c .before .before .value-of .ensures)) (c .if3 .taken)
+returns-3 c = goes-long (now (c .before .before .before .before .before .before .before .before .before .before .before .before .before .before .args .s)) (c .before .before .before .before .before .before .before .before .before .before .before .before .before .before .args .at) (c .before .before .before .before .before .before .before .before .before .before .before .read-tag .result) (c .before .before .before .before .before .before .before .before .before .before .before .read-tag .ensures) (now (c .before .before .before .before .before .before .before .before .before .before .before .before .before .before .args .w)) (c .before .before .before .before .before .before .before .before .before .before .before .before .before .before .pre .1 .0) (c .before .before .before .before .before .before .before .before .before .t2 .given .0 .0) (c .before .before .before .before .before .before .before .before .before .t2 .given .0 .1 .0) (c .before .before .before .before .before .before .before .before .before .t2 .given .1) (c .before .before .before .before .before .before .element .result - 12) (omega (arith, c .before .before .before .before .before .if1 .left, c .before .before .before .before .if2 .left)) (omega (arith, c .before .before .before .before .before .before .element .ensures, c .before .before .before .before .before .if1 .left)) (c .before .before .value-of .result) (rw (c .before .before .before .attribute .ensures) at (c .before .before .value-of .ensures)) (c .if3 .taken)
 
 declare-requires : tie.Need-declare-requires
 declare-requires c κs = ((c .before .before .before .before .before .before .before .before .before .before .before .before .before .before .before .pre .0, omega (arith, c .before .before .before .before .before .before .if1 .left, c .before .before .before .before .before .if2 .left)), (c .before .before .before .before .before .before .before .before .before .before .before .before .before .before .before .pre .1 .0 (c .before .before .before .before .before .before .before .element .result - 12) (omega (arith, c .before .before .before .before .before .before .if1 .left, c .before .before .before .before .before .if2 .left)), (omega (arith, c .before .before .before .value-of .ensures .inside, c .before .before .before .value-of .ensures .order), c .before .if3 .left)))
@@ -62,7 +62,7 @@ same-length : tie.Need-same-length
 same-length c = search needs
 
 returns-6 : tie.Need-returns-6
-returns-6 c = goes-on (now (c .before .before .before .before .before .before .before .before .before .before .before .before .before .before .before .before .before .before .args .s)) (c .before .before .before .before .before .before .before .before .before .before .before .before .before .before .before .before .before .before .args .at) (c .before .before .before .before .before .before .before .before .before .before .before .before .before .before .before .read-tag .result) (c .before .before .before .before .before .before .before .before .before .before .before .before .before .before .before .read-tag .ensures) (now (c .before .before .before .before .before .before .before .before .before .before .before .before .before .before .before .before .before .before .args .w)) (c .before .before .before .before .before .before .before .before .before .before .before .before .before .before .before .before .before .before .pre .1 .0) (c .before .before .before .before .before .before .before .before .before .before .before .before .before .t2 .given .0 .0) (c .before .before .before .before .before .before .before .before .before .before .before .before .before .t2 .given .0 .1 .0) (c .before .before .before .before .before .before .before .before .before .before .before .before .before .t2 .given .0 .1 .1 .0) (c .before .before .before .before .before .before .before .before .before .before .before .before .before .t2 .given .1) (c .before .before .before .before .before .before .before .before .before .before .element .result - 12) (omega (arith, c .before .before .before .before .before .before .before .before .before .if1 .left, c .before .before .before .before .before .before .before .before .if2 .left)) (omega (arith, c .before .before .before .before .before .before .before .before .before .before .element .ensures, c .before .before .before .before .before .before .before .before .before .if1 .left)) (c .before .before .before .before .before .before .value-of .result) (rw (c .before .before .before .before .before .before .before .attribute .ensures) at (c .before .before .before .before .before .before .value-of .ensures)) (c .before .before .declare .last .1 .0) (c .before .before .declare .result) (c .before .before .before .before .if3 .left) (c .before .before .declare .ensures)
+returns-6 c = goes-on (now (c .before .before .before .before .before .before .before .before .before .before .before .before .before .before .before .before .before .before .args .s)) (c .before .before .before .before .before .before .before .before .before .before .before .before .before .before .before .before .before .before .args .at) (c .before .before .before .before .before .before .before .before .before .before .before .before .before .before .before .read-tag .result) (c .before .before .before .before .before .before .before .before .before .before .before .before .before .before .before .read-tag .ensures) (now (c .before .before .before .before .before .before .before .before .before .before .before .before .before .before .before .before .before .before .args .w)) (c .before .before .before .before .before .before .before .before .before .before .before .before .before .before .before .before .before .before .pre .1 .0) (c .before .before .before .before .before .before .before .before .before .before .before .before .before .t2 .given .0 .0) (c .before .before .before .before .before .before .before .before .before .before .before .before .before .t2 .given .0 .1 .0) (c .before .before .before .before .before .before .before .before .before .before .before .before .before .t2 .given .1) (c .before .before .before .before .before .before .before .before .before .before .element .result - 12) (omega (arith, c .before .before .before .before .before .before .before .before .before .if1 .left, c .before .before .before .before .before .before .before .before .if2 .left)) (omega (arith, c .before .before .before .before .before .before .before .before .before .before .element .ensures, c .before .before .before .before .before .before .before .before .before .if1 .left)) (c .before .before .before .before .before .before .value-of .result) (rw (c .before .before .before .before .before .before .before .attribute .ensures) at (c .before .before .before .before .before .before .value-of .ensures)) (c .before .before .declare .last .1 .0) (c .before .before .declare .result) (c .before .before .before .before .if3 .left) (c .before .before .declare .ensures)
 
 pub declare-tag-spec : {M : Type 1} → statement M
 declare-tag-spec =

@@ -6,7 +6,7 @@ use lib.ListN.{length}
 use Prim.Native.Nat.{_-_}
 use mathlib.Core.Path.{sym, _∙_}
 use Rattle.opl_said.specs.Said.{allNames}
-use Rattle.opl_declared.specs.Names.{walkAt}
+use Rattle.opl_tags.specs.Tags.{walkAt}
 use Rattle.opl_passes.proofs.TagLaws.{CheckKept, kept-first, kept-done, kept-unnamed, kept-past, kept-again, kept-end}
 use Rattle.opl_passes.proofs.check_tags.Statement.{statement}
 use Rattle.opl_passes.proofs.check_tags.Tie as tie

@@ -4,7 +4,7 @@ use mathlib.Core.Path.{sym, _∙_}
 use native.Mathlib.Omega.{arith}
 use denote.Ref.{now}
 use Rattle.opl_said.specs.Said.{allNames}
-use Rattle.opl_declared.specs.Names.{walkAt}
+use Rattle.opl_tags.specs.Tags.{walkAt}
 use Rattle.opl_passes.specs.Tags.{of}
 use Rattle.opl_passes.proofs.TagLaws.{all-fit}
 use Rattle.opl_passes.proofs.write_all.Statement.{statement}

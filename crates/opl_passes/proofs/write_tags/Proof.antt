@@ -1,7 +1,7 @@
 -- What is left of the tags fills the output as the whole does.
 use borrow.Author.Needs.{needs}
 use Rattle.opl_passes.proofs.TagLaws.{WriteLeft, write-first, write-ended, write-past, write-on, write-end}
-use Rattle.opl_declared.specs.Names.{walkAt}
+use Rattle.opl_tags.specs.Tags.{walkAt}
 use mathlib.Core.Path.{_∙_}
 use Rattle.opl_said.specs.Said.{allNames}
 use Prim.Native.Nat.{_-_}

@@ -1,8 +1,10 @@
 -- One table is lent, for a name that is not too long.
 use native.Mathlib.Omega.{arith}
+use mathlib.Core.Path.{sym, ap, _∙_}
 use denote.Ref.{now}
 use borrow.Author.Tests.{le-leb, lt-leb}
 use borrow.Author.Needs.{needs}
+use Rattle.opl_names.specs.Table.{foundOf}
 use Rattle.opl_spaces.proofs.SpaceLaws.{lent-fits, lent-is}
 use Rattle.opl_spaces.proofs.number.Statement.{statement}
 use Rattle.opl_spaces.proofs.number.Tie as tie
@@ -40,8 +42,17 @@ part-find-end c = let h = lent-fits (c .before .before .before .before .before .
 find-requires : tie.Need-find-requires
 find-requires c κs = rw (lent-is (c .before .before .before .before .before .before .before .args .i) (c .before .before .before .before .before .before .before .pre .0 .1) (now (c .before .before .before .before .before .before .before .args .w)) (c .before .before .limit .result) (c .before .base .result) (c .before .before .limit .ensures) (c .before .base .ensures) (c .before .before .before .before .before .before .before .pre .0 .0), c .before .before .limit .ensures) (c .before .before .before .before .before .before .before .pre .1)
 
+enum-known-r : tie.Need-enum-known-r
+enum-known-r c = search needs
+
+enum-told : tie.Need-enum-told
+enum-told c = search needs
+
 returns-2 : tie.Need-returns-2
-returns-2 c = rw (le-leb _ 64 (c .before .before .before .before .if1 .left)) (rw (lent-is (c .before .before .before .before .before .before .before .before .args .i) (c .before .before .before .before .before .before .before .before .pre .0 .1) (now (c .before .before .before .before .before .before .before .before .args .w)) (c .before .before .before .limit .result) (c .before .before .base .result) (c .before .before .before .limit .ensures) (c .before .before .base .ensures) (c .before .before .before .before .before .before .before .before .pre .0 .0)) at (c .find .ensures))
+returns-2 c = rw (le-leb _ 64 (c .before .before .before .before .before .before .before .if1 .left)) (ap foundOf (sym (c .before .r .given .1)) ∙ rw (lent-is (c .before .before .before .before .before .before .before .before .before .before .before .args .i) (c .before .before .before .before .before .before .before .before .before .before .before .pre .0 .1) (now (c .before .before .before .before .before .before .before .before .before .before .before .args .w)) (c .before .before .before .before .before .before .limit .result) (c .before .before .before .before .before .base .result) (c .before .before .before .before .before .before .limit .ensures) (c .before .before .before .before .before .base .ensures) (c .before .before .before .before .before .before .before .before .before .before .before .pre .0 .0)) at (c .before .before .before .find .ensures))
+
+returns-3 : tie.Need-returns-3
+returns-3 c = rw (le-leb _ 64 (c .before .before .before .before .before .before .if1 .left)) (ap foundOf (sym (c .enum-told .given .1)) ∙ rw (lent-is (c .before .before .before .before .before .before .before .before .before .before .args .i) (c .before .before .before .before .before .before .before .before .before .before .pre .0 .1) (now (c .before .before .before .before .before .before .before .before .before .before .args .w)) (c .before .before .before .before .before .limit .result) (c .before .before .before .before .base .result) (c .before .before .before .before .before .limit .ensures) (c .before .before .before .before .base .ensures) (c .before .before .before .before .before .before .before .before .before .before .pre .0 .0)) at (c .before .before .find .ensures))
 
 pub number-spec : {M : Type 1} → statement M
 number-spec =
@@ -58,4 +69,7 @@ number-spec =
     part-find-start
     part-find-end
     find-requires
-    returns-2)
+    enum-known-r
+    enum-told
+    returns-2
+    returns-3)

@@ -1,13 +1,15 @@
--- Behind white space and comments, an end tag or a start tag.
+-- From the next "<" on, behind white space and comments, an end tag or a start tag.
 use denote.Ref.{now}
 use borrow.Author.Needs.{needs}
-use Rattle.paper_opl.specs.Reading.{text}
-use Rattle.opl_tags.proofs.TagLaws.{tag-unread, tag-inside, tag-room, tag-end, tag-start}
+use Rattle.opl_tags.proofs.TagLaws.{tag-unread, tag-none, tag-past, tag-end, tag-unnamed, tag-start}
 use Rattle.opl_tags.proofs.read_tag.Statement.{statement}
 use Rattle.opl_tags.proofs.read_tag.Tie as tie
 
+open-at-requires : tie.Need-open-at-requires
+open-at-requires c κs = search needs
+
 skip-misc-requires : tie.Need-skip-misc-requires
-skip-misc-requires c κs = search needs
+skip-misc-requires c κs = c .open-at .ensures .inside
 
 enum-known-m : tie.Need-enum-known-m
 enum-known-m c = search needs
@@ -16,40 +18,54 @@ enum-told : tie.Need-enum-told
 enum-told c = search needs
 
 returns : tie.Need-returns
-returns c = tag-unread (now (c .before .before .before .before .args .s)) (c .before .before .before .before .args .at) (c .before .before .skip-misc .result) (c .before .before .skip-misc .ensures) _ (c .enum-told .given .1)
+returns c = tag-unread (now (c .before .before .before .before .before .args .s)) (c .before .before .before .before .before .args .at) (c .before .before .before .open-at .result) (c .before .before .before .open-at .ensures .rest) (c .before .before .skip-misc .result) (c .before .before .skip-misc .ensures) _ (c .enum-told .given .1)
 
-slice-aggregate-starts-with : tie.Need-slice-aggregate-starts-with
-slice-aggregate-starts-with c = search needs
-
-starts-with-requires : tie.Need-starts-with-requires
-starts-with-requires c κs = tag-inside (now (c .before .before .before .before .before .before .args .s)) (c .before .before .before .before .before .before .args .at) (c .before .before .before .before .skip-misc .result) (c .before .before .before .before .skip-misc .ensures) (c .before .before .m .given .0 .0) (c .before .before .m .given .1)
-
-end-tag-requires : tie.Need-end-tag-requires
-unfolding text
-end-tag-requires c κs = tag-room (now (c .before .before .before .before .before .before .before .before .args .s)) (c .before .before .before .before .before .before .before .before .args .at) (c .before .before .before .before .before .before .skip-misc .result) (c .before .before .before .before .before .before .skip-misc .ensures) (c .before .before .before .before .m .given .0 .0) (c .before .before .before .before .m .given .1) (c .before .starts-with .result) (c .before .starts-with .ensures) (c .if1 .taken)
+is-at-requires : tie.Need-is-at-requires
+is-at-requires c κs = search needs
 
 returns-2 : tie.Need-returns-2
-unfolding text
-returns-2 c = tag-end (now (c .before .before .before .before .before .before .before .before .before .args .s)) (c .before .before .before .before .before .before .before .before .before .args .at) (c .before .before .before .before .before .before .before .skip-misc .result) (c .before .before .before .before .before .before .before .skip-misc .ensures) (c .before .before .before .before .before .m .given .0 .0) (c .before .before .before .before .before .m .given .1) (c .before .before .starts-with .result) (c .before .before .starts-with .ensures) (c .before .if1 .taken) (c .end-tag .result) (c .end-tag .ensures)
+returns-2 c = tag-none (now (c .before .before .before .before .before .before .before .before .args .s)) (c .before .before .before .before .before .before .before .before .args .at) (c .before .before .before .before .before .before .open-at .result) (c .before .before .before .before .before .before .open-at .ensures .rest) (c .before .before .before .before .before .skip-misc .result) (c .before .before .before .before .before .skip-misc .ensures) (c .before .before .before .m .given .0 .0) (c .before .before .before .m .given .1) (c .before .is-at .result) (c .before .is-at .ensures) (c .if1 .taken)
 
-start-tag-requires : tie.Need-start-tag-requires
-start-tag-requires c κs = tag-inside (now (c .before .before .before .before .before .before .before .before .args .s)) (c .before .before .before .before .before .before .before .before .args .at) (c .before .before .before .before .before .before .skip-misc .result) (c .before .before .before .before .before .before .skip-misc .ensures) (c .before .before .before .before .m .given .0 .0) (c .before .before .before .before .m .given .1)
+add-name : tie.Need-add-name
+add-name c = let h = tag-past (now (c .before .before .before .before .before .before .before .before .args .s)) (c .before .before .before .before .before .before .before .before .args .at) (c .before .before .before .before .before .before .open-at .result) (c .before .before .before .before .before .before .open-at .ensures .rest) (c .before .before .before .before .before .skip-misc .result) (c .before .before .before .before .before .skip-misc .ensures) (c .before .before .before .m .given .0 .0) (c .before .before .before .m .given .1) (c .before .is-at .result) (c .before .is-at .ensures) (c .if1 .left) in search needs
+
+is-at-requires-2 : tie.Need-is-at-requires-2
+is-at-requires-2 c κs = search needs
 
 returns-3 : tie.Need-returns-3
-unfolding text
-returns-3 c = tag-start (now (c .before .before .before .before .before .before .before .before .before .args .s)) (c .before .before .before .before .before .before .before .before .before .args .at) (c .before .before .before .before .before .before .before .skip-misc .result) (c .before .before .before .before .before .before .before .skip-misc .ensures) (c .before .before .before .before .before .m .given .0 .0) (c .before .before .before .before .before .m .given .1) (c .before .before .starts-with .result) (c .before .before .starts-with .ensures) (c .before .if1 .left) (c .start-tag .result) (c .start-tag .ensures)
+returns-3 c = tag-end (now (c .before .before .before .before .before .before .before .before .before .before .args .s)) (c .before .before .before .before .before .before .before .before .before .before .args .at) (c .before .before .before .before .before .before .before .before .open-at .result) (c .before .before .before .before .before .before .before .before .open-at .ensures .rest) (c .before .before .before .before .before .before .before .skip-misc .result) (c .before .before .before .before .before .before .before .skip-misc .ensures) (c .before .before .before .before .before .m .given .0 .0) (c .before .before .before .before .before .m .given .1) (c .before .before .before .is-at .result) (c .before .before .before .is-at .ensures) (c .before .before .if1 .left) (c .before .is-at2 .result) (c .before .is-at2 .ensures) (c .if2 .taken)
+
+read-name-requires : tie.Need-read-name-requires
+read-name-requires c κs = tag-past (now (c .before .before .before .before .before .before .before .before .before .before .args .s)) (c .before .before .before .before .before .before .before .before .before .before .args .at) (c .before .before .before .before .before .before .before .before .open-at .result) (c .before .before .before .before .before .before .before .before .open-at .ensures .rest) (c .before .before .before .before .before .before .before .skip-misc .result) (c .before .before .before .before .before .before .before .skip-misc .ensures) (c .before .before .before .before .before .m .given .0 .0) (c .before .before .before .before .before .m .given .1) (c .before .before .before .is-at .result) (c .before .before .before .is-at .ensures) (c .before .before .if1 .left)
+
+enum-known-n : tie.Need-enum-known-n
+enum-known-n c = search needs
+
+enum-told-2 : tie.Need-enum-told-2
+enum-told-2 c = search needs
+
+returns-4 : tie.Need-returns-4
+returns-4 c = tag-unnamed (now (c .before .before .before .before .before .before .before .before .before .before .before .before .before .args .s)) (c .before .before .before .before .before .before .before .before .before .before .before .before .before .args .at) (c .before .before .before .before .before .before .before .before .before .before .before .open-at .result) (c .before .before .before .before .before .before .before .before .before .before .before .open-at .ensures .rest) (c .before .before .before .before .before .before .before .before .before .before .skip-misc .result) (c .before .before .before .before .before .before .before .before .before .before .skip-misc .ensures) (c .before .before .before .before .before .before .before .before .m .given .0 .0) (c .before .before .before .before .before .before .before .before .m .given .1) (c .before .before .before .before .before .before .is-at .result) (c .before .before .before .before .before .before .is-at .ensures) (c .before .before .before .before .before .if1 .left) (c .before .before .before .before .is-at2 .result) (c .before .before .before .before .is-at2 .ensures) (c .before .before .before .if2 .left) (c .before .before .read-name .result) (c .before .before .read-name .ensures) _ (c .enum-told2 .given .1)
+
+returns-5 : tie.Need-returns-5
+returns-5 c = tag-start (now (c .before .before .before .before .before .before .before .before .before .before .before .before .before .before .args .s)) (c .before .before .before .before .before .before .before .before .before .before .before .before .before .before .args .at) (c .before .before .before .before .before .before .before .before .before .before .before .before .open-at .result) (c .before .before .before .before .before .before .before .before .before .before .before .before .open-at .ensures .rest) (c .before .before .before .before .before .before .before .before .before .before .before .skip-misc .result) (c .before .before .before .before .before .before .before .before .before .before .before .skip-misc .ensures) (c .before .before .before .before .before .before .before .before .before .m .given .0 .0) (c .before .before .before .before .before .before .before .before .before .m .given .1) (c .before .before .before .before .before .before .before .is-at .result) (c .before .before .before .before .before .before .before .is-at .ensures) (c .before .before .before .before .before .before .if1 .left) (c .before .before .before .before .before .is-at2 .result) (c .before .before .before .before .before .is-at2 .ensures) (c .before .before .before .before .if2 .left) (c .before .before .before .read-name .result) (c .before .before .before .read-name .ensures) (c .before .n .given .0 .0) (c .before .n .given .1)
 
 pub read-tag-spec : {M : Type 1} → statement M
 read-tag-spec =
     tie.close
     (tie.spec
+    open-at-requires
     skip-misc-requires
     enum-known-m
     enum-told
     returns
-    slice-aggregate-starts-with
-    starts-with-requires
-    end-tag-requires
+    is-at-requires
     returns-2
-    start-tag-requires
-    returns-3)
+    add-name
+    is-at-requires-2
+    returns-3
+    read-name-requires
+    enum-known-n
+    enum-told-2
+    returns-4
+    returns-5)
