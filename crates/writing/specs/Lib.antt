@@ -1,3 +1,4 @@
 pub mod Lines
 pub mod Laying
 pub mod Answers
+mod Samples

@@ -16,7 +16,7 @@ mul-if2 : tie.Need-mul-if2
 mul-if2 c = search needs
 
 returns-2 : tie.Need-returns-2
-returns-2 c = record { answers = too-short (now (c .before .before .before .before .before .args .p)) (c .before .before .before .before .before .args .output .now) (c .before .before .if1 .left) (c .before .count .ensures .0) (c .if2 .taken); few = omega arith }
+returns-2 c = record { answers = too-short (now (c .before .before .before .before .before .args .p)) (c .before .before .before .before .before .args .output .now) (c .before .before .if1 .left) (c .before .count .ensures .0) (omega arith); few = omega arith }
 
 all-requires : tie.Need-all-requires
 all-requires c κs = search needs
