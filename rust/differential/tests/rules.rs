@@ -1,6 +1,6 @@
 //! docs/RULES.md says what is so: its examples on all engines, and its tables of kinds, fields, replies and order of checks.
 
-use differential::{possible, Panel, Question};
+use differential::{possible, Mend, Panel, Question};
 use records::{Record, Reply};
 
 const PAGE: &str = include_str!("../../../docs/RULES.md");
@@ -79,7 +79,8 @@ fn figures(panel: &Panel, record: &[u8]) -> Option<String> {
     figures.filter(|_| reply == 0)
 }
 
-fn comes_out(text: &str) {
+/// The engines after an example.
+fn comes_out(text: &str) -> Panel {
     let (policy, requests) = example(text);
     let mut panel = Panel::all();
     assert_eq!(panel.load(&policy).unwrap(), (0, 0), "{text}");
@@ -96,6 +97,7 @@ fn comes_out(text: &str) {
         let words = notation::line(&record);
         assert_eq!(answer, told, "{words} in\n{text}");
     }
+    panel
 }
 
 #[test]
@@ -103,9 +105,58 @@ fn every_example_comes_out() {
     let whole = blocks("desk");
     let rules = blocks("desk two clerks");
     assert_eq!((whole.len(), rules.len()), (4, 10));
-    whole.iter().for_each(|text| comes_out(text));
+    for text in whole {
+        comes_out(&text);
+    }
     for text in rules {
         comes_out(&[TWO_CLERKS, &text].concat());
+    }
+}
+
+/// A load, requests, and what the policy is written as then.
+#[test]
+fn the_policy_is_written_as_the_page_says() {
+    let examples = blocks("written");
+    assert_eq!(examples.len(), 1);
+    for text in examples {
+        let (day, policy) = text.split_once("is written as\n").expect("what is written");
+        let written = notation::read(policy.as_bytes()).unwrap();
+        let panel = comes_out(day);
+        let (reply, records, output) = panel.write(&vec![0; written.len()]).unwrap();
+        assert_eq!((reply, records), (0, written.len() / 16));
+        assert_eq!(notation::write(&output), notation::write(&written));
+    }
+}
+
+/// A file of lines, each with its refusal where it is dropped.
+#[test]
+fn a_file_is_mended_as_the_page_says() {
+    let examples = blocks("mend");
+    assert_eq!(examples.len(), 1);
+    for text in examples {
+        let mend = Mend {
+            file: notation::read(text.as_bytes()).unwrap(),
+            damage: "",
+            spare: 0,
+            entries: 0,
+        };
+        let (reply, kept, output, report) = Panel::all().mend(&mend).unwrap();
+        let lines = text.lines().zip(1..);
+        let dropped = lines.clone().filter_map(|(line, place)| {
+            let (_, told) = line.split_once("# ")?;
+            Some((place, told.to_string()))
+        });
+        let told: Vec<(u64, String)> = dropped.collect();
+        let shown = |(place, reply): &(u64, u64)| {
+            let reply = Reply::from_number(*reply).unwrap();
+            (*place, reply.to_string())
+        };
+        let report: Vec<(u64, String)> = report[..told.len()].iter().map(shown).collect();
+        assert_eq!((reply, report), (0, told));
+        let left = lines.filter(|(line, _)| !line.contains("# "));
+        let left: Vec<&str> = left.map(|(line, _)| line).collect();
+        let written = notation::write(&output[..kept * 16]);
+        assert_eq!(written.lines().collect::<Vec<_>>(), left);
     }
 }
 
