@@ -1,4 +1,3 @@
--- Written from Proof.tmpl by 'prove expand': edit that file.
 -- The reply 0 has the call's number.
 use mathlib.Core.Path.{refl}
 use borrow.Author.Needs.{needs}

@@ -1,4 +1,3 @@
--- Written from Proof.tmpl by 'prove expand': edit that file.
 -- Each way out is the first refusal that applies.
 use native.Mathlib.Omega.{arith}
 use borrow.Author.Needs.{needs}

@@ -1,4 +1,3 @@
--- Written from Proof.tmpl by 'prove expand': edit that file.
 -- A refusal; the first turn, on the emptied state; and each further one.
 use borrow.Author.Needs.{needs}
 use denote.Ref.{now}

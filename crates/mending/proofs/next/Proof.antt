@@ -1,4 +1,3 @@
--- Written from Proof.tmpl by 'prove expand': edit that file.
 -- What is left behind the records so far is what was left at first.
 use Prim.Native.Nat.{_-_, _/_, _≤_}
 use mathlib.Core.Path.{_≡_, refl, _∙_}
