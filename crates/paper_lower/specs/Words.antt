@@ -168,9 +168,10 @@ asExpected (x ∷ xs) (y ∷ ys) = eqb (x .reply) (y .reply) && asExpected xs ys
 -- the load and each reply are as the case has them
 unfoldable pub comesOut : {T : Type 0} → (T → Bytes → Answer T) → (Policy → T) → Case → Bool
 comesOut ask start c =
-    eqb (load (joined (c .policy)) .reply) (c .reply)
-    && eqb (load (joined (c .policy)) .place) (c .place)
-    && asExpected (run ask (start (load (joined (c .policy)) .tables)) (each (λ x. x .request) (c .requests))) (c .requests)
+    let l = load (joined (c .policy)) in
+    eqb (l .reply) (c .reply)
+    && eqb (l .place) (c .place)
+    && asExpected (run ask (start (l .tables)) (each (λ x. x .request) (c .requests))) (c .requests)
 
 -- What this page defines, opened together where a case is computed.
 unfoldable pub wordsOpen : Unit {0}

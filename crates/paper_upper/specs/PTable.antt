@@ -9,7 +9,7 @@ use Rattle.paper_lower.specs.Lists.{every, each}
 use Rattle.paper_lower.specs.Records.{Bytes}
 use Rattle.paper_lower.specs.Kinds.{Said, after}
 use Rattle.paper_lower.specs.Checks.{GRANTED, SHAPE, RANGE, UNKNOWN, TAKEN, IN-USE, RULE, NOT-ASSIGNED, STATIC, DYNAMIC, NO-ROLE, NOT-YOURS, DENIED, BEFORE, SEPARATION, BLOCK, ALONE, BOUND, COUNT, LOOP, WALL}
-use Rattle.paper_lower.specs.Words.{Case, refuses, accepts, _⇒_, joined, comesOut, wordsOpen, record-of, user, role, permission, userHas, roleHas, task, openTo, carries, staticSet, dynamicSet, taskSet, block, ban, atMost, bound, isBefore, standsAbove, walled, addUser, join, deleteUser, assign, takeBack, give, withdraw, create, destroy, activate, deactivate, openOrder, endOrder, claim, release, done, check, taskCheck, figures, commit, stuckTasks}
+use Rattle.paper_lower.specs.Words.{Case, refuses, accepts, _⇒_, joined, asExpected, comesOut, wordsOpen, record-of, user, role, permission, userHas, roleHas, task, openTo, carries, staticSet, dynamicSet, taskSet, block, ban, atMost, bound, isBefore, standsAbove, walled, addUser, join, deleteUser, assign, takeBack, give, withdraw, create, destroy, activate, deactivate, openOrder, endOrder, claim, release, done, check, taskCheck, figures, commit, stuckTasks}
 use Rattle.paper_lower.specs.Load.{load}
 use Rattle.paper_upper.specs.Questions.{figuresOf, questionsOpen}
 use Rattle.paper_upper.specs.Engine.{request, Placed, placedRun, engineOf, engineOpen}
@@ -174,11 +174,19 @@ cases =
     ++ setsOfTwo staticSet ++ setsOfTwo dynamicSet ++ setsOfTwo taskSet
     ++ differentPeople 44 300 ++ differentPeople 300 44 ++ differentPeople 255 256 ++ differentPeople 256 255
 
+-- ---- Two orders side by side, whose figures stand below. Order 0: task 0 done twice and held once more, task 1 held; order 2: task 1 done
+unfoldable pub twoOrders : Case
+twoOrders =
+    accepts (clerks 300 301)
+    (desks 300 301 ++ (openOrder 2 0 ⇒ GRANTED ∷ openOrder 3 0 ⇒ GRANTED ∷ claim 5 0 0 ⇒ GRANTED ∷ done 5 0 0 ⇒ GRANTED ∷ claim 6 2 1 ⇒ GRANTED ∷ claim 6 0 0 ⇒ GRANTED ∷ done 6 0 0 ⇒ GRANTED
+    ∷ done 6 2 1 ⇒ GRANTED ∷ claim 5 0 0 ⇒ GRANTED ∷ claim 6 0 1 ⇒ GRANTED ∷ claim 5 2 0 ⇒ GRANTED ∷ release 5 2 0 ⇒ GRANTED ∷ []))
+
 -- ---- More of these, a table of their own: one statement of both would be too long a computation.
 unfoldable pub further : List Case
 further =
+    twoOrders
     -- seventeen bytes; a field that the kind has not; a task and an instance out of range
-    accepts [] ((addUser 3 ++ (0 ∷ [])) ⇒ SHAPE ∷ record-of 56 0 0 0 0 1 ⇒ SHAPE ∷ claim 0 0 64 ⇒ RANGE ∷ claim 0 64 0 ⇒ RANGE ∷ [])
+    ∷ accepts [] ((addUser 3 ++ (0 ∷ [])) ⇒ SHAPE ∷ record-of 56 0 0 0 0 1 ⇒ SHAPE ∷ claim 0 0 64 ⇒ RANGE ∷ claim 0 64 0 ⇒ RANGE ∷ [])
     -- a role active in another subject of the user is not active here; a subject that holds nothing goes, though its user's other holds
     ∷ accepts (clerks 300 301)
     (desks 300 301 ++ (create 7 300 0 ⇒ GRANTED ∷ claim 7 0 0 ⇒ NO-ROLE ∷ activate 7 0 ⇒ GRANTED ∷ activate 7 0 ⇒ TAKEN ∷ claim 5 0 0 ⇒ GRANTED ∷ destroy 7 ⇒ GRANTED ∷ create 7 301 0 ⇒ GRANTED ∷ claim 7 0 0 ⇒ TAKEN ∷ create 8 301 2 ⇒ UNKNOWN ∷ []))
@@ -216,13 +224,6 @@ pub record Figured : Type 0 where
 abbrev pub counts : Case → ℕ → ℕ → ℕ → Figured
 counts c i n m = record { of = c; instance = i; entries = n; done = m }
 
--- order 0: task 0 done twice and held once more, task 1 held; order 2: task 1 done
-unfoldable pub twoOrders : Case
-twoOrders =
-    accepts (clerks 300 301)
-    (desks 300 301 ++ (openOrder 2 0 ⇒ GRANTED ∷ openOrder 3 0 ⇒ GRANTED ∷ claim 5 0 0 ⇒ GRANTED ∷ done 5 0 0 ⇒ GRANTED ∷ claim 6 2 1 ⇒ GRANTED ∷ claim 6 0 0 ⇒ GRANTED ∷ done 6 0 0 ⇒ GRANTED
-    ∷ done 6 2 1 ⇒ GRANTED ∷ claim 5 0 0 ⇒ GRANTED ∷ claim 6 0 1 ⇒ GRANTED ∷ claim 5 2 0 ⇒ GRANTED ∷ release 5 2 0 ⇒ GRANTED ∷ []))
-
 unfoldable pub figured : List Figured
 figured =
     counts twoOrders 0 4 1
@@ -236,10 +237,9 @@ figured =
 
 unfoldable pub figuresComeOut : Figured → Bool
 figuresComeOut c =
-    comesOut request engineOf (c .of)
-    && (let t = after request (engineOf (load (joined (c .of .policy)) .tables)) (each (λ x. x .request) (c .of .requests)) in
+    let t = after request (engineOf (load (joined (c .of .policy)) .tables)) (each (λ x. x .request) (c .of .requests)) in
     let f = figuresOf (c .instance) (t .orders .entries) in
-    eqb (f .entries) (c .entries) && eqb (f .done) (c .done))
+    eqb (f .entries) (c .entries) && eqb (f .done) (c .done)
 
 -- ---- 02, Ask 7: "Team leads should have what clerks have." Role 2 stands above role 1, and that above the clerks' role 0.
 unfoldable pub leads : List Bytes
@@ -316,8 +316,9 @@ samePlaces (x ∷ xs) (k ∷ ks) = eqb (x .place) k && samePlaces xs ks
 
 unfoldable pub placesComeOut : Places → Bool
 placesComeOut c =
-    comesOut request engineOf (c .of)
-    && samePlaces (placedRun (engineOf (load (joined (c .of .policy)) .tables)) (each (λ x. x .request) (c .of .requests))) (c .places)
+    let l = load (joined (c .of .policy)) in
+    let xs = placedRun (engineOf (l .tables)) (each (λ x. x .request) (c .of .requests)) in
+    eqb (l .reply) (c .of .reply) && asExpected (each (λ x. x .said) xs) (c .of .requests) && samePlaces xs (c .places)
 
 -- Every row comes out as it stands above.
 pub all-come-out : every (comesOut request engineOf) cases ≡ true
@@ -325,7 +326,7 @@ unfolding engineOpen wordsOpen clerks desks listing lastUser differentPeople set
 all-come-out = refl
 
 pub further-come-out : every (comesOut request engineOf) further ≡ true
-unfolding engineOpen wordsOpen clerks desks further
+unfolding engineOpen wordsOpen clerks desks twoOrders further
 further-come-out = refl
 
 pub seniors-come-out : every (comesOut request engineOf) seniors ≡ true
