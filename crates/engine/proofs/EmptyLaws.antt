@@ -21,7 +21,7 @@ use Rattle.paper_lower.specs.Roles.{joinChecks, deleteChecks, takeBackChecks, w
 use Rattle.paper_lower.specs.Sessions.{createChecks, destroyChecks, activateChecks, deactivateChecks, checkChecks, sessionKinds, lowerKinds, lowerOf}
 use Rattle.paper_upper.specs.Orders.{Engine, noOrders}
 use Rattle.paper_upper.specs.Requests.{deleteAbove, destroyAbove, openChecks, endChecks, unknown, claimChecks, holdChecks, taskCheckChecks, figuresChecks, stuckChecks, upperKinds}
-use Rattle.paper_upper.specs.Engine.{raised, sharedKinds, requestKinds, engineOf}
+use Rattle.paper_upper.specs.Engine.{widened, sharedKinds, requestKinds, engineOf}
 use Rattle.policy.specs.Reading.{policyOf}
 use Rattle.sessions.specs.Reading.{sessionsOf}
 use Rattle.entries.specs.Reading.{ordersOf}
@@ -59,7 +59,7 @@ unfolding stuckChecks
 lone-stuck a = rw (no-task a)
 
 all-lone : Every Lone requestKinds
-unfolding requestKinds upperKinds sharedKinds raised lowerKinds roleKinds sessionKinds keep each engineOf lowerOf noPolicy noSessions noOrders deleteChecks destroyChecks deleteAbove destroyAbove endChecks unknown claimChecks holdChecks taskCheckChecks figuresChecks assignChecks takeBackChecks giveChecks withdrawChecks createChecks activateChecks deactivateChecks checkChecks holds
+unfolding requestKinds upperKinds sharedKinds widened lowerKinds roleKinds sessionKinds keep each engineOf lowerOf noPolicy noSessions noOrders deleteChecks destroyChecks deleteAbove destroyAbove endChecks unknown claimChecks holdChecks taskCheckChecks figuresChecks assignChecks takeBackChecks giveChecks withdrawChecks createChecks activateChecks deactivateChecks checkChecks holds
 all-lone =
     (λ r h. refl) ⨾ (λ r h. refl) ⨾ (λ r h. lone-open (r .a) (r .b)) ⨾ (λ r h. refl) ⨾ (λ r h. refl) ⨾ (λ r h. refl) ⨾ (λ r h. refl) ⨾ (λ r h. refl) ⨾ (λ r h. refl) ⨾ (λ r h. lone-stuck (r .a))
     ⨾ (λ r h. absurd (h refl)) ⨾ (λ r h. refl) ⨾ (λ r h. refl) ⨾ (λ r h. rw (has-empty (r .a))) ⨾ (λ r h. rw (has-empty (r .a))) ⨾ (λ r h. refl) ⨾ (λ r h. refl) ⨾ (λ r h. refl) ⨾ (λ r h. refl) ⨾ (λ r h. refl) ⨾ tt
@@ -85,16 +85,16 @@ known-row p (f ∷ fs) h n t = go (eqb (f .kind) n) refl t (known-row p fs (h .1
     go false q z rest = rest z
 
 all-rows : Every (λ f. some (λ k. eqb (k .kind) (f .kind)) requestKinds ≡ true) requestForms
-unfolding requestForms lowerForms upperForms requestKinds upperKinds sharedKinds raised lowerKinds roleKinds sessionKinds keep each some
+unfolding requestForms lowerForms upperForms requestKinds upperKinds sharedKinds widened lowerKinds roleKinds sessionKinds keep each some
 all-rows = refl ⨾ refl ⨾ refl ⨾ refl ⨾ refl ⨾ refl ⨾ refl ⨾ refl ⨾ refl ⨾ refl ⨾ refl ⨾ refl ⨾ refl ⨾ refl ⨾ refl ⨾ refl ⨾ refl ⨾ refl ⨾ refl ⨾ refl ⨾ tt
 
 -- ---- 32
 no-roles : (r : Record) → (r .m ≡ 0 → ⊥) → first (chosen requestKinds 32 .checks noEngine r) ≡ UNKNOWN
-unfolding chosen requestKinds upperKinds sharedKinds raised lowerKinds roleKinds sessionKinds keep each engineOf lowerOf noPolicy joinChecks within cut
+unfolding chosen requestKinds upperKinds sharedKinds widened lowerKinds roleKinds sessionKinds keep each engineOf lowerOf noPolicy joinChecks within cut
 no-roles r h = rw (and-zero-r (r .m), ne-eqb 0 (r .m) (λ e. h (sym e)))
 
 pub joins : (r : Record) → r .m ≡ 0 → first (chosen requestKinds 32 .checks noEngine r) ≡ 0
-unfolding chosen requestKinds upperKinds sharedKinds raised lowerKinds roleKinds sessionKinds keep each engineOf lowerOf noPolicy joinChecks within cut some
+unfolding chosen requestKinds upperKinds sharedKinds widened lowerKinds roleKinds sessionKinds keep each engineOf lowerOf noPolicy joinChecks within cut some
 joins r h = rw h
 
 pub all-unknown : (r : Record) → T (there (formOf requestForms (r .kind))) → ((r .kind ≡ 32) → r .m ≡ 0 → ⊥) → first (chosen requestKinds (r .kind) .checks noEngine r) ≡ UNKNOWN

@@ -12,7 +12,7 @@ use Rattle.paper_lower.specs.Kinds.{Kind, chosen}
 use Rattle.paper_lower.specs.Tables.{Lower}
 use Rattle.paper_lower.specs.Sessions.{lowerKinds}
 use Rattle.paper_upper.specs.Requests.{upperKinds}
-use Rattle.paper_upper.specs.Engine.{raised, sharedKinds, requestKinds}
+use Rattle.paper_upper.specs.Engine.{widened, sharedKinds, requestKinds}
 use Rattle.records.specs.Limits.{Limits, limitN, limitA, limitB, limitC, limitM}
 use Rattle.records.specs.declared.Record.{Record}
 use Rattle.records.proofs.Span.{Rest, oneEach, others}
@@ -27,12 +27,12 @@ unfolding chosen
 skip [] js n h = refl
 skip (k ∷ ks) js n h = rw (h .0) (skip ks js n (h .1))
 
-raised-chosen : (ks : List (Kind Lower)) (n : ℕ) → chosen (each raised ks) n ≡ raised (chosen ks n)
-unfolding chosen raised each
-raised-chosen [] n = refl
-raised-chosen (k ∷ ks) n = go (eqb (k .kind) n) (raised-chosen ks n)
+widened-chosen : (ks : List (Kind Lower)) (n : ℕ) → chosen (each widened ks) n ≡ widened (chosen ks n)
+unfolding chosen widened each
+widened-chosen [] n = refl
+widened-chosen (k ∷ ks) n = go (eqb (k .kind) n) (widened-chosen ks n)
   where
-    go : (b : Bool) → chosen (each raised ks) n ≡ raised (chosen ks n) → cond b (raised k) (chosen (each raised ks) n) ≡ raised (cond b k (chosen ks n))
+    go : (b : Bool) → chosen (each widened ks) n ≡ widened (chosen ks n) → cond b (widened k) (chosen (each widened ks) n) ≡ widened (cond b k (chosen ks n))
     go true e = refl
     go false e = e
 
@@ -73,12 +73,12 @@ module _ {n : ℕ} (h : Rest (oneEach upperNumbers) n) where
   turned : (k : ℕ) → eqb k n ≡ false → eqb n k ≡ false
   turned k e = ne-eqb n k (λ q. eqb-false k n e (sym q))
 
-  pub lower-row : chosen requestKinds n ≡ raised (chosen lowerKinds n)
+  pub lower-row : chosen requestKinds n ≡ widened (chosen lowerKinds n)
   unfolding requestKinds sharedKinds upperKinds
   lower-row =
-      skip upperKinds (each raised sharedKinds) n none-of-them
-      ∙ raised-chosen sharedKinds n
-      ∙ ap raised (kept-chosen _ n (λ k e. rw (eqb-true (k .kind) n e) (simp (turned 33 (none-of-them .0), turned 41 (none-of-them .1 .0)))) lowerKinds)
+      skip upperKinds (each widened sharedKinds) n none-of-them
+      ∙ widened-chosen sharedKinds n
+      ∙ ap widened (kept-chosen _ n (λ k e. rw (eqb-true (k .kind) n e) (simp (turned 33 (none-of-them .0), turned 41 (none-of-them .1 .0)))) lowerKinds)
 
   -- ---- limits: 33 and 41 have the lower part's forms
   no-form : formOf upperForms n ≡ none

@@ -14,7 +14,7 @@ use Rattle.paper_upper.specs.Orders.{Entry, Same, Engine, SameTables, tasksBy, 
 use Rattle.paper_upper.specs.Orders.Same.{one}
 use Rattle.paper_upper.specs.Rules.{ruleChecks}
 use Rattle.paper_upper.specs.Requests.{deleteAbove, destroyAbove, openChecks, openNext, endChecks, endNext, unknown, claimChecks, claimNext, holdChecks, releaseNext, doneNext, taskCheckChecks, claimPlace, figuresChecks, stuckChecks, upperKinds}
-use Rattle.paper_upper.specs.Engine.{raised, sharedKinds, requestKinds, request, placeOf, placeTo, placedRun}
+use Rattle.paper_upper.specs.Engine.{widened, sharedKinds, requestKinds, request, placeOf, placeTo, placedRun}
 use Rattle.engine.specs.Respects.{Respects, RunsRespect}
 use Rattle.links.proofs.SameLaws.{some-same, many-same, many-kept, tasks-same, keep-same, each-same}
 
@@ -40,8 +40,8 @@ left : {x : Lower} {opened : ℕ → Maybe ℕ} {es es′ : List Entry} → Same
 left h = record { lower = refl; opened = refl; entries = h }
 
 -- a kind of the lower part looks at no entry
-lower-row : (k : Kind Lower) → InAnyOrder (raised k)
-unfolding raised
+lower-row : (k : Kind Lower) → InAnyOrder (widened k)
+unfolding widened
 lower-row k x opened es es′ h r = (refl, left h)
 
 upper-rows : Every InAnyOrder upperKinds
@@ -61,7 +61,7 @@ upper-rows =
 
 rows : Every InAnyOrder requestKinds
 unfolding requestKinds
-rows = every-append InAnyOrder upperKinds (each raised sharedKinds) upper-rows (every-each InAnyOrder raised sharedKinds (every-all sharedKinds lower-row))
+rows = every-append InAnyOrder upperKinds (each widened sharedKinds) upper-rows (every-each InAnyOrder widened sharedKinds (every-all sharedKinds lower-row))
 
 -- ---- One request, and a run.
 same-reply : (k : Kind Engine) (r : Record) (cs : List Check) (t t′ : Engine) → Alike k r t t′ → first (cs ++ k .checks t r) ≡ first (cs ++ k .checks t′ r)

@@ -11,10 +11,10 @@ use lib.ListN.{length, getD, set, length-set}
 use lib.Seq.{getD-set-same, getD-set-other}
 use Rattle.paper_lower.specs.Lists.{many, keep}
 use Rattle.links.specs.Chains.{ordersWords, markOf, openOf, headOf, countOf, chainWord, ownerOf, linkOf, wordAt, Fine, Linked}
-use Rattle.links.specs.Stacks.{payloadOf, stackOf, payloadsIn, stepTo, beforeTo, without, keptFrom, stays, Woven, Pushed, Cut, Freed, Still, Sifted}
+use Rattle.links.specs.Stacks.{payloadOf, stackOf, payloadsIn, stepTo, beforeTo, cutOut, keptFrom, stays, Woven, Pushed, Cut, Freed, Still, Sifted}
 use Rattle.links.proofs.ReadLaws.{chain-read, read-some, read-same, chain-same}
 use Rattle.links.proofs.ChainLaws.{linked-on, no-return, linked-same}
-use Rattle.links.proofs.StepLaws.{linked-step, fine-at, apart, step-more, before-more, step-next, linked-join, stack-append, stack-item, without-at, steps-same, front-same}
+use Rattle.links.proofs.StepLaws.{linked-step, fine-at, apart, step-more, before-more, step-next, linked-join, stack-append, stack-item, cutOut-at, steps-same, front-same}
 use Rattle.links.proofs.OnceLaws.{sum-step}
 use Rattle.links.proofs.StackLaws.{stack-same, relink, payloads-at, link-part}
 use Rattle.links.proofs.EntryLaws.{many-payloads}
@@ -179,14 +179,14 @@ module _ (l : List ℕ) (room : length l ≡ ordersWords) (s : Woven l) (i : ℕ
           go true e = let same = eqb-true a b e in rw same its-load
           go false e = let other = eqb-false a b e in ap payloadOf (other-word (stepTo l head a) (two-places a b (omega arith) (omega arith)))
 
-  own-loads : payloadsIn after i ≡ without (suc b) (payloadsIn l i)
+  own-loads : payloadsIn after i ≡ cutOut (suc b) (payloadsIn l i)
   own-loads =
       let e : c - 1 ≡ suc b + (c - suc b - 1) = omega arith in
       let d : c - suc b - 1 ≡ c - suc (suc b) = omega arith in
       payloads-at after i head (suc b + (c - suc b - 1)) its-head (its-count ∙ e)
       ∙ stack-append after head (suc b) (c - suc b - 1)
       ∙ ap₂ (λ (xs ys : List ℕ). xs ++ ys) front-loads (ap (λ (x : ℕ). stackOf after x (c - suc b - 1)) step-on ∙ stack-same l after (λ h. (Fine l i (markOf l) h × (h ≡ out → ⊥)) × (h ≡ before → ⊥)) (λ h f. other-word h (f .1)) next (c - suc b - 1) behind ∙ ap (stackOf l next) d)
-      ∙ sym (ap (without (suc b)) (payloads-at l i head c refl refl) ∙ without-at l head c (suc b) less)
+      ∙ sym (ap (cutOut (suc b)) (payloads-at l i head c refl refl) ∙ cutOut-at l head c (suc b) less)
 
   -- ---- and the others
   not-before : (j h : ℕ) → (j ≡ i → ⊥) → Fine l j (markOf l) h → h ≡ before → ⊥
@@ -243,11 +243,11 @@ cut-later l room s i hi x (suc b) q k ex some less ek eq =
     (cut-out l room s i hi b less)))
 
 -- ---- Lists without one of theirs.
-many-without : (xs : List ℕ) (a : ℕ) → a < many xs → suc (many (without a xs)) ≡ many xs
-unfolding many without
-many-without [] a less = let z : ⊥ = omega arith in absurd z
-many-without (x ∷ xs) zero less = refl
-many-without (x ∷ xs) (suc a) less = ap suc (many-without xs a (omega arith))
+many-cutOut : (xs : List ℕ) (a : ℕ) → a < many xs → suc (many (cutOut a xs)) ≡ many xs
+unfolding many cutOut
+many-cutOut [] a less = let z : ⊥ = omega arith in absurd z
+many-cutOut (x ∷ xs) zero less = refl
+many-cutOut (x ∷ xs) (suc a) less = ap suc (many-cutOut xs a (omega arith))
 
 kept-on : (p : ℕ → Bool) (xs : List ℕ) (a : ℕ) → a < many xs → p (getD xs a 0) ≡ true → keptFrom p (suc a) xs ≡ keptFrom p a xs
 unfolding keptFrom keep many
@@ -255,8 +255,8 @@ kept-on p [] a less e = let z : ⊥ = omega arith in absurd z
 kept-on p (x ∷ xs) zero less e = rw e
 kept-on p (x ∷ xs) (suc a) less e = ap (_∷_ x) (kept-on p xs a (omega arith) e)
 
-kept-out : (p : ℕ → Bool) (xs : List ℕ) (a : ℕ) → a < many xs → p (getD xs a 0) ≡ false → keptFrom p a (without a xs) ≡ keptFrom p a xs
-unfolding keptFrom keep without many
+kept-out : (p : ℕ → Bool) (xs : List ℕ) (a : ℕ) → a < many xs → p (getD xs a 0) ≡ false → keptFrom p a (cutOut a xs) ≡ keptFrom p a xs
+unfolding keptFrom keep cutOut many
 kept-out p [] a less e = let z : ⊥ = omega arith in absurd z
 kept-out p (x ∷ xs) zero less e = rw e
 kept-out p (x ∷ xs) (suc a) less e = ap (_∷_ x) (kept-out p xs a (omega arith) e)
@@ -268,8 +268,8 @@ kept-all p [] (suc a) e = refl
 kept-all p (x ∷ xs) zero e = let z : ⊥ = omega arith in absurd z
 kept-all p (x ∷ xs) (suc a) e = ap (_∷_ x) (kept-all p xs a (omega arith))
 
-count-without : (l l′ : List ℕ) (i a : ℕ) → a < countOf (chainWord l i) → payloadsIn l′ i ≡ without a (payloadsIn l i) → suc (countOf (chainWord l′ i)) ≡ countOf (chainWord l i)
-count-without l l′ i a less e = ap suc (sym (many-payloads l′ i) ∙ ap many e) ∙ many-without (payloadsIn l i) a (rw (many-payloads l i) less) ∙ many-payloads l i
+count-cutOut : (l l′ : List ℕ) (i a : ℕ) → a < countOf (chainWord l i) → payloadsIn l′ i ≡ cutOut a (payloadsIn l i) → suc (countOf (chainWord l′ i)) ≡ countOf (chainWord l i)
+count-cutOut l l′ i a less e = ap suc (sym (many-payloads l′ i) ∙ ap many e) ∙ many-cutOut (payloadsIn l i) a (rw (many-payloads l i) less) ∙ many-payloads l i
 
 -- ---- Taken out and put on the free ones.
 before-same : (l l′ : List ℕ) (h h′ a : ℕ) → ((b : ℕ) → suc b ≡ a → stepTo l′ h′ b ≡ stepTo l h b) → beforeTo l′ h′ a ≡ beforeTo l h a
@@ -279,7 +279,7 @@ before-same l l′ h h′ (suc b) same = same b refl
 
 pub freed : (l l₁ l₂ : List ℕ) (i kept k p : ℕ) → i < 64 → kept < countOf (chainWord l i) → Cut l l₁ i kept k → Pushed l₁ l₂ 64 p → Freed l l₂ i kept k
 freed l l₁ l₂ i kept k p hi less a b =
-    let n = count-without l l₁ i kept less (a .rest) in
+    let n = count-cutOut l l₁ i kept less (a .rest) in
     record {
       still = record {
         woven = b .woven;
@@ -359,7 +359,7 @@ module _ (i key : ℕ) (l₀ l : List ℕ) (h n kept q : ℕ) (hi : i < 64) (s :
       record {
         still = still-then i l₀ l l′ (s .still) (f .still);
         aside = f .aside ∙ s .aside;
-        count = let c = s .count in let m = count-without l l′ i kept (fewer-than less) (f .rest) in omega arith;
+        count = let c = s .count in let m = count-cutOut l l′ i kept (fewer-than less) (f .rest) in omega arith;
         within = omega arith;
         here = ap linkOf e ∙ sym (f .here);
         back = s .back ∙ sym (f .back);

@@ -9,7 +9,7 @@ use lib.Dec.{eqb}
 use lib.ListN.{length, getD, set, length-set}
 use lib.Seq.{getD-set-same, getD-set-other}
 use Rattle.links.specs.Chains.{ordersWords, markOf, openOf, headOf, countOf, isRead, chainWord, ownerOf, linkOf, wordAt, Fine, Linked}
-use Rattle.links.specs.Stacks.{payloadOf, wordFor, stackOf, payloadsIn, stepTo, beforeTo, without, Woven, Loose, Popped, Pushed, Taken, Cut}
+use Rattle.links.specs.Stacks.{payloadOf, wordFor, stackOf, payloadsIn, stepTo, beforeTo, cutOut, Woven, Loose, Popped, Pushed, Taken, Cut}
 use Rattle.links.proofs.ChainLaws.{linked-here, linked-on, no-return, linked-same}
 use Rattle.links.proofs.StepLaws.{fine-at, steps-same}
 use Rattle.links.proofs.OnceLaws.{sum-step, sum-same, sum-ge}
@@ -113,12 +113,12 @@ module _ (l : List ℕ) (room : length l ≡ ordersWords) (s : Woven l) (i : ℕ
 
   -- the same said of its place
   cut-first : Cut l after i 0 head
-  unfolding stepTo beforeTo without
+  unfolding stepTo beforeTo cutOut
   cut-first =
       record {
         loose = popped .loose;
         beside = popped .beside;
-        rest = sym (ap (without 0) (popped .top));
+        rest = sym (ap (cutOut 0) (popped .top));
         others = popped .others;
         here = new-head;
         back = refl;

@@ -6,7 +6,7 @@ use native.Mathlib.Numerals.{add-one}
 use native.Mathlib.Omega.{arith}
 use lib.ListN.{getD}
 use Rattle.links.specs.Chains.{linkOf, wordAt, Linked}
-use Rattle.links.specs.Stacks.{payloadOf, stackOf, stepTo, beforeTo, without}
+use Rattle.links.specs.Stacks.{payloadOf, stackOf, stepTo, beforeTo, cutOut}
 use Rattle.links.proofs.ChainLaws.{linked-here, one-length}
 
 pub linked-step : (l : List ℕ) (P : ℕ → Type 0) (h n a : ℕ) → a ≤ n → Linked l P h n → Linked l P (stepTo l h a) (n - a)
@@ -56,11 +56,11 @@ stack-item l h zero a less = let z : ⊥ = omega arith in absurd z
 stack-item l h (suc n) zero less = refl
 stack-item l h (suc n) (suc a) less = stack-item l (linkOf (wordAt l h)) n a (omega arith)
 
-pub without-at : (l : List ℕ) (h n a : ℕ) → a < n → without a (stackOf l h n) ≡ stackOf l h a ++ stackOf l (linkOf (wordAt l (stepTo l h a))) (n - suc a)
-unfolding without stackOf stepTo
-without-at l h zero a less = let z : ⊥ = omega arith in absurd z
-without-at l h (suc n) zero less = let e : suc n - suc zero ≡ n = omega arith in rw e
-without-at l h (suc n) (suc a) less = let e : suc n - suc (suc a) ≡ n - suc a = omega arith in rw e (ap (_∷_ (payloadOf (wordAt l h))) (without-at l (linkOf (wordAt l h)) n a (omega arith)))
+pub cutOut-at : (l : List ℕ) (h n a : ℕ) → a < n → cutOut a (stackOf l h n) ≡ stackOf l h a ++ stackOf l (linkOf (wordAt l (stepTo l h a))) (n - suc a)
+unfolding cutOut stackOf stepTo
+cutOut-at l h zero a less = let z : ⊥ = omega arith in absurd z
+cutOut-at l h (suc n) zero less = let e : suc n - suc zero ≡ n = omega arith in rw e
+cutOut-at l h (suc n) (suc a) less = let e : suc n - suc (suc a) ≡ n - suc a = omega arith in rw e (ap (_∷_ (payloadOf (wordAt l h))) (cutOut-at l (linkOf (wordAt l h)) n a (omega arith)))
 
 -- ---- In another buffer.
 pub steps-same : (l l′ : List ℕ) (h a : ℕ) → ((b : ℕ) → b < a → linkOf (wordAt l′ (stepTo l h b)) ≡ linkOf (wordAt l (stepTo l h b))) → stepTo l′ h a ≡ stepTo l h a

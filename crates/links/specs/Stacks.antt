@@ -78,10 +78,10 @@ pub record Taken (l l′ : List ℕ) (k : ℕ) : Type 0 where
 
 -- ---- An entry taken out of the middle.
 -- a list without what stands behind the first a of it
-unfoldable pub without : ℕ → List ℕ → List ℕ
-without a [] = []
-without zero (x ∷ xs) = xs
-without (suc a) (x ∷ xs) = x ∷ without a xs
+unfoldable pub cutOut : ℕ → List ℕ → List ℕ
+cutOut a [] = []
+cutOut zero (x ∷ xs) = xs
+cutOut (suc a) (x ∷ xs) = x ∷ cutOut a xs
 
 -- the first a of it, and of the others those that are kept
 unfoldable pub keptFrom : (ℕ → Bool) → ℕ → List ℕ → List ℕ
@@ -93,7 +93,7 @@ keptFrom p (suc a) (x ∷ xs) = x ∷ keptFrom p a xs
 pub record Cut (l l′ : List ℕ) (i a k : ℕ) : Type 0 where
   pub loose : Loose l′ k
   pub beside : Beside l l′
-  pub rest : payloadsIn l′ i ≡ without a (payloadsIn l i)
+  pub rest : payloadsIn l′ i ≡ cutOut a (payloadsIn l i)
   pub others : (j : ℕ) → j ≤ 65 → (j ≡ i → ⊥) → payloadsIn l′ j ≡ payloadsIn l j
   pub here : stepTo l′ (headOf (chainWord l′ i)) a ≡ linkOf (wordAt l k)
   pub back : beforeTo l′ (headOf (chainWord l′ i)) a ≡ beforeTo l (headOf (chainWord l i)) a
@@ -144,7 +144,7 @@ pub record Still (i : ℕ) (l l′ : List ℕ) : Type 0 where
 pub record Freed (l l′ : List ℕ) (i a k : ℕ) : Type 0 where
   pub still : Still i l l′
   pub aside : payloadsIn l′ 65 ≡ payloadsIn l 65
-  pub rest : payloadsIn l′ i ≡ without a (payloadsIn l i)
+  pub rest : payloadsIn l′ i ≡ cutOut a (payloadsIn l i)
   pub here : stepTo l′ (headOf (chainWord l′ i)) a ≡ linkOf (wordAt l k)
   pub back : beforeTo l′ (headOf (chainWord l′ i)) a ≡ beforeTo l (headOf (chainWord l i)) a
 

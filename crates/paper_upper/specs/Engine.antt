@@ -14,15 +14,15 @@ use Rattle.paper_upper.specs.Rules.{rulesOpen}
 use Rattle.paper_upper.specs.Requests.{claimPlace, upperKinds, requestsOpen}
 
 -- a kind of the lower part, over the whole engine
-unfoldable pub raised : Kind Lower → Kind Engine
-raised k = on (k .kind) (λ t r. k .checks (t .lower) r) (λ t r. withLower t (k .next (t .lower) r))
+unfoldable pub widened : Kind Lower → Kind Engine
+widened k = on (k .kind) (λ t r. k .checks (t .lower) r) (λ t r. withLower t (k .next (t .lower) r))
 
 -- the lower part's kinds that do not look at entries: all but 33 and 41, which are the upper part's here
 unfoldable pub sharedKinds : List (Kind Lower)
 sharedKinds = keep (λ k. not (eqb (k .kind) 33 || eqb (k .kind) 41)) lowerKinds
 
 unfoldable pub requestKinds : List (Kind Engine)
-requestKinds = upperKinds ++ each raised sharedKinds
+requestKinds = upperKinds ++ each widened sharedKinds
 
 unfoldable pub request : Engine → Bytes → Answer Engine
 request t s = answer requestForms requestKinds t s
@@ -51,5 +51,5 @@ engineOf p = record { lower = lowerOf p; orders = noOrders }
 
 -- All pages of both parts, opened together where a case is computed.
 unfoldable pub engineOpen : Unit {0}
-unfolding lowerOpen ordersOpen rulesOpen requestsOpen raised sharedKinds requestKinds request placeOf placeTo placedRun engineOf
+unfolding lowerOpen ordersOpen rulesOpen requestsOpen widened sharedKinds requestKinds request placeOf placeTo placedRun engineOf
 engineOpen = tt

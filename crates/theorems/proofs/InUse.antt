@@ -20,7 +20,7 @@ use Rattle.sets.proofs.Bits.{same-or-other}
 use Rattle.paper_upper.specs.Orders.{Standing, isHeld, isHeldBy, Entry, Orders, noOrders, inOrder, ofTask, heldBy}
 use Rattle.paper_upper.specs.Orders.Standing.{held, done}
 use Rattle.paper_upper.specs.Requests.{openChecks, openNext, endChecks, endNext, claimChecks, claimNext, holdChecks, releaseNext, doneNext, turned, upperKinds}
-use Rattle.paper_upper.specs.Engine.{raised, sharedKinds, requestKinds, request, engineOf}
+use Rattle.paper_upper.specs.Engine.{widened, sharedKinds, requestKinds, request, engineOf}
 use Rattle.theorems.specs.Outside.{followed}
 use Rattle.theorems.specs.InUse.{Tally, tally, noTally, counting, count, inUse}
 use Rattle.theorems.specs.Theorems.{tablesAfter, saidAfter}
@@ -149,7 +149,7 @@ module _ (o : Orders) (x : Tally) (h : Tallied o x) where
 -- ---- the rows
 rows : (policy : List Record)
     → Rows requestForms (λ n t r x. Kept policy t → (y : Tally) → Tallied (t .orders) y → Tallied (x .orders) (chosen counting n .next y r)) requestKinds
-unfolding requestKinds upperKinds raised sharedKinds lowerKinds roleKinds sessionKinds keep each counting chosen openChecks openNext endChecks endNext claimChecks claimNext holdChecks releaseNext doneNext
+unfolding requestKinds upperKinds widened sharedKinds lowerKinds roleKinds sessionKinds keep each counting chosen openChecks openNext endChecks endNext claimChecks claimNext holdChecks releaseNext doneNext
 rows policy =
     (λ t r g p i y h. h) ⨾ (λ t r g p i y h. h)
     ⨾ (λ t r g p i y h. tally-open (t .orders) y h (r .a) (r .b) (i .1 .ledger .open-orders) (p .1 .0))

@@ -23,7 +23,7 @@ use Rattle.paper_lower.proofs.CheckLaws.{passed}
 use Rattle.paper_lower.proofs.ReadBack.{read-back}
 use Rattle.paper_upper.specs.Orders.{Engine, withLower}
 use Rattle.paper_upper.specs.Requests.{upperKinds}
-use Rattle.paper_upper.specs.Engine.{raised, sharedKinds, requestKinds, request}
+use Rattle.paper_upper.specs.Engine.{widened, sharedKinds, requestKinds, request}
 use Rattle.sets.proofs.SetLaws.{same-members, has-new, collect-above, collect-below, has-above, plus-lt, plus-member, within-has, has-within, within-trans, within-plus, within-refl, within-empty, within-part}
 use Rattle.theorems.specs.Joining.{gathered, EachOnce, EverySetIsListed, oneByOne, AllGranted, AsOneByOne, JoinedAsOneByOne, JoinedWithoutRoles}
 use Rattle.theorems.proofs.Down.{down-part}
@@ -38,14 +38,14 @@ with-policy t p = withLower t (withPolicy (t .lower) p)
 
 asked-join : (t : Engine) (a : ℕ) (m : Set) → a < 1024 → m < 2 ^ 64
     → request t (join a m) ≡ answered (first (joinChecks (t .lower .policy) a m)) (with-policy t (joinNext (t .lower .policy) a m)) t
-unfolding request answer replyTo formChecks requestKinds upperKinds sharedKinds lowerKinds roleKinds sessionKinds raised keep each chosen requestForms lowerForms formOf misshapen outOfRange misplaced above bytes encode
+unfolding request answer replyTo formChecks requestKinds upperKinds sharedKinds lowerKinds roleKinds sessionKinds widened keep each chosen requestForms lowerForms formOf misshapen outOfRange misplaced above bytes encode
 asked-join t a m h k =
     rw (read-back (record { kind = 32; n = 0; a = a; b = 0; c = 0; m = m }) (omega arith) (omega arith) (omega arith) k)
     (rw (le-ltb 1023 a (omega arith)) refl)
 
 asked-assign : (t : Engine) (a b : ℕ) → a < 1024 → b < 64
     → request t (assign a b) ≡ answered (first (assignChecks (t .lower .policy) a b)) (with-policy t (assignNext (t .lower .policy) a b)) t
-unfolding request answer replyTo formChecks requestKinds upperKinds sharedKinds lowerKinds roleKinds sessionKinds raised keep each chosen requestForms lowerForms formOf misshapen outOfRange misplaced above bytes encode
+unfolding request answer replyTo formChecks requestKinds upperKinds sharedKinds lowerKinds roleKinds sessionKinds widened keep each chosen requestForms lowerForms formOf misshapen outOfRange misplaced above bytes encode
 asked-assign t a b h k =
     rw (read-back (record { kind = 34; n = 0; a = a; b = b; c = 0; m = 0 }) (omega arith) (omega arith) (omega arith) (omega arith))
     (rw (le-ltb 1023 a (omega arith)) (rw (le-ltb 63 b (omega arith)) refl))

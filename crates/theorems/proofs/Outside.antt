@@ -13,7 +13,7 @@ use Rattle.paper_lower.specs.Sessions.{createNext, destroyNext, activateNext, d
 use Rattle.paper_lower.proofs.ListLaws.{every-map, every-all, _⨾_}
 use Rattle.paper_upper.specs.Orders.{Orders, Engine, noOrders}
 use Rattle.paper_upper.specs.Requests.{openNext, endNext, claimNext, releaseNext, doneNext, turned, upperKinds}
-use Rattle.paper_upper.specs.Engine.{raised, requestKinds, request, engineOf}
+use Rattle.paper_upper.specs.Engine.{widened, requestKinds, request, engineOf}
 use Rattle.theorems.specs.Outside.{Told, nothing, telling, hear, hearAll, outside}
 use Rattle.theorems.specs.Theorems.{shown, lowerAfter, lowerToldAfter, AfterEvery, ToldIsTrue}
 use Rattle.theorems.proofs.Replies.{of-both, lower-order, engine-order}
@@ -40,7 +40,7 @@ upper-rows =
     (λ t r. refl) ⨾ (λ t r. refl) ⨾ (λ t r. refl) ⨾ (λ t r. refl) ⨾ (λ t r. refl) ⨾ (λ t r. refl) ⨾ (λ t r. refl) ⨾ (λ t r. refl) ⨾ (λ t r. refl) ⨾ (λ t r. refl) ⨾ tt
 
 request-rows : Every Heard requestKinds
-unfolding raised
+unfolding widened
 request-rows = of-both Heard upper-rows (every-map lowerKinds (λ k h t r. h (t .orders) (t .lower) r) lower-rows)
 
 -- ---- the load

@@ -24,15 +24,15 @@ use Rattle.paper_lower.proofs.KindLaws.{AllNumbered, of-chosen}
 use Rattle.paper_upper.specs.Rules.{ruleChecks}
 use Rattle.paper_upper.specs.Requests.{deleteAbove, destroyAbove, openChecks, endChecks, claimChecks, holdChecks, taskCheckChecks, figuresChecks, stuckChecks, upperKinds}
 use Rattle.paper_upper.specs.Orders.{Engine}
-use Rattle.paper_upper.specs.Engine.{raised, sharedKinds, requestKinds, request}
+use Rattle.paper_upper.specs.Engine.{widened, sharedKinds, requestKinds, request}
 use Rattle.theorems.specs.Replies.{rank, inTable, rising, InOrder, FirstRefusal, checksOf, ChecksInOrder, Listed, RepliesAreListed, RefusedLoadsAreEmpty}
 
 -- ---- what holds of the upper part's kinds, and of the lower part's over the whole engine, holds of all
-pub of-both : (P : Kind Engine → Type 0) → Every P upperKinds → Every (λ k. P (raised k)) lowerKinds → Every P requestKinds
+pub of-both : (P : Kind Engine → Type 0) → Every P upperKinds → Every (λ k. P (widened k)) lowerKinds → Every P requestKinds
 unfolding requestKinds sharedKinds
 of-both P upper lower =
-    every-append P upperKinds (each raised sharedKinds) upper
-    (every-each P raised sharedKinds (every-kept (λ k. P (raised k)) (λ k. P (raised k)) _ lowerKinds (λ k e h. h) lower))
+    every-append P upperKinds (each widened sharedKinds) upper
+    (every-each P widened sharedKinds (every-kept (λ k. P (widened k)) (λ k. P (widened k)) _ lowerKinds (λ k e h. h) lower))
 
 -- ---- by computing
 pub policy-order : InOrder policyKinds
@@ -53,7 +53,7 @@ upper-order =
     (λ t r. refl) ⨾ (λ t r. refl) ⨾ (λ t r. refl) ⨾ (λ t r. refl) ⨾ (λ t r. refl) ⨾ (λ t r. refl) ⨾ (λ t r. refl) ⨾ (λ t r. refl) ⨾ (λ t r. refl) ⨾ (λ t r. refl) ⨾ tt
 
 pub engine-order : InOrder requestKinds
-unfolding requestKinds raised
+unfolding requestKinds widened
 engine-order =
     of-both (λ k. (t : Engine) (r : Record) → rising UNKNOWN (k .checks t r) ≡ true) upper-order (every-map lowerKinds (λ k h t r. h (t .lower) r) lower-order)
 
@@ -207,7 +207,7 @@ unfolding some lowerForms lowerKinds roleKinds sessionKinds
 lower-forms = refl ⨾ refl ⨾ refl ⨾ refl ⨾ refl ⨾ refl ⨾ refl ⨾ refl ⨾ refl ⨾ refl ⨾ refl ⨾ refl ⨾ tt
 
 request-forms : Every (λ f. takes requestKinds (f .kind) ≡ true) requestForms
-unfolding some requestForms lowerForms upperForms requestKinds upperKinds sharedKinds lowerKinds roleKinds sessionKinds keep each raised
+unfolding some requestForms lowerForms upperForms requestKinds upperKinds sharedKinds lowerKinds roleKinds sessionKinds keep each widened
 request-forms = refl ⨾ refl ⨾ refl ⨾ refl ⨾ refl ⨾ refl ⨾ refl ⨾ refl ⨾ refl ⨾ refl ⨾ refl ⨾ refl ⨾ refl ⨾ refl ⨾ refl ⨾ refl ⨾ refl ⨾ refl ⨾ refl ⨾ refl ⨾ tt
 
 pub checks-in-order : ChecksInOrder

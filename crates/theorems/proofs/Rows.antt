@@ -15,7 +15,7 @@ use Rattle.paper_lower.proofs.KindLaws.{of-chosen, reply-passed}
 use Rattle.paper_lower.proofs.ListLaws.{every-both, _⨾_}
 use Rattle.paper_upper.specs.Orders.{Engine, withLower}
 use Rattle.paper_upper.specs.Requests.{upperKinds}
-use Rattle.paper_upper.specs.Engine.{raised, requestKinds}
+use Rattle.paper_upper.specs.Engine.{widened, requestKinds}
 use Rattle.theorems.specs.Replies.{InOrder}
 use Rattle.theorems.specs.Outside.{followed}
 use Rattle.theorems.proofs.Replies.{of-both, numbered}
@@ -76,7 +76,7 @@ pub engine-rows : (P : ℕ → Engine → Record → Engine → Type 0) → Rows
     → Every (λ k. (t : Engine) (r : Record) → outOfRange (formOf lowerForms (k .kind)) r ≡ false → Passed (k .checks (t .lower) r)
     → P (k .kind) t r (withLower t (k .next (t .lower) r))) lowerKinds
     → Rows requestForms P requestKinds
-unfolding raised
+unfolding widened
 engine-rows P upper lower =
     of-both (λ k. (t : Engine) (r : Record) → outOfRange (formOf requestForms (k .kind)) r ≡ false → Passed (k .checks t r) → P (k .kind) t r (k .next t r)) upper
     (every-both lowerKinds (λ k e h t r g p. h t r (rw e at g) p) same-forms lower)

@@ -22,8 +22,7 @@ use Rattle.paper_lower.proofs.ListLaws.{every-map, _⨾_}
 use Rattle.paper_upper.specs.Orders.{isHeld, Engine, ofTask}
 use Rattle.paper_upper.specs.Rules.{ruleChecks}
 use Rattle.paper_upper.specs.Requests.{unknown, claimChecks, upperKinds}
-use Rattle.paper_upper.specs.Engine as engine
-use Rattle.paper_upper.specs.Engine.{sharedKinds, requestKinds, request}
+use Rattle.paper_upper.specs.Engine.{widened, sharedKinds, requestKinds, request}
 use Rattle.theorems.specs.OverEntries.{ofKind}
 use Rattle.theorems.specs.Theorems.{fixed, Fixed}
 use Rattle.theorems.specs.Seniority.{SeniorityIsRecorded, assignBefore, staticBefore, joinBefore, takeBackBefore, createBefore, activateBefore, checkBefore, claimBefore, policyRowsBefore, lowerRowsBefore, rowsBefore, policyAnswerBefore, lowerRequestBefore, requestBefore, loadFromBefore, loadBefore, NoneBelow, AsBefore}
@@ -184,7 +183,7 @@ same-lower t none s =
     ⨾ tt))
 
 same-request : (t : Engine) → NoneBelow (t .lower .policy) → (s : Bytes) → request t s ≡ requestBefore t s
-unfolding request requestBefore rowsBefore lowerRowsBefore requestKinds upperKinds sharedKinds lowerKinds roleKinds sessionKinds engine.raised keep each chosen
+unfolding request requestBefore rowsBefore lowerRowsBefore requestKinds upperKinds sharedKinds lowerKinds roleKinds sessionKinds widened keep each chosen
 same-request t none s =
     sym (same-answer requestForms rowsBefore requestKinds t s
     ((λ r. (same-claim t none (r .a) (r .b) (r .c), refl))

@@ -20,7 +20,7 @@ use Rattle.paper_lower.specs.Sessions.{createNext, destroyNext, activateNext, d
 use Rattle.paper_lower.proofs.ListLaws.{below-none, every-map, _⨾_}
 use Rattle.paper_upper.specs.Orders.{Engine, withLower}
 use Rattle.paper_upper.specs.Requests.{openNext, endNext, claimNext, releaseNext, doneNext, upperKinds}
-use Rattle.paper_upper.specs.Engine.{raised, sharedKinds, requestKinds, request}
+use Rattle.paper_upper.specs.Engine.{widened, sharedKinds, requestKinds, request}
 use Rattle.theorems.specs.OverEntries.{ofKind}
 use Rattle.theorems.specs.Walls.{CheckOrCommit, RefusedAsTheCheck, OutsideWallsAllIsFree, checkUnwalled, checksUnwalled, lowerUnwalled, unwalled, lowerRequestUnwalled, requestUnwalled, Unwalled, AsBeforeWalls}
 use Rattle.theorems.proofs.Replies.{lower-order, engine-order, refused-loads-are-empty}
@@ -32,7 +32,7 @@ use Rattle.theorems.proofs.Walls.{engine-reply}
 
 -- ---- refused as the check is
 same-engine : (t : Engine) (x : ℕ) (s : Bytes) → 59 ≡ x → request t (x ∷ s) .reply ≡ request t (56 ∷ s) .reply
-unfolding request answer replyTo formChecks requestForms lowerForms upperForms formOf misshapen misplaced outOfRange above decode number requestKinds upperKinds sharedKinds raised lowerKinds roleKinds sessionKinds keep each chosen
+unfolding request answer replyTo formChecks requestForms lowerForms upperForms formOf misshapen misplaced outOfRange above decode number requestKinds upperKinds sharedKinds widened lowerKinds roleKinds sessionKinds keep each chosen
 same-engine t x s e = subst (λ (k : ℕ). request t (k ∷ s) .reply ≡ request t (56 ∷ s) .reply) e refl
 
 same-dealer : (t : Lower) (x : ℕ) (s : Bytes) → 59 ≡ x → lowerRequest t (x ∷ s) .reply ≡ lowerRequest t (56 ∷ s) .reply
@@ -78,7 +78,7 @@ same-tables zero x t e = e
 same-tables (suc q) x t e = refl
 
 stays : (t : Engine) (s : Bytes) → CheckOrCommit s → ((w : ℕ) → blockOf (t .lower .policy .walls) (decode s .c) w ≡ none) → request t s .tables ≡ t
-unfolding request answer requestKinds upperKinds sharedKinds raised lowerKinds roleKinds sessionKinds keep each chosen
+unfolding request answer requestKinds upperKinds sharedKinds widened lowerKinds roleKinds sessionKinds keep each chosen
 stays t s (inl e) free =
     same-tables (request t s .reply) (chosen requestKinds (decode s .kind) .next t (decode s)) t (ap (λ (n : ℕ). chosen requestKinds n .next t (decode s)) e)
 stays t s (inr e) free =
@@ -123,7 +123,7 @@ same-reply fs new ks t s rows =
     (every-map new (λ k h e. subst (λ (n : ℕ). first (k .checks t r) ≡ first (chosen ks n .checks t r)) e (h r)) rows))
 
 same-engine-reply : (t : Engine) → t .lower .policy .walls ≡ [] → (s : Bytes) → request t s .reply ≡ requestUnwalled t s .reply
-unfolding request requestUnwalled unwalled checksUnwalled requestKinds upperKinds sharedKinds lowerKinds roleKinds sessionKinds raised keep each chosen
+unfolding request requestUnwalled unwalled checksUnwalled requestKinds upperKinds sharedKinds lowerKinds roleKinds sessionKinds widened keep each chosen
 same-engine-reply t none-there s =
     sym (same-reply requestForms unwalled requestKinds t s
     ((λ r. refl)
@@ -159,7 +159,7 @@ same-lower-request t h s =
     ⨾ tt))
 
 same-request : (t : Engine) → Unwalled (t .lower) → (s : Bytes) → request t s ≡ requestUnwalled t s
-unfolding request requestUnwalled unwalled checksUnwalled requestKinds upperKinds sharedKinds lowerKinds roleKinds sessionKinds raised keep each chosen
+unfolding request requestUnwalled unwalled checksUnwalled requestKinds upperKinds sharedKinds lowerKinds roleKinds sessionKinds widened keep each chosen
 same-request t h s =
     sym (same-answer requestForms unwalled requestKinds t s
     ((λ r. (refl, ap (λ (x : Lower). withLower t x) (gone (t .lower) h (r .a))))

@@ -23,7 +23,7 @@ use Rattle.paper_lower.proofs.CheckLaws.{Passed, first-passed}
 use Rattle.paper_lower.proofs.KindLaws.{reply-passed}
 use Rattle.paper_upper.specs.Orders.{Engine}
 use Rattle.paper_upper.specs.Requests.{openNext, endNext, claimNext, releaseNext, doneNext, upperKinds}
-use Rattle.paper_upper.specs.Engine.{raised, sharedKinds, requestKinds, request, engineOf}
+use Rattle.paper_upper.specs.Engine.{widened, sharedKinds, requestKinds, request, engineOf}
 use Rattle.sets.proofs.Bits.{same-or-other}
 use Rattle.theorems.specs.OverEntries.{EveryTwo, ofKind}
 use Rattle.theorems.specs.WellMade.{WellWalled}
@@ -374,7 +374,7 @@ clerks-keep-to-one-block = record {
 -- the checks of both kinds
 pub engine-reply : (t : Engine) (s : Bytes) → CheckOrCommit s
     → request t s .reply ≡ first (formChecks requestForms s ++ checkChecks (t .lower) (decode s .a) (decode s .b) (decode s .c))
-unfolding request answer replyTo requestKinds upperKinds sharedKinds raised lowerKinds roleKinds sessionKinds keep each chosen
+unfolding request answer replyTo requestKinds upperKinds sharedKinds widened lowerKinds roleKinds sessionKinds keep each chosen
 engine-reply t s (inl e) = ap (λ (n : ℕ). first (formChecks requestForms s ++ chosen requestKinds n .checks t (decode s))) e
 engine-reply t s (inr e) = ap (λ (n : ℕ). first (formChecks requestForms s ++ chosen requestKinds n .checks t (decode s))) e
 
@@ -411,7 +411,7 @@ forgotten t s e g w =
 
 unbound : (t : Engine) (s : Bytes) (y : Commits) → Told (t .lower) y → decode s .kind ≡ 32 → request t s .reply ≡ 0
     → BoundNowhere (request t s .tables .lower .sessions .boundTo) (decode s .a)
-unfolding request answer requestKinds upperKinds sharedKinds raised lowerKinds roleKinds sessionKinds keep each chosen joinChecks
+unfolding request answer requestKinds upperKinds sharedKinds widened lowerKinds roleKinds sessionKinds keep each chosen joinChecks
 unbound t s y h e g w =
     let p = reply-passed requestForms requestKinds (numbered requestKinds engine-order) t s g .1 in
     let c : Passed (chosen requestKinds 32 .checks t (decode s)) = subst (λ (n : ℕ). Passed (chosen requestKinds n .checks t (decode s))) e p in

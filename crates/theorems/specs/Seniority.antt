@@ -21,7 +21,7 @@ use Rattle.paper_lower.specs.Sessions.{allowed, wallBetween, createNext, activa
 use Rattle.paper_upper.specs.Orders.{isHeld, Engine, ofTask}
 use Rattle.paper_upper.specs.Rules.{ruleChecks}
 use Rattle.paper_upper.specs.Requests.{unknown, claimNext}
-use Rattle.paper_upper.specs.Engine.{raised, requestKinds, request}
+use Rattle.paper_upper.specs.Engine.{widened, requestKinds, request}
 use Rattle.theorems.specs.OverEntries.{ofKind, puts, Above}
 use Rattle.theorems.specs.Theorems.{AfterEvery, tablesAfter, lowerAfter}
 
@@ -127,7 +127,7 @@ lowerRowsBefore =
     ∷ []
 
 unfoldable pub rowsBefore : List (Kind Engine)
-rowsBefore = on 50 (λ t r. claimBefore t (r .a) (r .b) (r .c)) (λ t r. claimNext t (r .a) (r .b) (r .c)) ∷ each raised lowerRowsBefore
+rowsBefore = on 50 (λ t r. claimBefore t (r .a) (r .b) (r .c)) (λ t r. claimNext t (r .a) (r .b) (r .c)) ∷ each widened lowerRowsBefore
 
 unfoldable pub policyAnswerBefore : Policy → Bytes → Answer Policy
 policyAnswerBefore p s = answer policyForms (policyRowsBefore ++ policyKinds) p s

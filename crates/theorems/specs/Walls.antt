@@ -20,7 +20,7 @@ use Rattle.paper_lower.specs.Roles.{deleteChecks, deleteNext}
 use Rattle.paper_lower.specs.Sessions.{allowed, lowerKinds, lowerRequest, lowerOf}
 use Rattle.paper_upper.specs.Orders.{Engine, withLower}
 use Rattle.paper_upper.specs.Requests.{deleteAbove}
-use Rattle.paper_upper.specs.Engine.{raised, requestKinds, request}
+use Rattle.paper_upper.specs.Engine.{widened, requestKinds, request}
 use Rattle.theorems.specs.Outside.{followed}
 use Rattle.theorems.specs.OverEntries.{ofKind}
 use Rattle.theorems.specs.Theorems.{AfterEvery, tablesAfter, saidAfter, replyAfter, lowerAfter, Reaches}
@@ -150,7 +150,7 @@ unfoldable pub unwalled : List (Kind Engine)
 unwalled =
     on 33 (λ t r. deleteChecks (t .lower) (r .a) ++ deleteAbove t (r .a))
     (λ t r. withLower t (withPolicy (t .lower) (deleteNext (t .lower .policy) (r .a))))
-    ∷ each raised checksUnwalled
+    ∷ each widened checksUnwalled
 
 unfoldable pub lowerRequestUnwalled : Lower → Bytes → Answer Lower
 lowerRequestUnwalled t s = answer lowerForms (lowerUnwalled ++ lowerKinds) t s

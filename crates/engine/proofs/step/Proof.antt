@@ -4,7 +4,7 @@ use borrow.Author.Needs.{needs}
 use Rattle.paper_lower.specs.Forms.{requestForms}
 use Rattle.paper_lower.specs.Kinds.{chosen}
 use Rattle.paper_upper.specs.Requests.{upperKinds}
-use Rattle.paper_upper.specs.Engine.{raised, requestKinds, placeOf}
+use Rattle.paper_upper.specs.Engine.{widened, requestKinds, placeOf}
 use Rattle.records.specs.Limits.{limitA, limitB, limitC, limitM, limitsOpen}
 use Rattle.records.proofs.Passing.{below}
 use Rattle.engine.proofs.Lifts.{of-both, of-sessions, of-orders, of-claim, of-none, of-lower}
@@ -199,7 +199,7 @@ same-length-24 : tie.Need-same-length-24
 same-length-24 c = search needs
 
 returns-11 : tie.Need-returns-11
-unfolding raised
+unfolding widened
 returns-11 c = rw (lower-row (c .before .before .before .before .before .before .before .before .match .rest)) (of-lower (c .plain10 .ensures) (no-claim _ _ _ (no-claim-number (c .before .before .before .before .before .before .before .before .match .rest))) (c .before .before .before .before .before .step .ensures), c .before .before .before .before .before .before .before .before .before .before .before .before .pre .0 .1 .1 .1)
 
 pub step-spec : {M : Type 1} → statement M
