@@ -149,7 +149,7 @@ static size_t put(unsigned char *to, unsigned kind, unsigned n, unsigned a, unsi
     return 16;
 }
 
-/* A policy with every kind in it: eight clerks, eight roles, sixteen tasks of four templates, rules of each sort. */
+/* A policy with every kind in it: eight clerks, eight roles, one above another, sixteen tasks of four templates, rules of each sort, a wall. */
 static size_t some_policy(unsigned char *to) {
     size_t n = 0;
     for (unsigned i = 0; i < 8; i++) n += put(to + n, 1, 0, i, 0, 0, 0), n += put(to + n, 2, 0, i, 0, 0, 0);
@@ -162,6 +162,8 @@ static size_t some_policy(unsigned char *to) {
         n += put(to + n, 13, 0, j, 0, 0, 0), n += put(to + n, 14, 2, 4 * j, 0, 0, 0);
         n += put(to + n, 15, 0, 4 * j, 4 * j + 3, 0, 0), n += put(to + n, 16, 0, 4 * j, 4 * j + 1, 0, 0);
     }
+    n += put(to + n, 17, 0, 7, 5, 0, 0);
+    for (unsigned i = 0; i < 8; i++) n += put(to + n, 18, 0, 0, i % 2, i, 0);
     return n;
 }
 
@@ -186,7 +188,7 @@ int main(void) {
 }
 #else
 int main(void) {
-    static const unsigned kinds[] = {32, 33, 34, 35, 36, 37, 40, 41, 42, 43, 48, 49, 50, 51, 52, 56, 57};
+    static const unsigned kinds[] = {32, 33, 34, 35, 36, 37, 40, 41, 42, 43, 48, 49, 50, 51, 52, 56, 57, 58, 59, 60};
     static unsigned char text[16 * 256];
     size_t deepest[64] = {0}, own = used_by(nothing), deepest_load = 0;
     for (unsigned round = 0; round < 40; round++) {
@@ -200,8 +202,8 @@ int main(void) {
             unsigned char record[16];
             unsigned kind = kinds[below(sizeof kinds / sizeof *kinds)];
             uint64_t m = kind == 57 ? below(8) * 65537u : kind == 40 || kind == 32 ? 1u << below(8) : 0;
-            int three = kind >= 50, two = three || kind == 34 || kind == 35 || kind == 36 || kind == 37 || kind == 40 || kind == 42 || kind == 43 || kind == 48;
-            put(record, kind, 0, below(8), two ? below(kind == 48 ? 4 : 8) : 0, three ? below(16) : 0, m);
+            int three = (kind >= 50 && kind <= 57) || kind == 59, two = three || kind == 34 || kind == 35 || kind == 36 || kind == 37 || kind == 40 || kind == 42 || kind == 43 || kind == 48;
+            put(record, kind, 0, below(kind == 60 ? 4 : 8), two ? below(kind == 48 ? 4 : 8) : 0, three ? below(16) : 0, m);
             bytes = record, length = 16;
             n = used_by(request);
             if (n > deepest[kind]) deepest[kind] = n;
