@@ -25,7 +25,7 @@ endOf x = x / 128
 abbrev pub idOf : ℕ → ℕ
 idOf x = x % 128
 
--- a longer text is not listed: a place in it may not fit beside the number
+-- a text of so many bytes or more is not listed: a place in it may not fit into a word beside the element
 abbrev pub longest : ℕ
 longest = 144115188075855872
 

@@ -14,6 +14,9 @@ use opl_table::is_name;
 use opl_tags::Tag;
 use opl_tags::read_tag;
 
+// A text of so many bytes or more is not listed: a place in it may not fit into a word beside the element.
+const LONGEST: usize = 144115188075855872;
+
 // A place in the text, with how many entries of the list lie before it, and with what the tags before it told: the kind of a set of roles, and how many partitionings
 // have begun.
 pub struct Cursor {
@@ -112,7 +115,7 @@ pub fn element(v: &[u8]) -> u64
 
 // ---- The list of tags, and the next one by it.
 
-// A start tag becomes an entry, if there is room for it: where its name ends, and its element in the low seven bits.
+// A start tag becomes an entry, if there is room for it: where its name ends, and the element in the low seven bits.
 pub fn enter(s: &[u8], w: &mut [u64], end: usize, id: u64)
     requires { ⌜ (length (now w) ≡ scratchWords) × ((end ≤ length (now s)) × (id < 128)) ⌝ }
     ensures { λ _. ⌜ now (w .exit) ≡ entered (length (now (s .entry))) (now (w .entry)) end id ⌝ }
@@ -121,7 +124,7 @@ pub fn enter(s: &[u8], w: &mut [u64], end: usize, id: u64)
     if LISTED <= n {
         return;
     }
-    if 144115188075855872 <= s.len() {
+    if LONGEST <= s.len() {
         return;
     }
     w[LIST + 1 + n] = end as u64 * 128 + id;
