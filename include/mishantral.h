@@ -37,7 +37,7 @@ extern "C" {
 #define MISHANTRAL_POLICY_WORDS 5145
 #define MISHANTRAL_SESSIONS_WORDS 2432
 #define MISHANTRAL_ORDERS_WORDS 2244
-#define MISHANTRAL_OPL_WORDS 659639
+#define MISHANTRAL_OPL_WORDS 921784
 
 /* How many words the answer to a question has: mishantral_question takes no other length. */
 #define MISHANTRAL_ANSWER_WORDS 66

@@ -26,10 +26,10 @@ pub record RequestExported (bytes : Bytes) (x x′ : Buffers) (number : ℕ) : T
   pub lengths : SameLengths x x′
   pub kept : (requestAnswer bytes x .reply ≡ 0 → ⊥) → x′ ≡ x
 
--- the scratch of the reader of OPL/XML, which has seven tables of names: a word each, and three for every name that it may hold; and two words for each record
--- that it may keep
+-- the scratch of the reader of OPL/XML, which has seven tables of names: a word each, and three for every name that it may hold; two words for each record that
+-- it may keep; and the list of tags: a word, and one for each that it may hold
 abbrev pub readerWords : ℕ
-readerWords = 7 + 3 * (1024 + 64 + 256 + 65536 + 65536 + 64 + 16) + 2 * 131072
+readerWords = 7 + 3 * (1024 + 64 + 256 + 65536 + 65536 + 64 + 16) + 2 * 131072 + (1 + 262144)
 
 -- the length of a buffer: policy 0, sessions 1, orders 2, a question's answer 3, the reader's scratch 4
 abbrev pub wordsOf : ℕ → ℕ

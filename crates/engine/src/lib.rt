@@ -200,7 +200,7 @@ pub extern "C" fn mishantral_words(group: u64) -> u64
         return 66;
     }
     if group == 4 {
-        return 659639;
+        return 921784;
     }
     0
 }

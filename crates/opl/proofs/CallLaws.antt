@@ -30,10 +30,9 @@ use Rattle.opl_tags.proofs.Walked.{tags-met}
 use Rattle.opl_declared.specs.Names.{short, accepted}
 use Rattle.opl_declared.proofs.FilledLaws.{users-are, roles-are, permissions-are, operations-are, objects-are}
 use Rattle.opl_declared.proofs.LineNames.{tasks-are, templates-are}
-use Rattle.opl_said.specs.Said.{allNames, Held}
 use Rattle.opl_said.proofs.HeldLaws.{AllCardinal, all-cardinal}
 use Rattle.opl_turns.specs.Turning.{SmallTag}
-use Rattle.opl_naming.specs.Naming.{declaredOf, LongName}
+use Rattle.opl_naming.specs.Naming.{declaredOf, LongName, Names}
 use Rattle.opl.specs.declared.Answer.{Answer}
 use Rattle.opl.specs.Call.{answer, answered, Answers, inOne, Exported, AnswersAsDefined, OneAnswer, RefusalsKeep}
 use Rattle.opl.specs.Steps.{refusal, badText, Accepts, recordsAnswer, acceptedAnswer, Gives, Ready}
@@ -128,10 +127,11 @@ module _ (s t : Text) (a : Accepts s t) (p : Step) (reads : Reads s (stepOf s) (
     smalls [] h = tt
     smalls (t ∷ ts) h = (value-small (t .given) (h .0), smalls ts (h .1))
 
-    pub ready : (l : List ℕ) → Held s t (allNames s t) l → Ready s t l from
+    pub ready : (l : List ℕ) → Names s t from l true → Ready s t l from
     ready l h =
         record {
-          held = h;
+          held = h .0;
+          leads = h .1;
           inside = begins-inside;
           tags-are = begins-there;
           small = reads-on (document s) (a .policy) (λ es z u. rw begins-there at (smalls (tags s) (all-cardinal s es z u)));

@@ -13,10 +13,11 @@ use Rattle.paper_opl.specs.Tree.{if-found, document}
 use Rattle.paper_opl.specs.Naming.{lines, TEXT, NAMES, Answer as Translated, refused, writes}
 use Rattle.paper_opl.specs.Walk.{tags, recordsIn}
 use Rattle.opl_lines.specs.Lines.{linesIn}
-use Rattle.opl_spaces.specs.Spaces.{scratchWords}
+use Rattle.opl_spaces.specs.Spaces.{scratchWords, listOf}
 use Rattle.opl_tags.specs.Tags.{walkAt}
 use Rattle.opl_declared.specs.Names.{accepted}
 use Rattle.opl_said.specs.Said.{allNames, Held}
+use Rattle.opl_turns.specs.Listing.{Leads}
 use Rattle.opl_turns.specs.Turning.{SmallTag}
 use Rattle.opl.specs.declared.Answer.{Answer}
 use Rattle.opl.specs.Call.{answered}
@@ -45,9 +46,10 @@ pub record Gives (a : Translated) (out out′ : Bytes) (r : Answer) : Type 0 whe
   pub answer-is : answered r out′ ≡ a
   pub room : length out′ ≡ length out
 
--- names are in the scratch, and the tags begin there
+-- names are in the scratch, the tags begin there, and the list leads through them
 pub record Ready (s t : Text) (l : List ℕ) (from : ℕ) : Type 0 where
   pub held : Held s t (allNames s t) l
+  pub leads : Leads s (listOf l) 0 from
   pub inside : from ≤ length s
   pub tags-are : tags s ≡ walkAt s from
   pub small : Every SmallTag (walkAt s from)

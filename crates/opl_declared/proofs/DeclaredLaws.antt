@@ -29,7 +29,7 @@ use Rattle.opl_declared.specs.declared.Walked.{Walked}
 use Rattle.opl_declared.specs.declared.Walked.the-variants.{Next, Long, Done}
 
 pub untouched : (i : ℕ) (l : List ℕ) → Apart i l l
-untouched i l = record { room = refl; others = λ j h d. refl }
+untouched i l = record { room = refl; others = λ j h d. refl; list = refl }
 
 -- ---- What the tags at a place declare.
 module _ (s : Text) (i at : ℕ) (r : Tag) (reads : ReadsTag s (nextTag (drop at s)) r) (l : List ℕ) (sound : Sound s (limitOf i) (tableOf i l)) where
@@ -52,7 +52,7 @@ module _ (s : Text) (i at : ℕ) (r : Tag) (reads : ReadsTag s (nextTag (drop at
       record { walks = record { past = onward n [] u q; inside = u; sound = sound; fills = ap (λ ts. filled (limitOf i) (namesIn s (tableOf i l)) (declaredAt i ts)) w; shorts = ap (λ ts. every short (declaredAt i ts)) w }; apart = untouched i l }
 
   module _ (name end : ℕ) (e : r ≡ Start name end) where
-    pub start-stands : Opens s name end
+    start-stands : Opens s name end
     start-stands = rw e at (reads .stands)
 
     abbrev pub here : Tagged
@@ -108,7 +108,7 @@ module _ (s : Text) (i at : ℕ) (r : Tag) (reads : ReadsTag s (nextTag (drop at
 
 -- ---- All tags from a place on.
 together : (i : ℕ) (a b c : List ℕ) → Apart i a b → Apart i b c → Apart i a c
-together i a b c x y = record { room = y .room ∙ x .room; others = λ j h d. y .others j h d ∙ x .others j h d }
+together i a b c x y = record { room = y .room ∙ x .room; others = λ j h d. y .others j h d ∙ x .others j h d; list = y .list ∙ x .list }
 
 -- what is left from `at` on
 pub record Left (s : Text) (i : ℕ) (names : ℕ → List Text) (from at : ℕ) (l l′ : List ℕ) : Type 0 where

@@ -5,7 +5,8 @@ use mathlib.Core.Bool.{Bool, true, false, not}
 use mathlib.Core.List.{List, []}
 use native.Mathlib.Omega.{arith}
 use lib.Dec.{eqb}
-use lib.ListN.{length, take, drop}
+use lib.ListN.{length, take, drop, set, length-set}
+use lib.Seq.{getD-set-same}
 use borrow.Author.Tests.{ne-eqb, eq-eqb, eqb-true, eqb-false, lt-ltb, le-ltb}
 use Rattle.paper_lower.specs.Lists.{every}
 use Rattle.paper_opl.specs.Reading.{Text, same}
@@ -19,15 +20,18 @@ use Rattle.opl_tags.specs.Tags.{givenAt, Valued, nextTag, walkAt, Opens, ReadsT
 use Rattle.opl_tags.specs.declared.Tag.{Tag}
 use Rattle.opl_tags.specs.declared.Tag.the-variants.{Start, End, Halt}
 use Rattle.opl_tags.specs.declared.Part.{Part}
-use Rattle.opl_spaces.specs.Spaces.{limitOf, scratchWords, tableOf, Empties, DeclaresIn}
+use Rattle.opl_spaces.specs.Spaces.{limitOf, listPlace, scratchWords, tableOf, listOf, Empties, DeclaresIn}
+use Rattle.opl_spaces.proofs.SpaceLaws.{table-kept}
 use Rattle.opl_declared.specs.Names.{attributeOf, declaredAt, short, tagNames, lineNames, filled, Onward, DeclaresAll}
 use Rattle.opl_declared.specs.declared.Walked.{Walked}
 use Rattle.opl_declared.specs.declared.Walked.the-variants.{Next, Long, Done}
-use Rattle.opl_declared.proofs.DeclaredLaws.{walked-halt, walked-end, walked-other, walked-long, walked-on, start-stands, no-tags}
+use Rattle.opl_declared.proofs.DeclaredLaws.{walked-halt, walked-end, walked-other, walked-long, walked-on, no-tags}
 use Rattle.opl_said.specs.Said.{allNames, Held}
 use Rattle.opl_said.proofs.HeldLaws.{held}
 use Rattle.opl_turns.specs.Meaning.{elementOf}
-use Rattle.opl_turns.proofs.MeaningLaws.{declares-by}
+use Rattle.opl_turns.specs.Listing.{countIn, entered, Opened, Leads, Listing}
+use Rattle.opl_turns.proofs.MeaningLaws.{meant, declares-by}
+use Rattle.opl_turns.proofs.ListLaws.{read-ended, read-stands, read-begun, count-at, entered-table, entered-length, listing-first, listing-led, listing-passed, listing-entered}
 use Rattle.opl_naming.specs.Naming.{Keeps, Onwards, LongFrom, Goes, AllSound, AllFilled, Fills, AllEmptied, declaredOf, LongName, Names}
 
 -- the attributes of the five spaces, in a word
@@ -42,9 +46,9 @@ attribute-is (suc (suc (suc (suc (suc i))))) h = absurd (omega arith)
 
 -- ---- One tag.
 
--- what a step does for one space, whose table it leaves so
-keeps : (s : Text) (i at n : ℕ) (l l₁ l′ : List ℕ) → Onward s i (tagNames s i) at n l l₁ → tableOf i l′ ≡ tableOf i l₁ → Keeps s i at n l l′
-keeps s i at n l l₁ l′ o e = record { sound = rw e (o .sound); fills = rw e (o .fills); shorts = o .shorts }
+-- what a step does for one space, whose table was so and is left so
+keeps : (s : Text) (i at n : ℕ) (l l₀ l₁ l′ : List ℕ) → Onward s i (tagNames s i) at n l₀ l₁ → tableOf i l₀ ≡ tableOf i l → tableOf i l′ ≡ tableOf i l₁ → Keeps s i at n l l′
+keeps s i at n l l₀ l₁ l′ o d e = record { sound = rw e (o .sound); fills = rw (e, ← d) (o .fills); shorts = o .shorts }
 
 module _ (s : Text) (at : ℕ) (r : Tag) (reads : ReadsTag s (nextTag (drop at s)) r) (l : List ℕ) (sound : AllSound s l) where
   pub goes-halt : r ≡ Halt → Goes s at l l Done
@@ -52,62 +56,87 @@ module _ (s : Text) (at : ℕ) (r : Tag) (reads : ReadsTag s (nextTag (drop at s
 
   pub goes-end : (n : ℕ) → r ≡ End n → Goes s at l l (Next n)
   goes-end n e =
-      let o = walked-end s 0 at r reads l (sound 0 (omega arith)) n e .walks in
+      let p = read-ended s at r reads n e in
       record {
-        past = o .past;
-        inside = o .inside;
+        past = p .past;
+        inside = p .inside;
         room = refl;
-        keeps = λ i h. keeps s i at n l l l (walked-end s i at r reads l (sound i h) n e .walks) refl;
+        keeps = λ i h. keeps s i at n l l l l (walked-end s i at r reads l (sound i h) n e .walks) refl refl;
         others = λ j a b. refl;
+        lists = λ from h. listing-passed s from l at n p h;
       }
 
   module _ (name end : ℕ) (e : r ≡ Start name end) where
     pub goes-stands : Opens s name end
-    goes-stands = start-stands s 0 at r reads l (sound 0 (omega arith)) name end e
+    goes-stands = read-stands s at r reads name end e
 
     abbrev v : Text
     v = take (end - name) (drop name s)
 
-    other : (i : ℕ) (h : i < 5) → (elementOf v ≡ 12 + i → ⊥) → Onward s i (tagNames s i) at end l l
-    other i h d =
-        let q : same v (nameOf (12 + i)) ≡ false = declares-by v i h ∙ ne-eqb (elementOf v) (12 + i) d in
-        walked-other s i at r reads l (sound i h) name end e (same v (nameOf (12 + i))) refl (ap not q) .walks
+    pub goes-low : (id : ℕ) → id ≡ elementOf v → id < 128
+    goes-low id is = rw is (meant v .low)
 
-    pub goes-other : ((i : ℕ) → i < 5 → elementOf v ≡ 12 + i → ⊥) → Goes s at l l (Next end)
-    goes-other d =
-        let o = other 0 (omega arith) (d 0 (omega arith)) in
-        record {
-          past = o .past;
-          inside = o .inside;
-          room = refl;
-          keeps = λ i h. keeps s i at end l l l (other i h (d i h)) refl;
-          others = λ j a b. refl;
-        }
+    -- the tag is listed, and no table is changed
+    module _ (id : ℕ) (is : id ≡ elementOf v) (room : length l ≡ scratchWords) (l₁ : List ℕ) (enters : l₁ ≡ entered (length s) l end id) where
+      opened : Opened s at end id
+      opened = read-begun s at r reads name end e id is
 
-    module _ (i : ℕ) (h : i < 5) (is : elementOf v ≡ 12 + i) (p : Part) (valued : Valued s (valueOf (nameOf (attributeOf i)) (givenAt s end)) p) where
-      named : not (same v (nameOf (12 + i))) ≡ false
-      named = ap not (declares-by v i h ∙ eq-eqb (elementOf v) (12 + i) is)
+      same-table : (i : ℕ) → i < 7 → tableOf i l₁ ≡ tableOf i l
+      same-table i h = ap (tableOf i) enters ∙ entered-table i h (length s) l end id
 
-      pub goes-long : 64 < p .to - p .from → Goes s at l l Long
-      goes-long q =
+      same-room : length l₁ ≡ length l
+      same-room = ap length enters ∙ entered-length (length s) l end id
+
+      lists : (from : ℕ) → Listing s from (listOf l) at → Listing s from (listOf l₁) end
+      lists from h = rw enters (listing-entered s from l room at end id opened (goes-low id is) h)
+
+      pub goes-room : length l₁ ≡ scratchWords
+      goes-room = same-room ∙ room
+
+      pub goes-sound : AllSound s l₁
+      goes-sound i h = rw (same-table i (omega arith)) (sound i h)
+
+      other : (i : ℕ) (h : i < 5) → (id ≡ 12 + i → ⊥) → Onward s i (tagNames s i) at end l l
+      other i h d =
+          let q : same v (nameOf (12 + i)) ≡ false = declares-by v i h ∙ ne-eqb (elementOf v) (12 + i) (λ z. d (is ∙ z)) in
+          walked-other s i at r reads l (sound i h) name end e (same v (nameOf (12 + i))) refl (ap not q) .walks
+
+      pub goes-other : ((i : ℕ) → i < 5 → id ≡ 12 + i → ⊥) → Goes s at l l₁ (Next end)
+      goes-other d =
           record {
-            space = i;
-            of-tags = h;
-            long = walked-long s i at r reads l (sound i h) name end e (same v (nameOf (12 + i))) refl named p valued q .walks;
+            past = opened .past;
+            inside = opened .inside;
+            room = same-room;
+            keeps = λ i h. keeps s i at end l l l l₁ (other i h (d i h)) refl (same-table i (omega arith));
+            others = λ j a b. same-table j b;
+            lists = lists;
           }
 
-      pub goes-on : (l′ : List ℕ) (k : Found) → p .to - p .from ≤ 64 → DeclaresIn s i (take (p .to - p .from) (drop (p .from) s)) l l′ k → Goes s at l l′ (Next end)
-      goes-on l′ k q d =
-          let o = walked-on s i at r reads l (sound i h) name end e (same v (nameOf (12 + i))) refl named p valued l′ k q d .walks in
-          record {
-            past = o .past;
-            inside = o .inside;
-            room = d .apart .room;
-            keeps = λ j a. on-test (eqb j i)
-                (λ u. let z = eqb-true j i u in rw z (keeps s i at end l l′ l′ o refl))
-                (λ u. let z = eqb-false j i u in keeps s j at end l l l′ (other j a (λ w. z (omega (arith, is, w)))) (d .apart .others j (omega arith) z));
-            others = λ j a b. d .apart .others j b (λ w. omega (arith, w));
-          }
+      module _ (i : ℕ) (h : i < 5) (here : id ≡ 12 + i) (p : Part) (valued : Valued s (valueOf (nameOf (attributeOf i)) (givenAt s end)) p) where
+        named : not (same v (nameOf (12 + i))) ≡ false
+        named = ap not (declares-by v i h ∙ eq-eqb (elementOf v) (12 + i) (sym is ∙ here))
+
+        pub goes-long : 64 < p .to - p .from → Goes s at l l₁ Long
+        goes-long q =
+            record {
+              space = i;
+              of-tags = h;
+              long = walked-long s i at r reads l (sound i h) name end e (same v (nameOf (12 + i))) refl named p valued q .walks;
+            }
+
+        pub goes-on : (l′ : List ℕ) (k : Found) → p .to - p .from ≤ 64 → DeclaresIn s i (take (p .to - p .from) (drop (p .from) s)) l₁ l′ k → Goes s at l l′ (Next end)
+        goes-on l′ k q d =
+            let o = walked-on s i at r reads l₁ (goes-sound i h) name end e (same v (nameOf (12 + i))) refl named p valued l′ k q d .walks in
+            record {
+              past = opened .past;
+              inside = opened .inside;
+              room = d .apart .room ∙ same-room;
+              keeps = λ j a. on-test (eqb j i)
+                  (λ u. let z = eqb-true j i u in rw z (keeps s i at end l l₁ l′ l′ o (same-table i (omega arith)) refl))
+                  (λ u. let z = eqb-false j i u in keeps s j at end l l l l′ (other j a (λ w. z (omega (arith, here, w)))) refl (d .apart .others j (omega arith) z ∙ same-table j (omega arith)));
+              others = λ j a b. d .apart .others j b (λ w. omega (arith, w)) ∙ same-table j b;
+              lists = λ from g. rw (d .apart .list) (lists from g);
+            }
 
 -- ---- All tags from a place on.
 pub record SpaceLeft (s : Text) (i from at : ℕ) (l l′ : List ℕ) : Type 0 where
@@ -120,11 +149,18 @@ pub record NamesLeft (s : Text) (from at : ℕ) (l l′ : List ℕ) : Type 0 whe
   pub room : length l′ ≡ length l
   pub spaces : (i : ℕ) → i < 5 → SpaceLeft s i from at l l′
   pub others : (j : ℕ) → 4 < j → j < 7 → tableOf j l′ ≡ tableOf j l
+  pub lists : countIn (listOf l) ≡ 0 → Listing s from (listOf l′) at
 
 module _ (s : Text) (from : ℕ) (l : List ℕ) where
   pub names-first : from ≤ length s → AllSound s l → NamesLeft s from from l l
   names-first h sound =
-      record { inside = h; room = refl; spaces = λ i a. record { sound = sound i a; fills = refl; shorts = refl }; others = λ j a b. refl }
+      record {
+        inside = h;
+        room = refl;
+        spaces = λ i a. record { sound = sound i a; fills = refl; shorts = refl };
+        others = λ j a b. refl;
+        lists = listing-first s from l;
+      }
 
   module _ (at : ℕ) (l′ : List ℕ) (left : NamesLeft s from at l l′) where
     pub names-none : ((i : ℕ) → i < 5 → tagNames s i at ≡ []) → Fills s from l l′ true
@@ -136,6 +172,7 @@ module _ (s : Text) (from : ℕ) (l : List ℕ) where
               let a = left .spaces i h in
               record { shorts = a .shorts ∙ ap (every short) (e i h); sound = a .sound; names = sym (a .fills ∙ ap (filled (limitOf i) (namesIn s (tableOf i l′))) (e i h)) };
           others = left .others;
+          lists = λ z. listing-led s from l′ at (left .lists z);
         }
 
     pub names-end : length s ≤ at → Fills s from l l′ true
@@ -165,6 +202,7 @@ module _ (s : Text) (from : ℕ) (l : List ℕ) where
               room = o .room ∙ left .room;
               spaces = λ i h. record { sound = o .keeps i h .sound; fills = left .spaces i h .fills ∙ o .keeps i h .fills; shorts = left .spaces i h .shorts ∙ o .keeps i h .shorts };
               others = λ j a b. o .others j a b ∙ left .others j a b;
+              lists = λ z. o .lists from (left .lists z);
             }
 
 -- ---- Empty spaces.
@@ -186,8 +224,13 @@ empty-on l l′ l″ i h left e =
           (λ u. let z = eqb-false j i u in rw (e .apart .others j (omega arith) z) (left .emptied j (omega (arith, z))));
     }
 
-pub empty-end : (l l′ : List ℕ) (i : ℕ) → 7 ≤ i → EmptyLeft l l′ i → AllEmptied l l′
-empty-end l l′ i h left = record { room = left .room; emptied = λ j a. left .emptied j (omega arith) }
+pub empty-end : (l l′ : List ℕ) (i : ℕ) → length l ≡ scratchWords → 7 ≤ i → EmptyLeft l l′ i → AllEmptied l (set l′ listPlace 0)
+empty-end l l′ i room h left =
+    record {
+      room = length-set l′ listPlace 0 ∙ left .room;
+      emptied = λ j a. rw (table-kept j a l′ listPlace 0 (omega arith)) (left .emptied j (omega arith));
+      unlisted = count-at (set l′ listPlace 0) ∙ getD-set-same l′ listPlace 0 0 (omega (arith, left .room, room));
+    }
 
 -- ---- Both texts.
 
@@ -260,9 +303,12 @@ module _ (s t : Text) (from : ℕ) (same-tags : tags s ≡ walkAt s from) where
           pub all-held : Held s t (allNames s t) l₄
           all-held = held s t l₄ (templates .apart .room ∙ tasks .apart .room ∙ filled-tags .room ∙ emptied .room ∙ room) tags-held lines-held
 
+          pub all-listed : Leads s (listOf l₄) 0 from
+          all-listed = rw (templates .apart .list, tasks .apart .list) (filled-tags .lists (emptied .unlisted))
+
 -- what the last call answers
 module _ (s t : Text) (from : ℕ) (same-tags : tags s ≡ walkAt s from) (l₀ l₁ l₂ l₃ l₄ : List ℕ) (room : length l₀ ≡ scratchWords) (emptied : AllEmptied l₀ l₁)
     (filled-tags : AllFilled s from l₁ l₂) (tasks : DeclaresAll t 5 (lineNames t 5 0) l₂ l₃ true) where
-  pub named-all : (r : Bool) → DeclaresAll t 6 (lineNames t 6 0) l₃ l₄ r → Names s t l₄ r
-  named-all true d = all-held s t from same-tags l₀ l₁ l₂ room emptied filled-tags l₃ tasks l₄ d
+  pub named-all : (r : Bool) → DeclaresAll t 6 (lineNames t 6 0) l₃ l₄ r → Names s t from l₄ r
+  named-all true d = (all-held s t from same-tags l₀ l₁ l₂ room emptied filled-tags l₃ tasks l₄ d, all-listed s t from same-tags l₀ l₁ l₂ room emptied filled-tags l₃ tasks l₄ d)
   named-all false d = long-line s t from same-tags 6 l₃ l₄ (omega arith) (omega arith) d

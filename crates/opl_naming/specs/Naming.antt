@@ -1,4 +1,4 @@
--- The names of all seven spaces in the scratch, by one walk over the tags and the task lines.
+-- The names of all seven spaces in the scratch, by one walk over the tags and the task lines, and the list of the tags, by the same walk.
 use Prim.Native.Nat.{ℕ, _≤_, _<_}
 use mathlib.Core.Path.{_≡_}
 use mathlib.Core.Bool.{Bool, true, false, cond}
@@ -9,11 +9,12 @@ use Rattle.paper_lower.specs.Lists.{every}
 use Rattle.paper_opl.specs.Reading.{Text}
 use Rattle.paper_opl.specs.Walk.{tags}
 use Rattle.opl_names.specs.Table.{namesIn, Sound, Emptied}
-use Rattle.opl_spaces.specs.Spaces.{limitOf, tableOf}
+use Rattle.opl_spaces.specs.Spaces.{limitOf, tableOf, listOf}
 use Rattle.opl_declared.specs.Names.{declaredAt, short, tagNames, lineNames, filled}
 use Rattle.opl_declared.specs.declared.Walked.{Walked}
 use Rattle.opl_declared.specs.declared.Walked.the-variants.{Next, Long, Done}
 use Rattle.opl_said.specs.Said.{allNames, Held}
+use Rattle.opl_turns.specs.Listing.{countIn, Leads, Listing}
 
 -- ---- One tag, for each of the five spaces.
 pub record Keeps (s : Text) (i at n : ℕ) (l l′ : List ℕ) : Type 0 where
@@ -27,6 +28,7 @@ pub record Onwards (s : Text) (at n : ℕ) (l l′ : List ℕ) : Type 0 where
   pub room : length l′ ≡ length l
   pub keeps : (i : ℕ) → i < 5 → Keeps s i at n l l′
   pub others : (j : ℕ) → 4 < j → j < 7 → tableOf j l′ ≡ tableOf j l
+  pub lists : (from : ℕ) → Listing s from (listOf l) at → Listing s from (listOf l′) n
 
 -- a name that is too long
 pub record LongFrom (s : Text) (at : ℕ) : Type 0 where
@@ -53,15 +55,17 @@ pub record AllFilled (s : Text) (from : ℕ) (l l′ : List ℕ) : Type 0 where
   pub room : length l′ ≡ length l
   pub each-space : (i : ℕ) → i < 5 → Filled s i from l l′
   pub others : (j : ℕ) → 4 < j → j < 7 → tableOf j l′ ≡ tableOf j l
+  pub lists : countIn (listOf l) ≡ 0 → Leads s (listOf l′) 0 from
 
 abbrev pub Fills : Text → ℕ → List ℕ → List ℕ → Bool → Type 0
 Fills s from l l′ true = AllFilled s from l l′
 Fills s from l l′ false = LongFrom s from
 
--- ---- No names in any space.
+-- ---- No names in any space, and no tags in the list.
 pub record AllEmptied (l l′ : List ℕ) : Type 0 where
   pub room : length l′ ≡ length l
   pub emptied : (i : ℕ) → i < 7 → Emptied (limitOf i) (tableOf i l′)
+  pub unlisted : countIn (listOf l′) ≡ 0
 
 -- ---- Both texts.
 
@@ -74,6 +78,7 @@ pub record LongName (s t : Text) : Type 0 where
   pub of-seven : space < 7
   pub long : every short (declaredOf s t space) ≡ false
 
-abbrev pub Names : Text → Text → List ℕ → Bool → Type 0
-Names s t l true = Held s t (allNames s t) l
-Names s t l false = LongName s t
+-- the tags of the first begin at `from`
+abbrev pub Names : Text → Text → ℕ → List ℕ → Bool → Type 0
+Names s t from l true = Held s t (allNames s t) l × Leads s (listOf l) 0 from
+Names s t from l false = LongName s t

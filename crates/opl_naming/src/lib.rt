@@ -12,12 +12,14 @@ ghost use Rattle.opl_declared.specs.Names.{attributeOf, accepted};
 ghost use Rattle.opl_naming.specs.Naming.{AllSound, Goes, Fills, AllEmptied, Names};
 use opl_declared::Walked;
 use opl_declared::declare_lines;
+use opl_spaces::LIST;
 use opl_spaces::declare;
 use opl_tags::Tag;
 use opl_tags::read_tag;
 use opl_tags::value_of;
 use opl_turns::digit;
 use opl_turns::element;
+use opl_turns::enter;
 
 // The attribute that declares a name of the space.
 fn attribute(i: usize) -> u64
@@ -27,7 +29,7 @@ fn attribute(i: usize) -> u64
     digit(0x3a39383635, i as u64)
 }
 
-// The next tag from `at` on: if it declares a name, that name goes into its space.
+// The next tag from `at` on: it is listed, and if it declares a name, that name goes into its space.
 fn declare_tag(s: &[u8], w: &mut [u64], at: usize) -> Walked
     requires { ⌜ (length (now w) ≡ scratchWords) × (AllSound (now s) (now w) × (at ≤ length (now s))) ⌝ }
     ensures { λ r. ⌜ Goes (now (s .entry)) at (now (w .entry)) (now (w .exit)) r ⌝ }
@@ -37,7 +39,9 @@ fn declare_tag(s: &[u8], w: &mut [u64], at: usize) -> Walked
         Tag::Halt => Walked::Done,
         Tag::End(next) => Walked::Next(next),
         Tag::Start { name, end } => {
-            let id = element(&s[name..end]) as usize;
+            let e = element(&s[name..end]);
+            enter(s, w, end, e);
+            let id = e as usize;
             if id < 12 {
                 return Walked::Next(end);
             }
@@ -80,7 +84,7 @@ fn declare_tags(s: &[u8], w: &mut [u64], from: usize) -> bool
     true
 }
 
-// No names in any space, whatever the words were.
+// No names in any space and no tags in the list, whatever the words were.
 fn empty_all(w: &mut [u64])
     requires { ⌜ length (now w) ≡ scratchWords ⌝ }
     ensures { λ _. ⌜ AllEmptied (now (w .entry)) (now (w .exit)) ⌝ }
@@ -90,12 +94,13 @@ fn empty_all(w: &mut [u64])
         opl_spaces::empty(w, i);
         i += 1;
     }
+    w[LIST] = 0;
 }
 
-// The names of two accepted texts, the tags of the first beginning at `from`. False where a name is too long.
+// The names of two accepted texts, and the list of the tags of the first, which begin at `from`. False where a name is too long.
 pub fn name_all(s: &[u8], t: &[u8], w: &mut [u64], from: usize) -> bool
     requires { ⌜ (length (now w) ≡ scratchWords) × ((from ≤ length (now s)) × ((tags (now s) ≡ walkAt (now s) from) × (accepted (lines (length (now t)) (now t)) ≡ true))) ⌝ }
-    ensures { λ r. ⌜ Names (now (s .entry)) (now (t .entry)) (now (w .exit)) r ⌝ }
+    ensures { λ r. ⌜ Names (now (s .entry)) (now (t .entry)) from (now (w .exit)) r ⌝ }
 {
     empty_all(w);
     if !declare_tags(s, w, from) {

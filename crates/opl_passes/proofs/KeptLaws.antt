@@ -6,7 +6,7 @@ use native.Mathlib.Omega.{arith}
 use lib.Dec.{eqb, leb}
 use lib.ListN.{length, set, length-set}
 use lib.Seq.{getD-set-same, getD-set-other}
-use borrow.Author.Tests.{eqb-true, eqb-false, lt-leb}
+use borrow.Author.Tests.{eqb-true, eqb-false, leb-false, lt-leb}
 use Rattle.paper_lower.specs.Lists.{Maybe, upd}
 use Rattle.paper_lower.specs.Lists.Maybe.{just}
 use Rattle.paper_lower.specs.Records.{Bytes, Record}
@@ -19,12 +19,12 @@ use Rattle.paper_opl.specs.Filling.{putAt, valued, fill, tally}
 use Rattle.paper_opl.proofs.Inversion.{on-test}
 use Rattle.opl_output.specs.Output.{twoWords, lowWord, recordOf}
 use Rattle.opl_output.proofs.Words.{words-put}
-use Rattle.opl_spaces.specs.Spaces.{tableWords, keptRoom, scratchWords}
-use Rattle.opl_spaces.proofs.SpaceLaws.{table-kept}
+use Rattle.opl_spaces.specs.Spaces.{tableWords, keptRoom, scratchWords, listOf}
+use Rattle.opl_spaces.proofs.SpaceLaws.{table-kept, list-kept}
 use Rattle.opl_said.specs.Said.{Held, SaysIt, Small}
 use Rattle.opl_said.specs.declared.Fields.{Fields}
 use Rattle.opl_said.specs.declared.Fields.the-variants.{Numbers}
-use Rattle.opl_turns.specs.Turning.{contextOf, tagsAt, Passes, Tells, sayingAt}
+use Rattle.opl_turns.specs.Turning.{contextOf, tagsAt, Led, Passes, Tells, sayingAt}
 use Rattle.opl_turns.specs.declared.Cursor.{Cursor}
 use Rattle.opl_passes.specs.Kept.{lowAt, highAt, kindIn, keptWith, nextTo, writtenTo, KindsTo, KeptLeft, Keeps, AllKept, Fitting}
 
@@ -46,6 +46,13 @@ module _ (s t : Text) (ns : Names) where
       on-test (leb keptRoom j)
       (λ q. rw q h)
       (λ q. rw q (held-set (set l (tableWords + 2 * j) low) (tableWords + 2 * j + 1) high (omega arith) (held-set l (tableWords + 2 * j) low (omega arith) h)))
+
+list-still : (l : List ℕ) (j low high : ℕ) → listOf (keptWith l j low high) ≡ listOf l
+unfolding keptWith
+list-still l j low high =
+    on-test (leb keptRoom j) (λ q. rw q)
+    (λ q. let h = leb-false keptRoom j q in
+    rw q (list-kept (set l (tableWords + 2 * j) low) (tableWords + 2 * j + 1) high (omega (arith, h)) ∙ list-kept l (tableWords + 2 * j) low (omega (arith, h))))
 
 module _ (l : List ℕ) (j low high : ℕ) (room : length l ≡ scratchWords) (here : j < keptRoom) where
   fresh : (lowAt (keptWith l j low high) j ≡ low) × (highAt (keptWith l j low high) j ≡ high)
@@ -116,29 +123,31 @@ module _ (l : List ℕ) (j low high : ℕ) (room : length l ≡ scratchWords) (h
 
 -- ---- From one cursor to the next.
 module _ (ns : Names) (s t : Text) (c : Cursor) (j : ℕ) (w : List ℕ) (held : Held s t ns w) (few : j ≤ c .at) where
-  pub kept-passed : (n : Cursor) → Passes s c n → Keeps ns s t c n j j w w
-  kept-passed n p =
+  pub kept-passed : (n : Cursor) → Passes s c n → Led s (listOf w) n → Keeps ns s t c n j j w w
+  kept-passed n p led =
       record {
         held = held;
+        led = led;
+        list = refl;
         few = omega (arith, few, p .steps .past);
         goes-on = λ ts before room.
             let b = before room in
             record { kinds = b .kinds; tallies = λ f. b .tallies f ∙ p .tallies (nextTo w j f); fills = λ f out. b .fills f out ∙ p .fills ns (nextTo w j f) (writtenTo w j f out) };
       }
 
-  module _ (kind number end : ℕ) (n : Cursor) (tells : Tells s c kind number end n) (f : Fields) (says : SaysIt kind (recordSaid ns (sayingAt s kind number end (n .at))) f)
+  module _ (kind number end : ℕ) (n : Cursor) (tells : Tells s c kind number end n) (f : Fields) (says : SaysIt kind (recordSaid ns (sayingAt s kind number end)) f)
       (a₀ a b d m : ℕ) (e : f ≡ Numbers a₀ a b d m)
     where
       small : Small a₀ a b d
       small = rw e at (says .fits)
 
-      said-is : just (recordOf kind a₀ a b d m) ≡ recordSaid ns (sayingAt s kind number end (n .at))
+      said-is : just (recordOf kind a₀ a b d m) ≡ recordSaid ns (sayingAt s kind number end)
       said-is = rw e at (says .says)
 
       kind-low : lowWord kind a₀ a b d % 256 ≡ kind
       kind-low = omega (arith, tells .small)
 
-      puts : (out : Bytes) (p : ℕ) → putAt out p (valued (recordSaid ns (sayingAt s kind number end (n .at)))) ≡ twoWords out p (lowWord kind a₀ a b d) m
+      puts : (out : Bytes) (p : ℕ) → putAt out p (valued (recordSaid ns (sayingAt s kind number end))) ≡ twoWords out p (lowWord kind a₀ a b d) m
       puts out p =
           ap (λ (r : Maybe Record). putAt out p (valued r)) (sym said-is)
           ∙ sym (words-put out p kind a₀ a b d m (omega (arith, tells .small)) (small .n-fits) (small .a-fits) (small .b-fits) (small .c-fits))
@@ -154,11 +163,13 @@ module _ (ns : Names) (s t : Text) (c : Cursor) (j : ℕ) (w : List ℕ) (held :
                 ∙ ap (λ (g : ℕ → ℕ). fill ns (contextOf n) g (tagsAt s n) (writtenTo (keptWith w j (lowWord kind a₀ a b d) m) (j + 1) f out)) (next-new w j (lowWord kind a₀ a b d) m (held .room) here kind kind-low f);
           }
 
-      pub kept-on : (w′ : List ℕ) → w′ ≡ keptWith w j (lowWord kind a₀ a b d) m → Keeps ns s t c n j (j + 1) w w′
-      kept-on w′ q =
+      pub kept-on : (w′ : List ℕ) → w′ ≡ keptWith w j (lowWord kind a₀ a b d) m → Led s (listOf w) n → Keeps ns s t c n j (j + 1) w w′
+      kept-on w′ q led =
           rw q
           (record {
             held = held-kept s t ns w j (lowWord kind a₀ a b d) m held;
+            led = rw (list-still w j (lowWord kind a₀ a b d) m) led;
+            list = list-still w j (lowWord kind a₀ a b d) m;
             few = omega (arith, few, tells .steps .past);
             goes-on = λ ts before room. left ts (before (omega arith)) (omega arith);
           })

@@ -20,12 +20,13 @@ use Rattle.paper_opl.specs.Filling.{putAt, fill, tally}
 use Rattle.paper_opl.proofs.Inversion.{on-test}
 use Rattle.paper_opl.proofs.Tallied.{tally-is}
 use Rattle.opl_output.specs.Output.{twoWords, Fits, recordOf}
-use Rattle.opl_spaces.specs.Spaces.{keptRoom}
+use Rattle.opl_spaces.specs.Spaces.{keptRoom, listOf}
 use Rattle.opl_tags.specs.Tags.{nextTags, walkAt}
 use Rattle.opl_said.specs.Said.{Held, SaysIt, Small}
 use Rattle.opl_said.specs.declared.Fields.{Fields}
 use Rattle.opl_said.specs.declared.Fields.the-variants.{Numbers, Unnamed}
-use Rattle.opl_turns.specs.Turning.{contextOf, tagsAt, Stood, partitionings, Passes, Tells, SmallTag, sayingAt}
+use Rattle.opl_turns.specs.Listing.{Leads}
+use Rattle.opl_turns.specs.Turning.{contextOf, tagsAt, Stood, Led, partitionings, Passes, Tells, SmallTag, sayingAt}
 use Rattle.opl_turns.specs.declared.Cursor.{Cursor}
 use Rattle.opl_passes.specs.Tags.{of, allThere, thereFrom, tallied, Counts, Checks, ChecksAll, TagsAre, begins, Begun, TagsFit, FitsAll, Puts, Writes, PutsKept}
 use Rattle.opl_passes.specs.Kept.{lowAt, highAt, kindIn, nextTo, writtenTo, KeptLeft, Keeps, AllKept, Keeping, keptOf, Fitting}
@@ -62,16 +63,16 @@ module _ (ns : Names) (s : Text) (c : Cursor) where
         room = refl;
       }
 
-  module _ (kind number end : ℕ) (n : Cursor) (t : Tells s c kind number end n) (f : Fields) (says : SaysIt kind (recordSaid ns (sayingAt s kind number end (n .at))) f) where
+  module _ (kind number end : ℕ) (n : Cursor) (t : Tells s c kind number end n) (f : Fields) (says : SaysIt kind (recordSaid ns (sayingAt s kind number end)) f) where
     pub told-none : f ≡ Unnamed → thereFrom ns s c ≡ false
     unfolding every holds
-    told-none e = let z : none ≡ recordSaid ns (sayingAt s kind number end (n .at)) = rw e at (says .says) in rw (t .says, ← z)
+    told-none e = let z : none ≡ recordSaid ns (sayingAt s kind number end) = rw e at (says .says) in rw (t .says, ← z)
 
     pub all-said : f ≡ Unnamed → thereFrom ns s c ≡ true → {R : Type 0} → R
     all-said e all = absurd (false≢true (sym (told-none e) ∙ all))
 
     module _ (a₀ a b d m : ℕ) (e : f ≡ Numbers a₀ a b d m) where
-      said-is : just (recordOf kind a₀ a b d m) ≡ recordSaid ns (sayingAt s kind number end (n .at))
+      said-is : just (recordOf kind a₀ a b d m) ≡ recordSaid ns (sayingAt s kind number end)
       said-is = rw e at (says .says)
 
       there-is : thereFrom ns s c ≡ thereFrom ns s n
@@ -176,7 +177,7 @@ module _ (ns : Names) (s : Text) (from : ℕ) (l₀ : List ℕ) where
   abbrev ts : List Tag
   ts = walkAt s from
 
-  pub check-first : from ≤ length s → Every SmallTag ts → ((k : ℕ) → of l₀ k ≡ 0) → CheckLeft ns s ts l₀ (record { at = from; sets = 9; parts = 0 }) l₀
+  pub check-first : from ≤ length s → Every SmallTag ts → ((k : ℕ) → of l₀ k ≡ 0) → CheckLeft ns s ts l₀ (record { at = from; entry = 0; sets = 9; parts = 0 }) l₀
   check-first h small zeros =
       record {
         stood = record { inside = h; few = omega arith; low = omega arith; small = small };
@@ -224,42 +225,46 @@ module _ (ns : Names) (s : Text) (from : ℕ) (l₀ : List ℕ) where
         }
 
 -- with the records that are kept
-pub record CheckKept (ns : Names) (s t : Text) (ts : List Tag) (l₀ : List ℕ) (c : Cursor) (j : ℕ) (l w : List ℕ) : Type 0 where
+pub record CheckKept (ns : Names) (s t : Text) (ts : List Tag) (l₀ w₀ : List ℕ) (c : Cursor) (j : ℕ) (l w : List ℕ) : Type 0 where
   pub left : CheckLeft ns s ts l₀ c l
   pub held : Held s t ns w
+  pub led : Led s (listOf w) c
+  pub list : listOf w ≡ listOf w₀
   pub few : j ≤ c .at
   pub kept : j ≤ keptRoom → KeptLeft ns s ts c w j
 
-module _ (ns : Names) (s t : Text) (from : ℕ) (l₀ : List ℕ) where
-  pub kept-first : (w : List ℕ) → from ≤ length s → Every SmallTag (walkAt s from) → ((k : ℕ) → of l₀ k ≡ 0) → Held s t ns w
-      → CheckKept ns s t (walkAt s from) l₀ (record { at = from; sets = 9; parts = 0 }) 0 l₀ w
+module _ (ns : Names) (s t : Text) (from : ℕ) (l₀ w₀ : List ℕ) where
+  pub kept-first : from ≤ length s → Leads s (listOf w₀) 0 from → Every SmallTag (walkAt s from) → ((k : ℕ) → of l₀ k ≡ 0) → Held s t ns w₀
+      → CheckKept ns s t (walkAt s from) l₀ w₀ (record { at = from; entry = 0; sets = 9; parts = 0 }) 0 l₀ w₀
   unfolding nextTo writtenTo
-  kept-first w h small zeros held =
+  kept-first h leads small zeros held =
       record {
         left = check-first ns s from l₀ h small zeros;
         held = held;
+        led = leads;
+        list = refl;
         few = omega arith;
         kept = λ _. record { kinds = λ i q. absurd (omega arith); tallies = λ f. refl; fills = λ f out. refl };
       }
 
-  module _ (c : Cursor) (j : ℕ) (l w : List ℕ) (k : CheckKept ns s t (walkAt s from) l₀ c j l w) where
-    tags-are : (l′ w′ : List ℕ) (b : Bool) → ChecksAll ns (walkAt s from) l₀ l′ b → Held s t ns w′ → Keeping ns (walkAt s from) w′ j → TagsAre ns s t (walkAt s from) l₀ l′ w′ (keptOf b j)
-    tags-are l′ w′ true a h q = (a, (h, q))
-    tags-are l′ w′ false a h q = a
+  module _ (c : Cursor) (j : ℕ) (l w : List ℕ) (k : CheckKept ns s t (walkAt s from) l₀ w₀ c j l w) where
+    tags-are : (l′ : List ℕ) (b : Bool) → ChecksAll ns (walkAt s from) l₀ l′ b → Keeping ns (walkAt s from) w j → TagsAre ns s t (walkAt s from) l₀ l′ w₀ w (keptOf b j)
+    tags-are l′ true a q = (a, ((k .held, k .list), q))
+    tags-are l′ false a q = a
 
     over : tagsAt s c ≡ [] → Keeping ns (walkAt s from) w j
     over e room = all-kept ns s (walkAt s from) c w j e (k .kept room)
 
-    pub kept-end : (x : Judged) → x ≡ keptOf (leb (c .parts) 16) j → length s ≤ c .at → TagsAre ns s t (walkAt s from) l₀ l w x
-    kept-end x q h = rw q (tags-are l w (leb (c .parts) 16) (check-end ns s from l₀ c l (k .left) h) (k .held) (over (no-tags s (c .at) h)))
+    pub kept-end : (x : Judged) → x ≡ keptOf (leb (c .parts) 16) j → length s ≤ c .at → TagsAre ns s t (walkAt s from) l₀ l w₀ w x
+    kept-end x q h = rw q (tags-are l (leb (c .parts) 16) (check-end ns s from l₀ c l (k .left) h) (over (no-tags s (c .at) h)))
 
     module _ (r : Checked) (l′ w′ : List ℕ) (checks : Checks ns s t c j l l′ w w′ r) where
-      pub kept-done : (x : Judged) → x ≡ keptOf (leb (c .parts) 16) j → r ≡ Done → TagsAre ns s t (walkAt s from) l₀ l′ w′ x
+      pub kept-done : (x : Judged) → x ≡ keptOf (leb (c .parts) 16) j → r ≡ Done → TagsAre ns s t (walkAt s from) l₀ l′ w₀ w′ x
       kept-done x q e =
           let z : Checks ns s t c j l l′ w w′ Done = rw e at checks in
-          rw (q, z .1 .1) (tags-are l′ w (leb (c .parts) 16) (check-over ns s from l₀ c l (k .left) l′ (z .0) (z .1 .0)) (k .held) (over (z .0)))
+          rw (q, z .1 .1) (tags-are l′ (leb (c .parts) 16) (check-over ns s from l₀ c l (k .left) l′ (z .0) (z .1 .0)) (over (z .0)))
 
-      pub kept-unnamed : r ≡ Nameless → TagsAre ns s t (walkAt s from) l₀ l′ w′ NoneSaid
+      pub kept-unnamed : r ≡ Nameless → TagsAre ns s t (walkAt s from) l₀ l′ w₀ w′ NoneSaid
       kept-unnamed e = let z : Checks ns s t c j l l′ w w′ Nameless = rw e at checks in check-unnamed ns s from l₀ c l (k .left) l′ z
 
       module _ (n : Cursor) (i : ℕ) (e : r ≡ Next n i) where
@@ -269,29 +274,33 @@ module _ (ns : Names) (s t : Text) (from : ℕ) (l₀ : List ℕ) where
         pub kept-past : (c .at < n .at) × (n .at ≤ length s)
         kept-past = (on-it .0 .steps .past, on-it .0 .steps .stood .inside)
 
-        pub kept-again : CheckKept ns s t (walkAt s from) l₀ n i l′ w′
+        pub kept-again : CheckKept ns s t (walkAt s from) l₀ w₀ n i l′ w′
         kept-again =
             record {
               left = check-on ns s from l₀ c l (k .left) n l′ (on-it .0);
               held = on-it .1 .held;
+              led = on-it .1 .led;
+              list = on-it .1 .list ∙ k .list;
               few = on-it .1 .few;
               kept = on-it .1 .goes-on (walkAt s from) (k .kept);
             }
 
-pub record WriteLeft (ns : Names) (s : Text) (ts : List Tag) (l₀ : List ℕ) (out₀ : Bytes) (c : Cursor) (l : List ℕ) (out : Bytes) : Type 0 where
+pub record WriteLeft (ns : Names) (s : Text) (m : List ℕ) (ts : List Tag) (l₀ : List ℕ) (out₀ : Bytes) (c : Cursor) (l : List ℕ) (out : Bytes) : Type 0 where
   pub stood : Stood s c
+  pub led : Led s m c
   pub there-all : thereFrom ns s c ≡ true
   pub fit : TagsFit s c l out
   pub fills : fill ns start (of l₀) ts out₀ ≡ fill ns (contextOf c) (of l) (tagsAt s c) out
   pub room : length out ≡ length out₀
   pub kinds : length l ≡ length l₀
 
-module _ (ns : Names) (s : Text) (from : ℕ) (l₀ : List ℕ) (out₀ : Bytes) where
-  pub write-first : from ≤ length s → Every SmallTag (walkAt s from) → allThere ns start (walkAt s from) ≡ true → FitsAll (walkAt s from) l₀ out₀
-      → WriteLeft ns s (walkAt s from) l₀ out₀ (record { at = from; sets = 9; parts = 0 }) l₀ out₀
-  write-first h small all fit =
+module _ (ns : Names) (s : Text) (m : List ℕ) (from : ℕ) (l₀ : List ℕ) (out₀ : Bytes) where
+  pub write-first : from ≤ length s → Leads s m 0 from → Every SmallTag (walkAt s from) → allThere ns start (walkAt s from) ≡ true → FitsAll (walkAt s from) l₀ out₀
+      → WriteLeft ns s m (walkAt s from) l₀ out₀ (record { at = from; entry = 0; sets = 9; parts = 0 }) l₀ out₀
+  write-first h leads small all fit =
       record {
         stood = record { inside = h; few = omega arith; low = omega arith; small = small };
+        led = leads;
         there-all = all;
         fit = fit;
         fills = refl;
@@ -299,7 +308,7 @@ module _ (ns : Names) (s : Text) (from : ℕ) (l₀ : List ℕ) (out₀ : Bytes)
         kinds = refl;
       }
 
-  module _ (c : Cursor) (l : List ℕ) (out : Bytes) (left : WriteLeft ns s (walkAt s from) l₀ out₀ c l out) where
+  module _ (c : Cursor) (l : List ℕ) (out : Bytes) (left : WriteLeft ns s m (walkAt s from) l₀ out₀ c l out) where
     pub write-none : tagsAt s c ≡ [] → out ≡ fill ns start (of l₀) (walkAt s from) out₀
     unfolding fill
     write-none e = sym (left .fills ∙ rw e)
@@ -307,16 +316,17 @@ module _ (ns : Names) (s : Text) (from : ℕ) (l₀ : List ℕ) (out₀ : Bytes)
     pub write-end : length s ≤ c .at → out ≡ fill ns start (of l₀) (walkAt s from) out₀
     write-end h = write-none (no-tags s (c .at) h)
 
-    pub write-ended : (r : Wrote) (l′ : List ℕ) (out′ : Bytes) → Writes ns s c l l′ out out′ r → r ≡ Ended → out′ ≡ fill ns start (of l₀) (walkAt s from) out₀
-    write-ended r l′ out′ w e = let z : Writes ns s c l l′ out out′ Ended = rw e at w in z .1 ∙ write-none (z .0)
+    pub write-ended : (r : Wrote) (l′ : List ℕ) (out′ : Bytes) → Writes ns s m c l l′ out out′ r → r ≡ Ended → out′ ≡ fill ns start (of l₀) (walkAt s from) out₀
+    write-ended r l′ out′ w e = let z : Writes ns s m c l l′ out out′ Ended = rw e at w in z .1 ∙ write-none (z .0)
 
     pub write-past : (n : Cursor) (l′ : List ℕ) (out′ : Bytes) → Puts ns s c n l l′ out out′ → (c .at < n .at) × (n .at ≤ length s)
     write-past n l′ out′ p = (p .steps .past, p .steps .stood .inside)
 
-    pub write-on : (n : Cursor) (l′ : List ℕ) (out′ : Bytes) → Puts ns s c n l l′ out out′ → WriteLeft ns s (walkAt s from) l₀ out₀ n l′ out′
-    write-on n l′ out′ p =
+    pub write-on : (n : Cursor) (l′ : List ℕ) (out′ : Bytes) → Puts ns s c n l l′ out out′ → Led s m n → WriteLeft ns s m (walkAt s from) l₀ out₀ n l′ out′
+    write-on n l′ out′ p led =
         record {
           stood = p .steps .stood;
+          led = led;
           there-all = p .there-too;
           fit = λ k a b. let f = left .fit k a b in let u = ap (λ (g : ℕ → ℕ). g k) (p .tallies) in let v = p .room in omega arith;
           fills = left .fills ∙ p .fills;

@@ -14,9 +14,9 @@ use Rattle.paper_opl.specs.Naming.{Names}
 use Rattle.paper_opl.specs.Walk.{start}
 use Rattle.paper_opl.specs.Filling.{fill, tally}
 use Rattle.opl_output.specs.Output.{twoWords}
-use Rattle.opl_spaces.specs.Spaces.{tableWords, keptRoom}
+use Rattle.opl_spaces.specs.Spaces.{tableWords, keptRoom, listOf}
 use Rattle.opl_said.specs.Said.{Held}
-use Rattle.opl_turns.specs.Turning.{contextOf, tagsAt}
+use Rattle.opl_turns.specs.Turning.{contextOf, tagsAt, Led}
 use Rattle.opl_turns.specs.declared.Cursor.{Cursor}
 use Rattle.opl_passes.specs.declared.Judged.{Judged}
 use Rattle.opl_passes.specs.declared.Judged.the-variants.{Records, Nameless}
@@ -56,6 +56,8 @@ pub record KeptLeft (ns : Names) (s : Text) (ts : List Tag) (c : Cursor) (w : Li
 -- from one cursor to the next
 pub record Keeps (ns : Names) (s t : Text) (c n : Cursor) (j i : ℕ) (w w′ : List ℕ) : Type 0 where
   pub held : Held s t ns w′
+  pub led : Led s (listOf w′) n
+  pub list : listOf w′ ≡ listOf w
   pub few : i ≤ n .at
   pub goes-on : (ts : List Tag) → (j ≤ keptRoom → KeptLeft ns s ts c w j) → i ≤ keptRoom → KeptLeft ns s ts n w′ i
 

@@ -14,7 +14,8 @@ use Rattle.paper_opl.specs.Walk.{called, Context, start, sayings, recordSaid}
 use Rattle.paper_opl.specs.Filling.{fill, tally}
 use Rattle.opl_output.specs.Output.{twoWords}
 use Rattle.opl_said.specs.Said.{Held}
-use Rattle.opl_turns.specs.Turning.{contextOf, tagsAt, Steps}
+use Rattle.opl_spaces.specs.Spaces.{listOf}
+use Rattle.opl_turns.specs.Turning.{contextOf, tagsAt, Led, Steps}
 use Rattle.opl_turns.specs.declared.Cursor.{Cursor}
 use Rattle.opl_passes.specs.declared.Checked.{Checked}
 use Rattle.opl_passes.specs.declared.Checked.the-variants.{Next, Unnamed, Done}
@@ -60,9 +61,9 @@ pub record ChecksAll (ns : Names) (ts : List Tag) (l l′ : List ℕ) (r : Bool)
   pub counts : r ≡ true → of l′ ≡ tally start (of l) ts
   pub room : r ≡ true → length l′ ≡ length l
 
-abbrev pub TagsAre : Names → Text → Text → List Tag → List ℕ → List ℕ → List ℕ → Judged → Type 0
-TagsAre ns s t ts l l′ w′ (Records j) = ChecksAll ns ts l l′ true × (Held s t ns w′ × Keeping ns ts w′ j)
-TagsAre ns s t ts l l′ w′ Nameless = ChecksAll ns ts l l′ false
+abbrev pub TagsAre : Names → Text → Text → List Tag → List ℕ → List ℕ → List ℕ → List ℕ → Judged → Type 0
+TagsAre ns s t ts l l′ w w′ (Records j) = ChecksAll ns ts l l′ true × ((Held s t ns w′ × (listOf w′ ≡ listOf w)) × Keeping ns ts w′ j)
+TagsAre ns s t ts l l′ w w′ Nameless = ChecksAll ns ts l l′ false
 
 -- ---- Where each kind begins.
 
@@ -99,9 +100,10 @@ pub record Puts (ns : Names) (s : Text) (c n : Cursor) (l l′ : List ℕ) (out 
   pub room : length out′ ≡ length out
   pub kinds : length l′ ≡ length l
 
-abbrev pub Writes : Names → Text → Cursor → List ℕ → List ℕ → Bytes → Bytes → Wrote → Type 0
-Writes ns s c l l′ out out′ (Onward n) = Puts ns s c n l l′ out out′
-Writes ns s c l l′ out out′ Ended = (tagsAt s c ≡ []) × (out′ ≡ out)
+-- by a list of the tags
+abbrev pub Writes : Names → Text → List ℕ → Cursor → List ℕ → List ℕ → Bytes → Bytes → Wrote → Type 0
+Writes ns s m c l l′ out out′ (Onward n) = Puts ns s c n l l′ out out′ × Led s m n
+Writes ns s m c l l′ out out′ Ended = (tagsAt s c ≡ []) × (out′ ≡ out)
 
 -- ---- A record that was kept is written.
 pub record PutsKept (w : List ℕ) (j : ℕ) (l l′ : List ℕ) (out out′ : Bytes) : Type 0 where

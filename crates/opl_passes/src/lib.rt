@@ -9,10 +9,11 @@ ghost use Rattle.paper_lower.specs.Lists.{Every};
 ghost use Rattle.paper_opl.specs.Walk.{start};
 ghost use Rattle.paper_opl.specs.Filling.{fill, fillLines};
 ghost use Rattle.opl_lines.specs.Lines.{Apart, linesIn};
-ghost use Rattle.opl_spaces.specs.Spaces.{keptRoom, scratchWords};
+ghost use Rattle.opl_spaces.specs.Spaces.{keptRoom, scratchWords, listOf};
 ghost use Rattle.opl_tags.specs.Tags.{walkAt};
 ghost use Rattle.opl_said.specs.Said.{allNames, Holds};
-ghost use Rattle.opl_turns.specs.Turning.{Stood, SmallTag};
+ghost use Rattle.opl_turns.specs.Listing.{Leads};
+ghost use Rattle.opl_turns.specs.Turning.{Stood, Led, SmallTag};
 ghost use Rattle.opl_passes.specs.Lines.{linesAt, linesGood, linesThere, Pairs, lineBetween, RowIs, LinesAre, LineWritten, LinesFit};
 ghost use Rattle.opl_passes.specs.Kept.{keptWith, kindIn, writtenTo, keptOf, Keeping, Fitting};
 ghost use Rattle.opl_passes.specs.Tags.{of, allThere, thereFrom, Checks, TagsAre, Sums, TagsFit, Writes, FitsAll, PutsKept};
@@ -188,10 +189,10 @@ fn check_at(
     c: Cursor,
     j: usize,
 ) -> Checked
-    requires { ⌜ Holds (now s) (now t) (now w) × ((Stood (now s) c × (j ≤ c .at)) × ((length (now counts) ≡ 17) × ((k : ℕ) → of (now counts) k ≤ c .at))) ⌝ }
+    requires { ⌜ Holds (now s) (now t) (now w) × (((Stood (now s) c × Led (now s) (listOf (now w)) c) × (j ≤ c .at)) × ((length (now counts) ≡ 17) × ((k : ℕ) → of (now counts) k ≤ c .at))) ⌝ }
     ensures { λ r. ⌜ Checks (allNames (now (s .entry)) (now (t .entry))) (now (s .entry)) (now (t .entry)) c j (now (counts .entry)) (now (counts .exit)) (now (w .entry)) (now (w .exit)) r ⌝ }
 {
-    let x = turn(s, c);
+    let x = turn(s, w, c);
     match x {
         Turned::Done => Checked::Done,
         Turned::Silent(n) => Checked::Next(n, j),
@@ -201,7 +202,7 @@ fn check_at(
             end,
             next,
         } => {
-            let f = said(s, t, w, kind, number, end, next.at);
+            let f = said(s, t, w, kind, number, end, next.entry);
             let Fields::Numbers { n, a, b, c, m } = f else {
                 return Checked::Unnamed;
             };
@@ -233,11 +234,12 @@ pub fn check_tags(
     counts: &mut [usize; 17],
     from: usize,
 ) -> Judged
-    requires { ⌜ Holds (now s) (now t) (now w) × ((from ≤ length (now s)) × (Every SmallTag (walkAt (now s) from) × ((length (now counts) ≡ 17) × ((k : ℕ) → of (now counts) k ≡ 0)))) ⌝ }
-    ensures { λ r. ⌜ TagsAre (allNames (now (s .entry)) (now (t .entry))) (now (s .entry)) (now (t .entry)) (walkAt (now (s .entry)) from) (now (counts .entry)) (now (counts .exit)) (now (w .exit)) r ⌝ }
+    requires { ⌜ Holds (now s) (now t) (now w) × (((from ≤ length (now s)) × Leads (now s) (listOf (now w)) 0 from) × (Every SmallTag (walkAt (now s) from) × ((length (now counts) ≡ 17) × ((k : ℕ) → of (now counts) k ≡ 0)))) ⌝ }
+    ensures { λ r. ⌜ TagsAre (allNames (now (s .entry)) (now (t .entry))) (now (s .entry)) (now (t .entry)) (walkAt (now (s .entry)) from) (now (counts .entry)) (now (counts .exit)) (now (w .entry)) (now (w .exit)) r ⌝ }
 {
     let mut c = Cursor {
         at: from,
+        entry: 0,
         sets: 9,
         parts: 0,
     };
@@ -288,10 +290,10 @@ fn write_at(
     out: &mut [u8],
     c: Cursor,
 ) -> Wrote
-    requires { ⌜ (Holds (now s) (now t) (now w) × Stood (now s) c) × ((thereFrom (allNames (now s) (now t)) (now s) c ≡ true) × ((length (now next) ≡ 17) × TagsFit (now s) c (now next) (now out))) ⌝ }
-    ensures { λ r. ⌜ Writes (allNames (now (s .entry)) (now (t .entry))) (now (s .entry)) c (now (next .entry)) (now (next .exit)) (now (out .entry)) (now (out .exit)) r ⌝ }
+    requires { ⌜ (Holds (now s) (now t) (now w) × (Stood (now s) c × Led (now s) (listOf (now w)) c)) × ((thereFrom (allNames (now s) (now t)) (now s) c ≡ true) × ((length (now next) ≡ 17) × TagsFit (now s) c (now next) (now out))) ⌝ }
+    ensures { λ r. ⌜ Writes (allNames (now (s .entry)) (now (t .entry))) (now (s .entry)) (listOf (now (w .entry))) c (now (next .entry)) (now (next .exit)) (now (out .entry)) (now (out .exit)) r ⌝ }
 {
-    let x = turn(s, c);
+    let x = turn(s, w, c);
     match x {
         Turned::Done => Wrote::Ended,
         Turned::Silent(n) => Wrote::Onward(n),
@@ -301,7 +303,7 @@ fn write_at(
             end,
             next: behind,
         } => {
-            let f = said(s, t, w, kind, number, end, behind.at);
+            let f = said(s, t, w, kind, number, end, behind.entry);
             let Fields::Numbers { n, a, b, c, m } = f else {
                 return Wrote::Ended;
             };
@@ -316,11 +318,12 @@ fn write_at(
 
 // All tags' records from `from` on.
 fn write_tags(s: &[u8], t: &[u8], w: &[u64], next: &mut [usize; 17], out: &mut [u8], from: usize)
-    requires { ⌜ (Holds (now s) (now t) (now w) × ((from ≤ length (now s)) × Every SmallTag (walkAt (now s) from))) × ((allThere (allNames (now s) (now t)) start (walkAt (now s) from) ≡ true) × ((length (now next) ≡ 17) × FitsAll (walkAt (now s) from) (now next) (now out))) ⌝ }
+    requires { ⌜ (Holds (now s) (now t) (now w) × (((from ≤ length (now s)) × Leads (now s) (listOf (now w)) 0 from) × Every SmallTag (walkAt (now s) from))) × ((allThere (allNames (now s) (now t)) start (walkAt (now s) from) ≡ true) × ((length (now next) ≡ 17) × FitsAll (walkAt (now s) from) (now next) (now out))) ⌝ }
     ensures { λ _. ⌜ now (out .exit) ≡ fill (allNames (now (s .entry)) (now (t .entry))) start (of (now (next .entry))) (walkAt (now (s .entry)) from) (now (out .entry)) ⌝ }
 {
     let mut c = Cursor {
         at: from,
+        entry: 0,
         sets: 9,
         parts: 0,
     };
@@ -371,7 +374,7 @@ pub fn write_all(
     from: usize,
     n: usize,
 )
-    requires { ⌜ ((Holds (now s) (now t) (now w) × ((from ≤ length (now s)) × Every SmallTag (walkAt (now s) from))) × ((allThere (allNames (now s) (now t)) start (walkAt (now s) from) ≡ true) × ((length (now next) ≡ 17) × FitsAll (walkAt (now s) from) (now next) (now out)))) × Keeping (allNames (now s) (now t)) (walkAt (now s) from) (now w) n ⌝ }
+    requires { ⌜ ((Holds (now s) (now t) (now w) × (((from ≤ length (now s)) × Leads (now s) (listOf (now w)) 0 from) × Every SmallTag (walkAt (now s) from))) × ((allThere (allNames (now s) (now t)) start (walkAt (now s) from) ≡ true) × ((length (now next) ≡ 17) × FitsAll (walkAt (now s) from) (now next) (now out)))) × Keeping (allNames (now s) (now t)) (walkAt (now s) from) (now w) n ⌝ }
     ensures { λ _. ⌜ now (out .exit) ≡ fill (allNames (now (s .entry)) (now (t .entry))) start (of (now (next .entry))) (walkAt (now (s .entry)) from) (now (out .entry)) ⌝ }
 {
     if KEPT < n {

@@ -5,14 +5,11 @@ use native.Mathlib.Omega.{arith}
 use borrow.Author.Tests.{lt-ltb, le-ltb}
 use Rattle.paper_lower.specs.Lists.{Maybe, listsOpen}
 use Rattle.paper_lower.specs.Lists.Maybe.{none, just}
-use Rattle.paper_opl.specs.Reading.{readingOpen}
-use Rattle.paper_opl.specs.Elements.{elementsOpen}
-use Rattle.paper_opl.specs.Walk.{innerNames}
-use Rattle.opl_table.specs.Numbers.{names, nameOf}
 use Rattle.opl_names.specs.declared.Found.{Found}
 use Rattle.opl_names.specs.declared.Found.the-variants.{At, Nowhere}
 use Rattle.opl_spaces.specs.Spaces.{limitOf}
 use Rattle.opl_spaces.proofs.SpaceLaws.{bounds}
+use Rattle.opl_turns.specs.Meaning.{innerOf}
 use Rattle.opl_said.specs.Said.{NumberIs}
 use Rattle.opl_said.specs.Forms.{Inner, bitsOf, oneSaid, twoSaid, threeSaid, setSaid, partitioningOf, FieldsAre}
 use Rattle.opl_said.specs.declared.Fields.{Fields}
@@ -64,23 +61,23 @@ module _ (n : ℕ) (x : Maybe ℕ) where
 
 -- ---- The elements and spaces that are looked for.
 pub operation-inner : Inner 15
-unfolding listsOpen readingOpen elementsOpen nameOf names innerNames
+unfolding listsOpen innerOf
 operation-inner = refl
 
 pub object-inner : Inner 16
-unfolding listsOpen readingOpen elementsOpen nameOf names innerNames
+unfolding listsOpen innerOf
 object-inner = refl
 
 pub role-inner : Inner 25
-unfolding listsOpen readingOpen elementsOpen nameOf names innerNames
+unfolding listsOpen innerOf
 role-inner = refl
 
 pub task-inner : Inner 36
-unfolding listsOpen readingOpen elementsOpen nameOf names innerNames
+unfolding listsOpen innerOf
 task-inner = refl
 
 pub partition-inner : Inner 40
-unfolding listsOpen readingOpen elementsOpen nameOf names innerNames
+unfolding listsOpen innerOf
 partition-inner = refl
 
 pub few-roles : limitOf 1 ≤ 64

@@ -4,7 +4,7 @@ use mathlib.Core.Path.{_≡_}
 use mathlib.Core.List.{List, []}
 use native.Mathlib.Omega.{arith}
 use lib.ListN.{length}
-use Rattle.paper_lower.specs.Lists.{each, Every}
+use Rattle.paper_lower.specs.Lists.{Every}
 use Rattle.paper_lower.proofs.ListLaws.{every-append}
 use Rattle.paper_opl.specs.Reading.{Text}
 use Rattle.paper_opl.specs.Reading.Read.{got}
@@ -20,7 +20,8 @@ use Rattle.opl_spaces.specs.Spaces.{limitOf, scratchWords, tableOf}
 use Rattle.opl_declared.specs.Names.{declaredAt, lineNames, filled}
 use Rattle.opl_declared.proofs.FilledLaws.{numbers-are, users-are, roles-are, permissions-are, operations-are, objects-are}
 use Rattle.opl_declared.proofs.LineNames.{tasks-are, templates-are}
-use Rattle.opl_said.specs.Said.{spaceAt, allNames, Held, Cardinal}
+use Rattle.opl_turns.specs.Turning.{Cardinal}
+use Rattle.opl_said.specs.Said.{spaceAt, allNames, Held}
 
 -- ---- Cardinalities.
 abbrev pub AllCardinal : List Tag → Type 0

@@ -19,7 +19,8 @@ use Rattle.paper_opl.proofs.Inversion.{on-test}
 use Rattle.paper_opl.proofs.SaidBy.{fields, said-1, said-2, said-3, said-4, said-5, said-7, said-8, said-9, said-10, said-11, said-12, said-13, said-14, said-15, said-16}
 use Rattle.opl_table.specs.Numbers.{names, nameOf}
 use Rattle.opl_tags.specs.Tags.{givenAt, walkAt}
-use Rattle.opl_said.specs.Said.{spaceAt, cardinalityAt, sayingAt, recordOf, SaysIt}
+use Rattle.opl_turns.specs.Turning.{sayingAt}
+use Rattle.opl_said.specs.Said.{spaceAt, cardinalityAt, recordOf, SaysIt}
 use Rattle.opl_said.specs.Forms.{numberBy, insideAt, headOf, firstBy, setBy, oneSaid, twoSaid, threeSaid, setSaid, partitioningOf, FieldsAre}
 use Rattle.opl_said.specs.declared.Fields.{Fields}
 use Rattle.opl_said.specs.declared.Fields.the-variants.{Unnamed}
@@ -76,87 +77,87 @@ first-of f [] = refl
 first-of f (t ∷ ts) = refl
 
 -- ---- Kind by kind.
-module _ (ns : Names) (s : Text) (number end next : ℕ) (r : Fields) where
+module _ (ns : Names) (s : Text) (number end : ℕ) (r : Fields) where
   abbrev x : Found
-  x = record { number = number; given = givenAt s end; inside = leading (walkAt s next) }
+  x = record { number = number; given = givenAt s end; inside = leading (walkAt s end) }
 
   abbrev Says : ℕ → Type 0
-  Says k = SaysIt k (recordSaid ns (sayingAt s k number end next)) r
+  Says k = SaysIt k (recordSaid ns (sayingAt s k number end)) r
 
   abbrev by : ℕ → ℕ → Maybe ℕ
   by id i = numberBy ns id i (givenAt s end)
 
   pub says-1 : FieldsAre (oneSaid 0 (by 53 0)) r → Says 1
   unfolding spaceAt nameOf names elements each
-  says-1 = one-says 1 r (recordSaid ns (sayingAt s 1 number end next)) 0 (by 53 0) (said-1 ns x)
+  says-1 = one-says 1 r (recordSaid ns (sayingAt s 1 number end)) 0 (by 53 0) (said-1 ns x)
 
   pub says-2 : FieldsAre (oneSaid 0 (by 54 1)) r → Says 2
   unfolding spaceAt nameOf names elements each
-  says-2 = one-says 2 r (recordSaid ns (sayingAt s 2 number end next)) 0 (by 54 1) (said-2 ns x)
+  says-2 = one-says 2 r (recordSaid ns (sayingAt s 2 number end)) 0 (by 54 1) (said-2 ns x)
 
   pub says-13 : FieldsAre (oneSaid 0 (by 62 6)) r → Says 13
   unfolding spaceAt nameOf names elements each
-  says-13 = one-says 13 r (recordSaid ns (sayingAt s 13 number end next)) 0 (by 62 6) (said-13 ns x)
+  says-13 = one-says 13 r (recordSaid ns (sayingAt s 13 number end)) 0 (by 62 6) (said-13 ns x)
 
   pub says-14 : FieldsAre (oneSaid (cardinalityAt s end) (by 61 5)) r → Says 14
   unfolding spaceAt nameOf names elements each
-  says-14 = one-says 14 r (recordSaid ns (sayingAt s 14 number end next)) (cardinalityAt s end) (by 61 5) (said-14 ns x)
+  says-14 = one-says 14 r (recordSaid ns (sayingAt s 14 number end)) (cardinalityAt s end) (by 61 5) (said-14 ns x)
 
   pub says-4 : FieldsAre (twoSaid (by 53 0) (by 54 1)) r → Says 4
   unfolding spaceAt nameOf names elements each
-  says-4 = two-say 4 r (recordSaid ns (sayingAt s 4 number end next)) (by 53 0) (by 54 1) (said-4 ns x)
+  says-4 = two-say 4 r (recordSaid ns (sayingAt s 4 number end)) (by 53 0) (by 54 1) (said-4 ns x)
 
   pub says-5 : FieldsAre (twoSaid (by 54 1) (by 56 2)) r → Says 5
   unfolding spaceAt nameOf names elements each
-  says-5 = two-say 5 r (recordSaid ns (sayingAt s 5 number end next)) (by 54 1) (by 56 2) (said-5 ns x)
+  says-5 = two-say 5 r (recordSaid ns (sayingAt s 5 number end)) (by 54 1) (by 56 2) (said-5 ns x)
 
   pub says-7 : FieldsAre (twoSaid (by 61 5) (by 54 1)) r → Says 7
   unfolding spaceAt nameOf names elements each
-  says-7 = two-say 7 r (recordSaid ns (sayingAt s 7 number end next)) (by 61 5) (by 54 1) (said-7 ns x)
+  says-7 = two-say 7 r (recordSaid ns (sayingAt s 7 number end)) (by 61 5) (by 54 1) (said-7 ns x)
 
   pub says-8 : FieldsAre (twoSaid (by 61 5) (by 56 2)) r → Says 8
   unfolding spaceAt nameOf names elements each
-  says-8 = two-say 8 r (recordSaid ns (sayingAt s 8 number end next)) (by 61 5) (by 56 2) (said-8 ns x)
+  says-8 = two-say 8 r (recordSaid ns (sayingAt s 8 number end)) (by 61 5) (by 56 2) (said-8 ns x)
 
   pub says-15 : FieldsAre (twoSaid (by 61 5) (by 63 5)) r → Says 15
   unfolding spaceAt nameOf names elements each
-  says-15 = two-say 15 r (recordSaid ns (sayingAt s 15 number end next)) (by 61 5) (by 63 5) (said-15 ns x)
+  says-15 = two-say 15 r (recordSaid ns (sayingAt s 15 number end)) (by 61 5) (by 63 5) (said-15 ns x)
 
   pub says-16 : FieldsAre (twoSaid (by 64 5) (by 61 5)) r → Says 16
   unfolding spaceAt nameOf names elements each
-  says-16 = two-say 16 r (recordSaid ns (sayingAt s 16 number end next)) (by 64 5) (by 61 5) (said-16 ns x)
+  says-16 = two-say 16 r (recordSaid ns (sayingAt s 16 number end)) (by 64 5) (by 61 5) (said-16 ns x)
 
   abbrev inside : String → List Tag
-  inside e = keep (λ t. same (t .name) (text e)) (leading (walkAt s next))
+  inside e = keep (λ t. same (t .name) (text e)) (leading (walkAt s end))
 
-  pub says-3 : FieldsAre (threeSaid (by 56 2) (firstBy ns 57 3 (insideAt s 15 next)) (firstBy ns 58 4 (insideAt s 16 next))) r → Says 3
+  pub says-3 : FieldsAre (threeSaid (by 56 2) (firstBy ns 57 3 (insideAt s 15 end)) (firstBy ns 58 4 (insideAt s 16 end))) r → Says 3
   unfolding spaceAt nameOf names elements each
   says-3 =
-      three-say 3 r (recordSaid ns (sayingAt s 3 number end next)) (by 56 2) (firstBy ns 57 3 (insideAt s 15 next)) (firstBy ns 58 4 (insideAt s 16 next))
+      three-say 3 r (recordSaid ns (sayingAt s 3 number end)) (by 56 2) (firstBy ns 57 3 (insideAt s 15 end)) (firstBy ns 58 4 (insideAt s 16 end))
       (said-3 ns x ∙ rw (first-of (numberBy ns 57 3) (inside "operation"), first-of (numberBy ns 58 4) (inside "object")))
 
-  pub says-9 : FieldsAre (setSaid (cardinalityAt s end) (just 0) (setBy ns 54 1 (insideAt s 25 next))) r → Says 9
+  pub says-9 : FieldsAre (setSaid (cardinalityAt s end) (just 0) (setBy ns 54 1 (insideAt s 25 end))) r → Says 9
   unfolding spaceAt nameOf names elements each
   says-9 =
-      set-says 9 r (recordSaid ns (sayingAt s 9 number end next)) (cardinalityAt s end) (just 0) (setBy ns 54 1 (insideAt s 25 next))
+      set-says 9 r (recordSaid ns (sayingAt s 9 number end)) (cardinalityAt s end) (just 0) (setBy ns 54 1 (insideAt s 25 end))
       (said-9 ns x ∙ rw (all-members (numberBy ns 54 1) (inside "critical_role")))
 
-  pub says-10 : FieldsAre (setSaid (cardinalityAt s end) (just 0) (setBy ns 54 1 (insideAt s 25 next))) r → Says 10
+  pub says-10 : FieldsAre (setSaid (cardinalityAt s end) (just 0) (setBy ns 54 1 (insideAt s 25 end))) r → Says 10
   unfolding spaceAt nameOf names elements each
   says-10 =
-      set-says 10 r (recordSaid ns (sayingAt s 10 number end next)) (cardinalityAt s end) (just 0) (setBy ns 54 1 (insideAt s 25 next))
+      set-says 10 r (recordSaid ns (sayingAt s 10 number end)) (cardinalityAt s end) (just 0) (setBy ns 54 1 (insideAt s 25 end))
       (said-10 ns x ∙ rw (all-members (numberBy ns 54 1) (inside "critical_role")))
 
-  pub says-11 : FieldsAre (setSaid (cardinalityAt s end) (just 0) (setBy ns 61 5 (insideAt s 36 next))) r → Says 11
+  pub says-11 : FieldsAre (setSaid (cardinalityAt s end) (just 0) (setBy ns 61 5 (insideAt s 36 end))) r → Says 11
   unfolding spaceAt nameOf names elements each
   says-11 =
-      set-says 11 r (recordSaid ns (sayingAt s 11 number end next)) (cardinalityAt s end) (just 0) (setBy ns 61 5 (insideAt s 36 next))
+      set-says 11 r (recordSaid ns (sayingAt s 11 number end)) (cardinalityAt s end) (just 0) (setBy ns 61 5 (insideAt s 36 end))
       (said-11 ns x ∙ rw (all-members (numberBy ns 61 5) (inside "critical_task")))
 
-  pub says-12 : FieldsAre (setSaid 0 (partitioningOf number) (setBy ns 61 5 (insideAt s 40 next))) r → Says 12
+  pub says-12 : FieldsAre (setSaid 0 (partitioningOf number) (setBy ns 61 5 (insideAt s 40 end))) r → Says 12
   unfolding spaceAt nameOf names elements each
   says-12 =
-      set-says 12 r (recordSaid ns (sayingAt s 12 number end next)) 0 (partitioningOf number) (setBy ns 61 5 (insideAt s 40 next))
+      set-says 12 r (recordSaid ns (sayingAt s 12 number end)) 0 (partitioningOf number) (setBy ns 61 5 (insideAt s 40 end))
       (said-12 ns x ∙ rw (all-members (numberBy ns 61 5) (inside "partition_task")))
 
 -- ---- No other kind has a row.
@@ -187,8 +188,8 @@ no-row (r ∷ rs) k h b =
     (λ e. absurd (true≢false (sym (p .0) ∙ ap (λ (j : ℕ). some (eqb j) kindsBack) (eqb-true (r .kind) k e) ∙ b)))
     (λ e. rw e (no-row rs k (p .1) b))
 
-pub says-nothing : (ns : Names) (s : Text) (k number end next : ℕ) → Beside kindsBack k → SaysIt k (recordSaid ns (sayingAt s k number end next)) Unnamed
+pub says-nothing : (ns : Names) (s : Text) (k number end : ℕ) → Beside kindsBack k → SaysIt k (recordSaid ns (sayingAt s k number end)) Unnamed
 unfolding recordSaid
-says-nothing ns s k number end next b =
+says-nothing ns s k number end b =
     let e : rowOf (firstRows ++ lastRows) k ≡ none = no-row (firstRows ++ lastRows) k rows-there (beside-is kindsBack k b) in
     record { says = rw e; fits = tt }

@@ -5,14 +5,16 @@ use mathlib.Core.Bool.{true, cond}
 use mathlib.Core.List.{List, [], _∷_}
 use lib.Dec.{ltb}
 use lib.ListN.{length}
-use Rattle.paper_lower.specs.Lists.{Maybe, some, keep, each}
+use Rattle.paper_lower.specs.Lists.{Maybe, keep, each}
 use Rattle.paper_lower.specs.Lists.Maybe.{none, just}
 use Rattle.paper_opl.specs.Reading.{Text, same}
 use Rattle.paper_opl.specs.Tree.{Given, Tag}
 use Rattle.paper_opl.specs.Naming.{Names, valueOf, numberIn, setOf}
-use Rattle.paper_opl.specs.Walk.{innerNames, leading}
+use Rattle.paper_opl.specs.Walk.{leading}
 use Rattle.opl_table.specs.Numbers.{nameOf}
 use Rattle.opl_tags.specs.Tags.{givenAt, walkAt}
+use Rattle.opl_turns.specs.Meaning.{innerOf}
+use Rattle.opl_turns.specs.Listing.{Leads}
 use Rattle.opl_said.specs.declared.Member.{Member}
 use Rattle.opl_said.specs.declared.Member.the-variants.{Other, Here, Last}
 use Rattle.opl_said.specs.declared.Next.{Next}
@@ -38,33 +40,34 @@ fieldAt s t end id i = numberBy (allNames s t) id i (givenAt s end)
 abbrev pub givensOf : ℕ → List Tag → List (List Given)
 givensOf e ts = each (λ t. t .given) (keep (λ t. same (t .name) (nameOf e)) ts)
 
--- of those in the element behind whose start tag the text goes on at a place
+-- of those in the element the name of whose start tag ends at a place
 abbrev pub insideAt : Text → ℕ → ℕ → List (List Given)
 insideAt s e at = givensOf e (leading (walkAt s at))
 
 -- such elements stand in one that says a record
 abbrev pub Inner : ℕ → Type 0
-Inner e = some (same (nameOf e)) innerNames ≡ true
+Inner e = innerOf e ≡ true
 
-pub record Onward (s : Text) (e at next : ℕ) : Type 0 where
+pub record Onward (s : Text) (l : List ℕ) (e at next entry : ℕ) : Type 0 where
   pub past : at < next
   pub inside : next ≤ length s
   pub rest : insideAt s e at ≡ insideAt s e next
+  pub leads : Leads s l entry next
 
-pub record HereIs (s : Text) (e at end next : ℕ) : Type 0 where
-  pub past : at < next
-  pub inside : next ≤ length s
-  pub name-ends : end ≤ length s
-  pub first : insideAt s e at ≡ givenAt s end ∷ insideAt s e next
+pub record HereIs (s : Text) (l : List ℕ) (e at end entry : ℕ) : Type 0 where
+  pub past : at < end
+  pub inside : end ≤ length s
+  pub first : insideAt s e at ≡ givenAt s end ∷ insideAt s e end
+  pub leads : Leads s l entry end
 
-abbrev pub MemberIs : Text → ℕ → ℕ → Member → Type 0
-MemberIs s e at (Other next) = Onward s e at next
-MemberIs s e at (Here end next) = HereIs s e at end next
-MemberIs s e at Last = insideAt s e at ≡ []
+abbrev pub MemberIs : Text → List ℕ → ℕ → ℕ → Member → Type 0
+MemberIs s l e at (Other next entry) = Onward s l e at next entry
+MemberIs s l e at (Here end entry) = HereIs s l e at end entry
+MemberIs s l e at Last = insideAt s e at ≡ []
 
-abbrev pub NextIs : Text → ℕ → ℕ → Next → Type 0
-NextIs s e at (There end next) = HereIs s e at end next
-NextIs s e at Nothing = insideAt s e at ≡ []
+abbrev pub NextIs : Text → List ℕ → ℕ → ℕ → Next → Type 0
+NextIs s l e at (There end entry) = HereIs s l e at end entry
+NextIs s l e at Nothing = insideAt s e at ≡ []
 
 -- the number that the first of them says, and the set of those that all say
 abbrev pub headOf : List (Maybe ℕ) → Maybe ℕ
@@ -78,10 +81,10 @@ abbrev pub setBy : Names → ℕ → ℕ → List (List Given) → Maybe ℕ
 setBy ns id i gss = setOf (each (numberBy ns id i) gss)
 
 abbrev pub firstAt : Text → Text → ℕ → ℕ → ℕ → ℕ → Maybe ℕ
-firstAt s t next e id i = firstBy (allNames s t) id i (insideAt s e next)
+firstAt s t end e id i = firstBy (allNames s t) id i (insideAt s e end)
 
 abbrev pub setAt : Text → Text → ℕ → ℕ → ℕ → ℕ → Maybe ℕ
-setAt s t next e id i = setBy (allNames s t) id i (insideAt s e next)
+setAt s t end e id i = setBy (allNames s t) id i (insideAt s e end)
 
 abbrev pub bitsOf : Group → Maybe ℕ
 bitsOf (Bits m) = just m

@@ -1,20 +1,20 @@
 -- What one tag of an accepted text says, as the numbers of a record, where the tables of the scratch hold the names.
-use Prim.Native.Nat.{ℕ, zero, suc, _≤_, _<_}
+use Prim.Native.Nat.{ℕ, zero, suc, _<_}
 use mathlib.Core.Path.{_≡_}
 use mathlib.Core.List.{List}
 use lib.ListN.{length}
-use Rattle.paper_lower.specs.Lists.{Maybe, each}
+use Rattle.paper_lower.specs.Lists.{Maybe}
 use Rattle.paper_lower.specs.Lists.Maybe.{none, just}
 use Rattle.paper_lower.specs.Records.{Record}
 use Rattle.paper_opl.specs.Reading.{Text, text}
 use Rattle.paper_opl.specs.Tree.{decimal}
 use Rattle.paper_opl.specs.Naming.{Space, Names, valueOf, numberIn}
-use Rattle.paper_opl.specs.Walk.{tags, namesIn, leading, Saying}
+use Rattle.paper_opl.specs.Walk.{tags, namesIn}
 use Rattle.opl_names.specs.Table.{Sound, foundOf}
 use Rattle.opl_names.specs.declared.Found.{Found}
 use Rattle.opl_names.specs.declared.Found.the-variants.{At, Nowhere}
 use Rattle.opl_lines.specs.Lines.{linesIn}
-use Rattle.opl_tags.specs.Tags.{givenAt, walkAt}
+use Rattle.opl_tags.specs.Tags.{givenAt}
 use Rattle.opl_spaces.specs.Spaces.{limitOf, scratchWords, tableOf, numbered}
 use Rattle.opl_said.specs.declared.Fields.{Fields}
 use Rattle.opl_said.specs.declared.Fields.the-variants.{Numbers, Unnamed}
@@ -58,23 +58,9 @@ pub record NumberIs (n : ℕ) (number : Maybe ℕ) (r : Found) : Type 0 where
 
 -- ---- The record.
 
--- what the tag whose name ends at `end`, and behind which the text goes on at `next`, says
-abbrev pub sayingAt : Text → ℕ → ℕ → ℕ → ℕ → Saying
-sayingAt s kind number end next = record {
-  kind = kind;
-  found = record {
-    number = number;
-    given = givenAt s end;
-    inside = leading (walkAt s next);
-  };
-}
-
--- "a cardinality that is no number up to 255" is refused, so that in an accepted text each tag has this
+-- "a cardinality that is no number up to 255" is refused, so that in an accepted text it is small at each tag
 abbrev pub cardinalityAt : Text → ℕ → ℕ
 cardinalityAt s end = decimal 0 (valueOf (text "cardinality") (givenAt s end))
-
-abbrev pub Cardinal : Text → ℕ → Type 0
-Cardinal s end = cardinalityAt s end ≤ 255
 
 abbrev pub recordOf : ℕ → Fields → Maybe Record
 recordOf kind (Numbers n a b c m) = just (record { kind = kind; n = n; a = a; b = b; c = c; m = m })

@@ -1,23 +1,23 @@
-// What one tag of an accepted policy text says, as the numbers of a record. It rests on the tags of opl_tags and on the tables of names of
+// What one tag of an accepted policy text says, as the numbers of a record. It rests on the tags of opl_tags and opl_turns and on the tables of names of
 // opl_spaces.
 ghost use mathlib.Core.Path.{_≡_};
 ghost use Prim.Native.Nat.{_-_, _≤_, _<_};
 ghost use lib.ListN.{length};
-ghost use Rattle.paper_lower.specs.Lists.{some};
 ghost use Rattle.paper_lower.specs.Lists.Maybe.{just};
 ghost use Rattle.paper_lower.specs.Sets.{plus};
-ghost use Rattle.paper_opl.specs.Reading.{same};
 ghost use Rattle.paper_opl.specs.Tree.{decimal as decimalOf};
 ghost use Rattle.paper_opl.specs.Naming.{numberIn};
-ghost use Rattle.paper_opl.specs.Walk.{innerNames, recordSaid};
-ghost use Rattle.opl_spaces.specs.Spaces.{limitOf};
-ghost use Rattle.opl_said.specs.Said.{spaceAt, allNames, Holds, NumberIs, sayingAt, Cardinal, cardinalityAt, SaysIt};
+ghost use Rattle.paper_opl.specs.Walk.{recordSaid};
+ghost use Rattle.opl_spaces.specs.Spaces.{limitOf, scratchWords, listOf};
+ghost use Rattle.opl_turns.specs.Meaning.{innerOf};
+ghost use Rattle.opl_turns.specs.Listing.{Leads};
+ghost use Rattle.opl_turns.specs.Turning.{Cardinal, sayingAt};
+ghost use Rattle.opl_said.specs.Said.{spaceAt, allNames, Holds, NumberIs, cardinalityAt, SaysIt};
 ghost use Rattle.opl_said.specs.Forms.{fieldAt, Inner, MemberIs, NextIs, firstAt, setAt, bitsOf, oneSaid, twoSaid, threeSaid, setSaid, partitioningOf, FieldsAre};
 use opl_names::Found;
-use opl_table::is_name;
-use opl_tags::Tag;
-use opl_tags::read_tag;
 use opl_tags::value_of;
+use opl_turns::Met;
+use opl_turns::meet;
 
 // The fields of a record; or a name in it has no number.
 pub enum Fields {
@@ -31,15 +31,15 @@ pub enum Fields {
     Unnamed,
 }
 
-// A tag that is not looked for, in an element; the one that is; or a tag behind the element.
+// A tag that is not looked for, in an element; the one that is; or a tag behind the element. The text goes on at this place, before which so many entries of the list lie.
 pub enum Member {
-    Other(usize),
-    Here { end: usize, next: usize },
+    Other { next: usize, entry: usize },
+    Here { end: usize, entry: usize },
     Last,
 }
 
 pub enum Next {
-    There { end: usize, next: usize },
+    There { end: usize, entry: usize },
     Nothing,
 }
 
@@ -109,33 +109,35 @@ fn cardinality(s: &[u8], end: usize) -> u64
 
 // ---- The elements in an element.
 
-// The name of an element that stands in one which says a record.
-fn inner(v: &[u8]) -> bool
-    ensures { λ r. ⌜ r ≡ some (same (now (v .entry))) innerNames ⌝ }
+// An element that stands in one which says a record.
+fn inner(id: u64) -> bool
+    ensures { λ r. ⌜ r ≡ innerOf id ⌝ }
 {
-    is_name(v, 15)
-        | is_name(v, 16)
-        | is_name(v, 24)
-        | is_name(v, 25)
-        | is_name(v, 36)
-        | is_name(v, 40)
+    (id == 15) | (id == 16) | (id == 24) | (id == 25) | (id == 36) | (id == 40)
 }
 
-// The tag at `at`, where elements of this name are looked for.
-fn member_at(s: &[u8], e: u64, at: usize) -> Member
-    requires { ⌜ (at ≤ length (now s)) × Inner e ⌝ }
-    ensures { λ r. ⌜ MemberIs (now (s .entry)) e at r ⌝ }
+// The tag at `at`, where such elements are looked for.
+fn member_at(s: &[u8], w: &[u64], e: u64, at: usize, entry: usize) -> Member
+    requires { ⌜ ((length (now w) ≡ scratchWords) × Inner e) × ((at ≤ length (now s)) × Leads (now s) (listOf (now w)) entry at) ⌝ }
+    ensures { λ r. ⌜ MemberIs (now (s .entry)) (listOf (now (w .entry))) e at r ⌝ }
 {
-    let t = read_tag(s, at);
+    let t = meet(s, w, at, entry);
     match t {
-        Tag::Halt => Member::Last,
-        Tag::End(next) => Member::Other(next),
-        Tag::Start { name, end } => {
-            if is_name(&s[name..end], e) {
-                return Member::Here { end, next: end };
+        Met::Over => Member::Last,
+        Met::Ended(next) => Member::Other { next, entry },
+        Met::Begun {
+            id,
+            end,
+            entry: behind,
+        } => {
+            if id == e {
+                return Member::Here { end, entry: behind };
             }
-            if inner(&s[name..end]) {
-                return Member::Other(end);
+            if inner(id) {
+                return Member::Other {
+                    next: end,
+                    entry: behind,
+                };
             }
             Member::Last
         }
@@ -143,22 +145,27 @@ fn member_at(s: &[u8], e: u64, at: usize) -> Member
 }
 
 // The next of them from `from` on.
-fn next_member(s: &[u8], e: u64, from: usize) -> Next
-    requires { ⌜ (from ≤ length (now s)) × Inner e ⌝ }
-    ensures { λ r. ⌜ NextIs (now (s .entry)) e from r ⌝ }
+fn next_member(s: &[u8], w: &[u64], e: u64, from: usize, entry: usize) -> Next
+    requires { ⌜ ((length (now w) ≡ scratchWords) × Inner e) × ((from ≤ length (now s)) × Leads (now s) (listOf (now w)) entry from) ⌝ }
+    ensures { λ r. ⌜ NextIs (now (s .entry)) (listOf (now (w .entry))) e from r ⌝ }
 {
     let mut at = from;
+    let mut k = entry;
     while at < s.len() {
-        let r = member_at(s, e, at);
+        let r = member_at(s, w, e, at, k);
         match r {
             Member::Last => {
                 return Next::Nothing;
             }
-            Member::Here { end, next } => {
-                return Next::There { end, next };
+            Member::Here { end, entry: behind } => {
+                return Next::There { end, entry: behind };
             }
-            Member::Other(n) => {
-                at = n;
+            Member::Other {
+                next,
+                entry: behind,
+            } => {
+                at = next;
+                k = behind;
             }
         }
     }
@@ -166,12 +173,21 @@ fn next_member(s: &[u8], e: u64, from: usize) -> Next
 }
 
 // The number of the name in an attribute of the first of them.
-fn first_member(s: &[u8], t: &[u8], w: &[u64], e: u64, id: u64, i: usize, from: usize) -> Found
-    requires { ⌜ Holds (now s) (now t) (now w) × ((from ≤ length (now s)) × (Inner e × (i < 7))) ⌝ }
+fn first_member(
+    s: &[u8],
+    t: &[u8],
+    w: &[u64],
+    e: u64,
+    id: u64,
+    i: usize,
+    from: usize,
+    entry: usize,
+) -> Found
+    requires { ⌜ Holds (now s) (now t) (now w) × (((from ≤ length (now s)) × Leads (now s) (listOf (now w)) entry from) × (Inner e × (i < 7))) ⌝ }
     ensures { λ r. ⌜ NumberIs (limitOf i) (firstAt (now (s .entry)) (now (t .entry)) from e id i) r ⌝ }
 {
-    let r = next_member(s, e, from);
-    let Next::There { end, next: _ } = r else {
+    let r = next_member(s, w, e, from, entry);
+    let Next::There { end, entry: _ } = r else {
         return Found::Nowhere;
     };
     field(s, t, w, end, id, i)
@@ -185,23 +201,34 @@ fn with(m: u64, i: usize) -> u64
 }
 
 // The set of the numbers of all of them.
-fn members(s: &[u8], t: &[u8], w: &[u64], e: u64, id: u64, i: usize, from: usize) -> Group
-    requires { ⌜ Holds (now s) (now t) (now w) × ((from ≤ length (now s)) × (Inner e × ((i < 7) × (limitOf i ≤ 64)))) ⌝ }
+fn members(
+    s: &[u8],
+    t: &[u8],
+    w: &[u64],
+    e: u64,
+    id: u64,
+    i: usize,
+    from: usize,
+    entry: usize,
+) -> Group
+    requires { ⌜ Holds (now s) (now t) (now w) × (((from ≤ length (now s)) × Leads (now s) (listOf (now w)) entry from) × (Inner e × ((i < 7) × (limitOf i ≤ 64)))) ⌝ }
     ensures { λ r. ⌜ bitsOf r ≡ setAt (now (s .entry)) (now (t .entry)) from e id i ⌝ }
 {
     let mut m = 0;
     let mut at = from;
+    let mut k = entry;
     while at < s.len() {
-        let r = next_member(s, e, at);
-        let Next::There { end, next } = r else {
+        let r = next_member(s, w, e, at, k);
+        let Next::There { end, entry: behind } = r else {
             return Group::Bits(m);
         };
         let f = field(s, t, w, end, id, i);
-        let Found::At(k) = f else {
+        let Found::At(n) = f else {
             return Group::Nameless;
         };
-        m = with(m, k);
-        at = next;
+        m = with(m, n);
+        at = end;
+        k = behind;
     }
     Group::Bits(m)
 }
@@ -263,19 +290,19 @@ fn counted(s: &[u8], t: &[u8], w: &[u64], end: usize) -> Fields
     }
 }
 
-fn permission(s: &[u8], t: &[u8], w: &[u64], end: usize, next: usize) -> Fields
-    requires { ⌜ Holds (now s) (now t) (now w) × ((end ≤ length (now s)) × (next ≤ length (now s))) ⌝ }
-    ensures { λ r. ⌜ FieldsAre (threeSaid (fieldAt (now (s .entry)) (now (t .entry)) end 56 2) (firstAt (now (s .entry)) (now (t .entry)) next 15 57 3) (firstAt (now (s .entry)) (now (t .entry)) next 16 58 4)) r ⌝ }
+fn permission(s: &[u8], t: &[u8], w: &[u64], end: usize, entry: usize) -> Fields
+    requires { ⌜ Holds (now s) (now t) (now w) × ((end ≤ length (now s)) × Leads (now s) (listOf (now w)) entry end) ⌝ }
+    ensures { λ r. ⌜ FieldsAre (threeSaid (fieldAt (now (s .entry)) (now (t .entry)) end 56 2) (firstAt (now (s .entry)) (now (t .entry)) end 15 57 3) (firstAt (now (s .entry)) (now (t .entry)) end 16 58 4)) r ⌝ }
 {
     let f = field(s, t, w, end, 56, 2);
     let Found::At(a) = f else {
         return Fields::Unnamed;
     };
-    let g = first_member(s, t, w, 15, 57, 3, next);
+    let g = first_member(s, t, w, 15, 57, 3, end, entry);
     let Found::At(b) = g else {
         return Fields::Unnamed;
     };
-    let h = first_member(s, t, w, 16, 58, 4, next);
+    let h = first_member(s, t, w, 16, 58, 4, end, entry);
     let Found::At(c) = h else {
         return Fields::Unnamed;
     };
@@ -297,12 +324,13 @@ fn of_set(
     e: u64,
     id: u64,
     i: usize,
-    next: usize,
+    end: usize,
+    entry: usize,
 ) -> Fields
-    requires { ⌜ Holds (now s) (now t) (now w) × (((n < 256) × (a < 65536)) × ((next ≤ length (now s)) × (Inner e × ((i < 7) × (limitOf i ≤ 64))))) ⌝ }
-    ensures { λ r. ⌜ FieldsAre (setSaid n (just a) (setAt (now (s .entry)) (now (t .entry)) next e id i)) r ⌝ }
+    requires { ⌜ Holds (now s) (now t) (now w) × (((n < 256) × (a < 65536)) × (((end ≤ length (now s)) × Leads (now s) (listOf (now w)) entry end) × (Inner e × ((i < 7) × (limitOf i ≤ 64))))) ⌝ }
+    ensures { λ r. ⌜ FieldsAre (setSaid n (just a) (setAt (now (s .entry)) (now (t .entry)) end e id i)) r ⌝ }
 {
-    let g = members(s, t, w, e, id, i, next);
+    let g = members(s, t, w, e, id, i, end, entry);
     let Group::Bits(m) = g else {
         return Fields::Unnamed;
     };
@@ -315,14 +343,14 @@ fn of_set(
     }
 }
 
-fn partition(s: &[u8], t: &[u8], w: &[u64], number: u64, next: usize) -> Fields
-    requires { ⌜ Holds (now s) (now t) (now w) × (next ≤ length (now s)) ⌝ }
-    ensures { λ r. ⌜ FieldsAre (setSaid 0 (partitioningOf number) (setAt (now (s .entry)) (now (t .entry)) next 40 61 5)) r ⌝ }
+fn partition(s: &[u8], t: &[u8], w: &[u64], number: u64, end: usize, entry: usize) -> Fields
+    requires { ⌜ Holds (now s) (now t) (now w) × ((end ≤ length (now s)) × Leads (now s) (listOf (now w)) entry end) ⌝ }
+    ensures { λ r. ⌜ FieldsAre (setSaid 0 (partitioningOf number) (setAt (now (s .entry)) (now (t .entry)) end 40 61 5)) r ⌝ }
 {
     if 16 <= number {
         return Fields::Unnamed;
     }
-    of_set(s, t, w, 0, number, 40, 61, 5, next)
+    of_set(s, t, w, 0, number, 40, 61, 5, end, entry)
 }
 
 fn sized(
@@ -333,16 +361,16 @@ fn sized(
     id: u64,
     i: usize,
     end: usize,
-    next: usize,
+    entry: usize,
 ) -> Fields
-    requires { ⌜ Holds (now s) (now t) (now w) × (((end ≤ length (now s)) × Cardinal (now s) end) × ((next ≤ length (now s)) × (Inner e × ((i < 7) × (limitOf i ≤ 64))))) ⌝ }
-    ensures { λ r. ⌜ FieldsAre (setSaid (cardinalityAt (now (s .entry)) end) (just 0) (setAt (now (s .entry)) (now (t .entry)) next e id i)) r ⌝ }
+    requires { ⌜ Holds (now s) (now t) (now w) × (Cardinal (now s) end × (((end ≤ length (now s)) × Leads (now s) (listOf (now w)) entry end) × (Inner e × ((i < 7) × (limitOf i ≤ 64))))) ⌝ }
+    ensures { λ r. ⌜ FieldsAre (setSaid (cardinalityAt (now (s .entry)) end) (just 0) (setAt (now (s .entry)) (now (t .entry)) end e id i)) r ⌝ }
 {
     let n = cardinality(s, end);
-    of_set(s, t, w, n, 0, e, id, i, next)
+    of_set(s, t, w, n, 0, e, id, i, end, entry)
 }
 
-// What the tag whose name ends at `end`, and behind which the text goes on at `next`, says as a record of the kind.
+// What the tag whose name ends at `end`, and before what is behind it so many entries of the list lie, says as a record of the kind.
 pub fn said(
     s: &[u8],
     t: &[u8],
@@ -350,23 +378,23 @@ pub fn said(
     kind: u64,
     number: u64,
     end: usize,
-    next: usize,
+    entry: usize,
 ) -> Fields
-    requires { ⌜ Holds (now s) (now t) (now w) × ((end ≤ length (now s)) × ((next ≤ length (now s)) × Cardinal (now s) end)) ⌝ }
-    ensures { λ r. ⌜ SaysIt kind (recordSaid (allNames (now (s .entry)) (now (t .entry))) (sayingAt (now (s .entry)) kind number end next)) r ⌝ }
+    requires { ⌜ Holds (now s) (now t) (now w) × (((end ≤ length (now s)) × Leads (now s) (listOf (now w)) entry end) × Cardinal (now s) end) ⌝ }
+    ensures { λ r. ⌜ SaysIt kind (recordSaid (allNames (now (s .entry)) (now (t .entry))) (sayingAt (now (s .entry)) kind number end)) r ⌝ }
 {
     match kind {
         1 => one(s, t, w, end, 53, 0),
         2 => one(s, t, w, end, 54, 1),
-        3 => permission(s, t, w, end, next),
+        3 => permission(s, t, w, end, entry),
         4 => two(s, t, w, end, 53, 0, 54, 1),
         5 => two(s, t, w, end, 54, 1, 56, 2),
         7 => two(s, t, w, end, 61, 5, 54, 1),
         8 => two(s, t, w, end, 61, 5, 56, 2),
-        9 => sized(s, t, w, 25, 54, 1, end, next),
-        10 => sized(s, t, w, 25, 54, 1, end, next),
-        11 => sized(s, t, w, 36, 61, 5, end, next),
-        12 => partition(s, t, w, number, next),
+        9 => sized(s, t, w, 25, 54, 1, end, entry),
+        10 => sized(s, t, w, 25, 54, 1, end, entry),
+        11 => sized(s, t, w, 36, 61, 5, end, entry),
+        12 => partition(s, t, w, number, end, entry),
         13 => one(s, t, w, end, 62, 6),
         14 => counted(s, t, w, end),
         15 => two(s, t, w, end, 61, 5, 63, 5),

@@ -5,10 +5,10 @@ use mathlib.Core.Bool.{Bool, true, false}
 use mathlib.Core.List.{List, [], _++_}
 use native.Mathlib.Omega.{arith}
 use lib.Dec.{eqb, ltb}
-use lib.ListN.{length, take, drop, set, length-drop, length-append, take-append-drop}
-use lib.Seq.{length-take-le, take-append-le, drop-append-le, drop-append-add, drop-drop, drop-set-add, take-set-le, take-at, drop-at}
+use lib.ListN.{length, getD, take, drop, set, length-drop, length-append, take-append-drop}
+use lib.Seq.{length-take-le, take-append-le, drop-append-le, drop-append-add, drop-drop, drop-set-add, drop-set-lt, take-set-le, getD-drop, take-at, drop-at}
 use borrow.Author.Tests.{eqb-true, eqb-false, ltb-true, ltb-false}
-use Rattle.opl_spaces.specs.Spaces.{limitOf, baseOf, sizeOf, tableWords, scratchWords, tableOf, Apart, Empties, DeclaresIn}
+use Rattle.opl_spaces.specs.Spaces.{limitOf, baseOf, sizeOf, tableWords, listPlace, scratchWords, tableOf, listOf, Apart, Empties, DeclaresIn}
 use Rattle.paper_opl.specs.Reading.{Text}
 use Rattle.opl_names.specs.Table.{Emptied, Declares}
 use Rattle.opl_names.specs.declared.Found.{Found}
@@ -67,6 +67,23 @@ table-kept i h l k v b =
     ap (λ (z : ℕ). take (sizeOf i) (drop (baseOf i) (set l z v))) (sym e) ∙ ap (take (sizeOf i)) (drop-set-add (baseOf i) l (k - baseOf i) v)
     ∙ take-set-le (sizeOf i) (drop (baseOf i) l) (k - baseOf i) v (omega (arith, f))
 
+-- ---- A word before the list anew, or in it.
+pub list-kept : (l : List ℕ) (k v : ℕ) → k < listPlace → listOf (set l k v) ≡ listOf l
+unfolding listOf
+list-kept l k v h = drop-set-lt listPlace l k v h
+
+pub list-set : (l : List ℕ) (k v : ℕ) → listOf (set l (listPlace + k) v) ≡ set (listOf l) k v
+unfolding listOf
+list-set l k v = drop-set-add listPlace l k v
+
+pub list-at : (l : List ℕ) (k : ℕ) → getD (listOf l) k 0 ≡ getD l (listPlace + k) 0
+unfolding listOf
+list-at l k = getD-drop listPlace l k 0
+
+pub list-length : (l : List ℕ) → length l ≡ scratchWords → length (listOf l) ≡ 262145
+unfolding listOf
+list-length l h = omega (arith, length-drop listPlace l, h)
+
 -- ---- A part of a list anew: what stands before it, in it and behind it.
 module _ (l p : List ℕ) (from to : ℕ) (order : from ≤ to) (inside : to ≤ length l) (same : length p ≡ to - from) where
   front : length (take from l) ≡ from
@@ -116,7 +133,13 @@ module _ (i : ℕ) (h : i < 7) (l p : List ℕ) (from to : ℕ) (first : from �
       ap (take (sizeOf j)) (part-behind l p from to order inside span (baseOf j) (omega (arith, before i j (omega arith) k)))
 
   pub table-apart : Apart i l (take from l ++ (p ++ drop to l))
-  table-apart = record { room = part-length l p from to order inside span; others = λ j k d. other j k d (ltb j i) refl }
+  unfolding listOf
+  table-apart =
+      record {
+        room = part-length l p from to order inside span;
+        others = λ j k d. other j k d (ltb j i) refl;
+        list = part-behind l p from to order inside span listPlace (omega (arith, bounds i h .fits));
+      }
 
 -- ---- As the code lends a table: n names, from a place on.
 module _ (i : ℕ) (h : i < 7) (l : List ℕ) (n from : ℕ) (limit : n ≡ limitOf i) (base : from ≡ baseOf i) (room : length l ≡ scratchWords) where

@@ -22,28 +22,39 @@ baseOf i = getD (0 ∷ 3073 ∷ 3266 ∷ 4035 ∷ 200644 ∷ 397253 ∷ 397446 �
 abbrev pub sizeOf : ℕ → ℕ
 sizeOf i = 1 + 3 * limitOf i
 
--- the words of them all; behind them lie the records that are kept, two words each
+-- the words of them all; behind them lie the records that are kept, two words each, and then the list of tags, a word for its length and one for each
 abbrev pub tableWords : ℕ
 tableWords = 397495
 
 abbrev pub keptRoom : ℕ
 keptRoom = 131072
 
+abbrev pub listPlace : ℕ
+listPlace = 659639
+
+abbrev pub listRoom : ℕ
+listRoom = 262144
+
 abbrev pub scratchWords : ℕ
-scratchWords = 659639
+scratchWords = 921784
 
 -- the words of one table
 unfoldable pub tableOf : ℕ → List ℕ → List ℕ
 tableOf i l = take (sizeOf i) (drop (baseOf i) l)
 
+-- the words of the list
+unfoldable pub listOf : List ℕ → List ℕ
+listOf l = drop listPlace l
+
 -- the number of a name of up to 64 bytes
 abbrev pub numbered : Text → ℕ → List ℕ → Text → Maybe ℕ
 numbered s i l w = cond (leb (length w) 64) (placeOf 0 w (namesIn s (tableOf i l))) none
 
--- one table is changed, and no other
+-- one table is changed, and no other, nor the list
 pub record Apart (i : ℕ) (l l′ : List ℕ) : Type 0 where
   pub room : length l′ ≡ length l
   pub others : (j : ℕ) → j < 7 → (j ≡ i → ⊥) → tableOf j l′ ≡ tableOf j l
+  pub list : listOf l′ ≡ listOf l
 
 pub record Empties (i : ℕ) (l l′ : List ℕ) : Type 0 where
   pub emptied : Emptied (limitOf i) (tableOf i l′)

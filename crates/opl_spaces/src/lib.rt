@@ -7,12 +7,17 @@ ghost use Rattle.opl_names.specs.Table.{Sound, foundOf};
 ghost use Rattle.opl_spaces.specs.Spaces.{limitOf, baseOf, scratchWords, tableOf, numbered, Empties, DeclaresIn};
 use opl_names::Found;
 
-// The length of the scratch, in words: those of the tables, and behind them two for each record that can be kept.
-pub const WORDS: usize = 659639;
+// The length of the scratch, in words: those of the tables, behind them two for each record that can be kept, and from LIST on the list of tags, its length and one for
+// each that can be listed.
+pub const WORDS: usize = 921784;
 
 pub const TABLES: usize = 397495;
 
 pub const KEPT: usize = 131072;
+
+pub const LIST: usize = 659639;
+
+pub const LISTED: usize = 262144;
 
 // Found by a match: an array would be laid on the stack at each use.
 

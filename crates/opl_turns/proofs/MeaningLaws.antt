@@ -6,17 +6,17 @@ use mathlib.Core.List.{List, [], _∷_}
 use native.Mathlib.Omega.{arith}
 use lib.Dec.{eqb, ltb}
 use lib.ListN.{length, getD}
-use borrow.Author.Tests.{eqb-true, eqb-false, ne-eqb, ltb-true}
-use Rattle.paper_lower.specs.Lists.{every, listsOpen}
+use borrow.Author.Tests.{eqb-true, eqb-false, ltb-true}
+use Rattle.paper_lower.specs.Lists.{some, every, listsOpen}
 use Rattle.paper_lower.proofs.ListLaws.{both}
 use Rattle.paper_opl.specs.Reading.{Text, text, same, readingOpen}
 use Rattle.paper_opl.specs.Elements.{elementsOpen}
 use Rattle.paper_opl.specs.Tree.{Tag}
-use Rattle.paper_opl.specs.Walk.{Context, turn, kinds, kindIn, kindAt}
+use Rattle.paper_opl.specs.Walk.{Context, turn, kinds, kindIn, kindAt, innerNames}
 use Rattle.paper_opl.proofs.Inversion.{on-test}
 use Rattle.paper_opl.proofs.Conforms.{same-true}
 use Rattle.opl_table.specs.Numbers.{names, nameOf, packed, wordAt, numberAt}
-use Rattle.opl_turns.specs.Meaning.{guesses, guessOf, elementOf, kindList, kindBy, setsBy, partsBy}
+use Rattle.opl_turns.specs.Meaning.{guesses, guessOf, elementOf, inners, innerOf, kindList, kindBy, setsBy, partsBy}
 
 -- ---- The two tables, computed.
 
@@ -49,11 +49,12 @@ below-at p (suc n) k h a =
 -- what an element's number tells is what its name does
 tells : ℕ → Bool
 tells g =
-    ltb (numberAt kindList g) 17
+    ltb g 128
+    && (ltb (numberAt kindList g) 17
     && (eqb (kindIn kinds (nameOf g)) (numberAt kindList g)
     && (named g (text "critical_role_set") 23
     && (named g (text "static_separation_of_duty") 20
-    && (named g (text "dynamic_separation_of_duty") 21 && (named g (text "hdsodtp_partitioning") 38 && named g (text "hdsodtp_partition") 39)))))
+    && (named g (text "dynamic_separation_of_duty") 21 && (named g (text "hdsodtp_partitioning") 38 && named g (text "hdsodtp_partition") 39))))))
 
 guesses-tell : every (λ h. tells (numberAt guesses h)) (countTo 64) ≡ true
 unfolding listsOpen readingOpen elementsOpen kinds kindIn names nameOf kindList guesses tells alike countTo numberAt wordAt packed
@@ -92,6 +93,7 @@ kind-none (x ∷ xs) w h f =
 
 -- what a name tells, by its number
 pub record Meant (w : Text) (id : ℕ) : Type 0 where
+  pub low : id < 128
   pub small : numberAt kindList id < 17
   pub kind : kindIn kinds w ≡ numberAt kindList id
   pub set : same w (text "critical_role_set") ≡ eqb id 23
@@ -103,13 +105,15 @@ pub record Meant (w : Text) (id : ℕ) : Type 0 where
 by-number : (g : ℕ) → tells g ≡ true → Meant (nameOf g) g
 unfolding tells
 by-number g h =
-    let z = both (ltb (numberAt kindList g) 17) _ h in
+    let y = both (ltb g 128) _ h in
+    let z = both (ltb (numberAt kindList g) 17) _ (y .1) in
     let a = both (eqb (kindIn kinds (nameOf g)) (numberAt kindList g)) _ (z .1) in
     let b = both (named g (text "critical_role_set") 23) _ (a .1) in
     let c = both (named g (text "static_separation_of_duty") 20) _ (b .1) in
     let d = both (named g (text "dynamic_separation_of_duty") 21) _ (c .1) in
     let e = both (named g (text "hdsodtp_partitioning") 38) (named g (text "hdsodtp_partition") 39) (d .1) in
     record {
+      low = ltb-true _ _ (y .0);
       small = ltb-true _ _ (z .0);
       kind = eqb-true _ _ (a .0);
       set = alike-is _ _ (b .0);
@@ -123,6 +127,7 @@ unguessed : (w : Text) → guessed w ≡ false → Meant w 65
 unfolding kindList numberAt wordAt packed
 unguessed w f =
     record {
+      low = omega arith;
       small = omega arith;
       kind = kind-none kinds w kinds-guessed f;
       set = unlike _ w (others-guessed .0) f;
@@ -144,49 +149,67 @@ unfolding guesses guessOf numberAt wordAt packed
 no-name [] e = refl
 no-name (b ∷ w) e = absurd (omega (arith, e))
 
--- ---- The elements that declare names: 12 to 16.
+-- ---- The elements that declare names, 12 to 16, and those that stand in others.
 
-spaces : List ℕ
-spaces = 0 ∷ 1 ∷ 2 ∷ 3 ∷ 4 ∷ []
+-- with a place in a list
+sought : List ℕ
+sought = 12 ∷ 13 ∷ 14 ∷ 15 ∷ 16 ∷ 24 ∷ 25 ∷ 36 ∷ 40 ∷ []
 
-guesses-declare : every (λ h. every (λ i. named (numberAt guesses h) (nameOf (12 + i)) (12 + i)) spaces) (countTo 64) ≡ true
-unfolding listsOpen readingOpen elementsOpen names nameOf guesses alike spaces countTo numberAt wordAt packed
-guesses-declare = refl
+guesses-sought : every (λ h. every (λ e. named (numberAt guesses h) (nameOf e) e) sought) (countTo 64) ≡ true
+unfolding listsOpen readingOpen elementsOpen names nameOf guesses alike sought countTo numberAt wordAt packed
+guesses-sought = refl
 
-declarers-guessed : every (λ i. guessed (nameOf (12 + i))) spaces ≡ true
-unfolding listsOpen readingOpen elementsOpen names nameOf guesses guessOf spaces numberAt wordAt packed
-declarers-guessed = refl
+sought-guessed : every (λ e. guessed (nameOf e)) sought ≡ true
+unfolding listsOpen readingOpen elementsOpen names nameOf guesses guessOf sought numberAt wordAt packed
+sought-guessed = refl
 
-every-space : (p : ℕ → Bool) → every p spaces ≡ true → (i : ℕ) → i < 5 → p i ≡ true
-unfolding every spaces
-every-space p h i a =
-    let e = both (p 0) _ h in
-    let f = both (p 1) _ (e .1) in
-    let g = both (p 2) _ (f .1) in
-    let k = both (p 3) _ (g .1) in
-    let m = both (p 4) true (k .1) in
-    at-space i a (e .0) (f .0) (g .0) (k .0) (m .0)
-  where
-    at-space : (i : ℕ) → i < 5 → p 0 ≡ true → p 1 ≡ true → p 2 ≡ true → p 3 ≡ true → p 4 ≡ true → p i ≡ true
-    at-space zero a e f g k m = e
-    at-space (suc zero) a e f g k m = f
-    at-space (suc (suc zero)) a e f g k m = g
-    at-space (suc (suc (suc zero))) a e f g k m = k
-    at-space (suc (suc (suc (suc zero)))) a e f g k m = m
-    at-space (suc (suc (suc (suc (suc i))))) a e f g k m = absurd (omega arith)
+every-at : (p : ℕ → Bool) (es : List ℕ) (e : ℕ) → every p es ≡ true → some (eqb e) es ≡ true → p e ≡ true
+unfolding every some
+every-at p [] e h a = absurd (false≢true a)
+every-at p (d ∷ es) e h a =
+    let b = both (p d) (every p es) h in
+    on-test (eqb e d) (λ q. let z = eqb-true e d q in rw z (b .0)) (λ q. every-at p es e (b .1) (rw q at a))
 
-guess-declares : (w : Text) → every (λ i. named (guessOf w) (nameOf (12 + i)) (12 + i)) spaces ≡ true
+guess-sought : (w : Text) → every (λ e. named (guessOf w) (nameOf e) e) sought ≡ true
 unfolding guessOf
-guess-declares w = below-at (λ h. every (λ i. named (numberAt guesses h) (nameOf (12 + i)) (12 + i)) spaces) 64 _ guesses-declare (mod-lt (length w + 17 * getD w (length w - 1) 0))
+guess-sought w = below-at (λ h. every (λ e. named (numberAt guesses h) (nameOf e) e) sought) 64 _ guesses-sought (mod-lt (length w + 17 * getD w (length w - 1) 0))
 
-pub declares-by : (w : Text) (i : ℕ) → i < 5 → same w (nameOf (12 + i)) ≡ eqb (elementOf w) (12 + i)
+unguessed-other : (e : ℕ) → some (eqb e) sought ≡ true → eqb 65 e ≡ false
+unfolding some sought
+unguessed-other e h = on-test (eqb 65 e) (λ q. let z = eqb-true 65 e q in absurd (false≢true (rw (← z) at h))) (λ q. q)
+
+named-by : (w : Text) (e : ℕ) → some (eqb e) sought ≡ true → same w (nameOf e) ≡ eqb (elementOf w) e
 unfolding elementOf
-declares-by w i h =
+named-by w e h =
     on-test (guessed w)
     (λ q.
-    let e = same-true w (nameOf (guessOf w)) q in
-    rw q (ap (λ (v : Text). same v (nameOf (12 + i))) e ∙ alike-is _ _ (every-space (λ i. named (guessOf w) (nameOf (12 + i)) (12 + i)) (guess-declares w) i h)))
-    (λ q. rw q (unlike (nameOf (12 + i)) w (every-space (λ i. guessed (nameOf (12 + i))) declarers-guessed i h) q ∙ sym (ne-eqb 65 (12 + i) (λ z. omega (arith, z)))))
+    let z = same-true w (nameOf (guessOf w)) q in
+    rw q (ap (λ (v : Text). same v (nameOf e)) z ∙ alike-is _ _ (every-at (λ e. named (guessOf w) (nameOf e) e) sought e (guess-sought w) h)))
+    (λ q. rw q (unlike (nameOf e) w (every-at (λ e. guessed (nameOf e)) sought e sought-guessed h) q ∙ sym (unguessed-other e h)))
+
+declarers-sought : (i : ℕ) → i < 5 → some (eqb (12 + i)) sought ≡ true
+unfolding listsOpen sought
+declarers-sought zero h = refl
+declarers-sought (suc zero) h = refl
+declarers-sought (suc (suc zero)) h = refl
+declarers-sought (suc (suc (suc zero))) h = refl
+declarers-sought (suc (suc (suc (suc zero)))) h = refl
+declarers-sought (suc (suc (suc (suc (suc i))))) h = absurd (omega arith)
+
+pub declares-by : (w : Text) (i : ℕ) → i < 5 → same w (nameOf (12 + i)) ≡ eqb (elementOf w) (12 + i)
+declares-by w i h = named-by w (12 + i) (declarers-sought i h)
+
+inners-sought : every (λ e. some (eqb e) sought) inners ≡ true
+unfolding listsOpen sought
+inners-sought = refl
+
+pub stands-by : (w : Text) (e : ℕ) → innerOf e ≡ true → same w (nameOf e) ≡ eqb (elementOf w) e
+unfolding innerOf
+stands-by w e h = named-by w e (every-at (λ e. some (eqb e) sought) inners e inners-sought h)
+
+pub inner-by : (w : Text) → some (same w) innerNames ≡ innerOf (elementOf w)
+unfolding listsOpen readingOpen elementsOpen names nameOf innerNames innerOf
+inner-by w = rw (stands-by w 15 refl, stands-by w 16 refl, stands-by w 24 refl, stands-by w 25 refl, stands-by w 36 refl, stands-by w 40 refl)
 
 -- ---- A tag.
 

@@ -1,32 +1,28 @@
 -- Laws of the walk: over a tag, to the next cursor.
-use Prim.Native.Nat.{ℕ, suc, _+_, _-_, _≤_, _<_}
+use Prim.Native.Nat.{ℕ, suc, _+_, _-_, _≤_}
 use mathlib.Core.Path.{_≡_, refl, ap, _∙_}
 use mathlib.Core.Bool.{Bool, true, false, cond}
 use mathlib.Core.List.{List, [], _∷_}
 use native.Mathlib.Omega.{arith}
 use lib.Dec.{eqb}
-use lib.ListN.{length, take, drop, length-drop}
 use borrow.Author.Tests.{eqb-false}
 use Rattle.paper_lower.specs.Lists.{upd, many, keep, Every}
 use Rattle.paper_lower.specs.Records.{Bytes}
-use Rattle.paper_opl.specs.Reading.{Text, Read}
-use Rattle.paper_opl.specs.Reading.Read.{got, bad}
+use Rattle.paper_opl.specs.Reading.{Text}
 use Rattle.paper_opl.specs.Tree.{Tag as Tagged}
 use Rattle.paper_opl.specs.Naming.{Names}
 use Rattle.paper_opl.specs.Walk.{called, Context, turn, kindAt, leading, Saying, sayings, recordSaid}
 use Rattle.paper_opl.specs.Filling.{putAt, valued, fill, tally}
-use Rattle.paper_opl.proofs.Inversion.{on-test, bad≢got}
-use Rattle.paper_opl.proofs.Counts.{below-of}
-use Rattle.opl_tags.specs.Tags.{placeless, givenAt, nextTag, walkAt, Opens, ReadsTag}
-use Rattle.opl_tags.specs.declared.Tag.{Tag}
-use Rattle.opl_tags.specs.declared.Tag.the-variants.{Start, End, Halt}
-use Rattle.opl_tags.proofs.AttributeLaws.{placed}
-use Rattle.opl_tags.proofs.Walked.{step, stop, next-below}
-use Rattle.opl_turns.specs.Meaning.{elementOf, kindBy, setsBy, partsBy, numberBy}
-use Rattle.opl_turns.specs.Turning.{contextOf, tagsAt, behind, turnedBy, SmallTag, Stood, partitionings, Steps, Passes, Turns}
+use Rattle.paper_opl.proofs.Inversion.{on-test}
+use Rattle.opl_tags.specs.Tags.{givenAt, walkAt}
+use Rattle.opl_turns.specs.Meaning.{kindBy, setsBy, partsBy, numberBy}
+use Rattle.opl_turns.specs.Listing.{Opened, Meets}
+use Rattle.opl_turns.specs.Turning.{contextOf, tagsAt, behind, turnedBy, SmallTag, Stood, partitionings, Steps, Turns}
 use Rattle.opl_turns.specs.declared.Cursor.{Cursor}
+use Rattle.opl_turns.specs.declared.Met.{Met}
+use Rattle.opl_turns.specs.declared.Met.the-variants.{Begun, Ended, Over}
 use Rattle.opl_turns.specs.declared.Turned.the-variants.{Says, Silent}
-use Rattle.opl_turns.proofs.MeaningLaws.{meant, kind-is, turn-is, kind-small}
+use Rattle.opl_turns.proofs.MeaningLaws.{Meant, meant, kind-is, turn-is, kind-small}
 
 -- ---- One tag of a list.
 module _ (c : Context) (t : Tagged) (ts : List Tagged) (k : ℕ) (kind : kindAt c t ≡ k) (n : Context) (turned : turn c t ≡ n) where
@@ -60,64 +56,51 @@ module _ (c : Context) (t : Tagged) (ts : List Tagged) (k : ℕ) (kind : kindAt 
     loud-fills ns f out = rw (kind, q, turned, numbered)
 
 -- ---- A tag at a cursor.
-module _ (s : Text) (c : Cursor) (stood : Stood s c) (r : Tag) (reads : ReadsTag s (nextTag (drop (c .at) s)) r) where
-  pub turn-halt : r ≡ Halt → tagsAt s c ≡ []
-  turn-halt e = go (nextTag (drop (c .at) s)) refl (rw e at (reads .read-is))
-    where
-      go : (x : Read (List Tagged)) → nextTag (drop (c .at) s) ≡ x → bad [] ≡ placeless x → walkAt s (c .at) ≡ []
-      go (got ts u) p q = absurd (bad≢got q)
-      go (bad u) p q = stop (drop (c .at) s) u p
+module _ (s : Text) (l : List ℕ) (c : Cursor) (stood : Stood s c) (r : Met) (meets : Meets s l (c .at) (c .entry) r) where
+  pub turn-over : r ≡ Over → tagsAt s c ≡ []
+  turn-over e = rw e at meets
 
-  onward : (n : ℕ) (ts : List Tagged) → n ≤ length s → nextTag (drop (c .at) s) ≡ got ts (drop n s) → c .at < n
-  onward n ts h e = omega (arith, below-of e (next-below (drop (c .at) s)), length-drop (c .at) s, length-drop n s)
+  pub turn-ended : (n : ℕ) → r ≡ Ended n → Turns s l c (Silent (record { at = n; entry = c .entry; sets = c .sets; parts = c .parts }))
+  turn-ended n e =
+      let m : Meets s l (c .at) (c .entry) (Ended n) = rw e at meets in
+      let w = m .0 .walk in (
+        record {
+          steps = record {
+            past = m .0 .past;
+            stood = record { inside = m .0 .inside; few = omega (arith, stood .few, m .0 .past); low = stood .low; small = rw w at (stood .small) };
+            begun = ap (λ (ts : List Tagged). c .parts + many (keep (called "hdsodtp_partitioning") ts)) w;
+          };
+          says = ap (sayings (contextOf c)) w;
+          tallies = λ f. ap (tally (contextOf c) f) w;
+          fills = λ ns f out. ap (λ (ts : List Tagged). fill ns (contextOf c) f ts out) w;
+        },
+        m .1,
+      )
 
-  pub turn-end : (n : ℕ) → r ≡ End n → Passes s c (record { at = n; sets = c .sets; parts = c .parts })
-  turn-end n e =
-      let q = placed (nextTag (drop (c .at) s)) [] (drop n s) (rw e at (reads .read-is)) in
-      let u : n ≤ length s = rw e at (reads .stands) in
-      let w : walkAt s (c .at) ≡ walkAt s n = step (drop (c .at) s) (drop n s) [] q in
-      let p = onward n [] u q in
-      record {
-        steps = record {
-          past = p;
-          stood = record { inside = u; few = omega (arith, stood .few); low = stood .low; small = rw w at (stood .small) };
-          begun = ap (λ (ts : List Tagged). c .parts + many (keep (called "hdsodtp_partitioning") ts)) w;
-        };
-        says = ap (sayings (contextOf c)) w;
-        tallies = λ f. ap (tally (contextOf c) f) w;
-        fills = λ ns f out. ap (λ (ts : List Tagged). fill ns (contextOf c) f ts out) w;
-      }
+  module _ (id end entry : ℕ) (e : r ≡ Begun id end entry) where
+    begun-is : Meets s l (c .at) (c .entry) (Begun id end entry)
+    begun-is = rw e at meets
 
-  module _ (name end : ℕ) (e : r ≡ Start name end) where
-    pub turn-stands : Opens s name end
-    turn-stands = rw e at (reads .stands)
+    abbrev o : Opened s (c .at) end id
+    o = begun-is .0
 
     abbrev here : Tagged
-    here = record { name = take (end - name) (drop name s); given = givenAt s end }
-
-    abbrev id : ℕ
-    id = elementOf (take (end - name) (drop name s))
+    here = record { name = o .name; given = givenAt s end }
 
     abbrev n : Cursor
-    n = behind id c end
+    n = behind id c end entry
 
-    start-is : nextTag (drop (c .at) s) ≡ got (here ∷ []) (drop end s)
-    start-is = placed (nextTag (drop (c .at) s)) (here ∷ []) (drop end s) (rw e at (reads .read-is))
-
-    walk-is : walkAt s (c .at) ≡ here ∷ walkAt s end
-    walk-is = step (drop (c .at) s) (drop end s) (here ∷ []) start-is
+    means : Meant (o .name) id
+    means = rw (o .element) at (meant (o .name))
 
     turned : turn (contextOf c) here ≡ contextOf n
-    turned = turn-is (contextOf c) here
+    turned = turn-is (contextOf c) here ∙ ap (λ (i : ℕ). contextOf (behind i c end entry)) (o .element)
 
     smalls : SmallTag here × Every SmallTag (walkAt s end)
-    smalls = rw walk-is at (stood .small)
-
-    past : c .at < end
-    past = onward end (here ∷ []) (turn-stands .inside) start-is
+    smalls = rw (o .walk) at (stood .small)
 
     few : partsBy (c .parts) id ≤ end
-    few = on-test (eqb id 38) (λ q. rw q (omega (arith, stood .few, past))) (λ q. rw q (omega (arith, stood .few, past)))
+    few = on-test (eqb id 38) (λ q. rw q (omega (arith, stood .few, o .past))) (λ q. rw q (omega (arith, stood .few, o .past)))
 
     low : setsBy (c .sets) id ≤ 10
     low = on-test (eqb id 20) (λ q. rw q (omega arith)) (λ q. on-test (eqb id 21) (λ p. rw (q, p) (omega arith)) (λ p. rw (q, p) (stood .low)))
@@ -125,39 +108,43 @@ module _ (s : Text) (c : Cursor) (stood : Stood s c) (r : Tag) (reads : ReadsTag
     begun : partitionings s c ≡ partitionings s n
     unfolding keep many
     begun =
-        let m = meant (take (end - name) (drop name s)) .partitioning in
-        ap (λ (ts : List Tagged). c .parts + many (keep (called "hdsodtp_partitioning") ts)) walk-is
+        let m = means .partitioning in
+        ap (λ (ts : List Tagged). c .parts + many (keep (called "hdsodtp_partitioning") ts)) (o .walk)
         ∙ on-test (eqb id 38) (λ q. rw (m, q) (omega arith)) (λ q. rw (m, q))
 
     steps : Steps s c n
-    steps = record { past = past; stood = record { inside = turn-stands .inside; few = few; low = low; small = smalls .1 }; begun = begun }
+    steps = record { past = o .past; stood = record { inside = o .inside; few = few; low = low; small = smalls .1 }; begun = begun }
 
-    pub turn-start : Turns s c (turnedBy id c end end)
-    turn-start = go (eqb (kindBy (c .sets) id) 0) refl
+    pub turn-begun : Turns s l c (turnedBy id c end entry)
+    turn-begun = go (eqb (kindBy (c .sets) id) 0) refl
       where
         k : kindAt (contextOf c) here ≡ kindBy (c .sets) id
-        k = kind-is (contextOf c) here
+        k = kind-is (contextOf c) here ∙ ap (kindBy (c .sets)) (o .element)
 
         m : cond (called "hdsodtp_partition" here) (c .parts - 1) 0 ≡ numberBy (c .parts) id
-        m = rw (meant (take (end - name) (drop name s)) .partition)
+        m = rw (means .partition)
 
-        go : (b : Bool) → eqb (kindBy (c .sets) id) 0 ≡ b → Turns s c (cond b (Silent n) (Says (kindBy (c .sets) id) (numberBy (c .parts) id) end n))
-        go true q =
-            record {
-              steps = steps;
-              says = ap (sayings (contextOf c)) walk-is ∙ quiet-says (contextOf c) here (walkAt s end) _ k (contextOf n) turned q;
-              tallies = λ f. ap (tally (contextOf c) f) walk-is ∙ quiet-tallies (contextOf c) here (walkAt s end) _ k (contextOf n) turned q f;
-              fills = λ ns f out. ap (λ (ts : List Tagged). fill ns (contextOf c) f ts out) walk-is ∙ quiet-fills (contextOf c) here (walkAt s end) _ k (contextOf n) turned q ns f out;
-            }
+        go : (b : Bool) → eqb (kindBy (c .sets) id) 0 ≡ b → Turns s l c (cond b (Silent n) (Says (kindBy (c .sets) id) (numberBy (c .parts) id) end n))
+        go true q = (
+          record {
+            steps = steps;
+            says = ap (sayings (contextOf c)) (o .walk) ∙ quiet-says (contextOf c) here (walkAt s end) _ k (contextOf n) turned q;
+            tallies = λ f. ap (tally (contextOf c) f) (o .walk) ∙ quiet-tallies (contextOf c) here (walkAt s end) _ k (contextOf n) turned q f;
+            fills = λ ns f out. ap (λ (ts : List Tagged). fill ns (contextOf c) f ts out) (o .walk) ∙ quiet-fills (contextOf c) here (walkAt s end) _ k (contextOf n) turned q ns f out;
+          },
+          begun-is .1,
+        )
         go false q =
-            let z = eqb-false (kindBy (c .sets) id) 0 q in
-            record {
-              steps = steps;
-              named = turn-stands .inside;
-              cardinal = smalls .0;
-              some = omega (arith, z);
-              small = kind-small (c .sets) (take (end - name) (drop name s)) (stood .low);
-              says = ap (sayings (contextOf c)) walk-is ∙ loud-says (contextOf c) here (walkAt s end) _ k (contextOf n) turned q _ m;
-              tallies = λ f. ap (tally (contextOf c) f) walk-is ∙ loud-tallies (contextOf c) here (walkAt s end) _ k (contextOf n) turned q _ m f;
-              fills = λ ns f out. ap (λ (ts : List Tagged). fill ns (contextOf c) f ts out) walk-is ∙ loud-fills (contextOf c) here (walkAt s end) _ k (contextOf n) turned q _ m ns f out;
-            }
+            let z = eqb-false (kindBy (c .sets) id) 0 q in (
+              record {
+                steps = steps;
+                ends = refl;
+                cardinal = smalls .0;
+                some = omega (arith, z);
+                small = rw (o .element) at (kind-small (c .sets) (o .name) (stood .low));
+                says = ap (sayings (contextOf c)) (o .walk) ∙ loud-says (contextOf c) here (walkAt s end) _ k (contextOf n) turned q _ m;
+                tallies = λ f. ap (tally (contextOf c) f) (o .walk) ∙ loud-tallies (contextOf c) here (walkAt s end) _ k (contextOf n) turned q _ m f;
+                fills = λ ns f out. ap (λ (ts : List Tagged). fill ns (contextOf c) f ts out) (o .walk) ∙ loud-fills (contextOf c) here (walkAt s end) _ k (contextOf n) turned q _ m ns f out;
+              },
+              begun-is .1,
+            )

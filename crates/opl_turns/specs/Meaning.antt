@@ -1,16 +1,18 @@
 -- What the name of a tag's element tells, by one guess at its number and one comparison.
 use Prim.Native.Nat.{ℕ, _+_, _*_, _-_, _%_}
-use mathlib.Core.Bool.{cond}
+use mathlib.Core.Bool.{Bool, cond}
 use mathlib.Core.List.{List, [], _∷_}
 use lib.Dec.{eqb}
 use lib.ListN.{length, getD}
+use Rattle.paper_lower.specs.Lists.{some}
 use Rattle.paper_opl.specs.Reading.{Text, same}
 use Rattle.opl_table.specs.Numbers.{nameOf, numberAt}
 
--- by the length of the name and its last byte, the one element that it can be, of those that say a record, declare a name or turn the context
+-- by the length of the name and its last byte, the one element that it can be, of those that say a record, declare a name, turn the context or stand in one that
+-- says a record
 unfoldable pub guesses : List ℕ
 guesses =
-    65 ∷ 65 ∷ 65 ∷ 17 ∷ 65 ∷ 23 ∷ 35 ∷ 65 ∷ 30 ∷ 18 ∷ 65 ∷ 46 ∷ 65 ∷ 65 ∷ 29 ∷ 33 ∷ 65 ∷ 65 ∷ 65 ∷ 65 ∷ 65 ∷ 65 ∷ 12 ∷ 15 ∷ 14 ∷ 43 ∷ 65 ∷ 65 ∷ 65 ∷ 65 ∷ 65 ∷ 39 ∷ 65 ∷ 65 ∷ 20 ∷ 21 ∷ 65 ∷ 65 ∷ 65 ∷ 65 ∷ 65 ∷ 65 ∷ 65 ∷ 38 ∷ 65 ∷ 65 ∷ 65 ∷ 65 ∷ 65 ∷ 65 ∷ 65 ∷ 65 ∷ 65 ∷ 65 ∷ 65 ∷ 65 ∷ 65 ∷ 13 ∷ 16 ∷ 49 ∷ 65 ∷ 65 ∷ 65 ∷ 65 ∷ []
+    65 ∷ 65 ∷ 25 ∷ 17 ∷ 65 ∷ 23 ∷ 35 ∷ 65 ∷ 30 ∷ 18 ∷ 65 ∷ 46 ∷ 65 ∷ 65 ∷ 29 ∷ 33 ∷ 65 ∷ 65 ∷ 65 ∷ 65 ∷ 65 ∷ 65 ∷ 12 ∷ 15 ∷ 14 ∷ 43 ∷ 65 ∷ 65 ∷ 65 ∷ 65 ∷ 65 ∷ 39 ∷ 65 ∷ 65 ∷ 20 ∷ 21 ∷ 65 ∷ 65 ∷ 65 ∷ 65 ∷ 36 ∷ 40 ∷ 65 ∷ 38 ∷ 65 ∷ 65 ∷ 65 ∷ 65 ∷ 65 ∷ 24 ∷ 65 ∷ 65 ∷ 65 ∷ 65 ∷ 65 ∷ 65 ∷ 65 ∷ 13 ∷ 16 ∷ 49 ∷ 65 ∷ 65 ∷ 65 ∷ 65 ∷ []
 
 unfoldable pub guessOf : Text → ℕ
 guessOf w = numberAt guesses ((length w + 17 * getD w (length w - 1) 0) % 64)
@@ -18,6 +20,13 @@ guessOf w = numberAt guesses ((length w + 17 * getD w (length w - 1) 0) % 64)
 -- the number of the element of this name; 65 for all others
 unfoldable pub elementOf : Text → ℕ
 elementOf w = cond (same w (nameOf (guessOf w))) (guessOf w) 65
+
+-- the elements that stand in one which says a record
+abbrev pub inners : List ℕ
+inners = 15 ∷ 16 ∷ 24 ∷ 25 ∷ 36 ∷ 40 ∷ []
+
+unfoldable pub innerOf : ℕ → Bool
+innerOf id = some (eqb id) inners
 
 -- the kind that each element says, a set of roles apart; 0 for none
 unfoldable pub kindList : List ℕ

@@ -14,6 +14,7 @@ use Rattle.paper_opl.specs.Walk.{called, Context, leading, Saying, sayings, rec
 use Rattle.paper_opl.specs.Filling.{putAt, valued, fill, tally}
 use Rattle.opl_tags.specs.Tags.{givenAt, walkAt}
 use Rattle.opl_turns.specs.Meaning.{kindBy, setsBy, partsBy, numberBy}
+use Rattle.opl_turns.specs.Listing.{Leads}
 use Rattle.opl_turns.specs.declared.Cursor.{Cursor}
 use Rattle.opl_turns.specs.declared.Turned.{Turned}
 use Rattle.opl_turns.specs.declared.Turned.the-variants.{Says, Silent, Done}
@@ -25,11 +26,11 @@ abbrev pub tagsAt : Text → Cursor → List Tag
 tagsAt s c = walkAt s (c .at)
 
 -- behind the tag of an element, and what the tag tells
-abbrev pub behind : ℕ → Cursor → ℕ → Cursor
-behind id c next = record { at = next; sets = setsBy (c .sets) id; parts = partsBy (c .parts) id }
+abbrev pub behind : ℕ → Cursor → ℕ → ℕ → Cursor
+behind id c end entry = record { at = end; entry = entry; sets = setsBy (c .sets) id; parts = partsBy (c .parts) id }
 
 abbrev pub turnedBy : ℕ → Cursor → ℕ → ℕ → Turned
-turnedBy id c end next = cond (eqb (kindBy (c .sets) id) 0) (Silent (behind id c next)) (Says (kindBy (c .sets) id) (numberBy (c .parts) id) end (behind id c next))
+turnedBy id c end entry = cond (eqb (kindBy (c .sets) id) 0) (Silent (behind id c end entry)) (Says (kindBy (c .sets) id) (numberBy (c .parts) id) end (behind id c end entry))
 
 -- its cardinality, if it has one, is a number up to 255
 abbrev pub SmallTag : Tag → Type 0
@@ -38,9 +39,9 @@ SmallTag t = decimal 0 (valueOf (text "cardinality") (t .given)) ≤ 255
 abbrev pub Cardinal : Text → ℕ → Type 0
 Cardinal s end = decimal 0 (valueOf (text "cardinality") (givenAt s end)) ≤ 255
 
--- what the tag whose name ends at `end`, and behind which the text goes on at `next`, says
-abbrev pub sayingAt : Text → ℕ → ℕ → ℕ → ℕ → Saying
-sayingAt s kind number end next = record { kind = kind; found = record { number = number; given = givenAt s end; inside = leading (walkAt s next) } }
+-- what the tag whose name ends at `end` says
+abbrev pub sayingAt : Text → ℕ → ℕ → ℕ → Saying
+sayingAt s kind number end = record { kind = kind; found = record { number = number; given = givenAt s end; inside = leading (walkAt s end) } }
 
 -- a cursor that stands in the text
 pub record Stood (s : Text) (c : Cursor) : Type 0 where
@@ -48,6 +49,10 @@ pub record Stood (s : Text) (c : Cursor) : Type 0 where
   pub few : c .parts ≤ c .at
   pub low : c .sets ≤ 10
   pub small : Every SmallTag (tagsAt s c)
+
+-- the list leads on from it
+abbrev pub Led : Text → List ℕ → Cursor → Type 0
+Led s l c = Leads s l (c .entry) (c .at)
 
 -- partitionings begun before the cursor, and behind it
 abbrev pub partitionings : Text → Cursor → ℕ
@@ -69,17 +74,17 @@ pub record Passes (s : Text) (c n : Cursor) : Type 0 where
 -- over a tag that says one
 pub record Tells (s : Text) (c : Cursor) (kind number end : ℕ) (n : Cursor) : Type 0 where
   pub steps : Steps s c n
-  pub named : end ≤ length s
+  pub ends : n .at ≡ end
   pub cardinal : Cardinal s end
   pub some : 0 < kind
   pub small : kind < 17
-  pub says : sayings (contextOf c) (tagsAt s c) ≡ sayingAt s kind number end (n .at) ∷ sayings (contextOf n) (tagsAt s n)
+  pub says : sayings (contextOf c) (tagsAt s c) ≡ sayingAt s kind number end ∷ sayings (contextOf n) (tagsAt s n)
   pub tallies : (f : ℕ → ℕ) → tally (contextOf c) f (tagsAt s c) ≡ tally (contextOf n) (upd f kind (suc (f kind))) (tagsAt s n)
   pub fills : (ns : Names) (f : ℕ → ℕ) (out : Bytes)
       → fill ns (contextOf c) f (tagsAt s c) out
-      ≡ fill ns (contextOf n) (upd f kind (suc (f kind))) (tagsAt s n) (putAt out (f kind) (valued (recordSaid ns (sayingAt s kind number end (n .at)))))
+      ≡ fill ns (contextOf n) (upd f kind (suc (f kind))) (tagsAt s n) (putAt out (f kind) (valued (recordSaid ns (sayingAt s kind number end))))
 
-abbrev pub Turns : Text → Cursor → Turned → Type 0
-Turns s c (Says kind number end n) = Tells s c kind number end n
-Turns s c (Silent n) = Passes s c n
-Turns s c Done = tagsAt s c ≡ []
+abbrev pub Turns : Text → List ℕ → Cursor → Turned → Type 0
+Turns s l c (Says kind number end n) = Tells s c kind number end n × Led s l n
+Turns s l c (Silent n) = Passes s c n × Led s l n
+Turns s l c Done = tagsAt s c ≡ []

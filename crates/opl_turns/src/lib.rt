@@ -1,19 +1,36 @@
-// What each tag of a text tells, from tag to tag: the kind of record that it says, by the name of its element and by the tags before it. It rests on the
-// tags of opl_tags and on the names of opl_table.
+// What each tag of a text tells, from tag to tag: the kind of record that it says, by the name of its element and by the tags before it; and the list of the start tags,
+// by which a second walk need not look at the text. It rests on the tags of opl_tags, on the names of opl_table and on the scratch of opl_spaces.
 ghost use mathlib.Core.Path.{_≡_};
 ghost use Prim.Native.Nat.{_≤_, _<_};
+ghost use lib.ListN.{length};
+ghost use Rattle.opl_spaces.specs.Spaces.{scratchWords, listOf};
 ghost use Rattle.opl_table.specs.Numbers.{wordAt, digit as digitOf};
 ghost use Rattle.opl_turns.specs.Meaning.{guesses, guessOf, elementOf, kindList, kindBy, setsBy, partsBy, numberBy};
-ghost use Rattle.opl_turns.specs.Turning.{turnedBy, Stood, Turns};
+ghost use Rattle.opl_turns.specs.Listing.{entered, Leads, Reads, Meets};
+ghost use Rattle.opl_turns.specs.Turning.{turnedBy, Stood, Led, Turns};
+use opl_spaces::LIST;
+use opl_spaces::LISTED;
 use opl_table::is_name;
 use opl_tags::Tag;
 use opl_tags::read_tag;
 
-// A place in the text, with what the tags before it told: the kind of a set of roles, and how many partitionings have begun.
+// A text of so many bytes or more is not listed: a place in it may not fit into a word beside the element.
+const LONGEST: usize = 144115188075855872;
+
+// A place in the text, with how many entries of the list lie before it, and with what the tags before it told: the kind of a set of roles, and how many partitionings
+// have begun.
 pub struct Cursor {
     pub at: usize,
+    pub entry: usize,
     pub sets: u64,
     pub parts: usize,
+}
+
+// A start tag of the element, its name ending at `end`, with how many entries lie before what is behind it; or an end tag, passed to this place; or no tag any more.
+pub enum Met {
+    Begun { id: u64, end: usize, entry: usize },
+    Ended(usize),
+    Over,
 }
 
 // A tag that says a record of a kind, its name ending at `end`; or a tag that says none; or no tag any more.
@@ -42,13 +59,13 @@ fn guess_word(j: u64) -> u64
     ensures { λ r. ⌜ r ≡ wordAt guesses j ⌝ }
 {
     match j {
-        0 => 0x4123174111414141,
+        0 => 0x4123174111194141,
         1 => 0x211d41412e41121e,
         2 => 0x0f0c414141414141,
         3 => 0x2741414141412b0e,
         4 => 0x4141414115144141,
-        5 => 0x4141414126414141,
-        6 => 0x4141414141414141,
+        5 => 0x4141414126412824,
+        6 => 0x4141414141411841,
         7 => 0x4141414131100d41,
         _ => 0,
     }
@@ -96,6 +113,59 @@ pub fn element(v: &[u8]) -> u64
     65
 }
 
+// ---- The list of tags, and the next one by it.
+
+// A start tag becomes an entry, if there is room for it: where its name ends, and the element in the low seven bits.
+pub fn enter(s: &[u8], w: &mut [u64], end: usize, id: u64)
+    requires { ⌜ (length (now w) ≡ scratchWords) × ((end ≤ length (now s)) × (id < 128)) ⌝ }
+    ensures { λ _. ⌜ now (w .exit) ≡ entered (length (now (s .entry))) (now (w .entry)) end id ⌝ }
+{
+    let n = w[LIST] as usize;
+    if LISTED <= n {
+        return;
+    }
+    if LONGEST <= s.len() {
+        return;
+    }
+    w[LIST + 1 + n] = end as u64 * 128 + id;
+    w[LIST] = n as u64 + 1;
+}
+
+// The next tag from `at` on, by the text.
+fn read(s: &[u8], at: usize, entry: usize) -> Met
+    requires { ⌜ at ≤ length (now s) ⌝ }
+    ensures { λ r. ⌜ Reads (now (s .entry)) at entry r ⌝ }
+{
+    let t = read_tag(s, at);
+    match t {
+        Tag::Halt => Met::Over,
+        Tag::End(next) => Met::Ended(next),
+        Tag::Start { name, end } => {
+            let id = element(&s[name..end]);
+            Met::Begun { id, end, entry }
+        }
+    }
+}
+
+// The next tag from `at` on, before which so many entries lie: by the next of them, if there is one, with no look at the text.
+pub fn meet(s: &[u8], w: &[u64], at: usize, entry: usize) -> Met
+    requires { ⌜ (length (now w) ≡ scratchWords) × ((at ≤ length (now s)) × Leads (now s) (listOf (now w)) entry at) ⌝ }
+    ensures { λ r. ⌜ Meets (now (s .entry)) (listOf (now (w .entry))) at entry r ⌝ }
+{
+    let n = w[LIST] as usize;
+    if entry < n {
+        let x = w[LIST + 1 + entry];
+        return Met::Begun {
+            id: x % 128,
+            end: (x / 128) as usize,
+            entry: entry + 1,
+        };
+    }
+    read(s, at, entry)
+}
+
+// ---- What a tag tells.
+
 fn kind_by(sets: u64, id: u64) -> u64
     ensures { λ r. ⌜ r ≡ kindBy sets id ⌝ }
 {
@@ -139,15 +209,15 @@ fn number_by(parts: usize, id: u64) -> u64
     (parts - 1) as u64
 }
 
-// The tag whose name is v and ends at `end`, and behind which the text goes on at `next`.
-fn told(v: &[u8], c: Cursor, end: usize, next: usize) -> Turned
+// The start tag of the element, whose name ends at `end`, and before what is behind it so many entries lie.
+fn told(id: u64, c: Cursor, end: usize, entry: usize) -> Turned
     requires { ⌜ c .parts < 18446744073709551615 ⌝ }
-    ensures { λ r. ⌜ r ≡ turnedBy (elementOf (now (v .entry))) c end next ⌝ }
+    ensures { λ r. ⌜ r ≡ turnedBy id c end entry ⌝ }
 {
-    let id = element(v);
     let kind = kind_by(c.sets, id);
     let n = Cursor {
-        at: next,
+        at: end,
+        entry,
         sets: sets_by(c.sets, id),
         parts: parts_by(c.parts, id),
     };
@@ -163,18 +233,19 @@ fn told(v: &[u8], c: Cursor, end: usize, next: usize) -> Turned
 }
 
 // The next tag from a cursor on.
-pub fn turn(s: &[u8], c: Cursor) -> Turned
-    requires { ⌜ Stood (now s) c ⌝ }
-    ensures { λ r. ⌜ Turns (now (s .entry)) c r ⌝ }
+pub fn turn(s: &[u8], w: &[u64], c: Cursor) -> Turned
+    requires { ⌜ (length (now w) ≡ scratchWords) × (Stood (now s) c × Led (now s) (listOf (now w)) c) ⌝ }
+    ensures { λ r. ⌜ Turns (now (s .entry)) (listOf (now (w .entry))) c r ⌝ }
 {
-    let t = read_tag(s, c.at);
+    let t = meet(s, w, c.at, c.entry);
     match t {
-        Tag::Halt => Turned::Done,
-        Tag::End(next) => Turned::Silent(Cursor {
+        Met::Over => Turned::Done,
+        Met::Ended(next) => Turned::Silent(Cursor {
             at: next,
+            entry: c.entry,
             sets: c.sets,
             parts: c.parts,
         }),
-        Tag::Start { name, end } => told(&s[name..end], c, end, end),
+        Met::Begun { id, end, entry } => told(id, c, end, entry),
     }
 }

@@ -138,7 +138,7 @@ fn space(figures: &Figures) -> String {
 | state lent by the caller: policy {policy}, sessions {sessions}, orders {orders} | {all} | |
 
 The stack below the calls is painted, and the deepest byte sought that they painted over; so the frames of the wrapper
-`mishantral::Engine` and of the loop that asks are counted too. Reading OPL/XML is lent a scratch besides, of 5,277,112 bytes.
+`mishantral::Engine` and of the loop that asks are counted too. Reading OPL/XML is lent a scratch besides, of 7,374,272 bytes.
 "
     )
 }

@@ -61,6 +61,29 @@ fn the_scratch_has_one_length() {
     }
 }
 
+/// More start tags than the scratch lists, the list ending at one place and another of the loan: behind its last entry the text is read.
+#[cfg(mishantral_opl)]
+#[test]
+fn more_tags_than_the_scratch_lists() {
+    const LOAN: &str = include_str!("../../../examples/opl_loan/policy.xml");
+    const TASKS: &[u8] = include_bytes!("../../../examples/opl_loan/tasks.txt");
+    const ONE: &str =
+        "<user_assignment user_id=\"user:karla_meier\" role_id=\"role:clerk_preprocessor\"/>";
+    let begin = LOAN.find("</user_assignments>").unwrap();
+    let mut scratch = vec![u64::MAX; mishantral::opl::scratch_words()];
+    for short in (0..240).step_by(16) {
+        let times = 262_144 - short;
+        let policy = [&LOAN[..begin], &ONE.repeat(times), &LOAN[begin..]].concat();
+        let room = 16 * (times + 98);
+        let (mut expected, mut output) = (vec![3; room], vec![3; room]);
+        let plain = opl::translate(policy.as_bytes(), TASKS, &mut expected);
+        let told = mishantral::opl::translate(policy.as_bytes(), TASKS, &mut output, &mut scratch);
+        assert_eq!(plain.reply, 0);
+        assert_eq!((told.reply.number(), told.figure), (0, plain.figure));
+        assert!(output == expected, "{short}");
+    }
+}
+
 #[test]
 fn a_library_takes_part() {
     let mut all = readers();

@@ -27,7 +27,7 @@ returns : tie.Need-returns
 returns c = rw (c .refused .ensures) (no-line (now (c .before .before .before .before .before .before .before .before .before .args .s)) (now (c .before .before .before .before .before .before .before .before .before .args .t)) (now (c .before .before .before .before .before .before .before .before .before .args .out)) (rw (c .before .enum-told .given .1) at (c .before .before .before .check-lines .ensures)))
 
 check-tags-requires : tie.Need-check-tags-requires
-check-tags-requires c κs = (c .before .before .before .before .before .before .before .before .before .before .before .pre .held, (c .before .before .before .before .before .before .before .before .before .before .before .pre .inside, (c .before .before .before .before .before .before .before .before .before .before .before .pre .small, (refl, zeros-at 17))))
+check-tags-requires c κs = (c .before .before .before .before .before .before .before .before .before .before .before .pre .held, ((c .before .before .before .before .before .before .before .before .before .before .before .pre .inside, c .before .before .before .before .before .before .before .before .before .before .before .pre .leads), (c .before .before .before .before .before .before .before .before .before .before .before .pre .small, (refl, zeros-at 17))))
 
 enum-known-k : tie.Need-enum-known-k
 enum-known-k c = search needs
@@ -69,10 +69,10 @@ array-read-first : tie.Need-array-read-first
 array-read-first c = search needs
 
 write-lines-requires : tie.Need-write-lines-requires
-write-lines-requires c κs = (((rw (c .before .before .before .before .before .before .before .before .k .given .1) at (c .before .before .before .before .before .before .before .before .before .before .before .before .check-tags .ensures)) .1 .0, c .before .before .before .before .before .before .before .before .before .before .before .before .before .before .before .before .before .before .before .before .before .before .before .before .pre .task-lines), ((rw (c .before .before .before .before .before .before .before .before .before .before .before .before .before .before .before .before .l .given .1) at (c .before .before .before .before .before .before .before .before .before .before .before .before .before .before .before .before .before .before .check-lines .ensures)) .0, lines-fit (now (c .before .before .before .before .before .before .before .before .before .before .before .before .before .before .before .before .before .before .before .before .before .before .before .before .args .s)) (now (c .before .before .before .before .before .before .before .before .before .before .before .before .before .before .before .before .before .before .before .before .before .before .before .before .args .t)) (now (c .before .before .before .before .before .before .before .before .before .before .before .before .before .before .before .before .before .before .before .before .before .before .before .before .args .out)) (c .before .before .before .before .before .before .before .before .before .before .before .before .before .before .before .before .before .before .before .before .before .before .before .before .args .from) (c .before .before .before .before .before .before .before .before .before .before .before .before .before .before .before .before .before .before .before .before .before .before .before .before .pre .tags-are) (replicate 17 0) (c .before .before .before .before .before .before .before .before .before .before .before .before .check-tags .last .1 .1 .1 .0) ((rw (c .before .before .before .before .before .before .before .before .before .before .before .before .before .before .before .before .l .given .1) at (c .before .before .before .before .before .before .before .before .before .before .before .before .before .before .before .before .before .before .check-lines .ensures)) .0) refl (zeros-at 17) ((rw (c .before .before .before .before .before .before .before .before .k .given .1) at (c .before .before .before .before .before .before .before .before .before .before .before .before .check-tags .ensures)) .0) (c .before .before .before .before .before .before .before .before .before .before .before .before .before .before .before .before .l .given .0 .0) ((rw (c .before .before .before .before .before .before .before .before .before .before .before .before .before .before .before .before .l .given .1) at (c .before .before .before .before .before .before .before .before .before .before .before .before .before .before .before .before .before .before .check-lines .ensures)) .1 .0) (c .before .before .before .before .before .begin .last .0) (c .before .before .before .b .given .0 .0) (rw (c .before .before .before .b .given .1) at (c .before .before .before .before .before .begin .ensures))))
+write-lines-requires c κs = (((rw (c .before .before .before .before .before .before .before .before .k .given .1) at (c .before .before .before .before .before .before .before .before .before .before .before .before .check-tags .ensures)) .1 .0 .0, c .before .before .before .before .before .before .before .before .before .before .before .before .before .before .before .before .before .before .before .before .before .before .before .before .pre .task-lines), ((rw (c .before .before .before .before .before .before .before .before .before .before .before .before .before .before .before .before .l .given .1) at (c .before .before .before .before .before .before .before .before .before .before .before .before .before .before .before .before .before .before .check-lines .ensures)) .0, lines-fit (now (c .before .before .before .before .before .before .before .before .before .before .before .before .before .before .before .before .before .before .before .before .before .before .before .before .args .s)) (now (c .before .before .before .before .before .before .before .before .before .before .before .before .before .before .before .before .before .before .before .before .before .before .before .before .args .t)) (now (c .before .before .before .before .before .before .before .before .before .before .before .before .before .before .before .before .before .before .before .before .before .before .before .before .args .out)) (c .before .before .before .before .before .before .before .before .before .before .before .before .before .before .before .before .before .before .before .before .before .before .before .before .args .from) (c .before .before .before .before .before .before .before .before .before .before .before .before .before .before .before .before .before .before .before .before .before .before .before .before .pre .tags-are) (replicate 17 0) (c .before .before .before .before .before .before .before .before .before .before .before .before .check-tags .last .1 .1 .1 .0) ((rw (c .before .before .before .before .before .before .before .before .before .before .before .before .before .before .before .before .l .given .1) at (c .before .before .before .before .before .before .before .before .before .before .before .before .before .before .before .before .before .before .check-lines .ensures)) .0) refl (zeros-at 17) ((rw (c .before .before .before .before .before .before .before .before .k .given .1) at (c .before .before .before .before .before .before .before .before .before .before .before .before .check-tags .ensures)) .0) (c .before .before .before .before .before .before .before .before .before .before .before .before .before .before .before .before .l .given .0 .0) ((rw (c .before .before .before .before .before .before .before .before .before .before .before .before .before .before .before .before .l .given .1) at (c .before .before .before .before .before .before .before .before .before .before .before .before .before .before .before .before .before .before .check-lines .ensures)) .1 .0) (c .before .before .before .before .before .begin .last .0) (c .before .before .before .b .given .0 .0) (rw (c .before .before .before .b .given .1) at (c .before .before .before .before .before .begin .ensures))))
 
 write-all-requires : tie.Need-write-all-requires
-write-all-requires c κs = ((((rw (c .before .before .before .before .before .before .before .before .before .before .before .before .before .before .k .given .1) at (c .before .before .before .before .before .before .before .before .before .before .before .before .before .before .before .before .before .before .check-tags .ensures)) .1 .0, (c .before .before .before .before .before .before .before .before .before .before .before .before .before .before .before .before .before .before .before .before .before .before .before .before .before .before .before .before .before .before .pre .inside, c .before .before .before .before .before .before .before .before .before .before .before .before .before .before .before .before .before .before .before .before .before .before .before .before .before .before .before .before .before .before .pre .small)), (tags-there (now (c .before .before .before .before .before .before .before .before .before .before .before .before .before .before .before .before .before .before .before .before .before .before .before .before .before .before .before .before .before .before .args .s)) (now (c .before .before .before .before .before .before .before .before .before .before .before .before .before .before .before .before .before .before .before .before .before .before .before .before .before .before .before .before .before .before .args .t)) (walkAt (now (c .before .before .before .before .before .before .before .before .before .before .before .before .before .before .before .before .before .before .before .before .before .before .before .before .before .before .before .before .before .before .args .s)) (c .before .before .before .before .before .before .before .before .before .before .before .before .before .before .before .before .before .before .before .before .before .before .before .before .before .before .before .before .before .before .args .from)) (replicate 17 0) (c .before .before .before .before .before .before .before .before .before .before .before .before .before .before .before .before .before .before .check-tags .last .1 .1 .1 .0) ((rw (c .before .before .before .before .before .before .before .before .before .before .before .before .before .before .k .given .1) at (c .before .before .before .before .before .before .before .before .before .before .before .before .before .before .before .before .before .before .check-tags .ensures)) .0), ((rw (c .before .before .before .before .before .before .before .before .before .b .given .1) at (c .before .before .before .before .before .before .before .before .before .before .before .begin .ensures)) .kinds, tags-fit (now (c .before .before .before .before .before .before .before .before .before .before .before .before .before .before .before .before .before .before .before .before .before .before .before .before .before .before .before .before .before .before .args .s)) (now (c .before .before .before .before .before .before .before .before .before .before .before .before .before .before .before .before .before .before .before .before .before .before .before .before .before .before .before .before .before .before .args .t)) (now (c .before .before .before .before .before .before .before .before .before .before .before .before .before .before .before .before .before .before .before .before .before .before .before .before .before .before .before .before .before .before .args .out)) (c .before .before .before .before .before .before .before .before .before .before .before .before .before .before .before .before .before .before .before .before .before .before .before .before .before .before .before .before .before .before .args .from) (c .before .before .before .before .before .before .before .before .before .before .before .before .before .before .before .before .before .before .before .before .before .before .before .before .before .before .before .before .before .before .pre .tags-are) (replicate 17 0) (c .before .before .before .before .before .before .before .before .before .before .before .before .before .before .before .before .before .before .check-tags .last .1 .1 .1 .0) ((rw (c .before .before .before .before .before .before .before .before .before .before .before .before .before .before .before .before .before .before .before .before .before .before .l .given .1) at (c .before .before .before .before .before .before .before .before .before .before .before .before .before .before .before .before .before .before .before .before .before .before .before .before .check-lines .ensures)) .0) refl (zeros-at 17) ((rw (c .before .before .before .before .before .before .before .before .before .before .before .before .before .before .k .given .1) at (c .before .before .before .before .before .before .before .before .before .before .before .before .before .before .before .before .before .before .check-tags .ensures)) .0) (c .before .before .before .before .before .before .before .before .before .before .before .before .before .before .before .before .before .before .before .before .before .before .l .given .0 .0) ((rw (c .before .before .before .before .before .before .before .before .before .before .before .before .before .before .before .before .before .before .before .before .before .before .l .given .1) at (c .before .before .before .before .before .before .before .before .before .before .before .before .before .before .before .before .before .before .before .before .before .before .before .before .check-lines .ensures)) .1 .0) (c .before .before .before .before .before .before .before .before .before .before .before .begin .last .0) (c .before .before .before .before .before .before .before .before .before .b .given .0 .0) (rw (c .before .before .before .before .before .before .before .before .before .b .given .1) at (c .before .before .before .before .before .before .before .before .before .before .before .begin .ensures)) (c .before .before .before .before .before .write-lines .last .1 .1 .1 .0) (c .before .before .before .before .before .write-lines .kept .1 .1 .1 .0) (c .before .before .before .before .before .write-lines .ensures)))), (rw (c .before .before .before .before .before .before .before .before .before .before .before .before .before .before .k .given .1) at (c .before .before .before .before .before .before .before .before .before .before .before .before .before .before .before .before .before .before .check-tags .ensures)) .1 .1)
+write-all-requires c κs = ((((rw (c .before .before .before .before .before .before .before .before .before .before .before .before .before .before .k .given .1) at (c .before .before .before .before .before .before .before .before .before .before .before .before .before .before .before .before .before .before .check-tags .ensures)) .1 .0 .0, ((c .before .before .before .before .before .before .before .before .before .before .before .before .before .before .before .before .before .before .before .before .before .before .before .before .before .before .before .before .before .before .pre .inside, rw ((rw (c .before .before .before .before .before .before .before .before .before .before .before .before .before .before .k .given .1) at (c .before .before .before .before .before .before .before .before .before .before .before .before .before .before .before .before .before .before .check-tags .ensures)) .1 .0 .1) (c .before .before .before .before .before .before .before .before .before .before .before .before .before .before .before .before .before .before .before .before .before .before .before .before .before .before .before .before .before .before .pre .leads)), c .before .before .before .before .before .before .before .before .before .before .before .before .before .before .before .before .before .before .before .before .before .before .before .before .before .before .before .before .before .before .pre .small)), (tags-there (now (c .before .before .before .before .before .before .before .before .before .before .before .before .before .before .before .before .before .before .before .before .before .before .before .before .before .before .before .before .before .before .args .s)) (now (c .before .before .before .before .before .before .before .before .before .before .before .before .before .before .before .before .before .before .before .before .before .before .before .before .before .before .before .before .before .before .args .t)) (walkAt (now (c .before .before .before .before .before .before .before .before .before .before .before .before .before .before .before .before .before .before .before .before .before .before .before .before .before .before .before .before .before .before .args .s)) (c .before .before .before .before .before .before .before .before .before .before .before .before .before .before .before .before .before .before .before .before .before .before .before .before .before .before .before .before .before .before .args .from)) (replicate 17 0) (c .before .before .before .before .before .before .before .before .before .before .before .before .before .before .before .before .before .before .check-tags .last .1 .1 .1 .0) ((rw (c .before .before .before .before .before .before .before .before .before .before .before .before .before .before .k .given .1) at (c .before .before .before .before .before .before .before .before .before .before .before .before .before .before .before .before .before .before .check-tags .ensures)) .0), ((rw (c .before .before .before .before .before .before .before .before .before .b .given .1) at (c .before .before .before .before .before .before .before .before .before .before .before .begin .ensures)) .kinds, tags-fit (now (c .before .before .before .before .before .before .before .before .before .before .before .before .before .before .before .before .before .before .before .before .before .before .before .before .before .before .before .before .before .before .args .s)) (now (c .before .before .before .before .before .before .before .before .before .before .before .before .before .before .before .before .before .before .before .before .before .before .before .before .before .before .before .before .before .before .args .t)) (now (c .before .before .before .before .before .before .before .before .before .before .before .before .before .before .before .before .before .before .before .before .before .before .before .before .before .before .before .before .before .before .args .out)) (c .before .before .before .before .before .before .before .before .before .before .before .before .before .before .before .before .before .before .before .before .before .before .before .before .before .before .before .before .before .before .args .from) (c .before .before .before .before .before .before .before .before .before .before .before .before .before .before .before .before .before .before .before .before .before .before .before .before .before .before .before .before .before .before .pre .tags-are) (replicate 17 0) (c .before .before .before .before .before .before .before .before .before .before .before .before .before .before .before .before .before .before .check-tags .last .1 .1 .1 .0) ((rw (c .before .before .before .before .before .before .before .before .before .before .before .before .before .before .before .before .before .before .before .before .before .before .l .given .1) at (c .before .before .before .before .before .before .before .before .before .before .before .before .before .before .before .before .before .before .before .before .before .before .before .before .check-lines .ensures)) .0) refl (zeros-at 17) ((rw (c .before .before .before .before .before .before .before .before .before .before .before .before .before .before .k .given .1) at (c .before .before .before .before .before .before .before .before .before .before .before .before .before .before .before .before .before .before .check-tags .ensures)) .0) (c .before .before .before .before .before .before .before .before .before .before .before .before .before .before .before .before .before .before .before .before .before .before .l .given .0 .0) ((rw (c .before .before .before .before .before .before .before .before .before .before .before .before .before .before .before .before .before .before .before .before .before .before .l .given .1) at (c .before .before .before .before .before .before .before .before .before .before .before .before .before .before .before .before .before .before .before .before .before .before .before .before .check-lines .ensures)) .1 .0) (c .before .before .before .before .before .before .before .before .before .before .before .begin .last .0) (c .before .before .before .before .before .before .before .before .before .b .given .0 .0) (rw (c .before .before .before .before .before .before .before .before .before .b .given .1) at (c .before .before .before .before .before .before .before .before .before .before .before .begin .ensures)) (c .before .before .before .before .before .write-lines .last .1 .1 .1 .0) (c .before .before .before .before .before .write-lines .kept .1 .1 .1 .0) (c .before .before .before .before .before .write-lines .ensures)))), (rw (c .before .before .before .before .before .before .before .before .before .before .before .before .before .before .k .given .1) at (c .before .before .before .before .before .before .before .before .before .before .before .before .before .before .before .before .before .before .check-tags .ensures)) .1 .1)
 
 same-length-4 : tie.Need-same-length-4
 same-length-4 c = search needs

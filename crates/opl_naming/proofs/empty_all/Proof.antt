@@ -1,7 +1,9 @@
--- Each space is emptied, and those before it stay so.
+-- Each space is emptied, and those before it stay so; then the list.
 use borrow.Author.Needs.{needs}
 use Rattle.opl_naming.proofs.NamingLaws.{EmptyLeft, empty-first, empty-on, empty-end}
 use mathlib.Core.Path.{_∙_}
+use lib.ListN.{length-set}
+use Rattle.opl_spaces.specs.Spaces.{listPlace}
 use Prim.Native.Nat.{_-_}
 use native.Mathlib.Omega.{arith}
 use denote.Ref.{now}
@@ -29,11 +31,14 @@ loop-less c = omega (arith, c .before .before .before .before .loop-test .taken)
 loop-again : tie.Need-loop-again Inv-loop μ-loop
 loop-again c = empty-on (now (c .before .before .before .before .before .before .before .args .w)) (c .before .before .before .before .before .loop .w) (c .before .before .empty .last .0) (c .before .before .before .before .before .loop .i) (c .before .before .before .before .loop-test .taken) (c .before .before .before .before .before .loop .inv) (c .before .before .empty .ensures)
 
+slice-write-w : tie.Need-slice-write-w Inv-loop μ-loop
+slice-write-w c = omega (arith, c .before .loop .inv .room, c .before .before .before .pre)
+
 same-length : tie.Need-same-length Inv-loop μ-loop
-same-length c = c .before .loop .inv .room
+same-length c = length-set (c .before .loop .w) listPlace 0 ∙ c .before .loop .inv .room
 
 returns : tie.Need-returns Inv-loop μ-loop
-returns c = empty-end (now (c .before .before .before .args .w)) (c .before .loop .w) (c .before .loop .i) (c .loop-test .left) (c .before .loop .inv)
+returns c = empty-end (now (c .before .before .before .args .w)) (c .before .loop .w) (c .before .loop .i) (c .before .before .before .pre) (c .loop-test .left) (c .before .loop .inv)
 
 pub empty-all-spec : {M : Type 1} → statement M
 empty-all-spec =
@@ -46,5 +51,6 @@ empty-all-spec =
     add-i
     loop-less
     loop-again
+    slice-write-w
     same-length
     returns)

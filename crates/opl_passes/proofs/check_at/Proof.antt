@@ -5,7 +5,9 @@ use native.Mathlib.Omega.{arith}
 use Prim.Native.Nat.{ℕ}
 use mathlib.Core.Path.{refl, ap, _∙_}
 use Rattle.opl_said.specs.Said.{allNames, Small}
-use Rattle.opl_turns.specs.Turning.{Tells}
+use Rattle.opl_spaces.specs.Spaces.{listOf}
+use Rattle.opl_turns.specs.Turning.{Turns}
+use Rattle.opl_turns.specs.declared.Turned.the-variants.{Says, Silent}
 use Rattle.opl_passes.specs.Kept.{keptWith}
 use Rattle.opl_passes.proofs.KeptLaws.{kept-passed, kept-on}
 use Rattle.opl_passes.proofs.TagLaws.{told-none, passed, counted}
@@ -13,7 +15,7 @@ use Rattle.opl_passes.proofs.check_at.Statement.{statement}
 use Rattle.opl_passes.proofs.check_at.Tie as tie
 
 turn-requires : tie.Need-turn-requires
-turn-requires c κs = c .before .before .before .pre .1 .0 .0
+turn-requires c κs = (c .before .before .before .before .pre .0 .room, c .before .before .before .before .pre .1 .0 .0)
 
 enum-told : tie.Need-enum-told
 enum-told c = search needs
@@ -25,7 +27,7 @@ enum-known-x-2 : tie.Need-enum-known-x-2
 enum-known-x-2 c = search needs
 
 said-requires : tie.Need-said-requires
-said-requires c κs = let t : Tells (now (c .before .before .before .before .before .before .before .before .args .s)) (c .before .before .before .before .before .before .before .before .args .c) (c .before .before .x2 .given .0 .0) (c .before .before .x2 .given .0 .1 .0) (c .before .before .x2 .given .0 .1 .1 .0) (c .before .before .x2 .given .0 .1 .1 .1 .0) = rw (c .before .before .x2 .given .1) at (c .before .before .before .before .turn .ensures) in (c .before .before .before .before .before .before .before .before .pre .0, (t .named, (t .steps .stood .inside, t .cardinal)))
+said-requires c κs = let b : Turns (now (c .before .before .before .before .before .before .before .before .before .args .s)) (listOf (now (c .before .before .before .before .before .before .before .before .before .args .w))) (c .before .before .before .before .before .before .before .before .before .args .c) (Says (c .before .before .x2 .given .0 .0) (c .before .before .x2 .given .0 .1 .0) (c .before .before .x2 .given .0 .1 .1 .0) (c .before .before .x2 .given .0 .1 .1 .1 .0)) = rw (c .before .before .x2 .given .1) at (c .before .before .before .before .turn .ensures) in let t = b .0 in (c .before .before .before .before .before .before .before .before .before .pre .0, ((rw (t .ends) at (t .steps .stood .inside), rw (t .ends) at (b .1)), t .cardinal))
 
 enum-known-f : tie.Need-enum-known-f
 enum-known-f c = search needs
@@ -37,43 +39,49 @@ same-length : tie.Need-same-length
 same-length c = search needs
 
 returns : tie.Need-returns
-returns c = let t : Tells (now (c .before .before .before .before .before .before .before .before .before .before .before .args .s)) (c .before .before .before .before .before .before .before .before .before .before .before .args .c) (c .before .before .before .before .before .x2 .given .0 .0) (c .before .before .before .before .before .x2 .given .0 .1 .0) (c .before .before .before .before .before .x2 .given .0 .1 .1 .0) (c .before .before .before .before .before .x2 .given .0 .1 .1 .1 .0) = rw (c .before .before .before .before .before .x2 .given .1) at (c .before .before .before .before .before .before .before .turn .ensures) in told-none (allNames (now (c .before .before .before .before .before .before .before .before .before .before .before .args .s)) (now (c .before .before .before .before .before .before .before .before .before .before .before .args .t))) (now (c .before .before .before .before .before .before .before .before .before .before .before .args .s)) (c .before .before .before .before .before .before .before .before .before .before .before .args .c) (c .before .before .before .before .before .x2 .given .0 .0) (c .before .before .before .before .before .x2 .given .0 .1 .0) (c .before .before .before .before .before .x2 .given .0 .1 .1 .0) (c .before .before .before .before .before .x2 .given .0 .1 .1 .1 .0) t (c .before .before .said .result) (c .before .before .said .ensures) (c .enum-told2 .given .1)
+returns c = let b : Turns (now (c .before .before .before .before .before .before .before .before .before .before .before .before .args .s)) (listOf (now (c .before .before .before .before .before .before .before .before .before .before .before .before .args .w))) (c .before .before .before .before .before .before .before .before .before .before .before .before .args .c) (Says (c .before .before .before .before .before .x2 .given .0 .0) (c .before .before .before .before .before .x2 .given .0 .1 .0) (c .before .before .before .before .before .x2 .given .0 .1 .1 .0) (c .before .before .before .before .before .x2 .given .0 .1 .1 .1 .0)) = rw (c .before .before .before .before .before .x2 .given .1) at (c .before .before .before .before .before .before .before .turn .ensures) in let t = b .0 in told-none (allNames (now (c .before .before .before .before .before .before .before .before .before .before .before .before .args .s)) (now (c .before .before .before .before .before .before .before .before .before .before .before .before .args .t))) (now (c .before .before .before .before .before .before .before .before .before .before .before .before .args .s)) (c .before .before .before .before .before .before .before .before .before .before .before .before .args .c) (c .before .before .before .before .before .x2 .given .0 .0) (c .before .before .before .before .before .x2 .given .0 .1 .0) (c .before .before .before .before .before .x2 .given .0 .1 .1 .0) (c .before .before .before .before .before .x2 .given .0 .1 .1 .1 .0) t (c .before .before .said .result) (c .before .before .said .ensures) (c .enum-told2 .given .1)
 
 add-i : tie.Need-add-i
-add-i c = record { fits = omega (arith, c .before .before .before .before .before .before .before .before .before .before .before .before .pre .1 .0 .1, c .before .before .before .before .before .before .before .before .before .before .before .before .pre .1 .0 .0 .inside) }
+add-i c = record { fits = omega (arith, c .before .before .before .before .before .before .before .before .before .before .before .before .before .pre .1 .0 .1, c .before .before .before .before .before .before .before .before .before .before .before .before .before .pre .1 .0 .0 .0 .inside) }
 
 mul-counts : tie.Need-mul-counts
-mul-counts c = let t : Tells (now (c .before .before .before .before .before .before .before .before .before .before .before .before .args .s)) (c .before .before .before .before .before .before .before .before .before .before .before .before .args .c) (c .before .before .before .before .before .before .x2 .given .0 .0) (c .before .before .before .before .before .before .x2 .given .0 .1 .0) (c .before .before .before .before .before .before .x2 .given .0 .1 .1 .0) (c .before .before .before .before .before .before .x2 .given .0 .1 .1 .1 .0) = rw (c .before .before .before .before .before .before .x2 .given .1) at (c .before .before .before .before .before .before .before .before .turn .ensures) in record { fits = omega (arith, t .small) }
+mul-counts c = let b : Turns (now (c .before .before .before .before .before .before .before .before .before .before .before .before .before .args .s)) (listOf (now (c .before .before .before .before .before .before .before .before .before .before .before .before .before .args .w))) (c .before .before .before .before .before .before .before .before .before .before .before .before .before .args .c) (Says (c .before .before .before .before .before .before .x2 .given .0 .0) (c .before .before .before .before .before .before .x2 .given .0 .1 .0) (c .before .before .before .before .before .before .x2 .given .0 .1 .1 .0) (c .before .before .before .before .before .before .x2 .given .0 .1 .1 .1 .0)) = rw (c .before .before .before .before .before .before .x2 .given .1) at (c .before .before .before .before .before .before .before .before .turn .ensures) in let t = b .0 in record { fits = omega (arith, t .small) }
 
 element-copy-out-counts : tie.Need-element-copy-out-counts
-element-copy-out-counts c = let t : Tells (now (c .before .before .before .before .before .before .before .before .before .before .before .before .args .s)) (c .before .before .before .before .before .before .before .before .before .before .before .before .args .c) (c .before .before .before .before .before .before .x2 .given .0 .0) (c .before .before .before .before .before .before .x2 .given .0 .1 .0) (c .before .before .before .before .before .before .x2 .given .0 .1 .1 .0) (c .before .before .before .before .before .before .x2 .given .0 .1 .1 .1 .0) = rw (c .before .before .before .before .before .before .x2 .given .1) at (c .before .before .before .before .before .before .before .before .turn .ensures) in t .small
+element-copy-out-counts c = let b : Turns (now (c .before .before .before .before .before .before .before .before .before .before .before .before .before .args .s)) (listOf (now (c .before .before .before .before .before .before .before .before .before .before .before .before .before .args .w))) (c .before .before .before .before .before .before .before .before .before .before .before .before .before .args .c) (Says (c .before .before .before .before .before .before .x2 .given .0 .0) (c .before .before .before .before .before .before .x2 .given .0 .1 .0) (c .before .before .before .before .before .before .x2 .given .0 .1 .1 .0) (c .before .before .before .before .before .before .x2 .given .0 .1 .1 .1 .0)) = rw (c .before .before .before .before .before .before .x2 .given .1) at (c .before .before .before .before .before .before .before .before .turn .ensures) in let t = b .0 in t .small
 
 add-counts : tie.Need-add-counts
-add-counts c = record { fits = omega (arith, c .before .before .before .before .before .before .before .before .before .before .before .before .before .pre .1 .1 .1 (c .before .before .before .before .before .before .before .x2 .given .0 .0), c .before .before .before .before .before .before .before .before .before .before .before .before .before .pre .1 .0 .0 .inside) }
+add-counts c = record { fits = omega (arith, c .before .before .before .before .before .before .before .before .before .before .before .before .before .before .pre .1 .1 .1 (c .before .before .before .before .before .before .before .x2 .given .0 .0), c .before .before .before .before .before .before .before .before .before .before .before .before .before .before .pre .1 .0 .0 .0 .inside) }
 
 mul-counts-2 : tie.Need-mul-counts-2
-mul-counts-2 c = let t : Tells (now (c .before .before .before .before .before .before .before .before .before .before .before .before .before .args .s)) (c .before .before .before .before .before .before .before .before .before .before .before .before .before .args .c) (c .before .before .before .before .before .before .before .x2 .given .0 .0) (c .before .before .before .before .before .before .before .x2 .given .0 .1 .0) (c .before .before .before .before .before .before .before .x2 .given .0 .1 .1 .0) (c .before .before .before .before .before .before .before .x2 .given .0 .1 .1 .1 .0) = rw (c .before .before .before .before .before .before .before .x2 .given .1) at (c .before .before .before .before .before .before .before .before .before .turn .ensures) in record { fits = omega (arith, t .small) }
+mul-counts-2 c = let b : Turns (now (c .before .before .before .before .before .before .before .before .before .before .before .before .before .before .args .s)) (listOf (now (c .before .before .before .before .before .before .before .before .before .before .before .before .before .before .args .w))) (c .before .before .before .before .before .before .before .before .before .before .before .before .before .before .args .c) (Says (c .before .before .before .before .before .before .before .x2 .given .0 .0) (c .before .before .before .before .before .before .before .x2 .given .0 .1 .0) (c .before .before .before .before .before .before .before .x2 .given .0 .1 .1 .0) (c .before .before .before .before .before .before .before .x2 .given .0 .1 .1 .1 .0)) = rw (c .before .before .before .before .before .before .before .x2 .given .1) at (c .before .before .before .before .before .before .before .before .before .turn .ensures) in let t = b .0 in record { fits = omega (arith, t .small) }
 
 element-write-counts : tie.Need-element-write-counts
-element-write-counts c = let t : Tells (now (c .before .before .before .before .before .before .before .before .before .before .before .before .before .args .s)) (c .before .before .before .before .before .before .before .before .before .before .before .before .before .args .c) (c .before .before .before .before .before .before .before .x2 .given .0 .0) (c .before .before .before .before .before .before .before .x2 .given .0 .1 .0) (c .before .before .before .before .before .before .before .x2 .given .0 .1 .1 .0) (c .before .before .before .before .before .before .before .x2 .given .0 .1 .1 .1 .0) = rw (c .before .before .before .before .before .before .before .x2 .given .1) at (c .before .before .before .before .before .before .before .before .before .turn .ensures) in t .small
+element-write-counts c = let b : Turns (now (c .before .before .before .before .before .before .before .before .before .before .before .before .before .before .args .s)) (listOf (now (c .before .before .before .before .before .before .before .before .before .before .before .before .before .before .args .w))) (c .before .before .before .before .before .before .before .before .before .before .before .before .before .before .args .c) (Says (c .before .before .before .before .before .before .before .x2 .given .0 .0) (c .before .before .before .before .before .before .before .x2 .given .0 .1 .0) (c .before .before .before .before .before .before .before .x2 .given .0 .1 .1 .0) (c .before .before .before .before .before .before .before .x2 .given .0 .1 .1 .1 .0)) = rw (c .before .before .before .before .before .before .before .x2 .given .1) at (c .before .before .before .before .before .before .before .before .before .turn .ensures) in let t = b .0 in t .small
 
 low-word-requires : tie.Need-low-word-requires
-low-word-requires c κs = let t : Tells (now (c .before .before .before .before .before .before .before .before .before .before .before .before .before .args .s)) (c .before .before .before .before .before .before .before .before .before .before .before .before .before .args .c) (c .before .before .before .before .before .before .before .x2 .given .0 .0) (c .before .before .before .before .before .before .before .x2 .given .0 .1 .0) (c .before .before .before .before .before .before .before .x2 .given .0 .1 .1 .0) (c .before .before .before .before .before .before .before .x2 .given .0 .1 .1 .1 .0) = rw (c .before .before .before .before .before .before .before .x2 .given .1) at (c .before .before .before .before .before .before .before .before .before .turn .ensures) in let z : Small (c .before .before .f .given .0 .0) (c .before .before .f .given .0 .1 .0) (c .before .before .f .given .0 .1 .1 .0) (c .before .before .f .given .0 .1 .1 .1 .0) = rw (c .before .before .f .given .1) at (c .before .before .before .before .said .ensures .fits) in (omega (arith, t .small), (z .n-fits, (z .a-fits, (z .b-fits, z .c-fits))))
+low-word-requires c κs = let b : Turns (now (c .before .before .before .before .before .before .before .before .before .before .before .before .before .before .args .s)) (listOf (now (c .before .before .before .before .before .before .before .before .before .before .before .before .before .before .args .w))) (c .before .before .before .before .before .before .before .before .before .before .before .before .before .before .args .c) (Says (c .before .before .before .before .before .before .before .x2 .given .0 .0) (c .before .before .before .before .before .before .before .x2 .given .0 .1 .0) (c .before .before .before .before .before .before .before .x2 .given .0 .1 .1 .0) (c .before .before .before .before .before .before .before .x2 .given .0 .1 .1 .1 .0)) = rw (c .before .before .before .before .before .before .before .x2 .given .1) at (c .before .before .before .before .before .before .before .before .before .turn .ensures) in let t = b .0 in let z : Small (c .before .before .f .given .0 .0) (c .before .before .f .given .0 .1 .0) (c .before .before .f .given .0 .1 .1 .0) (c .before .before .f .given .0 .1 .1 .1 .0) = rw (c .before .before .f .given .1) at (c .before .before .before .before .said .ensures .fits) in (omega (arith, t .small), (z .n-fits, (z .a-fits, (z .b-fits, z .c-fits))))
 
 keep-requires : tie.Need-keep-requires
-keep-requires c κs = c .before .before .before .before .before .before .before .before .before .before .before .before .before .before .before .pre .0 .room
-
-returns-2 : tie.Need-returns-2
-returns-2 c = (rw (c .enum-told .given .1) at (c .before .before .turn .ensures), (refl, refl))
-
-returns-3 : tie.Need-returns-3
-returns-3 c = (passed (allNames (now (c .before .before .before .before .before .before .before .args .s)) (now (c .before .before .before .before .before .before .before .args .t))) (now (c .before .before .before .before .before .before .before .args .s)) (c .before .before .before .before .before .before .before .args .c) (now (c .before .before .before .before .before .before .before .args .counts)) (c .before .x .given .0 .0) (c .before .before .before .before .before .before .before .pre .1 .1 .1) (rw (c .before .x .given .1) at (c .before .before .before .turn .ensures)), kept-passed (allNames (now (c .before .before .before .before .before .before .before .args .s)) (now (c .before .before .before .before .before .before .before .args .t))) (now (c .before .before .before .before .before .before .before .args .s)) (now (c .before .before .before .before .before .before .before .args .t)) (c .before .before .before .before .before .before .before .args .c) (c .before .before .before .before .before .before .before .args .j) (now (c .before .before .before .before .before .before .before .args .w)) (c .before .before .before .before .before .before .before .pre .0) (c .before .before .before .before .before .before .before .pre .1 .0 .1) (c .before .x .given .0 .0) (rw (c .before .x .given .1) at (c .before .before .before .turn .ensures)))
+keep-requires c κs = c .before .before .before .before .before .before .before .before .before .before .before .before .before .before .before .before .pre .0 .room
 
 same-length-2 : tie.Need-same-length-2
 same-length-2 c = search needs
 
+returns-2 : tie.Need-returns-2
+returns-2 c = (rw (c .enum-told .given .1) at (c .before .before .turn .ensures), (refl, refl))
+
+same-length-3 : tie.Need-same-length-3
+same-length-3 c = search needs
+
+returns-3 : tie.Need-returns-3
+returns-3 c = let p : Turns (now (c .before .before .before .before .before .before .before .before .args .s)) (listOf (now (c .before .before .before .before .before .before .before .before .args .w))) (c .before .before .before .before .before .before .before .before .args .c) (Silent (c .before .x .given .0 .0)) = rw (c .before .x .given .1) at (c .before .before .before .turn .ensures) in (passed (allNames (now (c .before .before .before .before .before .before .before .before .args .s)) (now (c .before .before .before .before .before .before .before .before .args .t))) (now (c .before .before .before .before .before .before .before .before .args .s)) (c .before .before .before .before .before .before .before .before .args .c) (now (c .before .before .before .before .before .before .before .before .args .counts)) (c .before .x .given .0 .0) (c .before .before .before .before .before .before .before .before .pre .1 .1 .1) (p .0), kept-passed (allNames (now (c .before .before .before .before .before .before .before .before .args .s)) (now (c .before .before .before .before .before .before .before .before .args .t))) (now (c .before .before .before .before .before .before .before .before .args .s)) (now (c .before .before .before .before .before .before .before .before .args .t)) (c .before .before .before .before .before .before .before .before .args .c) (c .before .before .before .before .before .before .before .before .args .j) (now (c .before .before .before .before .before .before .before .before .args .w)) (c .before .before .before .before .before .before .before .before .pre .0) (c .before .before .before .before .before .before .before .before .pre .1 .0 .1) (c .before .x .given .0 .0) (p .0) (p .1))
+
+same-length-4 : tie.Need-same-length-4
+same-length-4 c = search needs
+
 returns-4 : tie.Need-returns-4
-returns-4 c = let t : Tells (now (c .before .before .before .before .before .before .before .before .before .before .before .before .before .before .before .before .before .before .args .s)) (c .before .before .before .before .before .before .before .before .before .before .before .before .before .before .before .before .before .before .args .c) (c .before .before .before .before .before .before .before .before .before .before .before .before .x2 .given .0 .0) (c .before .before .before .before .before .before .before .before .before .before .before .before .x2 .given .0 .1 .0) (c .before .before .before .before .before .before .before .before .before .before .before .before .x2 .given .0 .1 .1 .0) (c .before .before .before .before .before .before .before .before .before .before .before .before .x2 .given .0 .1 .1 .1 .0) = rw (c .before .before .before .before .before .before .before .before .before .before .before .before .x2 .given .1) at (c .before .before .before .before .before .before .before .before .before .before .before .before .before .before .turn .ensures) in (counted (allNames (now (c .before .before .before .before .before .before .before .before .before .before .before .before .before .before .before .before .before .before .args .s)) (now (c .before .before .before .before .before .before .before .before .before .before .before .before .before .before .before .before .before .before .args .t))) (now (c .before .before .before .before .before .before .before .before .before .before .before .before .before .before .before .before .before .before .args .s)) (c .before .before .before .before .before .before .before .before .before .before .before .before .before .before .before .before .before .before .args .c) (c .before .before .before .before .before .before .before .before .before .before .before .before .x2 .given .0 .0) (c .before .before .before .before .before .before .before .before .before .before .before .before .x2 .given .0 .1 .0) (c .before .before .before .before .before .before .before .before .before .before .before .before .x2 .given .0 .1 .1 .0) (c .before .before .before .before .before .before .before .before .before .before .before .before .x2 .given .0 .1 .1 .1 .0) t (c .before .before .before .before .before .before .before .before .before .said .result) (c .before .before .before .before .before .before .before .before .before .said .ensures) (c .before .before .before .before .before .before .before .f .given .0 .0) (c .before .before .before .before .before .before .before .f .given .0 .1 .0) (c .before .before .before .before .before .before .before .f .given .0 .1 .1 .0) (c .before .before .before .before .before .before .before .f .given .0 .1 .1 .1 .0) (c .before .before .before .before .before .before .before .f .given .0 .1 .1 .1 .1 .0) (c .before .before .before .before .before .before .before .f .given .1) (now (c .before .before .before .before .before .before .before .before .before .before .before .before .before .before .before .before .before .before .args .counts)) (c .before .before .before .before .before .before .before .before .before .before .before .before .before .before .before .before .before .before .pre .1 .1 .0) (c .before .before .before .before .before .before .before .before .before .before .before .before .before .before .before .before .before .before .pre .1 .1 .1), kept-on (allNames (now (c .before .before .before .before .before .before .before .before .before .before .before .before .before .before .before .before .before .before .args .s)) (now (c .before .before .before .before .before .before .before .before .before .before .before .before .before .before .before .before .before .before .args .t))) (now (c .before .before .before .before .before .before .before .before .before .before .before .before .before .before .before .before .before .before .args .s)) (now (c .before .before .before .before .before .before .before .before .before .before .before .before .before .before .before .before .before .before .args .t)) (c .before .before .before .before .before .before .before .before .before .before .before .before .before .before .before .before .before .before .args .c) (c .before .before .before .before .before .before .before .before .before .before .before .before .before .before .before .before .before .before .args .j) (now (c .before .before .before .before .before .before .before .before .before .before .before .before .before .before .before .before .before .before .args .w)) (c .before .before .before .before .before .before .before .before .before .before .before .before .before .before .before .before .before .before .pre .0) (c .before .before .before .before .before .before .before .before .before .before .before .before .before .before .before .before .before .before .pre .1 .0 .1) (c .before .before .before .before .before .before .before .before .before .before .before .before .x2 .given .0 .0) (c .before .before .before .before .before .before .before .before .before .before .before .before .x2 .given .0 .1 .0) (c .before .before .before .before .before .before .before .before .before .before .before .before .x2 .given .0 .1 .1 .0) (c .before .before .before .before .before .before .before .before .before .before .before .before .x2 .given .0 .1 .1 .1 .0) t (c .before .before .before .before .before .before .before .before .before .said .result) (c .before .before .before .before .before .before .before .before .before .said .ensures) (c .before .before .before .before .before .before .before .f .given .0 .0) (c .before .before .before .before .before .before .before .f .given .0 .1 .0) (c .before .before .before .before .before .before .before .f .given .0 .1 .1 .0) (c .before .before .before .before .before .before .before .f .given .0 .1 .1 .1 .0) (c .before .before .before .before .before .before .before .f .given .0 .1 .1 .1 .1 .0) (c .before .before .before .before .before .before .before .f .given .1) (c .before .before .keep .last .0) (c .before .before .keep .ensures ∙ ap (λ (x : ℕ). keptWith (now (c .before .before .before .before .before .before .before .before .before .before .before .before .before .before .before .before .before .before .args .w)) (c .before .before .before .before .before .before .before .before .before .before .before .before .before .before .before .before .before .before .args .j) x (c .before .before .before .before .before .before .before .f .given .0 .1 .1 .1 .1 .0)) (c .before .before .before .before .low-word .ensures)))
+returns-4 c = let b : Turns (now (c .before .before .before .before .before .before .before .before .before .before .before .before .before .before .before .before .before .before .before .args .s)) (listOf (now (c .before .before .before .before .before .before .before .before .before .before .before .before .before .before .before .before .before .before .before .args .w))) (c .before .before .before .before .before .before .before .before .before .before .before .before .before .before .before .before .before .before .before .args .c) (Says (c .before .before .before .before .before .before .before .before .before .before .before .before .x2 .given .0 .0) (c .before .before .before .before .before .before .before .before .before .before .before .before .x2 .given .0 .1 .0) (c .before .before .before .before .before .before .before .before .before .before .before .before .x2 .given .0 .1 .1 .0) (c .before .before .before .before .before .before .before .before .before .before .before .before .x2 .given .0 .1 .1 .1 .0)) = rw (c .before .before .before .before .before .before .before .before .before .before .before .before .x2 .given .1) at (c .before .before .before .before .before .before .before .before .before .before .before .before .before .before .turn .ensures) in let t = b .0 in (counted (allNames (now (c .before .before .before .before .before .before .before .before .before .before .before .before .before .before .before .before .before .before .before .args .s)) (now (c .before .before .before .before .before .before .before .before .before .before .before .before .before .before .before .before .before .before .before .args .t))) (now (c .before .before .before .before .before .before .before .before .before .before .before .before .before .before .before .before .before .before .before .args .s)) (c .before .before .before .before .before .before .before .before .before .before .before .before .before .before .before .before .before .before .before .args .c) (c .before .before .before .before .before .before .before .before .before .before .before .before .x2 .given .0 .0) (c .before .before .before .before .before .before .before .before .before .before .before .before .x2 .given .0 .1 .0) (c .before .before .before .before .before .before .before .before .before .before .before .before .x2 .given .0 .1 .1 .0) (c .before .before .before .before .before .before .before .before .before .before .before .before .x2 .given .0 .1 .1 .1 .0) t (c .before .before .before .before .before .before .before .before .before .said .result) (c .before .before .before .before .before .before .before .before .before .said .ensures) (c .before .before .before .before .before .before .before .f .given .0 .0) (c .before .before .before .before .before .before .before .f .given .0 .1 .0) (c .before .before .before .before .before .before .before .f .given .0 .1 .1 .0) (c .before .before .before .before .before .before .before .f .given .0 .1 .1 .1 .0) (c .before .before .before .before .before .before .before .f .given .0 .1 .1 .1 .1 .0) (c .before .before .before .before .before .before .before .f .given .1) (now (c .before .before .before .before .before .before .before .before .before .before .before .before .before .before .before .before .before .before .before .args .counts)) (c .before .before .before .before .before .before .before .before .before .before .before .before .before .before .before .before .before .before .before .pre .1 .1 .0) (c .before .before .before .before .before .before .before .before .before .before .before .before .before .before .before .before .before .before .before .pre .1 .1 .1), kept-on (allNames (now (c .before .before .before .before .before .before .before .before .before .before .before .before .before .before .before .before .before .before .before .args .s)) (now (c .before .before .before .before .before .before .before .before .before .before .before .before .before .before .before .before .before .before .before .args .t))) (now (c .before .before .before .before .before .before .before .before .before .before .before .before .before .before .before .before .before .before .before .args .s)) (now (c .before .before .before .before .before .before .before .before .before .before .before .before .before .before .before .before .before .before .before .args .t)) (c .before .before .before .before .before .before .before .before .before .before .before .before .before .before .before .before .before .before .before .args .c) (c .before .before .before .before .before .before .before .before .before .before .before .before .before .before .before .before .before .before .before .args .j) (now (c .before .before .before .before .before .before .before .before .before .before .before .before .before .before .before .before .before .before .before .args .w)) (c .before .before .before .before .before .before .before .before .before .before .before .before .before .before .before .before .before .before .before .pre .0) (c .before .before .before .before .before .before .before .before .before .before .before .before .before .before .before .before .before .before .before .pre .1 .0 .1) (c .before .before .before .before .before .before .before .before .before .before .before .before .x2 .given .0 .0) (c .before .before .before .before .before .before .before .before .before .before .before .before .x2 .given .0 .1 .0) (c .before .before .before .before .before .before .before .before .before .before .before .before .x2 .given .0 .1 .1 .0) (c .before .before .before .before .before .before .before .before .before .before .before .before .x2 .given .0 .1 .1 .1 .0) t (c .before .before .before .before .before .before .before .before .before .said .result) (c .before .before .before .before .before .before .before .before .before .said .ensures) (c .before .before .before .before .before .before .before .f .given .0 .0) (c .before .before .before .before .before .before .before .f .given .0 .1 .0) (c .before .before .before .before .before .before .before .f .given .0 .1 .1 .0) (c .before .before .before .before .before .before .before .f .given .0 .1 .1 .1 .0) (c .before .before .before .before .before .before .before .f .given .0 .1 .1 .1 .1 .0) (c .before .before .before .before .before .before .before .f .given .1) (c .before .before .keep .last .0) (c .before .before .keep .ensures ∙ ap (λ (x : ℕ). keptWith (now (c .before .before .before .before .before .before .before .before .before .before .before .before .before .before .before .before .before .before .before .args .w)) (c .before .before .before .before .before .before .before .before .before .before .before .before .before .before .before .before .before .before .before .args .j) x (c .before .before .before .before .before .before .before .f .given .0 .1 .1 .1 .1 .0)) (c .before .before .before .before .low-word .ensures)) (b .1))
 
 pub check-at-spec : {M : Type 1} → statement M
 check-at-spec =
@@ -96,7 +104,9 @@ check-at-spec =
     element-write-counts
     low-word-requires
     keep-requires
-    returns-2
-    returns-3
     same-length-2
+    returns-2
+    same-length-3
+    returns-3
+    same-length-4
     returns-4)

@@ -2,8 +2,11 @@
 use borrow.Author.Needs.{needs}
 use Rattle.opl_passes.proofs.TagLaws.{WriteLeft, write-first, write-ended, write-past, write-on, write-end}
 use Rattle.opl_tags.specs.Tags.{walkAt}
+use Rattle.opl_passes.specs.Tags.{Writes}
+use Rattle.opl_passes.specs.declared.Wrote.the-variants.{Onward}
 use mathlib.Core.Path.{_∙_}
 use Rattle.opl_said.specs.Said.{allNames}
+use Rattle.opl_spaces.specs.Spaces.{listOf}
 use Prim.Native.Nat.{_-_}
 use lib.ListN.{length}
 use native.Mathlib.Omega.{arith}
@@ -12,16 +15,16 @@ use Rattle.opl_passes.proofs.write_tags.Statement.{statement}
 use Rattle.opl_passes.proofs.write_tags.Tie as tie
 
 abbrev Inv-loop : tie.InvT-loop
-Inv-loop s t w next₀ out₀ from c₀ next out c = WriteLeft (allNames s t) s (walkAt s from) next₀ out₀ c next out
+Inv-loop s t w next₀ out₀ from c₀ next out c = WriteLeft (allNames s t) s (listOf w) (walkAt s from) next₀ out₀ c next out
 
 abbrev μ-loop : tie.MeasureT-loop
 μ-loop s t w next₀ out₀ from c₀ next out c = length s - c .at
 
 loop-holds : tie.Need-loop-holds Inv-loop μ-loop
-loop-holds c = write-first (allNames (now (c .before .before .before .before .args .s)) (now (c .before .before .before .before .args .t))) (now (c .before .before .before .before .args .s)) (c .before .before .before .before .args .from) (now (c .before .before .before .before .args .next)) (now (c .before .before .before .before .args .out)) (c .before .before .before .before .pre .0 .1 .0) (c .before .before .before .before .pre .0 .1 .1) (c .before .before .before .before .pre .1 .0) (c .before .before .before .before .pre .1 .1 .1)
+loop-holds c = write-first (allNames (now (c .before .before .before .before .args .s)) (now (c .before .before .before .before .args .t))) (now (c .before .before .before .before .args .s)) (listOf (now (c .before .before .before .before .args .w))) (c .before .before .before .before .args .from) (now (c .before .before .before .before .args .next)) (now (c .before .before .before .before .args .out)) (c .before .before .before .before .pre .0 .1 .0 .0) (c .before .before .before .before .pre .0 .1 .0 .1) (c .before .before .before .before .pre .0 .1 .1) (c .before .before .before .before .pre .1 .0) (c .before .before .before .before .pre .1 .1 .1)
 
 write-at-requires : tie.Need-write-at-requires Inv-loop μ-loop
-write-at-requires c κs = ((c .before .before .before .before .before .before .before .before .before .pre .0 .0, c .before .before .before .before .loop .inv .stood), (c .before .before .before .before .loop .inv .there-all, (c .before .before .before .before .loop .inv .kinds ∙ c .before .before .before .before .before .before .before .before .before .pre .1 .1 .0, c .before .before .before .before .loop .inv .fit)))
+write-at-requires c κs = ((c .before .before .before .before .before .before .before .before .before .pre .0 .0, (c .before .before .before .before .loop .inv .stood, c .before .before .before .before .loop .inv .led)), (c .before .before .before .before .loop .inv .there-all, (c .before .before .before .before .loop .inv .kinds ∙ c .before .before .before .before .before .before .before .before .before .pre .1 .1 .0, c .before .before .before .before .loop .inv .fit)))
 
 enum-known-r : tie.Need-enum-known-r Inv-loop μ-loop
 enum-known-r c = search needs
@@ -33,19 +36,19 @@ same-length : tie.Need-same-length Inv-loop μ-loop
 same-length c = c .before .before .before .before .write-at .kept .1 .1 .1 .1 .0 ∙ c .before .before .before .before .before .before .before .before .before .loop .inv .room
 
 returns : tie.Need-returns Inv-loop μ-loop
-returns c = write-ended (allNames (now (c .before .before .before .before .before .before .before .before .before .before .before .before .before .before .args .s)) (now (c .before .before .before .before .before .before .before .before .before .before .before .before .before .before .args .t))) (now (c .before .before .before .before .before .before .before .before .before .before .before .before .before .before .args .s)) (c .before .before .before .before .before .before .before .before .before .before .before .before .before .before .args .from) (now (c .before .before .before .before .before .before .before .before .before .before .before .before .before .before .args .next)) (now (c .before .before .before .before .before .before .before .before .before .before .before .before .before .before .args .out)) (c .before .before .before .before .before .before .before .before .before .loop .c) (c .before .before .before .before .before .before .before .before .before .loop .next) (c .before .before .before .before .before .before .before .before .before .loop .out) (c .before .before .before .before .before .before .before .before .before .loop .inv) (c .before .before .before .before .write-at .result) (c .before .before .before .before .write-at .last .1 .1 .1 .0) (c .before .before .before .before .write-at .last .1 .1 .1 .1 .0) (c .before .before .before .before .write-at .ensures) (c .enum-told .given .1)
+returns c = write-ended (allNames (now (c .before .before .before .before .before .before .before .before .before .before .before .before .before .before .args .s)) (now (c .before .before .before .before .before .before .before .before .before .before .before .before .before .before .args .t))) (now (c .before .before .before .before .before .before .before .before .before .before .before .before .before .before .args .s)) (listOf (now (c .before .before .before .before .before .before .before .before .before .before .before .before .before .before .args .w))) (c .before .before .before .before .before .before .before .before .before .before .before .before .before .before .args .from) (now (c .before .before .before .before .before .before .before .before .before .before .before .before .before .before .args .next)) (now (c .before .before .before .before .before .before .before .before .before .before .before .before .before .before .args .out)) (c .before .before .before .before .before .before .before .before .before .loop .c) (c .before .before .before .before .before .before .before .before .before .loop .next) (c .before .before .before .before .before .before .before .before .before .loop .out) (c .before .before .before .before .before .before .before .before .before .loop .inv) (c .before .before .before .before .write-at .result) (c .before .before .before .before .write-at .last .1 .1 .1 .0) (c .before .before .before .before .write-at .last .1 .1 .1 .1 .0) (c .before .before .before .before .write-at .ensures) (c .enum-told .given .1)
 
 loop-less : tie.Need-loop-less Inv-loop μ-loop
-loop-less c = let p = write-past (allNames (now (c .before .before .before .before .before .before .before .before .before .before .before .before .before .before .before .args .s)) (now (c .before .before .before .before .before .before .before .before .before .before .before .before .before .before .before .args .t))) (now (c .before .before .before .before .before .before .before .before .before .before .before .before .before .before .before .args .s)) (c .before .before .before .before .before .before .before .before .before .before .before .before .before .before .before .args .from) (now (c .before .before .before .before .before .before .before .before .before .before .before .before .before .before .before .args .next)) (now (c .before .before .before .before .before .before .before .before .before .before .before .before .before .before .before .args .out)) (c .before .before .before .before .before .before .before .before .before .before .loop .c) (c .before .before .before .before .before .before .before .before .before .before .loop .next) (c .before .before .before .before .before .before .before .before .before .before .loop .out) (c .before .before .before .before .before .before .before .before .before .before .loop .inv) (c .before .r .given .0 .0) (c .before .before .before .before .before .write-at .last .1 .1 .1 .0) (c .before .before .before .before .before .write-at .last .1 .1 .1 .1 .0) (rw (c .before .r .given .1) at (c .before .before .before .before .before .write-at .ensures)) in omega (arith, p .0, p .1)
+loop-less c = let w : Writes (allNames (now (c .before .before .before .before .before .before .before .before .before .before .before .before .before .before .before .args .s)) (now (c .before .before .before .before .before .before .before .before .before .before .before .before .before .before .before .args .t))) (now (c .before .before .before .before .before .before .before .before .before .before .before .before .before .before .before .args .s)) (listOf (now (c .before .before .before .before .before .before .before .before .before .before .before .before .before .before .before .args .w))) (c .before .before .before .before .before .before .before .before .before .before .loop .c) (c .before .before .before .before .before .before .before .before .before .before .loop .next) (c .before .before .before .before .before .write-at .last .1 .1 .1 .0) (c .before .before .before .before .before .before .before .before .before .before .loop .out) (c .before .before .before .before .before .write-at .last .1 .1 .1 .1 .0) (Onward (c .before .r .given .0 .0)) = rw (c .before .r .given .1) at (c .before .before .before .before .before .write-at .ensures) in let p = write-past (allNames (now (c .before .before .before .before .before .before .before .before .before .before .before .before .before .before .before .args .s)) (now (c .before .before .before .before .before .before .before .before .before .before .before .before .before .before .before .args .t))) (now (c .before .before .before .before .before .before .before .before .before .before .before .before .before .before .before .args .s)) (listOf (now (c .before .before .before .before .before .before .before .before .before .before .before .before .before .before .before .args .w))) (c .before .before .before .before .before .before .before .before .before .before .before .before .before .before .before .args .from) (now (c .before .before .before .before .before .before .before .before .before .before .before .before .before .before .before .args .next)) (now (c .before .before .before .before .before .before .before .before .before .before .before .before .before .before .before .args .out)) (c .before .before .before .before .before .before .before .before .before .before .loop .c) (c .before .before .before .before .before .before .before .before .before .before .loop .next) (c .before .before .before .before .before .before .before .before .before .before .loop .out) (c .before .before .before .before .before .before .before .before .before .before .loop .inv) (c .before .r .given .0 .0) (c .before .before .before .before .before .write-at .last .1 .1 .1 .0) (c .before .before .before .before .before .write-at .last .1 .1 .1 .1 .0) (w .0) in omega (arith, p .0, p .1)
 
 loop-again : tie.Need-loop-again Inv-loop μ-loop
-loop-again c = write-on (allNames (now (c .before .before .before .before .before .before .before .before .before .before .before .before .before .before .before .args .s)) (now (c .before .before .before .before .before .before .before .before .before .before .before .before .before .before .before .args .t))) (now (c .before .before .before .before .before .before .before .before .before .before .before .before .before .before .before .args .s)) (c .before .before .before .before .before .before .before .before .before .before .before .before .before .before .before .args .from) (now (c .before .before .before .before .before .before .before .before .before .before .before .before .before .before .before .args .next)) (now (c .before .before .before .before .before .before .before .before .before .before .before .before .before .before .before .args .out)) (c .before .before .before .before .before .before .before .before .before .before .loop .c) (c .before .before .before .before .before .before .before .before .before .before .loop .next) (c .before .before .before .before .before .before .before .before .before .before .loop .out) (c .before .before .before .before .before .before .before .before .before .before .loop .inv) (c .before .r .given .0 .0) (c .before .before .before .before .before .write-at .last .1 .1 .1 .0) (c .before .before .before .before .before .write-at .last .1 .1 .1 .1 .0) (rw (c .before .r .given .1) at (c .before .before .before .before .before .write-at .ensures))
+loop-again c = let w : Writes (allNames (now (c .before .before .before .before .before .before .before .before .before .before .before .before .before .before .before .args .s)) (now (c .before .before .before .before .before .before .before .before .before .before .before .before .before .before .before .args .t))) (now (c .before .before .before .before .before .before .before .before .before .before .before .before .before .before .before .args .s)) (listOf (now (c .before .before .before .before .before .before .before .before .before .before .before .before .before .before .before .args .w))) (c .before .before .before .before .before .before .before .before .before .before .loop .c) (c .before .before .before .before .before .before .before .before .before .before .loop .next) (c .before .before .before .before .before .write-at .last .1 .1 .1 .0) (c .before .before .before .before .before .before .before .before .before .before .loop .out) (c .before .before .before .before .before .write-at .last .1 .1 .1 .1 .0) (Onward (c .before .r .given .0 .0)) = rw (c .before .r .given .1) at (c .before .before .before .before .before .write-at .ensures) in write-on (allNames (now (c .before .before .before .before .before .before .before .before .before .before .before .before .before .before .before .args .s)) (now (c .before .before .before .before .before .before .before .before .before .before .before .before .before .before .before .args .t))) (now (c .before .before .before .before .before .before .before .before .before .before .before .before .before .before .before .args .s)) (listOf (now (c .before .before .before .before .before .before .before .before .before .before .before .before .before .before .before .args .w))) (c .before .before .before .before .before .before .before .before .before .before .before .before .before .before .before .args .from) (now (c .before .before .before .before .before .before .before .before .before .before .before .before .before .before .before .args .next)) (now (c .before .before .before .before .before .before .before .before .before .before .before .before .before .before .before .args .out)) (c .before .before .before .before .before .before .before .before .before .before .loop .c) (c .before .before .before .before .before .before .before .before .before .before .loop .next) (c .before .before .before .before .before .before .before .before .before .before .loop .out) (c .before .before .before .before .before .before .before .before .before .before .loop .inv) (c .before .r .given .0 .0) (c .before .before .before .before .before .write-at .last .1 .1 .1 .0) (c .before .before .before .before .before .write-at .last .1 .1 .1 .1 .0) (w .0) (w .1)
 
 same-length-2 : tie.Need-same-length-2 Inv-loop μ-loop
 same-length-2 c = c .before .before .loop .inv .room
 
 returns-2 : tie.Need-returns-2 Inv-loop μ-loop
-returns-2 c = write-end (allNames (now (c .before .before .before .before .before .before .before .args .s)) (now (c .before .before .before .before .before .before .before .args .t))) (now (c .before .before .before .before .before .before .before .args .s)) (c .before .before .before .before .before .before .before .args .from) (now (c .before .before .before .before .before .before .before .args .next)) (now (c .before .before .before .before .before .before .before .args .out)) (c .before .before .loop .c) (c .before .before .loop .next) (c .before .before .loop .out) (c .before .before .loop .inv) (c .if1 .left)
+returns-2 c = write-end (allNames (now (c .before .before .before .before .before .before .before .args .s)) (now (c .before .before .before .before .before .before .before .args .t))) (now (c .before .before .before .before .before .before .before .args .s)) (listOf (now (c .before .before .before .before .before .before .before .args .w))) (c .before .before .before .before .before .before .before .args .from) (now (c .before .before .before .before .before .before .before .args .next)) (now (c .before .before .before .before .before .before .before .args .out)) (c .before .before .loop .c) (c .before .before .loop .next) (c .before .before .loop .out) (c .before .before .loop .inv) (c .if1 .left)
 
 pub write-tags-spec : {M : Type 1} → statement M
 write-tags-spec =

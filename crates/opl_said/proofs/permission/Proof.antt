@@ -18,7 +18,7 @@ returns : tie.Need-returns
 returns c = unnamed-are _ (rw (number-none (c .before .before .field .ensures) (c .enum-told .given .1)))
 
 first-member-requires : tie.Need-first-member-requires
-first-member-requires c κs = (c .before .before .before .before .before .before .before .pre .0, (c .before .before .before .before .before .before .before .pre .1 .1, (operation-inner, omega arith)))
+first-member-requires c κs = (c .before .before .before .before .before .before .before .pre .0, (c .before .before .before .before .before .before .before .pre .1, (operation-inner, omega arith)))
 
 enum-known-g : tie.Need-enum-known-g
 enum-known-g c = search needs
@@ -30,7 +30,7 @@ returns-2 : tie.Need-returns-2
 returns-2 c = unnamed-are _ (rw (number-some (c .before .before .before .before .before .before .field .ensures) (c .before .before .before .before .f .given .0 .0) (c .before .before .before .before .f .given .1), number-none (c .before .before .first-member .ensures) (c .enum-told2 .given .1)))
 
 first-member-requires-2 : tie.Need-first-member-requires-2
-first-member-requires-2 c κs = (c .before .before .before .before .before .before .before .before .before .before .before .pre .0, (c .before .before .before .before .before .before .before .before .before .before .before .pre .1 .1, (object-inner, omega arith)))
+first-member-requires-2 c κs = (c .before .before .before .before .before .before .before .before .before .before .before .pre .0, (c .before .before .before .before .before .before .before .before .before .before .before .pre .1, (object-inner, omega arith)))
 
 enum-known-h : tie.Need-enum-known-h
 enum-known-h c = search needs

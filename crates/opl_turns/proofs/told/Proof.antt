@@ -4,9 +4,6 @@ use borrow.Author.Needs.{needs}
 use Rattle.opl_turns.proofs.told.Statement.{statement}
 use Rattle.opl_turns.proofs.told.Tie as tie
 
-element-requires : tie.Need-element-requires
-element-requires c κs = search needs
-
 kind-by-requires : tie.Need-kind-by-requires
 kind-by-requires c κs = search needs
 
@@ -17,19 +14,18 @@ parts-by-requires : tie.Need-parts-by-requires
 parts-by-requires c κs = search needs
 
 returns : tie.Need-returns
-returns c = rw (← c .before .before .before .before .element .ensures, ← c .before .before .sets-by .ensures, ← c .before .parts-by .ensures, ← c .before .before .before .kind-by .ensures, eq-eqb _ _ (c .if1 .taken))
+returns c = rw (← c .before .before .sets-by .ensures, ← c .before .parts-by .ensures, ← c .before .before .before .kind-by .ensures, eq-eqb _ _ (c .if1 .taken))
 
 number-by-requires : tie.Need-number-by-requires
 number-by-requires c κs = search needs
 
 returns-2 : tie.Need-returns-2
-returns-2 c = rw (← c .before .before .before .before .before .element .ensures, ← c .before .before .before .sets-by .ensures, ← c .before .before .parts-by .ensures, ← c .before .before .before .before .kind-by .ensures, ← c .number-by .ensures, ne-eqb _ _ (c .before .if1 .left))
+returns-2 c = rw (← c .before .before .before .sets-by .ensures, ← c .before .before .parts-by .ensures, ← c .before .before .before .before .kind-by .ensures, ← c .number-by .ensures, ne-eqb _ _ (c .before .if1 .left))
 
 pub told-spec : {M : Type 1} → statement M
 told-spec =
     tie.close
     (tie.spec
-    element-requires
     kind-by-requires
     sets-by-requires
     parts-by-requires
