@@ -1,5 +1,5 @@
 -- Laws of the words of a table of names: the walk of a bucket, and one name more.
-use Prim.Native.Nat.{ℕ, zero, suc, _+_, _*_, _-_, _/_, _≤_, _<_}
+use Prim.Native.Nat.{ℕ, zero, suc, _+_, _*_, _-_, _/_, _%_, _≤_, _<_}
 use mathlib.Core.Path.{_≡_, refl, sym, ap, _∙_}
 use mathlib.Core.Bool.{Bool, true, false, cond, _&&_, false≢true}
 use mathlib.Core.List.{List, []}
@@ -14,18 +14,18 @@ use Rattle.paper_lower.specs.Lists.Maybe.{none, just}
 use Rattle.paper_lower.proofs.ListLaws.{not-both, both}
 use Rattle.paper_opl.specs.Reading.{Text, same}
 use Rattle.paper_opl.specs.Naming.{placeOf}
-use Rattle.opl_names.specs.Table.{quadAt, turned, markTo, markFrom, markOf, bucketOf, kept, placeAt, wordAt, sizeIn, linkIn, markIn, nameAt, namesIn, bucketAt, inBucket, lastBelow, startOf, Sound}
+use Rattle.opl_names.specs.Table.{quadAt, turned, markTo, restFrom, markOf, bucketOf, kept, placeAt, wordAt, sizeIn, linkIn, markIn, nameAt, namesIn, bucketAt, inBucket, lastBelow, startOf, Sound}
 use Rattle.opl_names.proofs.NameLaws.{same-true, same-self, same-not, place-none}
 
--- ---- The mark of a name, byte by byte.
+-- ---- The mark of a name: the bytes that four at a time leave.
 module _ (s : Text) (h i : ℕ) {x : ℕ} where
-  pub mark-turn : {r : ℕ} → i < length s → r ≡ turned h (getD s i 0) → markFrom h (drop i s) ≡ x → markFrom r (drop (i + 1) s) ≡ x
-  unfolding markFrom
-  mark-turn l e f = rw (add-one, e) (rw (drop-cons s i 0 l) at f)
+  pub rest-turn : {r v : ℕ} → i < length s → v ≡ getD s i 0 → r ≡ (256 * h + v) % 4294967296 → restFrom h (drop i s) ≡ x → restFrom r (drop (i + 1) s) ≡ x
+  unfolding restFrom
+  rest-turn l v e f = rw (add-one, e, v) (rw (drop-cons s i 0 l) at f)
 
-  pub mark-end : length s ≤ i → markFrom h (drop i s) ≡ x → h ≡ x
-  unfolding markFrom
-  mark-end l f = let e : drop i s ≡ [] = drop-of-length-le s l in rw e at f
+  pub rest-end : length s ≤ i → restFrom h (drop i s) ≡ x → h ≡ x
+  unfolding restFrom
+  rest-end l f = let e : drop i s ≡ [] = drop-of-length-le s l in rw e at f
 
 -- four bytes at a time
 module _ (s : Text) (k : ℕ) where
@@ -33,9 +33,9 @@ module _ (s : Text) (k : ℕ) where
   unfolding markTo
   quads-on e q t = t ∙ rw (e, q, add-one)
 
-  pub quads-end : {h r : ℕ} → h ≡ markTo s k → k ≡ length s / 4 → r ≡ markFrom h (drop (4 * k) s) → r ≡ markOf s
+  pub quads-end : {h r x : ℕ} → h ≡ markTo s k → k ≡ length s / 4 → x ≡ restFrom 0 (drop (4 * k) s) → r ≡ turned h x → r ≡ markOf s
   unfolding markOf
-  quads-end e l f = f ∙ rw (e, l)
+  quads-end e l q f = f ∙ rw (q, e, l)
 
 -- ---- The name of number k, compared with another.
 pub is-last : (s : Text) (l : List ℕ) (k m : ℕ) (name : Text) {r : Bool} → markIn (wordAt l k) ≡ m → r ≡ same (take (placeAt l k + sizeIn (wordAt l k) - placeAt l k) (drop (placeAt l k) s)) name → r ≡ eqb (markIn (wordAt l k)) m && same (nameAt s l k) name

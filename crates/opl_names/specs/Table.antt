@@ -16,7 +16,7 @@ use Rattle.paper_opl.specs.Naming.{placeOf}
 use Rattle.opl_names.specs.declared.Found.{Found}
 use Rattle.opl_names.specs.declared.Found.the-variants.{At, Nowhere}
 
--- ---- A number of 40 bits for a name, by four bytes at a time and then one by one, and its bucket among n: by the high bits, which depend on all bytes.
+-- ---- A number of 40 bits for a name, by four bytes at a time and then by those that are left, and its bucket among n: by the high bits, which depend on all bytes.
 
 unfoldable pub turned : ℕ → ℕ → ℕ
 turned h x = (h + x) * 10368889 % 1099511627776
@@ -29,13 +29,13 @@ unfoldable pub markTo : Text → ℕ → ℕ
 markTo s zero = 0
 markTo s (suc k) = turned (markTo s k) (quadAt s (4 * k))
 
--- the others
-unfoldable pub markFrom : ℕ → Text → ℕ
-markFrom h [] = h
-markFrom h (b ∷ s) = markFrom (turned h b) s
+-- the others, as one number
+unfoldable pub restFrom : ℕ → Text → ℕ
+restFrom x [] = x
+restFrom x (b ∷ s) = restFrom ((256 * x + b) % 4294967296) s
 
 unfoldable pub markOf : Text → ℕ
-markOf s = markFrom (markTo s (length s / 4)) (drop (4 * (length s / 4)) s)
+markOf s = turned (markTo s (length s / 4)) (restFrom 0 (drop (4 * (length s / 4)) s))
 
 unfoldable pub bucketOf : ℕ → ℕ → ℕ
 bucketOf n m = m / 16777216 % n

@@ -7,7 +7,7 @@ ghost use lib.Dec.{eqb};
 ghost use lib.ListN.{length, take, drop};
 ghost use Rattle.paper_opl.specs.Reading.{same};
 ghost use Rattle.paper_opl.specs.Naming.{placeOf};
-ghost use Rattle.opl_names.specs.Table.{quadAt, turned, markFrom, markOf, bucketOf, kept, placeAt, wordAt, sizeIn, linkIn, markIn, packed, nameAt, namesIn, startOf, Sound, foundOf, Emptied, Declares, withName};
+ghost use Rattle.opl_names.specs.Table.{quadAt, turned, restFrom, markOf, bucketOf, kept, placeAt, wordAt, sizeIn, linkIn, markIn, packed, nameAt, namesIn, startOf, Sound, foundOf, Emptied, Declares, withName};
 use opl_text::same_by_eights;
 
 // The number of a name, or that it has none.
@@ -43,21 +43,21 @@ fn turn(h: u64, x: u64) -> u64
     (h + x) * 10368889 % 1099511627776
 }
 
-// The bytes from a place on, one by one.
-fn mark_rest(name: &[u8], from: usize, m: u64) -> u64
-    requires { ⌜ (from ≤ length (now name)) × (m < 1099511627776) ⌝ }
-    ensures { λ r. ⌜ (r ≡ markFrom m (drop from (now (name .entry)))) × (r < 1099511627776) ⌝ }
+// The bytes from a place on, of which there are few, as one number: they wait for each other less than if each were a turn.
+fn rest(name: &[u8], from: usize) -> u64
+    requires { ⌜ from ≤ length (now name) ⌝ }
+    ensures { λ r. ⌜ (r ≡ restFrom 0 (drop from (now (name .entry)))) × (r < 4294967296) ⌝ }
 {
-    let mut h = m;
+    let mut x = 0;
     let mut i = from;
     while i < name.len() {
-        h = turn(h, wide(name[i]));
+        x = (256 * x + wide(name[i])) % 4294967296;
         i += 1;
     }
-    h
+    x
 }
 
-// Four bytes at a time, and the rest one by one.
+// Four bytes at a time, and the rest.
 fn mark(name: &[u8]) -> u64
     ensures { λ r. ⌜ (r ≡ markOf (now (name .entry))) × (r < 1099511627776) ⌝ }
 {
@@ -68,7 +68,7 @@ fn mark(name: &[u8]) -> u64
         h = turn(h, quad(name, 4 * k));
         k += 1;
     }
-    mark_rest(name, 4 * n, h)
+    turn(h, rest(name, 4 * n))
 }
 
 fn bucket(m: u64, n: usize) -> usize

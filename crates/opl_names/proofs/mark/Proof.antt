@@ -38,14 +38,17 @@ loop-less c = search needs
 loop-again : tie.Need-loop-again Inv-loop μ-loop
 loop-again c = (omega (arith, c .before .before .loop-test .taken), (c .turn .ensures .1, quads-on (now (c .before .before .before .before .before .args .name)) (c .before .before .before .loop .k) (c .before .before .before .loop .inv .1 .1) (c .before .quad .ensures .0) (c .turn .ensures .0)))
 
-mul-mark-rest : tie.Need-mul-mark-rest Inv-loop μ-loop
-mul-mark-rest c = search needs
+mul-rest : tie.Need-mul-rest Inv-loop μ-loop
+mul-rest c = search needs
 
-mark-rest-requires : tie.Need-mark-rest-requires Inv-loop μ-loop
-mark-rest-requires c κs = (omega arith, c .before .loop .inv .1 .0)
+rest-requires : tie.Need-rest-requires Inv-loop μ-loop
+rest-requires c κs = search needs
+
+turn-requires-2 : tie.Need-turn-requires-2 Inv-loop μ-loop
+turn-requires-2 c κs = search needs
 
 returns : tie.Need-returns Inv-loop μ-loop
-returns c = let z : c .before .before .loop .k ≡ length (now (c .before .before .before .before .args .name)) / 4 = omega (arith, c .before .before .loop .inv .0, c .before .loop-test .left) in (quads-end (now (c .before .before .before .before .args .name)) (length (now (c .before .before .before .before .args .name)) / 4) (c .before .before .loop .inv .1 .1 ∙ ap (markTo (now (c .before .before .before .before .args .name))) z) refl (c .mark-rest .ensures .0), c .mark-rest .ensures .1)
+returns c = let z : c .before .before .before .loop .k ≡ length (now (c .before .before .before .before .before .args .name)) / 4 = omega (arith, c .before .before .before .loop .inv .0, c .before .before .loop-test .left) in (quads-end (now (c .before .before .before .before .before .args .name)) (length (now (c .before .before .before .before .before .args .name)) / 4) (c .before .before .before .loop .inv .1 .1 ∙ ap (markTo (now (c .before .before .before .before .before .args .name))) z) refl (c .before .rest .ensures .0) (c .turn2 .ensures .0), c .turn2 .ensures .1)
 
 pub mark-spec : {M : Type 1} → statement M
 mark-spec =
@@ -60,6 +63,7 @@ mark-spec =
     add-k
     loop-less
     loop-again
-    mul-mark-rest
-    mark-rest-requires
+    mul-rest
+    rest-requires
+    turn-requires-2
     returns)
