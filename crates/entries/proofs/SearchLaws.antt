@@ -8,7 +8,7 @@ use borrow.Author.Tests.{eqb-true}
 use lib.Dec.{eqb}
 use Rattle.paper_lower.specs.Sets.{has}
 use Rattle.paper_lower.specs.Lists.{there, someBelow, some, Every}
-use Rattle.paper_lower.proofs.ListLaws.{every-map}
+use Rattle.paper_lower.proofs.ListLaws.{every-map, and-true}
 use Rattle.paper_upper.specs.Orders.{Entry, isHeld, isHeldBy, inOrder, heldBy}
 use Rattle.links.specs.Chains.{markOf, openOf, templateAt, headOf, countOf, chainWord, wordAt, entryOf, walkOver, takeEntry, entriesIn, Fine}
 use Rattle.links.specs.Stacks.{Woven}
@@ -73,10 +73,6 @@ some-every : (p q : Entry → Bool) (es : List Entry) → Every (λ e. p e ≡ q
 unfolding some
 some-every p q [] h = refl
 some-every p q (e ∷ es) h = rw (h .0, some-every p q es (h .1))
-
-and-true : (b : Bool) → (b && true) ≡ b
-and-true true = refl
-and-true false = refl
 
 in-open : (l : List ℕ) → Woven l → (u i : ℕ) → i < 64 → some (λ e. eqb (e .user) u) (entriesIn l i) ≡ some (λ e. eqb (e .user) u && there (templateAt l (e .instance))) (entriesIn l i)
 unfolding inOrder

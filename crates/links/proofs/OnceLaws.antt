@@ -8,6 +8,7 @@ use native.Mathlib.Omega.{arith}
 use borrow.Author.Tests.{eq-eqb, ne-eqb, eqb-true, eqb-false}
 use lib.Dec.{eqb}
 use Rattle.paper_lower.specs.Lists.{many, Every}
+use Rattle.paper_lower.proofs.ListLaws.{many-append}
 use Rattle.links.specs.Chains.{sumTo, times, joined}
 
 -- ---- Sums.
@@ -91,11 +92,6 @@ pub times-joined : (k : ℕ) (f : ℕ → List ℕ) (n : ℕ) → times k (joine
 unfolding joined sumTo times
 times-joined k f zero = refl
 times-joined k f (suc n) = times-append k (f n) (joined f n) ∙ ap (λ (x : ℕ). times k (f n) + x) (times-joined k f n)
-
-pub many-append : {A : Type 0} (xs ys : List A) → many (xs ++ ys) ≡ many xs + many ys
-unfolding many
-many-append [] ys = omega arith
-many-append (x ∷ xs) ys = let e = many-append xs ys in omega arith
 
 pub many-joined : {A : Type 0} (f : ℕ → List A) (n : ℕ) → many (joined f n) ≡ sumTo (λ i. many (f i)) n
 unfolding joined sumTo many

@@ -10,7 +10,7 @@ use borrow.Author.Tests.{eqb-true, eqb-false, ne-eqb}
 use Rattle.paper_lower.specs.Lists.{Maybe, upd, every, many, keep, each}
 use Rattle.paper_lower.specs.Lists.Maybe.{just}
 use Rattle.paper_lower.specs.Records.{Bytes, Record, bytes, encode}
-use Rattle.paper_lower.proofs.ListLaws.{both, upd-same, upd-other}
+use Rattle.paper_lower.proofs.ListLaws.{both, upd-same, upd-other, many-each, many-append}
 use Rattle.paper_opl.specs.Tree.{Tag}
 use Rattle.paper_opl.specs.Naming.{Line, Names, taskRecord, written}
 use Rattle.paper_opl.specs.Walk.{namesIn, Context, start, turn, kindAt, leading, Saying, saying, sayings, recordSaid, rising, recordsIn}
@@ -18,6 +18,7 @@ use Rattle.paper_opl.specs.Filling.{putAt, valued, fill, countOf, startOf, tall
 use Rattle.paper_opl.proofs.Inversion.{on-test}
 use Rattle.paper_opl.proofs.Judging.{oneOf, ofTags, said-range, ordered}
 use Rattle.paper_opl.proofs.Tallied.{tally-is}
+use Rattle.paper_opl.proofs.Filled.{start-step, start-first, written-sixteen}
 use Rattle.opl_turns.specs.Meaning.{elementOf, setsBy}
 use Rattle.opl_turns.proofs.MeaningLaws.{kind-is, turn-is, kind-small}
 use Rattle.opl_passes.specs.Tags.{begins}
@@ -33,25 +34,6 @@ none-of-six (x ∷ xs) h =
     (λ q. rw q (none-of-six xs (b .1)))
 
 -- ---- How many records there are.
-many-each : {A B : Type 0} (f : A → B) (xs : List A) → many (each f xs) ≡ many xs
-unfolding many each
-many-each f [] = refl
-many-each f (x ∷ xs) = ap suc (many-each f xs)
-
-many-append : {A : Type 0} (xs ys : List A) → many (xs ++ ys) ≡ many xs + many ys
-unfolding many
-many-append [] ys = omega arith
-many-append (x ∷ xs) ys = let h = many-append xs ys in omega (arith, h)
-
-start-step : (xs : List Saying) (ls : List Line) (k : ℕ) → 1 ≤ k → startOf xs ls (suc k) ≡ startOf xs ls k + countOf xs ls k
-unfolding startOf
-start-step xs ls zero h = absurd (omega arith)
-start-step xs ls (suc k) h = refl
-
-start-first : (xs : List Saying) (ls : List Line) → startOf xs ls 1 ≡ 0
-unfolding startOf
-start-first xs ls = refl
-
 module _ (ns : Names) (xs : List Saying) (ls : List Line) where
   rising-many : (n k : ℕ) → 1 ≤ k → ((j : ℕ) → k ≤ j → j < k + n → j ≡ 6 → ⊥) → startOf xs ls k + many (rising ns k n xs) ≡ startOf xs ls (k + n)
   unfolding rising many
@@ -76,18 +58,13 @@ module _ (ns : Names) (xs : List Saying) (ls : List Line) where
       let t = many-each (taskRecord ns) ls in
       omega (arith, f, a, b, s, m, n, t)
 
-written-length : (rs : List Record) → length (written rs) ≡ 16 * many rs
-unfolding written many encode bytes
-written-length [] = refl
-written-length (r ∷ rs) = let h = written-length rs in length-append (encode r) (written rs) ∙ omega arith
-
 -- the records of an answer
 pub counted : (ts : List Tag) (ls : List Line) (rs : List Record) → recordsIn ts ls ≡ just rs
     → (many rs ≡ startOf (sayings start ts) ls 17) × (length (written rs) ≡ 16 * startOf (sayings start ts) ls 17)
 counted ts ls rs e =
     let m : many rs ≡ startOf (sayings start ts) ls 17
     = sym (many-each just rs) ∙ ap (λ (x : List (Maybe Record)). many x) (sym (ordered ts ls rs e)) ∙ all-many (namesIn ts ls) (sayings start ts) ls in
-    (m, written-length rs ∙ ap (λ (k : ℕ). 16 * k) m)
+    (m, written-sixteen rs ∙ ap (λ (k : ℕ). 16 * k) m)
 
 -- ---- Counts kept along the walk, with the lines' at 6.
 module _ (ts : List Tag) (ls : List Line) (f₀ f : ℕ → ℕ) (zeros : (k : ℕ) → f₀ k ≡ 0) (tallied : f ≡ tally start f₀ ts) where

@@ -25,11 +25,11 @@ use Rattle.opl_declared.specs.declared.Walked.the-variants.{Next, Long, 
 use Rattle.opl_declared.proofs.DeclaredLaws.{untouched}
 
 -- an accepted reading leaves some text
-leaves : {A : Type 0} (x : Read A) → accepted x ≡ true → (R : Type 0) → ((z : Text) → forget x ≡ got tt z → R) → R
+pub leaves : {A : Type 0} (x : Read A) → accepted x ≡ true → (R : Type 0) → ((z : Text) → forget x ≡ got tt z → R) → R
 leaves (got v z) e R f = f z refl
 leaves (bad z) e R f = absurd (false≢true e)
 
-accepts : {A : Type 0} (x : Read A) (z : Text) → forget x ≡ got tt z → accepted x ≡ true
+pub accepts : {A : Type 0} (x : Read A) (z : Text) → forget x ≡ got tt z → accepted x ≡ true
 accepts (got v r) z e = refl
 accepts (bad r) z e = let q : _≡_ {A = ℕ} 0 1 = cc in absurd (omega arith)
 

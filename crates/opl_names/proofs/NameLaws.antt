@@ -13,38 +13,18 @@ use Rattle.paper_lower.proofs.ListLaws.{both}
 use Rattle.replies.specs.Cells.{rowsFrom}
 use Rattle.paper_opl.specs.Reading.{Text, same}
 use Rattle.paper_opl.specs.Naming.{placeOf, distinct}
+use Rattle.paper_opl.proofs.Conforms.{same-true}
+use Rattle.paper_opl.proofs.TreeBack.{same-self}
+use Rattle.opl_text.proofs.Same.{same-swap}
 use Rattle.opl_names.specs.Table.{added}
 
 -- ---- The same text.
-pub same-true : (v w : Text) → same v w ≡ true → v ≡ w
-unfolding same
-same-true [] [] h = refl
-same-true [] (b ∷ w) h = absurd (false≢true h)
-same-true (a ∷ v) [] h = absurd (false≢true h)
-same-true (a ∷ v) (b ∷ w) h =
-    let p = both (eqb a b) (same v w) h in
-    let e = eqb-true a b (p .0) in
-    let f = same-true v w (p .1) in
-    cc
-
-pub same-self : (v : Text) → same v v ≡ true
-unfolding same
-same-self [] = refl
-same-self (a ∷ v) = rw (eq-eqb a a refl, same-self v)
-
 pub same-not : (v w : Text) → (v ≡ w → ⊥) → same v w ≡ false
 same-not v w h = go (same v w) refl
   where
     go : (b : Bool) → same v w ≡ b → same v w ≡ false
     go true e = absurd (h (same-true v w e))
     go false e = e
-
-pub same-swap : (v w : Text) → same v w ≡ same w v
-same-swap v w = go (same v w) refl
-  where
-    go : (b : Bool) → same v w ≡ b → same v w ≡ same w v
-    go true e = let q = same-true v w e in rw q
-    go false e = e ∙ sym (same-not w v (λ q. false≢true (sym e ∙ rw q (same-self v))))
 
 -- ---- The number of a name.
 pub place-none : (f : ℕ → Text) (w : Text) (i k n : ℕ) → ((j : ℕ) → k ≤ j → j < k + n → same (f j) w ≡ false) → placeOf i w (rowsFrom f k n) ≡ none

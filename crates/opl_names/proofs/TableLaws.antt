@@ -14,8 +14,10 @@ use Rattle.paper_lower.specs.Lists.Maybe.{none, just}
 use Rattle.paper_lower.proofs.ListLaws.{not-both, both}
 use Rattle.paper_opl.specs.Reading.{Text, same}
 use Rattle.paper_opl.specs.Naming.{placeOf}
+use Rattle.paper_opl.proofs.Conforms.{same-true}
+use Rattle.paper_opl.proofs.TreeBack.{same-self}
 use Rattle.opl_names.specs.Table.{quadAt, turned, markTo, restFrom, markOf, bucketOf, kept, placeAt, wordAt, sizeIn, linkIn, markIn, nameAt, namesIn, bucketAt, inBucket, lastBelow, startOf, Sound}
-use Rattle.opl_names.proofs.NameLaws.{same-true, same-self, same-not, place-none}
+use Rattle.opl_names.proofs.NameLaws.{same-not, place-none}
 
 -- ---- The mark of a name: the bytes that four at a time leave.
 module _ (s : Text) (h i : ℕ) {x : ℕ} where

@@ -21,6 +21,7 @@ use Rattle.opl_lines.proofs.LineLaws.{judge-past, judge-on, lines-step, lines-n
 use Rattle.opl_output.specs.Output.{Fits}
 use Rattle.opl_spaces.specs.Spaces.{limitOf}
 use Rattle.opl_declared.specs.Names.{accepted}
+use Rattle.opl_declared.proofs.LineNames.{leaves, accepts}
 use Rattle.opl_said.specs.Said.{spaceAt, NumberIs}
 use Rattle.opl_passes.specs.Lines.{linesAt, linesGood, linesThere, pairRecord, lineBetween, Pairs, LineSteps, Paired, RowIs, LinesAre, LineWritten, LinesFit}
 use Rattle.opl_passes.specs.declared.Row.{Row}
@@ -51,15 +52,6 @@ module _ (ns : Names) (v w : Text) (x : Found) (task : NumberIs (limitOf 5) (num
         (rw (← u, ← z), (omega (arith, p), (omega (arith, q), refl)))
 
 -- ---- The line at a place.
-
--- an accepted reading leaves some text
-leaves : {A : Type 0} (x : Read A) → accepted x ≡ true → (R : Type 0) → ((z : Text) → forget x ≡ got tt z → R) → R
-leaves (got v z) e R f = f z refl
-leaves (bad z) e R f = absurd (false≢true e)
-
-accepts : {A : Type 0} (x : Read A) (z : Text) → forget x ≡ got tt z → accepted x ≡ true
-accepts (got v r) z e = refl
-accepts (bad r) z e = let q : _≡_ {A = ℕ} 0 1 = cc in absurd (omega arith)
 
 module _ (ns : Names) (t : Text) (at : ℕ) (h : at < length t) (ok : linesGood t at) (r : Ends) (reads : ReadsLine t at r) where
   pub row-never : (j : ℕ) → r ≡ Bad j → RowIs ns t at Nameless

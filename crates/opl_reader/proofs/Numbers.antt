@@ -1,4 +1,4 @@
--- The classes of values: digit by digit, a number only grows.
+-- The classes of values: digit by digit, a number only decimal-grows.
 use mathlib.Core.Path.{_≡_, refl, sym}
 use mathlib.Core.List.{[], _∷_}
 use mathlib.Core.Bool.{Bool, true, false, not, false≢true, _&&_}
@@ -8,9 +8,11 @@ use lib.Dec.{eqb, leb, eqb·suc-zero}
 use lib.ListN.{length, getD, drop, drop-of-length-le}
 use borrow.Author.Tests.{le-leb, lt-leb, leb-true}
 use Rattle.paper_lower.specs.Lists.{every}
+use Rattle.paper_lower.proofs.ListLaws.{and-false}
 use Rattle.paper_opl.specs.Reading.{Text, same}
 use Rattle.paper_opl.specs.Elements.Class.{number}
 use Rattle.paper_opl.specs.Tree.{digit, decimal, fits}
+use Rattle.paper_opl.proofs.Cardinalities.{decimal-grows}
 use Rattle.opl_text.proofs.Laws.{drop-here}
 use Rattle.opl_table.specs.Numbers.{classOf}
 
@@ -28,15 +30,6 @@ empty-not (b ∷ v) n = refl
 unfoldable pub counts : ℕ → Text → Bool
 counts n t = every digit t && leb (decimal n t) 255
 
-and-false : (b : Bool) → b && false ≡ false
-and-false true = refl
-and-false false = refl
-
-grows : (n : ℕ) (t : Text) → n ≤ decimal n t
-unfolding decimal
-grows n [] = omega arith
-grows n (b ∷ t) = let h = grows (10 * n + (b - 48)) t in omega arith
-
 pub number-empty : (v : Text) → length v ≡ 0 → false ≡ fits number v
 unfolding same
 number-empty [] e = refl
@@ -49,7 +42,7 @@ number-some v n = rw (empty-not v n)
 pub count-over : (n : ℕ) (t : Text) → 255 < n → false ≡ counts n t
 unfolding counts
 count-over n t h =
-    let g = grows n t in
+    let g = decimal-grows n t in
     let l : 255 < decimal n t = omega arith in
     let e : leb (decimal n t) 255 ≡ false = lt-leb (decimal n t) 255 l in
     rw e (sym (and-false (every digit t)))

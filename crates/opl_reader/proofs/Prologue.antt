@@ -14,10 +14,11 @@ use Rattle.paper_opl.specs.Elements.{elements as table, rowIn, one}
 use Rattle.paper_opl.specs.Tree.{Given, Opened, Elements, Inside, attributes, opening, body, element, pseudo, declaration, doctype, prolog, document}
 use Rattle.paper_opl.specs.Tree.Elements.{nothing, node}
 use Rattle.paper_opl.proofs.Counts.{starts-le}
+use Rattle.paper_opl.proofs.TreeBack.{same-self}
 use Rattle.opl_text.specs.declared.Step.{Step}
 use Rattle.opl_text.specs.declared.Step.the-variants.{Next, Bad}
 use Rattle.opl_text.specs.Steps.{Reads, stepOf, valueOf}
-use Rattle.opl_text.proofs.Same.{other-length, same-self}
+use Rattle.opl_text.proofs.Same.{other-length}
 use Rattle.opl_table.specs.Numbers.{nameOf, leftOf}
 use Rattle.opl_table.proofs.Rows.{document-left}
 use Rattle.opl_reader.specs.declared.Start.{Start}

@@ -13,6 +13,7 @@ use Rattle.paper_opl.specs.Reading.{Text}
 use Rattle.paper_opl.specs.Tree.{decimal}
 use Rattle.paper_opl.specs.Naming.{placeOf}
 use Rattle.paper_opl.proofs.Inversion.{none≢just}
+use Rattle.paper_opl.proofs.Cardinalities.{decimal-grows}
 use Rattle.opl_text.proofs.Laws.{drop-here}
 use Rattle.opl_names.specs.Table.{kept, nameAt, namesIn, Sound, foundOf}
 use Rattle.opl_names.specs.declared.Found.{Found}
@@ -35,11 +36,6 @@ number-in s i l w x r sound e f = record { number-is = f ∙ e; small = go r (le
     go Nowhere b q = tt
 
 -- ---- Digits.
-grows : (n : ℕ) (t : Text) → n ≤ decimal n t
-unfolding decimal
-grows n [] = omega arith
-grows n (b ∷ t) = let h = grows (10 * n + (b - 48)) t in omega arith
-
 module _ (v : Text) (n i : ℕ) (left : decimal n (drop i v) ≡ decimal 0 v) where
   pub digits-end : length v ≤ i → n ≡ decimal 0 v
   unfolding decimal
@@ -51,4 +47,4 @@ module _ (v : Text) (n i : ℕ) (left : decimal n (drop i v) ≡ decimal 0 v) wh
     digits-more = sym (ap (decimal n) (drop-here v i h)) ∙ left
 
     pub digits-small : decimal 0 v ≤ 255 → 10 * n + (getD v i 0 - 48) ≤ 255
-    digits-small l = omega (arith, grows (10 * n + (getD v i 0 - 48)) (drop (i + 1) v), digits-more)
+    digits-small l = omega (arith, decimal-grows (10 * n + (getD v i 0 - 48)) (drop (i + 1) v), digits-more)

@@ -16,7 +16,7 @@ use Rattle.paper_opl.specs.Tree.Elements.{nothing}
 use Rattle.paper_opl.specs.Walk.{plain, givens, closed, tags}
 use Rattle.paper_opl.proofs.Inversion.{on, on-test, on-found, bad≢got, got-rest, got-value}
 use Rattle.paper_opl.proofs.Counts.{below, below-of, behind-le, word-strict, one-below, misc-below, misc-enough}
-use Rattle.paper_opl.proofs.Tags.{Begun, begun, starts-more, same-end, tags-are}
+use Rattle.paper_opl.proofs.Tags.{Begun, begun, starts-more, same-end, tags-are, givens-of, misc-here}
 use Rattle.opl_text.proofs.Laws.{misc-skip}
 use Rattle.opl_tags.specs.Tags.{collected, shut, nextTag, nextTags}
 use Rattle.opl_tags.proofs.AttributeLaws.{collected-is}
@@ -206,23 +206,6 @@ misc-open s r e h = go s refl
 
 -- ---- Attributes, with the table and without.
 
-plain-of : (left : List Attribute) (s : Text) (g : Given) (r : Text) → attribute left s ≡ got g r → plain s ≡ got g r
-unfolding attribute plain
-plain-of left s g r e =
-    on (name s) (λ w x p. on (equals x) (λ _ u q. on (value u) (λ v z t. on-found (find left w) (λ a o. on-test (fits (a .class) v)
-    (λ c. rw (p, q, t) (rw (p, q, t, o, c) at e)) (λ c. absurd (bad≢got (rw (p, q, t, o, c) at e))))
-    (λ o. absurd (bad≢got (rw (p, q, t, o) at e)))) (λ z t. absurd (bad≢got (rw (p, q, t) at e)))) (λ u q. absurd (bad≢got (rw (p, q) at e)))) (λ x p. absurd (bad≢got (rw p at e)))
-
-givens-of : (n : ℕ) (left : List Attribute) (s : Text) (gs : List Given) (r : Text) → attributes n left s ≡ got gs r → givens n s ≡ got gs r
-unfolding attributes givens
-givens-of zero left s gs r e = absurd (bad≢got e)
-givens-of (suc n) left s gs r e =
-    on-test (starts (text ">") (skip s) || starts (text "/") (skip s))
-    (λ c. on-test (some (λ a. required (a .class)) left) (λ d. absurd (bad≢got (rw (c, d) at e))) (λ d. rw c (rw (c, d) at e)))
-    (λ c. on (space s) (λ _ u p. on (attribute left u) (λ g z q. on (attributes n (without (g .name) left) z)
-    (λ hs y o. rw (c, p, plain-of left u g z q, givens-of n (without (g .name) left) z hs y o) (rw (c, p, q, o) at e))
-    (λ y o. absurd (bad≢got (rw (c, p, q, o) at e)))) (λ z q. absurd (bad≢got (rw (c, p, q) at e)))) (λ u p. absurd (bad≢got (rw (c, p) at e))))
-
 -- ---- The tags of an element, and of what stands in it.
 
 -- what the walk meets of an element behind its name
@@ -308,16 +291,6 @@ element-walk table (suc d) w s e r h =
     (λ z a. absurd (bad≢got (rw a at h)))
 
 -- ---- The document.
-
--- where an element begins, there is nothing to skip
-misc-here : (n : ℕ) (s r : Text) → expect (text "<") s ≡ got tt r → starts (text "<!") s ≡ false → misc n s ≡ got tt s
-unfolding misc expect starts behind text
-misc-here zero s r e f = refl
-misc-here (suc n) [] r e f = refl
-misc-here (suc n) (b ∷ s) r e f = on-test (eqb 60 b) (λ q. go b (eqb-true 60 b q) f) (λ q. absurd (bad≢got (rw q at e)))
-  where
-    go : (b : ℕ) → 60 ≡ b → starts (text "<!") (b ∷ s) ≡ false → misc (suc n) (b ∷ s) ≡ got tt (b ∷ s)
-    go b q f = rw (sym q) (rw (starts-more 33 (45 ∷ 45 ∷ []) s (rw (sym q) at f)))
 
 nothing-left : (s : Text) → misc (length s) s ≡ got tt [] → walk s ≡ []
 unfolding nextTag text expect opens

@@ -9,10 +9,8 @@ use lib.ListN.{length, getD, drop, drop-of-length-le}
 use lib.Seq.{drop-cons}
 use borrow.Author.Tests.{eq-eqb, ne-eqb, eqb-true, eqb-false}
 use Rattle.paper_opl.specs.Reading.{Text, same}
-
-and-false : (b : Bool) → b && false ≡ false
-and-false true = refl
-and-false false = refl
+use Rattle.paper_lower.proofs.ListLaws.{and-false}
+use Rattle.opl_text.proofs.Laws.{drop-here}
 
 pub other-length : (v w : Text) → (length v ≡ length w → ⊥) → false ≡ same v w
 unfolding same
@@ -20,9 +18,6 @@ other-length [] [] n = absurd (n refl)
 other-length [] (b ∷ w) n = refl
 other-length (c ∷ v) [] n = refl
 other-length (c ∷ v) (b ∷ w) n = sym (ap (λ x. eqb c b && x) (sym (other-length v w (λ z. n (ap suc z)))) ∙ and-false (eqb c b))
-
-drop-here : (s : Text) (i : ℕ) → i < length s → drop i s ≡ getD s i 0 ∷ drop (i + 1) s
-drop-here s i h = drop-cons s i 0 h ∙ rw add-one
 
 module _ (v w : Text) (i : ℕ) (h : i < length v) (l : i < length w) where
   pub same-more : getD v i 0 ≡ getD w i 0 → same (drop i v) (drop i w) ≡ same (drop (i + 1) v) (drop (i + 1) w)
@@ -36,11 +31,6 @@ module _ (v w : Text) (i : ℕ) (h : i < length v) (l : i < length w) where
 pub same-end : (v w : Text) (i : ℕ) → length v ≤ i → length w ≤ i → true ≡ same (drop i v) (drop i w)
 unfolding same
 same-end v w i h l = let e : drop i v ≡ [] = drop-of-length-le v h in let f : drop i w ≡ [] = drop-of-length-le w l in rw (e, f)
-
-pub same-self : (v : Text) → same v v ≡ true
-unfolding same
-same-self [] = refl
-same-self (b ∷ v) = rw (eq-eqb b b refl) (same-self v)
 
 pub same-swap : (v w : Text) → same v w ≡ same w v
 unfolding same

@@ -7,7 +7,7 @@ use native.Mathlib.Nat.{not-suc-le-zero, le-of-suc-le-suc, add-zero}
 use native.Mathlib.Omega.{arith}
 use borrow.Author.Tests.{eqb-true, eqb-false, eq-eqb, ne-eqb, not-false}
 use lib.Dec.{eqb}
-use Rattle.paper_lower.specs.Lists.{upd, someBelow, some, add, keep, each, placeFrom, place, firstOf, Every}
+use Rattle.paper_lower.specs.Lists.{upd, someBelow, some, many, add, keep, each, placeFrom, place, firstOf, Every}
 
 -- ---- Booleans
 pub or-none : (a b : Bool) → a || b ≡ false → (a ≡ false) × (b ≡ false)
@@ -33,6 +33,10 @@ not-both false b h e = absurd (false≢true e)
 pub and-false : (a : Bool) → a && false ≡ false
 and-false true = refl
 and-false false = refl
+
+pub and-true : (a : Bool) → a && true ≡ a
+and-true true = refl
+and-true false = refl
 
 -- ---- one row anew
 pub upd-same : {A : Type 0} (f : ℕ → A) (i k : ℕ) (x : A) → k ≡ i → upd f i x k ≡ x
@@ -73,6 +77,17 @@ infixr 40 _⨾_
 -- the law of one row, and those of the rows behind it
 abbrev pub _⨾_ : {A B : Type 0} → A → B → A × B
 a ⨾ b = (a, b)
+
+-- ---- How many a list has.
+pub many-append : {A : Type 0} (xs ys : List A) → many (xs ++ ys) ≡ many xs + many ys
+unfolding many
+many-append [] ys = omega arith
+many-append (x ∷ xs) ys = let h = many-append xs ys in omega arith
+
+pub many-each : {A B : Type 0} (f : A → B) (xs : List A) → many (each f xs) ≡ many xs
+unfolding many each
+many-each f [] = refl
+many-each f (x ∷ xs) = ap suc (many-each f xs)
 
 -- ---- for every one of a list
 pub every-map {ℓ} : {A : Type ℓ} {P Q : A → Type 0} (xs : List A) → ((x : A) → P x → Q x) → Every P xs → Every Q xs

@@ -1,9 +1,14 @@
--- A record written as bytes is read back with every field whole: no number is cut.
+-- A record written as bytes is sixteen of them, and is read back with every field whole: no number is cut.
 use Prim.Native.Nat.{ℕ, _+_, _*_, _/_, _%_, _<_}
-use mathlib.Core.Path.{_≡_}
+use mathlib.Core.Path.{_≡_, refl}
 use mathlib.Core.List.{_∷_}
 use native.Mathlib.Omega.{arith}
+use lib.ListN.{length}
 use Rattle.paper_lower.specs.Records.{Record, number, decode, bytes, encode}
+
+pub sixteen : (r : Record) → length (encode r) ≡ 16
+unfolding encode bytes
+sixteen r = refl
 
 two : (a : ℕ) → a < 65536 → a % 256 + 256 * (a / 256 % 256 + 256 * 0) ≡ a
 two a h = omega arith

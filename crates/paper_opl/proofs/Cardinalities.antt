@@ -2,7 +2,7 @@
 use mathlib.Core.Path.{_≡_, refl, sym}
 use mathlib.Core.List.{List, [], _∷_}
 use mathlib.Core.Bool.{Bool, true, false, not, _&&_, _||_, false≢true}
-use Prim.Native.Nat.{ℕ, suc, _≤_}
+use Prim.Native.Nat.{ℕ, suc, _+_, _*_, _-_, _≤_}
 use native.Mathlib.Omega.{arith}
 use lib.Dec.{leb}
 use borrow.Author.Tests.{leb-true}
@@ -138,3 +138,9 @@ pub value-small : (gs : List Given) → Every Small gs → decimal 0 (valueOf ca
 unfolding valueOf decimal
 value-small [] h = omega arith
 value-small (g ∷ gs) h = on-test (same (g .name) card) (λ q. rw q (h .0 q)) (λ q. rw q (value-small gs (h .1)))
+
+-- ---- A number grows with its digits.
+pub decimal-grows : (n : ℕ) (t : Text) → n ≤ decimal n t
+unfolding decimal
+decimal-grows n [] = omega arith
+decimal-grows n (b ∷ t) = let h = decimal-grows (10 * n + (b - 48)) t in omega arith

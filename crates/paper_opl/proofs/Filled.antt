@@ -10,7 +10,7 @@ use borrow.Author.Tests.{eqb-true, eqb-false, ne-eqb}
 use Rattle.paper_lower.specs.Lists.{upd, every, many, keep, each, Every}
 use Rattle.paper_lower.specs.Lists.Maybe.{just}
 use Rattle.paper_lower.specs.Records.{Bytes, Record, bytes, encode}
-use Rattle.paper_lower.proofs.ListLaws.{both, upd-same, upd-other, every-append}
+use Rattle.paper_lower.proofs.ListLaws.{both, upd-same, upd-other, every-append, many-each}
 use Rattle.paper_opl.specs.Tree.{Tag}
 use Rattle.paper_opl.specs.Naming.{Line, Names, taskRecord, written}
 use Rattle.paper_opl.specs.Walk.{namesIn, Context, start, turn, kindAt, leading, Saying, saying, sayings, recordSaid, rising, recordsIn}
@@ -135,24 +135,19 @@ valued-all (r ∷ rs) = ap (λ (x : List Record). r ∷ x) (valued-all rs)
 
 -- ---- The whole.
 
-start-step : (xs : List Saying) (ls : List Line) (k : ℕ) → 1 ≤ k → startOf xs ls (suc k) ≡ startOf xs ls k + countOf xs ls k
+pub start-step : (xs : List Saying) (ls : List Line) (k : ℕ) → 1 ≤ k → startOf xs ls (suc k) ≡ startOf xs ls k + countOf xs ls k
 unfolding startOf
 start-step xs ls zero h = absurd (omega arith)
 start-step xs ls (suc k) h = refl
 
-start-first : (xs : List Saying) (ls : List Line) → startOf xs ls 1 ≡ 0
+pub start-first : (xs : List Saying) (ls : List Line) → startOf xs ls 1 ≡ 0
 unfolding startOf
 start-first xs ls = refl
 
-written-sixteen : (rs : List Record) → length (written rs) ≡ 16 * many rs
+pub written-sixteen : (rs : List Record) → length (written rs) ≡ 16 * many rs
 unfolding written many encode bytes
 written-sixteen [] = refl
 written-sixteen (r ∷ rs) = let h = written-sixteen rs in length-append (encode r) (written rs) ∙ omega arith
-
-many-each : {A B : Type 0} (f : A → B) (xs : List A) → many (each f xs) ≡ many xs
-unfolding many each
-many-each f [] = refl
-many-each f (x ∷ xs) = ap suc (many-each f xs)
 
 -- task lines stand between the tags' kinds
 later : (ys : List Kinded) → gather 6 11 ys ≡ picked 6 ys ++ gather 7 10 ys

@@ -10,7 +10,8 @@ use lib.Seq.{take-at, drop-at, drop-append-le, drop-drop, length-take-le}
 use borrow.Author.Tests.{eqb-true, eqb-false, eq-eqb, ne-eqb}
 use Rattle.paper_lower.specs.Lists.{upd, many, Every}
 use Rattle.paper_lower.specs.Records.{Bytes, Record, bytes, encode}
-use Rattle.paper_lower.proofs.ListLaws.{upd-same, upd-other}
+use Rattle.paper_lower.proofs.ListLaws.{upd-same, upd-other, many-append}
+use Rattle.paper_lower.proofs.ReadBack.{sixteen}
 use Rattle.paper_opl.specs.Naming.{written}
 use Rattle.paper_opl.specs.Filling.{putAt}
 use Rattle.paper_opl.proofs.Inversion.{on-test}
@@ -32,10 +33,6 @@ body-same a (suc n) d e l m rest h =
 before : ℕ → ℕ → (ℕ → Bytes) → (ℕ → Bytes) → ℕ
 before a zero done left = 0
 before a (suc j) done left = length (done a) + length (left a) + before (suc a) j done left
-
-encoded : (r : Record) → length (encode r) ≡ 16
-unfolding encode bytes
-encoded r = refl
 
 -- a record put at the head of what is left
 put-here : (p d l rest : Bytes) (q : ℕ) (r : Record) → 16 * q ≡ length p + length d → 16 ≤ length l → putAt (p ++ (d ++ (l ++ rest))) q r ≡ p ++ ((d ++ encode r) ++ (drop 16 l ++ rest))
@@ -140,7 +137,7 @@ module _ (next : ℕ → ℕ) (k : ℕ) (r : Record) (ys : List Kinded) (d l : �
       let x = here .1 in
       let y = length-append (d k) (encode r) in
       let z = length-drop 16 (l k) in
-      let w = encoded r in
+      let w = sixteen r in
       rw (upd-same d k i (d k ++ encode r) e, upd-same l k i (drop 16 (l k)) e, e) (omega arith))
       (λ q. rw (upd-other d k i (d k ++ encode r) (eqb-false i k q), upd-other l k i (drop 16 (l k)) (eqb-false i k q)))
 
@@ -155,7 +152,7 @@ module _ (next : ℕ → ℕ) (k : ℕ) (r : Record) (ys : List Kinded) (d l : �
       let x = here .1 in
       let y = length-append (d k) (encode r) in
       let z = length-drop 16 (l k) in
-      let w = encoded r in
+      let w = sixteen r in
       let o0 : 16 * next k ≡ before 1 j d l + length (d k) = ap (λ (n : ℕ). 16 * next n) (sym g) ∙ o .0 ∙ ap (λ (n : ℕ). before 1 j d l + length (d n)) g in
       (rw (upd-same next k i (suc (next k)) g, upd-same d k i (d k ++ encode r) g) (omega arith), rw (upd-same l k i (drop 16 (l k)) g, g) (omega arith)))
       (λ q.
@@ -204,11 +201,6 @@ body-gathers (suc n) a ys rest =
     ap (λ (x : Bytes). written (picked a ys) ++ x) (body-gathers n (suc a) ys rest) ∙ sym (append-assoc (written (picked a ys)) (written (gather (suc a) n ys)) rest)
     ∙ ap (λ (x : Bytes). x ++ rest) (sym (written-append (picked a ys) (gather (suc a) n ys)))
 
-pub many-more : {A : Type 0} (xs ys : List A) → many (xs ++ ys) ≡ many xs + many ys
-unfolding many
-many-more [] ys = let z : 0 + many ys ≡ many ys = omega arith in sym z
-many-more (x ∷ xs) ys = let h = many-more xs ys in omega arith
-
 module _ (out : Bytes) (s c : ℕ → ℕ) (steps : (k : ℕ) → 1 ≤ k → s (suc k) ≡ s k + c k) where
   segment : ℕ → Bytes
   segment k = take (16 * c k) (drop (16 * s k) out)
@@ -239,7 +231,7 @@ module _ (out : Bytes) (s c : ℕ → ℕ) (steps : (k : ℕ) → 1 ≤ k → s 
       let x = starts-count ys counts n (suc a) (omega arith) (omega arith) in
       let y = steps a h in
       let w = counts a h (omega arith) in
-      let m = many-more (picked a ys) (gather (suc a) n ys) in
+      let m = many-append (picked a ys) (gather (suc a) n ys) in
       rw z (omega arith)
 
   module _ (fits : 16 * s 17 ≤ length out) where

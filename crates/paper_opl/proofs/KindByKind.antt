@@ -7,7 +7,7 @@ use native.Mathlib.Omega.{arith}
 use lib.Dec.{eqb}
 use borrow.Author.Tests.{eqb-true, eq-eqb, not-true}
 use Rattle.paper_lower.specs.Lists.{some, every, many, keep, each, listsOpen}
-use Rattle.paper_lower.proofs.ListLaws.{both, or-none}
+use Rattle.paper_lower.proofs.ListLaws.{both, or-none, many-append}
 use Rattle.paper_opl.specs.Reading.{Text, text, same, readingOpen}
 use Rattle.paper_opl.specs.Elements.{Child, elements, rowIn, elementsOpen}
 use Rattle.paper_opl.specs.Tree.{Given, Elements, Tag, tagsOf}
@@ -202,11 +202,6 @@ each-numbered k w (x ∷ xs) ys =
     let z : many xs + suc k ≡ suc (many xs) + k = omega arith in
     ap (λ (l : List Found). those w k x ++ l) (each-numbered (suc k) w xs ys ∙ ap (λ (n : ℕ). inEach (suc k) w xs ++ inEach n w ys) z)
     ∙ sym (append-assoc (those w k x) (inEach (suc k) w xs) (inEach (suc (many xs) + k) w ys))
-
-many-append : {A : Type 0} (xs ys : List A) → many (xs ++ ys) ≡ many xs + many ys
-unfolding many
-many-append [] ys = let z : 0 + many ys ≡ many ys = omega arith in sym z
-many-append (x ∷ xs) ys = let h = many-append xs ys in omega arith
 
 turned : (c : Context) (t : Tag) → turn c t .partitionings ≡ cond (same (t .name) partitioning) (suc (c .partitionings)) (c .partitionings)
 unfolding turn

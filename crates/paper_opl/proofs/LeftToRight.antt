@@ -10,7 +10,7 @@ use borrow.Author.Tests.{eqb-true}
 use Rattle.paper_lower.specs.Lists.{Maybe, many, keep, each, listsOpen}
 use Rattle.paper_lower.specs.Lists.Maybe.{just}
 use Rattle.paper_lower.specs.Records.{Bytes, Record}
-use Rattle.paper_lower.proofs.ListLaws.{or-none}
+use Rattle.paper_lower.proofs.ListLaws.{or-none, many-each}
 use Rattle.paper_opl.specs.Reading.{Text, text, same, readingOpen}
 use Rattle.paper_opl.specs.Reading.Read.{got}
 use Rattle.paper_opl.specs.Elements.{elements, elementsOpen}
@@ -54,11 +54,6 @@ names-are es ls = λ i. record {
   tasks = spaceOf 64 (each (λ l. l .task) ls);
   templates = spaceOf 16 (each (λ l. l .template) ls);
 }
-
-many-each : {A B : Type 0} (f : A → B) (xs : List A) → many (each f xs) ≡ many xs
-unfolding many each
-many-each f [] = refl
-many-each f (x ∷ xs) = ap suc (many-each f xs)
 
 partitionings-are : (es : Elements) → many (those (text "hdsodtp_partitioning") 0 es) ≡ many (keep (called "hdsodtp_partitioning") (tagsOf es))
 partitionings-are es =

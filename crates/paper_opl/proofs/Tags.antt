@@ -125,14 +125,14 @@ stop (b ∷ s) r e = rw e
 
 -- ---- Attributes, with the table and without.
 
-plain-of : (left : List Attribute) (s : Text) (g : Given) (r : Text) → attribute left s ≡ got g r → plain s ≡ got g r
+pub plain-of : (left : List Attribute) (s : Text) (g : Given) (r : Text) → attribute left s ≡ got g r → plain s ≡ got g r
 unfolding attribute plain
 plain-of left s g r e =
     on (name s) (λ w x p. on (equals x) (λ _ u q. on (value u) (λ v z t. on-found (find left w) (λ a o. on-test (fits (a .class) v)
     (λ c. rw (p, q, t) (rw (p, q, t, o, c) at e)) (λ c. absurd (bad≢got (rw (p, q, t, o, c) at e))))
     (λ o. absurd (bad≢got (rw (p, q, t, o) at e)))) (λ z t. absurd (bad≢got (rw (p, q, t) at e)))) (λ u q. absurd (bad≢got (rw (p, q) at e)))) (λ x p. absurd (bad≢got (rw p at e)))
 
-givens-of : (n : ℕ) (left : List Attribute) (s : Text) (gs : List Given) (r : Text) → attributes n left s ≡ got gs r → givens n s ≡ got gs r
+pub givens-of : (n : ℕ) (left : List Attribute) (s : Text) (gs : List Given) (r : Text) → attributes n left s ≡ got gs r → givens n s ≡ got gs r
 unfolding attributes givens
 givens-of zero left s gs r e = absurd (bad≢got e)
 givens-of (suc n) left s gs r e =
@@ -252,7 +252,7 @@ starts-more c w [] e = refl
 starts-more c w (b ∷ s) e = on-test (eqb c b) (λ q. absurd (true≢false (rw q at e))) (λ q. rw q)
 
 -- where an element begins, there is nothing to skip
-misc-here : (n : ℕ) (s r : Text) → expect (text "<") s ≡ got tt r → starts (text "<!") s ≡ false → misc n s ≡ got tt s
+pub misc-here : (n : ℕ) (s r : Text) → expect (text "<") s ≡ got tt r → starts (text "<!") s ≡ false → misc n s ≡ got tt s
 unfolding misc expect starts behind text
 misc-here zero s r e f = refl
 misc-here (suc n) [] r e f = refl

@@ -21,6 +21,7 @@ use Rattle.engine.specs.Answers.{requestAnswer, Requested}
 use Rattle.engine.specs.Settling.{Settling, SettledRequest}
 use Rattle.links.proofs.SameLaws.{tables-refl, tables-sym, tables-then}
 use Rattle.engine.proofs.RespectLaws.{runs-respect}
+use Rattle.engine.proofs.Ways.{fitting}
 use Rattle.theorems.proofs.Replies.{in-byte}
 use Rattle.demands.specs.Calls.Request.{within}
 use Rattle.demands.proofs.Calls.{request-listed, answers}
@@ -30,10 +31,6 @@ use Rattle.pile.specs.Promises.{Answers}
 -- a reply is a byte
 pub small : {bytes : Bytes} {x y : Buffers} {j : Judged} → Requested bytes x y j → numberOf (j .reply) ≤ 255
 small {bytes} {x} q = let e = q .replies in let l = in-byte _ (request-listed bytes x) in omega arith
-
--- what settled requests ask for
-pub settling-fits : (x : Buffers) → Settling x → fit x ≡ true
-settling-fits x h = rw (eq-eqb _ _ (h .0), eq-eqb _ _ (h .1 .0), eq-eqb _ _ (h .1 .1 .0))
 
 -- i of n requests are done, and the next record stands at a place
 pub record Left (n : ℕ) (bytes : Bytes) (x₀ x : Buffers) (i at : ℕ) (out₀ out : Bytes) : Type 0 where
@@ -89,7 +86,7 @@ pub turned : {n : ℕ} {bytes : Bytes} {x₀ x y : Buffers} {i at k : ℕ} {out�
     → Left n bytes x₀ y (i + 1) (at + 16) out₀ (set out i v)
 turned {n} {bytes} {x₀} {x} {y} {i} {at} {k} {out₀} {out} {j} {v} l k16 r e m h =
     let z : n - i - 1 ≡ n - (i + 1) = omega arith in
-    let f = settling-fits x (l .settled) in
+    let f = fitting x (l .settled) in
     let q = r .0 in
     let a = next-replies bytes at k16 q f (n - i) (omega arith) in
     let b = next-tables bytes at k16 q f (n - i) (omega arith) in

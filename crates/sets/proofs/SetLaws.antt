@@ -13,7 +13,7 @@ use lib.Bits.{bitAnd, bitOr, bitXor, differ, and-zero-r, or-lt}
 use lib.Count.{ones, ones-step, ones-le}
 use Rattle.paper_lower.specs.Lists.{someBelow}
 use Rattle.paper_lower.specs.Sets.{Set, empty, has, plus, minus, union, cut, onesIn, size, overlap, meets, within, collect, unionBelow}
-use Rattle.paper_lower.proofs.ListLaws.{none-below, below-none}
+use Rattle.paper_lower.proofs.ListLaws.{none-below, below-none, and-true, and-false}
 use Rattle.sets.proofs.Bits.{bit, bit-le, bit-shr, bit-zero, same-or-other, le-bits, ext-bits, ones-bits, some-bit, bit-above, below-bits, bit-or, bit-and, bit-xor, bit-not, bit-one, bit-other, ones-or, and-or-in, and-or-out}
 
 -- ---- membership is a bit
@@ -133,14 +133,6 @@ max-digit true true = refl
 max-digit true false = refl
 max-digit false true = refl
 max-digit false false = refl
-
-and-true : (b : Bool) → (b && true) ≡ b
-and-true true = refl
-and-true false = refl
-
-and-false : (b : Bool) → (b && false) ≡ false
-and-false true = refl
-and-false false = refl
 
 pub has-empty : (x : ℕ) → has empty x ≡ false
 has-empty x = bit-hasnt empty x (bit-zero x)

@@ -20,7 +20,7 @@ use Rattle.paper_lower.specs.Words.{joined}
 use Rattle.paper_lower.specs.Written.{inTurn, when, ofThere, behind}
 use Rattle.paper_lower.proofs.ListLaws.{upd-same}
 use Rattle.paper_lower.proofs.CheckLaws.{Passed, none-applies}
-use Rattle.paper_lower.proofs.ReadBack.{read-back}
+use Rattle.paper_lower.proofs.ReadBack.{read-back, sixteen}
 use Rattle.sets.proofs.SetLaws.{same-members, has-empty, collect-above, collect-below}
 use Rattle.theorems.proofs.Loads.{step, filled}
 use Rattle.theorems.proofs.Made.{add-more}
@@ -39,10 +39,6 @@ pub record Clean (p : Policy) (r : Record) : Type 0 where
   pub shape : misshapen (formOf policyForms (r .kind)) r ≡ false
   pub range : outOfRange (formOf policyForms (r .kind)) r ≡ false
   pub checks : Passed (chosen policyKinds (r .kind) .checks p r)
-
-sixteen : (r : Record) → length (encode r) ≡ 16
-unfolding encode bytes
-sixteen r = refl
 
 clean-reply : (p : Policy) (r : Record) → Clean p r → replyTo policyForms policyKinds p (encode r) ≡ 0
 unfolding replyTo formChecks

@@ -14,6 +14,7 @@ use Rattle.paper_lower.specs.Lists.{many, each}
 use Rattle.paper_lower.specs.Records.{Bytes, Record, bytes, encode}
 use Rattle.paper_lower.specs.Words.{joined}
 use Rattle.paper_lower.specs.Written.{inTurn, when, row}
+use Rattle.paper_lower.proofs.ReadBack.{sixteen}
 use Rattle.paper_opl.specs.Filling.{putAt}
 use Rattle.writing.specs.Laying.{laidAt, laidFrom, Laid}
 
@@ -89,21 +90,17 @@ turns f i {k} {w} {most} {out₀} {out} {out′} {place₀} {place} {next} a b h
     })
 
 -- ---- All of them, where there is room: their bytes, and what was there behind them.
-encoded : (r : Record) → length (encode r) ≡ 16
-unfolding encode bytes
-encoded r = refl
-
 pub joined-length : (rs : List Record) → length (joined (each encode rs)) ≡ 16 * many rs
 unfolding joined each many
 joined-length [] = refl
-joined-length (r ∷ rs) = omega (arith, length-append (encode r) (joined (each encode rs)), encoded r, joined-length rs)
+joined-length (r ∷ rs) = omega (arith, length-append (encode r) (joined (each encode rs)), sixteen r, joined-length rs)
 
 module _ (out : Bytes) (p : ℕ) (r : Record) (h : 16 * suc p ≤ length out) where
   front : length (take (16 * p) out ++ encode r) ≡ 16 * suc p
   front =
       let a = length-append (take (16 * p) out) (encode r) in
       let b = length-take-le (16 * p) out (omega arith) in
-      let c = encoded r in
+      let c = sixteen r in
       omega arith
 
   apart : putAt out p r ≡ (take (16 * p) out ++ encode r) ++ drop (16 * suc p) out
