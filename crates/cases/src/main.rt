@@ -11,455 +11,262 @@
 //   fill TIMES A B C           claim and done (A, B, C), as often as said: how many claims were granted
 //   garble P S O               numbers that mean nothing into the buffers, drawn from P, S and O; 0 leaves a buffer as it is
 //   try KIND N A B C M         a request to such buffers: whether it kept to the rule above; the reply is no matter of 01
+// The words of the buffers go from line to line by value: a proof about a value is far cheaper than one about what is lent.
 ghost use Prim.Native.Nat.{_<_, _≤_};
 ghost use lib.ListN.{length};
 use links::ORDERS_WORDS;
 use loading::Loaded;
 use policy::POLICY_WORDS;
-use replies::Reply;
 use rules::Judged;
 use scripts::Fields;
+use scripts::Handed;
 use sessions::SESSIONS_WORDS;
 
-// What a call came to: the number of its reply, its place, and whether every word is as before.
+// The three buffers, each with one word more than the engine asks for.
+struct Words {
+    p: [u64; POLICY_WORDS + 1],
+    s: [u64; SESSIONS_WORDS + 1],
+    o: [u64; ORDERS_WORDS + 1],
+}
+
+// A number for each buffer: how many of its words are lent, or what they are drawn from.
+struct Each {
+    p: u64,
+    s: u64,
+    o: u64,
+}
+
+// The number of the reply, and its place.
 struct Answer {
     reply: u64,
     place: u64,
-    kept: bool,
 }
 
-fn say(text: &[u8]) {
-    io::write_all(1, text);
+struct Came {
+    answer: Answer,
+    words: Words,
 }
 
-fn say_if(yes: bool, text: &[u8]) {
-    if yes {
-        say(text);
-    }
-}
-
-fn say_reply(line: &[u8], reply: u64) {
-    say(line);
-    say(b": ");
-    io::print_decimal(1, reply);
-}
-
-fn say_place(place: u64) {
-    if place != 0 {
-        say(b" at ");
-        io::print_decimal(1, place);
+fn no_words() -> Words {
+    Words {
+        p: [0u64; POLICY_WORDS + 1],
+        s: [0u64; SESSIONS_WORDS + 1],
+        o: [0u64; ORDERS_WORDS + 1],
     }
 }
 
-// A request with the first words of the buffers, as many as are named.
-fn request_in(
-    bytes: &[u8],
-    p: &mut [u64],
-    pn: usize,
-    s: &mut [u64],
-    sn: usize,
-    o: &mut [u64],
-    on: usize,
-) -> Judged {
-    if pn > p.len() {
-        return rules::plain(Reply::Granted);
+fn first_three(line: &[u8]) -> Each {
+    Each {
+        p: scripts::number(line, 1),
+        s: scripts::number(line, 2),
+        o: scripts::number(line, 3),
     }
-    if sn > s.len() {
-        return rules::plain(Reply::Granted);
-    }
-    if on > o.len() {
-        return rules::plain(Reply::Granted);
-    }
-    engine::request(bytes, &mut p[0..pn], &mut s[0..sn], &mut o[0..on])
 }
 
-// A load with the first words of the buffers, as many as are named.
-fn load_in(
-    bytes: &[u8],
-    p: &mut [u64],
-    pn: usize,
-    s: &mut [u64],
-    sn: usize,
-    o: &mut [u64],
-    on: usize,
-) -> Loaded {
-    if pn > p.len() {
-        return Loaded {
-            reply: Reply::Granted,
-            place: 0,
-        };
+fn room_of(line: &[u8]) -> Each {
+    match scripts::letter(line) {
+        b'r' | b'i' => first_three(line),
+        _ => Each {
+            p: POLICY_WORDS as u64,
+            s: SESSIONS_WORDS as u64,
+            o: ORDERS_WORDS as u64,
+        },
     }
-    if sn > s.len() {
-        return Loaded {
-            reply: Reply::Granted,
-            place: 0,
-        };
-    }
-    if on > o.len() {
-        return Loaded {
-            reply: Reply::Granted,
-            place: 0,
-        };
-    }
-    engine::load(bytes, &mut p[0..pn], &mut s[0..sn], &mut o[0..on])
 }
 
-fn answered(
-    bytes: &[u8],
-    p: &mut [u64],
-    pn: usize,
-    s: &mut [u64],
-    sn: usize,
-    o: &mut [u64],
-    on: usize,
-) -> Answer {
-    let mut p0 = [0u64; POLICY_WORDS + 1];
-    let mut s0 = [0u64; SESSIONS_WORDS + 1];
-    let mut o0 = [0u64; ORDERS_WORDS + 1];
-    scripts::copy(p, &mut p0);
-    scripts::copy(s, &mut s0);
-    scripts::copy(o, &mut o0);
-    let j = request_in(bytes, p, pn, s, sn, o, on);
+fn of_load(l: Loaded) -> Answer {
+    let reply = l.reply;
+    Answer {
+        reply: replies::number(reply),
+        place: l.place,
+    }
+}
+
+fn of_request(j: Judged) -> Answer {
     let reply = j.reply;
-    let kept = scripts::same(p, &p0) & scripts::same(s, &s0) & scripts::same(o, &o0);
     Answer {
         reply: replies::number(reply),
         place: j.place,
-        kept: kept,
     }
 }
 
-fn ask(
-    line: &[u8],
-    bytes: &[u8],
-    p: &mut [u64],
-    pn: usize,
-    s: &mut [u64],
-    sn: usize,
-    o: &mut [u64],
-    on: usize,
-) {
-    let a = answered(bytes, p, pn, s, sn, o, on);
-    say_reply(line, a.reply);
-    say_place(a.place);
-    say_if((a.reply != 0) & !a.kept, b", and words changed");
-    say(b"\n");
+// A claim in the even turns, and done in the odd ones.
+fn of_turn(line: &[u8], turn: u64) -> [u8; 16] {
+    scripts::bytes(Fields {
+        kind: if turn % 2 == 0 { 50 } else { 52 },
+        n: 0,
+        a: scripts::number(line, 2),
+        b: scripts::number(line, 3),
+        c: scripts::number(line, 4),
+        m: 0,
+    })
 }
 
-fn ask_record(
-    line: &[u8],
-    r: Fields,
-    p: &mut [u64],
-    pn: usize,
-    s: &mut [u64],
-    sn: usize,
-    o: &mut [u64],
-    on: usize,
-) {
-    let bytes = scripts::bytes(r);
-    ask(line, &bytes, p, pn, s, sn, o, on);
-}
-
-// A request of n bytes: those of the record, and zeros behind them.
-fn ask_cut(line: &[u8], room: &mut [u8], n: usize, p: &mut [u64], s: &mut [u64], o: &mut [u64]) {
-    scripts::put(room, 0, scripts::record_of(line, 2));
-    if n <= room.len() {
-        ask(
-            line,
-            &room[0..n],
-            p,
-            POLICY_WORDS,
-            s,
-            SESSIONS_WORDS,
-            o,
-            ORDERS_WORDS,
-        );
+fn claims_granted(turn: u64, j: Judged) -> u64
+    ensures { λ r. ⌜ r ≤ 1 ⌝ }
+{
+    let reply = j.reply;
+    if (turn % 2 == 0) & replies::accepted(reply) {
+        1
+    } else {
+        0
     }
 }
 
-fn cut(line: &[u8], n: usize, p: &mut [u64], s: &mut [u64], o: &mut [u64]) {
-    let mut room = [0u8; 64];
-    ask_cut(line, &mut room, n, p, s, o);
-}
-
-// A request to words that mean nothing.
-fn attempt(line: &[u8], r: Fields, p: &mut [u64], s: &mut [u64], o: &mut [u64]) {
-    let bytes = scripts::bytes(r);
-    let a = answered(&bytes, p, POLICY_WORDS, s, SESSIONS_WORDS, o, ORDERS_WORDS);
-    say(line);
-    say_if((a.reply <= 24) & (a.place <= 64), b": answered");
-    say_if((a.reply != 0) & !a.kept, b", and words changed");
-    say(b"\n");
-}
-
-// Claim, then done: 1 where the claim was granted.
-fn claimed(a: u64, b: u64, c: u64, p: &mut [u64], s: &mut [u64], o: &mut [u64]) -> u64
-    ensures { λ r. ⌜ r ≤ 1 ⌝ }
-{
-    let claim = scripts::bytes(Fields {
-        kind: 50,
-        n: 0,
-        a: a,
-        b: b,
-        c: c,
-        m: 0,
-    });
-    let done = scripts::bytes(Fields {
-        kind: 52,
-        n: 0,
-        a: a,
-        b: b,
-        c: c,
-        m: 0,
-    });
-    let j = request_in(&claim, p, POLICY_WORDS, s, SESSIONS_WORDS, o, ORDERS_WORDS);
-    let first = j.reply;
-    request_in(&done, p, POLICY_WORDS, s, SESSIONS_WORDS, o, ORDERS_WORDS);
-    one_if(replies::accepted(first))
-}
-
-fn one_if(yes: bool) -> u64
-    ensures { λ r. ⌜ r ≤ 1 ⌝ }
-{
-    if yes { 1 } else { 0 }
-}
-
-// How many of so many claims, each done at once, were granted.
-fn filled(times: u64, a: u64, b: u64, c: u64, p: &mut [u64], s: &mut [u64], o: &mut [u64]) -> u64 {
+fn filled(line: &[u8], p: &mut [u64], s: &mut [u64], o: &mut [u64]) -> u64 {
+    let turns = scripts::number(line, 1) % 4294967296 * 2;
     let mut granted = 0;
-    let mut i = 0;
-    while i < times {
-        granted += claimed(a, b, c, p, s, o);
-        i += 1;
+    let mut turn = 0;
+    while turn < turns {
+        let bytes = of_turn(line, turn);
+        granted += claims_granted(turn, engine::request(&bytes, p, s, o));
+        turn += 1;
     }
     granted
 }
 
-fn fill(line: &[u8], p: &mut [u64], s: &mut [u64], o: &mut [u64]) {
-    let times = scripts::number(line, 1);
-    let a = scripts::number(line, 2);
-    let b = scripts::number(line, 3);
-    let c = scripts::number(line, 4);
-    say_reply(line, filled(times, a, b, c, p, s, o));
-    say(b"\n");
-}
-
-fn garble(x: &mut [u64], seed: u64) {
-    if seed != 0 {
-        scripts::garble(x, seed);
+// What a line comes to that loads, fills or asks; of one that fills, how many claims were granted.
+fn answered(line: &[u8], bytes: &[u8], p: &mut [u64], s: &mut [u64], o: &mut [u64]) -> Answer {
+    match scripts::letter(line) {
+        b'w' | b'l' | b'r' => of_load(engine::load(bytes, p, s, o)),
+        b'f' => Answer {
+            reply: filled(line, p, s, o),
+            place: 0,
+        },
+        _ => of_request(engine::request(bytes, p, s, o)),
     }
 }
 
-fn zeros_in(x: &[u64], n: usize) -> bool {
-    if n > x.len() {
-        return false;
-    }
-    scripts::zeros(&x[0..n])
-}
-
-fn loaded(
-    bytes: &[u8],
-    p: &mut [u64],
-    pn: usize,
-    s: &mut [u64],
-    sn: usize,
-    o: &mut [u64],
-    on: usize,
-) -> Answer {
-    let mut p0 = [0u64; POLICY_WORDS + 1];
-    let mut s0 = [0u64; SESSIONS_WORDS + 1];
-    let mut o0 = [0u64; ORDERS_WORDS + 1];
-    scripts::copy(p, &mut p0);
-    scripts::copy(s, &mut s0);
-    scripts::copy(o, &mut o0);
-    let l = load_in(bytes, p, pn, s, sn, o, on);
-    let reply = l.reply;
-    let kept = scripts::same(p, &p0) & scripts::same(s, &s0) & scripts::same(o, &o0);
-    Answer {
-        reply: replies::number(reply),
-        place: l.place,
-        kept: kept,
+// Lends each buffer's first words to a call, as many as the line says.
+fn called(line: &[u8], h: Handed, w: Words) -> Came {
+    let room = room_of(line);
+    let bytes = h.bytes;
+    let mut p = w.p;
+    let mut s = w.s;
+    let mut o = w.o;
+    let pn = scripts::so_many(&p, room.p);
+    let sn = scripts::so_many(&s, room.s);
+    let on = scripts::so_many(&o, room.o);
+    let a = answered(
+        line,
+        scripts::front(&bytes, h.len),
+        &mut p[0..pn],
+        &mut s[0..sn],
+        &mut o[0..on],
+    );
+    Came {
+        answer: a,
+        words: Words { p: p, s: s, o: o },
     }
 }
 
-fn say_loaded(line: &[u8], a: Answer, zeros: bool) {
-    say_reply(line, a.reply);
-    say(b" at ");
-    io::print_decimal(1, a.place);
-    say_if(zeros, b", zeros");
-    say_if(a.kept, b", as before");
-    say(b"\n");
+fn garbled(w: Words, seeds: Each) -> Words {
+    let mut p = w.p;
+    let mut s = w.s;
+    let mut o = w.o;
+    scripts::garble_by(&mut p, seeds.p);
+    scripts::garble_by(&mut s, seeds.s);
+    scripts::garble_by(&mut o, seeds.o);
+    Words { p: p, s: s, o: o }
 }
 
-fn load(
-    line: &[u8],
-    bytes: &[u8],
-    p: &mut [u64],
-    pn: usize,
-    s: &mut [u64],
-    sn: usize,
-    o: &mut [u64],
-    on: usize,
-) {
-    scripts::garble(p, 1);
-    scripts::garble(s, 2);
-    scripts::garble(o, 3);
-    let a = loaded(bytes, p, pn, s, sn, o, on);
-    say_loaded(line, a, zeros_in(p, pn) & zeros_in(s, sn) & zeros_in(o, on));
+fn same(w: Words, v: Words) -> bool {
+    let p = w.p;
+    let s = w.s;
+    let o = w.o;
+    let q = v.p;
+    let t = v.s;
+    let u = v.o;
+    scripts::same(&p, &q) & scripts::same(&s, &t) & scripts::same(&o, &u)
 }
 
-// Loads the first n bytes.
-fn load_front(line: &[u8], bytes: &[u8], n: usize, p: &mut [u64], s: &mut [u64], o: &mut [u64]) {
-    if n <= bytes.len() {
-        load(
-            line,
-            &bytes[0..n],
-            p,
-            POLICY_WORDS,
-            s,
-            SESSIONS_WORDS,
-            o,
-            ORDERS_WORDS,
-        );
-    }
+fn zeros(w: Words, room: Each) -> bool {
+    let p = w.p;
+    let s = w.s;
+    let o = w.o;
+    scripts::zeros_in(&p, room.p as usize)
+        & scripts::zeros_in(&s, room.s as usize)
+        & scripts::zeros_in(&o, room.o as usize)
 }
 
-fn less(x: usize, y: usize) -> usize {
-    if x < y { 0 } else { x - y }
+fn load(line: &[u8], h: Handed, w: Words) -> Words {
+    let before = garbled(w, Each { p: 1, s: 2, o: 3 });
+    let c = called(line, h, before);
+    let a = c.answer;
+    let v = c.words;
+    scripts::say_reply(line, a.reply);
+    scripts::say_place(a.place);
+    scripts::say_if(zeros(v, room_of(line)), b", zeros");
+    scripts::say_if(same(v, before), b", as before");
+    scripts::say(b"\n");
+    v
 }
 
-// A line that loads or fills; `len` bytes of the policy are in hand.
-fn run_load(
-    letter: u8,
-    line: &[u8],
-    policy: &[u8],
-    len: usize,
-    p: &mut [u64],
-    s: &mut [u64],
-    o: &mut [u64],
-) {
-    let x = scripts::number(line, 1);
-    let y = scripts::number(line, 2);
-    let z = scripts::number(line, 3);
-    if letter == b'l' {
-        load_front(line, policy, less(len, x as usize), p, s, o);
+fn say_asked(line: &[u8], a: Answer) {
+    if scripts::letter(line) == b't' {
+        scripts::say(line);
+        scripts::say_if((a.reply <= 24) & (a.place <= 64), b": answered");
         return;
     }
-    if letter == b'r' {
-        load(line, policy, p, x as usize, s, y as usize, o, z as usize);
-        return;
-    }
-    say(line);
-    say(b"\n");
-    if letter == b'g' {
-        garble(p, x);
-        garble(s, y);
-        garble(o, z);
+    scripts::say_reply(line, a.reply);
+    if a.place != 0 {
+        scripts::say_place(a.place);
     }
 }
 
-// A line that asks; whether it was one.
-fn run_ask(letter: u8, line: &[u8], p: &mut [u64], s: &mut [u64], o: &mut [u64]) -> bool {
-    if letter == b'a' {
-        ask_record(
-            line,
-            scripts::record_of(line, 1),
-            p,
-            POLICY_WORDS,
-            s,
-            SESSIONS_WORDS,
-            o,
-            ORDERS_WORDS,
-        );
-        return true;
-    }
-    if letter == b'f' {
-        fill(line, p, s, o);
-        return true;
-    }
-    if letter == b't' {
-        attempt(line, scripts::record_of(line, 1), p, s, o);
-        return true;
-    }
-    let x = scripts::number(line, 1) as usize;
-    if letter == b'c' {
-        cut(line, x, p, s, o);
-        return true;
-    }
-    let y = scripts::number(line, 2) as usize;
-    let z = scripts::number(line, 3) as usize;
-    if letter == b'i' {
-        ask_record(line, scripts::record_of(line, 4), p, x, s, y, o, z);
-        return true;
-    }
-    false
+fn ask(line: &[u8], h: Handed, w: Words) -> Words {
+    let c = called(line, h, w);
+    let a = c.answer;
+    let v = c.words;
+    say_asked(line, a);
+    scripts::say_if((a.reply != 0) & !same(v, w), b", and words changed");
+    scripts::say(b"\n");
+    v
 }
 
-// A line of the script; answers how many bytes of the policy are in hand then.
-fn run(
-    line: &[u8],
-    policy: &mut [u8],
-    len: usize,
-    p: &mut [u64],
-    s: &mut [u64],
-    o: &mut [u64],
-) -> usize {
-    if line.len() == 0 {
-        return len;
-    }
-    let letter = line[0];
-    if letter == b'+' {
-        return scripts::put(policy, len, scripts::record_of(line, 1));
-    }
-    if letter == b'n' {
-        return 0;
-    }
-    if letter == b'w' {
-        let end = scripts::put(policy, len, scripts::record_of(line, 1));
-        load_front(line, policy, end, p, s, o);
-        return len;
-    }
-    if run_ask(letter, line, p, s, o) {
-        return len;
-    }
-    run_load(letter, line, policy, len, p, s, o);
-    len
+fn fill(line: &[u8], w: Words) -> Words {
+    let c = called(line, scripts::nothing(), w);
+    let a = c.answer;
+    scripts::say_reply(line, a.reply);
+    scripts::say(b"\n");
+    c.words
 }
 
-fn run_lines(text: &[u8], policy: &mut [u8], p: &mut [u64], s: &mut [u64], o: &mut [u64])
+// A line of the script; answers the words behind it.
+fn run(line: &[u8], policy: Handed, w: Words) -> Words {
+    match scripts::letter(line) {
+        b'\n' | b'+' | b'n' => w,
+        b'w' | b'l' | b'r' => load(line, scripts::handed_by(line, policy, 3), w),
+        b'a' | b'i' | b'c' | b't' => ask(line, scripts::handed_by(line, policy, 3), w),
+        b'f' => fill(line, w),
+        b'g' => {
+            scripts::say_line(line);
+            garbled(w, first_three(line))
+        }
+        _ => {
+            scripts::say_line(line);
+            w
+        }
+    }
+}
+
+fn run_lines(text: &[u8])
     requires { ⌜ length (now text) ≤ 65536 ⌝ }
 {
-    let mut len = 0;
+    let mut policy = scripts::nothing();
+    let mut words = no_words();
     let mut at = 0;
     while at < text.len() {
         let end = scripts::line_end(text, at);
-        len = run(&text[at..end], policy, len, p, s, o);
+        let line = &text[at..end];
+        policy = scripts::policy_behind(line, policy);
+        words = run(line, policy, words);
         at = end + 1;
-    }
-}
-
-fn run_front(
-    text: &[u8],
-    n: usize,
-    policy: &mut [u8],
-    p: &mut [u64],
-    s: &mut [u64],
-    o: &mut [u64],
-) {
-    if n > text.len() {
-        return;
-    }
-    if n <= 65536 {
-        run_lines(&text[0..n], policy, p, s, o);
     }
 }
 
 fn main() {
     let mut text = [0u8; 65536];
     let n = io::read_full(0, &mut text);
-    let mut policy = [0u8; 4096];
-    let mut p = [0u64; POLICY_WORDS + 1];
-    let mut s = [0u64; SESSIONS_WORDS + 1];
-    let mut o = [0u64; ORDERS_WORDS + 1];
-    run_front(&text, n, &mut policy, &mut p, &mut s, &mut o);
+    run_lines(&text[0..n]);
 }

@@ -10,269 +10,188 @@
 //   cut LEN KIND N A B C M     the same of the record's first LEN bytes, more bytes being zero
 //   garble P S                 numbers that mean nothing into both buffers, drawn from P and S; 0 leaves a buffer as it is
 //   try KIND N A B C M         a request to such buffers: whether it kept to the rule above; the reply is no matter of 01
+// The words of the buffers go from line to line by value: a proof about a value is far cheaper than one about what is lent.
 ghost use Prim.Native.Nat.{_<_, _≤_};
 ghost use lib.ListN.{length};
 use loading::Loaded;
 use policy::POLICY_WORDS;
-use replies::Reply;
-use scripts::Fields;
+use scripts::Handed;
 use sessions::SESSIONS_WORDS;
 
-// What a call came to: the number of its reply, a load's place, and whether every word is as before.
+// Both buffers, each with one word more than the lower part asks for.
+struct Words {
+    p: [u64; POLICY_WORDS + 1],
+    s: [u64; SESSIONS_WORDS + 1],
+}
+
+// A number for each buffer: how many of its words are lent, or what they are drawn from.
+struct Each {
+    p: u64,
+    s: u64,
+}
+
+// The number of the reply, and a load's place.
 struct Answer {
     reply: u64,
     place: u64,
-    kept: bool,
 }
 
-fn say(text: &[u8]) {
-    io::write_all(1, text);
+struct Came {
+    answer: Answer,
+    words: Words,
 }
 
-fn say_if(yes: bool, text: &[u8]) {
-    if yes {
-        say(text);
+fn no_words() -> Words {
+    Words {
+        p: [0u64; POLICY_WORDS + 1],
+        s: [0u64; SESSIONS_WORDS + 1],
     }
 }
 
-fn say_reply(line: &[u8], reply: u64) {
-    say(line);
-    say(b": ");
-    io::print_decimal(1, reply);
-}
-
-// A request with the first words of the buffers, as many as are named.
-fn request_in(bytes: &[u8], p: &mut [u64], pn: usize, s: &mut [u64], sn: usize) -> Reply {
-    if pn > p.len() {
-        return Reply::Granted;
-    }
-    if sn > s.len() {
-        return Reply::Granted;
-    }
-    lower::request(bytes, &mut p[0..pn], &mut s[0..sn])
-}
-
-// A load with the first words of the buffers, as many as are named.
-fn load_in(bytes: &[u8], p: &mut [u64], pn: usize, s: &mut [u64], sn: usize) -> Loaded {
-    if pn > p.len() {
-        return Loaded {
-            reply: Reply::Granted,
-            place: 0,
-        };
-    }
-    if sn > s.len() {
-        return Loaded {
-            reply: Reply::Granted,
-            place: 0,
-        };
-    }
-    lower::load(bytes, &mut p[0..pn], &mut s[0..sn])
-}
-
-fn answered(bytes: &[u8], p: &mut [u64], pn: usize, s: &mut [u64], sn: usize) -> Answer {
-    let mut p0 = [0u64; POLICY_WORDS + 1];
-    let mut s0 = [0u64; SESSIONS_WORDS + 1];
-    scripts::copy(p, &mut p0);
-    scripts::copy(s, &mut s0);
-    let reply = replies::number(request_in(bytes, p, pn, s, sn));
-    let kept = scripts::same(p, &p0) & scripts::same(s, &s0);
-    Answer {
-        reply: reply,
-        place: 0,
-        kept: kept,
+fn first_two(line: &[u8]) -> Each {
+    Each {
+        p: scripts::number(line, 1),
+        s: scripts::number(line, 2),
     }
 }
 
-fn ask(line: &[u8], bytes: &[u8], p: &mut [u64], pn: usize, s: &mut [u64], sn: usize) {
-    let a = answered(bytes, p, pn, s, sn);
-    say_reply(line, a.reply);
-    say_if((a.reply != 0) & !a.kept, b", and words changed");
-    say(b"\n");
-}
-
-fn ask_record(line: &[u8], r: Fields, p: &mut [u64], pn: usize, s: &mut [u64], sn: usize) {
-    let bytes = scripts::bytes(r);
-    ask(line, &bytes, p, pn, s, sn);
-}
-
-// A request of n bytes: those of the record, and zeros behind them.
-fn ask_cut(line: &[u8], room: &mut [u8], n: usize, p: &mut [u64], s: &mut [u64]) {
-    scripts::put(room, 0, scripts::record_of(line, 2));
-    if n <= room.len() {
-        ask(line, &room[0..n], p, POLICY_WORDS, s, SESSIONS_WORDS);
+fn room_of(line: &[u8]) -> Each {
+    match scripts::letter(line) {
+        b'r' | b'i' => first_two(line),
+        _ => Each {
+            p: POLICY_WORDS as u64,
+            s: SESSIONS_WORDS as u64,
+        },
     }
 }
 
-fn cut(line: &[u8], n: usize, p: &mut [u64], s: &mut [u64]) {
-    let mut room = [0u8; 64];
-    ask_cut(line, &mut room, n, p, s);
-}
-
-// A request to words that mean nothing.
-fn attempt(line: &[u8], r: Fields, p: &mut [u64], s: &mut [u64]) {
-    let bytes = scripts::bytes(r);
-    let a = answered(&bytes, p, POLICY_WORDS, s, SESSIONS_WORDS);
-    say(line);
-    say_if(a.reply <= 24, b": answered");
-    say_if((a.reply != 0) & !a.kept, b", and words changed");
-    say(b"\n");
-}
-
-fn garble(x: &mut [u64], seed: u64) {
-    if seed != 0 {
-        scripts::garble(x, seed);
-    }
-}
-
-fn zeros_in(x: &[u64], n: usize) -> bool {
-    if n > x.len() {
-        return false;
-    }
-    scripts::zeros(&x[0..n])
-}
-
-fn loaded(bytes: &[u8], p: &mut [u64], pn: usize, s: &mut [u64], sn: usize) -> Answer {
-    let mut p0 = [0u64; POLICY_WORDS + 1];
-    let mut s0 = [0u64; SESSIONS_WORDS + 1];
-    scripts::copy(p, &mut p0);
-    scripts::copy(s, &mut s0);
-    let l = load_in(bytes, p, pn, s, sn);
+fn of_load(l: Loaded) -> Answer {
     let reply = l.reply;
-    let kept = scripts::same(p, &p0) & scripts::same(s, &s0);
     Answer {
         reply: replies::number(reply),
         place: l.place,
-        kept: kept,
     }
 }
 
-fn say_loaded(line: &[u8], a: Answer, zeros: bool) {
-    say_reply(line, a.reply);
-    say(b" at ");
-    io::print_decimal(1, a.place);
-    say_if(zeros, b", zeros");
-    say_if(a.kept, b", as before");
-    say(b"\n");
-}
-
-fn load(line: &[u8], bytes: &[u8], p: &mut [u64], pn: usize, s: &mut [u64], sn: usize) {
-    scripts::garble(p, 1);
-    scripts::garble(s, 2);
-    let a = loaded(bytes, p, pn, s, sn);
-    say_loaded(line, a, zeros_in(p, pn) & zeros_in(s, sn));
-}
-
-// Loads the first n bytes.
-fn load_front(line: &[u8], bytes: &[u8], n: usize, p: &mut [u64], s: &mut [u64]) {
-    if n <= bytes.len() {
-        load(line, &bytes[0..n], p, POLICY_WORDS, s, SESSIONS_WORDS);
+// What a line comes to that loads or asks.
+fn answered(line: &[u8], bytes: &[u8], p: &mut [u64], s: &mut [u64]) -> Answer {
+    match scripts::letter(line) {
+        b'w' | b'l' | b'r' => of_load(lower::load(bytes, p, s)),
+        _ => Answer {
+            reply: replies::number(lower::request(bytes, p, s)),
+            place: 0,
+        },
     }
 }
 
-fn less(x: usize, y: usize) -> usize {
-    if x < y { 0 } else { x - y }
-}
-
-// A line that loads or fills; `len` bytes of the policy are in hand.
-fn run_load(letter: u8, line: &[u8], policy: &[u8], len: usize, p: &mut [u64], s: &mut [u64]) {
-    let x = scripts::number(line, 1);
-    let y = scripts::number(line, 2);
-    if letter == b'l' {
-        load_front(line, policy, less(len, x as usize), p, s);
-        return;
-    }
-    if letter == b'r' {
-        load(line, policy, p, x as usize, s, y as usize);
-        return;
-    }
-    say(line);
-    say(b"\n");
-    if letter == b'g' {
-        garble(p, x);
-        garble(s, y);
+// Lends the first words of both buffers to a call, as many as the line says.
+fn called(line: &[u8], h: Handed, w: Words) -> Came {
+    let room = room_of(line);
+    let bytes = h.bytes;
+    let mut p = w.p;
+    let mut s = w.s;
+    let pn = scripts::so_many(&p, room.p);
+    let sn = scripts::so_many(&s, room.s);
+    let a = answered(
+        line,
+        scripts::front(&bytes, h.len),
+        &mut p[0..pn],
+        &mut s[0..sn],
+    );
+    Came {
+        answer: a,
+        words: Words { p: p, s: s },
     }
 }
 
-// A line that asks; whether it was one.
-fn run_ask(letter: u8, line: &[u8], p: &mut [u64], s: &mut [u64]) -> bool {
-    if letter == b'a' {
-        ask_record(
-            line,
-            scripts::record_of(line, 1),
-            p,
-            POLICY_WORDS,
-            s,
-            SESSIONS_WORDS,
-        );
-        return true;
-    }
-    if letter == b't' {
-        attempt(line, scripts::record_of(line, 1), p, s);
-        return true;
-    }
-    let x = scripts::number(line, 1) as usize;
-    if letter == b'c' {
-        cut(line, x, p, s);
-        return true;
-    }
-    let y = scripts::number(line, 2) as usize;
-    if letter == b'i' {
-        ask_record(line, scripts::record_of(line, 3), p, x, s, y);
-        return true;
-    }
-    false
+fn garbled(w: Words, seeds: Each) -> Words {
+    let mut p = w.p;
+    let mut s = w.s;
+    scripts::garble_by(&mut p, seeds.p);
+    scripts::garble_by(&mut s, seeds.s);
+    Words { p: p, s: s }
 }
 
-// A line of the script; answers how many bytes of the policy are in hand then.
-fn run(line: &[u8], policy: &mut [u8], len: usize, p: &mut [u64], s: &mut [u64]) -> usize {
-    if line.len() == 0 {
-        return len;
-    }
-    let letter = line[0];
-    if letter == b'+' {
-        return scripts::put(policy, len, scripts::record_of(line, 1));
-    }
-    if letter == b'n' {
-        return 0;
-    }
-    if letter == b'w' {
-        let end = scripts::put(policy, len, scripts::record_of(line, 1));
-        load_front(line, policy, end, p, s);
-        return len;
-    }
-    if run_ask(letter, line, p, s) {
-        return len;
-    }
-    run_load(letter, line, policy, len, p, s);
-    len
+fn same(w: Words, v: Words) -> bool {
+    let p = w.p;
+    let s = w.s;
+    let q = v.p;
+    let t = v.s;
+    scripts::same(&p, &q) & scripts::same(&s, &t)
 }
 
-fn run_lines(text: &[u8], policy: &mut [u8], p: &mut [u64], s: &mut [u64])
+fn zeros(w: Words, room: Each) -> bool {
+    let p = w.p;
+    let s = w.s;
+    scripts::zeros_in(&p, room.p as usize) & scripts::zeros_in(&s, room.s as usize)
+}
+
+fn load(line: &[u8], h: Handed, w: Words) -> Words {
+    let before = garbled(w, Each { p: 1, s: 2 });
+    let c = called(line, h, before);
+    let a = c.answer;
+    let v = c.words;
+    scripts::say_reply(line, a.reply);
+    scripts::say_place(a.place);
+    scripts::say_if(zeros(v, room_of(line)), b", zeros");
+    scripts::say_if(same(v, before), b", as before");
+    scripts::say(b"\n");
+    v
+}
+
+fn say_asked(line: &[u8], reply: u64) {
+    if scripts::letter(line) == b't' {
+        scripts::say(line);
+        scripts::say_if(reply <= 24, b": answered");
+    } else {
+        scripts::say_reply(line, reply);
+    }
+}
+
+fn ask(line: &[u8], h: Handed, w: Words) -> Words {
+    let c = called(line, h, w);
+    let a = c.answer;
+    let v = c.words;
+    say_asked(line, a.reply);
+    scripts::say_if((a.reply != 0) & !same(v, w), b", and words changed");
+    scripts::say(b"\n");
+    v
+}
+
+// A line of the script; answers the words behind it.
+fn run(line: &[u8], policy: Handed, w: Words) -> Words {
+    match scripts::letter(line) {
+        b'\n' | b'+' | b'n' => w,
+        b'w' | b'l' | b'r' => load(line, scripts::handed_by(line, policy, 2), w),
+        b'a' | b'i' | b'c' | b't' => ask(line, scripts::handed_by(line, policy, 2), w),
+        b'g' => {
+            scripts::say_line(line);
+            garbled(w, first_two(line))
+        }
+        _ => {
+            scripts::say_line(line);
+            w
+        }
+    }
+}
+
+fn run_lines(text: &[u8])
     requires { ⌜ length (now text) ≤ 65536 ⌝ }
 {
-    let mut len = 0;
+    let mut policy = scripts::nothing();
+    let mut words = no_words();
     let mut at = 0;
     while at < text.len() {
         let end = scripts::line_end(text, at);
-        len = run(&text[at..end], policy, len, p, s);
+        let line = &text[at..end];
+        policy = scripts::policy_behind(line, policy);
+        words = run(line, policy, words);
         at = end + 1;
-    }
-}
-
-fn run_front(text: &[u8], n: usize, policy: &mut [u8], p: &mut [u64], s: &mut [u64]) {
-    if n > text.len() {
-        return;
-    }
-    if n <= 65536 {
-        run_lines(&text[0..n], policy, p, s);
     }
 }
 
 fn main() {
     let mut text = [0u8; 65536];
     let n = io::read_full(0, &mut text);
-    let mut policy = [0u8; 8192];
-    let mut p = [0u64; POLICY_WORDS + 1];
-    let mut s = [0u64; SESSIONS_WORDS + 1];
-    run_front(&text, n, &mut policy, &mut p, &mut s);
+    run_lines(&text[0..n]);
 }

@@ -1,9 +1,9 @@
-// What the programs that run cases have in common: a line of a script, its numbers, its record, and words compared. It knows no
-// rule of the engine. A line is a letter, numbers behind it, and words for the reader.
+// What the programs that run cases have in common: a line of a script, its numbers, its record, the bytes it hands to a call, what is
+// printed of a reply, and words compared. It knows no rule of the engine. A line is a letter, numbers behind it, and words for the reader.
+// It rests on io for what is printed.
 ghost use Prim.Native.Nat.{ℕ, _+_, _%_, _<_, _≤_};
 ghost use mathlib.Core.Bool.{true, cond};
 ghost use mathlib.Core.Path.{_≡_};
-ghost use lib.Dec.{eqb};
 ghost use lib.ListN.{length, getD};
 ghost use Rattle.scripts.specs.Lines.{LineEnd, digitMore, spaceMore, numberOf, bytesOf, recordOf, Put, drawn, garbled};
 
@@ -51,7 +51,7 @@ pub fn bytes(r: Fields) -> [u8; 16]
 }
 
 // Writes a record behind the first `at` bytes, where there is room, and answers where the next one goes.
-pub fn put(to: &mut [u8], at: usize, r: Fields) -> usize
+fn put(to: &mut [u8], at: usize, r: Fields) -> usize
     ensures { λ end. ⌜ Put at r (now (to .entry)) (now (to .exit)) end ⌝ }
 {
     if at > 65520 {
@@ -136,7 +136,7 @@ fn if_word(here: bool, x: u64, b: u8) -> u64
 }
 
 // The record whose six numbers stand behind the k-th space and the next five.
-pub fn record_of(line: &[u8], k: u64) -> Fields
+fn record_of(line: &[u8], k: u64) -> Fields
     requires { ⌜ k < 100 ⌝ }
     ensures { λ r. ⌜ r ≡ recordOf (now (line .entry)) k ⌝ }
 {
@@ -153,20 +153,6 @@ pub fn record_of(line: &[u8], k: u64) -> Fields
         b: b,
         c: c,
         m: m,
-    }
-}
-
-// Copies the words, where both are equally many, and else none.
-pub fn copy(from: &[u64], to: &mut [u64])
-    ensures { λ _. ⌜ now (to .exit) ≡ cond (eqb (length (now (from .entry))) (length (now (to .entry)))) (now (from .entry)) (now (to .entry)) ⌝ }
-{
-    if from.len() != to.len() {
-        return;
-    }
-    let mut i = 0;
-    while i < to.len() {
-        to[i] = from[i];
-        i += 1;
     }
 }
 
@@ -188,7 +174,7 @@ pub fn same(x: &[u64], y: &[u64]) -> bool
 }
 
 // Whether every word is zero.
-pub fn zeros(x: &[u64]) -> bool
+fn zeros(x: &[u64]) -> bool
     ensures { λ r. ⌜ (r ≡ true → ((i : ℕ) → getD (now (x .entry)) i 0 ≡ 0)) × (((i : ℕ) → getD (now (x .entry)) i 0 ≡ 0) → r ≡ true) ⌝ }
 {
     let mut i = 0;
@@ -202,7 +188,7 @@ pub fn zeros(x: &[u64]) -> bool
 }
 
 // Fills the words with numbers that mean nothing.
-pub fn garble(words: &mut [u64], seed: u64)
+fn garble(words: &mut [u64], seed: u64)
     ensures { λ _. ⌜ ((i : ℕ) → i < length (now (words .entry)) → getD (now (words .exit)) i 0 ≡ garbled (drawn seed (i + 1))) ⌝ }
 {
     let mut x = seed;
@@ -212,4 +198,124 @@ pub fn garble(words: &mut [u64], seed: u64)
         words[i] = x % 2147483648 * 8589934591;
         i += 1;
     }
+}
+
+// The same, but 0 leaves the words as they are.
+pub fn garble_by(words: &mut [u64], seed: u64) {
+    if seed != 0 {
+        garble(words, seed);
+    }
+}
+
+// Whether the first n words are all zero.
+pub fn zeros_in(x: &[u64], n: usize) -> bool {
+    if n > x.len() {
+        return false;
+    }
+    zeros(&x[0..n])
+}
+
+// So many of the words, or all where they are fewer.
+pub fn so_many(words: &[u64], n: u64) -> usize
+    ensures { λ r. ⌜ r ≤ length (now (words .entry)) ⌝ }
+{
+    let k = n as usize;
+    if k < words.len() { k } else { words.len() }
+}
+
+// The first n bytes, or all where they are fewer.
+pub fn front(bytes: &[u8], n: usize) -> &[u8] {
+    if n < bytes.len() { &bytes[0..n] } else { bytes }
+}
+
+// What is handed to a call: the first `len` of these bytes.
+pub struct Handed {
+    pub bytes: [u8; 8192],
+    pub len: usize,
+}
+
+pub fn nothing() -> Handed {
+    Handed {
+        bytes: [0u8; 8192],
+        len: 0,
+    }
+}
+
+fn with_record(h: Handed, r: Fields) -> Handed {
+    let mut bytes = h.bytes;
+    let len = put(&mut bytes, h.len, r);
+    Handed {
+        bytes: bytes,
+        len: len,
+    }
+}
+
+fn of_length(h: Handed, len: usize) -> Handed {
+    let bytes = h.bytes;
+    Handed {
+        bytes: bytes,
+        len: len,
+    }
+}
+
+fn request_of(r: Fields) -> Handed {
+    with_record(nothing(), r)
+}
+
+fn less(x: usize, y: usize) -> usize {
+    if x < y { 0 } else { x - y }
+}
+
+// The first byte; no line has a newline there, and so it stands for an empty line.
+pub fn letter(line: &[u8]) -> u8 {
+    if line.len() == 0 { b'\n' } else { line[0] }
+}
+
+// The policy in hand behind this line.
+pub fn policy_behind(line: &[u8], policy: Handed) -> Handed {
+    match letter(line) {
+        b'+' => with_record(policy, record_of(line, 1)),
+        b'n' => nothing(),
+        _ => policy,
+    }
+}
+
+// What a line that loads or asks hands over, given the policy in hand. `in` names the lengths of so many buffers before its record.
+pub fn handed_by(line: &[u8], policy: Handed, buffers: u64) -> Handed
+    requires { ⌜ buffers < 10 ⌝ }
+{
+    match letter(line) {
+        b'w' => with_record(policy, record_of(line, 1)),
+        b'l' => of_length(policy, less(policy.len, number(line, 1) as usize)),
+        b'r' => policy,
+        b'i' => request_of(record_of(line, buffers + 1)),
+        b'c' => of_length(request_of(record_of(line, 2)), number(line, 1) as usize),
+        _ => request_of(record_of(line, 1)),
+    }
+}
+
+pub fn say(text: &[u8]) {
+    io::write_all(1, text);
+}
+
+pub fn say_if(yes: bool, text: &[u8]) {
+    if yes {
+        say(text);
+    }
+}
+
+pub fn say_line(line: &[u8]) {
+    say(line);
+    say(b"\n");
+}
+
+pub fn say_reply(line: &[u8], reply: u64) {
+    say(line);
+    say(b": ");
+    io::print_decimal(1, reply);
+}
+
+pub fn say_place(place: u64) {
+    say(b" at ");
+    io::print_decimal(1, place);
 }

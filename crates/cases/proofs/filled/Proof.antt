@@ -1,4 +1,4 @@
--- Counting the granted claims ends, and the count stays within the times.
+-- Counting the granted claims ends, and the count stays within the turns.
 use Prim.Native.Nat.{_≤_, _-_}
 use mathlib.Core.Path.{_≡_}
 use lib.ListN.{length}
@@ -7,22 +7,37 @@ use Rattle.cases.proofs.filled.Statement.{statement}
 use Rattle.cases.proofs.filled.Tie as tie
 
 abbrev Inv-loop : tie.InvT-loop
-Inv-loop times a b c p₀ s₀ o₀ granted₀ i₀ p s o granted i = (i ≤ times) × (granted ≤ i) × (length p ≡ length p₀) × (length s ≡ length s₀) × (length o ≡ length o₀)
+Inv-loop line p₀ s₀ o₀ turns granted₀ turn₀ p s o granted turn = (turn ≤ turns) × (granted ≤ turn) × (length p ≡ length p₀) × (length s ≡ length s₀) × (length o ≡ length o₀)
 
 abbrev μ-loop : tie.MeasureT-loop
-μ-loop times a b c p₀ s₀ o₀ granted₀ i₀ p s o granted i = times - i
+μ-loop line p₀ s₀ o₀ turns granted₀ turn₀ p s o granted turn = turns - turn
+
+number-requires : tie.Need-number-requires Inv-loop μ-loop
+number-requires c κs = search needs
+
+mul-turns : tie.Need-mul-turns Inv-loop μ-loop
+mul-turns c = search needs
 
 loop-holds : tie.Need-loop-holds Inv-loop μ-loop
 loop-holds c = search needs
 
-claimed-requires : tie.Need-claimed-requires Inv-loop μ-loop
-claimed-requires c κs = search needs
+of-turn-requires : tie.Need-of-turn-requires Inv-loop μ-loop
+of-turn-requires c κs = search needs
+
+slice-aggregate-request : tie.Need-slice-aggregate-request Inv-loop μ-loop
+slice-aggregate-request c = search needs
+
+request-requires : tie.Need-request-requires Inv-loop μ-loop
+request-requires c κs = search needs
+
+claims-granted-requires : tie.Need-claims-granted-requires Inv-loop μ-loop
+claims-granted-requires c κs = search needs
 
 add-granted : tie.Need-add-granted Inv-loop μ-loop
 add-granted c = search needs
 
-add-i : tie.Need-add-i Inv-loop μ-loop
-add-i c = search needs
+add-turn : tie.Need-add-turn Inv-loop μ-loop
+add-turn c = search needs
 
 loop-less : tie.Need-loop-less Inv-loop μ-loop
 loop-less c = search needs
@@ -48,10 +63,15 @@ filled-spec =
     (tie.spec
     Inv-loop
     μ-loop
+    number-requires
+    mul-turns
     loop-holds
-    claimed-requires
+    of-turn-requires
+    slice-aggregate-request
+    request-requires
+    claims-granted-requires
     add-granted
-    add-i
+    add-turn
     loop-less
     loop-again
     same-length

@@ -1,16 +1,21 @@
 -- Each line is within the text, and the next one begins behind it.
 use Prim.Native.Nat.{_≤_, _-_, _+_}
-use mathlib.Core.Path.{_≡_}
 use lib.ListN.{length}
 use borrow.Author.Needs.{needs}
 use Rattle.cases.proofs.run_lines.Statement.{statement}
 use Rattle.cases.proofs.run_lines.Tie as tie
 
 abbrev Inv-loop : tie.InvT-loop
-Inv-loop text policy₀ p₀ s₀ o₀ len₀ at₀ policy p s o len at = (at ≤ length text + 1) × (length policy ≡ length policy₀) × (length p ≡ length p₀) × (length s ≡ length s₀) × (length o ≡ length o₀)
+Inv-loop text policy₀ words₀ at₀ policy words at = at ≤ length text + 1
 
 abbrev μ-loop : tie.MeasureT-loop
-μ-loop text policy₀ p₀ s₀ o₀ len₀ at₀ policy p s o len at = (length text + 1) - at
+μ-loop text policy₀ words₀ at₀ policy words at = (length text + 1) - at
+
+nothing-requires : tie.Need-nothing-requires Inv-loop μ-loop
+nothing-requires c κs = search needs
+
+no-words-requires : tie.Need-no-words-requires Inv-loop μ-loop
+no-words-requires c κs = search needs
 
 loop-holds : tie.Need-loop-holds Inv-loop μ-loop
 loop-holds c = search needs
@@ -18,14 +23,17 @@ loop-holds c = search needs
 line-end-requires : tie.Need-line-end-requires Inv-loop μ-loop
 line-end-requires c κs = search needs
 
-sub-run : tie.Need-sub-run Inv-loop μ-loop
-sub-run c = search needs
+sub-line : tie.Need-sub-line Inv-loop μ-loop
+sub-line c = search needs
 
-part-run-start : tie.Need-part-run-start Inv-loop μ-loop
-part-run-start c = search needs
+part-line-start : tie.Need-part-line-start Inv-loop μ-loop
+part-line-start c = search needs
 
-part-run-end : tie.Need-part-run-end Inv-loop μ-loop
-part-run-end c = search needs
+part-line-end : tie.Need-part-line-end Inv-loop μ-loop
+part-line-end c = search needs
+
+policy-behind-requires : tie.Need-policy-behind-requires Inv-loop μ-loop
+policy-behind-requires c κs = search needs
 
 run-requires : tie.Need-run-requires Inv-loop μ-loop
 run-requires c κs = search needs
@@ -39,18 +47,6 @@ loop-less c = search needs
 loop-again : tie.Need-loop-again Inv-loop μ-loop
 loop-again c = search needs
 
-same-length : tie.Need-same-length Inv-loop μ-loop
-same-length c = search needs
-
-same-length-2 : tie.Need-same-length-2 Inv-loop μ-loop
-same-length-2 c = search needs
-
-same-length-3 : tie.Need-same-length-3 Inv-loop μ-loop
-same-length-3 c = search needs
-
-same-length-4 : tie.Need-same-length-4 Inv-loop μ-loop
-same-length-4 c = search needs
-
 returns : tie.Need-returns Inv-loop μ-loop
 returns c = search needs
 
@@ -60,17 +56,16 @@ run-lines-spec =
     (tie.spec
     Inv-loop
     μ-loop
+    nothing-requires
+    no-words-requires
     loop-holds
     line-end-requires
-    sub-run
-    part-run-start
-    part-run-end
+    sub-line
+    part-line-start
+    part-line-end
+    policy-behind-requires
     run-requires
     add-at
     loop-less
     loop-again
-    same-length
-    same-length-2
-    same-length-3
-    same-length-4
     returns)
