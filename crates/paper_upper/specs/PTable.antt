@@ -318,7 +318,8 @@ unfoldable pub placesComeOut : Places → Bool
 placesComeOut c =
     let l = load (joined (c .of .policy)) in
     let xs = placedRun (engineOf (l .tables)) (each (λ x. x .request) (c .of .requests)) in
-    eqb (l .reply) (c .of .reply) && asExpected (each (λ x. x .said) xs) (c .of .requests) && samePlaces xs (c .places)
+    eqb (l .reply) (c .of .reply) && eqb (l .place) (c .of .place)
+    && asExpected (each (λ x. x .said) xs) (c .of .requests) && samePlaces xs (c .places)
 
 -- Every row comes out as it stands above.
 pub all-come-out : every (comesOut request engineOf) cases ≡ true
