@@ -83,3 +83,13 @@ drawn seed (suc i) = (drawn seed i % 2147483648 * 1103515245 + 12345) % 21474836
 
 abbrev pub garbled : ℕ → ℕ
 garbled x = x % 2147483648 * 8589934591
+
+-- words drawn from a number, or as they were where it is 0
+pub record Garbled (seed : ℕ) (l l′ : List ℕ) : Type 0 where
+  pub kept : seed ≡ 0 → l′ ≡ l
+  pub words : (seed ≡ 0 → ⊥) → (i : ℕ) → i < length l → getD l′ i 0 ≡ garbled (drawn seed (i + 1))
+
+-- the first byte of a line; a newline for an empty one, which no line has
+unfoldable pub letterOf : List ℕ → ℕ
+letterOf [] = 10
+letterOf (b ∷ s) = b

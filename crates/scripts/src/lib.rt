@@ -4,8 +4,8 @@
 ghost use Prim.Native.Nat.{ℕ, _+_, _%_, _<_, _≤_};
 ghost use mathlib.Core.Bool.{true, cond};
 ghost use mathlib.Core.Path.{_≡_};
-ghost use lib.ListN.{length, getD};
-ghost use Rattle.scripts.specs.Lines.{LineEnd, digitMore, spaceMore, numberOf, bytesOf, recordOf, Put, drawn, garbled};
+ghost use lib.ListN.{length, getD, take};
+ghost use Rattle.scripts.specs.Lines.{LineEnd, digitMore, spaceMore, numberOf, bytesOf, recordOf, Put, drawn, garbled, letterOf, Garbled};
 
 pub struct Fields {
     pub kind: u8,
@@ -201,14 +201,18 @@ fn garble(words: &mut [u64], seed: u64)
 }
 
 // The same, but 0 leaves the words as they are.
-pub fn garble_by(words: &mut [u64], seed: u64) {
+pub fn garble_by(words: &mut [u64], seed: u64)
+    ensures { λ _. ⌜ Garbled seed (now (words .entry)) (now (words .exit)) ⌝ }
+{
     if seed != 0 {
         garble(words, seed);
     }
 }
 
 // Whether the first n words are all zero.
-pub fn zeros_in(x: &[u64], n: usize) -> bool {
+pub fn zeros_in(x: &[u64], n: usize) -> bool
+    ensures { λ r. ⌜ (r ≡ true → n ≤ length (now (x .entry))) ⌝ }
+{
     if n > x.len() {
         return false;
     }
@@ -224,7 +228,9 @@ pub fn so_many(words: &[u64], n: u64) -> usize
 }
 
 // The first n bytes, or all where they are fewer.
-pub fn front(bytes: &[u8], n: usize) -> &[u8] {
+pub fn front(bytes: &[u8], n: usize) -> &[u8]
+    ensures { λ r. ⌜ now r ≡ take n (now (bytes .entry)) ⌝ }
+{
     if n < bytes.len() { &bytes[0..n] } else { bytes }
 }
 
@@ -234,7 +240,9 @@ pub struct Handed {
     pub len: usize,
 }
 
-pub fn nothing() -> Handed {
+pub fn nothing() -> Handed
+    ensures { λ r. ⌜ r .len ≡ 0 ⌝ }
+{
     Handed {
         bytes: [0u8; 8192],
         len: 0,
@@ -267,7 +275,9 @@ fn less(x: usize, y: usize) -> usize {
 }
 
 // The first byte; no line has a newline there, and so it stands for an empty line.
-pub fn letter(line: &[u8]) -> u8 {
+pub fn letter(line: &[u8]) -> u8
+    ensures { λ r. ⌜ r ≡ letterOf (now (line .entry)) ⌝ }
+{
     if line.len() == 0 { b'\n' } else { line[0] }
 }
 
