@@ -1,6 +1,6 @@
 //! All measurements of a run: every workload raced, the stack that calls use, the size of the state.
 
-use crate::race::{Race, CHECKED, FLAT, LISTS, PROVED};
+use crate::race::{Race, CHECKED, FLAT, INDEX, LISTS, PROVED};
 use crate::reading::{reading_stack, readings, Reading};
 use crate::workloads::{checks, day, day_among, load, Workload};
 use crate::{kinds, stack};
@@ -43,6 +43,7 @@ pub struct Line {
     pub granted: usize,
     pub proved: Option<f64>,
     pub lists: f64,
+    pub index: f64,
     pub flat: Option<f64>,
 }
 
@@ -101,6 +102,7 @@ fn line(race: &Race) -> Line {
         granted: records - refused,
         proved: of(PROVED).or(of(CHECKED)),
         lists: of(LISTS).expect("the plain engine always takes part"),
+        index: of(INDEX).expect("the engine with the perfect index always takes part"),
         flat: of(FLAT),
     }
 }

@@ -1,4 +1,4 @@
-//! Times the proved library against the plain engine, and writes docs/BENCH.md and docs/bench.svg.
+//! Times the proved library against two plain engines, and writes docs/BENCH.md and docs/bench.svg.
 
 use bench::{only, page, plot, reading_table, readings, table, Effort, Figures};
 use differential::command;
@@ -7,7 +7,7 @@ use std::process::ExitCode;
 use std::{fs, io};
 
 const HELP: &str = "\
-Times the proved library against the plain Rust engine, on the same records in one run, and compares every reply.
+Times the proved library against two engines in plain Rust, on the same records in one run, and compares every reply.
 Writes docs/BENCH.md and docs/bench.svg.
 
   bench [--quick] [--only WORDS | --opl]

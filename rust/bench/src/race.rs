@@ -1,5 +1,6 @@
 //! Times one workload on several engines in turn, and compares every reply of every pass.
 
+use crate::index::Index;
 use crate::workloads::{Timed, Workload, LENGTH};
 use differential::{checked, plain, proved, Desk};
 use plain::{Engine, FlatLedger, OrderLists};
@@ -9,6 +10,7 @@ use std::time::{Duration, Instant};
 pub const PROVED: &str = "proved";
 pub const CHECKED: &str = "checked";
 pub const LISTS: &str = "lists";
+pub const INDEX: &str = "index";
 pub const FLAT: &str = "flat";
 
 struct Runner {
@@ -35,7 +37,10 @@ pub struct Race<'a> {
 
 /// The plain engine has two ledgers, which make a difference where entries are looked at.
 fn engines(workload: &Workload) -> Vec<Box<dyn Desk>> {
-    let mut desks = vec![plain(LISTS, Engine::<OrderLists>::new())];
+    let mut desks = vec![
+        plain(LISTS, Engine::<OrderLists>::new()),
+        Box::new(Index::new()),
+    ];
     if workload.asks_entries() {
         desks.push(plain(FLAT, Engine::<FlatLedger>::new()));
     }

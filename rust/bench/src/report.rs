@@ -14,6 +14,7 @@ const LOAD: &str = include_str!("../../../docs/load.md");
 
 const PROVED_COLOUR: &str = "#c2410c";
 const PLAIN_COLOUR: &str = "#1d4ed8";
+const INDEX_COLOUR: &str = "#15803d";
 const FLAT_COLOUR: &str = "#6b7280";
 
 /// The processor's model, as far as the system tells it.
@@ -50,8 +51,10 @@ fn ratio(line: &Line, other: Option<f64>) -> String {
 
 /// A table of the lines; the flat ledger's columns are there where it took part.
 pub fn table(lines: &[Line]) -> String {
-    let mut out = String::from("| ns a record | granted | proved | plain | proved / plain |");
-    let mut rule = String::from("|---|---:|---:|---:|---:|");
+    let mut out = String::from(
+        "| ns a record | granted | proved | index | proved / index | plain | proved / plain |",
+    );
+    let mut rule = String::from("|---|---:|---:|---:|---:|---:|---:|");
     let any_flat = lines.iter().any(|line| line.flat.is_some());
     if any_flat {
         out.push_str(" plain, flat ledger | proved / flat |");
@@ -60,11 +63,11 @@ pub fn table(lines: &[Line]) -> String {
     writeln!(out, "\n{rule}").unwrap();
     for line in lines {
         let (name, granted) = (&line.name, 100 * line.granted / line.records);
-        let (proved, lists) = (time(line.proved), time(Some(line.lists)));
-        let to_lists = ratio(line, Some(line.lists));
+        let [proved, index, lists] = [line.proved, Some(line.index), Some(line.lists)].map(time);
+        let [to_index, to_lists] = [line.index, line.lists].map(|other| ratio(line, Some(other)));
         write!(
             out,
-            "| {name} | {granted} % | {proved} | {lists} | {to_lists} |"
+            "| {name} | {granted} % | {proved} | {index} | {to_index} | {lists} | {to_lists} |"
         )
         .unwrap();
         if any_flat {
@@ -94,6 +97,7 @@ fn curve(
 fn curves(growth: &Growth) -> Vec<Curve> {
     let of = [
         curve(growth, "proved", PROVED_COLOUR, |line| line.proved),
+        curve(growth, "index", INDEX_COLOUR, |line| Some(line.index)),
         curve(growth, "plain", PLAIN_COLOUR, |line| Some(line.lists)),
         curve(growth, "plain, flat", FLAT_COLOUR, |line| line.flat),
     ];
@@ -151,9 +155,10 @@ fn head(effort: Effort) -> String {
 
 # How fast it is
 
-The proved library, called through `mishantral::Engine`, against the plain Rust engine of `rust/plain`, which was written for speed and
-apart from it. Both ran in one process, natively, on one core of a {processor}; the library is compiled at -O3, the
-Rust side in release mode with all crates optimized as one.
+The proved library, called through `mishantral::Engine`, against two engines in plain Rust. \"index\", in rust/bench/src/index, is as fast as we can
+write it: a pair of operation and object is found by one probe of a perfect hash, and what a request needs is kept ready. It tells how far the proved
+engine is from the limit. \"plain\", in `rust/plain`, is the oracle of the tests, and fast as well. All ran in one process, natively, on one core of
+a {processor}; the library is compiled at -O3, the Rust side in release mode with all crates optimized as one.
 
 Times are nanoseconds a record: the best of {repeats} passes over a stream of some thousand records, the engines in turn in every pass, all
 in cache. Every reply of every pass is compared, and a difference ends the run. Compare times within a run: machines differ, and the ratio
@@ -184,7 +189,7 @@ fn piles(figures: &Figures) -> String {
         "
 ## In piles
 
-The same requests by `mishantral_pile`, 4,096 in a call, and by the plain engine's call for piles.
+The same requests by `mishantral_pile`, 4,096 in a call, and by the plain engines' calls for piles.
 
 {table}"
     )
