@@ -1,5 +1,5 @@
 //! The program is nothing without the proved library: where its archive is missing, the build ends with how to make it.
-//! Whether that archive has the reader of OPL/XML, and the calls that write a policy out and mend a file, the crate `mishantral` says.
+//! Whether that archive has the calls that write a policy out and mend a file, the crate `mishantral` says.
 
 fn main() {
     println!("cargo:rerun-if-changed=build.rs");
@@ -10,7 +10,6 @@ fn main() {
         std::process::exit(1);
     }
     for (told, cfg) in [
-        ("DEP_MISHANTRAL_OPL", "mishantral_opl"),
         ("DEP_MISHANTRAL_WRITE", "mishantral_write"),
         ("DEP_MISHANTRAL_MEND", "mishantral_mend"),
     ] {

@@ -3,9 +3,10 @@
 
 use crate::figures::{figures, Again};
 use crate::is_text;
-use crate::names::Names;
-use crate::read::{read_lines, tokens, Error, Token, END};
-use crate::write::line_named;
+use crate::names::{Names, Sort};
+use crate::reader::{self, Error, Wrong};
+use crate::tokens::{tokens, Token, END};
+use crate::writer;
 use records::{Reply, LENGTH};
 
 /// A line of the listing, of which each word is asked for in turn.
@@ -20,7 +21,7 @@ impl<'a> Listed<'a> {
     pub fn new(before: usize, line: &'a str) -> Listed<'a> {
         Listed {
             number: before + 1,
-            tokens: tokens(line),
+            tokens: tokens(line).0,
             at: 0,
             end: line.trim_end().chars().count() + 1,
         }
@@ -31,9 +32,11 @@ impl<'a> Listed<'a> {
         self.at += 1;
         token.and_then(read).ok_or_else(|| Error {
             line: self.number,
-            column: token.map_or(self.end, |t| t.column),
-            expected: expected.to_string(),
-            found: token.map_or(END.to_string(), |t| format!("\"{}\"", t.text)),
+            wrong: Wrong {
+                column: token.map_or(self.end, |t| t.column),
+                expected: expected.to_string(),
+                found: token.map_or(END.to_string(), Token::found),
+            },
         })
     }
 
@@ -55,9 +58,11 @@ impl<'a> Listed<'a> {
         self.tokens.get(self.at).map_or(Ok(()), |token| {
             Err(Error {
                 line: self.number,
-                column: token.column,
-                expected: END.to_string(),
-                found: format!("\"{}\"", token.text),
+                wrong: Wrong {
+                    column: token.column,
+                    expected: END.to_string(),
+                    found: token.found(),
+                },
             })
         })
     }
@@ -80,7 +85,7 @@ pub(crate) fn load_line(
         .checked_sub(1)
         .and_then(|before| policy?.chunks(LENGTH).nth(before))
         .map_or(String::new(), |record| {
-            format!(": {}", line_named(record, names))
+            format!(": {}", writer::line(record, names))
         });
     Ok((reply, format!("load {reply}{at}{refused}\n")))
 }
@@ -104,7 +109,7 @@ fn rule_words(
     let rules: Vec<&[u8]> = records.filter(|record| record[0] == kind).collect();
     let expected = format!("the place of a rule of kind {kind}, 1 to {}", rules.len());
     let place = listed.place(&expected, |place| (1..=rules.len()).contains(&place))?;
-    let words = line_named(rules[place - 1], names);
+    let words = writer::line(rules[place - 1], names);
     Ok(Some(format!("{words} (rule {place} of its kind)")))
 }
 
@@ -121,7 +126,7 @@ pub(crate) fn request_line(
     let rule = rule_words(&mut listed, reply, policy, names)?;
     listed.end()?;
     let (number, name) = (reply.number(), reply.name());
-    let words = line_named(record, names);
+    let words = writer::line(record, names);
     let rule = rule.map_or(String::new(), |rule| format!("{:7}{reply}  {rule}\n", ""));
     let text = format!("{place:>5}  {number:>2} {name:<12}  {words}\n{rule}");
     Ok((reply, text))
@@ -136,22 +141,14 @@ fn figures_line(again: &mut Option<Again>, record: &[u8], reply: Reply, names: &
         *again = None;
     }
     let answer = again.as_ref().and_then(|engine| engine.question(record));
-    let task = |task: u16| {
-        let name = names.quoted("task", task.into());
-        name.unwrap_or_else(|| task.to_string())
-    };
+    let task = |task: u16| names.shown(Sort::Task, task);
     let told = answer.and_then(|answer| figures(record, &answer, task));
     told.map_or(String::new(), |told| format!("{:7}{told}\n", ""))
 }
 
 /// Joins request records and the listing that a desk program wrote for them. With the policy's records, one that was refused and
 /// the rules that refused claims are about are shown in words too, and so are the figures of granted questions.
-pub fn explain(policy: Option<&[u8]>, requests: &[u8], listing: &str) -> Result<String, Error> {
-    explain_named(policy, requests, listing, &Names::default())
-}
-
-/// The same with the names of numbers that have one.
-pub fn explain_named(
+pub fn explain(
     policy: Option<&[u8]>,
     requests: &[u8],
     listing: &str,
@@ -173,36 +170,31 @@ pub fn explain_named(
         None => Ok(text),
         Some((before, further)) => Err(Error {
             line: before + 1,
-            column: 1,
-            expected: "the end of the listing".to_string(),
-            found: format!("\"{further}\""),
+            wrong: Wrong {
+                column: 1,
+                expected: "the end of the listing".to_string(),
+                found: format!("\"{further}\""),
+            },
         }),
     }
 }
 
 /// Where a refused load's record is in a policy, text or records, with the reply and the record in words:
 /// `line 7: 5 TAKEN: user 3`, or `record 2: 5 TAKEN: user 3`.
-pub fn refused(policy: &[u8], reply: Reply, place: usize) -> String {
-    refused_named(policy, reply, place, &Names::default())
-}
-
-/// The same with the names of numbers that have one.
-pub fn refused_named(policy: &[u8], reply: Reply, place: usize, names: &Names) -> String {
+pub fn refused(policy: &[u8], reply: Reply, place: usize, names: &Names) -> String {
     let Some(before) = place.checked_sub(1) else {
         return reply.to_string();
     };
-    let text = if is_text(policy) {
-        read_lines(policy).unwrap_or_default()
-    } else {
-        Vec::new()
-    };
-    match (text.get(before), policy.chunks(LENGTH).nth(before)) {
-        (Some((number, record)), _) => {
-            format!("line {number}: {reply}: {}", line_named(record, names))
-        }
-        (None, Some(record)) if text.is_empty() => {
-            format!("record {place}: {reply}: {}", line_named(record, names))
-        }
-        _ => format!("record {place}: {reply}"),
+    let text = is_text(policy).then(|| reader::read(policy, names, true).ok());
+    if let Some(text) = text.flatten() {
+        let at = text.records().nth(before);
+        return at.map_or(format!("record {place}: {reply}"), |(number, record)| {
+            let words = writer::line(record, &text.names);
+            format!("line {number}: {reply}: {words}")
+        });
+    }
+    match policy.chunks(LENGTH).nth(before) {
+        Some(record) => format!("record {place}: {reply}: {}", writer::line(record, names)),
+        None => format!("record {place}: {reply}"),
     }
 }

@@ -1,7 +1,7 @@
 //! The figures of questions in words, and those of a listing: its requests are made once more on an engine that answers with figures, the
 //! proved library where it is linked, else the plain engine.
 
-use crate::names::Names;
+use crate::names::{Names, Sort};
 use records::{Record, Reply, Set, LENGTH};
 
 #[cfg(mishantral_engine)]
@@ -72,7 +72,7 @@ impl Again {
 }
 
 /// The templates of a policy whose prerequisites leave tasks waiting for ever, a line each; none where the policy is refused.
-pub fn stuck_named(policy: &[u8], names: &Names) -> Vec<String> {
+pub fn stuck(policy: &[u8], names: &Names) -> Vec<String> {
     let mut again = Again(Engine::new());
     if !load(&mut again.0, policy) {
         return Vec::new();
@@ -80,12 +80,8 @@ pub fn stuck_named(policy: &[u8], names: &Names) -> Vec<String> {
     let told = |template: u16| {
         let question = Record::stuck_tasks(template).0;
         let answer = again.question(&question).filter(|answer| answer[0] != 0)?;
-        let name = |sort, number: u16| {
-            let name = names.quoted(sort, number.into());
-            name.unwrap_or_else(|| number.to_string())
-        };
-        let figures = figures(&question, &answer, |task| name("task", task))?;
-        let template = name("template", template);
+        let figures = figures(&question, &answer, |task| names.shown(Sort::Task, task))?;
+        let template = names.shown(Sort::Template, template);
         Some(format!(
             "template {template}: prerequisites leave tasks waiting for ever: {figures}"
         ))

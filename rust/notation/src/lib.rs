@@ -1,4 +1,5 @@
-//! Records as lines of words (docs/RULES.md), and back: one line a record, `#` begins a comment.
+//! Records as lines of words (docs/RULES.md), and back: one line a record, `#` begins a comment. One reader and one writer, for the
+//! program `mishantral` and for `./desk`.
 //!
 //! ```
 //! let text = b"user 300  # the signer\nuser 300 has role 0\n";
@@ -11,31 +12,53 @@
 //! assert_eq!(errors[0].to_string(), message);
 //! ```
 //!
-//! Where numbers have [`Names`], a line may have a name between quotes in a number's place:
+//! A text may name what it declares, and use the name in the number's place; [`reader`] and [`writer`] take the [`Names`] that are
+//! known, from an earlier text or from a dealer's OPL/XML ([`dealer`]):
 //!
 //! ```
-//! let mut names = notation::Names::default();
-//! names.give("task", 1, b"task:sign");
-//! let records = notation::read_named(b"claim 5 0 \"task:sign\"", &names).unwrap();
-//! assert_eq!(notation::write(&records), "claim 5 0 1\n");
-//! assert_eq!(notation::write_named(&records, &names), "claim 5 0 \"task:sign\"\n");
+//! use notation::{reader, writer, Names};
+//!
+//! let policy = reader::read(b"task 1 sign of template 0", &Names::default(), true).unwrap();
+//! let line = reader::read_line("claim 5 0 sign", &policy.names).unwrap().unwrap();
+//! let record = line.record.unwrap();
+//! assert_eq!(notation::line(&record), "claim 5 0 1");
+//! assert_eq!(writer::line(&record, &policy.names), "claim 5 0 sign");
 //! ```
 
+mod attempt;
+pub mod dealer;
+mod expected;
 mod explain;
 mod figures;
-mod names;
-mod read;
-mod write;
+pub mod names;
+mod quote;
+pub mod reader;
+mod tokens;
+pub mod writer;
 mod written;
 
-pub use explain::{explain, explain_named, refused, refused_named};
-pub use figures::{figures, stuck_named, ANSWER};
-pub use names::{quoted, unquoted, Names};
-pub use read::{read, read_lines, read_named, Error};
+pub use explain::{explain, refused};
+pub use figures::{figures, stuck, ANSWER};
+pub use names::{Names, Sort};
+pub use reader::Error;
 use records::forms::{parts, FORMS};
 pub use records::Reply;
-pub use write::{line, line_named, write, write_named};
 pub use written::{written, WRITER};
+
+/// The bytes of a text's records; or all that is wrong in the text. Names that it gives serve within it.
+pub fn read(text: &[u8]) -> Result<Vec<u8>, Vec<Error>> {
+    reader::read(text, &Names::default(), false).map(|text| text.bytes())
+}
+
+/// One record's line, with numbers alone.
+pub fn line(record: &[u8]) -> String {
+    writer::line(record, &Names::default())
+}
+
+/// The lines of many records, with numbers alone.
+pub fn write(records: &[u8]) -> String {
+    writer::lines(records, &Names::default())
+}
 
 /// Every line that the notation has, one for each kind and two for any bytes.
 pub fn forms() -> String {

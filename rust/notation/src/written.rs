@@ -3,7 +3,7 @@
 
 use crate::explain::{load_line, request_line, Listed};
 use crate::names::Names;
-use crate::read::Error;
+use crate::reader::{Error, Wrong};
 use records::LENGTH;
 
 #[cfg(mishantral_write)]
@@ -70,9 +70,11 @@ pub fn written(policy: &[u8], requests: &[u8], listing: &str) -> Result<Vec<u8>,
         true => Ok(()),
         false => Err(Error {
             line,
-            column: 1,
-            expected: format!("reply {reply}, which the {WRITER} engine gives"),
-            found: format!("reply {listed}"),
+            wrong: Wrong {
+                column: 1,
+                expected: format!("reply {reply}, which the {WRITER} engine gives"),
+                found: format!("reply {listed}"),
+            },
         }),
     };
     let mut engine = engine::Engine::new();

@@ -9,9 +9,9 @@ fn refused(text: &str, line: usize, column: usize, expected: &str, found: &str) 
     let error = &errors[0];
     let got = (
         error.line,
-        error.column,
-        &error.expected[..],
-        &error.found[..],
+        error.wrong.column,
+        &error.wrong.expected[..],
+        &error.wrong.found[..],
     );
     assert_eq!(got, (line, column, expected, found), "{text:?}");
 }
@@ -21,36 +21,47 @@ const HALF: &str = "a number up to 65535";
 
 #[test]
 fn a_wrong_word() {
+    refused("take 5", 1, 6, "\"role\" or \"permission\"", "\"5\"");
+    refused(
+        "block of partitioning 3 0",
+        1,
+        25,
+        "\":\" or a name for the partitioning",
+        "\"0\"",
+    );
+    refused("größer 3", 1, 1, &first_words(), "\"größer\"");
+    refused("user 3 ä x", 1, 10, END, "\"x\"");
+}
+
+#[test]
+fn a_word_that_is_nearly_right() {
+    refused("User 3", 1, 1, "\"user\"", "\"User\"");
+    refused("clam 5 0 1", 1, 1, "\"claim\"", "\"clam\"");
+    // Taken for a name at first, and told as the word that it nearly is.
     refused(
         "user 3\n  task 3 off template 0",
         2,
         10,
-        "\"of\", \"open\", \"carries\", \"at\", \"bound\" or \"before\"",
+        "\"of\"",
         "\"off\"",
     );
-    refused("take 5", 1, 6, "\"role\" or \"permission\"", "\"5\"");
-    refused("block of partitioning 3 0", 1, 25, "\":\"", "\"0\"");
-    refused("User 3", 1, 1, &first_words(), "\"User\"");
-    refused("größer 3", 1, 1, &first_words(), "\"größer\"");
-    refused(
-        "user 3 ä x",
-        1,
-        8,
-        "the end of the line or \"has\"",
-        "\"ä\"",
-    );
+    let has = "a name for the user, the end of the line or \"has\" (\"has\"?)";
+    refused("user 3 hass role 0", 1, 8, has, "\"hass\"");
+    // A name that looks like a word, before a word that is nearly right: the word is at fault.
+    let word = "\"of\" or the end of the line (\"of\"?)";
+    refused("task 4 opens off template 0", 1, 14, word, "\"off\"");
 }
 
 /// All words that a line may begin with.
 fn first_words() -> String {
-    let words =
-        "user role permission task static dynamic block lone-worker wall add delete assign take give \
-        create destroy activate deactivate open end claim release done check entries commit stuck record";
+    let words = "user role permission task static dynamic block lone-worker wall add delete assign take give \
+        create destroy activate deactivate open end claim release done check entries commit stuck record bytes operation \
+        object template partitioning subject";
     let quoted: Vec<String> = words
         .split_whitespace()
         .map(|w| format!("\"{w}\""))
         .collect();
-    format!("{} or \"bytes\"", quoted.join(", "))
+    format!("{} or \"order\"", quoted.join(", "))
 }
 
 #[test]
@@ -74,7 +85,7 @@ fn a_line_that_goes_on() {
         "add user 3 4",
         1,
         12,
-        "the end of the line or \"with\"",
+        "a name for the user, the end of the line or \"with\"",
         "\"4\"",
     );
     refused("delete user 3 4", 1, 15, END, "\"4\"");

@@ -1,6 +1,14 @@
 //! A listing with its requests in words, and listings that do not fit their requests.
 
-use notation::{explain, read, refused, Reply};
+use notation::{read, Error, Names, Reply};
+
+fn explain(policy: Option<&[u8]>, requests: &[u8], listing: &str) -> Result<String, Error> {
+    notation::explain(policy, requests, listing, &Names::default())
+}
+
+fn refused(policy: &[u8], reply: Reply, place: usize) -> String {
+    notation::refused(policy, reply, place, &Names::default())
+}
 
 fn records(text: &str) -> Vec<u8> {
     read(text.as_bytes()).unwrap()
@@ -194,13 +202,13 @@ load 0 GRANTED
 ";
     assert_eq!(shown, text);
     let mut names = notation::Names::default();
-    names.give("task", 3, b"task:sign");
+    names.give(notation::Sort::Task, 3, b"task:sign");
     let told = [
         "template 2: prerequisites leave tasks waiting for ever: stuck \"task:sign\" 4, free 2 1",
     ];
-    assert_eq!(notation::stuck_named(&policy, &names), told);
+    assert_eq!(notation::stuck(&policy, &names), told);
     let finite = records("task 1 of template 2\ntask 2 of template 2\ntask 2 before task 1");
-    assert_eq!(notation::stuck_named(&finite, &names), [""; 0]);
+    assert_eq!(notation::stuck(&finite, &names), [""; 0]);
     let refused = records("task 1 of template 2\ntask 1 of template 2");
-    assert_eq!(notation::stuck_named(&refused, &names), [""; 0]);
+    assert_eq!(notation::stuck(&refused, &names), [""; 0]);
 }

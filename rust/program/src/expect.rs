@@ -8,7 +8,7 @@ use crate::check::clashes;
 use crate::desk::Desk;
 use crate::files;
 use crate::names::{name_of, Names};
-use crate::reader::{self, decode, lines, read_tokens, tokens, Line, Token, Wrong};
+use crate::reader::{self, decode, lines, read_tokens, tokens, Error, Line, Token, Wrong};
 use crate::source::{self, bytes_of, Policy};
 use crate::stop::{wrong, Done, Stop, REFUSED, WELL};
 use crate::why::why;
@@ -675,8 +675,11 @@ fn run<'a>(file: &'a str, text: &[u8]) -> Result<Run<'a>, Stop> {
         let said = decode(bytes).and_then(|line| run.says(line));
         match said {
             Ok(None) => {}
-            Ok(Some(says)) => errors.extend(run.step(number, says)?.map(|wrong| (number, wrong))),
-            Err(wrong) => errors.push((number, wrong)),
+            Ok(Some(says)) => errors.extend(
+                run.step(number, says)?
+                    .map(|wrong| Error::new(number, wrong)),
+            ),
+            Err(wrong) => errors.push(Error::new(number, wrong)),
         }
     }
     if let Some(block) = &run.block {
@@ -688,7 +691,7 @@ fn run<'a>(file: &'a str, text: &[u8]) -> Result<Run<'a>, Stop> {
             expected,
             found,
         };
-        errors.push((last, wrong));
+        errors.push(Error::new(last, wrong));
     }
     if !errors.is_empty() {
         return Err(source::told(file, errors));

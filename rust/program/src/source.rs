@@ -2,7 +2,7 @@
 
 use crate::dealer;
 use crate::names::Names;
-use crate::reader::{self, Wrong};
+use crate::reader::{self, Error};
 use crate::stop::{wrong, Stop};
 use records::{Record, LENGTH};
 use std::io::Read;
@@ -106,12 +106,9 @@ pub fn shown(file: &str) -> &str {
 }
 
 /// `policy.txt: line 2, column 14: expected "role", found "rolle"`, a line an error.
-pub fn told(file: &str, errors: Vec<(usize, Wrong)>) -> Stop {
-    let line = |(line, wrong): (usize, Wrong)| {
-        let column = wrong.column;
-        format!("{}: line {line}, column {column}: {wrong}", shown(file))
-    };
-    Stop::Wrong(errors.into_iter().map(line).collect())
+pub fn told(file: &str, errors: Vec<Error>) -> Stop {
+    let line = |error: &Error| format!("{}: {error}", shown(file));
+    Stop::Wrong(errors.iter().map(line).collect())
 }
 
 /// A policy file, with its task lines where it is OPL/XML.
@@ -160,10 +157,7 @@ pub fn text_policy(file: &str, text: &[u8]) -> Result<Policy, Stop> {
     Ok(Policy {
         file: shown(file).to_string(),
         lines: read.records().map(|(line, _)| line).collect(),
-        bytes: read
-            .records()
-            .flat_map(|(_, record)| record.to_vec())
-            .collect(),
+        bytes: read.bytes(),
         names: read.names,
     })
 }

@@ -54,12 +54,27 @@ fn line_by(record: &[u8], say: Say) -> String {
         let mut in_words = known.filter(|&(_, pattern)| pattern != RAW);
         in_words.find_map(|(kind, pattern)| fill(kind, pattern, record, say))
     });
-    in_words.unwrap_or_else(|| notation::line(record))
+    in_words.unwrap_or_else(|| by_bytes(record))
+}
+
+/// A record by its fields; bytes where it is cut.
+fn by_bytes(record: &[u8]) -> String {
+    if let Ok(bytes) = <[u8; LENGTH]>::try_from(record) {
+        return Record(bytes).to_string();
+    }
+    let hex: Vec<String> = record.iter().map(|byte| format!("{byte:02x}")).collect();
+    format!("bytes {}", hex.join(" "))
 }
 
 /// One record's line; bytes where it is cut.
 pub fn line(record: &[u8], names: &Names) -> String {
     line_by(record, &mut |sort, _, number| names.shown(sort, number))
+}
+
+/// The lines of many records, the last of which may be cut.
+pub fn lines(records: &[u8], names: &Names) -> String {
+    let line = |record| line(record, names) + "\n";
+    records.chunks(LENGTH).map(line).collect()
 }
 
 /// What a record names: each number with its sort and field, as its line has them.
@@ -114,7 +129,10 @@ permission 1 p is operation 2 read on object 9 book\nblock of partitioning 3 mon
             line(&Record::claim(5, 0, 4).0, &read.names),
             "claim 5 0 sign"
         );
-        assert_eq!(policy(&bytes, &Names::default()), notation::write(&bytes));
+        assert_eq!(
+            policy(&bytes, &Names::default()),
+            lines(&bytes, &Names::default())
+        );
     }
 
     /// With names for every other number, some of which need quotes, every line reads back as its record.
@@ -130,8 +148,8 @@ permission 1 p is operation 2 read on object 9 book\nblock of partitioning 3 mon
                 names.give(sort, number, name.as_bytes());
             }
         }
-        let known = |kind: u8| crate::why::has_line(kind);
-        for kind in (1..=255).filter(|&kind| known(kind)) {
+        let known = |kind: &u8| FORMS.iter().any(|(of, _)| of == kind);
+        for kind in (1..=255).filter(known) {
             for number in 0..40u16 {
                 let (a, b, c) = (number, number * 7 % 61, number * 5 % 59);
                 let whole = Record::new(kind, number as u8, a, b, c, u64::from(number) << 3 | 1);

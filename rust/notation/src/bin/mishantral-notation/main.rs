@@ -1,6 +1,6 @@
 //! The notation's program: text to records, records to text, and a listing with its requests in words.
 
-mod dealer;
+mod opl;
 
 use std::fmt;
 use std::fs;
@@ -96,7 +96,7 @@ fn within(file: &str, errors: Vec<impl fmt::Display>) -> Stop {
 }
 
 fn records(arguments: &[&str]) -> Made {
-    let (names, rest) = dealer::names_of(arguments)?;
+    let (names, rest) = opl::names_of(arguments)?;
     let (either, rest) = match rest {
         ["--either", rest @ ..] => (true, rest),
         rest => (false, rest),
@@ -107,17 +107,19 @@ fn records(arguments: &[&str]) -> Made {
     if either && !notation::is_text(&bytes) {
         return Ok(bytes);
     }
-    notation::read_named(&bytes, &names).map_err(|errors| within(name.unwrap_or(file), errors))
+    notation::reader::read(&bytes, &names, false)
+        .map(|text| text.bytes())
+        .map_err(|errors| within(name.unwrap_or(file), errors))
 }
 
 fn words(arguments: &[&str]) -> Made {
-    let (names, files) = dealer::names_of(arguments)?;
+    let (names, files) = opl::names_of(arguments)?;
     let records = input(one_file(files)?)?;
-    Ok(notation::write_named(&records, &names).into_bytes())
+    Ok(notation::writer::lines(&records, &names).into_bytes())
 }
 
 fn explain(arguments: &[&str]) -> Made {
-    let (names, arguments) = dealer::names_of(arguments)?;
+    let (names, arguments) = opl::names_of(arguments)?;
     let (policy, files) = match arguments {
         ["--policy", file, files @ ..] => (Some(input(file)?), files),
         files => (None, files),
@@ -126,7 +128,7 @@ fn explain(arguments: &[&str]) -> Made {
         return Err(usage("explain takes one file of request records"));
     };
     let requests = input(requests)?;
-    notation::explain_named(policy.as_deref(), &requests, &listing()?, &names)
+    notation::explain(policy.as_deref(), &requests, &listing()?, &names)
         .map(String::into_bytes)
         .map_err(|error| within("-", vec![error]))
 }
@@ -141,7 +143,7 @@ fn written(arguments: &[&str]) -> Made {
     if arguments == ["--writer"] {
         return Ok(format!("{}\n", notation::WRITER).into_bytes());
     }
-    let (names, rest) = dealer::names_of(arguments)?;
+    let (names, rest) = opl::names_of(arguments)?;
     let (words, files) = match rest {
         ["--words", files @ ..] => (true, files),
         files => (false, files),
@@ -152,13 +154,13 @@ fn written(arguments: &[&str]) -> Made {
     let written = notation::written(&input(policy)?, &input(requests)?, &listing()?)
         .map_err(|error| within("-", vec![error]))?;
     Ok(match words {
-        true => notation::write_named(&written, &names).into_bytes(),
+        true => notation::writer::lines(&written, &names).into_bytes(),
         false => written,
     })
 }
 
 fn refused(arguments: &[&str]) -> Made {
-    let (names, rest) = dealer::names_of(arguments)?;
+    let (names, rest) = opl::names_of(arguments)?;
     let (name, rest) = named(rest);
     let [file, reply, place] = rest else {
         return Err(usage(
@@ -169,15 +171,15 @@ fn refused(arguments: &[&str]) -> Made {
     let reply = number.ok_or(usage(&format!("no such reply: {reply:?}")))?;
     let place = place.parse().ok();
     let place = place.ok_or(usage("a place is a number"))?;
-    let told = notation::refused_named(&input(file)?, reply, place, &names);
+    let told = notation::refused(&input(file)?, reply, place, &names);
     Ok(format!("{}: {told}\n", name.unwrap_or(file)).into_bytes())
 }
 
 fn stuck(arguments: &[&str]) -> Made {
-    let (names, rest) = dealer::names_of(arguments)?;
+    let (names, rest) = opl::names_of(arguments)?;
     let (name, files) = named(rest);
     let file = one_file(files)?;
-    let told = notation::stuck_named(&input(file)?, &names).into_iter();
+    let told = notation::stuck(&input(file)?, &names).into_iter();
     let line = |told| format!("{}: warning: {told}\n", name.unwrap_or(file));
     Ok(told.map(line).collect::<String>().into_bytes())
 }
@@ -191,7 +193,7 @@ fn made(arguments: &[&str]) -> Made {
     match arguments {
         ["records", rest @ ..] => records(rest),
         ["words", rest @ ..] => words(rest),
-        ["opl", rest @ ..] => dealer::opl(rest),
+        ["opl", rest @ ..] => opl::opl(rest),
         ["explain", rest @ ..] => explain(rest),
         ["written", rest @ ..] => written(rest),
         ["refused", rest @ ..] => refused(rest),
