@@ -1,9 +1,13 @@
 //! The engine over the linked library: three lent buffers, two calls.
-//! The declarations are those of include/mishantral.h; nothing else here is unsafe.
 
 #[cfg(mishantral_pile)]
 use crate::lent::flat;
 use crate::lent::{answered, bytes, loaded, reply_of, shown, zeroed};
+#[cfg(mishantral_pile)]
+use crate::library::mishantral_pile;
+use crate::library::{mishantral_load, mishantral_question, mishantral_request, mishantral_words};
+#[cfg(mishantral_settled_request)]
+use crate::library::{mishantral_settle, mishantral_settled_request};
 use crate::{Answer, Record, Refused, Reply, Set};
 use alloc::boxed::Box;
 #[cfg(mishantral_pile)]
@@ -11,87 +15,8 @@ use alloc::vec;
 use alloc::vec::Vec;
 use core::fmt;
 
-type Call = unsafe extern "C" fn(
-    bytes: *const u8,
-    length: usize,
-    policy: *mut u64,
-    policy_words: usize,
-    sessions: *mut u64,
-    sessions_words: usize,
-    orders: *mut u64,
-    orders_words: usize,
-) -> u64;
-
-extern "C" {
-    fn mishantral_words(group: u64) -> u64;
-    fn mishantral_load(
-        bytes: *const u8,
-        length: usize,
-        policy: *mut u64,
-        policy_words: usize,
-        sessions: *mut u64,
-        sessions_words: usize,
-        orders: *mut u64,
-        orders_words: usize,
-    ) -> u64;
-    fn mishantral_request(
-        bytes: *const u8,
-        length: usize,
-        policy: *mut u64,
-        policy_words: usize,
-        sessions: *mut u64,
-        sessions_words: usize,
-        orders: *mut u64,
-        orders_words: usize,
-    ) -> u64;
-    #[cfg(mishantral_settled_request)]
-    fn mishantral_settle(
-        policy: *mut u64,
-        policy_words: usize,
-        sessions: *mut u64,
-        sessions_words: usize,
-        orders: *mut u64,
-        orders_words: usize,
-    ) -> u64;
-    /// Asks for a state that was settled, and keeps it so.
-    #[cfg(mishantral_settled_request)]
-    fn mishantral_settled_request(
-        bytes: *const u8,
-        length: usize,
-        policy: *mut u64,
-        policy_words: usize,
-        sessions: *mut u64,
-        sessions_words: usize,
-        orders: *mut u64,
-        orders_words: usize,
-    ) -> u64;
-    fn mishantral_question(
-        record: *const u8,
-        length: usize,
-        answer: *mut u64,
-        answer_words: usize,
-        policy: *const u64,
-        policy_words: usize,
-        sessions: *const u64,
-        sessions_words: usize,
-        orders: *const u64,
-        orders_words: usize,
-    ) -> u64;
-    #[cfg(mishantral_pile)]
-    fn mishantral_pile(
-        records: *const u8,
-        length: usize,
-        answers: *mut u8,
-        answers_length: usize,
-        at: u64,
-        policy: *mut u64,
-        policy_words: usize,
-        sessions: *mut u64,
-        sessions_words: usize,
-        orders: *mut u64,
-        orders_words: usize,
-    ) -> u64;
-}
+/// A call that takes bytes and may change the state.
+type Call = fn(&[u8], &mut [u64], &mut [u64], &mut [u64]) -> u64;
 
 /// The request of a settled state: it does not look through the links of the orders buffer.
 #[cfg(mishantral_settled_request)]
@@ -124,8 +49,7 @@ pub struct State {
 impl State {
     /// Buffers of the fixed lengths, all zero.
     pub fn zeroed() -> State {
-        // SAFETY: the function takes a number and gives a number.
-        let buffer = |group| zeroed(unsafe { mishantral_words(group) });
+        let buffer = |group| zeroed(mishantral_words(group));
         State {
             policy: buffer(0),
             sessions: buffer(1),
@@ -146,43 +70,21 @@ impl State {
     /// As [`Engine::question`], over any content.
     pub fn question<R: AsRef<[u8]> + ?Sized>(&self, record: &R, answer: &mut [u64]) -> Reply {
         let record = record.as_ref();
-        let (policy, sessions, orders) = (&self.policy, &self.sessions, &self.orders);
-        // SAFETY: each pointer is a slice's own, with its length in elements behind it; the answer alone is written to, it is apart from the
-        // others, and the library keeps none of them.
-        reply_of(unsafe {
-            mishantral_question(
-                record.as_ptr(),
-                record.len(),
-                answer.as_mut_ptr(),
-                answer.len(),
-                policy.as_ptr(),
-                policy.len(),
-                sessions.as_ptr(),
-                sessions.len(),
-                orders.as_ptr(),
-                orders.len(),
-            )
-        })
+        reply_of(mishantral_question(
+            record,
+            answer,
+            &self.policy,
+            &self.sessions,
+            &self.orders,
+        ))
     }
 
     /// Makes a state whose links are broken, which reads as the empty engine, one of zeros; whether the buffers have their lengths and the
     /// links are sound now.
     #[cfg(mishantral_settled_request)]
     fn settle(&mut self) -> bool {
-        let (policy, sessions, orders) = (&mut self.policy, &mut self.sessions, &mut self.orders);
-        // SAFETY: each pointer is a slice's own, with its length in elements behind it; the three slices are
-        // apart, and the library keeps none of them.
-        let number = unsafe {
-            mishantral_settle(
-                policy.as_mut_ptr(),
-                policy.len(),
-                sessions.as_mut_ptr(),
-                sessions.len(),
-                orders.as_mut_ptr(),
-                orders.len(),
-            )
-        };
-        answered(number).is_granted()
+        let settled = mishantral_settle(&mut self.policy, &mut self.sessions, &mut self.orders);
+        answered(settled).is_granted()
     }
 
     /// A library without that call looks through the links at each request.
@@ -193,21 +95,12 @@ impl State {
 
     /// The library's answer to these bytes.
     fn call(&mut self, call: Call, bytes: &[u8]) -> u64 {
-        let (policy, sessions, orders) = (&mut self.policy, &mut self.sessions, &mut self.orders);
-        // SAFETY: each pointer is a slice's own, with its length in elements behind it; the four slices are
-        // apart, and the library keeps none of them.
-        unsafe {
-            call(
-                bytes.as_ptr(),
-                bytes.len(),
-                policy.as_mut_ptr(),
-                policy.len(),
-                sessions.as_mut_ptr(),
-                sessions.len(),
-                orders.as_mut_ptr(),
-                orders.len(),
-            )
-        }
+        call(
+            bytes,
+            &mut self.policy,
+            &mut self.sessions,
+            &mut self.orders,
+        )
     }
 }
 
@@ -453,24 +346,10 @@ impl Engine {
             sessions,
             orders,
         } = &mut self.state;
-        // SAFETY: each pointer is a slice's own, with its length in elements behind it; the five slices are
-        // apart, and the library keeps none of them.
-        let number = unsafe {
-            mishantral_pile(
-                records.as_ptr(),
-                records.len(),
-                answers.as_mut_ptr(),
-                answers.len(),
-                at as u64,
-                policy.as_mut_ptr(),
-                policy.len(),
-                sessions.as_mut_ptr(),
-                sessions.len(),
-                orders.as_mut_ptr(),
-                orders.len(),
-            )
-        };
-        reply_of(number)
+        let at = at as u64;
+        reply_of(mishantral_pile(
+            records, answers, at, policy, sessions, orders,
+        ))
     }
 
     /// The replies to any number of requests, made one after the other in piles.

@@ -26,6 +26,8 @@ pub use refused::Refused;
 
 #[cfg(any(mishantral_engine, mishantral_lower))]
 mod lent;
+#[cfg(any(mishantral_engine, mishantral_lower))]
+mod library;
 
 #[cfg(mishantral_engine)]
 mod engine;

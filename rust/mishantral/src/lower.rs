@@ -3,54 +3,21 @@
 //! It takes every policy kind, and answers requests 32 to 37, 40 to 43 and 56; the other kinds are SHAPE. It is there where
 //! the lower part's archive was found when this crate was built: by the environment variable `MISHANTRAL_LOWER_ARCHIVE`,
 //! or as `target/native/libmishantral_lower.a` of the repository.
-//! The declarations are those of include/mishantral.h; nothing else here is unsafe.
 
 use crate::lent::{answered, bytes, loaded, shown, zeroed};
 #[cfg(mishantral_lower_write)]
 use crate::lent::{counted, written};
+#[cfg(mishantral_lower_write)]
+use crate::library::mishantral_lower_write;
+use crate::library::{mishantral_lower_load, mishantral_lower_request, mishantral_lower_words};
 use crate::{Record, Refused, Reply};
 use alloc::boxed::Box;
 #[cfg(mishantral_lower_write)]
 use alloc::vec::Vec;
 use core::fmt;
 
-type Call = unsafe extern "C" fn(
-    bytes: *const u8,
-    length: usize,
-    policy: *mut u64,
-    policy_words: usize,
-    sessions: *mut u64,
-    sessions_words: usize,
-) -> u64;
-
-extern "C" {
-    fn mishantral_lower_words(group: u64) -> u64;
-    fn mishantral_lower_load(
-        bytes: *const u8,
-        length: usize,
-        policy: *mut u64,
-        policy_words: usize,
-        sessions: *mut u64,
-        sessions_words: usize,
-    ) -> u64;
-    fn mishantral_lower_request(
-        bytes: *const u8,
-        length: usize,
-        policy: *mut u64,
-        policy_words: usize,
-        sessions: *mut u64,
-        sessions_words: usize,
-    ) -> u64;
-    #[cfg(mishantral_lower_write)]
-    fn mishantral_lower_write(
-        output: *mut u8,
-        output_length: usize,
-        policy: *const u64,
-        policy_words: usize,
-        sessions: *const u64,
-        sessions_words: usize,
-    ) -> u64;
-}
+/// A call that takes bytes and may change the state.
+type Call = fn(&[u8], &mut [u64], &mut [u64]) -> u64;
 
 /// The two buffers that the library works on. Every content is a state: what is written in docs/STATE.md
 /// says how it reads. Buffers of other lengths are answered with ROOM, and are not written to.
@@ -65,8 +32,7 @@ pub struct State {
 impl State {
     /// Buffers of the fixed lengths, all zero.
     pub fn zeroed() -> State {
-        // SAFETY: the function takes a number and gives a number.
-        let buffer = |group| zeroed(unsafe { mishantral_lower_words(group) });
+        let buffer = |group| zeroed(mishantral_lower_words(group));
         State {
             policy: buffer(0),
             sessions: buffer(1),
@@ -75,19 +41,7 @@ impl State {
 
     /// The library's answer to these bytes.
     fn call(&mut self, call: Call, bytes: &[u8]) -> u64 {
-        let (policy, sessions) = (&mut self.policy, &mut self.sessions);
-        // SAFETY: each pointer is a slice's own, with its length in elements behind it; the three slices are
-        // apart, and the library keeps none of them.
-        unsafe {
-            call(
-                bytes.as_ptr(),
-                bytes.len(),
-                policy.as_mut_ptr(),
-                policy.len(),
-                sessions.as_mut_ptr(),
-                sessions.len(),
-            )
-        }
+        call(bytes, &mut self.policy, &mut self.sessions)
     }
 }
 
@@ -187,17 +141,6 @@ impl Engine {
     #[cfg(mishantral_lower_write)]
     pub fn write_into(&self, output: &mut [u8]) -> Result<usize, Reply> {
         let (policy, sessions) = (&self.state.policy, &self.state.sessions);
-        // SAFETY: each pointer is a slice's own, with its length in elements behind it; the output alone is written to, it is apart from the
-        // others, and the library keeps none of them.
-        counted(unsafe {
-            mishantral_lower_write(
-                output.as_mut_ptr(),
-                output.len(),
-                policy.as_ptr(),
-                policy.len(),
-                sessions.as_ptr(),
-                sessions.len(),
-            )
-        })
+        counted(mishantral_lower_write(output, policy, sessions))
     }
 }

@@ -1,7 +1,7 @@
 //! Mending a damaged policy file (document 02, Ask 12): what the load would accept is kept, and the rest reported.
-//! The declaration is that of include/mishantral.h; nothing else here is unsafe.
 
 use crate::lent::{counted, reply_of};
+use crate::library::mishantral_mend;
 use crate::{Engine, Reply, State, LENGTH};
 use alloc::vec;
 use alloc::vec::Vec;
@@ -15,23 +15,6 @@ pub struct Entry {
     pub place: u64,
     /// The reply's number.
     pub reply: u64,
-}
-
-extern "C" {
-    fn mishantral_mend(
-        bytes: *const u8,
-        length: usize,
-        output: *mut u8,
-        output_length: usize,
-        report: *mut Entry,
-        report_entries: usize,
-        policy: *mut u64,
-        policy_words: usize,
-        sessions: *mut u64,
-        sessions_words: usize,
-        orders: *mut u64,
-        orders_words: usize,
-    ) -> u64;
 }
 
 /// A record that was dropped.
@@ -74,24 +57,9 @@ impl State {
         report: &mut [Entry],
     ) -> Result<usize, Reply> {
         let (policy, sessions, orders) = (&mut self.policy, &mut self.sessions, &mut self.orders);
-        // SAFETY: each pointer is a slice's own, with its length in elements behind it; the six slices are apart, the library keeps none of
-        // them, and an entry is two words as it writes them (`repr(C)`).
-        counted(unsafe {
-            mishantral_mend(
-                file.as_ptr(),
-                file.len(),
-                output.as_mut_ptr(),
-                output.len(),
-                report.as_mut_ptr(),
-                report.len(),
-                policy.as_mut_ptr(),
-                policy.len(),
-                sessions.as_mut_ptr(),
-                sessions.len(),
-                orders.as_mut_ptr(),
-                orders.len(),
-            )
-        })
+        counted(mishantral_mend(
+            file, output, report, policy, sessions, orders,
+        ))
     }
 }
 

@@ -1,27 +1,13 @@
 //! A dealer's OPL/XML and its task lines into a policy, by the proved reader: texts, an output and a scratch are lent to one call.
 //!
-//! It is there where the archive has the reader's function. The declarations are those of include/mishantral.h; nothing else here is
-//! unsafe.
+//! It is there where the archive has the reader's function.
 
 use crate::lent::{reply_of, zeroed};
+use crate::library::{mishantral_opl, mishantral_words};
 use crate::names::{Names, Space};
 use crate::{Record, Reply, LENGTH};
 use alloc::{vec, vec::Vec};
 use core::fmt;
-
-extern "C" {
-    fn mishantral_words(group: u64) -> u64;
-    fn mishantral_opl(
-        policy_text: *const u8,
-        policy_bytes: usize,
-        task_lines: *const u8,
-        task_bytes: usize,
-        output: *mut u8,
-        output_bytes: usize,
-        scratch: *mut u64,
-        scratch_words: usize,
-    ) -> u64;
-}
 
 /// The group of the scratch.
 const SCRATCH: u64 = 4;
@@ -49,9 +35,7 @@ pub enum Text {
 
 /// How many words the scratch of [`translate`] has.
 pub fn scratch_words() -> usize {
-    // SAFETY: the function takes a number and gives a number.
-    let words = unsafe { mishantral_words(SCRATCH) };
-    usize::try_from(words).expect("a buffer's length fits a usize")
+    usize::try_from(mishantral_words(SCRATCH)).expect("a buffer's length fits a usize")
 }
 
 /// The library's call as it is: reads both texts, and writes records to the front of the output. A refusal writes nothing there. The
@@ -59,20 +43,7 @@ pub fn scratch_words() -> usize {
 ///
 /// [`Policy::from_opl`] is the same call with an output and a scratch of its own.
 pub fn translate(xml: &[u8], tasks: &[u8], output: &mut [u8], scratch: &mut [u64]) -> Answer {
-    // SAFETY: each pointer is a slice's own, with its length in elements behind it; the four slices are apart, and the
-    // library keeps none of them.
-    let number = unsafe {
-        mishantral_opl(
-            xml.as_ptr(),
-            xml.len(),
-            tasks.as_ptr(),
-            tasks.len(),
-            output.as_mut_ptr(),
-            output.len(),
-            scratch.as_mut_ptr(),
-            scratch.len(),
-        )
-    };
+    let number = mishantral_opl(xml, tasks, output, scratch);
     Answer {
         reply: reply_of(number),
         text: match number / 256 % 4 {

@@ -1,41 +1,15 @@
 //! Writing the policy out (document 02, Ask 8): the policy's tables as records that load again.
-//! The declaration is that of include/mishantral.h; nothing else here is unsafe.
 
 use crate::lent::{counted, written};
+use crate::library::mishantral_write;
 use crate::{Engine, Reply, State};
 use alloc::vec::Vec;
-
-extern "C" {
-    fn mishantral_write(
-        output: *mut u8,
-        output_length: usize,
-        policy: *const u64,
-        policy_words: usize,
-        sessions: *const u64,
-        sessions_words: usize,
-        orders: *const u64,
-        orders_words: usize,
-    ) -> u64;
-}
 
 impl State {
     /// As [`Engine::write_into`], over any content.
     pub fn write_into(&self, output: &mut [u8]) -> Result<usize, Reply> {
         let (policy, sessions, orders) = (&self.policy, &self.sessions, &self.orders);
-        // SAFETY: each pointer is a slice's own, with its length in elements behind it; the output alone is written to, it is apart from the
-        // others, and the library keeps none of them.
-        counted(unsafe {
-            mishantral_write(
-                output.as_mut_ptr(),
-                output.len(),
-                policy.as_ptr(),
-                policy.len(),
-                sessions.as_ptr(),
-                sessions.len(),
-                orders.as_ptr(),
-                orders.len(),
-            )
-        })
+        counted(mishantral_write(output, policy, sessions, orders))
     }
 }
 
