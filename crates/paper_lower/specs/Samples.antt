@@ -156,6 +156,41 @@ walls =
     (create 5 300 1 ⇒ GRANTED ∷ commit 5 1 7 ⇒ GRANTED ∷ destroy 5 ⇒ GRANTED ∷ create 6 300 1 ⇒ GRANTED ∷ check 6 1 8 ⇒ WALL ∷ destroy 6 ⇒ GRANTED ∷ create 6 44 1 ⇒ GRANTED ∷ commit 6 1 8 ⇒ GRANTED ∷ deleteUser 300 ⇒ GRANTED ∷ join 300 1 ⇒ GRANTED ∷ create 5 300 1 ⇒ GRANTED ∷ commit 5 1 8 ⇒ GRANTED ∷ check 5 1 7 ⇒ WALL ∷ check 6 1 7 ⇒ WALL ∷ [])
     ∷ []
 
+-- ---- At the last numbers, and where two subjects, users or roles could be taken for one.
+unfoldable pub edges : List Case
+edges =
+    -- user 0 and subject 127: DYNAMIC, IN USE of 33 and of 35; a destroyed subject's number is created again, with nothing had; user 0 goes like any other
+    accepts (user 0 ∷ role 0 ∷ role 1 ∷ userHas 0 0 ∷ userHas 0 1 ∷ dynamicSet 1 3 ∷ [])
+    (create 127 0 1 ⇒ GRANTED ∷ create 5 0 2 ⇒ DYNAMIC ∷ deleteUser 0 ⇒ IN-USE ∷ takeBack 0 0 ⇒ IN-USE ∷ takeBack 0 1 ⇒ GRANTED ∷ assign 0 1 ⇒ GRANTED ∷ destroy 127 ⇒ GRANTED ∷ create 127 0 2 ⇒ GRANTED
+    ∷ create 6 0 2 ⇒ GRANTED ∷ destroy 6 ⇒ GRANTED ∷ deleteUser 0 ⇒ IN-USE ∷ destroy 127 ⇒ GRANTED ∷ deleteUser 0 ⇒ GRANTED ∷ addUser 0 ⇒ GRANTED ∷ deleteUser 0 ⇒ GRANTED ∷ [])
+    -- 02, Ask 5: a role activated, dropped, and another activated, in one subject
+    ∷ accepts (user 0 ∷ role 0 ∷ role 1 ∷ userHas 0 0 ∷ userHas 0 1 ∷ dynamicSet 1 3 ∷ [])
+    (create 5 0 0 ⇒ GRANTED ∷ activate 5 0 ⇒ GRANTED ∷ deactivate 5 0 ⇒ GRANTED ∷ activate 5 1 ⇒ DYNAMIC ∷ destroy 5 ⇒ GRANTED ∷ create 5 0 0 ⇒ GRANTED ∷ activate 5 1 ⇒ GRANTED ∷ [])
+    -- roles 1 and 2 stand above role 0, which counts once: in a static set of 9 and of 34, and in a dynamic set
+    ∷ accepts (user 300 ∷ role 0 ∷ role 1 ∷ role 2 ∷ role 3 ∷ standsAbove 1 0 ∷ standsAbove 2 0 ∷ userHas 300 1 ∷ userHas 300 2 ∷ staticSet 1 9 ∷ dynamicSet 1 9 ∷ dynamicSet 2 7 ∷ [])
+    (create 5 300 6 ⇒ DYNAMIC ∷ create 5 300 4 ⇒ GRANTED ∷ create 6 300 1 ⇒ GRANTED ∷ activate 6 1 ⇒ DYNAMIC ∷ assign 300 0 ⇒ GRANTED ∷ assign 300 3 ⇒ STATIC ∷ [])
+    ∷ accepts (user 300 ∷ role 0 ∷ role 1 ∷ role 2 ∷ role 3 ∷ standsAbove 1 0 ∷ standsAbove 2 0 ∷ userHas 300 1 ∷ userHas 300 2 ∷ dynamicSet 1 9 ∷ [])
+    (create 5 300 2 ⇒ GRANTED ∷ create 6 300 4 ⇒ GRANTED ∷ activate 6 1 ⇒ GRANTED ∷ [])
+    -- 43, 37 and 36 look at roles by name: role 1 stands above role 0
+    ∷ accepts (user 300 ∷ role 0 ∷ role 1 ∷ standsAbove 1 0 ∷ userHas 300 1 ∷ permission 0 1 2 ∷ permission 1 3 4 ∷ roleHas 0 0 ∷ roleHas 1 1 ∷ [])
+    (create 5 300 2 ⇒ GRANTED ∷ deactivate 5 0 ⇒ UNKNOWN ∷ create 6 300 1 ⇒ GRANTED ∷ deactivate 6 1 ⇒ UNKNOWN ∷ withdraw 1 0 ⇒ UNKNOWN ∷ withdraw 0 1 ⇒ UNKNOWN ∷ give 1 0 ⇒ GRANTED ∷ give 0 1 ⇒ GRANTED
+    ∷ withdraw 0 0 ⇒ GRANTED ∷ check 6 1 2 ⇒ DENIED ∷ check 5 1 2 ⇒ GRANTED ∷ deactivate 5 1 ⇒ GRANTED ∷ check 5 1 2 ⇒ DENIED ∷ [])
+    -- the last task and the last template, of every kind that names one
+    ∷ accepts (role 63 ∷ permission 255 1 2 ∷ task 62 15 ∷ task 63 15 ∷ openTo 63 63 ∷ carries 63 255 ∷ taskSet 1 (2 ^ 62 + 2 ^ 63) ∷ block 15 (2 ^ 63) ∷ ban 15 ∷ atMost 1 63 ∷ bound 63 62 ∷ isBefore 62 63 ∷ []) []
+    ∷ refuses (task 0 0 ∷ task 63 15 ∷ taskSet 1 (1 + 2 ^ 63) ∷ []) RULE 3
+    ∷ refuses (task 0 0 ∷ task 63 15 ∷ bound 0 63 ∷ []) RULE 3
+    -- a block is compared with all earlier ones of its partitioning, the first too
+    ∷ refuses (task 0 0 ∷ task 1 0 ∷ task 2 0 ∷ block 0 1 ∷ block 0 2 ∷ block 0 5 ∷ []) RULE 6
+    -- STATIC of 17 and of 9: each user is counted alone, and the last user too
+    ∷ accepts (user 0 ∷ user 44 ∷ user 300 ∷ role 0 ∷ role 1 ∷ role 2 ∷ staticSet 1 3 ∷ userHas 0 0 ∷ userHas 44 1 ∷ userHas 300 2 ∷ staticSet 1 6 ∷ standsAbove 2 0 ∷ []) []
+    ∷ refuses (user 0 ∷ user 1023 ∷ role 0 ∷ role 1 ∷ role 2 ∷ userHas 0 2 ∷ userHas 1023 1 ∷ userHas 1023 2 ∷ staticSet 1 3 ∷ standsAbove 2 0 ∷ []) STATIC 10
+    ∷ refuses (user 0 ∷ user 1023 ∷ role 0 ∷ role 1 ∷ userHas 0 0 ∷ userHas 1023 0 ∷ userHas 1023 1 ∷ staticSet 1 3 ∷ []) STATIC 8
+    -- the last role above another, the last permission's pair, the last wall
+    ∷ refuses (permission 255 1 2 ∷ permission 0 1 2 ∷ []) TAKEN 2
+    ∷ accepts (user 300 ∷ role 0 ∷ role 63 ∷ standsAbove 63 0 ∷ userHas 300 63 ∷ permission 0 1 7 ∷ permission 255 1 8 ∷ roleHas 0 0 ∷ roleHas 63 255 ∷ walled 15 0 7 ∷ walled 15 15 8 ∷ [])
+    (create 5 300 1 ⇒ GRANTED ∷ check 5 1 8 ⇒ DENIED ∷ activate 5 63 ⇒ GRANTED ∷ check 5 1 8 ⇒ GRANTED ∷ commit 5 1 7 ⇒ GRANTED ∷ check 5 1 8 ⇒ WALL ∷ [])
+    ∷ []
+
 pub all-come-out : every (comesOut lowerRequest lowerOf) samples ≡ true
 unfolding lowerOpen wordsOpen samples
 all-come-out = refl
@@ -163,6 +198,10 @@ all-come-out = refl
 pub policies-come-out : every (comesOut lowerRequest lowerOf) policies ≡ true
 unfolding lowerOpen wordsOpen policies
 policies-come-out = refl
+
+pub edges-come-out : every (comesOut lowerRequest lowerOf) edges ≡ true
+unfolding lowerOpen wordsOpen edges
+edges-come-out = refl
 
 pub seniors-come-out : every (comesOut lowerRequest lowerOf) seniors ≡ true
 unfolding lowerOpen wordsOpen ranks seniors

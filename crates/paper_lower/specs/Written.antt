@@ -77,17 +77,19 @@ unfoldable pub writtenOpen : Unit {0}
 unfolding inTurn when ofThere peopleRows taskRows ruleRows behind recordsWritten written
 writtenOpen = tt
 
--- ---- A policy in the order that is written, and the same records in another order.
+-- ---- A policy in the order that is written, and the same records in another order. Within each kind that rises by a and then b both differ, and by b first
+-- another order would come out.
 unfoldable pub inOrder : List Bytes
 inOrder =
-    user 44 ∷ user 300 ∷ role 0 ∷ role 1 ∷ role 63 ∷ permission 7 65535 2 ∷ userHas 44 0 ∷ userHas 300 0 ∷ userHas 300 63 ∷ roleHas 0 7 ∷ roleHas 1 7 ∷ task 0 3 ∷ task 1 3 ∷ openTo 0 0 ∷ openTo 0 1
-    ∷ carries 1 7 ∷ staticSet 1 3 ∷ dynamicSet 1 (1 + 2 ^ 63) ∷ dynamicSet 1 3 ∷ taskSet 1 3 ∷ block 9 2 ∷ block 2 1 ∷ ban 3 ∷ atMost 255 1 ∷ bound 1 0 ∷ isBefore 1 0 ∷ isBefore 0 1
-    ∷ standsAbove 63 0 ∷ walled 15 1 65535 ∷ walled 0 15 2 ∷ []
+    user 44 ∷ user 1023 ∷ role 0 ∷ role 1 ∷ role 63 ∷ permission 7 65535 2 ∷ permission 255 1 1 ∷ userHas 44 0 ∷ userHas 44 63 ∷ userHas 1023 0 ∷ userHas 1023 63 ∷ roleHas 0 7 ∷ roleHas 0 255 ∷ roleHas 1 7 ∷ task 1 15 ∷ task 63 15
+    ∷ openTo 1 0 ∷ openTo 1 1 ∷ openTo 63 0 ∷ carries 1 7 ∷ carries 1 255 ∷ carries 63 7 ∷ staticSet 1 3 ∷ dynamicSet 1 (1 + 2 ^ 63) ∷ dynamicSet 1 3 ∷ taskSet 1 (2 + 2 ^ 63) ∷ block 15 (2 ^ 63) ∷ block 2 2 ∷ ban 15 ∷ atMost 255 63 ∷ bound 63 1
+    ∷ isBefore 63 1 ∷ isBefore 1 63 ∷ standsAbove 1 63 ∷ standsAbove 63 0 ∷ walled 15 1 65535 ∷ walled 0 15 2 ∷ []
 
 unfoldable pub outOfOrder : List Bytes
 outOfOrder =
-    walled 15 1 65535 ∷ role 63 ∷ walled 0 15 2 ∷ role 1 ∷ role 0 ∷ standsAbove 63 0 ∷ dynamicSet 1 (1 + 2 ^ 63) ∷ task 1 3 ∷ task 0 3 ∷ isBefore 1 0 ∷ block 9 2 ∷ isBefore 0 1 ∷ openTo 0 1 ∷ openTo 0 0 ∷ permission 7 65535 2 ∷ user 300
-    ∷ staticSet 1 3 ∷ user 44 ∷ userHas 300 63 ∷ userHas 300 0 ∷ userHas 44 0 ∷ roleHas 1 7 ∷ roleHas 0 7 ∷ dynamicSet 1 3 ∷ block 2 1 ∷ taskSet 1 3 ∷ bound 1 0 ∷ atMost 255 1 ∷ ban 3 ∷ carries 1 7 ∷ []
+    walled 15 1 65535 ∷ role 63 ∷ walled 0 15 2 ∷ role 1 ∷ role 0 ∷ standsAbove 63 0 ∷ dynamicSet 1 (1 + 2 ^ 63) ∷ task 63 15 ∷ task 1 15 ∷ isBefore 63 1 ∷ block 15 (2 ^ 63) ∷ isBefore 1 63 ∷ openTo 63 0 ∷ openTo 1 1 ∷ openTo 1 0
+    ∷ permission 255 1 1 ∷ permission 7 65535 2 ∷ user 1023 ∷ staticSet 1 3 ∷ user 44 ∷ standsAbove 1 63 ∷ userHas 1023 63 ∷ userHas 44 63 ∷ userHas 1023 0 ∷ userHas 44 0 ∷ roleHas 1 7 ∷ roleHas 0 255 ∷ roleHas 0 7 ∷ dynamicSet 1 3
+    ∷ block 2 2 ∷ taskSet 1 (2 + 2 ^ 63) ∷ bound 63 1 ∷ atMost 255 63 ∷ ban 15 ∷ carries 63 7 ∷ carries 1 255 ∷ carries 1 7 ∷ []
 
 pub written-in-order : written (load (joined outOfOrder) .tables) ≡ joined inOrder
 unfolding lowerOpen wordsOpen writtenOpen inOrder outOfOrder

@@ -213,6 +213,38 @@ further =
     ∷ stuckTasks 15 ⇒ GRANTED ∷ openOrder 0 15 ⇒ GRANTED ∷ create 5 300 1 ⇒ GRANTED ∷ claim 5 0 2 ⇒ NO-ROLE ∷ openOrder 1 0 ⇒ GRANTED ∷ claim 5 1 0 ⇒ GRANTED ∷ stuckTasks 0 ⇒ GRANTED ∷ [])
     ∷ []
 
+-- ---- The last numbers under every rule: tasks 0 and 63 of template 15, an order and subjects of the last number, users 0 and 1,023.
+unfoldable pub lastNumbers : List Bytes
+lastNumbers =
+    user 0 ∷ user 1023 ∷ role 63 ∷ userHas 0 63 ∷ userHas 1023 63 ∷ task 0 15 ∷ task 63 15 ∷ openTo 0 63 ∷ openTo 63 63 ∷ []
+
+unfoldable pub lastDesks : List Said
+lastDesks = create 0 0 (2 ^ 63) ⇒ GRANTED ∷ create 127 1023 (2 ^ 63) ⇒ GRANTED ∷ openOrder 63 15 ⇒ GRANTED ∷ []
+
+unfoldable pub edges : List Case
+edges =
+    -- each rule with task 63 claimed, and with task 63 in D
+    accepts (lastNumbers ++ (isBefore 0 63 ∷ [])) (lastDesks ++ (claim 127 63 63 ⇒ BEFORE ∷ claim 0 63 0 ⇒ GRANTED ∷ done 0 63 0 ⇒ GRANTED ∷ claim 127 63 63 ⇒ GRANTED ∷ []))
+    ∷ accepts (lastNumbers ++ (isBefore 63 0 ∷ [])) (lastDesks ++ (claim 127 63 0 ⇒ BEFORE ∷ claim 0 63 63 ⇒ GRANTED ∷ done 0 63 63 ⇒ GRANTED ∷ claim 127 63 0 ⇒ GRANTED ∷ []))
+    ∷ accepts (lastNumbers ++ (taskSet 1 (1 + 2 ^ 63) ∷ []))
+    (lastDesks ++ (claim 127 63 63 ⇒ GRANTED ∷ claim 127 63 0 ⇒ SEPARATION ∷ claim 0 63 0 ⇒ GRANTED ∷ done 127 63 63 ⇒ GRANTED ∷ claim 0 63 63 ⇒ SEPARATION ∷ claim 127 63 63 ⇒ GRANTED ∷ []))
+    ∷ accepts (lastNumbers ++ (block 15 1 ∷ block 15 (2 ^ 63) ∷ []))
+    (lastDesks ++ (claim 127 63 63 ⇒ GRANTED ∷ claim 127 63 0 ⇒ BLOCK ∷ claim 0 63 0 ⇒ GRANTED ∷ done 127 63 63 ⇒ GRANTED ∷ claim 0 63 63 ⇒ BLOCK ∷ []))
+    ∷ accepts (lastNumbers ++ (ban 15 ∷ []))
+    (lastDesks ++ (claim 127 63 63 ⇒ GRANTED ∷ claim 127 63 0 ⇒ ALONE ∷ claim 0 63 0 ⇒ GRANTED ∷ done 127 63 63 ⇒ GRANTED ∷ claim 0 63 63 ⇒ ALONE ∷ []))
+    ∷ accepts (lastNumbers ++ (bound 0 63 ∷ [])) (lastDesks ++ (claim 127 63 63 ⇒ GRANTED ∷ claim 0 63 0 ⇒ BOUND ∷ claim 127 63 0 ⇒ GRANTED ∷ []))
+    ∷ accepts (lastNumbers ++ (bound 63 0 ∷ [])) (lastDesks ++ (claim 127 63 0 ⇒ GRANTED ∷ claim 0 63 63 ⇒ BOUND ∷ claim 127 63 63 ⇒ GRANTED ∷ []))
+    ∷ accepts (lastNumbers ++ (atMost 1 63 ∷ [])) (lastDesks ++ (claim 127 63 63 ⇒ GRANTED ∷ done 127 63 63 ⇒ GRANTED ∷ claim 0 63 63 ⇒ COUNT ∷ []))
+    -- IN USE of 41, 33 and 49 by the last subject's entry in the last order; 57 at the last permission
+    ∷ accepts (lastNumbers ++ (permission 255 40 50 ∷ carries 63 255 ∷ []))
+    (lastDesks ++ (claim 127 63 63 ⇒ GRANTED ∷ taskCheck 127 63 63 40 50 ⇒ GRANTED ∷ taskCheck 127 63 63 50 40 ⇒ DENIED ∷ destroy 127 ⇒ IN-USE ∷ endOrder 63 ⇒ IN-USE ∷ done 127 63 63 ⇒ GRANTED ∷ destroy 127 ⇒ GRANTED
+    ∷ deleteUser 1023 ⇒ IN-USE ∷ deleteUser 0 ⇒ IN-USE ∷ destroy 0 ⇒ GRANTED ∷ deleteUser 0 ⇒ GRANTED ∷ endOrder 63 ⇒ GRANTED ∷ deleteUser 1023 ⇒ GRANTED ∷ []))
+    -- the template of a task and of an order is the last one: 48 and 60 know it by its task 63 alone
+    ∷ accepts (task 63 15 ∷ []) (stuckTasks 15 ⇒ GRANTED ∷ stuckTasks 14 ⇒ UNKNOWN ∷ openOrder 63 15 ⇒ GRANTED ∷ openOrder 62 14 ⇒ UNKNOWN ∷ [])
+    -- a third block that meets the first
+    ∷ refuses (fourTasks ++ (block 7 1 ∷ block 7 2 ∷ block 7 5 ∷ [])) RULE 7
+    ∷ []
+
 -- ---- 02, Ask 9: "how many entries, which tasks done"
 pub record Figured : Type 0 where
   pub of : Case
@@ -251,6 +283,8 @@ seniors =
     accepts (leads ++ (taskSet 1 3 ∷ []))
     (desks 300 301 ++ (create 7 302 4 ⇒ GRANTED ∷ claim 7 0 0 ⇒ GRANTED ∷ claim 7 0 1 ⇒ SEPARATION ∷ claim 5 0 2 ⇒ NO-ROLE ∷ claim 7 0 2 ⇒ GRANTED ∷ create 8 302 0 ⇒ GRANTED ∷ claim 8 0 1 ⇒ NO-ROLE
     ∷ activate 8 0 ⇒ GRANTED ∷ claim 8 0 1 ⇒ SEPARATION ∷ claim 8 0 2 ⇒ TAKEN ∷ takeBack 302 2 ⇒ IN-USE ∷ claim 6 0 1 ⇒ GRANTED ∷ []))
+    -- a role below one that was dropped opens nothing, and below one that is still active it does: roles 1 and 2 both stand above role 0
+    ∷ accepts (leads ++ (standsAbove 2 0 ∷ [])) (desks 300 301 ++ (create 7 302 6 ⇒ GRANTED ∷ deactivate 7 2 ⇒ GRANTED ∷ claim 7 0 2 ⇒ NO-ROLE ∷ claim 7 0 0 ⇒ GRANTED ∷ release 7 0 0 ⇒ GRANTED ∷ deactivate 7 1 ⇒ GRANTED ∷ claim 7 0 0 ⇒ NO-ROLE ∷ []))
     ∷ refuses (leads ++ (standsAbove 0 2 ∷ [])) LOOP 18
     ∷ []
 
@@ -329,6 +363,10 @@ all-come-out = refl
 pub further-come-out : every (comesOut request engineOf) further ≡ true
 unfolding engineOpen wordsOpen clerks desks twoOrders further
 further-come-out = refl
+
+pub edges-come-out : every (comesOut request engineOf) edges ≡ true
+unfolding engineOpen wordsOpen fourTasks lastNumbers lastDesks edges
+edges-come-out = refl
 
 pub seniors-come-out : every (comesOut request engineOf) seniors ≡ true
 unfolding engineOpen wordsOpen clerks desks leads seniors
