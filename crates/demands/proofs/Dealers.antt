@@ -25,8 +25,10 @@ use Rattle.theorems.proofs.Theorems.{dealers-keep-the-limits}
 use Rattle.theorems.proofs.Seniority.{seniority-is-recorded, as-before}
 use Rattle.theorems.proofs.Walls.{clerks-keep-to-one-block, wall-exactly-when}
 use Rattle.theorems.proofs.Unwalled.{as-before-walls}
+use Rattle.theorems.specs.Exactly.{Known, known, lowerKindsAsked, Answered}
+use Rattle.theorems.proofs.Exactly.{every-reply}
 use Rattle.demands.specs.Calls.{Chain, fitting, asked}
-use Rattle.demands.specs.Dealers.{Buffers, tablesOf, fit, Request, Called, Load, OneAnswer, LimitsHold, SeniorRoles, WallsHold}
+use Rattle.demands.specs.Dealers.{Buffers, tablesOf, fit, Request, Called, Load, OneAnswer, LimitsHold, RepliesExactly, SeniorRoles, WallsHold}
 use Rattle.demands.specs.Dealers.Request.{within, exported}
 use Rattle.demands.specs.Dealers.Load.{within as load-within, exported as load-exported-here}
 use Rattle.demands.proofs.Calls.{first-byte, Reading, after-all, chain-run, told-fitting}
@@ -140,11 +142,12 @@ module _ {policy : Bytes} {x y z : Buffers} {reply : ℕ} {said : List Said} (l 
       (lowerOf (load policy .tables)) (loads l fits .1) in
       (a .0, a .1 ∙ after-all lowerRequest (lowerOf (load policy .tables)) ss, a .2)
 
-  limits : RoleLimits (recordsOf policy) (outside policy said)
+  heard : outside policy (run lowerRequest (lowerOf (load policy .tables)) ss) ≡ outside policy said
   unfolding outside
-  limits =
-      let heard = ap (outside policy) (sym (ran .0)) ∙ told-fitting hear _ said in
-      rw heard at (dealers-keep-the-limits policy accepted ss)
+  heard = ap (outside policy) (sym (ran .0)) ∙ told-fitting hear _ said
+
+  limits : RoleLimits (recordsOf policy) (outside policy said)
+  limits = rw heard at (dealers-keep-the-limits policy accepted ss)
 
   recorded : AsRecorded (recordsOf policy) (tablesOf z .policy .seniority)
   recorded = subst (λ (t : Lower). AsRecorded (recordsOf policy) (t .policy .seniority)) (sym (ran .1)) (seniority-is-recorded .dealers policy accepted ss)
@@ -152,17 +155,30 @@ module _ {policy : Bytes} {x y z : Buffers} {reply : ℕ} {said : List Said} (l 
   commits-heard : lowerCommitsAfter policy ss ≡ committed said
   commits-heard = ap committed (sym (ran .0)) ∙ told-fitting commit noCommits said
 
+  all-heard : known policy (run lowerRequest (lowerOf (load policy .tables)) ss) ≡ known policy said
+  all-heard i = record { policy = recordsOf policy; told = heard i; commits = commits-heard i }
+
+  -- the reply to one request more
+  replied : {bytes : Bytes} {w : Buffers} {q : ℕ} → Request bytes z w q → q ≡ lowerRequest (lowerAfter policy ss) bytes .reply
+  replied {bytes} r = answers r (ran .2) .0 ∙ ap (λ (t : Lower). lowerRequest t bytes .reply) (ran .1)
+
+  exactly : {bytes : Bytes} {w : Buffers} {q : ℕ} → Request bytes z w q → Answered lowerKindsAsked (known policy said) bytes q
+  exactly {bytes} r = let n = replied r in rw n (rw all-heard at (every-reply .dealers policy accepted ss bytes))
+
   one-block : (u : ℕ) → OneBlockOfEach (recordsOf policy) (committed said .objects u)
   one-block = rw commits-heard at (clerks-keep-to-one-block .dealers policy accepted ss)
 
   walled : {check : Bytes} {w : Buffers} {q : ℕ} → CheckOrCommit check → Request check z w q → Reaches WALL q
       → Decided (recordsOf policy) (committedBy (committed said) (decode check)) (decode check .c) q
-  walled {check} {w} {q} e r h =
-      let n : q ≡ lowerRequest (lowerAfter policy ss) check .reply = answers r (ran .2) .0 ∙ ap (λ (t : Lower). lowerRequest t check .reply) (ran .1) in
+  walled {check} e r h =
+      let n = replied r in
       rw n (rw commits-heard at (wall-exactly-when .dealers policy accepted ss check e (subst (Reaches WALL) n h)))
 
 pub limits-hold : LimitsHold
 limits-hold = record { upheld = λ l g c. limits l g c }
+
+pub replies-exactly : RepliesExactly
+replies-exactly = record { upheld = λ l g c r. exactly l g c r }
 
 -- ---- senior roles
 request-as-before : {bytes : Bytes} {x y : Buffers} {reply : ℕ} → fit x ≡ true → NoneBelow (tablesOf x .policy) → Request bytes x y reply

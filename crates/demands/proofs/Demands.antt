@@ -38,6 +38,8 @@ use Rattle.theorems.proofs.NeverStuck.{stuck-are-never-entered, before-refuses-
 use Rattle.theorems.proofs.Seniority.{seniority-is-recorded, as-before}
 use Rattle.theorems.proofs.Walls.{clerks-keep-to-one-block, wall-exactly-when}
 use Rattle.theorems.proofs.Unwalled.{as-before-walls}
+use Rattle.theorems.specs.Exactly.{Known, known}
+use Rattle.theorems.proofs.Exactly.{every-reply}
 use Rattle.demands.specs.Calls.{Request, Load, Called, Requests, allSaid, fitting, asked}
 use Rattle.demands.specs.Demands.{DemandOne, DemandTwo, OneAnswer, Upheld, DemandThree, EitherFirst, ClaimsDoNotMeet, CanFinish, SeniorRoles, WithoutWalls, StuckAreNeverEntered}
 use Rattle.demands.proofs.Calls.{fit-kept, request-listed, answered, answers, no-room, as-load, load-listed, load-reply, after-all, chain-run, told-fitting, said-fitting, told, reading}
@@ -164,6 +166,9 @@ module _ {policy : Bytes} {x y z : Buffers} {reply : ℕ} {said : List Placed} (
   commits-heard : commitsAfter policy ss ≡ committed (allSaid said)
   commits-heard = ap committed said-after ∙ told-fitting commit noCommits (allSaid said)
 
+  all-heard : known policy (saidAfter policy ss) ≡ known policy (allSaid said)
+  all-heard i = record { policy = recordsOf policy; told = heard i; commits = commits-heard i }
+
   claimed : {claim : Bytes} {w : Buffers} {q i : ℕ} → Request claim z w q i → (q ≡ replyAfter policy ss claim) × (i ≡ placeAfter policy ss claim)
   claimed {claim} r =
       let a = runs (fits l g) l c in
@@ -183,6 +188,7 @@ module _ {policy : Bytes} {x y z : Buffers} {reply : ℕ} {said : List Placed} (
     checks = λ {check} e r h.
         let n = claimed r .0 in
         rw n (rw commits-heard at (wall-exactly-when .engine policy accepted ss check e (subst (Reaches WALL) n h)));
+    replies = λ {bytes} r. let n = claimed r .0 in rw n (rw all-heard at (every-reply .engine policy accepted ss bytes));
   }
 
   recorded : AsRecorded (recordsOf policy) (tablesOf z .lower .policy .seniority)

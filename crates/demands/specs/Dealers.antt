@@ -19,6 +19,7 @@ use Rattle.theorems.specs.Outside.{outside}
 use Rattle.theorems.specs.OverEntries.{ofKind, RoleLimits}
 use Rattle.theorems.specs.Theorems.{Reaches}
 use Rattle.theorems.specs.Seniority.{AsRecorded, lowerRequestBefore, loadBefore, NoneBelow}
+use Rattle.theorems.specs.Exactly.{known, lowerKindsAsked, Answered}
 use Rattle.theorems.specs.Walls.{committed, OneBlockOfEach, Decided, CheckOrCommit, committedBy, lowerRequestUnwalled}
 use Rattle.demands.specs.Calls.{Chain}
 
@@ -60,6 +61,11 @@ pub record OneAnswer : Type 0 where
 pub record LimitsHold : Type 0 where
   pub upheld : {policy : Bytes} {x y z : Buffers} {reply : ℕ} {said : List Said} → Load policy x y reply → reply ≡ GRANTED → Chain Called fit y said z
       → RoleLimits (recordsOf policy) (outside policy said)
+
+-- Of every kind of request, every reply: given exactly when the page theorems/specs/Exactly says so of the policy's records, the requests and the answers.
+pub record RepliesExactly : Type 0 where
+  pub upheld : {policy : Bytes} {x y z : Buffers} {reply : ℕ} {said : List Said} → Load policy x y reply → reply ≡ GRANTED → Chain Called fit y said z
+      → {bytes : Bytes} {w : Buffers} {q : ℕ} → Request bytes z w q → Answered lowerKindsAsked (known policy said) bytes q
 
 -- ---- 02, Ask 7: senior roles, here too.
 pub record SeniorRoles : Type 0 where

@@ -28,6 +28,7 @@ use Rattle.theorems.specs.Meeting.{Apart}
 use Rattle.theorems.specs.Stuck.{NoneStuck, NextOnList}
 use Rattle.theorems.specs.Seniority.{AsRecorded, requestBefore, loadBefore, NoneBelow}
 use Rattle.theorems.specs.Walls.{committed, OneBlockOfEach, Decided, CheckOrCommit, committedBy, requestUnwalled, Unwalled}
+use Rattle.theorems.specs.Exactly.{known, engineKindsAsked, Answered}
 use Rattle.demands.specs.Calls.{Request, Load, Requests, allSaid, fitting, asked}
 
 -- ---- Demand 1
@@ -106,6 +107,8 @@ pub record Upheld (policy : Bytes) (said : List Placed) (z : Buffers) : Type 0 w
   -- A check or a commit that passes the earlier checks is refused with WALL exactly when committing would touch a second one.
   pub checks : {check : Bytes} {w : Buffers} {reply place : ℕ} → CheckOrCommit check → Request check z w reply place → Reaches WALL reply
       → Decided (recordsOf policy) (committedBy (committed (allSaid said)) (decode check)) (decode check .c) reply
+  -- Of every kind of request, every reply: given exactly when the page theorems/specs/Exactly says so of the policy's records, the requests and the answers.
+  pub replies : {bytes : Bytes} {w : Buffers} {reply place : ℕ} → Request bytes z w reply place → Answered engineKindsAsked (known policy (allSaid said)) bytes reply
 
 -- "After an accepted load and any further requests"
 pub record DemandThree : Type 0 where

@@ -40,3 +40,11 @@ pub mod Mending
 pub mod NeverStuck
 pub mod Walls
 pub mod Unwalled
+pub mod Reflects
+pub mod Limits
+pub mod Meant
+pub mod Declared
+pub mod ExactlyRoles
+pub mod ExactlyOrders
+pub mod ExactlyClaims
+pub mod Exactly

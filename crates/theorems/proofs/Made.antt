@@ -98,7 +98,7 @@ listed {X} f c item one p (r ∷ rs) a =
     go false = refl
 
 -- ---- a table of numbers, set once by a record of kind c: a second one is TAKEN
-not-there : {A : Type 0} (p : A → Bool) (x : Maybe A) → there x ≡ false → holds p x ≡ false
+pub not-there : {A : Type 0} (p : A → Bool) (x : Maybe A) → there x ≡ false → holds p x ≡ false
 unfolding holds
 not-there p none h = refl
 not-there p (just x) h = absurd (true≢false h)

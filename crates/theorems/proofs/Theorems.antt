@@ -13,7 +13,7 @@ use Rattle.paper_lower.specs.Checks.{FULL}
 use Rattle.paper_lower.specs.Records.{Record}
 use Rattle.paper_lower.specs.Forms.{requestForms}
 use Rattle.paper_lower.specs.Tables.{Seniority, Limit, Lower}
-use Rattle.paper_lower.specs.Policy.{down, assignNext, giveNext}
+use Rattle.paper_lower.specs.Policy.{assignNext, giveNext}
 use Rattle.paper_lower.specs.Load.{recordsOf}
 use Rattle.paper_lower.specs.Roles.{countedOf, joinNext, deleteNext, userGone, takeBackNext, withdrawNext, roleKinds}
 use Rattle.paper_lower.specs.Sessions.{sessionKinds, lowerKinds}
@@ -22,18 +22,18 @@ use Rattle.paper_upper.specs.Orders.{Orders}
 use Rattle.paper_upper.specs.Requests.{openNext, endNext, claimNext, releaseNext, doneNext, upperKinds}
 use Rattle.paper_upper.specs.Engine.{requestKinds, request}
 use Rattle.theorems.specs.Outside.{Told}
-use Rattle.theorems.specs.OverEntries.{ofKind, Leads, AtOrBelow, Allowed, RoleLimits}
+use Rattle.theorems.specs.OverEntries.{HasHad, RoleLimits}
 use Rattle.theorems.specs.InUse.{inUse}
 use Rattle.theorems.specs.Theorems.{tablesAfter, saidAfter, lowerAfter, shown, OrdersKeepTheRules, ClerksKeepTheLimits, DealersKeepTheLimits, FirstRuleBroken, EntriesInUse, RulesAreWellMade, WallsAreWellMade, LedgerIsSound, fixed, RequestsChangeNoRule}
 use Rattle.theorems.specs.Seniority.{AsRecorded}
-use Rattle.sets.proofs.SetLaws.{has-part, within-has}
+use Rattle.sets.proofs.SetLaws.{within-has}
 use Rattle.theorems.proofs.Replies.{engine-order}
 use Rattle.theorems.proofs.Rows.{Rows, answer-rows, engine-rows}
-use Rattle.theorems.proofs.Made.{aLimit, of-each}
 use Rattle.theorems.proofs.Sound.{kept}
-use Rattle.theorems.proofs.Down.{down-has, down-below, down-member}
 use Rattle.theorems.proofs.Ranks.{Ranked}
-use Rattle.theorems.proofs.Roles.{Within}
+use Rattle.theorems.proofs.Reflects.{same}
+use Rattle.theorems.proofs.Limits.{reached, none-broken}
+use Rattle.theorems.proofs.Meant.{counted-had}
 use Rattle.theorems.proofs.Keeps.{LowerKept, kept-after, lower-kept-after}
 use Rattle.theorems.proofs.Outside.{over, told-is-true, lower-told}
 use Rattle.theorems.proofs.FirstRule.{first-of-six, full-reply}
@@ -43,36 +43,24 @@ pub orders-keep-the-rules : OrdersKeepTheRules
 orders-keep-the-rules policy accepted ss =
     rw (told-is-true policy accepted ss) (kept (recordsOf policy) (tablesAfter policy ss .orders) (kept-after policy accepted ss .1))
 
--- the roles with those below them: what the chains of records say
-counted-exactly : (policy : List Record) (se : Seniority) → Ranked se → AsRecorded policy se → (m : Set) (b : ℕ)
-    → (has (down se m) b ≡ true) ↔ AtOrBelow policy m b
-counted-exactly policy se r x m b = (
-  λ h. ⊎-elim (λ e. inl e) (λ q. inr (q .0, q .1, x .below (q .0) b .0 (q .2))) (down-member se m b h),
-  λ h. ⊎-elim (λ e. has-part m (down se m) b (down-has se m) e)
-      (λ q. has-part _ _ b (down-below se m (q .0) (senior (q .0) b (r .chains (q .0) b .0 (x .below (q .0) b .1 (q .2)))) (q .1)) (x .below (q .0) b .1 (q .2))) h,
-)
-  where
-    senior : (a b : ℕ) → (between : List ℕ) × Leads (λ a b. has (se .juniors a) b) a between b → a < 64
-    senior a b ([], l) = r .small a b l
-    senior a b (c ∷ cs, l) = r .small a c (l .0)
-
 role-limits : (policy : List Record) (o : Orders) (t : Lower) → LowerKept policy t → RoleLimits policy (shown (over o t))
 role-limits policy o t k =
     record {
-      statics = λ u. sets 9 (t .policy .rules .statics) (t .policy .people .assigned u) (k .0 .made .statics) (k .1 .statics u);
-      dynamics = λ u. sets 10 (t .policy .rules .dynamics) (countedOf (t .sessions) u) (k .0 .made .dynamics) (k .1 .dynamics u);
-      active = λ s l r e. exactly (t .policy .people .assigned (t .sessions .user s)) r .0 (within-has (t .sessions .active s) _ r (k .1 .active s l) e);
+      statics = λ u. none-broken policy se ranked recorded _ (t .policy .people .assigned u) (λ q. same) 9 (t .policy .rules .statics) (k .0 .made .statics) (k .1 .statics u);
+      dynamics = λ u. none-broken policy se ranked recorded (HasHad (shown (over o t)) u) (countedOf (t .sessions) u) (counted-had (t .sessions) (k .1 .small) u) 10
+          (t .policy .rules .dynamics) (k .0 .made .dynamics) (k .1 .dynamics u);
+      active = λ s l r e. reached policy se ranked recorded _ (t .policy .people .assigned (t .sessions .user s)) (λ q. same) r .0
+          (within-has (t .sessions .active s) _ r (k .1 .active s l) e);
     }
   where
-    exactly : (m : Set) (b : ℕ) → (has (down (t .policy .seniority) m) b ≡ true) ↔ AtOrBelow policy m b
-    exactly = counted-exactly policy (t .policy .seniority) (k .0 .ranked) (k .0 .recorded)
+    se : Seniority
+    se = t .policy .seniority
 
-    sets : (kind : ℕ) (ls : List Limit) (m : Set) → ls ≡ each aLimit (ofKind kind policy) → Within ls (down (t .policy .seniority) m) → Allowed policy kind m
-    sets kind ls m e w = record {
-      counted = down (t .policy .seniority) m;
-      exactly = exactly m;
-      allows = of-each (λ l. overlap (l .members) (down (t .policy .seniority) m) ≤ l .n) aLimit (ofKind kind policy) (rw e at w);
-    }
+    ranked : Ranked se
+    ranked = k .0 .ranked
+
+    recorded : AsRecorded policy se
+    recorded = k .0 .recorded
 
 pub clerks-keep-the-limits : ClerksKeepTheLimits
 clerks-keep-the-limits policy accepted ss =

@@ -3,7 +3,7 @@ use Prim.Native.Nat.{ℕ, _<_}
 use mathlib.Core.Path.{_≡_, refl, sym, ap, subst, _∙_}
 use mathlib.Core.Bool.{Bool, true, false, not, cond, _&&_, _||_, true≢false, false≢true}
 use mathlib.Core.List.{List, [], _∷_, _++_}
-use mathlib.Core.Logic.{inl, inr, ⊎-elim}
+use mathlib.Core.Logic.{inl, inr, ⊎-elim, _↔_}
 use native.Mathlib.Omega.{arith}
 use borrow.Author.Tests.{eqb-true, eqb-false, eq-eqb, not-false, not-true}
 use lib.Dec.{eqb}
@@ -150,7 +150,7 @@ module _ (ws : List Walled) (f : ℕ → Maybe ℕ) (c : ℕ) where
       (x .0, y .0, z .0, (y .1, z .1, λ e. eqb-false (z .0) (y .0) (not-true _ (z .2)) (sym e)))
 
 -- ---- the tables, beside the commits that are told
-record Follows (users live : ℕ → Bool) (user : ℕ → ℕ) (boundTo : ℕ → ℕ → Maybe ℕ) (ws : List Walled) (y : Commits) : Type 0 where
+pub record Follows (users live : ℕ → Bool) (user : ℕ → ℕ) (boundTo : ℕ → ℕ → Maybe ℕ) (ws : List Walled) (y : Commits) : Type 0 where
   subjects : (k : ℕ) → live k ≡ true → y .user k ≡ user k
   bound : (u : ℕ) → users u ≡ true → (w : ℕ) → boundTo u w ≡ boundBy ws (y .objects u) w
   free : (u : ℕ) → users u ≡ false → (w : ℕ) → boundTo u w ≡ none
@@ -228,7 +228,7 @@ module _ (users live : ℕ → Bool) (user : ℕ → ℕ) (boundTo : ℕ → ℕ
       (sym (h .subjects a l)) (binds (user a) c known well passes)
 
 -- ---- every request
-abbrev Told : Lower → Commits → Type 0
+abbrev pub Told : Lower → Commits → Type 0
 Told t y = Follows (t .policy .people .users) (t .sessions .live) (t .sessions .user) (t .sessions .boundTo) (t .policy .walls) y
 
 told-lower : (policy : List Record) → Rows lowerForms (λ n t r x. LowerKept policy t → (y : Commits) → Told t y → Told x (chosen committing n .next y r)) lowerKinds
@@ -263,13 +263,13 @@ told-start : (p : Policy) → Told (lowerOf p) noCommits
 unfolding lowerOf noSessions noCommits Agree boundBy
 told-start p = record { subjects = λ k l. absurd (false≢true l); bound = λ u k w. refl; free = λ u k w. refl; agree = λ u w. tt }
 
-told-after : AfterEvery (λ policy requests. Told (tablesAfter policy requests .lower) (commitsAfter policy requests))
+pub told-after : AfterEvery (λ policy requests. Told (tablesAfter policy requests .lower) (commitsAfter policy requests))
 unfolding request commit engineOf
 told-after policy accepted ss =
     run-follows requestForms requestKinds engine-order (Kept (recordsOf policy)) (λ t y. Told (t .lower) y) (λ n y r. chosen committing n .next y r)
     (kept-rows (recordsOf policy)) (told-rows (recordsOf policy)) (engineOf (load policy .tables)) noCommits ss (kept-load policy accepted) (told-start (load policy .tables))
 
-lower-told-after : AfterEvery (λ policy requests. Told (lowerAfter policy requests) (lowerCommitsAfter policy requests))
+pub lower-told-after : AfterEvery (λ policy requests. Told (lowerAfter policy requests) (lowerCommitsAfter policy requests))
 unfolding lowerRequest commit
 lower-told-after policy accepted ss =
     run-follows lowerForms lowerKinds lower-order (LowerKept (recordsOf policy)) (λ t y. Told t y) (λ n y r. chosen committing n .next y r)
@@ -345,6 +345,20 @@ module _ (policy : List Record) (t : Lower) (kept : LowerKept policy t) (y : Com
           refused = (λ z. let n : ⊥ = omega arith in absurd n, λ x. absurd (no-rival q x));
           free = (λ _. one-with q, λ _. e);
         }
+
+  -- of a live subject WALL's test is whether some object among its user's commits is a rival
+  pub walled : (a c : ℕ) → t .sessions .live a ≡ true → (wallBetween t (t .sessions .user a) c ≡ true) ↔ Rival policy (y .objects (y .user a)) c
+  walled a c live =
+      let u = t .sessions .user a in
+      let known = kept .1 .known a live in
+      subst (λ (v : ℕ). (wallBetween t u c ≡ true) ↔ Rival policy (y .objects v) c) (sym (h .subjects a live)) (
+        λ e. rival u c known e,
+        λ x. go (wallBetween t u c) refl (λ e. no-rival u c known e x),
+      )
+    where
+      go : {b : Bool} (x : Bool) → b ≡ x → (b ≡ false → ⊥) → b ≡ true
+      go true e n = e
+      go false e n = absurd (n e)
 
   -- a check or a commit that every check before WALL lets pass
   wall-reply : (fs : List Form) (s : Bytes) (reply : ℕ) → reply ≡ first (formChecks fs s ++ checkChecks t (decode s .a) (decode s .b) (decode s .c)) → Reaches WALL reply

@@ -13,3 +13,5 @@ pub mod Stuck
 pub mod Mending
 pub mod Listing
 pub mod Walls
+pub mod Exactly
+pub mod Meant

@@ -15,26 +15,41 @@ use Rattle.paper_upper.specs.Orders.{Entry, entry, Orders, noOrders, inOrder, h
 use Rattle.paper_upper.specs.Orders.Standing.{held}
 use Rattle.paper_upper.specs.Requests.{turned}
 
--- the users' assigned roles; the objects that stand in walls; each live subject's user, its active roles and all that it has had active, and the block that
--- each user is bound to in each wall; the open orders, each with its template, and their entries
+-- who is a user, and the users' assigned roles; the roles that have each permission; the objects that stand in walls; each live subject's user, its active
+-- roles and all that it has had active, and the block that each user is bound to in each wall; the open orders, each with its template, and their entries
 pub record Told : Type 0 where
+  pub users : ℕ → Bool
   pub assigned : ℕ → Set
+  pub holders : ℕ → Set
   pub walls : List Walled
   pub sessions : Sessions
   pub orders : Orders
 
 unfoldable pub nothing : Told
-nothing = record { assigned = λ _. empty; walls = []; sessions = noSessions; orders = noOrders }
+nothing = record { users = λ _. false; assigned = λ _. empty; holders = λ _. empty; walls = []; sessions = noSessions; orders = noOrders }
 
 -- ---- One of them anew.
+abbrev pub toldPeople : Told → (ℕ → Bool) → (ℕ → Set) → Told
+toldPeople x users assigned =
+    record { users = users; assigned = assigned; holders = x .holders; walls = x .walls; sessions = x .sessions; orders = x .orders }
+
+-- user u is one or is none, and has the roles m
+abbrev pub toldUser : Told → ℕ → Bool → Set → Told
+toldUser x u is m = toldPeople x (upd (x .users) u is) (upd (x .assigned) u m)
+
 abbrev pub toldRoles : Told → ℕ → Set → Told
-toldRoles x u m = record { assigned = upd (x .assigned) u m; walls = x .walls; sessions = x .sessions; orders = x .orders }
+toldRoles x u m = toldPeople x (x .users) (upd (x .assigned) u m)
+
+-- the roles m have permission p
+abbrev pub toldHolders : Told → ℕ → Set → Told
+toldHolders x p m =
+    record { users = x .users; assigned = x .assigned; holders = upd (x .holders) p m; walls = x .walls; sessions = x .sessions; orders = x .orders }
 
 abbrev pub toldWalls : Told → List Walled → Told
-toldWalls x walls = record { assigned = x .assigned; walls = walls; sessions = x .sessions; orders = x .orders }
+toldWalls x walls = record { users = x .users; assigned = x .assigned; holders = x .holders; walls = walls; sessions = x .sessions; orders = x .orders }
 
 abbrev pub toldSessions : Told → Sessions → Told
-toldSessions x s = record { assigned = x .assigned; walls = x .walls; sessions = s; orders = x .orders }
+toldSessions x s = record { users = x .users; assigned = x .assigned; holders = x .holders; walls = x .walls; sessions = s; orders = x .orders }
 
 abbrev pub toldBound : Told → ℕ → (ℕ → Maybe ℕ) → Told
 toldBound x u blocks = toldSessions x (withBoundTo (x .sessions) (upd (x .sessions .boundTo) u blocks))
@@ -55,7 +70,15 @@ toldActive x active had =
     toldSessions x (record { live = x .sessions .live; user = x .sessions .user; active = active; had = had; boundTo = x .sessions .boundTo })
 
 abbrev pub toldOrders : Told → (ℕ → Maybe ℕ) → List Entry → Told
-toldOrders x f es = record { assigned = x .assigned; walls = x .walls; sessions = x .sessions; orders = record { opened = f; entries = es } }
+toldOrders x f es =
+    record {
+      users = x .users;
+      assigned = x .assigned;
+      holders = x .holders;
+      walls = x .walls;
+      sessions = x .sessions;
+      orders = record { opened = f; entries = es };
+    }
 
 abbrev pub toldEntries : Told → List Entry → Told
 toldEntries x es = toldOrders x (x .orders .opened) es
@@ -67,13 +90,17 @@ tells k f = on k (λ x r. []) f
 unfoldable pub telling : List (Kind Told)
 telling =
     -- "1 user a." "33 delete user a.": no roles. "kind 32 now takes roles in m". 02, Ask 11: "Deleting a user forgets the binding"
-    tells 1 (λ x r. toldRoles x (r .a) empty)
-    ∷ tells 32 (λ x r. toldRoles x (r .a) (r .m))
-    ∷ tells 33 (λ x r. toldBound (toldRoles x (r .a) empty) (r .a) (λ _. none))
+    tells 1 (λ x r. toldUser x (r .a) true empty)
+    ∷ tells 32 (λ x r. toldUser x (r .a) true (r .m))
+    ∷ tells 33 (λ x r. toldBound (toldUser x (r .a) false empty) (r .a) (λ _. none))
     -- "4 user a has role b." "34 assign role b to user a. 35 take it back."
     ∷ tells 4 (λ x r. toldRoles x (r .a) (plus (x .assigned (r .a)) (r .b)))
     ∷ tells 34 (λ x r. toldRoles x (r .a) (plus (x .assigned (r .a)) (r .b)))
     ∷ tells 35 (λ x r. toldRoles x (r .a) (minus (x .assigned (r .a)) (r .b)))
+    -- "5 role a has permission b." "36 give role a permission b. 37 take it back."
+    ∷ tells 5 (λ x r. toldHolders x (r .b) (plus (x .holders (r .b)) (r .a)))
+    ∷ tells 36 (λ x r. toldHolders x (r .b) (plus (x .holders (r .b)) (r .a)))
+    ∷ tells 37 (λ x r. toldHolders x (r .b) (minus (x .holders (r .b)) (r .a)))
     -- "40 create subject a for user b with active roles m. 41 destroy subject a. 42 activate role b in subject a. 43 deactivate it."
     ∷ tells 40 (λ x r. toldSubject x (r .a) true (r .b) (r .m))
     ∷ tells 41 (λ x r. toldSubject x (r .a) false 0 empty)

@@ -1,16 +1,16 @@
 -- The rules over an order's entries, "without any claim", and the limits over roles: read from the policy's records and from what is told.
-use Prim.Native.Nat.{ℕ, _≤_}
+use Prim.Native.Nat.{ℕ, _≤_, _<_}
 use mathlib.Core.Path.{_≡_}
-use mathlib.Core.Logic.{_⊎_, _↔_}
+use mathlib.Core.Logic.{_⊎_}
 use mathlib.Core.Bool.{Bool, true, cond, _&&_}
 use mathlib.Core.List.{List, [], _∷_}
 use lib.Dec.{eqb}
+use lib.ListN.{length}
 use Rattle.paper_lower.specs.Sets.{Set, empty, has, plus, size, overlap, meets}
 use Rattle.paper_lower.specs.Lists.{Maybe, some, many, keep, Every}
 use Rattle.paper_lower.specs.Lists.Maybe.{just}
 use Rattle.paper_lower.specs.Checks.{BEFORE, SEPARATION, BLOCK, ALONE, BOUND, COUNT}
 use Rattle.paper_lower.specs.Records.{Record}
-use Rattle.paper_lower.specs.Roles.{countedOf}
 use Rattle.paper_upper.specs.Orders.{Entry, Orders, ofTask, tasksBy, tasksDone}
 use Rattle.theorems.specs.Outside.{Told}
 
@@ -112,21 +112,40 @@ Leads pairs a (c ∷ cs) b = (pairs a c ≡ true) × Leads pairs c cs b
 abbrev pub Above : List Record → ℕ → ℕ → Type 0
 Above policy a b = (between : List ℕ) × Leads (puts policy) a between b
 
--- role b is one of the roles m, or stands below one of them
-abbrev pub AtOrBelow : List Record → Set → ℕ → Type 0
-AtOrBelow policy m b = (has m b ≡ true) ⊎ ((a : ℕ) × (has m a ≡ true) × Above policy a b)
+-- role q is role r, or stands above it
+abbrev pub AtOrAbove : List Record → ℕ → ℕ → Type 0
+AtOrAbove policy q r = (q ≡ r) ⊎ Above policy q r
 
--- the policy's sets of a kind allow the roles m, counted with all roles below them
-pub record Allowed (policy : List Record) (kind : ℕ) (m : Set) : Type 0 where
-  pub counted : Set
-  pub exactly : (b : ℕ) → (has counted b ≡ true) ↔ AtOrBelow policy m b
-  pub allows : Every (λ r. Allows r counted) (ofKind kind policy)
+-- role r counts where these roles do: it is one of them, or stands below one of them
+abbrev pub Reached : List Record → (ℕ → Type 0) → ℕ → Type 0
+Reached policy Roles r = (q : ℕ) × Roles q × AtOrAbove policy q r
+
+-- a statement about some one of a list
+abbrev pub Any : {A : Type 0} → (A → Type 0) → List A → Type 0
+Any P [] = ⊥
+Any P (x ∷ xs) = P x ⊎ Any P xs
+
+-- "at most n of its roles": more than n different roles of the set count
+pub record Exceeded (Counts : ℕ → Type 0) (set : Record) : Type 0 where
+  pub roles : List ℕ
+  pub different : EveryTwo (λ q r. q ≡ r → ⊥) roles
+  pub more : set .n < length roles
+  pub among : Every (λ r. (has (set .m) r ≡ true) × Counts r) roles
+
+-- some set of the kind is exceeded by these roles and those below them
+abbrev pub Broken : List Record → ℕ → (ℕ → Type 0) → Type 0
+Broken policy kind Roles = Any (Exceeded (Reached policy Roles)) (ofKind kind policy)
+
+-- 02, Ask 5: "Each subject's record keeps every role it has had active; a dynamic set counts the union over the user's live subjects." A live subject of user u,
+-- whatever its number, has had role q active.
+abbrev pub HasHad : Told → ℕ → ℕ → Type 0
+HasHad x u q = (s : ℕ) × (x .sessions .live s ≡ true) × (x .sessions .user s ≡ u) × (has (x .sessions .had s) q ≡ true)
 
 pub record RoleLimits (policy : List Record) (x : Told) : Type 0 where
   -- "A static set allows a user at most n of its roles among those assigned."
-  pub statics : (u : ℕ) → Allowed policy 9 (x .assigned u)
-  -- "A dynamic set allows a user at most n of its roles active at a time, over all the user's subjects together." Amended by 02, Ask 5: "a dynamic
-  -- set counts the union over the user's live subjects" of "every role it has had active"
-  pub dynamics : (u : ℕ) → Allowed policy 10 (countedOf (x .sessions) u)
+  pub statics : (u : ℕ) → Broken policy 9 (λ q. has (x .assigned u) q ≡ true) → ⊥
+  -- "A dynamic set allows a user at most n of its roles active at a time, over all the user's subjects together." Amended by 02, Ask 5
+  pub dynamics : (u : ℕ) → Broken policy 10 (HasHad x u) → ⊥
   -- "Active roles are always assigned ones." Amended by 02, Ask 7: "Activating a role below an assigned one is allowed"
-  pub active : (s : ℕ) → x .sessions .live s ≡ true → (r : ℕ) → has (x .sessions .active s) r ≡ true → AtOrBelow policy (x .assigned (x .sessions .user s)) r
+  pub active : (s : ℕ) → x .sessions .live s ≡ true → (r : ℕ) → has (x .sessions .active s) r ≡ true
+      → Reached policy (λ q. has (x .assigned (x .sessions .user s)) q ≡ true) r

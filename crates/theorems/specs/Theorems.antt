@@ -49,7 +49,16 @@ AfterEvery P = (policy : Bytes) → load policy .reply ≡ GRANTED → (requests
 
 -- ---- What is told is what the tables hold.
 abbrev pub shown : Engine → Told
-shown t = record { assigned = t .lower .policy .people .assigned; walls = t .lower .policy .walls; sessions = t .lower .sessions; orders = t .orders }
+shown t =
+    let p = t .lower .policy in
+    record {
+      users = p .people .users;
+      assigned = p .people .assigned;
+      holders = p .permissions .holders;
+      walls = p .walls;
+      sessions = t .lower .sessions;
+      orders = t .orders;
+    }
 
 abbrev pub ToldIsTrue : Type 0
 ToldIsTrue = AfterEvery (λ policy requests. toldAfter policy requests ≡ shown (tablesAfter policy requests))
