@@ -1,6 +1,6 @@
--- Cases of a number: the last that is left, a number past a table's end, and a rule shown at each number in turn.
+-- Cases of a number: the last that is left, a number past a table's end, and tables that agree at each number.
 use mathlib.Core.Path.{_≡_, refl, sym, subst}
-use mathlib.Core.List.{List, []}
+use mathlib.Core.List.{List, [], _∷_}
 use mathlib.Core.Bool.{Bool, true, false}
 use Prim.Native.Nat.{ℕ, zero, suc, _*_, _<_, _≤_}
 use native.Mathlib.Omega.{arith}
@@ -29,26 +29,28 @@ pub past : (ns : List ℕ) (j : ℕ) → length ns ≤ 8 * j → 0 ≡ wordAt ns
 unfolding wordAt packed
 past ns j h = let e : drop (8 * j) ns ≡ [] = drop-of-length-le ns h in rw e
 
--- a rule at each number below n, the last first
-abbrev pub AllTo : (ℕ → Type 0) → ℕ → Type 0
-AllTo P zero = Unit {0}
-AllTo P (suc n) = P n × AllTo P n
+-- ---- Two tables that agree, by one computation: their values below n are the same list.
 
-pick : (P : ℕ → Type 0) (n k : ℕ) (b : Bool) → eqb k n ≡ b → k < suc n → P n → (k < n → P k) → P k
-pick P n k true e h p f = subst P (sym (eqb-true k n e)) p
-pick P n k false e h p f = let z = eqb-false k n e in f (omega arith)
+abbrev pub valuesTo : {A : Type 0} → (ℕ → A) → ℕ → List A
+valuesTo f zero = []
+valuesTo f (suc n) = f n ∷ valuesTo f n
 
-pub at : (P : ℕ → Type 0) (n : ℕ) → AllTo P n → (k : ℕ) → k < n → P k
-at P zero a k h = absurd (omega arith)
-at P (suc n) a k h = pick P n k (eqb k n) refl h (a .0) (λ l. at P n (a .1) k l)
+module _ {A : Type 0} (f g : ℕ → A) where
+  pick : (n k : ℕ) (b : Bool) → eqb k n ≡ b → k < suc n → f n ≡ g n → (k < n → f k ≡ g k) → f k ≡ g k
+  pick n k true e h p rest = subst (λ (m : ℕ). f m ≡ g m) (sym (eqb-true k n e)) p
+  pick n k false e h p rest = let z = eqb-false k n e in rest (omega arith)
 
--- below n as it is shown there, and behind it by a law
-pub everywhere : (P : ℕ → Type 0) (n : ℕ) → AllTo P n → ((k : ℕ) → n ≤ k → P k) → (k : ℕ) → P k
-everywhere P n a f k = go (leb n k) refl
-  where
-    go : (b : Bool) → leb n k ≡ b → P k
-    go true e = f k (leb-true n k e)
-    go false e = at P n a k (leb-false n k e)
+  pub agree : (n : ℕ) → valuesTo f n ≡ valuesTo g n → (k : ℕ) → k < n → f k ≡ g k
+  agree zero e k h = absurd (omega arith)
+  agree (suc n) e k h = pick n k (eqb k n) refl h (cc) (λ l. agree n (cc) k l)
+
+  -- below n by computing, and behind it by a law
+  pub agree-everywhere : (n : ℕ) → valuesTo f n ≡ valuesTo g n → ((k : ℕ) → n ≤ k → f k ≡ g k) → (k : ℕ) → f k ≡ g k
+  agree-everywhere n e law k = go (leb n k) refl
+    where
+      go : (b : Bool) → leb n k ≡ b → f k ≡ g k
+      go true q = law k (leb-true n k q)
+      go false q = agree n e k (leb-false n k q)
 
 -- ---- How long the lists are.
 

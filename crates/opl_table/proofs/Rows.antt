@@ -1,7 +1,7 @@
--- What an element has at first, and what the masks say: one computation at each number.
+-- What an element has at first, and what the masks say: one computation for each table.
 use mathlib.Core.Path.{_≡_, refl, sym}
 use mathlib.Core.List.{List, [], _∷_}
-use mathlib.Core.Bool.{true, false}
+use mathlib.Core.Bool.{Bool, true, false}
 use Prim.Native.Nat.{ℕ, _/_, _%_, _^_, _*_, _<_, _≤_}
 use native.Mathlib.Nat.{zero-div}
 use native.Mathlib.Omega.{arith}
@@ -9,10 +9,10 @@ use lib.Dec.{eqb, eqb·suc-zero}
 use lib.ListN.{length, getD, List·getD-eq-default}
 use Rattle.paper_lower.specs.Lists.{some, every, each}
 use Rattle.paper_opl.specs.Reading.{Text, text, same}
-use Rattle.paper_opl.specs.Elements.{elements, rowIn, one, mayEnd}
+use Rattle.paper_opl.specs.Elements.{Attribute, Child, elements, rowIn, one, mayEnd}
 use Rattle.paper_opl.specs.Tree.{required}
 use Rattle.opl_table.specs.Numbers.{names, nameOf, stages, joined, lefts, leftOf, lists, listOf, firstState, firstList, packed, wordAt, numberAt}
-use Rattle.opl_table.proofs.Cases.{AllTo, at, everywhere, past, lefts-length, lists-length, names-length}
+use Rattle.opl_table.proofs.Cases.{valuesTo, agree, agree-everywhere, past, lefts-length, lists-length, names-length}
 
 nothing-named : (id : ℕ) → 65 ≤ id → nameOf id ≡ []
 unfolding nameOf
@@ -31,515 +31,63 @@ zeros ns id l h =
     let e : 0 ≡ wordAt ns (id / 8) = past ns (id / 8) n in
     rw (sym e, zero-div (2 ^ (8 * (id % 8))))
 
-First : ℕ → Type 0
-First id = leftOf (numberAt firstState id) ≡ rowIn elements (nameOf id) .children
+abbrev coded-children : ℕ → List Child
+coded-children id = leftOf (numberAt firstState id)
 
-all-first : AllTo First 65
-unfolding First leftOf lefts stages joined each elements text nameOf names numberAt wordAt packed firstState rowIn same
-all-first = (
-  refl,
-  (
-    refl,
-    (
-      refl,
-      (
-        refl,
-        (
-          refl,
-          (
-            refl,
-            (
-              refl,
-              (
-                refl,
-                (
-                  refl,
-                  (
-                    refl,
-                    (
-                      refl,
-                      (
-                        refl,
-                        (
-                          refl,
-                          (
-                            refl,
-                            (
-                              refl,
-                              (
-                                refl,
-                                (
-                                  refl,
-                                  (
-                                    refl,
-                                    (
-                                      refl,
-                                      (
-                                        refl,
-                                        (
-                                          refl,
-                                          (
-                                            refl,
-                                            (
-                                              refl,
-                                              (
-                                                refl,
-                                                (
-                                                  refl,
-                                                  (
-                                                    refl,
-                                                    (
-                                                      refl,
-                                                      (
-                                                        refl,
-                                                        (
-                                                          refl,
-                                                          (
-                                                            refl,
-                                                            (
-                                                              refl,
-                                                              (
-                                                                refl,
-                                                                (
-                                                                  refl,
-                                                                  (
-                                                                    refl,
-                                                                    (
-                                                                      refl,
-                                                                      (
-                                                                        refl,
-                                                                        (
-                                                                          refl,
-                                                                          (
-                                                                            refl,
-                                                                            (
-                                                                              refl,
-                                                                              (
-                                                                                refl,
-                                                                                (
-                                                                                  refl,
-                                                                                  (
-                                                                                    refl,
-                                                                                    (
-                                                                                      refl,
-                                                                                      (
-                                                                                        refl,
-                                                                                        (
-                                                                                          refl,
-                                                                                          (
-                                                                                            refl,
-                                                                                            (
-                                                                                              refl,
-                                                                                              (
-                                                                                                refl,
-                                                                                                (
-                                                                                                  refl,
-                                                                                                  (
-                                                                                                    refl,
-                                                                                                    (
-                                                                                                      refl,
-                                                                                                      (refl, (refl, (refl, (refl, (refl, (refl, (refl, (refl, (refl, (refl, (refl, (refl, (refl, (refl, tt)))))))))))))),
-                                                                                                    ),
-                                                                                                  ),
-                                                                                                ),
-                                                                                              ),
-                                                                                            ),
-                                                                                          ),
-                                                                                        ),
-                                                                                      ),
-                                                                                    ),
-                                                                                  ),
-                                                                                ),
-                                                                              ),
-                                                                            ),
-                                                                          ),
-                                                                        ),
-                                                                      ),
-                                                                    ),
-                                                                  ),
-                                                                ),
-                                                              ),
-                                                            ),
-                                                          ),
-                                                        ),
-                                                      ),
-                                                    ),
-                                                  ),
-                                                ),
-                                              ),
-                                            ),
-                                          ),
-                                        ),
-                                      ),
-                                    ),
-                                  ),
-                                ),
-                              ),
-                            ),
-                          ),
-                        ),
-                      ),
-                    ),
-                  ),
-                ),
-              ),
-            ),
-          ),
-        ),
-      ),
-    ),
-  ),
-)
+abbrev children : ℕ → List Child
+children id = rowIn elements (nameOf id) .children
+
+all-first : valuesTo coded-children 65 ≡ valuesTo children 65
+unfolding leftOf lefts stages joined each elements text nameOf names numberAt wordAt packed firstState rowIn same
+all-first = refl
 
 none-first : leftOf 0 ≡ rowIn elements [] .children
 unfolding leftOf lefts rowIn elements text same
 none-first = refl
 
-past-first : (id : ℕ) → 65 ≤ id → First id
-unfolding First firstState
+past-first : (id : ℕ) → 65 ≤ id → leftOf (numberAt firstState id) ≡ rowIn elements (nameOf id) .children
+unfolding firstState
 past-first id h = rw (nothing-named id h, sym (zeros firstState id refl h)) none-first
 
 pub first-is : (id r : ℕ) → r ≡ numberAt firstState id → leftOf r ≡ rowIn elements (nameOf id) .children
-unfolding First
-first-is id r e = rw e (everywhere First 65 all-first past-first id)
+first-is id r e = rw e (agree-everywhere coded-children children 65 all-first past-first id)
 
-Given : ℕ → Type 0
-Given id = listOf (numberAt firstList id) ≡ rowIn elements (nameOf id) .attributes
+abbrev coded-attributes : ℕ → List Attribute
+coded-attributes id = listOf (numberAt firstList id)
 
-all-given : AllTo Given 65
-unfolding Given listOf lists each elements text nameOf names numberAt wordAt packed firstList rowIn same
-all-given = (
-  refl,
-  (
-    refl,
-    (
-      refl,
-      (
-        refl,
-        (
-          refl,
-          (
-            refl,
-            (
-              refl,
-              (
-                refl,
-                (
-                  refl,
-                  (
-                    refl,
-                    (
-                      refl,
-                      (
-                        refl,
-                        (
-                          refl,
-                          (
-                            refl,
-                            (
-                              refl,
-                              (
-                                refl,
-                                (
-                                  refl,
-                                  (
-                                    refl,
-                                    (
-                                      refl,
-                                      (
-                                        refl,
-                                        (
-                                          refl,
-                                          (
-                                            refl,
-                                            (
-                                              refl,
-                                              (
-                                                refl,
-                                                (
-                                                  refl,
-                                                  (
-                                                    refl,
-                                                    (
-                                                      refl,
-                                                      (
-                                                        refl,
-                                                        (
-                                                          refl,
-                                                          (
-                                                            refl,
-                                                            (
-                                                              refl,
-                                                              (
-                                                                refl,
-                                                                (
-                                                                  refl,
-                                                                  (
-                                                                    refl,
-                                                                    (
-                                                                      refl,
-                                                                      (
-                                                                        refl,
-                                                                        (
-                                                                          refl,
-                                                                          (
-                                                                            refl,
-                                                                            (
-                                                                              refl,
-                                                                              (
-                                                                                refl,
-                                                                                (
-                                                                                  refl,
-                                                                                  (
-                                                                                    refl,
-                                                                                    (
-                                                                                      refl,
-                                                                                      (
-                                                                                        refl,
-                                                                                        (
-                                                                                          refl,
-                                                                                          (
-                                                                                            refl,
-                                                                                            (
-                                                                                              refl,
-                                                                                              (
-                                                                                                refl,
-                                                                                                (
-                                                                                                  refl,
-                                                                                                  (
-                                                                                                    refl,
-                                                                                                    (
-                                                                                                      refl,
-                                                                                                      (refl, (refl, (refl, (refl, (refl, (refl, (refl, (refl, (refl, (refl, (refl, (refl, (refl, (refl, tt)))))))))))))),
-                                                                                                    ),
-                                                                                                  ),
-                                                                                                ),
-                                                                                              ),
-                                                                                            ),
-                                                                                          ),
-                                                                                        ),
-                                                                                      ),
-                                                                                    ),
-                                                                                  ),
-                                                                                ),
-                                                                              ),
-                                                                            ),
-                                                                          ),
-                                                                        ),
-                                                                      ),
-                                                                    ),
-                                                                  ),
-                                                                ),
-                                                              ),
-                                                            ),
-                                                          ),
-                                                        ),
-                                                      ),
-                                                    ),
-                                                  ),
-                                                ),
-                                              ),
-                                            ),
-                                          ),
-                                        ),
-                                      ),
-                                    ),
-                                  ),
-                                ),
-                              ),
-                            ),
-                          ),
-                        ),
-                      ),
-                    ),
-                  ),
-                ),
-              ),
-            ),
-          ),
-        ),
-      ),
-    ),
-  ),
-)
+abbrev attributes : ℕ → List Attribute
+attributes id = rowIn elements (nameOf id) .attributes
+
+all-given : valuesTo coded-attributes 65 ≡ valuesTo attributes 65
+unfolding listOf lists each elements text nameOf names numberAt wordAt packed firstList rowIn same
+all-given = refl
 
 none-given : listOf 0 ≡ rowIn elements [] .attributes
 unfolding listOf lists rowIn elements text same
 none-given = refl
 
-past-given : (id : ℕ) → 65 ≤ id → Given id
-unfolding Given firstList
+past-given : (id : ℕ) → 65 ≤ id → listOf (numberAt firstList id) ≡ rowIn elements (nameOf id) .attributes
+unfolding firstList
 past-given id h = rw (nothing-named id h, sym (zeros firstList id refl h)) none-given
 
 pub given-is : (id r : ℕ) → r ≡ numberAt firstList id → listOf r ≡ rowIn elements (nameOf id) .attributes
-unfolding Given
-given-is id r e = rw e (everywhere Given 65 all-given past-given id)
+given-is id r e = rw e (agree-everywhere coded-attributes attributes 65 all-given past-given id)
 
 -- ---- The masks.
 
-Ends : ℕ → Type 0
-Ends left = eqb (18446369963039506785 / 2 ^ left % 2) 1 ≡ mayEnd (leftOf left)
+-- bit k of a mask
+abbrev bit : ℕ → ℕ → Bool
+bit mask k = eqb (mask / 2 ^ k % 2) 1
 
-all-ends : AllTo Ends 64
-unfolding Ends leftOf lefts stages joined each elements text every
-all-ends = (
-  refl,
-  (
-    refl,
-    (
-      refl,
-      (
-        refl,
-        (
-          refl,
-          (
-            refl,
-            (
-              refl,
-              (
-                refl,
-                (
-                  refl,
-                  (
-                    refl,
-                    (
-                      refl,
-                      (
-                        refl,
-                        (
-                          refl,
-                          (
-                            refl,
-                            (
-                              refl,
-                              (
-                                refl,
-                                (
-                                  refl,
-                                  (
-                                    refl,
-                                    (
-                                      refl,
-                                      (
-                                        refl,
-                                        (
-                                          refl,
-                                          (
-                                            refl,
-                                            (
-                                              refl,
-                                              (
-                                                refl,
-                                                (
-                                                  refl,
-                                                  (
-                                                    refl,
-                                                    (
-                                                      refl,
-                                                      (
-                                                        refl,
-                                                        (
-                                                          refl,
-                                                          (
-                                                            refl,
-                                                            (
-                                                              refl,
-                                                              (
-                                                                refl,
-                                                                (
-                                                                  refl,
-                                                                  (
-                                                                    refl,
-                                                                    (
-                                                                      refl,
-                                                                      (
-                                                                        refl,
-                                                                        (
-                                                                          refl,
-                                                                          (
-                                                                            refl,
-                                                                            (
-                                                                              refl,
-                                                                              (
-                                                                                refl,
-                                                                                (
-                                                                                  refl,
-                                                                                  (
-                                                                                    refl,
-                                                                                    (
-                                                                                      refl,
-                                                                                      (
-                                                                                        refl,
-                                                                                        (
-                                                                                          refl,
-                                                                                          (
-                                                                                            refl,
-                                                                                            (
-                                                                                              refl,
-                                                                                              (
-                                                                                                refl,
-                                                                                                (
-                                                                                                  refl,
-                                                                                                  (
-                                                                                                    refl,
-                                                                                                    (
-                                                                                                      refl,
-                                                                                                      (refl, (refl, (refl, (refl, (refl, (refl, (refl, (refl, (refl, (refl, (refl, (refl, (refl, tt))))))))))))),
-                                                                                                    ),
-                                                                                                  ),
-                                                                                                ),
-                                                                                              ),
-                                                                                            ),
-                                                                                          ),
-                                                                                        ),
-                                                                                      ),
-                                                                                    ),
-                                                                                  ),
-                                                                                ),
-                                                                              ),
-                                                                            ),
-                                                                          ),
-                                                                        ),
-                                                                      ),
-                                                                    ),
-                                                                  ),
-                                                                ),
-                                                              ),
-                                                            ),
-                                                          ),
-                                                        ),
-                                                      ),
-                                                    ),
-                                                  ),
-                                                ),
-                                              ),
-                                            ),
-                                          ),
-                                        ),
-                                      ),
-                                    ),
-                                  ),
-                                ),
-                              ),
-                            ),
-                          ),
-                        ),
-                      ),
-                    ),
-                  ),
-                ),
-              ),
-            ),
-          ),
-        ),
-      ),
-    ),
-  ),
-)
+abbrev ends : ℕ → Bool
+ends left = mayEnd (leftOf left)
+
+all-ends : valuesTo (bit 18446369963039506785) 64 ≡ valuesTo ends 64
+unfolding leftOf lefts stages joined each elements text every
+all-ends = refl
 
 pub ends-is : (left : ℕ) → left < 64 → eqb (18446369963039506785 / 2 ^ left % 2) 1 ≡ mayEnd (leftOf left)
-unfolding Ends
-ends-is left h = at Ends 64 all-ends left h
+ends-is left h = agree (bit 18446369963039506785) ends 64 all-ends left h
 
 pub ends-past : (left : ℕ) → 64 ≤ left → true ≡ mayEnd (leftOf left)
 unfolding leftOf every
@@ -548,169 +96,15 @@ ends-past left h =
     let e : getD lefts left [] ≡ [] = List·getD-eq-default lefts [] n in
     rw e
 
-Missing : ℕ → Type 0
-Missing list = eqb (968818686 / 2 ^ list % 2) 1 ≡ some (λ a. required (a .class)) (listOf list)
+abbrev needs : ℕ → Bool
+needs list = some (λ a. required (a .class)) (listOf list)
 
-all-missing : AllTo Missing 64
-unfolding Missing listOf lists text some
-all-missing = (
-  refl,
-  (
-    refl,
-    (
-      refl,
-      (
-        refl,
-        (
-          refl,
-          (
-            refl,
-            (
-              refl,
-              (
-                refl,
-                (
-                  refl,
-                  (
-                    refl,
-                    (
-                      refl,
-                      (
-                        refl,
-                        (
-                          refl,
-                          (
-                            refl,
-                            (
-                              refl,
-                              (
-                                refl,
-                                (
-                                  refl,
-                                  (
-                                    refl,
-                                    (
-                                      refl,
-                                      (
-                                        refl,
-                                        (
-                                          refl,
-                                          (
-                                            refl,
-                                            (
-                                              refl,
-                                              (
-                                                refl,
-                                                (
-                                                  refl,
-                                                  (
-                                                    refl,
-                                                    (
-                                                      refl,
-                                                      (
-                                                        refl,
-                                                        (
-                                                          refl,
-                                                          (
-                                                            refl,
-                                                            (
-                                                              refl,
-                                                              (
-                                                                refl,
-                                                                (
-                                                                  refl,
-                                                                  (
-                                                                    refl,
-                                                                    (
-                                                                      refl,
-                                                                      (
-                                                                        refl,
-                                                                        (
-                                                                          refl,
-                                                                          (
-                                                                            refl,
-                                                                            (
-                                                                              refl,
-                                                                              (
-                                                                                refl,
-                                                                                (
-                                                                                  refl,
-                                                                                  (
-                                                                                    refl,
-                                                                                    (
-                                                                                      refl,
-                                                                                      (
-                                                                                        refl,
-                                                                                        (
-                                                                                          refl,
-                                                                                          (
-                                                                                            refl,
-                                                                                            (
-                                                                                              refl,
-                                                                                              (
-                                                                                                refl,
-                                                                                                (
-                                                                                                  refl,
-                                                                                                  (
-                                                                                                    refl,
-                                                                                                    (
-                                                                                                      refl,
-                                                                                                      (refl, (refl, (refl, (refl, (refl, (refl, (refl, (refl, (refl, (refl, (refl, (refl, (refl, tt))))))))))))),
-                                                                                                    ),
-                                                                                                  ),
-                                                                                                ),
-                                                                                              ),
-                                                                                            ),
-                                                                                          ),
-                                                                                        ),
-                                                                                      ),
-                                                                                    ),
-                                                                                  ),
-                                                                                ),
-                                                                              ),
-                                                                            ),
-                                                                          ),
-                                                                        ),
-                                                                      ),
-                                                                    ),
-                                                                  ),
-                                                                ),
-                                                              ),
-                                                            ),
-                                                          ),
-                                                        ),
-                                                      ),
-                                                    ),
-                                                  ),
-                                                ),
-                                              ),
-                                            ),
-                                          ),
-                                        ),
-                                      ),
-                                    ),
-                                  ),
-                                ),
-                              ),
-                            ),
-                          ),
-                        ),
-                      ),
-                    ),
-                  ),
-                ),
-              ),
-            ),
-          ),
-        ),
-      ),
-    ),
-  ),
-)
+all-missing : valuesTo (bit 968818686) 64 ≡ valuesTo needs 64
+unfolding listOf lists text some
+all-missing = refl
 
 pub missing-is : (list : ℕ) → list < 64 → eqb (968818686 / 2 ^ list % 2) 1 ≡ some (λ a. required (a .class)) (listOf list)
-unfolding Missing
-missing-is list h = at Missing 64 all-missing list h
+missing-is list h = agree (bit 968818686) needs 64 all-missing list h
 
 pub missing-past : (list : ℕ) → 64 ≤ list → false ≡ some (λ a. required (a .class)) (listOf list)
 unfolding listOf some

@@ -1,4 +1,4 @@
--- What may stand at a number, and the code's places for it, are the same: one computation at each number.
+-- What may stand at a number, and the code's places for it, are the same: one computation for each of the two tables.
 use mathlib.Core.Path.{_≡_, refl, sym, ap, _∙_}
 use mathlib.Core.List.{List, [], _∷_}
 use mathlib.Core.Bool.{Bool, true, false, cond, _||_}
@@ -17,7 +17,7 @@ use Rattle.opl_table.specs.declared.Place.{Place}
 use Rattle.opl_table.specs.declared.Place.the-variants.{Here, Nowhere}
 use Rattle.opl_table.specs.Numbers.{names, nameOf, stages, joined, lefts, leftOf, lists, listOf, classOf, stateFrom, listFrom, placeName, placeThen, packed, wordAt, numberAt}
 use Rattle.opl_table.specs.Found.{placeOf, Follows, Allows}
-use Rattle.opl_table.proofs.Cases.{AllTo, at, lefts-length, lists-length}
+use Rattle.opl_table.proofs.Cases.{valuesTo, agree, lefts-length, lists-length}
 
 -- ---- The first of some things that has a name, and the code's search for its place.
 
@@ -117,119 +117,20 @@ way-named : (k : ℕ) → nameIn (wayAt k) ≡ nameOf (numberAt placeName k)
 unfolding nameIn wayAt
 way-named k = refl
 
-Coded : ℕ → Type 0
-Coded left = ways (leftOf left) ≡ range wayAt (numberAt stateFrom left) (numberAt stateFrom (left + 1) - numberAt stateFrom left)
+waysFrom : ℕ → List Way
+waysFrom left = ways (leftOf left)
 
-all-coded : AllTo Coded 50
-unfolding Coded ways waysOf range wayAt leftOf lefts stages joined each elements text nameOf names numberAt wordAt packed stateFrom placeName placeThen
-all-coded = (
-  refl,
-  (
-    refl,
-    (
-      refl,
-      (
-        refl,
-        (
-          refl,
-          (
-            refl,
-            (
-              refl,
-              (
-                refl,
-                (
-                  refl,
-                  (
-                    refl,
-                    (
-                      refl,
-                      (
-                        refl,
-                        (
-                          refl,
-                          (
-                            refl,
-                            (
-                              refl,
-                              (
-                                refl,
-                                (
-                                  refl,
-                                  (
-                                    refl,
-                                    (
-                                      refl,
-                                      (
-                                        refl,
-                                        (
-                                          refl,
-                                          (
-                                            refl,
-                                            (
-                                              refl,
-                                              (
-                                                refl,
-                                                (
-                                                  refl,
-                                                  (
-                                                    refl,
-                                                    (
-                                                      refl,
-                                                      (
-                                                        refl,
-                                                        (
-                                                          refl,
-                                                          (
-                                                            refl,
-                                                            (
-                                                              refl,
-                                                              (
-                                                                refl,
-                                                                (
-                                                                  refl,
-                                                                  (
-                                                                    refl,
-                                                                    (refl, (refl, (refl, (refl, (refl, (refl, (refl, (refl, (refl, (refl, (refl, (refl, (refl, (refl, (refl, (refl, tt)))))))))))))))),
-                                                                  ),
-                                                                ),
-                                                              ),
-                                                            ),
-                                                          ),
-                                                        ),
-                                                      ),
-                                                    ),
-                                                  ),
-                                                ),
-                                              ),
-                                            ),
-                                          ),
-                                        ),
-                                      ),
-                                    ),
-                                  ),
-                                ),
-                              ),
-                            ),
-                          ),
-                        ),
-                      ),
-                    ),
-                  ),
-                ),
-              ),
-            ),
-          ),
-        ),
-      ),
-    ),
-  ),
-)
+codedWays : ℕ → List Way
+codedWays left = range wayAt (numberAt stateFrom left) (numberAt stateFrom (left + 1) - numberAt stateFrom left)
+
+all-coded : valuesTo waysFrom 50 ≡ valuesTo codedWays 50
+unfolding waysFrom codedWays ways waysOf range wayAt leftOf lefts stages joined each elements text nameOf names numberAt wordAt packed stateFrom placeName placeThen
+all-coded = refl
 
 module _ (v : Text) (left from end : ℕ) (h : left < 50) (f : from ≡ numberAt stateFrom left) (g : end ≡ numberAt stateFrom (left + 1)) (p : Place) (e : p ≡ placeOf v from (end - from)) where
   here : next (leftOf left) v ≡ leftIn (firstBy nameIn (range wayAt from (end - from)) v)
-  unfolding Coded
-  here = next-ways (leftOf left) v ∙ rw (f, g) (ap (λ x. leftIn (firstBy nameIn x v)) (at Coded 50 all-coded left h))
+  unfolding waysFrom codedWays
+  here = next-ways (leftOf left) v ∙ rw (f, g) (ap (λ x. leftIn (firstBy nameIn x v)) (agree waysFrom codedWays 50 all-coded left h))
 
   pub child-known : (k id more : ℕ) → p ≡ Here k → id ≡ numberAt placeName k → more ≡ numberAt placeThen k → Follows v (leftOf left) (Known id more)
   unfolding leftIn wayAt nameIn
@@ -302,68 +203,20 @@ part-named : (k : ℕ) → nameOn (partAt k) ≡ nameOf (numberAt placeName k)
 unfolding nameOn partAt
 part-named k = refl
 
-Listed : ℕ → Type 0
-Listed list = parts (listOf list) (listOf list) ≡ range partAt (numberAt listFrom list) (numberAt listFrom (list + 1) - numberAt listFrom list)
+partsFrom : ℕ → List Part
+partsFrom list = parts (listOf list) (listOf list)
 
-all-listed : AllTo Listed 30
-unfolding Listed parts keep same range partAt listOf lists each elements text nameOf names numberAt wordAt packed listFrom placeName placeThen
-all-listed = (
-  refl,
-  (
-    refl,
-    (
-      refl,
-      (
-        refl,
-        (
-          refl,
-          (
-            refl,
-            (
-              refl,
-              (
-                refl,
-                (
-                  refl,
-                  (
-                    refl,
-                    (
-                      refl,
-                      (
-                        refl,
-                        (
-                          refl,
-                          (
-                            refl,
-                            (
-                              refl,
-                              (
-                                refl,
-                                (
-                                  refl,
-                                  (refl, (refl, (refl, (refl, (refl, (refl, (refl, (refl, (refl, (refl, (refl, (refl, (refl, tt))))))))))))),
-                                ),
-                              ),
-                            ),
-                          ),
-                        ),
-                      ),
-                    ),
-                  ),
-                ),
-              ),
-            ),
-          ),
-        ),
-      ),
-    ),
-  ),
-)
+codedParts : ℕ → List Part
+codedParts list = range partAt (numberAt listFrom list) (numberAt listFrom (list + 1) - numberAt listFrom list)
+
+all-listed : valuesTo partsFrom 30 ≡ valuesTo codedParts 30
+unfolding partsFrom codedParts parts keep same range partAt listOf lists each elements text nameOf names numberAt wordAt packed listFrom placeName placeThen
+all-listed = refl
 
 module _ (v : Text) (list from end : ℕ) (h : list < 30) (f : from ≡ numberAt listFrom list) (g : end ≡ numberAt listFrom (list + 1)) (p : Place) (e : p ≡ placeOf v from (end - from)) where
   these : parts (listOf list) (listOf list) ≡ range partAt from (end - from)
-  unfolding Listed
-  these = rw (f, g) (at Listed 30 all-listed list h)
+  unfolding partsFrom codedParts
+  these = rw (f, g) (agree partsFrom codedParts 30 all-listed list h)
 
   looked : find (listOf list) v ≡ attributeIn (firstBy nameOn (range partAt from (end - from)) v)
   looked = find-parts (listOf list) (listOf list) v ∙ ap (λ x. attributeIn (firstBy nameOn x v)) these

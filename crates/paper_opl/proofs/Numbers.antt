@@ -2,16 +2,19 @@
 -- first declaration, and different names have different numbers.
 use mathlib.Core.Path.{_≡_, refl, sym, ap, _∙_}
 use mathlib.Core.List.{List, [], _∷_, _++_}
-use mathlib.Core.Bool.{false, cond, _&&_, _||_, true≢false}
+use mathlib.Core.Bool.{Bool, true, false, cond, _&&_, _||_, true≢false}
 use Prim.Native.Nat.{ℕ, suc, _+_, _≤_}
 use native.Mathlib.Omega.{arith}
 use lib.Dec.{ltb, leb}
 use lib.ListN.{length}
+use borrow.Author.Tests.{le-leb, lt-leb, le-ltb, lt-ltb}
 use Rattle.paper_lower.specs.Lists.{some, many, add}
 use Rattle.paper_lower.specs.Lists.Maybe.{just}
 use Rattle.paper_lower.proofs.ListLaws.{or-none, or-false}
 use Rattle.paper_opl.specs.Reading.{Text, same}
-use Rattle.paper_opl.specs.Naming.{Space, distinct, placeOf, numberIn}
+use Rattle.paper_opl.specs.Tree.{Elements}
+use Rattle.paper_opl.specs.Naming.{Line, Space, distinct, placeOf, numberIn, namesOf}
+use Rattle.paper_opl.specs.Promises.{HoldsNames, Limits}
 use Rattle.paper_opl.proofs.Inversion.{on-test, on-found, none≢just, just-value}
 use Rattle.paper_opl.proofs.Conforms.{same-true}
 use Rattle.paper_opl.proofs.TreeBack.{same-self}
@@ -42,6 +45,33 @@ number-place sp w k e =
 
 pub numbers-differ : (sp : Space) (v w : Text) (k : ℕ) → numberIn sp v ≡ just k → numberIn sp w ≡ just k → v ≡ w
 numbers-differ sp v w k e f = place-one 0 k v w (sp .declared) (number-place sp v k e) (number-place sp w k f)
+
+-- ---- "a name too long, undeclared or above a limit": all that has no number.
+
+and-none : (b : Bool) → b && false ≡ false
+and-none true = refl
+and-none false = refl
+
+holds-names : (sp : Space) → HoldsNames (sp .limit) sp
+unfolding numberIn
+holds-names sp = record {
+  accepted = λ w k e l h. rw (e, le-leb (length w) 64 l, lt-ltb k (sp .limit) h);
+  too-many = λ w k e h. rw (e, le-ltb k (sp .limit) h, and-none (leb (length w) 64));
+  too-long = λ w l. on-found (placeOf 0 w (sp .declared)) (λ k q. rw (q, lt-leb (length w) 64 l)) (λ q. rw q);
+  undeclared = λ w e. rw e;
+}
+
+pub limits-of-names : (es : Elements) (ls : List Line) → Limits (namesOf es ls)
+unfolding namesOf
+limits-of-names es ls = record {
+  users = holds-names (namesOf es ls .users);
+  roles = holds-names (namesOf es ls .roles);
+  permissions = holds-names (namesOf es ls .permissions);
+  operations = holds-names (namesOf es ls .operations);
+  objects = holds-names (namesOf es ls .objects);
+  tasks = holds-names (namesOf es ls .tasks);
+  templates = holds-names (namesOf es ls .templates);
+}
 
 -- ---- The order of first declaration.
 

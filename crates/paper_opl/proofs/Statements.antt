@@ -1,10 +1,18 @@
 -- The statements of specs/Promises, each proved.
-use Rattle.paper_opl.specs.Promises.{AcceptedYields, RefusalsWriteNothing, ReadExactly, LinesReadExactly, DepthNeverBites, NumbersInOrder, NumbersDiffer}
+use mathlib.Core.Path.{refl}
+use Rattle.paper_opl.specs.Elements.{elements}
+use Rattle.paper_opl.specs.Dtd.{dtdOpen}
+use Rattle.paper_opl.specs.Promises.{ElementsAsPrinted, AcceptedYields, RefusalsWriteNothing, ReadExactly, LinesReadExactly, DepthNeverBites, LimitsOfNames, NumbersInOrder, NumbersDiffer}
 use Rattle.paper_opl.proofs.Accepted.{accepted, refusal-writes-nothing}
 use Rattle.paper_opl.proofs.DocumentLaid.{exactly}
 use Rattle.paper_opl.proofs.LinesBack.{lines-exactly}
 use Rattle.paper_opl.proofs.Depth.{depth-never-bites}
-use Rattle.paper_opl.proofs.Numbers.{first-declared, numbers-differ}
+use Rattle.paper_opl.proofs.Numbers.{limits-of-names, first-declared, numbers-differ}
+
+-- by computing
+pub elements-as-printed : ElementsAsPrinted
+unfolding dtdOpen elements
+elements-as-printed = refl
 
 pub accepted-yields : AcceptedYields
 accepted-yields = accepted
@@ -20,6 +28,9 @@ lines-read-exactly = lines-exactly
 
 pub deep-enough : DepthNeverBites
 deep-enough = depth-never-bites
+
+pub names-within-limits : LimitsOfNames
+names-within-limits = limits-of-names
 
 pub numbers-in-order : NumbersInOrder
 numbers-in-order = first-declared

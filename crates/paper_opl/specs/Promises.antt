@@ -6,16 +6,17 @@ use mathlib.Core.Bool.{false, cond}
 use mathlib.Core.List.{List, [], _∷_, _++_}
 use lib.ListN.{length, drop}
 use Rattle.paper_lower.specs.Lists.{some, many, Every}
-use Rattle.paper_lower.specs.Lists.Maybe.{just}
+use Rattle.paper_lower.specs.Lists.Maybe.{none, just}
 use Rattle.paper_lower.specs.Checks.{GRANTED, first}
 use Rattle.paper_lower.specs.Records.{Bytes, Record, encode}
 use Rattle.paper_lower.specs.Forms.{policyForms, formChecks}
 use Rattle.paper_opl.specs.Reading.{Text, Read, after, same, misc}
 use Rattle.paper_opl.specs.Reading.Read.{got, bad}
 use Rattle.paper_opl.specs.Elements.{elements, one}
+use Rattle.paper_opl.specs.Dtd.{printed, table, accepted}
 use Rattle.paper_opl.specs.Tree.{Elements, opening, element, prolog, DEPTH, document}
 use Rattle.paper_opl.specs.Tree.Elements.{nothing, node}
-use Rattle.paper_opl.specs.Naming.{Line, lines, Space, distinct, placeOf, numberIn, recordsOf, written, translate}
+use Rattle.paper_opl.specs.Naming.{Line, lines, Space, Names, distinct, placeOf, numberIn, namesOf, recordsOf, written, translate}
 use Rattle.paper_opl.specs.Layout.{WrittenFrom, LinesFrom}
 
 -- ---- "Accepted text always yields a policy of well-shaped records that says what the elements say".
@@ -45,6 +46,15 @@ pub record Yield (s t : Text) (out : Bytes) : Type 0 where
   pub answer-is :
       translate s t out ≡ record { reply = GRANTED; place = 0; which = 0; count = many records; output = written records ++ drop (length (written records)) out }
 
+-- ---- "NAMES (22) for a name too long, undeclared or above a limit"
+
+-- a space gives numbers to names of up to 64 bytes, and to n of them: which is declared at which place, `placeOf` tells
+pub record HoldsNames (n : ℕ) (sp : Space) : Type 0 where
+  pub accepted : (w : Text) (k : ℕ) → placeOf 0 w (sp .declared) ≡ just k → length w ≤ 64 → k < n → numberIn sp w ≡ just k
+  pub too-many : (w : Text) (k : ℕ) → placeOf 0 w (sp .declared) ≡ just k → n ≤ k → numberIn sp w ≡ none
+  pub too-long : (w : Text) → 64 < length w → numberIn sp w ≡ none
+  pub undeclared : (w : Text) → placeOf 0 w (sp .declared) ≡ none → numberIn sp w ≡ none
+
 -- ---- "down to depth 8"
 
 -- the document with another limit of depth
@@ -54,6 +64,10 @@ documentTo depth s =
     after (misc (length z) z) (λ _ y. cond (same y []) (got (node (c .name) (e .given) (e .elements) nothing) y) (bad y)))))
 
 -- ---- The statements.
+
+-- The table of elements is what document 000 prints, less sssod and ssodp.
+abbrev pub ElementsAsPrinted : Type 0
+ElementsAsPrinted = accepted (table printed) ≡ just elements
 
 -- "Accepted text always yields a policy of well-shaped records that says what the elements say"
 abbrev pub AcceptedYields : Type 0
@@ -75,6 +89,19 @@ LinesReadExactly = (t : Text) (ls : List Line) → lines (length t) t ≡ got ls
 -- "down to depth 8": no text is refused, or read otherwise, for that limit
 abbrev pub DepthNeverBites : Type 0
 DepthNeverBites = (d : ℕ) (s : Text) → DEPTH ≤ d → documentTo d s ≡ document s
+
+-- "Users 0 to 1,023. Roles 0 to 63. Permissions 0 to 255. Tasks 0 to 63. Templates 0 to 15." "Operations and objects: any 16-bit number."
+pub record Limits (ns : Names) : Type 0 where
+  pub users : HoldsNames 1024 (ns .users)
+  pub roles : HoldsNames 64 (ns .roles)
+  pub permissions : HoldsNames 256 (ns .permissions)
+  pub operations : HoldsNames 65536 (ns .operations)
+  pub objects : HoldsNames 65536 (ns .objects)
+  pub tasks : HoldsNames 64 (ns .tasks)
+  pub templates : HoldsNames 16 (ns .templates)
+
+abbrev pub LimitsOfNames : Type 0
+LimitsOfNames = (es : Elements) (ls : List Line) → Limits (namesOf es ls)
 
 -- "Names up to 64 bytes get numbers in order of first declaration": how many different names were declared before it
 abbrev pub NumbersInOrder : Type 0

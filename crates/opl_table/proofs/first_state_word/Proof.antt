@@ -5,39 +5,16 @@ use Rattle.opl_table.specs.Numbers.{firstState, packed, wordAt}
 use Rattle.opl_table.proofs.first_state_word.Statement.{statement}
 use Rattle.opl_table.proofs.first_state_word.Tie as tie
 
-returns : tie.Need-returns
-unfolding firstState wordAt packed
-returns c = rw (c .match .keys1)
-
-returns-2 : tie.Need-returns-2
-unfolding firstState wordAt packed
-returns-2 c = rw (c .match .keys2)
-
-returns-3 : tie.Need-returns-3
-unfolding firstState wordAt packed
-returns-3 c = rw (c .match .keys3)
-
-returns-4 : tie.Need-returns-4
-unfolding firstState wordAt packed
-returns-4 c = rw (c .match .keys4)
-
-returns-5 : tie.Need-returns-5
-unfolding firstState wordAt packed
-returns-5 c = rw (c .match .keys5)
-
-returns-6 : tie.Need-returns-6
-unfolding firstState wordAt packed
-returns-6 c = rw (c .match .keys6)
-
-returns-7 : tie.Need-returns-7
-unfolding firstState wordAt packed
-returns-7 c = rw (c .match .keys7)
-
-returns-8 : tie.Need-returns-8
-unfolding firstState
-returns-8 c = let h = apart 7 (c .before .args .j) (c .match .rest) in past firstState (c .before .args .j) (omega arith)
-
 pub first-state-word-spec : {M : Type 1} → statement M
+unfolding firstState wordAt packed
 first-state-word-spec =
     tie.close
-    (tie.spec returns returns-2 returns-3 returns-4 returns-5 returns-6 returns-7 returns-8)
+    (tie.spec
+    (λ c. rw (c .match .keys1))
+    (λ c. rw (c .match .keys2))
+    (λ c. rw (c .match .keys3))
+    (λ c. rw (c .match .keys4))
+    (λ c. rw (c .match .keys5))
+    (λ c. rw (c .match .keys6))
+    (λ c. rw (c .match .keys7))
+    (λ c. let h = apart 7 (c .before .args .j) (c .match .rest) in past firstState (c .before .args .j) (omega arith)))
