@@ -124,6 +124,15 @@ impl Names {
         }
     }
 
+    /// Takes a number's name away; whether it had one.
+    pub fn end(&mut self, sort: Sort, number: u16) -> bool {
+        let Some(name) = self.names.remove(&(sort, number)) else {
+            return false;
+        };
+        self.numbers.remove(&(sort, name));
+        true
+    }
+
     /// The same in a policy, where a name stands for one number and a number has one name; or what is the matter.
     pub fn give_once(&mut self, naming: &Naming) -> Result<(), String> {
         let Naming { sort, number, .. } = *naming;

@@ -265,9 +265,19 @@ fn serve() -> Command {
                 .conflicts_with("journal"),
         )
         .arg(socket("Where clients come: a Unix socket"))
+        .arg(value("socket-mode", "MODE", "The socket's mode in octal digits; 0600, its owner alone, where it is missing"))
+        .arg(value("socket-group", "GROUP", "The socket's group"))
+        .arg(
+            value("access", "FILE", "Which account may ask what; without it the server's own account and root ask everything, and nobody else comes in")
+                .value_hint(ValueHint::FilePath),
+        )
         .arg(number("group", "How many requests go into one transaction at most; 4096 where it is missing"))
         .arg(number("snapshot", "Take a snapshot after so many requests; 100000 where it is missing"))
         .arg(number("clients", "How many clients there may be at once; 1000 where it is missing"))
+        .arg(number("account-clients", "How many clients of one account there may be at once; half of all where it is missing"))
+        .arg(number("question-seconds", "How many seconds a question (who, finish, why) may take; 5 where it is missing"))
+        .arg(number("question-megabytes", "How much memory a question may take; 32 where it is missing"))
+        .arg(flag("together", "Where one desk's journal fails, end all desks"))
         .arg(
             Arg::new("saved")
                 .long("saved")
@@ -298,8 +308,17 @@ fn socket(help: &'static str) -> Arg {
 fn ask() -> Command {
     Command::new("ask")
         .about("Send requests to a desk that is served, and print its replies")
+        .long_about(
+            "Sends lines to a desk and prints a reply for each: its number, the reply, and the figures of a question. A line may be a \
+             request, or one of the questions `who ORDER TASK`, `finish ORDER`, `finish all`, `why REQUEST` and `journal`. Whom the desk \
+             takes the sender for is the system's word: the account that runs this program.",
+        )
         .arg(socket("The server's socket"))
         .arg(value("desk", "NAME", "Which desk, where there are several"))
+        .arg(value("as", "ACCOUNT", "The account that is spoken for: allowed to accounts that speak for everyone"))
+        .arg(flag("why", "Explain each refusal, as `run` does"))
+        .arg(flag("strict", "Exit status 1 where a request is refused"))
+        .arg(flag("json", "One object a line"))
         .arg(
             Arg::new("lines")
                 .value_name("LINE")
@@ -308,10 +327,12 @@ fn ask() -> Command {
                 .help("Requests, a line each; standard input where there is none"),
         )
         .after_help(concat!(
-            "Example:\n",
+            "Examples:\n",
             "  mishantral ask --socket desk.sock 'claim 1 7 sign' 'done 1 7 sign'\n",
+            "  mishantral ask --socket desk.sock --why 'claim 1 7 sign'\n",
             "\n",
-            "Exit status: 0 answered, whatever the replies; 2 otherwise.",
+            "Exit status: 0 answered, whatever the replies; 1 with --strict, where one is a refusal; 2 where a line is wrong, barred or not \
+             done, or the desk cannot be reached.",
         ))
 }
 
@@ -325,13 +346,22 @@ fn journal() -> Command {
         .arg(
             Arg::new("file")
                 .value_name("FILE")
-                .required(true)
+                .required_unless_present("socket")
                 .value_hint(ValueHint::FilePath)
                 .help("The journal"),
         )
-        .arg(value("order", "ORDER", "Requests about this order, by number or name"))
+        .arg(
+            socket("Read it through the desk that is served here: for accounts that may read it, and cannot open its file")
+                .required(false)
+                .conflicts_with_all(["file", "check"]),
+        )
+        .arg(value("desk", "NAME", "With --socket, which desk, where there are several").requires("socket"))
+        .arg(value("order", "ORDER", "Requests about this order: by number, or every opening that had the name"))
+        .arg(number("opening", "Requests about the order that this request opened"))
         .arg(value("user", "USER", "Requests about this user, or one of the user's subjects"))
         .arg(value("task", "TASK", "Requests about this task"))
+        .arg(value("account", "ACCOUNT", "Requests of this account"))
+        .arg(flag("barred", "What accounts asked and may not, in the place of requests"))
         .arg(value("reply", "REPLY", "With this reply, by number or name; `refused`: all but GRANTED"))
         .arg(value("since", "TIME", "From this time on, UTC: 2026-11-15, or '2026-11-15 20:31'"))
         .arg(value("until", "TIME", "Before this time"))

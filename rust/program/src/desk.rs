@@ -127,6 +127,11 @@ impl Desk {
         stuck.members().map(u16::from)
     }
 
+    /// The answer to one request, of any bytes, on a copy.
+    pub fn tried_bytes(&self, record: &[u8]) -> Answer {
+        self.engine.clone().request(record)
+    }
+
     /// The answers to these requests one after the other, on a copy; the last of them.
     pub fn tried(&self, records: &[Record]) -> Answer {
         let mut copy = self.engine.clone();

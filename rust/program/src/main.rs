@@ -11,6 +11,7 @@ mod finish;
 mod journal;
 mod manual;
 mod prompt;
+mod report;
 mod run;
 mod serve;
 mod source;
@@ -145,6 +146,20 @@ fn desks(given: &ArgMatches) -> Result<Vec<serve::Wanted>, Stop> {
     named.iter().map(one).collect()
 }
 
+/// The socket's mode, in octal digits.
+fn mode(given: &ArgMatches) -> Result<u32, Stop> {
+    let Some(digits) = text(given, "socket-mode") else {
+        return Ok(0o600);
+    };
+    let mode = u32::from_str_radix(digits, 8);
+    match mode.ok().filter(|mode| mode & !0o777 == 0) {
+        Some(mode) => Ok(mode),
+        None => wrong(format!(
+            "--socket-mode {digits}: octal digits are expected, as 0660"
+        )),
+    }
+}
+
 fn serve(given: &ArgMatches, out: &mut dyn Write) -> Done {
     let number = |name: &str, usual: u64| given.get_one::<u64>(name).copied().unwrap_or(usual);
     let policy = match text(given, "policy") {
@@ -154,7 +169,12 @@ fn serve(given: &ArgMatches, out: &mut dyn Write) -> Done {
     let options = serve::Options {
         desks: desks(given)?,
         policy,
-        socket: text(given, "socket").unwrap_or_default().to_string(),
+        socket: serve::Socket {
+            path: text(given, "socket").unwrap_or_default().to_string(),
+            mode: mode(given)?,
+            group: text(given, "socket-group").map(String::from),
+        },
+        access: text(given, "access").map(String::from),
         group: number("group", 4096) as usize,
         snapshot: number("snapshot", 100_000) as i64,
         saved: match text(given, "saved") {
@@ -162,11 +182,48 @@ fn serve(given: &ArgMatches, out: &mut dyn Write) -> Done {
             _ => Saved::Full,
         },
         clients: number("clients", 1000) as usize,
+        clients_each: given
+            .get_one::<u64>("account-clients")
+            .map(|&count| count as usize),
+        questions: serve::Allowed {
+            seconds: number("question-seconds", 5),
+            bytes: number("question-megabytes", 32) as usize * 1_000_000,
+        },
+        together: given.get_flag("together"),
     };
     serve::serve(&options, out)
 }
 
+/// A journal read through its desk, with the options in the place of words.
+fn journal_of_desk(given: &ArgMatches, socket: &str, out: &mut dyn Write) -> Done {
+    let mut filter: Vec<(&str, String)> = Vec::new();
+    for name in [
+        "order", "user", "task", "account", "reply", "since", "until",
+    ] {
+        filter.extend(text(given, name).map(|value| (name, value.to_string())));
+    }
+    for name in ["opening", "last"] {
+        let value = given.get_one::<u64>(name);
+        filter.extend(value.map(|value| (name, value.to_string())));
+    }
+    if given.get_flag("barred") {
+        filter.push(("barred", String::new()));
+    }
+    let options = ask::Options {
+        socket,
+        desk: text(given, "desk"),
+        account: None,
+        json: given.get_flag("json"),
+        why: false,
+        strict: false,
+    };
+    ask::journal(&options, &filter, out)
+}
+
 fn journal(given: &ArgMatches, out: &mut dyn Write) -> Done {
+    if let Some(socket) = text(given, "socket") {
+        return journal_of_desk(given, socket, out);
+    }
     let file = text(given, "file").unwrap_or_default();
     if given.get_flag("check") {
         return journal::check(file, out);
@@ -174,12 +231,15 @@ fn journal(given: &ArgMatches, out: &mut dyn Write) -> Done {
     let word = |name: &str| text(given, name).map(String::from);
     let filter = journal::Filter {
         order: word("order"),
+        opening: given.get_one::<u64>("opening").map(|&n| n as i64),
         user: word("user"),
         task: word("task"),
+        account: word("account"),
         reply: word("reply"),
         since: word("since"),
         until: word("until"),
         last: given.get_one::<u64>("last").map(|&count| count as usize),
+        barred: given.get_flag("barred"),
         json: given.get_flag("json"),
     };
     journal::list(file, &filter, out)
@@ -188,17 +248,16 @@ fn journal(given: &ArgMatches, out: &mut dyn Write) -> Done {
 /// A desk as a journal leaves it.
 fn stood(given: &ArgMatches) -> Result<Desk, Stop> {
     let found = journal::found(text(given, "journal").unwrap_or_default(), false)?;
-    Ok(Desk::at(&found.policy, found.names, found.engine))
+    Ok(Desk::at(&found.policy, found.live.names, found.engine))
 }
 
 fn finish(given: &ArgMatches, out: &mut dyn Write) -> Done {
     let desk = stood(given)?;
+    let tries = given.get_one::<u64>("tries").copied();
+    let budget = finish::Budget::of_tries(tries.unwrap_or(finish::TRIES));
     let options = finish::Options {
         list: text(given, "with"),
-        bound: given
-            .get_one::<u64>("tries")
-            .copied()
-            .unwrap_or(finish::TRIES),
+        budget: &budget,
         json: given.get_flag("json"),
     };
     match text(given, "order") {
@@ -228,8 +287,15 @@ fn done(out: &mut dyn Write) -> Done {
         Some(("mend", given)) => mend(given, out),
         Some(("serve", given)) => serve(given, out),
         Some(("ask", given)) => {
-            let socket = text(given, "socket").unwrap_or_default();
-            ask::ask(socket, text(given, "desk"), &words(given, "lines"), out)
+            let options = ask::Options {
+                socket: text(given, "socket").unwrap_or_default(),
+                desk: text(given, "desk"),
+                account: text(given, "as"),
+                json: given.get_flag("json"),
+                why: given.get_flag("why"),
+                strict: given.get_flag("strict"),
+            };
+            ask::ask(&options, &words(given, "lines"), out)
         }
         Some(("journal", given)) => journal(given, out),
         Some(("who", given)) => {
@@ -251,9 +317,7 @@ fn done(out: &mut dyn Write) -> Done {
 
 fn told(out: &mut dyn Write, lines: Vec<String>, status: u8) -> ExitCode {
     let _ = out.flush();
-    for line in lines {
-        eprintln!("mishantral: {line}");
-    }
+    lines.iter().for_each(report::report);
     status.into()
 }
 

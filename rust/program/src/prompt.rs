@@ -231,9 +231,10 @@ fn who(desk: &Desk, order: &str, task: &str) -> String {
 
 fn finish(desk: &Desk, order: &str) -> Result<String, Stop> {
     let mut text = Vec::new();
+    let budget = crate::finish::Budget::of_tries(crate::finish::TRIES);
     let options = crate::finish::Options {
         list: None,
-        bound: crate::finish::TRIES,
+        budget: &budget,
         json: false,
     };
     match crate::finish::finish_one(desk, order, &options, &mut text) {

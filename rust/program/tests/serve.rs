@@ -1,5 +1,8 @@
 //! The served desk as its clients have it: forms, order, names, restarts, and what a journal that is not fit is answered.
 
+mod common;
+
+use common::{mishantral, room, run, Server, POLICY};
 use rusqlite::Connection;
 use serde_json::Value;
 use std::fs;
@@ -7,121 +10,7 @@ use std::io::{BufRead, BufReader, Read, Write};
 use std::net::Shutdown;
 use std::os::unix::net::UnixStream;
 use std::path::{Path, PathBuf};
-use std::process::{Child, Command, Stdio};
-
-fn root() -> PathBuf {
-    let root = Path::new(env!("CARGO_MANIFEST_DIR")).join("../..");
-    root.canonicalize().unwrap()
-}
-
-fn mishantral(arguments: &[&str]) -> Command {
-    let mut command = Command::new(env!("CARGO_BIN_EXE_mishantral"));
-    command.args(arguments).current_dir(root());
-    command
-}
-
-/// What it writes, what it tells and its exit status. A server that should have been refused is ended after a while.
-fn run(arguments: &[&str]) -> (String, String, i32) {
-    let mut command = mishantral(arguments);
-    command
-        .stdin(Stdio::null())
-        .stdout(Stdio::piped())
-        .stderr(Stdio::piped());
-    let mut child = command.spawn().unwrap();
-    let read = |from: Option<Box<dyn Read + Send>>| {
-        let mut from = from.unwrap();
-        std::thread::spawn(move || {
-            let mut text = String::new();
-            from.read_to_string(&mut text).unwrap();
-            text
-        })
-    };
-    let out = read(
-        child
-            .stdout
-            .take()
-            .map(|out| Box::new(out) as Box<dyn Read + Send>),
-    );
-    let err = read(
-        child
-            .stderr
-            .take()
-            .map(|err| Box::new(err) as Box<dyn Read + Send>),
-    );
-    for _ in 0..600 {
-        if child.try_wait().unwrap().is_some() {
-            break;
-        }
-        std::thread::sleep(std::time::Duration::from_millis(50));
-    }
-    let _ = child.kill();
-    let status = child.wait().unwrap().code().unwrap_or(-1);
-    (out.join().unwrap(), err.join().unwrap(), status)
-}
-
-/// A folder of its own, with a short name: that of a socket has 107 bytes at most.
-fn room(name: &str) -> PathBuf {
-    let room = std::env::temp_dir().join(format!("mishantral-{name}-{}", std::process::id()));
-    let _ = fs::remove_dir_all(&room);
-    fs::create_dir_all(&room).unwrap();
-    room
-}
-
-/// A server, which is killed when this goes: that is how one ends.
-struct Server {
-    child: Child,
-    socket: PathBuf,
-    told: Vec<String>,
-}
-
-impl Server {
-    fn start(room: &Path, more: &[&str]) -> Server {
-        let (journal, socket) = (room.join("desk.db"), room.join("desk.sock"));
-        let mut all = vec!["serve", "--journal", journal.to_str().unwrap()];
-        all.extend(["--socket", socket.to_str().unwrap()]);
-        all.extend(more);
-        let mut child = mishantral(&all).stdout(Stdio::piped()).spawn().unwrap();
-        let mut told = Vec::new();
-        for line in BufReader::new(child.stdout.take().unwrap()).lines() {
-            let line = line.unwrap();
-            let last = line.starts_with("serving on ");
-            told.push(line);
-            if last {
-                return Server {
-                    child,
-                    socket,
-                    told,
-                };
-            }
-        }
-        let ended = child.wait();
-        panic!("the server did not start, {ended:?}: {told:?}");
-    }
-
-    /// Sends bytes, ends, and reads what comes.
-    fn ask(&self, bytes: &[u8]) -> Vec<u8> {
-        let mut stream = UnixStream::connect(&self.socket).unwrap();
-        stream.write_all(bytes).unwrap();
-        stream.shutdown(Shutdown::Write).unwrap();
-        let mut replies = Vec::new();
-        stream.read_to_end(&mut replies).unwrap();
-        replies
-    }
-
-    fn lines(&self, text: &str) -> Vec<String> {
-        let replies = String::from_utf8(self.ask(text.as_bytes())).unwrap();
-        replies.lines().map(String::from).collect()
-    }
-}
-
-impl Drop for Server {
-    fn drop(&mut self) {
-        self.child.kill().unwrap();
-        self.child.wait().unwrap();
-    }
-}
-
-const POLICY: &str = "examples/named.txt";
+use std::process::Stdio;
 
 #[test]
 fn lines_objects_and_records_are_answered_and_kept() {
@@ -165,13 +54,13 @@ fn lines_objects_and_records_are_answered_and_kept() {
     let (listed, _, status) = run(&["journal", journal]);
     assert_eq!((listed.lines().count(), status), (8, 0));
     assert!(
-        listed.lines().next().unwrap().ends_with(
-            "  0 GRANTED       anna          create subject am for user anna with roles fitter"
+        listed.lines().next().unwrap().contains(
+            "  0 GRANTED       anna          create subject am for user anna with roles fitter  (subject 1, by "
         ),
         "{listed}"
     );
     assert!(
-        listed.contains("11 NO ROLE       anna          claim am mill sign"),
+        listed.contains("11 NO ROLE       anna          claim am mill sign  (subject 1, order 7, opening 2, by "),
         "{listed}"
     );
     let picked = |more: &[&str]| {
@@ -301,7 +190,7 @@ fn what_is_not_fit_is_refused_and_stays_as_it_is() {
             .unwrap();
         refused(&[], expected, sql);
     };
-    damaged("PRAGMA user_version = 2", "it is of version 2");
+    damaged("PRAGMA user_version = 1", "it is of version 1");
     damaged("PRAGMA application_id = 7", "no journal");
     damaged(
         "UPDATE journal SET orders_words = 2000",
@@ -384,36 +273,32 @@ fn a_reply_that_would_be_another_stops_the_server() {
     );
 }
 
-/// The sum that a row without names should have behind the one before it, as docs/SERVE.md tells it.
+/// The sum that a row without names and without a gateway should have behind the one before it, as docs/SERVE.md tells it.
 fn row_sum(sql: &Connection, number: i64) -> i64 {
-    let before: i64 = sql
-        .query_row(
-            "SELECT sum FROM request WHERE number = ?1",
-            [number - 1],
-            |r| r.get(0),
-        )
-        .unwrap();
-    let select = "SELECT number, at, client, coalesce(user, -1), kind, n, a, b, c, m, reply, place FROM request WHERE number = ?1";
-    let mut fields = [0i64; 12];
-    sql.query_row(select, [number], |row| {
-        for (place, field) in fields.iter_mut().enumerate() {
-            *field = row.get(place)?;
-        }
-        Ok(())
-    })
-    .unwrap();
-    let mut bytes = (before as u32).to_le_bytes().to_vec();
-    for field in &fields[..4] {
-        bytes.extend(field.to_le_bytes());
+    let one = |select: &str, number: i64| -> i64 {
+        let select = format!("SELECT {select} FROM request WHERE number = ?1");
+        sql.query_row(&select, [number], |r| r.get(0)).unwrap()
+    };
+    let of = |field: &str| one(field, number);
+    let account = "SELECT account FROM request WHERE number = ?1";
+    let account: String = sql.query_row(account, [number], |r| r.get(0)).unwrap();
+    let mut bytes = (one("sum", number - 1) as u32).to_le_bytes().to_vec();
+    for field in ["number", "at", "client"] {
+        bytes.extend(of(field).to_le_bytes());
     }
+    bytes.extend((account.len() as i64).to_le_bytes());
+    bytes.extend(account.as_bytes());
+    bytes.extend(0i64.to_le_bytes());
+    bytes.extend(of("coalesce(user, -1)").to_le_bytes());
     bytes.extend(16i64.to_le_bytes());
-    bytes.extend([fields[4] as u8, fields[5] as u8]);
-    for field in &fields[6..9] {
-        bytes.extend((*field as u16).to_le_bytes());
+    bytes.extend([of("kind") as u8, of("n") as u8]);
+    for field in ["a", "b", "c"] {
+        bytes.extend((of(field) as u16).to_le_bytes());
     }
-    bytes.extend(fields[9].to_le_bytes());
-    bytes.push(fields[10] as u8);
-    bytes.extend((fields[11] as u16).to_le_bytes());
+    bytes.extend(of("m").to_le_bytes());
+    bytes.push(of("reply") as u8);
+    bytes.extend((of("place") as u16).to_le_bytes());
+    bytes.extend(of("coalesce(opening, 0)").to_le_bytes());
     let whole = bytes.iter().fold(0xcbf2_9ce4_8422_2325u64, |sum, &byte| {
         (sum ^ u64::from(byte)).wrapping_mul(0x100_0000_01b3)
     });
@@ -519,7 +404,8 @@ fn who_and_finish_are_asked_of_a_journal_and_of_a_server() {
         granted.iter().all(|line| line.ends_with(" 0 GRANTED")),
         "{said:?}"
     );
-    assert!(last.contains("is not open"), "{last}");
+    // A name ends with its order.
+    assert!(last.contains("there is no order \"mill\""), "{last}");
     let (told, _, status) = asked(&["finish", "--all", "--tries", "1"]);
     assert_eq!(
         (told.contains("0 open orders"), status),

@@ -1,6 +1,7 @@
 //! `finish`: whether those signed in, or a list of users, can still finish an order; with a plan whose every step the engine grants on a
 //! copy of the state, or why there is none. And `who`: whose claim would be granted now.
 
+mod budget;
 mod people;
 mod plan;
 mod search;
@@ -8,6 +9,7 @@ mod tell;
 #[cfg(test)]
 mod trials;
 
+pub use budget::{Budget, Spent};
 pub use tell::{finish_all, finish_one, who, Options};
 
 use crate::desk::Desk;
@@ -27,8 +29,8 @@ pub enum Verdict {
     /// These requests finish it.
     Plan(Vec<Record>),
     Never(Why),
-    /// So many claims were tried, which is the bound.
-    Open(u64),
+    /// What a search may take was spent.
+    Open(Spent),
     /// The order is not open.
     Closed,
 }
@@ -50,7 +52,9 @@ pub struct Asked<'a> {
     pub desk: &'a Desk,
     pub order: u16,
     pub users: &'a [u16],
+    /// How many claims are tried at most.
     pub bound: u64,
+    pub budget: &'a Budget,
 }
 
 /// The tasks of a template as a set.
@@ -133,15 +137,17 @@ impl Asked<'_> {
         if people.all.is_empty() && !all_done {
             return (Verdict::Never(Why::Nobody), 0);
         }
-        let mut search = Search::new(people, self.order, tasks, held, free(self.desk), self.bound);
+        let free = free(self.desk);
+        let bounds = (self.bound, self.budget);
+        let mut search = Search::new(people, self.order, tasks, held, free, bounds);
         let verdict = match search.run(&people.engine) {
             Outcome::Plan(held, choices) => {
                 let plan = plan::plan(self.desk.engine(), people, self.order, &held, &choices);
-                plan.map_or(Verdict::Open(search.tries), Verdict::Plan)
+                plan.map_or(Verdict::Open(Spent::Tries), Verdict::Plan)
             }
             Outcome::Never(Some(lack)) => Verdict::Never(Why::Lack(Box::new(lack))),
             Outcome::Never(None) => Verdict::Never(Why::Nobody),
-            Outcome::Open => Verdict::Open(search.tries),
+            Outcome::Open(spent) => Verdict::Open(spent),
         };
         (verdict, search.tries)
     }
@@ -159,6 +165,9 @@ impl Asked<'_> {
         let (mut enough, mut settled) = (Vec::new(), true);
         let mut classes: std::collections::BTreeMap<(u64, u64), Vec<u16>> = Default::default();
         for &user in &others {
+            if self.budget.spent(0).is_some() {
+                return (enough, false);
+            }
             let one = People::of(self.desk.engine(), &records, &[user], self.order);
             let roles = self.desk.told.roles_of(user).0;
             // Someone without a session is like others with the same roles and entries.
@@ -196,6 +205,9 @@ impl Asked<'_> {
             return Vec::new();
         };
         let enough = |role: &u8| {
+            if self.budget.spent(0).is_some() {
+                return false;
+            }
             let mut engine = self.desk.engine().clone();
             let add = Record::add_user_with(user, Set::of(&[*role]));
             if !engine.request(&add).is_granted() {

@@ -5,6 +5,7 @@
 //! followed by done at once; what is held is done or released first; and the order in which tasks are done is left to BEFORE, which
 //! the copies are without and the plan is made for (`plan`). Of those who are alike to every rule (`people`) one is tried.
 
+use super::budget::{Budget, Spent};
 use super::people::{active, assigned, People, Person};
 use mishantral::{Answer, Engine};
 use records::{Record, Reply, Set};
@@ -48,11 +49,11 @@ pub struct Lack {
 pub enum Outcome {
     Plan(Vec<Held>, Vec<Choice>),
     Never(Option<Lack>),
-    /// The bound was reached.
-    Open,
+    /// What it may take was spent.
+    Open(Spent),
 }
 
-pub struct Search {
+pub struct Search<'a> {
     order: u16,
     /// The tasks of the order's template, and those of them that are done.
     tasks: u64,
@@ -63,25 +64,31 @@ pub struct Search {
     free: u64,
     pub tries: u64,
     bound: u64,
+    budget: &'a Budget,
     /// Where it stood when it failed, since what is held was settled; and the tasks that people had then.
     failed: HashSet<Vec<u64>>,
+    /// How many bytes that takes.
+    kept: usize,
     start: Vec<u64>,
     lack: Option<Lack>,
     path: Vec<Choice>,
 }
 
-/// The bound is reached.
-struct Bound;
+/// What the search may take is spent.
+struct Bound(Spent);
 
-impl Search {
+/// How many claims are tried between two looks at the budget.
+const BETWEEN: u64 = 16;
+
+impl<'a> Search<'a> {
     pub fn new(
         people: &People,
         order: u16,
         tasks: u64,
         held: Vec<Held>,
         free: u64,
-        bound: u64,
-    ) -> Search {
+        (bound, budget): (u64, &'a Budget),
+    ) -> Search<'a> {
         Search {
             order,
             tasks,
@@ -91,7 +98,9 @@ impl Search {
             free,
             tries: 0,
             bound,
+            budget,
             failed: HashSet::new(),
+            kept: 0,
             start: Vec::new(),
             lack: None,
             path: Vec::new(),
@@ -106,7 +115,7 @@ impl Search {
         match self.holders(&engine, 0) {
             Ok(true) => Outcome::Plan(self.held.clone(), self.path.clone()),
             Ok(false) => Outcome::Never(self.lack.take()),
-            Err(Bound) => Outcome::Open,
+            Err(Bound(spent)) => Outcome::Open(spent),
         }
     }
 
@@ -132,6 +141,7 @@ impl Search {
             let left = self.tasks & !self.finished;
             self.start = self.people.iter().map(|person| person.has).collect();
             self.failed.clear();
+            self.kept = 0;
             return self.given_out(engine, left);
         };
         let (bit, before) = (1u64 << task, self.finished);
@@ -219,6 +229,7 @@ impl Search {
             self.path.pop();
             self.people[choice.person] = person;
         }
+        self.kept += 64 + 8 * standing.len();
         self.failed.insert(standing);
         Ok(false)
     }
@@ -318,7 +329,12 @@ impl Search {
     fn claimed(&mut self, engine: &mut Engine, subject: u16, task: u16) -> Result<Answer, Bound> {
         self.tries += 1;
         if self.tries > self.bound {
-            return Err(Bound);
+            return Err(Bound(Spent::Tries));
+        }
+        if self.tries.is_multiple_of(BETWEEN) {
+            self.budget
+                .spent(self.kept)
+                .map_or(Ok(()), |s| Err(Bound(s)))?;
         }
         let answer = engine.request(&Record::claim(subject, self.order, task));
         if answer.is_granted() {

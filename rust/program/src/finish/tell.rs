@@ -2,7 +2,7 @@
 
 use super::people::People;
 use super::search::Lack;
-use super::{Asked, Verdict, Why};
+use super::{Asked, Budget, Spent, Verdict, Why};
 use crate::desk::{joined, Desk};
 use crate::names::Sort;
 use crate::stop::{Done, Stop, REFUSED, WELL};
@@ -56,10 +56,20 @@ impl Finding {
                 let line = |step: &Record| writer::line(&step.0, &desk.names);
                 finding.plan = steps.iter().map(line).collect();
             }
-            Verdict::Open(tries) => {
+            Verdict::Open(spent) => {
                 finding.verdict = "open";
+                let why = match spent {
+                    Spent::Tries => "which is the bound (--tries)".to_string(),
+                    Spent::Time(seconds) => {
+                        format!("and the {seconds} s that a question has are over")
+                    }
+                    Spent::Room(bytes) => {
+                        format!("and the {bytes} bytes that a question has are used")
+                    }
+                    Spent::Gone => "and nobody waits for the answer any more".to_string(),
+                };
                 finding.because = vec![format!(
-                    "{tries} claims were tried, which is the bound (--tries): whether it can be finished is not settled"
+                    "{tries} claims were tried, {why}: whether it can be finished is not settled"
                 )];
             }
             Verdict::Closed => {
@@ -223,7 +233,7 @@ fn users(desk: &Desk, list: Option<&str>) -> Result<(Vec<u16>, String), Stop> {
 /// How it is asked and shown.
 pub struct Options<'a> {
     pub list: Option<&'a str>,
-    pub bound: u64,
+    pub budget: &'a Budget,
     pub json: bool,
 }
 
@@ -237,7 +247,8 @@ pub fn finish_one(desk: &Desk, word: &str, options: &Options, out: &mut dyn Writ
         desk,
         order,
         users: &users,
-        bound: options.bound,
+        bound: options.budget.tries,
+        budget: options.budget,
     });
     match options.json {
         true => writeln!(out, "{}", finding.object())?,
@@ -250,12 +261,18 @@ pub fn finish_one(desk: &Desk, word: &str, options: &Options, out: &mut dyn Writ
 pub fn finish_all(desk: &Desk, options: &Options, out: &mut dyn Write) -> Done {
     let (users, who) = users(desk, options.list)?;
     let (mut can, mut lie) = (0, 0);
+    let mut left = desk.told.orders.len();
     for &order in desk.told.orders.keys() {
+        if options.budget.spent(0).is_some() {
+            break;
+        }
+        left -= 1;
         let finding = Finding::of(&Asked {
             desk,
             order,
             users: &users,
-            bound: options.bound,
+            bound: options.budget.tries,
+            budget: options.budget,
         });
         match finding.is_yes() {
             true => can += 1,
@@ -266,6 +283,14 @@ pub fn finish_all(desk: &Desk, options: &Options, out: &mut dyn Write) -> Done {
             (false, true) => {}
             (false, false) => writeln!(out, "{}", finding.lines(desk, &who).join("\n"))?,
         }
+    }
+    if left > 0 {
+        let why = "what a question may take is spent";
+        match options.json {
+            true => writeln!(out, "{}", json!({"not_looked_at": left, "because": why}))?,
+            false => writeln!(out, "{left} open orders were not looked at: {why}")?,
+        }
+        lie += left;
     }
     if !options.json {
         writeln!(out, "{can} open orders can be finished by {who}, each by itself; {lie} cannot, or are not settled")?;

@@ -208,6 +208,7 @@ fn verdict(desk: &Desk, users: &[u16]) -> bool {
         order: 0,
         users,
         bound: TRIES,
+        budget: &super::Budget::of_tries(TRIES),
     })
     .verdict()
     .0

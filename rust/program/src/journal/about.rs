@@ -44,15 +44,23 @@ impl About {
         }
     }
 
-    /// The field of a sort, by its name in the tables.
-    pub fn column(&self, sort: Sort) -> Option<&'static str> {
-        let field = match sort {
+    fn field(&self, sort: Sort) -> Option<Field> {
+        match sort {
             Sort::User => self.user,
             Sort::Subject => self.subject,
             Sort::Order => self.order,
             _ => self.task,
-        };
-        match field? {
+        }
+    }
+
+    /// The number of a sort that a record of this kind has.
+    pub fn number(&self, sort: Sort, record: &Record) -> Option<u16> {
+        u16::try_from(self.field(sort)?.of(*record)).ok()
+    }
+
+    /// The field of a sort, by its name in the tables.
+    pub fn column(&self, sort: Sort) -> Option<&'static str> {
+        match self.field(sort)? {
             Field::A => Some("a"),
             Field::B => Some("b"),
             Field::C => Some("c"),
@@ -70,11 +78,15 @@ pub fn about(kind: u8) -> About {
 /// The user whom a request names, or whose live subject it names, by the sessions buffer (docs/STATE.md).
 pub fn user_of(record: &Record, sessions: &[u64]) -> Option<u16> {
     let about = about(record.kind());
-    if let Some(field) = about.user {
-        return u16::try_from(field.of(*record)).ok();
+    if about.user.is_some() {
+        return about.number(Sort::User, record);
     }
-    let subject = about.subject?.of(*record);
-    let word = *sessions.get(..128)?.get(usize::try_from(subject).ok()?)?;
+    user_of_subject(about.number(Sort::Subject, record)?, sessions)
+}
+
+/// The user of a live subject.
+pub fn user_of_subject(subject: u16, sessions: &[u64]) -> Option<u16> {
+    let word = *sessions.get(..128)?.get(usize::from(subject))?;
     (word >> 10 & 1 == 1).then_some((word & 1023) as u16)
 }
 

@@ -1,14 +1,16 @@
 //! Writing a journal: groups of requests with their replies, one transaction each, and snapshots among them.
 
-use super::begin::{beside, fields, now, PROGRAM};
-use super::found::{blob, reading, sum_of};
-use super::{found, sum, tables, Found, Row, VERSION};
+use super::begin::{fields, now, PROGRAM};
+use super::clock::{Clock, Jump};
+use super::files::{self, Identity, Locks, Reserve};
+use super::found::{reading, Snapshot};
+use super::{found, sum, tables, Barred, Found, Live, Row, VERSION};
+use crate::report::report;
 use crate::source::Policy;
 use crate::stop::Stop;
 use mishantral::State;
 use rusqlite::{params, Connection, ErrorCode, OpenFlags};
-use std::fs::{File, TryLockError};
-use std::path::Path;
+use std::path::{Path, PathBuf};
 
 /// How sure a reply is of its place on the disk.
 #[derive(Clone, Copy, PartialEq, Eq, Debug)]
@@ -31,14 +33,30 @@ pub enum Failed {
 /// A journal that one server writes.
 pub struct Journal {
     connection: Connection,
+    file: PathBuf,
+    identity: Identity,
+    reserve: Reserve,
     /// Held as long as this lives: a journal has one writer.
-    _lock: File,
+    _locks: Locks,
     last: i64,
     sum: u32,
-    at: i64,
+    clock: Clock,
+    /// A jump of the clock that no group has told yet.
+    jump: Option<Jump>,
     /// A snapshot is taken after so many requests.
     every: i64,
     snapshot: i64,
+    /// The size at which a log that does not shrink is told next.
+    large: u64,
+}
+
+/// What a group brings to the journal.
+pub struct Group<'a> {
+    pub rows: &'a [Row],
+    pub barred: &'a [Barred],
+    /// The desk after it.
+    pub state: &'a State,
+    pub live: &'a Live,
 }
 
 impl Journal {
@@ -50,9 +68,10 @@ impl Journal {
         policy: Option<&Policy>,
     ) -> Result<(Journal, Found), Stop> {
         let refused = |why: String| Stop::Refused(vec![format!("{file}: {why}")]);
+        let path = Path::new(file);
         // Where it is none, no file is made beside it.
         reading(file).map_err(|why| refused(format!("it cannot be opened: {why}")))?;
-        let lock = locked(Path::new(file)).map_err(refused)?;
+        let locks = Locks::take(path).map_err(refused)?;
         let found = found(file, false)?;
         if let Some(given) = policy.filter(|given| given.bytes != found.policy.bytes) {
             let (given, begun) = (&given.file, &found.policy.file);
@@ -60,14 +79,27 @@ impl Journal {
                 "it is of another policy than {given}: it was begun with {begun}"
             )));
         }
+        let unwritten = |why: String| refused(format!("it cannot be written: {why}"));
+        guarded(path).map_err(unwritten)?;
         let opened = opened(file, saved, found.last);
-        let connection = opened.map_err(|why| refused(format!("it cannot be written: {why}")))?;
+        let connection = opened.map_err(|why| unwritten(why.to_string()))?;
+        let identity = Identity::of(path).map_err(refused)?;
+        let (reserve, none) = Reserve::make(path);
+        none.iter().for_each(report);
+        let limits = limited(&connection, &reserve);
+        limits.map_err(|why| unwritten(why.to_string()))?;
+        let (clock, jump) = Clock::after(found.at);
         let journal = Journal {
             connection,
-            _lock: lock,
+            file: path.to_path_buf(),
+            identity,
+            large: 4 * reserve.bytes(),
+            reserve,
+            _locks: locks,
             last: found.last,
             sum: found.sum,
-            at: found.at,
+            clock,
+            jump,
             every,
             snapshot: found.snapshot,
         };
@@ -75,29 +107,60 @@ impl Journal {
     }
 
     /// The time of a group that is written now.
-    pub fn time(&self) -> i64 {
-        now().max(self.at)
+    pub fn time(&mut self) -> i64 {
+        let (time, jump) = self.clock.time();
+        if let Some(jump) = jump {
+            // Two jumps between two groups are one.
+            let expected = self.jump.map_or(jump.expected, |before| before.expected);
+            self.jump = Some(Jump { expected, ..jump });
+        }
+        time
     }
 
-    /// Writes a group, the state being the one after it. The rows have their numbers from `next` on.
-    pub fn write(&mut self, rows: &[Row], state: &State) -> Result<(), Failed> {
-        let (last, sum, snapshot) = match self.wrote(rows, state) {
-            Ok(after) => after,
+    /// Writes a group. Where the disk is full, the log is moved into the journal with the room of the reserve, and the group tried once more.
+    pub fn write(&mut self, group: &Group) -> Result<(), Failed> {
+        let mut done = self.tried(group);
+        if matches!(done, Err(Failed::NotDone(_))) && self.freed() {
+            done = self.tried(group);
+        }
+        done?;
+        // What was written into files that are no longer the journal's is lost, and nobody is answered.
+        let log = self.identity.kept().map_err(Failed::Lost)?;
+        self.watched(log);
+        Ok(())
+    }
+
+    fn tried(&mut self, group: &Group) -> Result<(), Failed> {
+        match self.wrote(group) {
+            Ok((last, sum, snapshot)) => {
+                (self.last, self.sum, self.snapshot) = (last, sum, snapshot);
+                self.jump = None;
+                Ok(())
+            }
             Err(why) => {
                 if !self.connection.is_autocommit() {
                     let _ = self.connection.execute_batch("ROLLBACK");
                 }
-                return Err(failed(&why));
+                Err(failed(&why))
             }
-        };
-        (self.last, self.sum, self.snapshot) = (last, sum, snapshot);
-        self.at = rows.last().map_or(self.at, |row| row.at);
-        Ok(())
+        }
     }
 
-    fn wrote(&self, rows: &[Row], state: &State) -> rusqlite::Result<(i64, u32, i64)> {
+    fn wrote(&self, group: &Group) -> rusqlite::Result<(i64, u32, i64)> {
         let run = |sql| self.connection.prepare_cached(sql)?.execute([]);
         run("BEGIN IMMEDIATE")?;
+        let sum = self.rows(group.rows)?;
+        self.notes(group.barred)?;
+        let last = group.rows.last().map_or(self.last, |row| row.number);
+        let taken = last - self.snapshot >= self.every;
+        if taken {
+            self.keep(last, sum, group.state, group.live)?;
+        }
+        run("COMMIT")?;
+        Ok((last, sum, if taken { last } else { self.snapshot }))
+    }
+
+    fn rows(&self, rows: &[Row]) -> rusqlite::Result<u32> {
         let mut sum = self.sum;
         let mut insert = self.connection.prepare_cached(tables::INSERT)?;
         for row in rows {
@@ -109,8 +172,23 @@ impl Journal {
             };
             let cut = record.is_none().then_some(row.bytes.as_ref());
             insert.execute(params![
-                row.number, row.at, row.client, row.user, kind, n, a, b, c, m, cut, row.reply,
-                row.place, sum
+                row.number,
+                row.at,
+                row.client,
+                &*row.account,
+                row.via.as_deref(),
+                row.user,
+                kind,
+                n,
+                a,
+                b,
+                c,
+                m,
+                cut,
+                row.reply,
+                row.place,
+                row.opening,
+                sum
             ])?;
             for naming in &row.namings {
                 let mut insert = self.connection.prepare_cached(tables::INSERT_NAME)?;
@@ -122,28 +200,119 @@ impl Journal {
                 ])?;
             }
         }
-        let last = rows.last().map_or(self.last, |row| row.number);
-        let taken = last - self.snapshot >= self.every;
-        if taken {
-            self.keep(last, sum, state)?;
-        }
-        run("COMMIT")?;
-        Ok((last, sum, if taken { last } else { self.snapshot }))
+        Ok(sum)
     }
 
-    fn keep(&self, after: i64, row_sum: u32, state: &State) -> rusqlite::Result<()> {
-        let blobs = [
-            blob(&state.policy),
-            blob(&state.sessions),
-            blob(&state.orders),
-        ];
-        let sum = sum_of(after, row_sum, &blobs);
-        let [policy, sessions, orders] = &blobs;
+    /// What was barred, and that the clock was set.
+    fn notes(&self, barred: &[Barred]) -> rusqlite::Result<()> {
+        for one in barred {
+            let mut insert = self.connection.prepare_cached(tables::INSERT_BARRED)?;
+            let record = one.record.as_ref().map(|record| record.as_ref());
+            insert.execute(params![
+                one.at,
+                self.last,
+                one.client,
+                &*one.account,
+                one.via.as_deref(),
+                record,
+                one.asked,
+                one.why
+            ])?;
+        }
+        if let Some(jump) = self.jump {
+            let mut insert = self.connection.prepare_cached(tables::INSERT_CLOCK)?;
+            insert.execute(params![self.last, jump.expected, jump.found])?;
+        }
+        Ok(())
+    }
+
+    fn keep(&self, after: i64, sum: u32, state: &State, live: &Live) -> rusqlite::Result<()> {
+        let taken = Snapshot::of(after, sum, state, live);
+        let [policy, sessions, orders, openings] = &taken.blobs;
         let mut insert = self.connection.prepare_cached(tables::INSERT_SNAPSHOT)?;
+        let (names, sum) = (&taken.names, taken.sum());
         insert.execute(params![
-            after, VERSION, row_sum, policy, sessions, orders, sum
+            after,
+            VERSION,
+            taken.row_sum,
+            policy,
+            sessions,
+            orders,
+            openings,
+            names,
+            sum
         ])?;
         Ok(())
+    }
+
+    /// Gives the reserve up for moving the log into the journal; whether that made room.
+    fn freed(&mut self) -> bool {
+        let before = self.identity.kept().unwrap_or(0);
+        self.reserve.give_up();
+        let moved = self.truncated();
+        let after = self.identity.kept().unwrap_or(before);
+        let again = self.reserve.fill();
+        if moved && after < before {
+            let left = if again.is_ok() {
+                ""
+            } else {
+                ", and none of it is left"
+            };
+            report(format!(
+                "{}: the disk is full: {} bytes of log were moved into the journal with the room of the reserve{left}",
+                self.file.display(),
+                before - after
+            ));
+        }
+        moved && after < before
+    }
+
+    /// Moves the log into the journal and cuts it off, unless somebody reads.
+    fn truncated(&self) -> bool {
+        let sql = "PRAGMA wal_checkpoint(TRUNCATE)";
+        let patience = |seconds| {
+            let time = std::time::Duration::from_secs(seconds);
+            self.connection.busy_timeout(time)
+        };
+        let _ = patience(0);
+        let busy = self.connection.query_row(sql, [], |r| r.get::<_, i64>(0));
+        let _ = patience(PATIENCE);
+        busy == Ok(0)
+    }
+
+    /// A log that a reader kept from being used again is cut off when that one is gone; until then it is told.
+    fn watched(&mut self, log: u64) {
+        if log <= 2 * self.reserve.bytes() {
+            self.large = 4 * self.reserve.bytes();
+            return;
+        }
+        if log >= self.large && !self.truncated() {
+            report(format!(
+                "{}: its log has {log} bytes: a program that reads the journal keeps it from being shortened",
+                self.file.display()
+            ));
+            self.large = 2 * log;
+        }
+    }
+
+    /// What is to be looked at while nobody asks: the files, and the log.
+    pub fn looked_after(&mut self) -> Result<(), Failed> {
+        let log = self.identity.kept().map_err(Failed::Lost)?;
+        if log > 2 * self.reserve.bytes() && self.truncated() {
+            self.large = 4 * self.reserve.bytes();
+        }
+        Ok(())
+    }
+
+    /// Takes a snapshot of the desk as it stands, and moves the log into the journal: what comes last at an end that was asked for.
+    pub fn finish(&mut self, state: &State, live: &Live) -> Result<(), Failed> {
+        let done = match self.last > self.snapshot {
+            true => self.keep(self.last, self.sum, state, live),
+            false => Ok(()),
+        };
+        done.map_err(|why| failed(&why))?;
+        self.truncated();
+        self.identity.kept().map(drop).map_err(Failed::Lost)
     }
 }
 
@@ -157,23 +326,23 @@ fn failed(why: &rusqlite::Error) -> Failed {
     }
 }
 
-/// The lock that says who writes a journal, on a file of its own: the system takes it back from whoever ends.
-pub fn locked(file: &Path) -> Result<File, String> {
-    let name = beside(file, ".lock");
-    let lock = File::options().create(true).append(true).open(&name);
-    let lock = lock.map_err(|why| format!("{}: {why}", name.display()))?;
-    match lock.try_lock() {
-        Ok(()) => Ok(lock),
-        Err(TryLockError::WouldBlock) => Err("another server has it".to_string()),
-        Err(TryLockError::Error(why)) => Err(format!("{}: {why}", name.display())),
-    }
+/// Makes the files private and looks at their folder; what is to be known of it is told.
+fn guarded(file: &Path) -> Result<(), String> {
+    files::linked_once(file)?;
+    let risk = files::folder(file)?;
+    let changed = files::tightened(file).map_err(|why| why.to_string())?;
+    risk.iter().chain(&changed).for_each(report);
+    Ok(())
 }
+
+/// How many seconds another program's lock is waited for.
+const PATIENCE: u64 = 10;
 
 /// Opens it for writing, and writes that it was opened, so that what cannot be written shows before anyone is answered.
 fn opened(file: &str, saved: Saved, after: i64) -> rusqlite::Result<Connection> {
     let flags = OpenFlags::SQLITE_OPEN_READ_WRITE | OpenFlags::SQLITE_OPEN_NO_MUTEX;
     let connection = Connection::open_with_flags(file, flags)?;
-    connection.busy_timeout(std::time::Duration::from_secs(10))?;
+    connection.busy_timeout(std::time::Duration::from_secs(PATIENCE))?;
     connection.pragma_update(
         None,
         "synchronous",
@@ -189,4 +358,14 @@ fn opened(file: &str, saved: Saved, after: i64) -> rusqlite::Result<Connection> 
         params![now(), after, PROGRAM],
     )?;
     Ok(connection)
+}
+
+/// The log is moved into the journal before it is larger than the reserve, and cut to that when it is used again.
+fn limited(connection: &Connection, reserve: &Reserve) -> rusqlite::Result<()> {
+    let set = |name: &str, value: u64| {
+        let sql = format!("PRAGMA {name} = {value}");
+        connection.query_row(&sql, [], |_| Ok(()))
+    };
+    set("wal_autocheckpoint", reserve.pages())?;
+    set("journal_size_limit", reserve.bytes())
 }

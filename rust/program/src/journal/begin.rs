@@ -1,7 +1,7 @@
 //! A new journal: made whole beside its place, and put there by its name alone, so that a journal that is there is whole.
 
 use super::about::about;
-use super::append::locked;
+use super::files::{self, Locks};
 use super::sum::Sum;
 use super::{tables, APPLICATION, VERSION};
 use crate::desk::Desk;
@@ -31,38 +31,64 @@ pub fn now() -> i64 {
     since.map_or(0, |since| since.as_micros() as i64)
 }
 
+/// The longest name that a journal takes, in bytes.
+pub const LONGEST_NAME: usize = 64;
+
 /// Makes a journal of an accepted policy, where there is none. A refused policy is told by the caller.
 pub fn begin(file: &str, policy: &Policy) -> Result<Result<(), Refused>, Stop> {
     if let Err(refused) = Desk::open(policy) {
         return Ok(Err(refused));
     }
+    if let Some(long) = namings(policy).iter().find(|n| n.name.len() > LONGEST_NAME) {
+        let (word, number, length) = (long.sort.word(), long.number, long.name.len());
+        return wrong(format!(
+            "{}: the name of {word} {number} has {length} bytes: a journal takes {LONGEST_NAME}",
+            policy.file
+        ));
+    }
     let (place, new) = (Path::new(file), beside(Path::new(file), ".new"));
     // Whoever begins one at the same time waits for none of it.
-    let _lock = locked(place).map_err(|why| Stop::Refused(vec![format!("{file}: {why}")]))?;
+    let _lock = Locks::take(place).map_err(|why| Stop::Refused(vec![format!("{file}: {why}")]))?;
     if place.exists() {
         return wrong(format!("{file}: it is there already"));
     }
-    for behind in ["", "-wal", "-shm", "-journal"] {
-        let _ = fs::remove_file(beside(&new, behind));
-    }
-    let failed = |why: &dyn std::fmt::Display| {
-        Stop::Wrong(vec![format!("{file}: it cannot be made: {why}")])
+    let away = || {
+        for behind in ["", "-wal", "-shm", "-journal"] {
+            let _ = fs::remove_file(beside(&new, behind));
+        }
     };
-    made(&new, policy).map_err(|why| failed(&why))?;
-    File::open(&new)
-        .and_then(|made| made.sync_all())
-        .map_err(|why| failed(&why))?;
-    fs::rename(&new, place).map_err(|why| failed(&why))?;
-    let folder = place.parent().filter(|p| !p.as_os_str().is_empty());
-    File::open(folder.unwrap_or(Path::new(".")))
-        .and_then(|folder| folder.sync_all())
-        .map_err(|why| failed(&why))?;
-    Ok(Ok(()))
+    away();
+    let done = made(&new, policy).and_then(|()| put(&new, place));
+    done.map(Ok).map_err(|why| {
+        // Whole, or not there.
+        away();
+        Stop::Wrong(vec![format!("{file}: it cannot be made: {why}")])
+    })
 }
 
-fn made(new: &Path, policy: &Policy) -> rusqlite::Result<()> {
+/// Puts a whole journal into its place, by its name alone.
+fn put(new: &Path, place: &Path) -> Result<(), String> {
+    let failed = |why: std::io::Error| why.to_string();
+    let made = File::open(new).and_then(|made| made.sync_all());
+    made.map_err(failed)?;
+    fs::rename(new, place).map_err(failed)?;
+    let folder = File::open(files::folder_of(place)).and_then(|folder| folder.sync_all());
+    folder.map_err(failed)
+}
+
+fn made(new: &Path, policy: &Policy) -> Result<(), String> {
+    files::private(new).map_err(|why| why.to_string())?;
+    filled(new, policy).map_err(|why| why.to_string())?;
+    // What is in a log beside it would be lost with the name.
+    match fs::metadata(beside(new, "-wal")).map_or(0, |log| log.len()) {
+        0 => Ok(()),
+        _ => Err("its log could not be moved into it".to_string()),
+    }
+}
+
+/// Without a log as long as it is filled: a disk that gets full then shows at once. The log's mode comes last, and is one page.
+fn filled(new: &Path, policy: &Policy) -> rusqlite::Result<()> {
     let mut connection = Connection::open(new)?;
-    connection.pragma_update(None, "journal_mode", "WAL")?;
     connection.pragma_update(None, "synchronous", "FULL")?;
     let act = connection.transaction()?;
     act.pragma_update(None, "application_id", APPLICATION)?;
@@ -109,7 +135,12 @@ fn made(new: &Path, policy: &Policy) -> rusqlite::Result<()> {
         act.execute(tables::INSERT_NAME, params![0, sort.word(), number, name])?;
     }
     act.commit()?;
-    // The last connection's end moves everything into the file itself.
+    let sound: String = connection.query_row("PRAGMA integrity_check(1)", [], |r| r.get(0))?;
+    let mode: String = connection.query_row("PRAGMA journal_mode = WAL", [], |r| r.get(0))?;
+    if (sound.as_str(), mode.as_str()) != ("ok", "wal") {
+        let why = format!("{sound}; the log's mode is {mode}");
+        return Err(rusqlite::Error::InvalidParameterName(why));
+    }
     connection.close().map_err(|(_, why)| why)
 }
 

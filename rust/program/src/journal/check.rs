@@ -1,13 +1,15 @@
 //! `journal FILE --check`: the whole journal from its load on. Every row has its checksum and its place, every request is asked anew
 //! and answered as it was, every snapshot is the state that the requests before it lead to, and SQLite finds its own file sound.
 
-use super::found::{self, snapshot_of, Unfit};
+use super::found::{self, snapshot_of, Found, Unfit};
+use super::tables;
 use crate::stop::{Done, Stop, WELL};
 use mishantral::Engine;
 use rusqlite::Connection;
 use std::io::Write;
 
 pub fn check(file: &str, out: &mut dyn Write) -> Done {
+    found::there(file)?;
     let checked = found::reading(file).map_err(Unfit::from);
     let checked = checked.and_then(|connection| whole(&connection, file));
     let (requests, snapshots) =
@@ -31,11 +33,11 @@ fn whole(connection: &Connection, file: &str) -> Result<(i64, usize), Unfit> {
     };
     let mut next = kept.iter().copied().peekable();
     let mut met = 0;
-    let found = found::of(connection, file, true, &mut |row, engine| {
+    let found = found::of(connection, file, true, &mut |row, found| {
         if next.peek() == Some(&row.number) {
             next.next();
             met += 1;
-            compared(connection, row.number, engine)?;
+            compared(connection, row.number, found)?;
         }
         Ok(())
     })?;
@@ -47,17 +49,20 @@ fn whole(connection: &Connection, file: &str) -> Result<(i64, usize), Unfit> {
     Ok((found.last, met))
 }
 
-/// The snapshot after a request must be the engine's state there, as the tables read.
-fn compared(connection: &Connection, after: i64, engine: &Engine) -> Result<(), Unfit> {
-    let mut select = connection.prepare_cached(
-        "SELECT after, version, row_sum, policy, sessions, orders, sum FROM snapshot WHERE after = ?1",
-    )?;
+/// The snapshot after a request must be the desk there: the engine's state as the tables read, the names and the openings.
+fn compared(connection: &Connection, after: i64, found: &Found) -> Result<(), Unfit> {
+    let select = format!("SELECT {} FROM snapshot WHERE after = ?1", tables::SNAPSHOT);
+    let mut select = connection.prepare_cached(&select)?;
     let mut rows = select.query([after])?;
     let Some(columns) = rows.next()? else {
         return Ok(());
     };
-    let taken = Engine::from_state(snapshot_of(columns)?.state);
-    match taken == *engine {
+    let taken = snapshot_of(columns)?;
+    let live = taken.live()?;
+    let same = Engine::from_state(taken.state()?) == found.engine
+        && live.openings == found.live.openings
+        && taken.names == found.live.text();
+    match same {
         true => Ok(()),
         false => Err(Unfit(format!(
             "the snapshot after request {after} is not the state that its requests lead to"

@@ -4,7 +4,7 @@
 use super::about::user_of;
 use super::begin::{head, lengths};
 use super::sum::{self, Sum};
-use super::{tables, Bytes, Row, APPLICATION, VERSION};
+use super::{tables, Bytes, Live, Row, APPLICATION, VERSION};
 use crate::names::{Names, Naming, Sort};
 use crate::reader;
 use crate::source::Policy;
@@ -17,7 +17,8 @@ use std::collections::BTreeMap;
 /// A desk as its journal leaves it.
 pub struct Found {
     pub policy: Policy,
-    pub names: Names,
+    /// The names that hold, and the openings of the orders that are open.
+    pub live: Live,
     pub engine: Engine,
     /// The last request, its sum and its time.
     pub last: i64,
@@ -57,44 +58,65 @@ pub fn reading(file: &str) -> rusqlite::Result<Connection> {
 
 /// Reads a journal: from its last snapshot, or where `whole` from the load on.
 pub fn found(file: &str, whole: bool) -> Result<Found, Stop> {
+    read(file, whole, &mut |_, _| Ok(()))
+}
+
+/// Asks a whole journal anew from its load on; `look` sees each row, and the desk after it.
+#[allow(dead_code)]
+pub fn replay(file: &str, look: &mut dyn FnMut(&Row, &Found)) -> Result<Found, Stop> {
+    read(file, true, &mut |row, found| {
+        look(row, found);
+        Ok(())
+    })
+}
+
+type Look<'a> = &'a mut dyn FnMut(&Row, &Found) -> Result<(), Unfit>;
+
+fn read(file: &str, whole: bool, look: Look) -> Result<Found, Stop> {
+    there(file)?;
     let read = reading(file).map_err(Unfit::from);
-    let read = read.and_then(|connection| of(&connection, file, whole, &mut |_, _| Ok(())));
+    let read = read.and_then(|connection| of(&connection, file, whole, look));
     read.map_err(|Unfit(why)| Stop::Refused(vec![format!("{file}: {why}")]))
 }
 
-/// The same of an open one; `look` sees each row that is asked anew, and the engine after it.
-pub fn of(
-    connection: &Connection,
-    file: &str,
-    whole: bool,
-    look: &mut dyn FnMut(&Row, &Engine) -> Result<(), Unfit>,
-) -> Result<Found, Unfit> {
+/// A journal that is not there is a wrong name, and no journal that is refused.
+pub fn there(file: &str) -> Result<(), Stop> {
+    match std::fs::metadata(file) {
+        Ok(_) => Ok(()),
+        Err(why) => Err(Stop::Wrong(vec![format!(
+            "{file}: it cannot be opened: {why}"
+        )])),
+    }
+}
+
+/// The same of an open one; `look` sees each row that is asked anew, and the desk after it.
+pub fn of(connection: &Connection, file: &str, whole: bool, look: Look) -> Result<Found, Unfit> {
     // One reading of one state, whatever is written meanwhile.
     let act = connection.unchecked_transaction()?;
     let policy = policy(&act, file)?;
-    let mut names = policy.names.clone();
     let mut engine = Engine::new();
     if let Err(refused) = engine.load(&policy.bytes) {
         return unfit(format!("its policy is refused now: {refused}"));
     }
-    let (mut last, mut sum, mut at) = (0, sum::first(head(&policy)), 0);
-    let taken = if whole { None } else { snapshot(&act)? };
+    let (mut last, mut sum) = (0, sum::first(head(&policy)));
+    let mut live = Live::new(policy.names.clone());
+    let taken = match whole {
+        true => None,
+        false => snapshot_before(&act, i64::MAX)?,
+    };
     if let Some(taken) = taken {
-        engine = Engine::from_state(taken.state);
+        engine = Engine::from_state(taken.state()?);
+        live = taken.live()?;
         (last, sum) = (taken.after, taken.row_sum);
     }
-    let mut given = given(&act)?;
-    let later = given.split_off(&(last + 1));
-    for namings in given.into_values() {
-        reader::give(&mut names, &namings, false);
-    }
+    let later = given(&act, last)?;
     let mut found = Found {
         policy,
-        names,
+        live,
         engine,
         last,
         sum,
-        at,
+        at: 0,
         snapshot: last,
         replayed: 0,
     };
@@ -108,16 +130,14 @@ pub fn of(
         let (mut row, kept) = row(columns)?;
         row.namings = later.get(&row.number).cloned().unwrap_or_default();
         found.follow(&row, kept)?;
-        look(&row, &found.engine)?;
-        at = row.at;
+        found.at = row.at;
+        look(&row, &found)?;
     }
     drop(rows);
     if found.replayed == 0 && last > 0 {
-        at = act.query_row("SELECT at FROM request WHERE number = ?1", [last], |r| {
-            r.get(0)
-        })?;
+        let at = "SELECT at FROM request WHERE number = ?1";
+        found.at = act.query_row(at, [last], |r| r.get(0))?;
     }
-    found.at = at;
     Ok(found)
 }
 
@@ -137,10 +157,15 @@ impl Found {
                 "it is damaged: request {number} does not have its checksum"
             ));
         }
-        let whose = row.bytes.record();
-        let whose = whose.and_then(|record| user_of(&record, &self.engine.state().sessions));
+        let record = row.bytes.record();
+        let whose = record.and_then(|record| user_of(&record, &self.engine.state().sessions));
+        let before = record.and_then(|record| self.live.opening(&record));
         let answer = self.engine.request(row.bytes.as_ref());
         let (reply, place) = (answer.reply.number(), answer.place as u16);
+        if let (true, Some(record)) = (answer.is_granted(), record) {
+            self.live.granted(number, &record, &row.namings);
+        }
+        let opening = before.or_else(|| self.live.opening(&record?));
         if (reply, place, whose) != (row.reply, row.place, row.user) {
             let line = notation::line(row.bytes.as_ref());
             let now = (reply, place);
@@ -150,7 +175,12 @@ impl Found {
                 said(now), said(then)
             ));
         }
-        reader::give(&mut self.names, &row.namings, false);
+        if opening != row.opening {
+            return unfit(format!(
+                "request {number}: it is of opening {opening:?}, and had been of {:?}",
+                row.opening
+            ));
+        }
         self.last = number;
         self.replayed += 1;
         Ok(())
@@ -170,22 +200,25 @@ pub fn said((reply, place): (u8, u16)) -> String {
 
 /// A row of `tables::COLUMNS`, without its namings, and the sum that it has.
 pub fn row(columns: &rusqlite::Row) -> Result<(Row, u32), Unfit> {
-    let cut: Option<Vec<u8>> = columns.get(10)?;
+    let cut: Option<Vec<u8>> = columns.get(12)?;
     let bytes = match cut {
         Some(cut) => Bytes::of(&cut),
-        None => Bytes::of(&record(columns, 4)?.0),
+        None => Bytes::of(&record(columns, 6)?.0),
     };
     let row = Row {
         number: columns.get(0)?,
         at: columns.get(1)?,
         client: columns.get(2)?,
-        user: columns.get(3)?,
+        account: columns.get::<_, String>(3)?.into(),
+        via: columns.get::<_, Option<String>>(4)?.map(Into::into),
+        user: columns.get(5)?,
         bytes,
-        reply: columns.get(11)?,
-        place: columns.get(12)?,
+        reply: columns.get(13)?,
+        place: columns.get(14)?,
+        opening: columns.get(15)?,
         namings: Vec::new(),
     };
-    Ok((row, columns.get(13)?))
+    Ok((row, columns.get(16)?))
 }
 
 /// Six columns as a record.
@@ -201,25 +234,31 @@ fn record(columns: &rusqlite::Row, from: usize) -> rusqlite::Result<Record> {
     ))
 }
 
-/// The names that requests gave, by request; those of the policy under 0.
-pub fn given(act: &Connection) -> Result<BTreeMap<i64, Vec<Naming>>, Unfit> {
+/// The names that requests behind this one gave, by request; those of the policy are under 0, behind -1.
+pub fn given(act: &Connection, after: i64) -> Result<BTreeMap<i64, Vec<Naming>>, Unfit> {
     let mut all: BTreeMap<i64, Vec<Naming>> = BTreeMap::new();
-    let mut rows = act.prepare("SELECT request, sort, number, name FROM name ORDER BY rowid")?;
-    let mut rows = rows.query([])?;
+    let select =
+        "SELECT request, sort, number, name FROM name WHERE request > ?1 ORDER BY request, rowid";
+    let mut rows = act.prepare(select)?;
+    let mut rows = rows.query([after])?;
     while let Some(columns) = rows.next()? {
-        let word: String = columns.get(1)?;
-        let Some(sort) = Sort::of_word(&word) else {
-            return unfit(format!("it is damaged: a name of {word:?}"));
-        };
-        let naming = Naming {
-            sort,
-            number: columns.get(2)?,
-            name: columns.get(3)?,
-            column: 0,
-        };
-        all.entry(columns.get(0)?).or_default().push(naming);
+        let request = columns.get(0)?;
+        all.entry(request).or_default().push(naming(columns)?);
     }
     Ok(all)
+}
+
+fn naming(columns: &rusqlite::Row) -> Result<Naming, Unfit> {
+    let word: String = columns.get(1)?;
+    let Some(sort) = Sort::of_word(&word) else {
+        return unfit(format!("it is damaged: a name of {word:?}"));
+    };
+    Ok(Naming {
+        sort,
+        number: columns.get(2)?,
+        name: columns.get(3)?,
+        column: 0,
+    })
 }
 
 /// The policy, with everything that says which journal this is compared first.
@@ -275,8 +314,7 @@ pub fn policy(act: &Connection, journal: &str) -> Result<Policy, Unfit> {
         let line: Option<i64> = columns.get(0)?;
         policy.lines.extend(line.map(|line| line as usize));
     }
-    let names = given(act)?.remove(&0).unwrap_or_default();
-    reader::give(&mut policy.names, &names, false);
+    reader::give(&mut policy.names, &of_policy(act)?, false);
     if head(&policy) != sum {
         return unfit(format!(
             "it is damaged: the policy in {journal} does not have its checksum"
@@ -285,62 +323,127 @@ pub fn policy(act: &Connection, journal: &str) -> Result<Policy, Unfit> {
     Ok(policy)
 }
 
+/// The names that the policy gave.
+fn of_policy(act: &Connection) -> Result<Vec<Naming>, Unfit> {
+    let mut rows = act
+        .prepare("SELECT request, sort, number, name FROM name WHERE request = 0 ORDER BY rowid")?;
+    let mut rows = rows.query([])?;
+    let mut all = Vec::new();
+    while let Some(columns) = rows.next()? {
+        all.push(naming(columns)?);
+    }
+    Ok(all)
+}
+
+/// A desk as it was after a request.
 pub struct Snapshot {
     pub after: i64,
     pub row_sum: u32,
-    pub state: State,
+    /// The three buffers and the openings, words little-endian.
+    pub blobs: [Vec<u8>; 4],
+    pub names: String,
 }
 
-fn snapshot(act: &Connection) -> Result<Option<Snapshot>, Unfit> {
-    let last = "SELECT after, version, row_sum, policy, sessions, orders, sum FROM snapshot ORDER BY after DESC LIMIT 1";
-    let mut last = act.prepare(last)?;
-    let mut rows = last.query([])?;
+/// The last snapshot before a request.
+pub fn snapshot_before(act: &Connection, request: i64) -> Result<Option<Snapshot>, Unfit> {
+    let last = format!(
+        "SELECT {} FROM snapshot WHERE after < ?1 ORDER BY after DESC LIMIT 1",
+        tables::SNAPSHOT
+    );
+    let mut last = act.prepare(&last)?;
+    let mut rows = last.query([request])?;
     rows.next()?.map(snapshot_of).transpose()
 }
 
 /// A snapshot, where its version and its sum are right.
 pub fn snapshot_of(columns: &rusqlite::Row) -> Result<Snapshot, Unfit> {
     let (after, version): (i64, i64) = (columns.get(0)?, columns.get(1)?);
-    let row_sum: u32 = columns.get(2)?;
-    let blobs: [Vec<u8>; 3] = [columns.get(3)?, columns.get(4)?, columns.get(5)?];
+    let blobs = [
+        columns.get(3)?,
+        columns.get(4)?,
+        columns.get(5)?,
+        columns.get(6)?,
+    ];
+    let taken = Snapshot {
+        after,
+        row_sum: columns.get(2)?,
+        blobs,
+        names: columns.get(7)?,
+    };
     if version != VERSION {
         return unfit(format!(
             "the snapshot after request {after} is of version {version}"
         ));
     }
-    if sum_of(after, row_sum, &blobs) != columns.get::<_, i64>(6)? {
+    if taken.sum() != columns.get::<_, i64>(8)? {
         return unfit(format!(
             "it is damaged: the snapshot after request {after} does not have its checksum"
         ));
     }
-    let mut state = State::zeroed();
-    for (buffer, blob) in [&mut state.policy, &mut state.sessions, &mut state.orders]
-        .into_iter()
-        .zip(&blobs)
-    {
-        if blob.len() != 8 * buffer.len() {
+    Ok(taken)
+}
+
+impl Snapshot {
+    pub fn of(after: i64, row_sum: u32, state: &State, live: &Live) -> Snapshot {
+        let openings: Vec<u64> = live.openings.iter().map(|&o| o as u64).collect();
+        Snapshot {
+            after,
+            row_sum,
+            blobs: [
+                blob(&state.policy),
+                blob(&state.sessions),
+                blob(&state.orders),
+                blob(&openings),
+            ],
+            names: live.text(),
+        }
+    }
+
+    /// What it is after, its buffers and its names.
+    pub fn sum(&self) -> i64 {
+        let head = Sum::new().number(self.after).number(self.row_sum.into());
+        let sum = self.blobs.iter().fold(head, |sum, blob| sum.text(blob));
+        sum.text(self.names.as_bytes()).whole()
+    }
+
+    fn words(&self, blob: usize, words: &mut [u64]) -> Result<(), Unfit> {
+        let (after, blob) = (self.after, &self.blobs[blob]);
+        if blob.len() != 8 * words.len() {
             return unfit(format!(
                 "the snapshot after request {after} has not the buffers' lengths"
             ));
         }
-        for (word, bytes) in buffer.iter_mut().zip(blob.chunks_exact(8)) {
+        for (word, bytes) in words.iter_mut().zip(blob.chunks_exact(8)) {
             *word = u64::from_le_bytes(bytes.try_into().unwrap_or_default());
         }
+        Ok(())
     }
-    Ok(Snapshot {
-        after,
-        row_sum,
-        state,
-    })
+
+    pub fn state(&self) -> Result<State, Unfit> {
+        let mut state = State::zeroed();
+        self.words(0, &mut state.policy)?;
+        self.words(1, &mut state.sessions)?;
+        self.words(2, &mut state.orders)?;
+        Ok(state)
+    }
+
+    pub fn live(&self) -> Result<Live, Unfit> {
+        let names = Live::names_of(&self.names);
+        let Some(names) = names else {
+            return unfit(format!(
+                "it is damaged: the names of the snapshot after request {}",
+                self.after
+            ));
+        };
+        let mut live = Live::new(names);
+        let mut words = [0; 64];
+        self.words(3, &mut words)?;
+        live.openings = words.map(|word| word as i64);
+        Ok(live)
+    }
 }
 
 /// A buffer's words as bytes, little-endian.
-pub fn blob(words: &[u64]) -> Vec<u8> {
+fn blob(words: &[u64]) -> Vec<u8> {
     words.iter().flat_map(|word| word.to_le_bytes()).collect()
-}
-
-/// A snapshot's sum: what it is after, and its buffers.
-pub fn sum_of(after: i64, row_sum: u32, blobs: &[Vec<u8>; 3]) -> i64 {
-    let head = Sum::new().number(after).number(row_sum.into());
-    blobs.iter().fold(head, |sum, blob| sum.text(blob)).whole()
 }

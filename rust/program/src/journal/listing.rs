@@ -1,23 +1,27 @@
-//! `journal FILE`: its requests with their replies, all or those that are picked, in words or as objects.
+//! `journal FILE`: its requests with their replies, all or those that are picked, in words or as objects. A name is shown, and picked,
+//! as it was at the time of the row.
 
 use super::about::about;
-use super::found::{self, given, row, Unfit};
-use super::{tables, Row};
-use crate::names::{Names, Sort};
-use crate::reader;
+use super::found::{self, given, row, snapshot_before, Unfit};
+use super::{tables, Live, Row};
+use crate::names::{name_of, Names, Sort};
 use crate::stop::{Done, Stop, WELL};
 use crate::writer;
-use records::{Reply, LENGTH};
+use records::{Record, Reply, LENGTH};
 use rusqlite::{Connection, OptionalExtension};
 use serde_json::json;
+use std::collections::{BTreeSet, VecDeque};
 use std::io::Write;
 
 /// Which requests are shown: those that meet everything that is given.
-#[derive(Default)]
+#[derive(Clone, Default, Debug)]
 pub struct Filter {
     pub order: Option<String>,
+    /// The number of the request that opened the order.
+    pub opening: Option<i64>,
     pub user: Option<String>,
     pub task: Option<String>,
+    pub account: Option<String>,
     /// By number or name; `refused` is all but GRANTED.
     pub reply: Option<String>,
     /// Times as SQLite reads them, `2026-11-15 20:31`, UTC.
@@ -25,14 +29,74 @@ pub struct Filter {
     pub until: Option<String>,
     /// So many, the last of those picked.
     pub last: Option<usize>,
+    /// What was barred, in the place of requests.
+    pub barred: bool,
     pub json: bool,
+}
+
+impl Filter {
+    /// The filter of a line: `order mill reply refused last 20`; or what is wrong with it.
+    pub fn of_words(words: &[String]) -> Result<Filter, String> {
+        const EXPECTED: &str = "journal [order ORDER] [opening N] [user USER] [task TASK] [account ACCOUNT] [reply REPLY] \
+             [since TIME] [until TIME] [last N] [barred]: a time with an hour goes between quotes";
+        let mut filter = Filter::default();
+        let mut words = words.iter();
+        let number = |word: String| word.parse::<i64>().map_err(|_| EXPECTED.to_string());
+        while let Some(word) = words.next() {
+            if word == "barred" {
+                filter.barred = true;
+                continue;
+            }
+            let value = words.next().ok_or(EXPECTED)?;
+            let quoted = value
+                .starts_with('"')
+                .then(|| crate::names::unquoted(value));
+            let value = match quoted {
+                None => value.clone(),
+                Some(text) => {
+                    String::from_utf8(text.ok_or(EXPECTED)?).map_err(|_| EXPECTED.to_string())?
+                }
+            };
+            match word.as_str() {
+                "order" => filter.order = Some(value),
+                "opening" => filter.opening = Some(number(value)?),
+                "user" => filter.user = Some(value),
+                "task" => filter.task = Some(value),
+                "account" => filter.account = Some(value),
+                "reply" => filter.reply = Some(value),
+                "since" => filter.since = Some(value),
+                "until" => filter.until = Some(value),
+                "last" => filter.last = Some(number(value)?.max(0) as usize),
+                _ => return Err(EXPECTED.to_string()),
+            }
+        }
+        Ok(filter)
+    }
+}
+
+/// One of a sort: a number, or whoever had the name at the time.
+enum Whose {
+    Number(u16),
+    Name(Vec<u8>),
+}
+
+impl Whose {
+    fn is(&self, sort: Sort, number: u16, names: &Names) -> bool {
+        match self {
+            Whose::Number(wanted) => *wanted == number,
+            Whose::Name(name) => names.name(sort, number) == Some(name),
+        }
+    }
 }
 
 /// The same with numbers.
 struct Picked {
     order: Option<u16>,
-    user: Option<u16>,
-    task: Option<u16>,
+    /// The openings that had the order's name, or the one that is asked for.
+    openings: Option<BTreeSet<i64>>,
+    user: Option<Whose>,
+    task: Option<Whose>,
+    account: Option<String>,
     reply: Option<Replies>,
     since: i64,
     until: i64,
@@ -43,96 +107,254 @@ enum Replies {
     Refused,
 }
 
+/// Lines on their way out, of which the last ones may be all that is wanted.
+struct Lines<'a> {
+    out: &'a mut dyn Write,
+    last: Option<usize>,
+    kept: VecDeque<String>,
+}
+
+impl Lines<'_> {
+    fn put(&mut self, line: String) -> std::io::Result<()> {
+        let Some(count) = self.last else {
+            return writeln!(self.out, "{line}");
+        };
+        self.kept.push_back(line);
+        if self.kept.len() > count {
+            self.kept.pop_front();
+        }
+        Ok(())
+    }
+
+    fn end(self) -> std::io::Result<()> {
+        let Lines { out, kept, .. } = self;
+        kept.iter().try_for_each(|line| writeln!(out, "{line}"))
+    }
+}
+
 pub fn list(file: &str, filter: &Filter, out: &mut dyn Write) -> Done {
     let stop = |Unfit(why): Unfit| Stop::Refused(vec![format!("{file}: {why}")]);
+    found::there(file)?;
     let connection = found::reading(file).map_err(|why| stop(why.into()))?;
     let policy = found::policy(&connection, file).map_err(stop)?;
-    let given = given(&connection).map_err(stop)?;
-    let mut all = policy.names.clone();
-    for namings in given.values() {
-        reader::give(&mut all, namings, false);
+    let picked = picked(&connection, filter, &policy.names)?;
+    let mut lines = Lines {
+        out,
+        last: filter.last,
+        kept: VecDeque::new(),
+    };
+    let listing = Listing {
+        connection: &connection,
+        picked,
+        filter,
+    };
+    match filter.barred {
+        true => listing.barred(&mut lines),
+        false => listing.requests(Live::new(policy.names), &mut lines),
     }
-    let picked = picked(&connection, filter, &all)?;
-    let sql = format!(
-        "SELECT {} FROM request WHERE at >= ?1 AND at < ?2 ORDER BY number",
-        tables::COLUMNS
-    );
-    let failed = |why: rusqlite::Error| stop(why.into());
-    let mut select = connection.prepare(&sql).map_err(failed)?;
-    let mut rows = select.query([picked.since, picked.until]).map_err(failed)?;
-    let mut shown = std::collections::VecDeque::new();
-    let mut names = policy.names;
-    let mut given = given
-        .into_iter()
-        .skip_while(|(request, _)| *request == 0)
-        .peekable();
-    while let Some(columns) = rows.next().map_err(failed)? {
-        let (row, _) = row(columns).map_err(stop)?;
-        // Names hold from the request on that gave them, where it was granted.
-        while let Some((_, namings)) = given.next_if(|(request, _)| *request <= row.number) {
-            reader::give(&mut names, &namings, false);
-        }
-        if !picked.has(&row) {
-            continue;
-        }
-        let text = match filter.json {
-            true => object(&row, &names),
-            false => line(&row, &names),
-        };
-        match filter.last {
-            None => writeln!(out, "{text}")?,
-            Some(count) => {
-                shown.push_back(text);
-                if shown.len() > count {
-                    shown.pop_front();
-                }
-            }
-        }
-    }
-    for text in shown {
-        writeln!(out, "{text}")?;
-    }
+    .map_err(|why| match why {
+        Ended::Unfit(why) => stop(why),
+        Ended::Out(why) => why.into(),
+    })?;
+    lines.end()?;
     Ok(WELL)
 }
 
-fn picked(connection: &Connection, filter: &Filter, names: &Names) -> Result<Picked, Stop> {
-    let wrong = |text: String| Stop::Wrong(vec![text]);
-    let number = |sort: Sort, word: &Option<String>| match word {
-        None => Ok(None),
-        Some(word) => names
-            .given(sort, word)
-            .map(Some)
-            .ok_or_else(|| wrong(format!("there is no {} {word:?}", sort.word()))),
+/// Why a listing ended early.
+enum Ended {
+    Unfit(Unfit),
+    Out(std::io::Error),
+}
+
+impl<T: Into<Unfit>> From<T> for Ended {
+    fn from(why: T) -> Ended {
+        Ended::Unfit(why.into())
+    }
+}
+
+struct Listing<'a> {
+    connection: &'a Connection,
+    picked: Picked,
+    filter: &'a Filter,
+}
+
+impl Listing<'_> {
+    fn requests(&self, policy: Live, lines: &mut Lines) -> Result<(), Ended> {
+        // One reading of one state, whatever is written meanwhile.
+        let act = self.connection.unchecked_transaction()?;
+        let first = self.first(&act)?;
+        let before = snapshot_before(&act, first)?;
+        let after = before.as_ref().map_or(0, |taken| taken.after);
+        let mut live = before.map_or(Ok(policy), |taken| taken.live())?;
+        let mut given = given(&act, after)?;
+        let mut jumps = self.jumps(&act)?;
+        let select = format!(
+            "SELECT {} FROM request WHERE number > ?1 ORDER BY number",
+            tables::COLUMNS
+        );
+        let mut select = act.prepare(&select)?;
+        let mut rows = select.query([after])?;
+        while let Some(columns) = rows.next()? {
+            let (mut row, _) = row(columns)?;
+            row.namings = given.remove(&row.number).unwrap_or_default();
+            while jumps.front().is_some_and(|jump| jump.0 < row.number) {
+                let jump = jumps.pop_front().unwrap_or_default();
+                if jump.0 + 1 >= first {
+                    lines.put(self.jump(jump)).map_err(Ended::Out)?;
+                }
+            }
+            // A name that this request gives holds in its own line, and so does one that it ends.
+            let begins = matches!(row.bytes.record().map(|r| r.kind()), Some(32 | 40 | 48));
+            let follow = |live: &mut Live| {
+                if let (0, Some(record)) = (row.reply, row.bytes.record()) {
+                    live.granted(row.number, &record, &row.namings);
+                }
+            };
+            if begins {
+                follow(&mut live);
+            }
+            if row.number >= first && self.picked.has(&row, &live.names) {
+                let text = match self.filter.json {
+                    true => object(&row, &live.names),
+                    false => line(&row, &live.names),
+                };
+                lines.put(text).map_err(Ended::Out)?;
+            }
+            if !begins {
+                follow(&mut live);
+            }
+        }
+        Ok(())
+    }
+
+    /// The first request that may be shown.
+    fn first(&self, act: &Connection) -> Result<i64, Unfit> {
+        if self.filter.since.is_some() {
+            let first = "SELECT min(number) FROM request WHERE at >= ?1";
+            let first: Option<i64> = act.query_row(first, [self.picked.since], |r| r.get(0))?;
+            return Ok(first.unwrap_or(i64::MAX));
+        }
+        match self.filter.last {
+            Some(count) if self.picked.is_all() => {
+                let last = "SELECT coalesce(max(number), 0) FROM request";
+                let last: i64 = act.query_row(last, [], |r| r.get(0))?;
+                Ok((last - count as i64 + 1).max(1))
+            }
+            _ => Ok(1),
+        }
+    }
+
+    /// When the clock was set: behind which request, and from which time to which. Only a listing of everything has them.
+    fn jumps(&self, act: &Connection) -> Result<VecDeque<(i64, i64, i64)>, Unfit> {
+        if !self.picked.is_all() {
+            return Ok(VecDeque::new());
+        }
+        let mut select = act.prepare("SELECT after, expected, found FROM clock ORDER BY id")?;
+        let rows = select.query_map([], |r| Ok((r.get(0)?, r.get(1)?, r.get(2)?)))?;
+        Ok(rows.collect::<Result<_, _>>()?)
+    }
+
+    fn jump(&self, (after, expected, found): (i64, i64, i64)) -> String {
+        let (from, to) = (time(expected), time(found));
+        match self.filter.json {
+            true => json!({"clock": {"after": after, "expected": from, "found": to}}).to_string(),
+            false => format!("{:>7}  the clock was set from {from} to {to}", ""),
+        }
+    }
+
+    fn barred(&self, lines: &mut Lines) -> Result<(), Ended> {
+        let mut select = self.connection.prepare(
+            "SELECT at, after, client, account, via, asked, why FROM barred WHERE at >= ?1 AND at < ?2 ORDER BY id",
+        )?;
+        let mut rows = select.query([self.picked.since, self.picked.until])?;
+        while let Some(r) = rows.next()? {
+            let (at, after, client): (i64, i64, i64) = (r.get(0)?, r.get(1)?, r.get(2)?);
+            let (account, via): (String, Option<String>) = (r.get(3)?, r.get(4)?);
+            let (asked, why): (String, String) = (r.get(5)?, r.get(6)?);
+            if self.picked.account.as_ref().is_some_and(|a| *a != account) {
+                continue;
+            }
+            let text = match self.filter.json {
+                true => json!({
+                    "at": at, "time": time(at), "after": after, "client": client,
+                    "account": account, "via": via, "asked": asked, "barred": why,
+                })
+                .to_string(),
+                false => format!("{}  {account:<12}  {asked}  (barred: {why})", time(at)),
+            };
+            lines.put(text).map_err(Ended::Out)?;
+        }
+        Ok(())
+    }
+}
+
+fn wrong(text: String) -> Stop {
+    Stop::Wrong(vec![text])
+}
+
+fn picked(connection: &Connection, filter: &Filter, policy: &Names) -> Result<Picked, Stop> {
+    let failed = |why: rusqlite::Error| wrong(format!("the journal cannot be read: {why}"));
+    // The requests that gave a name to one of a sort.
+    let gave = |sort: Sort, name: &[u8]| -> Result<BTreeSet<i64>, Stop> {
+        let select = "SELECT request FROM name WHERE sort = ?1 AND name = ?2";
+        let mut select = connection.prepare(select).map_err(failed)?;
+        let rows = select.query_map((sort.word(), name), |r| r.get(0));
+        rows.and_then(Iterator::collect).map_err(failed)
     };
-    let time = |word: &Option<String>, else_at: i64| match word {
-        None => Ok(else_at),
-        Some(word) => {
-            let read =
-                "SELECT CAST((julianday(?1) - 2440587.5) * 86400000.0 + 0.5 AS INTEGER) * 1000";
-            let at: Option<Option<i64>> = connection
-                .query_row(read, [word], |r| r.get(0))
-                .optional()
-                .ok()
-                .flatten();
-            at.flatten().ok_or_else(|| {
-                wrong(format!(
-                    "{word:?} is no time: write 2026-11-15, or 2026-11-15 20:31:07"
-                ))
-            })
+    let whose = |sort: Sort, word: &Option<String>| -> Result<Option<Whose>, Stop> {
+        let Some(word) = word else {
+            return Ok(None);
+        };
+        if let Ok(number) = word.parse() {
+            return Ok(Some(Whose::Number(number)));
+        }
+        let name = name_of(word).unwrap_or_else(|| word.as_bytes().to_vec());
+        let known = policy.number(sort, &name).is_some() || !gave(sort, &name)?.is_empty();
+        match known {
+            true => Ok(Some(Whose::Name(name))),
+            false => Err(wrong(format!("there is no {} {word:?}", sort.word()))),
         }
     };
+    let order = whose(Sort::Order, &filter.order)?;
+    let openings = match (&order, filter.opening) {
+        (_, Some(opening)) => Some(BTreeSet::from([opening])),
+        (Some(Whose::Name(name)), _) => Some(gave(Sort::Order, name)?),
+        _ => None,
+    };
     Ok(Picked {
-        order: number(Sort::Order, &filter.order)?,
-        user: number(Sort::User, &filter.user)?,
-        task: number(Sort::Task, &filter.task)?,
+        order: match order {
+            Some(Whose::Number(number)) => Some(number),
+            _ => None,
+        },
+        openings,
+        user: whose(Sort::User, &filter.user)?,
+        task: whose(Sort::Task, &filter.task)?,
+        account: filter.account.clone(),
         reply: match &filter.reply {
             None => None,
             Some(word) => {
                 Some(replies(word).ok_or_else(|| wrong(format!("there is no reply {word:?}")))?)
             }
         },
-        since: time(&filter.since, i64::MIN)?,
-        until: time(&filter.until, i64::MAX)?,
+        since: time_of(connection, &filter.since, i64::MIN)?,
+        until: time_of(connection, &filter.until, i64::MAX)?,
+    })
+}
+
+fn time_of(connection: &Connection, word: &Option<String>, else_at: i64) -> Result<i64, Stop> {
+    let Some(word) = word else {
+        return Ok(else_at);
+    };
+    let read = "SELECT CAST((julianday(?1) - 2440587.5) * 86400000.0 + 0.5 AS INTEGER) * 1000";
+    let at: Option<Option<i64>> = connection
+        .query_row(read, [word], |r| r.get(0))
+        .optional()
+        .ok()
+        .flatten();
+    at.flatten().ok_or_else(|| {
+        wrong(format!(
+            "{word:?} is no time: write 2026-11-15, or 2026-11-15 20:31:07"
+        ))
     })
 }
 
@@ -149,27 +371,44 @@ fn replies(word: &str) -> Option<Replies> {
         .map(|reply| Replies::One(reply.number()))
 }
 
+/// The number of a sort that a row's record has.
+fn number(row: &Row, sort: Sort) -> Option<u16> {
+    let record: Record = row.bytes.record()?;
+    about(record.kind()).number(sort, &record)
+}
+
 impl Picked {
-    fn has(&self, row: &Row) -> bool {
-        let number = |sort: Sort| {
-            let record = row.bytes.record()?;
-            match about(record.kind()).column(sort)? {
-                "a" => Some(record.a()),
-                "b" => Some(record.b()),
-                _ => Some(record.c()),
-            }
-        };
-        let meets =
-            |wanted: Option<u16>, sort: Sort| wanted.is_none_or(|n| number(sort) == Some(n));
+    /// Whether nothing but times picks.
+    fn is_all(&self) -> bool {
+        self.order.is_none()
+            && self.openings.is_none()
+            && self.user.is_none()
+            && self.task.is_none()
+            && self.account.is_none()
+            && self.reply.is_none()
+            && self.until == i64::MAX
+    }
+
+    fn has(&self, row: &Row, names: &Names) -> bool {
         let replied = match self.reply {
             None => true,
             Some(Replies::One(reply)) => row.reply == reply,
             Some(Replies::Refused) => row.reply != 0,
         };
+        let is = |whose: &Option<Whose>, sort: Sort, number: Option<u16>| {
+            let meets = |whose: &Whose| number.is_some_and(|n| whose.is(sort, n, names));
+            whose.as_ref().is_none_or(meets)
+        };
+        let opened = |openings: &BTreeSet<i64>| row.opening.is_some_and(|o| openings.contains(&o));
         replied
-            && self.user.is_none_or(|user| row.user == Some(user))
-            && meets(self.order, Sort::Order)
-            && meets(self.task, Sort::Task)
+            && (self.since..self.until).contains(&row.at)
+            && self.account.as_ref().is_none_or(|a| **a == *row.account)
+            && self
+                .order
+                .is_none_or(|n| number(row, Sort::Order) == Some(n))
+            && self.openings.as_ref().is_none_or(opened)
+            && is(&self.user, Sort::User, row.user)
+            && is(&self.task, Sort::Task, number(row, Sort::Task))
     }
 }
 
@@ -190,33 +429,61 @@ pub fn time(at: i64) -> String {
     format!("{year:04}-{month:02}-{day:02} {hour:02}:{minute:02}:{second:02}.{micros:06}")
 }
 
-fn name_of(reply: u8) -> &'static str {
+fn name_of_reply(reply: u8) -> &'static str {
     Reply::from_number(reply.into()).map_or("", |reply| reply.name())
 }
 
+/// What stands behind a line: the rule, the numbers that have names, the opening and who asked.
+fn behind(row: &Row, names: &Names) -> String {
+    let mut all = Vec::new();
+    if row.place != 0 {
+        all.push(format!("rule {}", row.place));
+    }
+    for sort in [Sort::Subject, Sort::Order] {
+        let named = number(row, sort).filter(|&n| names.name(sort, n).is_some());
+        all.extend(named.map(|n| format!("{} {n}", sort.word())));
+    }
+    all.extend(row.opening.map(|opening| format!("opening {opening}")));
+    all.push(match &row.via {
+        Some(via) => format!("by {} via {via}", row.account),
+        None => format!("by {}", row.account),
+    });
+    all.join(", ")
+}
+
 fn line(row: &Row, names: &Names) -> String {
-    let (number, time, reply, name) = (row.number, time(row.at), row.reply, name_of(row.reply));
+    let (number, time, reply) = (row.number, time(row.at), row.reply);
+    let name = name_of_reply(row.reply);
     let words = writer::line(row.bytes.as_ref(), names);
-    let rule = if row.place == 0 {
-        String::new()
-    } else {
-        format!("  (rule {})", row.place)
-    };
     let user = row
         .user
         .map_or("-".to_string(), |user| names.shown(Sort::User, user));
-    format!("{number:>7}  {time}  {reply:>2} {name:<12}  {user:<12}  {words}{rule}")
+    let behind = behind(row, names);
+    format!("{number:>7}  {time}  {reply:>2} {name:<12}  {user:<12}  {words}  ({behind})")
 }
 
 fn object(row: &Row, names: &Names) -> String {
     let bytes = row.bytes.as_ref();
     let mut object = json!({
         "number": row.number, "at": row.at, "time": time(row.at), "client": row.client,
-        "request": writer::line(bytes, names), "reply": row.reply, "name": name_of(row.reply), "rule": row.place,
-        "user": row.user,
+        "account": &*row.account, "request": writer::line(bytes, names), "reply": row.reply,
+        "name": name_of_reply(row.reply), "rule": row.place, "user": row.user,
     });
-    if let Some(user) = row.user {
-        object["user_name"] = json!(names.shown(Sort::User, user));
+    if let Some(via) = &row.via {
+        object["via"] = json!(**via);
+    }
+    if let Some(opening) = row.opening {
+        object["opening"] = json!(opening);
+    }
+    let numbers = [Sort::Subject, Sort::Order, Sort::Task].map(|sort| (sort, number(row, sort)));
+    for (sort, number) in [(Sort::User, row.user)].into_iter().chain(numbers) {
+        let Some(number) = number else {
+            continue;
+        };
+        object[sort.word()] = json!(number);
+        if let Some(name) = names.name(sort, number) {
+            object[format!("{}_name", sort.word())] = json!(String::from_utf8_lossy(name));
+        }
     }
     match row.bytes.record() {
         Some(record) => object["kind"] = json!(record.kind()),

@@ -5,23 +5,30 @@ mod about;
 mod append;
 mod begin;
 mod check;
+mod clock;
+mod files;
 mod found;
 mod listing;
+mod live;
 mod sum;
 mod tables;
 
-pub use about::user_of;
-pub use append::{Failed, Journal, Saved};
-pub use begin::begin;
+pub use about::{user_of, user_of_subject};
+pub use append::{Failed, Group, Journal, Saved};
+pub use begin::{begin, LONGEST_NAME};
 pub use check::check;
-pub use found::{found, said, Found};
+pub use files::{lock, private};
+#[allow(unused_imports)]
+pub use found::{found, replay, said, Found};
 pub use listing::{list, Filter};
+pub use live::Live;
 
 use crate::names::Naming;
 use records::{Record, LENGTH};
+use std::sync::Arc;
 
 /// The version of the tables, and of the layout of the snapshots' buffers (docs/STATE.md).
-pub const VERSION: i64 = 1;
+pub const VERSION: i64 = 2;
 
 /// What marks an SQLite file as a journal: "MISH".
 pub const APPLICATION: i64 = 0x4d49_5348;
@@ -62,15 +69,35 @@ impl AsRef<[u8]> for Bytes {
 pub struct Row {
     /// From 1, without a gap.
     pub number: i64,
-    /// Microseconds since 1970, UTC; never below that of the row before.
+    /// Microseconds since 1970, UTC, as the clock had it: where the clock was set back, below that of the row before.
     pub at: i64,
     /// The connection that it came by, from 1 at each start.
     pub client: i64,
+    /// Who asked: the account that the connection was established as.
+    pub account: Arc<str>,
+    /// The account that spoke for it, where that was another.
+    pub via: Option<Arc<str>>,
     /// The user whom the request names, or whose subject it names.
     pub user: Option<u16>,
     pub bytes: Bytes,
     pub reply: u8,
     pub place: u16,
+    /// The number of the request that opened the order that this one is about, where that order is open.
+    pub opening: Option<i64>,
     /// The names that its line gave, where it was granted.
     pub namings: Vec<Naming>,
+}
+
+/// What an account may not ask: it was not put to the engine.
+#[derive(Clone, PartialEq, Eq, Debug)]
+pub struct Barred {
+    pub at: i64,
+    pub client: i64,
+    pub account: Arc<str>,
+    pub via: Option<Arc<str>>,
+    /// The record's bytes; none for a question or a connection.
+    pub record: Option<Bytes>,
+    /// The same in words.
+    pub asked: String,
+    pub why: String,
 }

@@ -52,10 +52,13 @@ pub fn of_row(before: u32, row: &Row) -> u32 {
         .number(row.number)
         .number(row.at)
         .number(row.client)
+        .text(row.account.as_bytes())
+        .text(row.via.as_deref().unwrap_or_default().as_bytes())
         .number(user)
         .text(row.bytes.as_ref())
         .bytes(&[row.reply])
-        .bytes(&row.place.to_le_bytes());
+        .bytes(&row.place.to_le_bytes())
+        .number(row.opening.unwrap_or(0));
     row.namings.iter().fold(sum, |sum, n| sum.naming(n)).half()
 }
 

@@ -24,12 +24,32 @@ CREATE TABLE request (
     number INTEGER PRIMARY KEY,
     at INTEGER NOT NULL,
     client INTEGER NOT NULL,
+    account TEXT NOT NULL,
+    via TEXT,
     user INTEGER,
     kind INTEGER, n INTEGER, a INTEGER, b INTEGER, c INTEGER, m INTEGER,
     cut BLOB,
     reply INTEGER NOT NULL,
     place INTEGER NOT NULL,
+    opening INTEGER,
     sum INTEGER NOT NULL
+);
+CREATE TABLE barred (
+    id INTEGER PRIMARY KEY,
+    at INTEGER NOT NULL,
+    after INTEGER NOT NULL,
+    client INTEGER NOT NULL,
+    account TEXT NOT NULL,
+    via TEXT,
+    record BLOB,
+    asked TEXT NOT NULL,
+    why TEXT NOT NULL
+);
+CREATE TABLE clock (
+    id INTEGER PRIMARY KEY,
+    after INTEGER NOT NULL,
+    expected INTEGER NOT NULL,
+    found INTEGER NOT NULL
 );
 CREATE TABLE name (
     request INTEGER NOT NULL,
@@ -43,6 +63,8 @@ CREATE TABLE snapshot (
     version INTEGER NOT NULL,
     row_sum INTEGER NOT NULL,
     policy BLOB NOT NULL, sessions BLOB NOT NULL, orders BLOB NOT NULL,
+    openings BLOB NOT NULL,
+    names TEXT NOT NULL,
     sum INTEGER NOT NULL
 );
 CREATE TABLE start (
@@ -56,25 +78,38 @@ CREATE TABLE kind (number INTEGER PRIMARY KEY, words TEXT NOT NULL, subject TEXT
 CREATE VIEW answered AS
     SELECT request.number,
         strftime('%Y-%m-%d %H:%M:%f', request.at / 1e6, 'unixepoch') AS time,
-        request.client, kind.words AS kind, request.user,
+        request.client, request.account, request.via, kind.words AS kind, request.user,
         CASE kind.subject WHEN 'a' THEN a WHEN 'b' THEN b WHEN 'c' THEN c END AS subject,
         CASE kind.ordr WHEN 'a' THEN a WHEN 'b' THEN b WHEN 'c' THEN c END AS ordr,
         CASE kind.task WHEN 'a' THEN a WHEN 'b' THEN b WHEN 'c' THEN c END AS task,
-        reply.name AS reply, request.place AS rule
+        request.opening, reply.name AS reply, request.place AS rule
     FROM request LEFT JOIN kind ON kind.number = request.kind LEFT JOIN reply ON reply.number = request.reply;
 ";
 
+/// The columns of a request, as `found::row` takes them.
+pub const COLUMNS: &str =
+    "number, at, client, account, via, user, kind, n, a, b, c, m, cut, reply, place, opening, sum";
+
 /// A request with its reply.
 pub const INSERT: &str =
-    "INSERT INTO request (number, at, client, user, kind, n, a, b, c, m, cut, reply, place, sum) \
-     VALUES (?1, ?2, ?3, ?4, ?5, ?6, ?7, ?8, ?9, ?10, ?11, ?12, ?13, ?14)";
-
-/// The columns of a request, as `row::read` takes them.
-pub const COLUMNS: &str = "number, at, client, user, kind, n, a, b, c, m, cut, reply, place, sum";
+    "INSERT INTO request (number, at, client, account, via, user, kind, n, a, b, c, m, cut, reply, place, opening, sum) \
+     VALUES (?1, ?2, ?3, ?4, ?5, ?6, ?7, ?8, ?9, ?10, ?11, ?12, ?13, ?14, ?15, ?16, ?17)";
 
 pub const INSERT_NAME: &str =
     "INSERT INTO name (request, sort, number, name) VALUES (?1, ?2, ?3, ?4)";
 
+/// What an account may not ask.
+pub const INSERT_BARRED: &str =
+    "INSERT INTO barred (at, after, client, account, via, record, asked, why) \
+     VALUES (?1, ?2, ?3, ?4, ?5, ?6, ?7, ?8)";
+
+/// A clock that was set.
+pub const INSERT_CLOCK: &str = "INSERT INTO clock (after, expected, found) VALUES (?1, ?2, ?3)";
+
+/// The columns of a snapshot, as `found::snapshot_of` takes them.
+pub const SNAPSHOT: &str =
+    "after, version, row_sum, policy, sessions, orders, openings, names, sum";
+
 pub const INSERT_SNAPSHOT: &str =
-    "INSERT INTO snapshot (after, version, row_sum, policy, sessions, orders, sum) \
-     VALUES (?1, ?2, ?3, ?4, ?5, ?6, ?7)";
+    "INSERT INTO snapshot (after, version, row_sum, policy, sessions, orders, openings, names, sum) \
+     VALUES (?1, ?2, ?3, ?4, ?5, ?6, ?7, ?8, ?9)";

@@ -1,12 +1,16 @@
 //! One client: what it sends is read, asked in batches and answered in order. What it does wrong is told to it alone.
 
+use super::accept::House;
+use super::account::Who;
+use super::door::{Door, Entered};
 use super::form::{self, Item, Shown};
+use super::greeting::{greeted, Form, Greeted};
 use super::group::{Asked, Batch, Waiting};
 use super::input::{Cut, Input};
-use super::question;
-use super::Door;
-use std::collections::BTreeMap;
-use std::io::{self, Write};
+use super::question::{self, Asks, Unanswered};
+use crate::journal::{self, Barred, Bytes};
+use nix::unistd::Uid;
+use std::io::{self, Read, Write};
 use std::os::unix::net::UnixStream;
 use std::sync::mpsc::{sync_channel, Receiver, SyncSender};
 use std::sync::Arc;
@@ -18,12 +22,35 @@ const MOST: usize = 1024;
 /// A client that takes no replies for so long is left.
 const PATIENCE: Duration = Duration::from_secs(60);
 
+/// A connection, of which there is one descriptor.
+#[derive(Clone)]
+pub struct Stream(pub Arc<UnixStream>);
+
+impl Read for Stream {
+    fn read(&mut self, room: &mut [u8]) -> io::Result<usize> {
+        (&*self.0).read(room)
+    }
+}
+
+impl Write for Stream {
+    fn write(&mut self, bytes: &[u8]) -> io::Result<usize> {
+        (&*self.0).write(bytes)
+    }
+
+    fn flush(&mut self) -> io::Result<()> {
+        Ok(())
+    }
+}
+
 /// A client's connection to its desk.
-struct Client {
+struct Client<'a> {
     number: i64,
-    door: Door,
-    input: Input<UnixStream>,
-    out: UnixStream,
+    who: Arc<Who>,
+    house: &'a House,
+    door: Arc<Door>,
+    _entered: Entered,
+    input: Input<Stream>,
+    out: Stream,
     /// The lines so far.
     lines: u64,
     items: Vec<Item>,
@@ -33,100 +60,51 @@ struct Client {
 }
 
 /// Serves a client until it ends, or its desk does.
-pub fn serve(
-    stream: UnixStream,
-    number: i64,
-    desks: &Arc<BTreeMap<String, Door>>,
-) -> io::Result<()> {
+pub fn serve(stream: &Arc<UnixStream>, number: i64, uid: Uid, house: &House) -> io::Result<()> {
     stream.set_write_timeout(Some(PATIENCE))?;
-    let mut input = Input::new(stream.try_clone()?);
-    let mut out = stream;
-    let Some(door) = door(&mut input, &mut out, desks)? else {
+    let who = house.gate.who(uid);
+    let mut out = Stream(stream.clone());
+    let input = Input::new(out.clone());
+    let Some(greeted) = greeted(input, &mut out, house, who, number)? else {
         return Ok(());
     };
-    let (to, from) = sync_channel(1);
-    let mut client = Client {
-        number,
+    let Greeted {
+        who,
         door,
         input,
+        form,
+        lines,
+    } = greeted;
+    let entered = match door.enter(number, stream) {
+        Ok(entered) => entered,
+        Err(why) => return writeln!(out, "wrong: {why}"),
+    };
+    let (to, from) = sync_channel(1);
+    let client = Client {
+        number,
+        who: Arc::new(who),
+        house,
+        door,
+        _entered: entered,
+        input,
         out,
-        lines: 0,
+        lines,
         items: Vec::new(),
         asked: Vec::new(),
         back: (Some(to), from),
     };
-    // One byte alone is a cut record, or a line of one letter.
-    client.waits_for(2)?;
-    let first = client.input.rest();
-    // A byte order mark is text too.
-    let text = first.starts_with(b"\xef\xbb") || notation::is_text(&first[..first.len().min(2)]);
-    match text {
-        true => client.lines(),
-        false => client.records(),
+    match form {
+        Form::Lines => client.lines(),
+        Form::Records => client.records(),
     }
 }
 
-/// The desk that a client's first line names, `desk NAME`; the only one where it names none.
-fn door(
-    input: &mut Input<UnixStream>,
-    out: &mut UnixStream,
-    desks: &BTreeMap<String, Door>,
-) -> io::Result<Option<Door>> {
-    const FIRST: &[u8] = b"desk ";
-    while input.rest().len() < FIRST.len() && FIRST.starts_with(input.rest()) {
-        if !input.fill()? {
-            break;
-        }
-    }
-    let only = || desks.values().next().filter(|_| desks.len() == 1).cloned();
-    if !input.rest().starts_with(FIRST) {
-        return match only() {
-            Some(door) => Ok(Some(door)),
-            None => {
-                let names: Vec<&str> = desks.keys().map(String::as_str).collect();
-                writeln!(
-                    out,
-                    "wrong: the first line names a desk, as: desk {}",
-                    names.join(", desk ")
-                )?;
-                Ok(None)
-            }
-        };
-    }
-    let line = loop {
-        if let Some(line) = input.line() {
-            break line;
-        }
-        if !input.fill()? {
-            break input.line().unwrap_or(Cut::TooLong);
-        }
-    };
-    let Cut::Line(line) = line else {
-        writeln!(out, "wrong: the first line is too long")?;
-        return Ok(None);
-    };
-    let name = String::from_utf8_lossy(&line[FIRST.len()..])
-        .trim()
-        .to_string();
-    match desks.get(&name) {
-        Some(door) => {
-            writeln!(out, "desk {name}")?;
-            Ok(Some(door.clone()))
-        }
-        None => {
-            writeln!(out, "wrong: there is no desk {name:?} here")?;
-            Ok(None)
-        }
-    }
+/// A desk that has ended answers nothing more.
+fn ended() -> io::Error {
+    io::Error::other("the desk has ended")
 }
 
-impl Client {
-    /// Waits for so many bytes, or the end.
-    fn waits_for(&mut self, count: usize) -> io::Result<()> {
-        while self.input.rest().len() < count && self.input.fill()? {}
-        Ok(())
-    }
-
+impl Client<'_> {
     fn records(mut self) -> io::Result<()> {
         loop {
             while self.asked.len() < MOST {
@@ -142,6 +120,15 @@ impl Client {
     }
 
     fn lines(mut self) -> io::Result<()> {
+        let served = self.each_line();
+        // Whoever has not gone is told why there is no more.
+        if let Some(why) = self.door.ended() {
+            let _ = writeln!(self.out, "wrong: {why}");
+        }
+        served
+    }
+
+    fn each_line(&mut self) -> io::Result<()> {
         loop {
             while self.asked.len() < MOST {
                 let Some(line) = self.input.line() else {
@@ -180,35 +167,49 @@ impl Client {
             _ => line,
         };
         if line.first() == Some(&b'{') {
-            return Ok(self.object(line));
+            return self.object(line);
         }
-        if let Some(asks) = question::of_line(line) {
-            self.answered()?;
-            let told = self.question(&asks);
-            self.items.push(Item::Told(told.into_bytes()));
-            return Ok(true);
-        }
-        let names = self.door.names.clone();
-        let names = names.read().unwrap_or_else(|e| e.into_inner());
-        match form::of_line(line, &names) {
-            Ok(None) => Ok(false),
-            Ok(Some(asked)) => Ok(self.ask(asked, Shown::Line)),
-            Err(why) => {
-                self.wrong(&why, Shown::Line);
+        self.said(line, Shown::Line)
+    }
+
+    fn object(&mut self, line: &[u8]) -> io::Result<bool> {
+        match form::of_object(line) {
+            (Ok(form::Said::Line(text)), id) => self.said(text.as_bytes(), Shown::Object(id)),
+            (Ok(form::Said::Record(bytes)), id) => {
+                Ok(self.ask(Asked::of(&bytes, Vec::new()), Shown::Object(id)))
+            }
+            (Err(why), id) => {
+                self.wrong(&why, Shown::Object(id));
                 Ok(false)
             }
         }
     }
 
-    fn object(&mut self, line: &[u8]) -> bool {
-        let names = self.door.names.clone();
-        let names = names.read().unwrap_or_else(|e| e.into_inner());
-        let (asked, id) = form::of_object(line, &names);
-        match asked {
-            Ok(asked) => self.ask(asked, Shown::Object(id)),
+    /// Takes what a line says: a question, or a request.
+    fn said(&mut self, line: &[u8], shown: Shown) -> io::Result<bool> {
+        match question::of_line(line) {
+            None => {}
+            Some(Err(how)) => {
+                self.wrong(&format!("column 1: a question is asked so: {how}"), shown);
+                return Ok(false);
+            }
+            Some(Ok(asks)) => {
+                self.answered()?;
+                self.questioned(asks, line, shown)?;
+                return Ok(true);
+            }
+        }
+        let read = form::of_line(line, &self.door.live());
+        match read {
+            Ok(None) if matches!(shown, Shown::Line) => Ok(false),
+            Ok(None) => {
+                self.wrong("the request is empty", shown);
+                Ok(false)
+            }
+            Ok(Some(asked)) => Ok(self.ask(asked, shown)),
             Err(why) => {
-                self.wrong(&why, Shown::Object(id));
-                false
+                self.wrong(&why, shown);
+                Ok(false)
             }
         }
     }
@@ -239,24 +240,28 @@ impl Client {
             self.back.0 = Some(batch.back);
         }
         let mut replies = Vec::new();
+        let live = self.door.live();
         for item in self.items.drain(..) {
             replies.extend(match item {
-                Item::Request(at, shown) => form::reply(&self.asked[at], &shown, failed.as_deref()),
-                Item::Wrong(why, shown) => form::wrong(&why, None, &shown),
+                Item::Request(at, shown) => {
+                    form::reply(&self.asked[at], &shown, failed.as_deref(), &live)
+                }
+                Item::Wrong(why, shown) => form::wrong(&why, &shown),
                 Item::Told(told) => told,
             });
         }
+        drop(live);
         self.asked.clear();
         self.out.write_all(&replies)?;
         Ok(true)
     }
 
-    /// Sends a batch to the desk and waits for it. A desk that has ended answers nothing more.
+    /// Sends a batch to the desk and waits for it.
     fn asks(&mut self, asked: Vec<Asked>) -> io::Result<Batch> {
-        let ended = || io::Error::other("the desk has ended");
         let back = self.back.0.take().ok_or_else(ended)?;
         let batch = Batch {
             client: self.number,
+            who: self.who.clone(),
             asked,
             failed: None,
             back,
@@ -266,15 +271,114 @@ impl Client {
         self.back.1.recv().map_err(|_| ended())
     }
 
-    /// The answer to a question, of a copy of the engine as it stands.
-    fn question(&self, asks: &question::Asks) -> String {
-        let (to, from) = sync_channel(1);
-        if self.door.to.send(Waiting::Look(to)).is_err() {
-            return "wrong: the desk has ended\n".to_string();
+    /// Answers a question, where the account may ask it.
+    fn questioned(&mut self, asks: Asks, line: &[u8], shown: Shown) -> io::Result<()> {
+        let may = match &asks {
+            Asks::Journal(_) => self.who.may_read(),
+            _ => self.who.may_question(),
+        };
+        if let Err(why) = may.and_then(|()| self.may_explain(&asks)) {
+            let told = self.barred(line, None, why);
+            self.items.push(Item::Told(form::told(&told, &shown)));
+            return Ok(());
         }
-        match from.recv() {
-            Ok(engine) => question::answer(&self.door, engine, asks),
-            Err(_) => "wrong: the desk has ended\n".to_string(),
+        if let Asks::Journal(words) = asks {
+            return self.listed(&words, shown);
         }
+        let json = matches!(shown, Shown::Object(_));
+        let pool = &self.house.pool;
+        let answer = pool.ask(&self.who, &self.door, asks, json, &self.out.0);
+        let told = match answer {
+            Ok(answer) => form::answer(&answer, &shown),
+            Err(Unanswered::Wrong(why)) => form::wrong(&why, &shown),
+            Err(Unanswered::Gone) => return Err(io::ErrorKind::BrokenPipe.into()),
+        };
+        self.items.push(Item::Told(told));
+        Ok(())
+    }
+
+    /// Why a request is refused is told to those who may make it.
+    fn may_explain(&self, asks: &Asks) -> Result<(), String> {
+        let Asks::Why(line) = asks else {
+            return Ok(());
+        };
+        let live = self.door.live();
+        let Ok(Some(asked)) = form::of_line(line.as_bytes(), &live) else {
+            return Ok(());
+        };
+        drop(live);
+        match asked.bytes.record() {
+            Some(record) => self.door.may(&self.who, record),
+            None => Ok(()),
+        }
+    }
+
+    /// Keeps in the journal that an account may not ask something; what it is told.
+    fn barred(&self, asked: &[u8], record: Option<Bytes>, why: String) -> form::Denied {
+        let barred = Barred {
+            at: 0,
+            client: self.number,
+            account: self.who.account.clone(),
+            via: self.who.via.clone(),
+            record,
+            asked: String::from_utf8_lossy(asked).into_owned(),
+            why: why.clone(),
+        };
+        match self.door.keep(barred) {
+            true => form::Denied::Barred(why),
+            false => form::Denied::NotDone("it could not be kept in the journal".to_string()),
+        }
+    }
+
+    /// Writes rows of the journal as they are read, and a last line that says how many.
+    fn listed(&mut self, words: &[String], shown: Shown) -> io::Result<()> {
+        let told = |why: String| Item::Told(form::wrong(&why, &shown));
+        let filter = match journal::Filter::of_words(words) {
+            Ok(filter) => filter,
+            Err(why) => {
+                self.items.push(told(why));
+                return Ok(());
+            }
+        };
+        let Some(file) = self.door.journal.clone() else {
+            let why = "this desk has no journal".to_string();
+            self.items.push(told(why));
+            return Ok(());
+        };
+        let filter = journal::Filter {
+            json: matches!(shown, Shown::Object(_)),
+            ..filter
+        };
+        let mut counted = Counted(io::BufWriter::with_capacity(1 << 16, self.out.clone()), 0);
+        match journal::list(&file, &filter, &mut counted) {
+            Ok(_) => {
+                counted.0.flush()?;
+                let rows = counted.1;
+                let told = form::answer(&format!("{rows} rows of the journal"), &shown);
+                self.items.push(Item::Told(told));
+                Ok(())
+            }
+            Err(crate::stop::Stop::Quiet) => Err(io::ErrorKind::BrokenPipe.into()),
+            Err(crate::stop::Stop::Wrong(why) | crate::stop::Stop::Refused(why)) => {
+                counted.0.flush()?;
+                self.items.push(told(why.join("; ")));
+                Ok(())
+            }
+        }
+    }
+}
+
+/// Lines on their way to a client, counted.
+struct Counted(io::BufWriter<Stream>, u64);
+
+impl Write for Counted {
+    fn write(&mut self, bytes: &[u8]) -> io::Result<usize> {
+        let written = self.0.write(bytes)?;
+        self.1 += bytes[..written].iter().filter(|&&b| b == b'\n').count() as u64;
+        Ok(written)
+    }
+
+    fn flush(&mut self) -> io::Result<()> {
+        self.0.flush()
     }
 }

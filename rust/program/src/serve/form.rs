@@ -1,9 +1,9 @@
 //! The forms that requests and replies have: lines of the notation, objects a line, and records.
 
-use super::group::Asked;
-use crate::journal::said;
-use crate::names::Names;
-use crate::reader;
+use super::group::{Asked, More};
+use crate::journal::{said, Live, LONGEST_NAME};
+use crate::names::Sort;
+use crate::reader::{self, Token};
 use records::Reply;
 use serde_json::{json, Value};
 
@@ -26,32 +26,67 @@ pub enum Shown {
 }
 
 /// A request of a text line; or what is wrong with it. Nothing for a line without words.
-pub fn of_line(line: &[u8], names: &Names) -> Result<Option<Asked>, String> {
-    let read = reader::decode(line).and_then(|line| reader::read_line(line, names));
+pub fn of_line(line: &[u8], live: &Live) -> Result<Option<Asked>, String> {
     let told = |wrong: reader::Wrong| format!("column {}: {wrong}", wrong.column);
-    let Some(line) = read.map_err(told)? else {
+    let text = reader::decode(line).map_err(told)?;
+    let mut tokens = reader::tokens(text).0;
+    let choose = chosen(&mut tokens);
+    let read = reader::read_tokens(&tokens, &live.names).map_err(told)?;
+    let Some(read) = read else {
         return Ok(None);
     };
-    match line.record {
-        Some(record) => Ok(Some(Asked::of(&record, line.namings))),
-        None => Err("it gives a name and makes no request".to_string()),
+    let Some(record) = read.record else {
+        return Err("it gives a name and makes no request".to_string());
+    };
+    if let Some(long) = read.namings.iter().find(|n| n.name.len() > LONGEST_NAME) {
+        let (column, length) = (long.column, long.name.len());
+        return Err(format!(
+            "column {column}: expected a name of at most {LONGEST_NAME} bytes, found one of {length}"
+        ));
     }
+    let mut asked = Asked::of(&record, read.namings);
+    asked.choose = choose;
+    asked.line = Some((line.into(), live.changes));
+    Ok(Some(asked))
 }
 
-/// The request of an object: `{"request": "claim 5 0 1"}`, or `{"record": "3200..."}` in hexadecimal digits; and its `id`.
-pub fn of_object(line: &[u8], names: &Names) -> (Result<Asked, String>, Option<Value>) {
+/// Where a line opens an order or creates a subject without a number, a number is put there, which the server chooses anew:
+/// `open order mill of template repair`, `create subject for user anna with roles clerk`.
+fn chosen(tokens: &mut Vec<Token>) -> Option<Sort> {
+    let words: Vec<&str> = tokens.iter().take(3).map(|token| token.text).collect();
+    let sort = match words[..] {
+        ["open", "order", _] => Sort::Order,
+        ["create", "subject", _] => Sort::Subject,
+        _ => return None,
+    };
+    let third = tokens[2];
+    if third.number().is_some() {
+        return None;
+    }
+    tokens.insert(2, Token { text: "0", ..third });
+    Some(sort)
+}
+
+/// What an object says.
+pub enum Said {
+    Line(String),
+    Record(Vec<u8>),
+}
+
+/// What an object says, `{"request": "claim 5 0 1"}`, or `{"record": "3200..."}` in hexadecimal digits; and its `id`.
+pub fn of_object(line: &[u8]) -> (Result<Said, String>, Option<Value>) {
     let mut object: Value = match serde_json::from_slice(line) {
         Ok(object) => object,
         Err(why) => return (Err(format!("no object: {why}")), None),
     };
     let id = object.get_mut("id").map(Value::take);
-    let asked = match (object["request"].as_str(), object["record"].as_str()) {
-        (Some(line), None) => of_line(line.as_bytes(), names)
-            .and_then(|asked| asked.ok_or("the request is empty".to_string())),
-        (None, Some(digits)) => bytes_of(digits).map(|bytes| Asked::of(&bytes, Vec::new())),
+    let said = match (object["request"].as_str(), object["record"].as_str()) {
+        (Some(line), None) if line.contains('\n') => Err("a request is one line".to_string()),
+        (Some(line), None) => Ok(Said::Line(line.to_string())),
+        (None, Some(digits)) => bytes_of(digits).map(Said::Record),
         _ => Err("an object has a \"request\", a line, or a \"record\", its digits".to_string()),
     };
-    (asked, id)
+    (said, id)
 }
 
 /// Hexadecimal digits, two a byte, at most sixteen bytes.
@@ -67,33 +102,109 @@ fn bytes_of(digits: &str) -> Result<Vec<u8>, String> {
     bytes.map_err(|_| expected())
 }
 
+/// Why a request was not put to the engine, or not done.
+pub enum Denied {
+    /// The account may not ask it.
+    Barred(String),
+    Wrong(String),
+    NotDone(String),
+}
+
+/// What is told in the place of a reply.
+pub fn told(denied: &Denied, shown: &Shown) -> Vec<u8> {
+    let (key, word, why) = match denied {
+        Denied::Barred(why) => ("barred", "barred", why),
+        Denied::Wrong(why) => ("wrong", "wrong", why),
+        Denied::NotDone(why) => ("not_done", "not done", why),
+    };
+    match shown {
+        Shown::Object(id) => object(json!({ key: why }), id),
+        _ => format!("{word}: {why}\n").into(),
+    }
+}
+
+fn object(mut object: Value, id: &Option<Value>) -> Vec<u8> {
+    if let Some(id) = id {
+        object["id"] = id.clone();
+    }
+    (object.to_string() + "\n").into()
+}
+
+/// What is told of something that is no request.
+pub fn wrong(why: &str, shown: &Shown) -> Vec<u8> {
+    told(&Denied::Wrong(why.to_string()), shown)
+}
+
+/// The answer to a question.
+pub fn answer(text: &str, shown: &Shown) -> Vec<u8> {
+    match shown {
+        Shown::Object(id) => {
+            let value = serde_json::from_str(text).unwrap_or_else(|_| json!(text));
+            object(json!({ "answer": value }), id)
+        }
+        _ => format!("{text}\n").into(),
+    }
+}
+
 /// A reply as its client takes it; `failed` says why it was not done, where it has no number.
-pub fn reply(asked: &Asked, shown: &Shown, failed: Option<&str>) -> Vec<u8> {
-    if asked.number == 0 {
-        let why = failed.unwrap_or("the journal could not be written");
-        let why = format!("not done: {why}");
-        return match shown {
-            Shown::Record => record(asked, 1).to_vec(),
-            _ => wrong(&why, None, shown),
+pub fn reply(asked: &Asked, shown: &Shown, failed: Option<&str>, live: &Live) -> Vec<u8> {
+    let denied = match &asked.more {
+        More::Wrong(why) => Some(Denied::Wrong(why.clone())),
+        More::Barred(why) if failed.is_none() => Some(Denied::Barred(why.clone())),
+        _ if asked.number == 0 => {
+            let why = failed.unwrap_or("the journal could not be written");
+            Some(Denied::NotDone(why.to_string()))
+        }
+        _ => None,
+    };
+    if let Some(denied) = denied {
+        return match (shown, &denied) {
+            (Shown::Record, Denied::Barred(_)) => record(asked, BARRED).to_vec(),
+            (Shown::Record, _) => record(asked, NOT_DONE).to_vec(),
+            _ => told(&denied, shown),
         };
     }
     match shown {
         Shown::Record => record(asked, 0).to_vec(),
-        Shown::Line => format!("{} {}\n", asked.number, said((asked.reply, asked.place))).into(),
-        Shown::Object(id) => {
-            let name = Reply::from_number(asked.reply.into()).map_or("", |reply| reply.name());
-            let mut object = json!({
-                "number": asked.number, "reply": asked.reply, "name": name, "rule": asked.place,
-            });
-            if let Some(id) = id {
-                object["id"] = id.clone();
-            }
-            (object.to_string() + "\n").into()
+        Shown::Line => {
+            let said = said((asked.reply, asked.place));
+            format!("{} {said}{}\n", asked.number, more(asked, live)).into()
         }
+        Shown::Object(id) => object(granted(asked, live), id),
     }
 }
 
-/// Byte 0 the reply, byte 1 whether it was not done, bytes 2 and 3 the rule's place, bytes 8 to 15 the request's number.
+fn granted(asked: &Asked, live: &Live) -> Value {
+    let name = Reply::from_number(asked.reply.into()).map_or("", |reply| reply.name());
+    let mut object = json!({
+        "number": asked.number, "reply": asked.reply, "name": name, "rule": asked.place,
+    });
+    match &asked.more {
+        More::Chosen(sort, number) if asked.reply == 0 => object[sort.word()] = json!(number),
+        More::Figures(_) => {
+            object["figures"] = json!(more(asked, live).trim_start_matches(", "));
+        }
+        _ => {}
+    }
+    object
+}
+
+/// What stands behind a granted reply: the number that was chosen, or a question's figures.
+fn more(asked: &Asked, live: &Live) -> String {
+    let task = |task: u16| live.names.shown(Sort::Task, task);
+    match &asked.more {
+        More::Chosen(sort, number) if asked.reply == 0 => format!(", {} {number}", sort.word()),
+        More::Figures(figures) => notation::figures(asked.bytes.as_ref(), figures, task)
+            .map_or(String::new(), |said| format!(", {said}")),
+        _ => String::new(),
+    }
+}
+
+/// What byte 1 of a reply says: it was not done, or the account may not ask it.
+const NOT_DONE: u8 = 1;
+const BARRED: u8 = 2;
+
+/// Byte 0 the reply, byte 1 whether it was not done or barred, bytes 2 and 3 the rule's place, bytes 8 to 15 the request's number.
 fn record(asked: &Asked, not_done: u8) -> [u8; 16] {
     let mut bytes = [0; 16];
     bytes[0] = if not_done == 0 { asked.reply } else { 0xff };
@@ -101,19 +212,4 @@ fn record(asked: &Asked, not_done: u8) -> [u8; 16] {
     bytes[2..4].copy_from_slice(&asked.place.to_le_bytes());
     bytes[8..].copy_from_slice(&asked.number.to_le_bytes());
     bytes
-}
-
-/// What is told of something that is no request.
-pub fn wrong(why: &str, line: Option<u64>, shown: &Shown) -> Vec<u8> {
-    let at = line.map_or(String::new(), |line| format!("line {line}, "));
-    match shown {
-        Shown::Object(id) => {
-            let mut object = json!({ "wrong": format!("{at}{why}") });
-            if let Some(id) = id {
-                object["id"] = id.clone();
-            }
-            (object.to_string() + "\n").into()
-        }
-        _ => format!("wrong: {at}{why}\n").into(),
-    }
 }

@@ -1,36 +1,43 @@
 //! `serve`: desks on a socket. Many clients, one engine a desk; every request is in the desk's journal before it is answered.
 //! docs/SERVE.md tells the forms, the journal's tables and what is promised when something fails.
 
+mod accept;
+mod access;
+mod account;
 mod client;
+mod door;
 mod form;
+mod greeting;
 mod group;
 mod input;
+mod listen;
 mod question;
 
-use crate::journal::{self, Journal, Saved};
-use crate::names::Names;
+pub use listen::Socket;
+pub use question::Allowed;
+
+use crate::journal::{self, Journal, Live, Saved};
+use crate::names::Sort;
+use crate::report::report;
 use crate::source::Policy;
-use crate::stop::{wrong, Done, Stop, REFUSED};
+use crate::stop::{wrong, Done, Stop, REFUSED, WELL};
+use accept::{House, Limits};
+use access::{Access, Whose};
+use account::Gate;
+use door::Door;
 use group::{Served, Waiting};
 use mishantral::Engine;
+use nix::sys::signal::{SigSet, Signal};
+use nix::unistd::Uid;
+use question::Pool;
 use std::collections::BTreeMap;
-use std::fs;
 use std::io::Write;
-use std::os::unix::fs::FileTypeExt;
-use std::os::unix::net::{UnixListener, UnixStream};
 use std::path::Path;
-use std::sync::atomic::{AtomicUsize, Ordering};
-use std::sync::mpsc::{channel, Sender};
+use std::sync::atomic::{AtomicU64, Ordering};
+use std::sync::mpsc::{channel, Receiver};
 use std::sync::{Arc, RwLock};
 use std::thread;
-
-/// What a client has of its desk.
-#[derive(Clone)]
-pub struct Door {
-    to: Sender<Waiting>,
-    names: Arc<RwLock<Names>>,
-    policy: Arc<Policy>,
-}
+use std::time::{Duration, Instant};
 
 /// A desk to serve.
 pub struct Wanted {
@@ -42,100 +49,202 @@ pub struct Wanted {
 pub struct Options {
     pub desks: Vec<Wanted>,
     pub policy: Option<Policy>,
-    pub socket: String,
+    pub socket: Socket,
+    /// The access file; without one the server's own account and root speak for everyone, and nobody else comes in.
+    pub access: Option<String>,
     /// How many requests go into one transaction at most.
     pub group: usize,
     /// After how many requests a snapshot is taken.
     pub snapshot: i64,
     pub saved: Saved,
-    /// How many clients there may be at once.
+    /// How many clients there may be at once, and of one account.
     pub clients: usize,
+    pub clients_each: Option<usize>,
+    /// What a question may take.
+    pub questions: Allowed,
+    /// Where one desk ends, all do.
+    pub together: bool,
 }
 
-/// A client's thread needs little.
-const STACK: usize = 1 << 20;
-
 pub fn serve(options: &Options, out: &mut dyn Write) -> Done {
-    let mut desks = BTreeMap::new();
-    let mut served = Vec::new();
+    // Nobody may read what is told here; that ends nothing.
+    let mut tell = |line: &str| drop(writeln!(out, "{line}").and_then(|()| out.flush()));
+    let ends = ends_asked_for().map_err(|why| cannot("the signals cannot be waited for", &why))?;
+    let pool = Pool::new(options.questions).map_err(|why| threads(&why))?;
+    let gate = gate(options)?;
+    let (mut desks, mut served) = (BTreeMap::new(), Vec::new());
     for wanted in &options.desks {
-        let (door, desk, waiting, line) = opened(options, wanted)?;
-        writeln!(out, "{line}")?;
-        if desks.insert(wanted.name.clone(), door).is_some() {
+        if desks.contains_key(&wanted.name) {
             return wrong(format!("desk {}: it is named twice", wanted.name));
         }
-        served.push((wanted.name.clone(), desk, waiting));
+        let (door, desk, waiting, line) = opened(options, wanted, &pool.answered)?;
+        tell(&line);
+        unknown_users(&gate, &door);
+        desks.insert(wanted.name.clone(), door.clone());
+        served.push((door, desk, waiting));
     }
-    let listener = listener(&options.socket)?;
-    let (ended, ends) = channel();
-    for (name, desk, waiting) in served {
+    let listening = listen::listen(&options.socket)?;
+    let (clients, told) = accept::descriptors(options.clients, desks.len());
+    told.iter().for_each(report);
+    let each = options.clients_each.unwrap_or(clients.div_ceil(2));
+    let limits = Limits { clients, each };
+    let house = Arc::new(House::new(desks, gate, pool, limits));
+    let (ended, came) = channel();
+    for (door, desk, waiting) in served {
         let ended = ended.clone();
         let work = move || {
             let why = group::work(desk, waiting);
-            let _ = ended.send((name, why));
+            let _ = ended.send((door, why));
         };
         thread::Builder::new()
             .spawn(work)
             .map_err(|why| threads(&why))?;
     }
-    writeln!(out, "serving on {}", options.socket)?;
-    out.flush()?;
-    let (desks, most) = (Arc::new(desks), options.clients);
-    let count = desks.len();
-    let accept = move || accepted(&listener, &desks, most);
+    let listening = Arc::new(listening);
+    let (accepting, taking) = (listening.clone(), house.clone());
+    let accept = move || accept::accept(&accepting.listener, &taking);
     thread::Builder::new()
         .spawn(accept)
         .map_err(|why| threads(&why))?;
-    // A desk ends where its journal fails; the others go on.
-    for (name, why) in ends.iter().take(count) {
-        let why = why.err().unwrap_or_default();
-        eprintln!("mishantral: desk {name}: it has ended, since its journal failed: {why}");
+    let (waiting, closing) = (house.clone(), listening.clone());
+    let end = move || {
+        if ends.wait().is_ok() {
+            closing.remove();
+            close(&waiting);
+        }
+    };
+    thread::Builder::new()
+        .spawn(end)
+        .map_err(|why| threads(&why))?;
+    tell(&format!("serving on {}", options.socket.path));
+    Ok(until_all_end(&house, &came, options.together))
+}
+
+/// A desk that has ended, and how.
+type Ended = (Arc<Door>, Result<(), String>);
+
+/// Waits until every desk has ended: one whose journal failed alone, the others go on unless they are to end together.
+fn until_all_end(house: &Arc<House>, came: &Receiver<Ended>, together: bool) -> u8 {
+    let mut status = WELL;
+    for (door, how) in came.iter().take(house.desks.len()) {
+        let called = match door.name.as_str() {
+            "" => "the desk".to_string(),
+            name => format!("desk {name}"),
+        };
+        match how {
+            Ok(()) => door.end(&format!("{called} has ended")),
+            Err(why) => {
+                status = REFUSED;
+                let why = format!("{called} has ended, since its journal failed: {why}");
+                report(&why);
+                door.end(&why);
+                if together {
+                    close(house);
+                }
+            }
+        }
     }
-    Ok(REFUSED)
+    // Replies that are on their way are sent.
+    let began = Instant::now();
+    while house.clients() > 0 && began.elapsed() < Duration::from_secs(2) {
+        thread::sleep(Duration::from_millis(5));
+    }
+    status
+}
+
+/// No further client comes, and every desk ends when it has answered what it is at.
+fn close(house: &House) {
+    house.closing.store(true, Ordering::Relaxed);
+    for door in house.desks.values() {
+        let _ = door.to.send(Waiting::End);
+    }
+}
+
+/// The signals that ask for an end, which no thread takes but the one that waits for them.
+fn ends_asked_for() -> nix::Result<SigSet> {
+    let mut ends = SigSet::empty();
+    ends.add(Signal::SIGTERM);
+    ends.add(Signal::SIGINT);
+    ends.thread_block()?;
+    Ok(ends)
+}
+
+fn gate(options: &Options) -> Result<Gate, Stop> {
+    match &options.access {
+        Some(file) => Access::read(file).map(Gate::Listed),
+        None => Ok(Gate::Owner(Uid::effective())),
+    }
+}
+
+/// A user whom the access file names and nobody has declared is told: it may be added later, or be a slip.
+fn unknown_users(gate: &Gate, door: &Door) {
+    let Gate::Listed(access) = gate else {
+        return;
+    };
+    let names = door.names();
+    for (account, whose) in access.users() {
+        let Whose::Name(name) = whose else {
+            continue;
+        };
+        if names.number(Sort::User, name).is_none() {
+            let name = String::from_utf8_lossy(name);
+            report(format!(
+                "account {account} is user {name}, and there is no such user now"
+            ));
+        }
+    }
+}
+
+fn cannot(what: &str, why: &dyn std::fmt::Display) -> Stop {
+    Stop::Wrong(vec![format!("{what}: {why}")])
 }
 
 fn threads(why: &std::io::Error) -> Stop {
-    Stop::Wrong(vec![format!("a thread cannot be started: {why}")])
+    cannot("a thread cannot be started", why)
 }
 
-type Opened = (Door, Served, std::sync::mpsc::Receiver<Waiting>, String);
+type Opened = (Arc<Door>, Served, Receiver<Waiting>, String);
 
 /// Reads a desk's journal, which is begun where there is none.
-fn opened(options: &Options, wanted: &Wanted) -> Result<Opened, Stop> {
-    let (policy, names, engine, journal, last, line) = match &wanted.journal {
+fn opened(options: &Options, wanted: &Wanted, answered: &Arc<AtomicU64>) -> Result<Opened, Stop> {
+    let (policy, live, engine, journal, last, line) = match &wanted.journal {
         Some(file) => from_journal(options, wanted, file)?,
         None => without(options)?,
     };
-    let names = Arc::new(RwLock::new(names));
+    let shared = Arc::new(RwLock::new(live.clone()));
     let served = Served {
         engine,
         journal,
-        names: names.clone(),
+        live,
+        shared: shared.clone(),
         most: options.group,
         last,
+        answered: answered.clone(),
     };
     let (to, waiting) = channel();
-    let policy = Arc::new(policy);
-    Ok((Door { to, names, policy }, served, waiting, line))
+    let (name, file) = (wanted.name.clone(), wanted.journal.clone());
+    let door = Door::new(name, to, shared, policy, file);
+    Ok((Arc::new(door), served, waiting, line))
 }
 
-type Start = (Policy, Names, Engine, Option<Journal>, i64, String);
+type Start = (Policy, Live, Engine, Option<Journal>, i64, String);
 
 fn from_journal(options: &Options, wanted: &Wanted, file: &str) -> Result<Start, Stop> {
-    let mut begun = false;
-    if !Path::new(file).exists() {
+    let begun = !Path::new(file).exists();
+    if begun {
         let Some(policy) = &options.policy else {
             return wrong(format!(
                 "{file}: there is no journal, and no policy to begin one with"
             ));
         };
-        begun = true;
         if let Err(refused) = journal::begin(file, policy)? {
             return Err(Stop::Refused(crate::check::refusal(policy, refused)));
         }
     }
     let (every, saved) = (options.snapshot, options.saved);
-    let (journal, found) = Journal::open(file, every, saved, options.policy.as_ref())?;
+    // Of several desks, those that are there may have policies of their own: POLICY is for the missing ones.
+    let policy = options.policy.as_ref().filter(|_| wanted.name.is_empty());
+    let (journal, found) = Journal::open(file, every, saved, policy)?;
     let name = if wanted.name.is_empty() {
         file
     } else {
@@ -150,7 +259,7 @@ fn from_journal(options: &Options, wanted: &Wanted, file: &str) -> Result<Start,
     };
     Ok((
         found.policy,
-        found.names,
+        found.live,
         found.engine,
         Some(journal),
         found.last,
@@ -167,58 +276,6 @@ fn without(options: &Options) -> Result<Start, Stop> {
         return Err(Stop::Refused(crate::check::refusal(policy, refused)));
     }
     let line = format!("{}: without a journal: nothing survives", policy.file);
-    Ok((policy.clone(), policy.names.clone(), engine, None, 0, line))
-}
-
-/// Listens at a path. A socket that nobody listens at any more is left by a server that was killed, and goes.
-fn listener(path: &str) -> Result<UnixListener, Stop> {
-    let failed = |why: &dyn std::fmt::Display| Stop::Wrong(vec![format!("{path}: {why}")]);
-    if let Ok(there) = fs::symlink_metadata(path) {
-        if !there.file_type().is_socket() {
-            return Err(failed(&"it is there, and no socket"));
-        }
-        if UnixStream::connect(path).is_ok() {
-            return Err(Stop::Refused(vec![format!(
-                "{path}: another server listens there"
-            )]));
-        }
-        fs::remove_file(path).map_err(|why| failed(&why))?;
-    }
-    UnixListener::bind(path).map_err(|why| failed(&why))
-}
-
-/// Takes clients, a thread each.
-fn accepted(listener: &UnixListener, desks: &Arc<BTreeMap<String, Door>>, most: usize) {
-    let there = Arc::new(AtomicUsize::new(0));
-    for number in 1.. {
-        let mut stream = match listener.accept() {
-            Ok((stream, _)) => stream,
-            Err(why) => {
-                // As where there are too many open files: those who are there go on.
-                eprintln!("mishantral: a client could not be taken: {why}");
-                thread::sleep(std::time::Duration::from_millis(100));
-                continue;
-            }
-        };
-        if there.fetch_add(1, Ordering::Relaxed) >= most {
-            there.fetch_sub(1, Ordering::Relaxed);
-            let _ = writeln!(
-                stream,
-                "wrong: {most} clients are here, and no more may come"
-            );
-            continue;
-        }
-        let (desks, counted) = (desks.clone(), there.clone());
-        let work = move || {
-            let _ = client::serve(stream, number, &desks);
-            counted.fetch_sub(1, Ordering::Relaxed);
-        };
-        if thread::Builder::new()
-            .stack_size(STACK)
-            .spawn(work)
-            .is_err()
-        {
-            there.fetch_sub(1, Ordering::Relaxed);
-        }
-    }
+    let live = Live::new(policy.names.clone());
+    Ok((policy.clone(), live, engine, None, 0, line))
 }

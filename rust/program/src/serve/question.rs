@@ -1,54 +1,375 @@
-//! Questions among a client's lines, asked of a copy of the engine: `who ORDER TASK`, `finish ORDER`, `finish all`. Each is answered on
-//! one line.
+//! Questions among a client's lines, asked of a copy of the engine: `who ORDER TASK`, `finish ORDER`, `finish all`, `why REQUEST`.
+//!
+//! They are answered by a few threads of their own, each with a budget of time and memory; of one account few wait at a time, and they
+//! take but a part of each minute. So nobody's questions keep others from their requests.
 
-use super::Door;
+use super::account::Who;
+use super::door::Door;
+use super::form;
+use super::group::Waiting;
 use crate::desk::Desk;
-use crate::finish::{self, Options};
+use crate::finish::{self, Budget, Options};
+use crate::journal::{said, Live};
+use crate::names::Sort;
 use crate::reader;
 use crate::stop::{Done, Stop};
+use crate::why::why;
 use mishantral::Engine;
+use nix::poll::{poll, PollFd, PollFlags};
+use serde_json::{json, Value};
+use std::collections::{BTreeMap, VecDeque};
+use std::os::fd::AsRawFd;
+use std::os::unix::net::UnixStream;
+use std::sync::atomic::{AtomicBool, AtomicU64, Ordering};
+use std::sync::mpsc::{sync_channel, RecvTimeoutError, SyncSender};
+use std::sync::{Arc, Condvar, Mutex, MutexGuard, PoisonError};
+use std::thread;
+use std::time::{Duration, Instant};
 
 /// What is asked.
+#[derive(Clone, PartialEq, Eq, Debug)]
 pub enum Asks {
     Who(String, String),
     Finish(String),
     FinishAll,
+    /// A request, and why it is answered as it would be now.
+    Why(String),
+    /// Rows of the journal, picked as `journal` picks them.
+    Journal(Vec<String>),
 }
 
-/// The question of a line, if it is one.
-pub fn of_line(line: &[u8]) -> Option<Asks> {
-    if !line.starts_with(b"who") && !line.starts_with(b"finish") {
-        return None;
+/// The question of a line, if it is one; or how it is asked.
+pub fn of_line(line: &[u8]) -> Option<Result<Asks, &'static str>> {
+    let text = std::str::from_utf8(line).ok()?;
+    let tokens = reader::tokens(text).0;
+    let words: Vec<&str> = tokens.iter().map(|token| token.text).collect();
+    Some(match words[..] {
+        ["who", order, task] => Ok(Asks::Who(order.to_string(), task.to_string())),
+        ["who", ..] => Err("who ORDER TASK"),
+        ["finish", "all"] => Ok(Asks::FinishAll),
+        ["finish", order] => Ok(Asks::Finish(order.to_string())),
+        ["finish", ..] => Err("finish ORDER, or finish all"),
+        ["why"] => Err("why REQUEST, as: why claim 1 7 sign"),
+        ["why", ..] => Ok(Asks::Why(text[tokens[1].at..].to_string())),
+        ["journal", ..] => Ok(Asks::Journal(
+            words[1..].iter().map(|w| w.to_string()).collect(),
+        )),
+        _ => return None,
+    })
+}
+
+/// How many questions wait at most, of everyone and of one account.
+const MOST: usize = 64;
+const MOST_EACH: usize = 4;
+
+/// What the questions of one account may take of each minute.
+const MINUTE: Duration = Duration::from_secs(60);
+const A_MINUTE: Duration = Duration::from_secs(20);
+
+/// How often it is looked whether a client is still there.
+const LOOK: Duration = Duration::from_millis(50);
+
+/// What each question may take.
+#[derive(Clone, Copy, Debug)]
+pub struct Allowed {
+    pub seconds: u64,
+    pub bytes: usize,
+}
+
+struct Job {
+    door: Arc<Door>,
+    asks: Asks,
+    json: bool,
+    gone: Arc<AtomicBool>,
+    back: SyncSender<(Result<String, String>, Duration)>,
+}
+
+/// What an account's questions take.
+struct Account {
+    since: Instant,
+    taken: Duration,
+    waiting: usize,
+}
+
+struct Inside {
+    jobs: VecDeque<Job>,
+    accounts: BTreeMap<Arc<str>, Account>,
+}
+
+#[derive(Clone)]
+pub struct Pool {
+    inside: Arc<(Mutex<Inside>, Condvar)>,
+    allowed: Allowed,
+    /// How many requests the desks have answered.
+    pub answered: Arc<AtomicU64>,
+}
+
+/// Why there is no answer.
+pub enum Unanswered {
+    Wrong(String),
+    /// The client has gone.
+    Gone,
+}
+
+impl Pool {
+    /// The threads that answer; fewer than asked for where there is none to be had.
+    pub fn new(allowed: Allowed) -> std::io::Result<Pool> {
+        let inside = Inside {
+            jobs: VecDeque::new(),
+            accounts: BTreeMap::new(),
+        };
+        let pool = Pool {
+            inside: Arc::new((Mutex::new(inside), Condvar::new())),
+            allowed,
+            answered: Arc::default(),
+        };
+        let cores = thread::available_parallelism().map_or(1, usize::from);
+        for _ in 0..(cores / 2).clamp(1, 4) {
+            let pool = pool.clone();
+            thread::Builder::new().spawn(move || pool.work())?;
+        }
+        Ok(pool)
     }
-    let line = std::str::from_utf8(line).ok()?;
-    let words: Vec<&str> = reader::tokens(line).0.iter().map(|t| t.text).collect();
-    match words[..] {
-        ["who", order, task] => Some(Asks::Who(order.to_string(), task.to_string())),
-        ["finish", "all"] => Some(Asks::FinishAll),
-        ["finish", order] => Some(Asks::Finish(order.to_string())),
-        _ => None,
+
+    fn inside(&self) -> MutexGuard<'_, Inside> {
+        self.inside.0.lock().unwrap_or_else(PoisonError::into_inner)
     }
+
+    fn work(&self) {
+        loop {
+            let mut inside = self.inside();
+            let job = loop {
+                match inside.jobs.pop_front() {
+                    Some(job) => break job,
+                    None => {
+                        let waited = self.inside.1.wait(inside);
+                        inside = waited.unwrap_or_else(PoisonError::into_inner);
+                    }
+                }
+            };
+            drop(inside);
+            if job.gone.load(Ordering::Relaxed) {
+                continue;
+            }
+            let began = Instant::now();
+            let answer = self.answer(&job);
+            let _ = job.back.send((answer, began.elapsed()));
+        }
+    }
+
+    fn answer(&self, job: &Job) -> Result<String, String> {
+        let ended = || "the desk has ended".to_string();
+        let (to, from) = sync_channel(1);
+        let sent = job.door.to.send(Waiting::Look(to));
+        sent.map_err(|_| ended())?;
+        let engine = from.recv().map_err(|_| ended())?;
+        let budget = Budget::of_question(
+            finish::TRIES,
+            self.allowed.seconds,
+            self.allowed.bytes,
+            job.gone.clone(),
+            self.answered.clone(),
+        );
+        answer(&job.door, engine, &job.asks, job.json, &budget)
+    }
+
+    /// Asks, and waits for the answer as long as the client is there.
+    pub fn ask(
+        &self,
+        who: &Who,
+        door: &Arc<Door>,
+        asks: Asks,
+        json: bool,
+        client: &UnixStream,
+    ) -> Result<String, Unanswered> {
+        self.admit(&who.account).map_err(Unanswered::Wrong)?;
+        let (back, from) = sync_channel(1);
+        let gone = Arc::new(AtomicBool::new(false));
+        let job = Job {
+            door: door.clone(),
+            asks,
+            json,
+            gone: gone.clone(),
+            back,
+        };
+        self.inside().jobs.push_back(job);
+        self.inside.1.notify_one();
+        let came = loop {
+            match from.recv_timeout(LOOK) {
+                Ok((answer, took)) => break Some((answer, took)),
+                Err(RecvTimeoutError::Disconnected) => break None,
+                Err(RecvTimeoutError::Timeout) if has_gone(client) => {
+                    gone.store(true, Ordering::Relaxed);
+                    break None;
+                }
+                Err(RecvTimeoutError::Timeout) => {}
+            }
+        };
+        let mut inside = self.inside();
+        inside.jobs.retain(|job| !job.gone.load(Ordering::Relaxed));
+        if let Some(account) = inside.accounts.get_mut(&who.account) {
+            account.waiting -= 1;
+            account.taken += came.as_ref().map_or(Duration::ZERO, |(_, took)| *took);
+        }
+        drop(inside);
+        match came {
+            Some((answer, _)) => answer.map_err(Unanswered::Wrong),
+            None => Err(Unanswered::Gone),
+        }
+    }
+
+    /// Whether an account may ask a further question now; or why not.
+    fn admit(&self, name: &Arc<str>) -> Result<(), String> {
+        let mut inside = self.inside();
+        if inside.jobs.len() >= MOST {
+            return Err(format!("{MOST} questions wait already: ask again later"));
+        }
+        let now = Instant::now();
+        // What nobody waits for and nobody used for a minute is forgotten.
+        let old = |account: &Account| now.duration_since(account.since) >= MINUTE;
+        inside
+            .accounts
+            .retain(|_, account| account.waiting > 0 || !old(account));
+        let account = inside.accounts.entry(name.clone()).or_insert(Account {
+            since: now,
+            taken: Duration::ZERO,
+            waiting: 0,
+        });
+        if old(account) {
+            (account.since, account.taken) = (now, Duration::ZERO);
+        }
+        if account.waiting >= MOST_EACH {
+            return Err(format!(
+                "{MOST_EACH} questions of {name} wait already: ask again when they are answered"
+            ));
+        }
+        if account.taken >= A_MINUTE {
+            let left = MINUTE.saturating_sub(now.duration_since(account.since));
+            return Err(format!(
+                "the questions of {name} have taken {} s of this minute: ask again in {} s",
+                account.taken.as_secs(),
+                left.as_secs() + 1
+            ));
+        }
+        account.waiting += 1;
+        Ok(())
+    }
+}
+
+/// Whether a client has gone altogether: one that only sends no more still waits for its answers.
+fn has_gone(client: &UnixStream) -> bool {
+    let mut looked = [PollFd::new(client.as_raw_fd(), PollFlags::empty())];
+    let there = poll(&mut looked, 0);
+    let gone = PollFlags::POLLHUP | PollFlags::POLLERR;
+    there.is_ok() && looked[0].revents().is_some_and(|e| e.intersects(gone))
 }
 
 /// The answer, on one line.
-pub fn answer(door: &Door, engine: Engine, asks: &Asks) -> String {
-    let names = door.names.read().unwrap_or_else(|e| e.into_inner()).clone();
-    let desk = Desk::at(&door.policy, names, engine);
+fn answer(
+    door: &Door,
+    engine: Engine,
+    asks: &Asks,
+    json: bool,
+    budget: &Budget,
+) -> Result<String, String> {
+    let mut desk = Desk::at(&door.policy, door.names(), engine);
     let mut out = Vec::new();
     let options = Options {
         list: None,
-        bound: finish::TRIES,
-        json: false,
+        budget,
+        json,
     };
     let done: Done = match asks {
-        Asks::Who(order, task) => finish::who(&desk, order, task, false, &mut out),
+        Asks::Who(order, task) => finish::who(&desk, order, task, json, &mut out),
         Asks::Finish(order) => finish::finish_one(&desk, order, &options, &mut out),
         Asks::FinishAll => finish::finish_all(&desk, &options, &mut out),
+        Asks::Why(line) => return explained(&mut desk, line, json),
+        Asks::Journal(_) => return Err("the journal is read, and not asked".to_string()),
     };
-    if let Err(Stop::Wrong(lines)) = done {
-        return format!("wrong: {}\n", lines.join("; "));
+    if let Err(Stop::Wrong(lines) | Stop::Refused(lines)) = done {
+        return Err(lines.join("; "));
     }
     let text = String::from_utf8_lossy(&out);
+    if json {
+        let lines = text.lines();
+        let objects = lines.filter_map(|line| serde_json::from_str::<Value>(line).ok());
+        return Ok(Value::Array(objects.collect()).to_string());
+    }
     let lines: Vec<&str> = text.lines().map(str::trim).collect();
-    lines.join("; ").replace(":; ", ": ") + "\n"
+    Ok(lines.join("; ").replace(":; ", ": "))
+}
+
+/// A record with the lowest number of its sort that is free.
+fn numbered(desk: &Desk, sort: Sort, record: &[u8]) -> Vec<u8> {
+    let in_use = |number: &u16| match sort {
+        Sort::Order => desk.told.orders.contains_key(number),
+        _ => desk.told.subjects.contains_key(number),
+    };
+    let number = (0..=sort.last()).find(|n| !in_use(n)).unwrap_or(0);
+    let mut record = record.to_vec();
+    record[2..4].copy_from_slice(&number.to_le_bytes());
+    record
+}
+
+/// What a request would be answered now, and why.
+fn explained(desk: &mut Desk, line: &str, json: bool) -> Result<String, String> {
+    let read = form::of_line(line.as_bytes(), &Live::new(desk.names.clone()))?;
+    let asked = read.ok_or("it is no request")?;
+    let (record, choose) = (asked.bytes.as_ref().to_vec(), asked.choose);
+    let record = choose.map_or(record.clone(), |sort| numbered(desk, sort, &record));
+    let answer = desk.tried_bytes(&record);
+    let (reply, place) = (answer.reply, answer.place as u16);
+    let why = match answer.is_granted() {
+        true => Vec::new(),
+        false => why(desk, &record, answer).lines(desk),
+    };
+    if json {
+        let (number, name) = (reply.number(), reply.name());
+        return Ok(json!({"reply": number, "name": name, "rule": place, "why": why}).to_string());
+    }
+    let said = said((reply.number(), place));
+    Ok(match why.is_empty() {
+        true => said,
+        false => format!("{said}: {}", why.join("; ")),
+    })
+}
+
+#[cfg(test)]
+mod tests {
+    use super::*;
+
+    #[test]
+    fn a_question_is_a_question_or_tells_how_it_is_asked() {
+        let of = |line: &str| of_line(line.as_bytes());
+        let who = Asks::Who("mill".to_string(), "sign".to_string());
+        assert_eq!(of("who mill sign # now"), Some(Ok(who)));
+        assert_eq!(of("who mill"), Some(Err("who ORDER TASK")));
+        assert_eq!(of("finish all"), Some(Ok(Asks::FinishAll)));
+        assert_eq!(of("finish"), Some(Err("finish ORDER, or finish all")));
+        let why = Asks::Why("claim 1 7 sign".to_string());
+        assert_eq!(of("why claim 1 7 sign"), Some(Ok(why)));
+        assert_eq!(of("whoever 7"), None);
+        assert_eq!(of("claim 1 7 sign"), None);
+    }
+
+    #[test]
+    fn an_account_has_few_questions_at_a_time() {
+        let pool = Pool::new(Allowed {
+            seconds: 1,
+            bytes: 1 << 20,
+        })
+        .unwrap();
+        let (anna, bert): (Arc<str>, Arc<str>) = ("anna".into(), "bert".into());
+        for _ in 0..MOST_EACH {
+            assert_eq!(pool.admit(&anna), Ok(()));
+        }
+        assert!(pool.admit(&anna).unwrap_err().contains("wait already"));
+        assert_eq!(pool.admit(&bert), Ok(()));
+        {
+            let mut inside = pool.inside();
+            let bert = inside.accounts.get_mut(&bert).unwrap();
+            (bert.waiting, bert.taken) = (0, A_MINUTE);
+        }
+        assert!(pool.admit(&bert).unwrap_err().contains("of this minute"));
+    }
 }

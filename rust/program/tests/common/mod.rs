@@ -1,0 +1,140 @@
+//! What the tests of the served desk have in common: a server of its own for each, and a client.
+
+#![allow(dead_code)]
+
+use std::fs;
+use std::io::{BufRead, BufReader, Read, Write};
+use std::net::Shutdown;
+use std::os::unix::net::UnixStream;
+use std::path::{Path, PathBuf};
+use std::process::{Child, Command, Stdio};
+
+pub fn root() -> PathBuf {
+    let root = Path::new(env!("CARGO_MANIFEST_DIR")).join("../..");
+    root.canonicalize().unwrap()
+}
+
+pub fn mishantral(arguments: &[&str]) -> Command {
+    let mut command = Command::new(env!("CARGO_BIN_EXE_mishantral"));
+    command.args(arguments).current_dir(root());
+    command
+}
+
+/// What it writes, what it tells and its exit status. A server that should have been refused is ended after a while.
+pub fn run(arguments: &[&str]) -> (String, String, i32) {
+    let mut command = mishantral(arguments);
+    command
+        .stdin(Stdio::null())
+        .stdout(Stdio::piped())
+        .stderr(Stdio::piped());
+    let mut child = command.spawn().unwrap();
+    let read = |from: Option<Box<dyn Read + Send>>| {
+        let mut from = from.unwrap();
+        std::thread::spawn(move || {
+            let mut text = String::new();
+            from.read_to_string(&mut text).unwrap();
+            text
+        })
+    };
+    let out = read(
+        child
+            .stdout
+            .take()
+            .map(|out| Box::new(out) as Box<dyn Read + Send>),
+    );
+    let err = read(
+        child
+            .stderr
+            .take()
+            .map(|err| Box::new(err) as Box<dyn Read + Send>),
+    );
+    for _ in 0..600 {
+        if child.try_wait().unwrap().is_some() {
+            break;
+        }
+        std::thread::sleep(std::time::Duration::from_millis(50));
+    }
+    let _ = child.kill();
+    let status = child.wait().unwrap().code().unwrap_or(-1);
+    (out.join().unwrap(), err.join().unwrap(), status)
+}
+
+/// A folder of its own, with a short name: that of a socket has 107 bytes at most.
+pub fn room(name: &str) -> PathBuf {
+    let room = std::env::temp_dir().join(format!("mishantral-{name}-{}", std::process::id()));
+    let _ = fs::remove_dir_all(&room);
+    fs::create_dir_all(&room).unwrap();
+    room
+}
+
+/// A server, which is killed when this goes: that is how one ends.
+pub struct Server {
+    pub child: Child,
+    pub socket: PathBuf,
+    pub told: Vec<String>,
+}
+
+impl Server {
+    pub fn start(room: &Path, more: &[&str]) -> Server {
+        let (journal, socket) = (room.join("desk.db"), room.join("desk.sock"));
+        let mut all = vec!["serve", "--journal", journal.to_str().unwrap()];
+        all.extend(["--socket", socket.to_str().unwrap()]);
+        all.extend(more);
+        Server::started(&mut mishantral(&all), socket)
+    }
+
+    /// Starts a server by a command of its own.
+    pub fn started(command: &mut Command, socket: PathBuf) -> Server {
+        let mut child = command.stdout(Stdio::piped()).spawn().unwrap();
+        let mut told = Vec::new();
+        for line in BufReader::new(child.stdout.take().unwrap()).lines() {
+            let line = line.unwrap();
+            let last = line.starts_with("serving on ");
+            told.push(line);
+            if last {
+                return Server {
+                    child,
+                    socket,
+                    told,
+                };
+            }
+        }
+        let ended = child.wait();
+        panic!("the server did not start, {ended:?}: {told:?}");
+    }
+
+    /// Sends bytes, ends, and reads what comes.
+    pub fn ask(&self, bytes: &[u8]) -> Vec<u8> {
+        let mut stream = UnixStream::connect(&self.socket).unwrap();
+        stream.write_all(bytes).unwrap();
+        stream.shutdown(Shutdown::Write).unwrap();
+        let mut replies = Vec::new();
+        stream.read_to_end(&mut replies).unwrap();
+        replies
+    }
+
+    pub fn lines(&self, text: &str) -> Vec<String> {
+        let replies = String::from_utf8(self.ask(text.as_bytes())).unwrap();
+        replies.lines().map(String::from).collect()
+    }
+}
+
+impl Drop for Server {
+    fn drop(&mut self) {
+        let _ = self.child.kill();
+        let _ = self.child.wait();
+    }
+}
+
+pub const POLICY: &str = "examples/named.txt";
+
+/// Waits until something holds, for ten seconds at most.
+pub fn waited(what: &str, mut holds: impl FnMut() -> bool) {
+    for _ in 0..200 {
+        if holds() {
+            return;
+        }
+        std::thread::sleep(std::time::Duration::from_millis(50));
+    }
+    panic!("{what}: it does not come");
+}
