@@ -78,7 +78,7 @@ enum mishantral_group {
     MISHANTRAL_OPL_SCRATCH = 4
 };
 
-/* How many 64-bit words a buffer has: the only length that the other two calls take. 0 for another group. */
+/* How many 64-bit words a buffer of this group has: the only length that the calls below take for it. 0 for another group. */
 uint64_t mishantral_words(uint64_t group);
 
 /* Loads a policy: `length` bytes, sixteen a record. The engine is emptied first, and a refused load leaves it
@@ -126,7 +126,8 @@ uint64_t mishantral_settled_request(const uint8_t *record, size_t length,
 
 /* Answers a pile of requests in one call: `length` bytes, sixteen a record, at most MISHANTRAL_MOST_PILED records. They are made one
  * after the other, and a refused one does not end the pile. The reply to each is one byte of `answers`, from the place `at` on, counted from
- * 0; the other bytes of `answers` stay. Replies and state afterwards are those of mishantral_request for each record.
+ * 0; the other bytes of `answers` stay. The replies, and the tables that the state reads as afterwards, are those of mishantral_request for each
+ * record; an entry may stand in another slot of the ledger.
  *
  * The answer is the reply to the pile alone: GRANTED; or, before any request is done and with nothing written, ROOM where a state buffer has
  * not its fixed length, `at` lies past the end of `answers`, there is not a byte for each whole record from there on, or there are more than
