@@ -2,9 +2,8 @@
 //! figures of a granted question.
 
 use crate::figures::{figures, Again};
-use crate::is_text;
 use crate::names::{Names, Sort};
-use crate::reader::{self, Error, Wrong};
+use crate::reader::{give, Error, Line, Wrong};
 use crate::tokens::{tokens, Token, END};
 use crate::writer;
 use records::{Reply, LENGTH};
@@ -68,15 +67,17 @@ impl<'a> Listed<'a> {
     }
 }
 
-pub(crate) fn load_line(
-    mut listed: Listed,
-    policy: Option<&[u8]>,
-    names: &Names,
-) -> Result<(Reply, String), Error> {
+/// The reply and the place of a listing's first line.
+pub fn load(listing: &str) -> Result<(Reply, usize), Error> {
+    let mut listed = Listed::new(0, listing.lines().next().unwrap_or(""));
     listed.word("load")?;
     let reply = listed.reply()?;
     let place = listed.place("the place of a record", |_| true)?;
     listed.end()?;
+    Ok((reply, place))
+}
+
+fn load_words(reply: Reply, place: usize, policy: Option<&[u8]>, names: &Names) -> String {
     let at = match place {
         0 => String::new(),
         _ => format!(" at record {place}"),
@@ -87,7 +88,7 @@ pub(crate) fn load_line(
         .map_or(String::new(), |record| {
             format!(": {}", writer::line(record, names))
         });
-    Ok((reply, format!("load {reply}{at}{refused}\n")))
+    format!("load {reply}{at}{refused}\n")
 }
 
 /// The rule that a refused claim is about, in words, where the reply says its place: `task set 1 of 0 1 (rule 1 of its kind)`.
@@ -150,21 +151,31 @@ fn figures_line(again: &mut Option<Again>, record: &[u8], reply: Reply, names: &
 /// the rules that refused claims are about are shown in words too, and so are the figures of granted questions.
 pub fn explain(
     policy: Option<&[u8]>,
-    requests: &[u8],
+    requests: &[Line],
     listing: &str,
     names: &Names,
 ) -> Result<String, Error> {
-    let mut lines = listing.lines().enumerate();
-    let (_, first) = lines.next().unwrap_or((0, ""));
-    let (reply, mut text) = load_line(Listed::new(0, first), policy, names)?;
+    let (reply, place) = load(listing)?;
+    let mut names = names.clone();
+    let mut text = load_words(reply, place, policy, &names);
     let judged = if reply.is_granted() { requests } else { &[] };
     let mut again = Again::with(policy, judged);
-    for (before, record) in judged.chunks(LENGTH).enumerate() {
-        let (at, listed) = lines.next().unwrap_or((before + 1, ""));
+    let mut lines = listing.lines().enumerate().skip(1);
+    let mut made = 0;
+    for line in judged {
+        let Some(record) = &line.record else {
+            give(&mut names, &line.namings, false);
+            continue;
+        };
+        made += 1;
+        let (at, listed) = lines.next().unwrap_or((made, ""));
         let listed = Listed::new(at, listed);
-        let (reply, line) = request_line(listed, before + 1, record, policy, names)?;
-        text += &line;
-        text += &figures_line(&mut again, record, reply, names);
+        let (reply, line_of_it) = request_line(listed, made, record, policy, &names)?;
+        if reply.is_granted() {
+            give(&mut names, &line.namings, false);
+        }
+        text += &line_of_it;
+        text += &figures_line(&mut again, record, reply, &names);
     }
     match lines.next() {
         None => Ok(text),
@@ -176,25 +187,5 @@ pub fn explain(
                 found: format!("\"{further}\""),
             },
         }),
-    }
-}
-
-/// Where a refused load's record is in a policy, text or records, with the reply and the record in words:
-/// `line 7: 5 TAKEN: user 3`, or `record 2: 5 TAKEN: user 3`.
-pub fn refused(policy: &[u8], reply: Reply, place: usize, names: &Names) -> String {
-    let Some(before) = place.checked_sub(1) else {
-        return reply.to_string();
-    };
-    let text = is_text(policy).then(|| reader::read(policy, names, true).ok());
-    if let Some(text) = text.flatten() {
-        let at = text.records().nth(before);
-        return at.map_or(format!("record {place}: {reply}"), |(number, record)| {
-            let words = writer::line(record, &text.names);
-            format!("line {number}: {reply}: {words}")
-        });
-    }
-    match policy.chunks(LENGTH).nth(before) {
-        Some(record) => format!("record {place}: {reply}: {}", writer::line(record, names)),
-        None => format!("record {place}: {reply}"),
     }
 }

@@ -2,6 +2,7 @@
 //! proved library where it is linked, else the plain engine.
 
 use crate::names::{Names, Sort};
+use crate::reader::Line;
 use records::{Record, Reply, Set, LENGTH};
 
 #[cfg(mishantral_engine)]
@@ -39,12 +40,13 @@ pub fn figures(
     }
 }
 
-/// Whether some of the records are questions.
-fn has_questions(records: &[u8]) -> bool {
-    let asks = |record: &[u8]| {
-        <[u8; LENGTH]>::try_from(record).is_ok_and(|bytes| matches!(Record(bytes).kind(), 58 | 60))
+/// Whether some of the requests are questions.
+fn has_questions(requests: &[Line]) -> bool {
+    let asks = |line: &Line| {
+        let record = line.record.as_deref().unwrap_or_default();
+        record.len() == LENGTH && matches!(record[0], 58 | 60)
     };
-    records.chunks(LENGTH).any(asks)
+    requests.iter().any(asks)
 }
 
 /// An engine that is asked what a desk program was asked before it.
@@ -52,7 +54,7 @@ pub(crate) struct Again(Engine);
 
 impl Again {
     /// The engine with the policy loaded, where some of the requests are questions.
-    pub fn with(policy: Option<&[u8]>, requests: &[u8]) -> Option<Again> {
+    pub fn with(policy: Option<&[u8]>, requests: &[Line]) -> Option<Again> {
         let mut engine = Engine::new();
         let policy = policy.filter(|_| has_questions(requests))?;
         load(&mut engine, policy).then_some(Again(engine))

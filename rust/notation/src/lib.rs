@@ -33,11 +33,12 @@ mod figures;
 pub mod names;
 mod quote;
 pub mod reader;
+pub mod source;
 mod tokens;
 pub mod writer;
 mod written;
 
-pub use explain::{explain, refused};
+pub use explain::{explain, load};
 pub use figures::{figures, stuck, ANSWER};
 pub use names::{Names, Sort};
 pub use reader::Error;

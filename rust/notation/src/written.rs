@@ -1,10 +1,9 @@
 //! The policy as it is after the requests of a listing: they are made once more on an engine that writes its policy out, the proved library where
 //! it is linked and has a call for that, else the plain engine. Every reply must be the listing's.
 
-use crate::explain::{load_line, request_line, Listed};
+use crate::explain::{load, request_line, Listed};
 use crate::names::Names;
-use crate::reader::{Error, Wrong};
-use records::LENGTH;
+use crate::reader::{give, Error, Line, Wrong};
 
 #[cfg(mishantral_write)]
 mod engine {
@@ -62,10 +61,14 @@ mod engine {
 pub const WRITER: &str = engine::NAME;
 
 /// The records of the policy after these requests, which a desk program has answered with this listing; an error where an engine answers
-/// otherwise, or where the load was refused.
-pub fn written(policy: &[u8], requests: &[u8], listing: &str) -> Result<Vec<u8>, Error> {
-    let names = Names::default();
-    let mut lines = listing.lines().enumerate();
+/// otherwise, or where the load was refused. The names that granted requests give are given.
+pub fn written(
+    policy: &[u8],
+    requests: &[Line],
+    listing: &str,
+    names: &mut Names,
+) -> Result<Vec<u8>, Error> {
+    let mut lines = listing.lines().enumerate().skip(1);
     let otherwise = |line: usize, reply: u8, listed: u8| match reply == listed {
         true => Ok(()),
         false => Err(Error {
@@ -78,15 +81,22 @@ pub fn written(policy: &[u8], requests: &[u8], listing: &str) -> Result<Vec<u8>,
         }),
     };
     let mut engine = engine::Engine::new();
-    let (_, first) = lines.next().unwrap_or((0, ""));
-    let (reply, _) = load_line(Listed::new(0, first), None, &names)?;
+    let (reply, _) = load(listing)?;
     otherwise(1, engine.load(policy), reply.number())?;
     otherwise(1, 0, reply.number())?;
-    for (before, record) in requests.chunks(LENGTH).enumerate() {
-        let (at, listed) = lines.next().unwrap_or((before + 1, ""));
-        let listed = Listed::new(at, listed);
-        let (reply, _) = request_line(listed, before + 1, record, None, &names)?;
+    let mut made = 0;
+    for line in requests {
+        let Some(record) = &line.record else {
+            give(names, &line.namings, false);
+            continue;
+        };
+        made += 1;
+        let (at, listed) = lines.next().unwrap_or((made, ""));
+        let (reply, _) = request_line(Listed::new(at, listed), made, record, None, names)?;
         otherwise(at + 1, engine.request(record), reply.number())?;
+        if reply.is_granted() {
+            give(names, &line.namings, false);
+        }
     }
     Ok(engine.written())
 }

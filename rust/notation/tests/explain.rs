@@ -1,13 +1,11 @@
 //! A listing with its requests in words, and listings that do not fit their requests.
 
-use notation::{read, Error, Names, Reply};
+use notation::reader::Line;
+use notation::{read, Error, Names};
 
 fn explain(policy: Option<&[u8]>, requests: &[u8], listing: &str) -> Result<String, Error> {
-    notation::explain(policy, requests, listing, &Names::default())
-}
-
-fn refused(policy: &[u8], reply: Reply, place: usize) -> String {
-    notation::refused(policy, reply, place, &Names::default())
+    let requests: Vec<Line> = requests.chunks(16).map(Line::of).collect();
+    notation::explain(policy, &requests, listing, &Names::default())
 }
 
 fn records(text: &str) -> Vec<u8> {
@@ -137,17 +135,17 @@ fn a_listing_that_does_not_fit() {
 }
 
 #[test]
-fn a_refused_record_is_found_in_text_and_in_records() {
-    let text = b"# two users\nuser 3\n\nuser 3\n";
-    let told = refused(text, Reply::Taken, 2);
-    assert_eq!(told, "line 4: 5 TAKEN: user 3");
-    let bytes = read(text).unwrap();
-    let told = refused(&bytes, Reply::Taken, 2);
-    assert_eq!(told, "record 2: 5 TAKEN: user 3");
-    let told = refused(&bytes[..20], Reply::Shape, 2);
-    assert_eq!(told, "record 2: 2 SHAPE: bytes 01 00 03 00");
-    assert_eq!(refused(&bytes, Reply::Room, 0), "1 ROOM");
-    assert_eq!(refused(&bytes, Reply::Shape, 7), "record 7: 2 SHAPE");
+fn names_are_shown_from_where_they_are_granted() {
+    let text = "create subject 1 am for user 300 with roles none\ncreate subject 1 pm for user 300 with roles none\ndestroy subject 1\n";
+    let requests = notation::reader::read(text.as_bytes(), &Names::default(), false).unwrap();
+    let requests: Vec<Line> = requests.lines.into_iter().map(|(_, line)| line).collect();
+    let listing = "load 0 0\n1 0 0\n2 5 0\n3 0 0\n";
+    let shown = notation::explain(None, &requests, listing, &Names::default()).unwrap();
+    let last = shown.lines().last().unwrap();
+    assert!(
+        last.ends_with("GRANTED       destroy subject am"),
+        "{shown}"
+    );
 }
 
 #[test]

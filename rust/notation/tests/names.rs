@@ -1,5 +1,6 @@
 //! Names in the place of numbers: where they may stand, and how a wrong one is told.
 
+use notation::reader::Line;
 use notation::{explain, reader, writer, Error, Names, Sort};
 use random::Random;
 use records::Record;
@@ -140,7 +141,13 @@ fn a_rule_is_shown_with_names() {
     let names = names();
     let policy = Record::before(0, 4);
     let claim = Record::claim(5, 0, 4);
-    let said = explain(Some(&policy.0), &claim.0, "load 0 0\n1 14 1\n", &names).unwrap();
+    let said = explain(
+        Some(&policy.0),
+        &[Line::of(&claim.0)],
+        "load 0 0\n1 14 1\n",
+        &names,
+    )
+    .unwrap();
     assert_eq!(
         said,
         "load 0 GRANTED\n    1  14 BEFORE        claim \"subject # : 5\" \"order:0\" \"task:4\"\n\

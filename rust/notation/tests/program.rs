@@ -1,92 +1,124 @@
-//! The program's commands, messages and statuses.
+//! `records`, `words` and the lists: what they make, what they tell, and their statuses.
 
-use std::io::Write;
-use std::process::{Command, Stdio};
+mod common;
 
-/// What the program wrote, what it said, and its status.
-fn run(arguments: &[&str], input: &[u8]) -> (Vec<u8>, String, i32) {
-    let mut child = Command::new(env!("CARGO_BIN_EXE_mishantral-notation"))
-        .args(arguments)
-        .stdin(Stdio::piped())
-        .stdout(Stdio::piped())
-        .stderr(Stdio::piped())
-        .spawn()
-        .unwrap();
-    // A refused command reads nothing, so the pipe may be closed already.
-    let _ = child.stdin.take().unwrap().write_all(input);
-    let output = child.wait_with_output().unwrap();
-    let said = String::from_utf8(output.stderr).unwrap();
-    (output.stdout, said, output.status.code().unwrap())
+use common::{file, room, run, run_bytes};
+
+/// A file of an example, by its whole name.
+fn example(file: &str) -> String {
+    format!("{}/../../examples/{file}", env!("CARGO_MANIFEST_DIR"))
 }
 
 #[test]
 fn text_to_records_to_text() {
-    let (records, said, status) = run(&["records"], b"user   300 # one\n\nclaim 5 0 1\n");
+    let (records, said, status) = run_bytes(&["records"], b"user   300 # one\n\nclaim 5 0 1\n");
     assert_eq!((records.len(), &said[..], status), (32, "", 0));
     let (text, said, status) = run(&["words", "-"], &records);
-    assert_eq!(text, b"user 300\nclaim 5 0 1\n");
+    assert_eq!(text, "user 300\nclaim 5 0 1\n");
     assert_eq!((&said[..], status), ("", 0));
-    assert_eq!(run(&["records", "--either"], &records).0, records);
-    assert_eq!(run(&["records", "--either"], &text).0, records);
+    assert_eq!(run_bytes(&["records"], &records).0, records);
+    assert_eq!(run_bytes(&["records"], text.as_bytes()).0, records);
+}
+
+#[test]
+fn names_are_kept_in_words_and_left_out_of_records() {
+    let text = b"user 300 anna\nrole 0 clerk\nuser anna has role clerk\n";
+    let (records, _, status) = run_bytes(&["records"], text);
+    assert_eq!((records.len(), status), (48, 0));
+    assert_eq!(run(&["words"], text).0.as_bytes(), text);
+    let numbers = "user 300\nrole 0\nuser 300 has role 0\n";
+    assert_eq!(run(&["words", "--numbers"], text).0, numbers);
+    let room = room("names");
+    let policy = file(&room, "policy.txt", text);
+    let request = b"create subject 1 am for user anna with roles clerk\ndestroy subject am\n";
+    let (words, said, status) = run(&["words", "--for", &policy], request);
+    let shown = "create subject am for user anna with roles clerk\ndestroy subject am\n";
+    assert_eq!((&words[..], &said[..], status), (shown, "", 0));
+    let (bytes, _, _) = run_bytes(&["records", "--for", &policy], request);
+    let plain = "create subject 1 for user 300 with roles 0\ndestroy subject 1\n";
+    assert_eq!(notation::write(&bytes), plain);
+    assert_eq!(run(&["records"], request).2, 2);
 }
 
 #[test]
 fn a_wrong_text_writes_nothing_and_says_where() {
-    let (written, said, status) = run(&["records"], b"user 300\nuser x\n");
-    assert_eq!((written.len(), status), (0, 1));
-    let message = "mishantral-notation: standard input: \
-        line 2, column 6: expected a number up to 65535, found \"x\"\n";
+    let (written, said, status) = run(&["records"], b"user x\nuser 300\nuser y\n");
+    assert_eq!((written.len(), status), (0, 2));
+    let message = "mishantral-notation: standard input: line 1, column 6: expected a number up to 65535, found \"x\"\n\
+        mishantral-notation: standard input: line 3, column 6: expected a number up to 65535, found \"y\"\n";
     assert_eq!(said, message);
 }
 
 #[test]
-fn every_error_of_a_text_has_its_line() {
-    let (_, said, status) = run(&["records"], b"user x\nuser 3\nuser y\n");
-    assert_eq!((said.lines().count(), status), (2, 1));
-    let (_, said, _) = run(&["records", "--either", "--name", "mine", "-"], b"user x\n");
+fn a_dealer_s_policy_is_records_and_words() {
+    let (policy, tasks) = (
+        example("opl_loan/policy.xml"),
+        example("opl_loan/tasks.txt"),
+    );
+    let (records, said, status) = run_bytes(&["records", "--tasks", &tasks, &policy], b"");
+    assert_eq!((records.len(), &said[..], status), (98 * 16, "", 0));
+    let (words, _, _) = run(&["words", "--tasks", &tasks, &policy], b"");
     assert!(
-        said.starts_with("mishantral-notation: mine: line 1, column 6"),
+        words.starts_with("user 0 \"user:klaus_meier\"\n"),
+        "{words}"
+    );
+    assert_eq!(notation::read(words.as_bytes()).unwrap(), records);
+    let (numbers, _, _) = run(&["words", "--numbers", "--tasks", &tasks, &policy], b"");
+    assert!(
+        numbers.ends_with("block of partitioning 1: 9\n"),
+        "{numbers}"
+    );
+}
+
+#[test]
+fn a_dealer_s_refusal_names_the_file_the_line_and_what_was_found() {
+    let room = room("refusals");
+    let (policy, tasks) = (
+        example("opl_loan/policy.xml"),
+        example("opl_loan/tasks.txt"),
+    );
+    let text = std::fs::read_to_string(&policy).unwrap();
+    let broken = text.replacen("<roles>", "<role_hierarchy/><roles>", 1);
+    let broken = file(&room, "broken.xml", broken);
+    let (written, said, status) = run(&["records", "--tasks", &tasks, &broken], b"");
+    let message = format!(
+        "mishantral-notation: {broken}: line 33, column 7: TEXT: expected <roles>, found <role_hierarchy>\n"
+    );
+    assert_eq!((written.len(), said, status), (0, message, 2));
+    let lines = file(&room, "lines.txt", "task:a  wf:b\n");
+    let (_, said, _) = run(&["records", "--tasks", &lines, &policy], b"");
+    let message = format!(
+        "mishantral-notation: {lines}: line 1, column 8: TEXT: expected a template name, found a space\n"
+    );
+    assert_eq!(said, message);
+    let (_, said, _) = run(&["records", &policy], b"");
+    let unknown = "line 156, column 46: NAMES: a task that the task lines do not have, \"task:1_input_customer_data\"";
+    assert!(said.contains(unknown), "{said}");
+    assert!(
+        said.contains("--tasks tells the file of the task lines"),
         "{said}"
     );
 }
 
 #[test]
-fn a_refused_record_is_named() {
-    let folder = std::path::Path::new(env!("CARGO_TARGET_TMPDIR"));
-    let file = folder.join("refused policy.txt");
-    std::fs::write(&file, "user 3\n\nuser 3\n").unwrap();
-    let file = file.to_str().unwrap();
-    let (told, _, status) = run(&["refused", "--name", "mine", file, "5", "2"], b"");
-    assert_eq!(told, b"mine: line 3: 5 TAKEN: user 3\n");
-    assert_eq!(status, 0);
-    assert_eq!(run(&["refused", file, "99", "2"], b"").2, 2);
-}
-
-#[test]
-fn a_listing_is_explained() {
-    let folder = std::path::Path::new(env!("CARGO_TARGET_TMPDIR"));
-    let file = folder.join("requests.rec");
-    std::fs::write(&file, notation::read(b"end order 0").unwrap()).unwrap();
-    let file = file.to_str().unwrap();
-    let (text, _, status) = run(&["explain", file], b"load 0 0\n1 4 0\n");
-    assert_eq!(status, 0);
-    assert_eq!(
-        text,
-        b"load 0 GRANTED\n    1   4 UNKNOWN       end order 0\n"
-    );
-    let (_, said, status) = run(&["explain", file], b"load 0 0\n");
-    assert_eq!(status, 1);
-    assert!(said.contains("line 2, column 1: expected \"1\""), "{said}");
+fn names_of_any_bytes_stand_on_one_line() {
+    let text = b"<policy_object><policy_object_attributes/><active_modules/><policy_object_modules>\
+        <module_rbac_core_policy><users><user user_id='a\"\\ \n\xff\xc3\xa9'/></users><roles/><permissions/>\
+        <user_assignments/><permission_assignments/></module_rbac_core_policy>\
+        </policy_object_modules></policy_object>";
+    let (words, said, status) = run(&["words"], text);
+    assert_eq!((&said[..], status), ("", 0));
+    assert_eq!(words, "user 0 \"a\\\"\\\\ \\x0a\\xffé\"\n");
 }
 
 #[test]
 fn lists_and_help() {
     let (forms, _, _) = run(&["forms"], b"");
-    assert_eq!(forms.split(|&b| b == b'\n').count(), 44);
+    assert_eq!(forms.lines().count(), 43);
     let (replies, _, _) = run(&["replies"], b"");
-    assert!(String::from_utf8(replies).unwrap().ends_with("24 WALL\n"));
+    assert!(replies.ends_with("24 WALL\n"));
     let (help, said, status) = run(&["--help"], b"");
-    assert!(help.starts_with(b"Records as lines"));
+    assert!(help.starts_with("Records as lines"));
     assert_eq!((&said[..], status), ("", 0));
 }
 
@@ -97,42 +129,18 @@ fn wrong_use_is_status_2() {
         &["other"],
         &["records", "one", "two"],
         &["records", "no/such/file"],
-        &["explain"],
+        &["records", "--wrods"],
+        &["records", "--tasks"],
+        &["words", "--for", "no/such/file"],
+        &["desk"],
+        &["desk", "policy.rec"],
     ] {
         let (written, said, status) = run(arguments, b"");
         assert_eq!((written.len(), status), (0, 2), "{arguments:?}");
-        assert!(said.starts_with("mishantral-notation: "), "{said}");
+        let called = match arguments.first() {
+            Some(&"desk") => "desk: ",
+            _ => "mishantral-notation: ",
+        };
+        assert!(said.starts_with(called), "{said}");
     }
-}
-
-#[test]
-fn the_policy_after_requests_is_written_where_the_listing_is_the_engine_s() {
-    let folder = std::path::Path::new(env!("CARGO_TARGET_TMPDIR"));
-    let file = |name: &str, text: &[u8]| {
-        let path = folder.join(name);
-        std::fs::write(&path, run(&["records"], text).0).unwrap();
-        path.to_str().unwrap().to_string()
-    };
-    let policy = file("written policy.rec", b"role 1\nrole 0\nuser 300\n");
-    let requests = b"add user 7 with roles 1\nadd user 300\nassign role 0 to user 300\n";
-    let requests = file("written requests.rec", requests);
-    let listing = b"load 0 0\n1 0 0\n2 5 0\n3 0 0\n";
-    let written = "user 7\nuser 300\nrole 0\nrole 1\nuser 7 has role 1\nuser 300 has role 0\n";
-    let (text, said, status) = run(&["written", "--words", &policy, &requests], listing);
-    assert_eq!(String::from_utf8(text).unwrap(), written);
-    assert_eq!((&said[..], status), ("", 0));
-    let (records, _, _) = run(&["written", &policy, &requests], listing);
-    assert_eq!(run(&["words"], &records).0, written.as_bytes());
-    for (listing, line) in [
-        (&b"load 0 0\n1 0 0\n2 0 0\n3 0 0\n"[..], "line 3"),
-        (b"load 5 1\n", "line 1"),
-        (b"load 0 0\n1 0 0\n", "line 3"),
-    ] {
-        let (written, said, status) = run(&["written", &policy, &requests], listing);
-        assert_eq!((written.len(), status), (0, 1));
-        assert!(said.contains(line), "{said}");
-    }
-    assert_eq!(run(&["written", &policy], b"").2, 2);
-    let writer = run(&["written", "--writer"], b"").0;
-    assert!([&b"proved\n"[..], b"plain\n"].contains(&&writer[..]));
 }

@@ -109,7 +109,7 @@ fn test() -> Command {
         .arg(flag("update", "Write what was answered into the files, in the place of what was expected"))
         .after_help(concat!(
             "Example:\n",
-            "  mishantral test examples/*.test\n",
+            "  mishantral test examples/*.test examples/asks/*.test\n",
             "\n",
             "  A line of a test file:\n",
             "  claim 5 0 1          => 14 BEFORE, rule 1     # a comment\n",

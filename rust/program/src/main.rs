@@ -25,7 +25,7 @@ use clap::ArgMatches;
 use desk::Desk;
 use journal::Saved;
 // One notation for all programs: `crate::names` and the others are the crate's own modules.
-use notation::{dealer, names, reader, writer};
+use notation::{names, reader, writer};
 use run::Style;
 use source::{Format, Policy};
 use std::fs::File;

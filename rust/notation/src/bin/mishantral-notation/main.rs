@@ -1,187 +1,129 @@
-//! The notation's program: text to records, records to text, and a listing with its requests in words.
+//! The notation's program: text and OPL/XML to records, records to text, and a desk program on files of any form. `../../desk` calls it.
 
-mod opl;
+mod convert;
+mod desk;
 
-use std::fmt;
-use std::fs;
-use std::io::{self, Read, Write};
+use notation::source::Wrongs;
+use std::io::{self, Write};
 use std::process::ExitCode;
 
 const HELP: &str = "\
-Records as lines of words (docs/RULES.md), and back.
+Records as lines of words (docs/RULES.md), and back; a desk program on files of either form.
 
-  mishantral-notation records [--dealer POLICY TASKS] [--either] [--name NAME] [FILE]
-                                                  text to records; --either: records pass as they are;
-                                                  --name: what an error calls the file
-  mishantral-notation words [--dealer POLICY TASKS] [FILE]
-                                                  records to text
-  mishantral-notation opl [--words | --names] POLICY [TASKS]
-                                                  a dealer's OPL/XML and its task lines to records;
-                                                  --words: to text; --names: its names by number
-  mishantral-notation opl --reader                which reader that is: \"proved\", the linked library's, or
-                                                  \"plain\", where no library with it was there at the build
-  mishantral-notation explain [--dealer POLICY TASKS] [--policy FILE] REQUESTS
-                                                  a desk program's listing, from standard input, with
-                                                  the records of REQUESTS in words and replies by name;
-                                                  --policy: the policy's records, to show a refused one,
-                                                  the rule that a refused claim is about and the figures
-                                                  of a granted question
-  mishantral-notation written [--dealer POLICY TASKS] [--words] POLICY REQUESTS
-                                                  the policy's records as they are after the requests, which
-                                                  a desk program has answered with the listing on standard
-                                                  input; --words: as text
-  mishantral-notation written --writer            which engine writes: \"proved\", or \"plain\" where no library
-                                                  with that call was there at the build
-  mishantral-notation refused [--dealer POLICY TASKS] [--name NAME] FILE REPLY PLACE
-                                                  which record of a policy, text or records, a load's
-                                                  refusal is about; --name: what to call the file
-  mishantral-notation stuck [--dealer POLICY TASKS] [--name NAME] [FILE]
-                                                  the templates of a policy's records whose prerequisites
-                                                  leave tasks waiting for ever, a line each
-  mishantral-notation forms                       every line that the notation has
-  mishantral-notation replies                     every reply's number and name
+  mishantral-notation records [--for POLICY] [--tasks TASKS] [FILE]
+                              a policy, or requests, to records
+  mishantral-notation words [--for POLICY] [--tasks TASKS] [--numbers] [FILE]
+                              the same as text; --numbers: without names
+  mishantral-notation desk --program COMMAND --room FOLDER [--words] [--tasks TASKS] [--write FILE] POLICY [REQUESTS]
+                              what ./desk does (its --help tells it), on the desk program that a shell runs by COMMAND in
+                              FOLDER, where policy.rec is written
+  mishantral-notation desk --look [--words] [--tasks TASKS] [--write FILE] POLICY [REQUESTS]
+                              what can be judged of the files alone; nothing is run
+  mishantral-notation forms   every line that the notation has
+  mishantral-notation replies every reply's number and name
 
-Without FILE, or where it is -, standard input is read. What is made goes to standard output.
-One line a record; # begins a comment. A number is decimal, or hexadecimal after 0x. All that is wrong in a
-text is told, and then nothing is made. Whoever stops reading what is made ends the program quietly.
+  --for       FILE is requests, which may use the names of this policy
+  --tasks     the task lines of a policy in OPL/XML: a task's name, one space and its template's name
 
-A line of TASKS is a task's name, one space and its template's name; without TASKS there are no tasks. With
---dealer, text has the dealer's names between double quotes in the place of numbers: claim 5 0 \"task:sign\".
+A file is records of sixteen bytes, text in the notation, or OPL/XML, which its content tells, or the suffix .txt or .xml. Without FILE,
+or where it is -, standard input is read. What is made goes to standard output. One line a record; # begins a comment. A number is
+decimal, or hexadecimal after 0x. All that is wrong in a text is told, and then nothing is made. Whoever stops reading what is made ends
+the program quietly.
 
-Exit status: 0 done; 1 the input is not as it must be, the messages say where; 2 wrong use, or a file
-that cannot be read or written.
+Exit status: 0 done; 1 a policy that `desk` loaded was refused; 2 wrong use, text that is not in the notation, or a file that cannot be
+read or written.
 ";
 
-/// Why the program ends early: what to say, a line each, and the status.
-struct Stop(Vec<String>, u8);
+/// Why a command ends before its time.
+enum Stop {
+    /// What to tell, a line each; exit status 2.
+    Wrong(Wrongs),
+    /// Whoever read the output has stopped reading: nothing is told.
+    Quiet,
+}
 
-type Made = Result<Vec<u8>, Stop>;
+/// The exit status.
+type Done = Result<u8, Stop>;
+
+impl From<Wrongs> for Stop {
+    fn from(lines: Wrongs) -> Stop {
+        Stop::Wrong(lines)
+    }
+}
+
+/// A failed write of the output.
+impl From<io::Error> for Stop {
+    fn from(why: io::Error) -> Stop {
+        match why.kind() {
+            io::ErrorKind::BrokenPipe => Stop::Quiet,
+            _ => wrong(format!("the output could not be written: {why}")),
+        }
+    }
+}
+
+fn wrong(line: impl Into<String>) -> Stop {
+    Stop::Wrong(vec![line.into()])
+}
 
 fn usage(what: &str) -> Stop {
-    Stop(vec![format!("{what}; --help tells the use")], 2)
+    wrong(format!("{what}; --help tells the use"))
 }
 
-/// A file's bytes, or standard input's.
-fn input(file: &str) -> Made {
-    let read = if file == "-" {
-        let mut bytes = Vec::new();
-        io::stdin().read_to_end(&mut bytes).map(|_| bytes)
-    } else {
-        fs::read(file)
-    };
-    read.map_err(|why| Stop(vec![format!("{file}: {why}")], 2))
+/// The options that take a value, those that take none, and the other words, in their order.
+struct Given<'a> {
+    values: Vec<(&'a str, &'a str)>,
+    flags: Vec<&'a str>,
+    words: Vec<&'a str>,
 }
 
-/// At most one file name.
-fn one_file<'a>(files: &[&'a str]) -> Result<&'a str, Stop> {
-    match files {
-        [] => Ok("-"),
-        [file] => Ok(file),
-        [_, further, ..] => Err(usage(&format!("unexpected argument {further:?}"))),
+impl<'a> Given<'a> {
+    fn read(arguments: &[&'a str], values: &[&str], flags: &[&str]) -> Result<Given<'a>, Stop> {
+        let (mut given, mut plain) = (
+            Given {
+                values: vec![],
+                flags: vec![],
+                words: vec![],
+            },
+            false,
+        );
+        let mut rest = arguments.iter();
+        while let Some(&word) = rest.next() {
+            let (option, joined) = match word.split_once('=') {
+                Some((option, value)) => (option, Some(value)),
+                None => (word, None),
+            };
+            match word {
+                _ if plain || word == "-" || !word.starts_with('-') => given.words.push(word),
+                "--" => plain = true,
+                _ if flags.contains(&word) => given.flags.push(word),
+                _ if values.contains(&option) => {
+                    let value = joined.or_else(|| rest.next().copied());
+                    let value = value.filter(|value| !value.is_empty());
+                    let missing = || usage(&format!("{option} takes a value"));
+                    given.values.push((option, value.ok_or_else(missing)?));
+                }
+                _ => return Err(usage(&format!("no such option: {word}"))),
+            }
+        }
+        Ok(given)
     }
-}
 
-/// What a file is to be called, where that is said, and the other arguments.
-fn named<'a, 'b>(arguments: &'b [&'a str]) -> (Option<&'a str>, &'b [&'a str]) {
-    match arguments {
-        ["--name", name, rest @ ..] => (Some(*name), rest),
-        rest => (None, rest),
+    fn value(&self, option: &str) -> Option<&'a str> {
+        let last = self.values.iter().rfind(|(name, _)| *name == option);
+        last.map(|&(_, value)| value)
     }
-}
 
-fn within(file: &str, errors: Vec<impl fmt::Display>) -> Stop {
-    let name = if file == "-" { "standard input" } else { file };
-    let told = errors.iter().map(|error| format!("{name}: {error}"));
-    Stop(told.collect(), 1)
-}
-
-fn records(arguments: &[&str]) -> Made {
-    let (names, rest) = opl::names_of(arguments)?;
-    let (either, rest) = match rest {
-        ["--either", rest @ ..] => (true, rest),
-        rest => (false, rest),
-    };
-    let (name, files) = named(rest);
-    let file = one_file(files)?;
-    let bytes = input(file)?;
-    if either && !notation::is_text(&bytes) {
-        return Ok(bytes);
+    fn flag(&self, option: &str) -> bool {
+        self.flags.contains(&option)
     }
-    notation::reader::read(&bytes, &names, false)
-        .map(|text| text.bytes())
-        .map_err(|errors| within(name.unwrap_or(file), errors))
-}
 
-fn words(arguments: &[&str]) -> Made {
-    let (names, files) = opl::names_of(arguments)?;
-    let records = input(one_file(files)?)?;
-    Ok(notation::writer::lines(&records, &names).into_bytes())
-}
-
-fn explain(arguments: &[&str]) -> Made {
-    let (names, arguments) = opl::names_of(arguments)?;
-    let (policy, files) = match arguments {
-        ["--policy", file, files @ ..] => (Some(input(file)?), files),
-        files => (None, files),
-    };
-    let [requests] = files else {
-        return Err(usage("explain takes one file of request records"));
-    };
-    let requests = input(requests)?;
-    notation::explain(policy.as_deref(), &requests, &listing()?, &names)
-        .map(String::into_bytes)
-        .map_err(|error| within("-", vec![error]))
-}
-
-/// A desk program's listing, from standard input.
-fn listing() -> Result<String, Stop> {
-    let no_text = "standard input: the listing is not text".to_string();
-    String::from_utf8(input("-")?).map_err(|_| Stop(vec![no_text], 1))
-}
-
-fn written(arguments: &[&str]) -> Made {
-    if arguments == ["--writer"] {
-        return Ok(format!("{}\n", notation::WRITER).into_bytes());
+    /// The word at a place, and none behind the last one.
+    fn word(&self, at: usize, last: usize) -> Result<Option<&'a str>, Stop> {
+        match self.words.get(last + 1) {
+            Some(further) => Err(usage(&format!("one argument too many: {further}"))),
+            None => Ok(self.words.get(at).copied()),
+        }
     }
-    let (names, rest) = opl::names_of(arguments)?;
-    let (words, files) = match rest {
-        ["--words", files @ ..] => (true, files),
-        files => (false, files),
-    };
-    let [policy, requests] = files else {
-        return Err(usage("written takes a policy and requests, as records"));
-    };
-    let written = notation::written(&input(policy)?, &input(requests)?, &listing()?)
-        .map_err(|error| within("-", vec![error]))?;
-    Ok(match words {
-        true => notation::writer::lines(&written, &names).into_bytes(),
-        false => written,
-    })
-}
-
-fn refused(arguments: &[&str]) -> Made {
-    let (names, rest) = opl::names_of(arguments)?;
-    let (name, rest) = named(rest);
-    let [file, reply, place] = rest else {
-        return Err(usage(
-            "refused takes a policy, a reply's number and a place",
-        ));
-    };
-    let number = reply.parse().ok().and_then(notation::Reply::from_number);
-    let reply = number.ok_or(usage(&format!("no such reply: {reply:?}")))?;
-    let place = place.parse().ok();
-    let place = place.ok_or(usage("a place is a number"))?;
-    let told = notation::refused(&input(file)?, reply, place, &names);
-    Ok(format!("{}: {told}\n", name.unwrap_or(file)).into_bytes())
-}
-
-fn stuck(arguments: &[&str]) -> Made {
-    let (names, rest) = opl::names_of(arguments)?;
-    let (name, files) = named(rest);
-    let file = one_file(files)?;
-    let told = notation::stuck(&input(file)?, &names).into_iter();
-    let line = |told| format!("{}: warning: {told}\n", name.unwrap_or(file));
-    Ok(told.map(line).collect::<String>().into_bytes())
 }
 
 fn replies() -> String {
@@ -189,42 +131,42 @@ fn replies() -> String {
     notation::Reply::ALL.iter().map(line).collect()
 }
 
-fn made(arguments: &[&str]) -> Made {
-    match arguments {
-        ["records", rest @ ..] => records(rest),
-        ["words", rest @ ..] => words(rest),
-        ["opl", rest @ ..] => opl::opl(rest),
-        ["explain", rest @ ..] => explain(rest),
-        ["written", rest @ ..] => written(rest),
-        ["refused", rest @ ..] => refused(rest),
-        ["stuck", rest @ ..] => stuck(rest),
-        ["forms"] => Ok(notation::forms().into_bytes()),
-        ["replies"] => Ok(replies().into_bytes()),
-        ["help" | "--help" | "-h", ..] => Ok(HELP.as_bytes().to_vec()),
-        [] => Err(usage("a command is missing")),
-        [other, ..] => Err(usage(&format!("no such command: {other:?}"))),
-    }
+fn done(arguments: &[&str], out: &mut dyn Write) -> Done {
+    let made = match arguments {
+        ["desk", rest @ ..] => return desk::desk(rest, out),
+        ["records", rest @ ..] => convert::records(rest)?,
+        ["words", rest @ ..] => convert::words(rest)?,
+        ["forms"] => notation::forms().into_bytes(),
+        ["replies"] => replies().into_bytes(),
+        ["help" | "--help" | "-h", ..] => HELP.as_bytes().to_vec(),
+        [] => return Err(usage("a command is missing")),
+        [other, ..] => return Err(usage(&format!("no such command: {other:?}"))),
+    };
+    out.write_all(&made)?;
+    Ok(0)
 }
 
 fn main() -> ExitCode {
     let arguments: Vec<String> = std::env::args().skip(1).collect();
     let arguments: Vec<&str> = arguments.iter().map(String::as_str).collect();
-    let written = made(&arguments).and_then(|bytes| {
-        let mut out = io::stdout().lock();
-        out.write_all(&bytes)
-            .and_then(|()| out.flush())
-            .or_else(|why| match why.kind() {
-                io::ErrorKind::BrokenPipe => Ok(()),
-                _ => Err(Stop(vec![format!("standard output: {why}")], 2)),
-            })
+    // Users know this program's `desk` as the script that calls it.
+    let called = match arguments.first() {
+        Some(&"desk") => "desk",
+        _ => "mishantral-notation",
+    };
+    let mut out = io::stdout().lock();
+    let done = done(&arguments, &mut out).and_then(|status| {
+        out.flush()?;
+        Ok(status)
     });
-    match written {
-        Ok(()) => ExitCode::SUCCESS,
-        Err(Stop(messages, status)) => {
-            for message in messages {
-                eprintln!("mishantral-notation: {message}");
+    match done {
+        Ok(status) => status.into(),
+        Err(Stop::Quiet) => ExitCode::SUCCESS,
+        Err(Stop::Wrong(lines)) => {
+            for line in lines {
+                eprintln!("{called}: {line}");
             }
-            ExitCode::from(status)
+            ExitCode::from(2)
         }
     }
 }

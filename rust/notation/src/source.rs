@@ -1,0 +1,242 @@
+//! Policies and requests as files: records, text in the notation, or a dealer's OPL/XML with its task lines. What is wrong with a file
+//! is told in lines that begin with its name.
+
+use crate::dealer;
+use crate::is_text;
+use crate::names::{Names, Sort};
+use crate::reader::{self, Error, Line};
+use crate::writer;
+use records::{Record, Reply, LENGTH};
+use std::io::Read;
+
+/// What is wrong, a line each.
+pub type Wrongs = Vec<String>;
+
+/// How a policy is written.
+#[derive(Clone, Copy, PartialEq, Eq, Debug)]
+pub enum Format {
+    /// Sixteen bytes a record.
+    Records,
+    /// Lines in the notation.
+    Text,
+    /// A dealer's OPL/XML.
+    Opl,
+}
+
+impl Format {
+    /// The names that an option takes.
+    pub const NAMES: [&'static str; 3] = ["records", "text", "opl"];
+
+    /// The format of this name.
+    pub fn of_name(name: &str) -> Option<Format> {
+        match name {
+            "records" => Some(Format::Records),
+            "text" => Some(Format::Text),
+            "opl" => Some(Format::Opl),
+            _ => None,
+        }
+    }
+
+    /// What a file looks like. No line of the notation begins with `<`; a record of that kind has a zero behind it, and one in range has
+    /// a byte that no text has.
+    pub fn of_content(file: &str, bytes: &[u8]) -> Format {
+        let text = bytes
+            .strip_prefix(b"\xef\xbb\xbf")
+            .unwrap_or(bytes)
+            .trim_ascii_start();
+        let tag = text.first() == Some(&b'<') && text.get(1) != Some(&0);
+        if tag || file.ends_with(".xml") {
+            Format::Opl
+        } else if file.ends_with(".txt") || is_text(bytes) {
+            Format::Text
+        } else {
+            Format::Records
+        }
+    }
+}
+
+/// A policy's records, where each comes from, and the names that it gives.
+#[derive(Clone, Debug)]
+pub struct Policy {
+    /// The file as the user names it.
+    pub file: String,
+    /// Sixteen bytes a record; the last may be cut.
+    pub bytes: Vec<u8>,
+    /// The line of each record of a text.
+    pub lines: Vec<usize>,
+    /// The names that it gives.
+    pub names: Names,
+}
+
+impl Policy {
+    /// Whole records; a cut one at the end is not among them.
+    pub fn records(&self) -> Vec<Record> {
+        let whole = self.bytes.as_chunks::<LENGTH>().0;
+        whole.iter().map(|&bytes| Record(bytes)).collect()
+    }
+
+    /// Whether it is a dealer's OPL/XML: it has names, and no lines that its records stand in.
+    pub fn is_dealt(&self) -> bool {
+        self.lines.is_empty() && Sort::ALL.into_iter().any(|sort| self.names.has_any(sort))
+    }
+
+    /// Where a record stands, counted from 0: `policy.txt, line 14`.
+    pub fn place(&self, before: usize) -> String {
+        format!("{}, {}", self.file, self.place_within(before))
+    }
+
+    /// Its place within the file alone: `line 14`.
+    pub fn place_within(&self, before: usize) -> String {
+        match self.lines.get(before) {
+            Some(line) => format!("line {line}"),
+            None => format!("record {}", before + 1),
+        }
+    }
+
+    /// A refused load in words: `policy.txt: line 7: 5 TAKEN: user 3`. The place counts from 1; 0 is none.
+    pub fn refusal(&self, reply: Reply, place: usize) -> String {
+        match place.checked_sub(1) {
+            None => format!("{}: {reply}", self.file),
+            Some(before) => {
+                let at = self.place_within(before);
+                format!("{}: {at}: {reply}: {}", self.file, self.line(before))
+            }
+        }
+    }
+
+    /// A record in words.
+    pub fn line(&self, before: usize) -> String {
+        let record = self.bytes.chunks(LENGTH).nth(before);
+        record.map_or(String::new(), |record| writer::line(record, &self.names))
+    }
+}
+
+/// A file's bytes; `-` is standard input.
+pub fn bytes_of(file: &str) -> Result<Vec<u8>, Wrongs> {
+    let mut bytes = Vec::new();
+    let read = match file {
+        "-" => std::io::stdin().read_to_end(&mut bytes).map(drop),
+        _ => std::fs::read(file).map(|all| bytes = all),
+    };
+    match read {
+        Ok(()) => Ok(bytes),
+        Err(why) => Err(vec![format!("{}: it cannot be read: {why}", shown(file))]),
+    }
+}
+
+/// A file's name in a message.
+pub fn shown(file: &str) -> &str {
+    match file {
+        "-" => "standard input",
+        file => file,
+    }
+}
+
+/// `policy.txt: line 2, column 14: expected "role", found "rolle"`, a line an error.
+pub fn told(file: &str, errors: &[Error]) -> Wrongs {
+    let line = |error: &Error| format!("{}: {error}", shown(file));
+    errors.iter().map(line).collect()
+}
+
+/// A policy file, with its task lines where it is OPL/XML.
+pub fn policy(file: &str, tasks: Option<&str>, format: Option<Format>) -> Result<Policy, Wrongs> {
+    if file == "-" && tasks == Some("-") {
+        return Err(vec!["standard input is one text alone".to_string()]);
+    }
+    let bytes = bytes_of(file)?;
+    let format = format.unwrap_or_else(|| Format::of_content(file, &bytes));
+    if tasks.is_some() && format != Format::Opl {
+        let file = shown(file);
+        return Err(vec![format!(
+            "{file}: task lines go with OPL/XML, and this is none"
+        )]);
+    }
+    match format {
+        Format::Records => Ok(record_policy(file, bytes)),
+        Format::Text => text_policy(file, &bytes),
+        Format::Opl => opl_policy(file, &bytes, tasks),
+    }
+}
+
+/// A file that may be a policy or requests: names may be given anew.
+pub fn either(file: &str, tasks: Option<&str>) -> Result<Policy, Wrongs> {
+    let bytes = bytes_of(file)?;
+    match Format::of_content(file, &bytes) {
+        Format::Records => Ok(record_policy(file, bytes)),
+        Format::Text => text_of(file, &bytes, false),
+        Format::Opl => opl_policy(file, &bytes, tasks),
+    }
+}
+
+/// A damaged policy file: text where its name or every byte says so, else records, whatever they are.
+pub fn damaged(file: &str, format: Option<Format>) -> Result<Policy, Wrongs> {
+    let bytes = bytes_of(file)?;
+    let text = file.ends_with(".txt") || is_text(&bytes) && !bytes.is_empty();
+    match format {
+        Some(Format::Text) => text_policy(file, &bytes),
+        None if text => text_policy(file, &bytes),
+        _ => Ok(record_policy(file, bytes)),
+    }
+}
+
+fn record_policy(file: &str, bytes: Vec<u8>) -> Policy {
+    Policy {
+        file: shown(file).to_string(),
+        bytes,
+        lines: Vec::new(),
+        names: Names::default(),
+    }
+}
+
+/// A policy of text, under the name that errors are told with.
+pub fn text_policy(file: &str, text: &[u8]) -> Result<Policy, Wrongs> {
+    text_of(file, text, true)
+}
+
+fn text_of(file: &str, text: &[u8], once: bool) -> Result<Policy, Wrongs> {
+    let read = reader::read(text, &Names::default(), once).map_err(|all| told(file, &all))?;
+    Ok(Policy {
+        file: shown(file).to_string(),
+        lines: read.records().map(|(line, _)| line).collect(),
+        bytes: read.bytes(),
+        names: read.names,
+    })
+}
+
+fn opl_policy(file: &str, xml: &[u8], tasks: Option<&str>) -> Result<Policy, Wrongs> {
+    let lines = tasks.map_or(Ok(Vec::new()), bytes_of)?;
+    let read = dealer::read(xml, &lines).map_err(|fault| {
+        let of = match fault.of_tasks {
+            false => shown(file),
+            true => tasks.map_or("no task lines", shown),
+        };
+        let mut lines = vec![format!("{of}: {}", fault.message)];
+        if tasks.is_none() && fault.message.contains("that the task lines do not have") {
+            lines.push("--tasks tells the file of the task lines".to_string());
+        }
+        lines
+    })?;
+    Ok(Policy {
+        file: shown(file).to_string(),
+        bytes: read.records,
+        lines: Vec::new(),
+        names: read.names,
+    })
+}
+
+/// Requests that are all there, with the names that their lines give.
+pub type Requests = Vec<Line>;
+
+/// A file of requests, whole: text with the policy's names, or records.
+pub fn requests(file: &str, names: &Names) -> Result<Requests, Wrongs> {
+    requests_of(file, &bytes_of(file)?, names)
+}
+
+/// The same of bytes, under the name that errors are told with.
+pub fn requests_of(file: &str, bytes: &[u8], names: &Names) -> Result<Requests, Wrongs> {
+    if file.ends_with(".txt") || is_text(bytes) {
+        let read = reader::read(bytes, names, false).map_err(|all| told(file, &all))?;
+        return Ok(read.lines.into_iter().map(|(_, line)| line).collect());
+    }
+    Ok(bytes.chunks(LENGTH).map(Line::of).collect())
+}
