@@ -19,16 +19,16 @@ use Rattle.theorems.specs.Replies.{inTable}
 use Rattle.theorems.specs.OverEntries.{ofKind, RoleLimits}
 use Rattle.theorems.specs.Theorems.{lowerAfter, Reaches}
 use Rattle.theorems.specs.Seniority.{AsRecorded, lowerRequestBefore, loadBefore, NoneBelow}
-use Rattle.theorems.specs.Walls.{noCommits, commit, committed, lowerCommitsAfter, OneBlockOfEach, Decided, CheckOrCommit, committedBy}
+use Rattle.theorems.specs.Walls.{noCommits, commit, committed, lowerCommitsAfter, OneBlockOfEach, Decided, CheckOrCommit, committedBy, lowerRequestUnwalled}
 use Rattle.theorems.proofs.Replies.{replies-are-listed}
 use Rattle.theorems.proofs.Theorems.{dealers-keep-the-limits}
 use Rattle.theorems.proofs.Seniority.{seniority-is-recorded, as-before}
 use Rattle.theorems.proofs.Walls.{clerks-keep-to-one-block, wall-exactly-when}
-use Rattle.theorems.proofs.Unwalled.{as-before-walls}
+use Rattle.theorems.proofs.Unwalled.{refused-as-the-check, as-before-walls}
 use Rattle.theorems.specs.Exactly.{Known, known, lowerKindsAsked, Answered}
 use Rattle.theorems.proofs.Exactly.{every-reply}
-use Rattle.demands.specs.Calls.{Chain, fitting, asked}
-use Rattle.demands.specs.Dealers.{Buffers, tablesOf, fit, Request, Called, Load, OneAnswer, LimitsHold, RepliesExactly, SeniorRoles, WallsHold}
+use Rattle.demands.specs.Calls.{fitting, asked}
+use Rattle.demands.specs.Dealers.{Buffers, tablesOf, fit, Request, Called, Together, Requests, Load, OneAnswer, LimitsHold, RepliesExactly, SeniorRoles, WallsHold}
 use Rattle.demands.specs.Dealers.Request.{within, exported}
 use Rattle.demands.specs.Dealers.Load.{within as load-within, exported as load-exported-here}
 use Rattle.demands.proofs.Calls.{first-byte, Reading, after-all, chain-run, told-fitting}
@@ -55,10 +55,11 @@ same-tables t u h s = (ap (λ (k : Lower). lowerRequest k s .reply) h, ap (λ (k
 abbrev told : Lower → Bytes → Said
 told t s = record { request = s; reply = lowerRequest t s .reply }
 
-reading : Reading Called fit tablesOf (λ t s. lowerRequest t s .tables) (λ y. y) told (run lowerRequest) (λ t u. t ≡ u)
+reading : Reading Called Together fit tablesOf (λ t s. lowerRequest t s .tables) (λ y. y) told (run lowerRequest) (λ t u. t ≡ u)
 unfolding run
 reading = record {
   answers = λ a x y r f. let g = answers r f in (λ i. record { request = a .request; reply = g .0 i }, g .1, still-fit r ∙ f);
+  together = λ now x y q f. (q .answers, q .tables ∙ sym (after-all lowerRequest (tablesOf x) (asked (λ a. a) now)), q .lengths ∙ f);
   no-room = λ a x y r f. no-room r f .0;
   listed = replies-are-listed .lowerRequests;
   respects = λ t u h s. (ap (λ (k : Lower). told k s) h, ap (λ (k : Lower). lowerRequest k s .tables) h);
@@ -117,8 +118,21 @@ one-answer = record {
         let d = no-room b (sym e ∙ f) in
         (c .0 ∙ sym (d .0), c .1 ∙ h ∙ sym (d .1))
 
+-- ---- calls after a load, as a run of the definition
+module _ {policy : Bytes} {x y z : Buffers} {reply : ℕ} {said : List Said} (f : fit x ≡ true) (l : Load policy x y reply) (c : Requests y said z) where
+  abbrev made : List Bytes
+  made = asked (λ y. y) (fitting (λ y. y) said)
+
+  ran-on : (fitting (λ y. y) said ≡ run lowerRequest (lowerOf (load policy .tables)) made) × (tablesOf z ≡ lowerAfter policy made) × (fit z ≡ true)
+  ran-on =
+      let n = as-load l .1 .lengths in
+      let still-fits : fit y ≡ true = rw (n .0, n .1) f in
+      let a = chain-run Called Together fit tablesOf (λ t s. lowerRequest t s .tables) (λ y. y) told (run lowerRequest) (λ t u. t ≡ u) reading c still-fits
+      (lowerOf (load policy .tables)) (loads l f .1) in
+      (a .0, a .1 ∙ after-all lowerRequest (lowerOf (load policy .tables)) made, a .2)
+
 -- ---- the role limits
-module _ {policy : Bytes} {x y z : Buffers} {reply : ℕ} {said : List Said} (l : Load policy x y reply) (g : reply ≡ GRANTED) (c : Chain Called fit y said z) where
+module _ {policy : Bytes} {x y z : Buffers} {reply : ℕ} {said : List Said} (l : Load policy x y reply) (g : reply ≡ GRANTED) (c : Requests y said z) where
   -- an accepted load was lent buffers of their lengths
   fits : fit x ≡ true
   fits = go (fit x) refl
@@ -127,9 +141,6 @@ module _ {policy : Bytes} {x y z : Buffers} {reply : ℕ} {said : List Said} (l 
       go true e = refl
       go false e = let m : reply ≡ ROOM = load-reply l ∙ rw e in absurd (omega arith)
 
-  still-fits : fit y ≡ true
-  still-fits = let n = as-load l .1 .lengths in let f = fits in rw (n .0, n .1) f
-
   accepted : load policy .reply ≡ GRANTED
   accepted = sym (loads l fits .0) ∙ g
 
@@ -137,10 +148,7 @@ module _ {policy : Bytes} {x y z : Buffers} {reply : ℕ} {said : List Said} (l 
   ss = asked (λ y. y) (fitting (λ y. y) said)
 
   ran : (fitting (λ y. y) said ≡ run lowerRequest (lowerOf (load policy .tables)) ss) × (tablesOf z ≡ lowerAfter policy ss) × (fit z ≡ true)
-  ran =
-      let a = chain-run Called fit tablesOf (λ t s. lowerRequest t s .tables) (λ y. y) told (run lowerRequest) (λ t u. t ≡ u) reading c still-fits
-      (lowerOf (load policy .tables)) (loads l fits .1) in
-      (a .0, a .1 ∙ after-all lowerRequest (lowerOf (load policy .tables)) ss, a .2)
+  ran = ran-on fits l c
 
   heard : outside policy (run lowerRequest (lowerOf (load policy .tables)) ss) ≡ outside policy said
   unfolding outside
@@ -195,17 +203,39 @@ load-as-before {policy} f h l =
     let b = as-before .loads policy h .0 in
     (a .0 ∙ ap (λ (q : Loaded). q .reply) b, a .1 ∙ ap (λ (q : Loaded). lowerOf (q .tables)) b)
 
+run-as-before : {policy : Bytes} {x y z : Buffers} {reply : ℕ} {said : List Said} → fit x ≡ true → ofKind 17 (recordsOf policy) ≡ [] → Load policy x y reply
+    → Requests y said z → fitting (λ a. a) said ≡ run lowerRequestBefore (lowerOf (loadBefore policy .tables)) (asked (λ a. a) (fitting (λ a. a) said))
+unfolding lowerOf
+run-as-before {policy} {said = said} f h l c =
+    let b = as-before .loads policy h in
+    ran-on f l c .0
+    ∙ as-before .lowerRuns (lowerOf (load policy .tables)) (b .1) _ .0
+    ∙ ap (λ (q : Loaded). run lowerRequestBefore (lowerOf (q .tables)) (asked (λ a. a) (fitting (λ a. a) said))) (b .0)
+
 pub senior-roles : SeniorRoles
 senior-roles = record {
   recorded = λ l g c. recorded l g c;
   requests = λ f none r. request-as-before f none r;
   loads = λ f h l. load-as-before f h l;
+  runs = λ f h l c. run-as-before f h l c;
 }
 
 -- ---- walls
+run-unwalled : {policy : Bytes} {x y z : Buffers} {reply : ℕ} {said : List Said} → fit x ≡ true → ofKind 18 (recordsOf policy) ≡ [] → Load policy x y reply
+    → Requests y said z → fitting (λ a. a) said ≡ run lowerRequestUnwalled (lowerOf (load policy .tables)) (asked (λ a. a) (fitting (λ a. a) said))
+run-unwalled {policy} f h l c = ran-on f l c .0 ∙ as-before-walls .lowerRuns (lowerOf (load policy .tables)) (as-before-walls .loads policy h) _ .0
+
+same-reply : {bytes other : Bytes} {x y w : Buffers} {q p : ℕ} → lowerRequest (tablesOf x) bytes .reply ≡ lowerRequest (tablesOf x) other .reply
+    → Request bytes x y q → Request other x w p → (b : Bool) → fit x ≡ b → q ≡ p
+same-reply e r s true f = answers r f .0 ∙ e ∙ sym (answers s f .0)
+same-reply e r s false f = no-room r f .0 ∙ sym (no-room s f .0)
+
 pub walls-hold : WallsHold
 walls-hold = record {
   upheld = λ l g c. one-block l g c;
   checks = λ l g c e r h. walled l g c e r h;
+  as-the-check = λ {bytes} {x} k r s. same-reply (refused-as-the-check .dealers (tablesOf x) bytes k) r s (fit x) refl;
   requests = λ {bytes} {x} f none r. answers r f .0 ∙ as-before-walls .lowerReplies (tablesOf x) none bytes;
+  tables = λ {bytes} {x} f none r. answers r f .1 ∙ ap (λ (q : Answer Lower). q .tables) (as-before-walls .lowerRequests (tablesOf x) none bytes .0);
+  runs = λ f h l c. run-unwalled f h l c;
 }

@@ -1,17 +1,22 @@
 -- The demands.
-use Prim.Native.Nat.{ℕ, _+_, _≤_}
+use Prim.Native.Nat.{ℕ, _+_, _≤_, _<_}
 use mathlib.Core.Bool.{Bool, true, false}
 use mathlib.Core.List.{List, []}
 use mathlib.Core.Path.{_≡_, refl, sym, ap, subst, _∙_}
+use mathlib.Core.Logic.{_↔_}
 use native.Mathlib.Omega.{arith}
-use Rattle.paper_lower.specs.Checks.{GRANTED, ROOM, BEFORE, WALL}
+use Rattle.paper_lower.specs.Checks.{GRANTED, ROOM, BEFORE, FULL, WALL, first, granted}
 use Rattle.paper_lower.specs.Records.{Bytes}
 use Rattle.paper_lower.specs.Forms.{requestForms}
-use Rattle.paper_lower.specs.Kinds.{Answer, run}
-use Rattle.paper_lower.specs.Tables.{Lower}
+use Rattle.paper_lower.specs.Lists.{each}
+use Rattle.paper_lower.specs.Kinds.{Answer, run, after}
+use Rattle.paper_lower.specs.Sets.{empty}
+use Rattle.paper_lower.specs.Tables.{Lower, withPolicy}
+use Rattle.paper_lower.specs.Policy.{userChecks, userNext}
+use Rattle.paper_lower.specs.Words.{addUser, join}
 use Rattle.paper_lower.specs.Load.{Loaded, load, recordsOf}
 use Rattle.paper_lower.specs.Sessions.{lowerOf}
-use Rattle.paper_upper.specs.Orders.{Engine, SameTables}
+use Rattle.paper_upper.specs.Orders.{Engine, SameTables, withLower}
 use Rattle.paper_upper.specs.Engine.{requestKinds, request, placeTo, Placed, placedRun, engineOf}
 use Rattle.replies.specs.declared.Reply.{Reply}
 use Rattle.replies.proofs.ReplyLaws.{one-reply}
@@ -33,15 +38,18 @@ use Rattle.theorems.specs.Walls.{noCommits, commit, committed, commitsAfter, re
 use Rattle.theorems.proofs.Replies.{checks-in-order, refused-loads-are-empty}
 use Rattle.theorems.proofs.Theorems.{orders-keep-the-rules, clerks-keep-the-limits, first-rule-broken}
 use Rattle.theorems.proofs.Places.{places-are-true, placed-said}
-use Rattle.theorems.proofs.Meeting.{claims-do-not-meet}
+use Rattle.theorems.proofs.Meeting.{claims-do-not-meet, one-entry-free}
+use Rattle.theorems.specs.Joining.{gathered, EachOnce, oneByOne, AllGranted}
+use Rattle.theorems.proofs.Joining.{joined-as-one-by-one, every-set-is-listed, added-as-before}
+use Rattle.theorems.proofs.InUse.{in-use}
 use Rattle.theorems.proofs.NeverStuck.{stuck-are-never-entered, before-refuses-nobody}
 use Rattle.theorems.proofs.Seniority.{seniority-is-recorded, as-before}
 use Rattle.theorems.proofs.Walls.{clerks-keep-to-one-block, wall-exactly-when}
-use Rattle.theorems.proofs.Unwalled.{as-before-walls}
+use Rattle.theorems.proofs.Unwalled.{refused-as-the-check, outside-walls-all-is-free, as-before-walls}
 use Rattle.theorems.specs.Exactly.{Known, known}
 use Rattle.theorems.proofs.Exactly.{every-reply}
-use Rattle.demands.specs.Calls.{Request, Load, Called, Requests, allSaid, fitting, asked}
-use Rattle.demands.specs.Demands.{DemandOne, DemandTwo, OneAnswer, Upheld, DemandThree, EitherFirst, ClaimsDoNotMeet, CanFinish, SeniorRoles, WithoutWalls, StuckAreNeverEntered}
+use Rattle.demands.specs.Calls.{Request, Load, Called, Together, Requests, allSaid, fitting, asked}
+use Rattle.demands.specs.Demands.{DemandOne, DemandTwo, OneAnswer, Upheld, DemandThree, InChains, JoinedWithRoles, EitherFirst, ClaimsDoNotMeet, CanFinish, SeniorRoles, Commits, WithoutWalls, StuckAreNeverEntered}
 use Rattle.demands.proofs.Calls.{fit-kept, request-listed, answered, answers, no-room, as-load, load-listed, load-reply, after-all, chain-run, told-fitting, said-fitting, told, reading}
 
 -- ---- loads
@@ -106,7 +114,7 @@ requestsIn said = asked (λ a. a .said) (fitted said)
 runs : {policy : Bytes} {x y z : Buffers} {reply : ℕ} {said : List Placed} → fit x ≡ true → Load policy x y reply → Requests y said z
     → (fitted said ≡ placedAfter policy (requestsIn said)) × SameTables (tablesOf z) (tablesAfter policy (requestsIn said)) × (fit z ≡ true)
 runs {policy} {said = said} f l c =
-    let a = chain-run Called fit tablesOf (λ t s. request t s .tables) (λ a. a .said) told placedRun SameTables reading c (fit-kept (as-load l .1 .lengths) ∙ f)
+    let a = chain-run Called Together fit tablesOf (λ t s. request t s .tables) (λ a. a .said) told placedRun SameTables reading c (fit-kept (as-load l .1 .lengths) ∙ f)
     (engineOf (load policy .tables)) (start f l) in
     (a .0, rw (after-all request (engineOf (load policy .tables)) (requestsIn said)) at (a .1), a .2)
 
@@ -239,8 +247,26 @@ module _ {policy : Bytes} {x y z : Buffers} {reply : ℕ} {said : List Placed} (
         );
   }
 
+  last-one : (c d : Bytes) → Apart c d → inUse (allSaid said) + 1 ≡ 2048
+      → {w v w′ v′ : Buffers} {q p i j q′ p′ i′ j′ : ℕ} → Request c z w q i → Request d w v p j → Request d z w′ p′ j′ → Request c w′ v′ q′ i′
+      → q ≡ GRANTED → p′ ≡ GRANTED → (p ≡ FULL) × (q′ ≡ FULL)
+  last-one c d a room rc rd rd′ rc′ g′ h′ =
+      let t = tablesAfter policy (requestsIn said) in
+      let n = runs (fits l g) l k in
+      let u = in-use policy (sym (loads l (fits l g) .0) ∙ g) (requestsIn said) in
+      let v = used in
+      let e = call-on rc (n .2) t (n .1) in
+      let f = call-on rd (e .3) (request t c .tables) (e .2) in
+      let e′ = call-on rd′ (n .2) t (n .1) in
+      let f′ = call-on rc′ (e′ .3) (request t d .tables) (e′ .2) in
+      let o = one-entry-free t c d a (omega arith) (sym (e .0) ∙ g′) (sym (e′ .0) ∙ h′) in
+      (f .0 ∙ o .0, f′ .0 ∙ o .1)
+
 pub calls-do-not-meet : ClaimsDoNotMeet
-calls-do-not-meet = record { upheld = λ l g k c d a room. either l g k c d a room }
+calls-do-not-meet = record {
+  upheld = λ l g k c d a room. either l g k c d a room;
+  one-free = λ l g k c d a room rc rd rd′ rc′ g′ h′. last-one l g k c d a room rc rd rd′ rc′ g′ h′;
+}
 
 -- ---- senior roles
 request-as-before : {bytes : Bytes} {x y : Buffers} {reply place : ℕ} → fit x ≡ true → NoneBelow (tablesOf x .lower .policy) → Request bytes x y reply place
@@ -298,4 +324,71 @@ without-walls = record {
   requests = λ {bytes} {x} f none r. answers r f .0 ∙ as-before-walls .replies (tablesOf x) none bytes;
   tables = λ f none r. tables-unwalled f none r;
   runs = λ {policy} f h l c. run-unwalled policy h f l c;
+}
+
+-- ---- calls that are no single requests
+pub in-chains : InChains
+unfolding placedRun after each
+in-chains = record {
+  settling = λ {x} {y} d. record { answers = refl; tables = subst (SameTables (tablesOf y)) (d .tables) (tables-refl (tablesOf y)); lengths = d .lengths };
+  reading = λ x. record { answers = refl; tables = tables-refl (tablesOf x); lengths = record { policy = refl; sessions = refl; orders = refl } };
+}
+
+-- ---- joining
+-- calls on buffers of any content, as a run of the definition
+from-here : {x z : Buffers} {said : List Placed} → fit x ≡ true → Requests x said z
+    → (fitted said ≡ placedRun (tablesOf x) (requestsIn said)) × SameTables (tablesOf z) (after request (tablesOf x) (requestsIn said))
+from-here {x} {said = said} f c =
+    let a = chain-run Called Together fit tablesOf (λ t s. request t s .tables) (λ a. a .said) told placedRun SameTables reading c f (tablesOf x) (tables-refl (tablesOf x)) in
+    (a .0, rw (after-all request (tablesOf x) (requestsIn said)) at (a .1))
+
+joined-calls : {x y z : Buffers} {reply place : ℕ} {said : List Placed} (a : ℕ) (roles : List ℕ) → fit x ≡ true → a < 1024 → EachOnce empty roles
+    → Request (join a (gathered empty roles)) x y reply place → Requests x said z → requestsIn said ≡ oneByOne a roles
+    → ((reply ≡ GRANTED) ↔ AllGranted (allSaid (fitted said))) × (reply ≡ GRANTED → SameTables (tablesOf y) (tablesOf z))
+joined-calls {x} {y} {z} {said = said} a roles f small once r c e =
+    let t = tablesOf x in
+    let j = joined-as-one-by-one t a small roles once in
+    let n = answers r f in
+    let run-is = from-here f c in
+    let said-is : allSaid (fitted said) ≡ run request t (oneByOne a roles) = ap allSaid (run-is .0) ∙ placed-said t (requestsIn said) ∙ ap (run request t) e in (
+      (
+        λ g. subst AllGranted (sym said-is) (j .granted .0 (sym (n .0) ∙ g)),
+        λ g. n .0 ∙ j .granted .1 (subst AllGranted said-is g),
+      ),
+      λ g. tables-then
+          (subst (SameTables (tablesOf y)) (j .tables (sym (n .0) ∙ g)) (n .2))
+          (tables-sym (subst (λ (ss : List Bytes). SameTables (tablesOf z) (after request t ss)) e (run-is .1))),
+    )
+
+alone-call : {x y : Buffers} {reply place : ℕ} (a : ℕ) → fit x ≡ true → a < 1024 → Request (addUser a) x y reply place
+    → let t = tablesOf x in
+    (reply ≡ first (userChecks (t .lower .policy) a))
+    × (reply ≡ GRANTED → SameTables (tablesOf y) (withLower t (withPolicy (t .lower) (userNext (t .lower .policy) a))))
+alone-call {x} {y} a f small r =
+    let t = tablesOf x in
+    let n = answers r f in
+    let j = added-as-before t a small in
+    let e = n .0 ∙ j .0 in
+    (e, λ g. subst (SameTables (tablesOf y)) (j .1 ∙ ap (λ (q : ℕ). granted q (withLower t (withPolicy (t .lower) (userNext (t .lower .policy) a))) t) (sym e ∙ g)) (n .2))
+
+pub joined-with-roles : JoinedWithRoles
+joined-with-roles = record {
+  one-by-one = λ a roles f small once r c e. joined-calls a roles f small once r c e;
+  every-set = every-set-is-listed;
+  without-roles = λ a f small r. alone-call a f small r;
+}
+
+-- ---- commits
+same-reply : {bytes other : Bytes} {x y w : Buffers} {q p i j : ℕ} → request (tablesOf x) bytes .reply ≡ request (tablesOf x) other .reply
+    → Request bytes x y q i → Request other x w p j → (b : Bool) → fit x ≡ b → q ≡ p
+same-reply e r s true f = answers r f .0 ∙ e ∙ sym (answers s f .0)
+same-reply e r s false f = no-room r f .0 ∙ sym (no-room s f .0)
+
+pub calls-commit : Commits
+calls-commit = record {
+  as-the-check = λ {bytes} {x} k r s. same-reply (refused-as-the-check .engine (tablesOf x) bytes k) r s (fit x) refl;
+  outside-walls = λ {bytes} {x} {y} f k n r.
+      let a = answers r f in
+      let o = outside-walls-all-is-free (tablesOf x) bytes k n in
+      (λ e. o .0 (sym (a .0) ∙ e), subst (SameTables (tablesOf y)) (o .1) (a .2));
 }

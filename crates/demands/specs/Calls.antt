@@ -2,18 +2,19 @@
 -- engine::load, `RequestExported` and `LoadExported` those of the functions that C and Rust link. They ask nothing of bytes and buffers.
 use Prim.Native.Nat.{ℕ, _/_, _%_}
 use mathlib.Core.Bool.{Bool, false, not}
-use mathlib.Core.List.{List, [], _∷_}
+use mathlib.Core.List.{List, [], _∷_, _++_}
 use mathlib.Core.Path.{_≡_}
 use lib.Dec.{eqb}
 use Rattle.paper_lower.specs.Lists.{keep, each}
 use Rattle.paper_lower.specs.Checks.{ROOM}
 use Rattle.paper_lower.specs.Records.{Bytes}
-use Rattle.paper_lower.specs.Kinds.{Said}
-use Rattle.paper_upper.specs.Engine.{Placed}
+use Rattle.paper_lower.specs.Kinds.{Said, after}
+use Rattle.paper_upper.specs.Orders.{SameTables}
+use Rattle.paper_upper.specs.Engine.{request, Placed, placedRun}
 use Rattle.replies.specs.Replies.{numberOf}
 use Rattle.replies.specs.declared.Reply.{Reply}
 use Rattle.rules.specs.declared.Judged.{Judged}
-use Rattle.engine.specs.Buffers.{Buffers, fit}
+use Rattle.engine.specs.Buffers.{Buffers, tablesOf, fit, SameLengths}
 use Rattle.engine.specs.Answers.{Requested, LoadDone}
 use Rattle.engine.specs.Settling.{SettledRequest, SettledExported}
 use Rattle.engine.specs.Exports.{RequestExported, LoadExported}
@@ -31,19 +32,31 @@ pub data Load (bytes : Bytes) (x y : Buffers) : ℕ → Type 0 where
   within : {r : Reply} {place : ℕ} → LoadDone bytes x y r place → Load bytes x y (numberOf r)
   exported : {n : ℕ} → LoadExported bytes x y n → Load bytes x y (n % 256)
 
--- Requests one after the other, each on the buffers that the one before left, with what was said: asked, replied, and of the engine the place.
+-- Calls one after the other, each on the buffers that the one before left, with what was said: asked, replied, and of the engine the place.
 -- Among them may be some to which other buffers were lent, of a wrong length, be they parts of these: demand 1 says that they come back as
--- they were. A call is here what it promises, P, and fit says of buffers whether they have their lengths.
-pub data Chain {L A : Type 0} (P : A → L → L → Type 0) (fit : L → Bool) : L → List A → L → Type 0 where
-  no-more : {x : L} → Chain P fit x [] x
-  one : {x y z : L} {a : A} {said : List A} → P a x y → Chain P fit y said z → Chain P fit x (a ∷ said) z
-  misfit : {x v w z : L} {a : A} {said : List A} → fit v ≡ false → P a v w → Chain P fit x said z → Chain P fit x (a ∷ said) z
+-- they were. A call is here what it promises: P of one request, Q of several at once or of none. fit says of buffers whether they have their lengths.
+pub data Chain {L A : Type 0} (P : A → L → L → Type 0) (Q : List A → L → L → Type 0) (fit : L → Bool) : L → List A → L → Type 0 where
+  no-more : {x : L} → Chain P Q fit x [] x
+  one : {x y z : L} {a : A} {said : List A} → P a x y → Chain P Q fit y said z → Chain P Q fit x (a ∷ said) z
+  misfit : {x v w z : L} {a : A} {said : List A} → fit v ≡ false → P a v w → Chain P Q fit x said z → Chain P Q fit x (a ∷ said) z
+  several : {x y z : L} {now rest said : List A} → Q now x y → Chain P Q fit y rest z → said ≡ now ++ rest → Chain P Q fit x said z
+
+-- the requests that were made
+abbrev pub asked : {A : Type 0} → (A → Said) → List A → List Bytes
+asked f said = each (λ a. f a .request) said
 
 abbrev pub Called : Placed → Buffers → Buffers → Type 0
 Called a x y = Request (a .said .request) x y (a .said .reply) (a .place)
 
+-- A call that answers several requests at once as if they were made one by one, as the pile does; or none, as the settling does, or what only reads the state,
+-- the question and the writing of the policy: then the tables stay.
+pub record Together (now : List Placed) (x y : Buffers) : Type 0 where
+  pub answers : now ≡ placedRun (tablesOf x) (asked (λ a. a .said) now)
+  pub tables : SameTables (tablesOf y) (after request (tablesOf x) (asked (λ a. a .said) now))
+  pub lengths : SameLengths x y
+
 abbrev pub Requests : Buffers → List Placed → Buffers → Type 0
-Requests x said z = Chain Called fit x said z
+Requests x said z = Chain Called Together fit x said z
 
 -- without the places
 abbrev pub allSaid : List Placed → List Said
@@ -52,6 +65,3 @@ allSaid said = each (λ a. a .said) said
 -- the requests that were not refused for the lengths of the buffers lent
 abbrev pub fitting : {A : Type 0} → (A → Said) → List A → List A
 fitting f said = keep (λ a. not (eqb (f a .reply) ROOM)) said
-
-abbrev pub asked : {A : Type 0} → (A → Said) → List A → List Bytes
-asked f said = each (λ a. f a .request) said

@@ -1,16 +1,22 @@
 -- The three demands on the engine, each statement under its sentence: of any bytes, on buffers of any content and any lengths.
-use Prim.Native.Nat.{ℕ, _+_, _≤_}
+use Prim.Native.Nat.{ℕ, _+_, _≤_, _<_}
 use mathlib.Core.Bool.{true, false}
-use mathlib.Core.List.{List, []}
+use mathlib.Core.List.{List, [], _∷_}
 use mathlib.Core.Path.{_≡_}
+use mathlib.Core.Logic.{_↔_}
+use lib.ListN.{drop}
+use Rattle.paper_lower.specs.Sets.{empty}
 use Rattle.paper_lower.specs.Lists.{Every}
-use Rattle.paper_lower.specs.Checks.{GRANTED, ROOM, BEFORE, WALL}
+use Rattle.paper_lower.specs.Lists.Maybe.{none}
+use Rattle.paper_lower.specs.Checks.{GRANTED, ROOM, BEFORE, FULL, WALL, first}
 use Rattle.paper_lower.specs.Records.{Bytes, decode}
 use Rattle.paper_lower.specs.Forms.{requestForms}
 use Rattle.paper_lower.specs.Kinds.{run}
-use Rattle.paper_lower.specs.Tables.{noPolicy}
+use Rattle.paper_lower.specs.Tables.{noPolicy, withPolicy}
+use Rattle.paper_lower.specs.Policy.{userChecks, userNext, blockOf}
+use Rattle.paper_lower.specs.Words.{addUser, join}
 use Rattle.paper_lower.specs.Load.{load, recordsOf}
-use Rattle.paper_upper.specs.Orders.{SameTables}
+use Rattle.paper_upper.specs.Orders.{SameTables, withLower}
 use Rattle.paper_upper.specs.Engine.{requestKinds, request, placeTo, Placed, engineOf}
 use Rattle.replies.specs.Replies.{numberOf}
 use Rattle.replies.specs.declared.Reply.{Reply}
@@ -18,6 +24,7 @@ use Rattle.lower.specs.Exports.{inOne}
 use Rattle.engine.specs.Buffers.{Buffers, tablesOf, fit}
 use Rattle.engine.specs.Answers.{LoadDone, Zeros}
 use Rattle.engine.specs.Exports.{LoadExported}
+use Rattle.engine.specs.Settling.{SettledAs}
 use Rattle.theorems.specs.Replies.{inTable, FirstRefusal, checksOf, ChecksInOrder}
 use Rattle.theorems.specs.Outside.{hear, outside}
 use Rattle.theorems.specs.OverEntries.{ofKind, claimRules, RoleLimits}
@@ -25,11 +32,12 @@ use Rattle.theorems.specs.Theorems.{tablesAfter, Reaches, FirstBroken, fixed}
 use Rattle.theorems.specs.InUse.{inUse}
 use Rattle.theorems.specs.Places.{placedAfter, RuleAt}
 use Rattle.theorems.specs.Meeting.{Apart}
+use Rattle.theorems.specs.Joining.{gathered, EachOnce, EverySetIsListed, oneByOne, AllGranted}
 use Rattle.theorems.specs.Stuck.{NoneStuck, NextOnList}
 use Rattle.theorems.specs.Seniority.{AsRecorded, requestBefore, loadBefore, NoneBelow}
 use Rattle.theorems.specs.Walls.{committed, OneBlockOfEach, Decided, CheckOrCommit, committedBy, requestUnwalled, Unwalled}
 use Rattle.theorems.specs.Exactly.{known, engineKindsAsked, Answered}
-use Rattle.demands.specs.Calls.{Request, Load, Requests, allSaid, fitting, asked}
+use Rattle.demands.specs.Calls.{Request, Load, Together, Requests, allSaid, fitting, asked}
 
 -- ---- Demand 1
 pub record DemandOne : Type 0 where
@@ -115,6 +123,31 @@ pub record DemandThree : Type 0 where
   pub upheld : {policy : Bytes} {x y z : Buffers} {reply : ℕ} {said : List Placed} → Load policy x y reply → reply ≡ GRANTED → Requests y said z
       → Upheld policy said z
 
+-- ---- Calls that are no single requests stand in a chain too, so that "any further requests" are all that public calls can do with an engine's buffers. (That a
+-- pile does is said in pile/specs/Promises.)
+pub record InChains : Type 0 where
+  -- a settling changes no table
+  pub settling : {x y : Buffers} {reply : ℕ} → SettledAs x y reply → Together [] x y
+  -- what only reads the state, a question or the writing of the policy, changes nothing
+  pub reading : (x : Buffers) → Together [] x x
+
+-- ---- 02, Ask 1: "kind 32 now takes roles in m, and all of it happens or nothing."
+pub record JoinedWithRoles : Type 0 where
+  -- "the result equals adding, then assigning one role after another, whenever none of those would be refused": on buffers of any content, in whatever order the
+  -- roles are assigned, and it is granted exactly then
+  pub one-by-one : {x y z : Buffers} {reply place : ℕ} {said : List Placed} (a : ℕ) (roles : List ℕ) → fit x ≡ true → a < 1024 → EachOnce empty roles
+      → Request (join a (gathered empty roles)) x y reply place → Requests x said z
+      → let fitted = fitting (λ p. p .said) said in
+      asked (λ p. p .said) fitted ≡ oneByOne a roles
+      → ((reply ≡ GRANTED) ↔ AllGranted (allSaid fitted)) × (reply ≡ GRANTED → SameTables (tablesOf y) (tablesOf z))
+  -- every set of roles is listed so
+  pub every-set : EverySetIsListed
+  -- "m = 0 does what it did": what kind 1 does
+  pub without-roles : {x y : Buffers} {reply place : ℕ} (a : ℕ) → fit x ≡ true → a < 1024 → Request (addUser a) x y reply place
+      → let t = tablesOf x in
+      (reply ≡ first (userChecks (t .lower .policy) a))
+      × (reply ≡ GRANTED → SameTables (tablesOf y) (withLower t (withPolicy (t .lower) (userNext (t .lower .policy) a))))
+
 -- ---- 02, Ask 14: "Two desks claim in the same second .. It should not matter."
 
 -- the claims c and d on the same buffers z, c first and d first
@@ -126,6 +159,12 @@ pub record EitherFirst (c d : Bytes) (z : Buffers) : Type 0 where
 pub record ClaimsDoNotMeet : Type 0 where
   pub upheld : {policy : Bytes} {x y z : Buffers} {reply : ℕ} {said : List Placed} → Load policy x y reply → reply ≡ GRANTED → Requests y said z
       → (c d : Bytes) → Apart c d → inUse (allSaid said) + 2 ≤ 2048 → EitherFirst c d z
+  -- "With one entry free the order matters": of two claims that are granted where they go in first, the one that goes in second is FULL (theorems/specs/MeetingTable
+  -- is the table of cases)
+  pub one-free : {policy : Bytes} {x y z : Buffers} {reply : ℕ} {said : List Placed} → Load policy x y reply → reply ≡ GRANTED → Requests y said z
+      → (c d : Bytes) → Apart c d → inUse (allSaid said) + 1 ≡ 2048
+      → {w v w′ v′ : Buffers} {q p i j q′ p′ i′ j′ : ℕ} → Request c z w q i → Request d w v p j → Request d z w′ p′ j′ → Request c w′ v′ q′ i′
+      → q ≡ GRANTED → p′ ≡ GRANTED → (p ≡ FULL) × (q′ ≡ FULL)
 
 -- ---- 02, Ask 7: senior roles.
 pub record SeniorRoles : Type 0 where
@@ -146,6 +185,15 @@ pub record SeniorRoles : Type 0 where
       → Requests y said z
       → let fitted = fitting (λ a. a .said) said in
       allSaid fitted ≡ run requestBefore (engineOf (loadBefore policy .tables)) (asked (λ a. a .said) fitted)
+
+-- ---- 02, Ask 11: commits.
+pub record Commits : Type 0 where
+  -- "Request kind 59, commit, has the fields of kind 56 and is refused as the check is", on buffers of any content and lengths
+  pub as-the-check : {bytes : Bytes} {x y w : Buffers} {q p i j : ℕ} → decode bytes .kind ≡ 59 → Request bytes x y q i → Request (56 ∷ drop 1 bytes) x w p j → q ≡ p
+  -- "Objects outside a wall are free of it.": one that is in no wall is never refused with WALL, and binds nobody
+  pub outside-walls : {bytes : Bytes} {x y : Buffers} {reply place : ℕ} → fit x ≡ true → CheckOrCommit bytes
+      → ((w : ℕ) → blockOf (tablesOf x .lower .policy .walls) (decode bytes .c) w ≡ none) → Request bytes x y reply place
+      → (reply ≡ WALL → ⊥) × SameTables (tablesOf y) (tablesOf x)
 
 -- ---- 02, Ask 11: without a record of kind 18 every reply is as before.
 pub record WithoutWalls : Type 0 where

@@ -1,10 +1,11 @@
 -- The statements about the pile, from what the call promises.
 use Prim.Native.Nat.{ℕ, zero, suc}
 use mathlib.Core.Bool.{Bool, true, false, not}
-use mathlib.Core.List.{List, _∷_}
+use mathlib.Core.List.{List, [], _∷_}
 use lib.ListN.{drop}
-use mathlib.Core.Path.{_≡_, refl, sym, ap, _∙_}
+use mathlib.Core.Path.{_≡_, refl, sym, ap, subst, _∙_}
 use native.Mathlib.Omega.{arith}
+use Rattle.paper_lower.specs.Lists.{each}
 use Rattle.paper_lower.specs.Checks.{first, granted, GRANTED, ROOM}
 use Rattle.paper_lower.specs.Records.{Bytes}
 use Rattle.paper_lower.specs.Kinds.{after}
@@ -13,10 +14,11 @@ use Rattle.paper_upper.specs.Engine.{request, Placed, placedRun}
 use Rattle.engine.specs.Buffers.{Buffers, tablesOf, fit}
 use Rattle.links.proofs.SameLaws.{tables-refl, tables-sym, tables-then}
 use Rattle.engine.proofs.RespectLaws.{runs-respect}
-use Rattle.demands.specs.Calls.{Called, fitting}
+use Rattle.demands.specs.Calls.{Called, Together, fitting, asked}
+use Rattle.demands.proofs.Demands.{in-chains}
 use Rattle.demands.proofs.Calls.{afterAll, after-all, told, chain-run, reading}
 use Rattle.pile.specs.Pile.{whole, repliesOf, writtenAt, pileChecks, Piled, pileOf, pileAnswer}
-use Rattle.pile.specs.Promises.{PileDone, AsOneByOne, OneAnswer}
+use Rattle.pile.specs.Promises.{PileDone, AsOneByOne, InChains, OneAnswer}
 
 -- the answer of a pile that is taken, and of one that is not
 abbrev done : Bytes → Bytes → ℕ → Buffers → Piled
@@ -53,7 +55,7 @@ as-one-by-one = record {
   same = λ {bytes} {answers} {answers′} {at} {x} {y} {z} {said} d c w.
       let k = taken bytes answers at x (sym (d .replies)) in
       let e = answer-taken bytes answers at x k in
-      let ran = chain-run Called fit tablesOf (λ t s. request t s .tables) (λ a. a .said) told placedRun SameTables reading c (fits bytes answers at x k) (tablesOf x)
+      let ran = chain-run Called Together fit tablesOf (λ t s. request t s .tables) (λ a. a .said) told placedRun SameTables reading c (fits bytes answers at x k) (tablesOf x)
       (tables-refl (tablesOf x)) in
       let said-is : fitting (λ a. a .said) said ≡ placedRun (tablesOf x) (whole bytes) = ran .0 ∙ ap (placedRun (tablesOf x)) w in
       let after-is : SameTables (tablesOf z) (afterAll (λ t s. request t s .tables) (tablesOf x) (whole bytes)) = rw w at (ran .1) in (
@@ -61,6 +63,37 @@ as-one-by-one = record {
         tables-then (rw e at (d .tables)) (tables-sym (rw (after-all request (tablesOf x) (whole bytes)) at after-is)),
       );
 }
+
+-- ---- Chains.
+requests-of : (t : Engine) (ss : List Bytes) → asked (λ a. a .said) (placedRun t ss) ≡ ss
+unfolding placedRun each
+requests-of t [] = refl
+requests-of t (s ∷ ss) = ap (λ (rs : List Bytes). s ∷ rs) (requests-of (request t s .tables) ss)
+
+taken-together : {bytes answers answers′ : Bytes} {at : ℕ} {x y : Buffers} → PileDone bytes answers at answers′ x y 0
+    → (said : List Placed)
+    × Together said x y
+    × (asked (λ a. a .said) said ≡ whole bytes)
+    × (answers′ ≡ writtenAt at answers (repliesOf said))
+taken-together {bytes} {answers} {at = at} {x} d =
+    let e = answer-taken bytes answers at x (taken bytes answers at x (sym (d .replies))) in
+    let t = tablesOf x in
+    let asks = requests-of t (whole bytes) in (
+      placedRun t (whole bytes),
+      record {
+        answers = ap (placedRun t) (sym asks);
+        tables = rw asks (rw e at (d .tables));
+        lengths = d .lengths;
+      },
+      asks,
+      d .written ∙ ap (λ (p : Piled). p .answers) e,
+    )
+
+refused-together : {bytes answers answers′ : Bytes} {at number : ℕ} {x y : Buffers} → PileDone bytes answers at answers′ x y number → (number ≡ 0 → ⊥) → Together [] x y
+refused-together {x = x} {y} d n = subst (Together [] x) (sym (d .kept n)) (in-chains .reading x)
+
+pub piles-in-chains : InChains
+piles-in-chains = record { taken = λ d. taken-together d; refused = λ d n. refused-together d n }
 
 -- ---- One answer.
 

@@ -1,6 +1,6 @@
 -- What the call promises, for every record, answer buffer, place and content of the state.
 use Prim.Native.Nat.{ℕ, _+_}
-use mathlib.Core.List.{List, _++_}
+use mathlib.Core.List.{List, [], _++_}
 use mathlib.Core.Path.{_≡_}
 use lib.ListN.{drop}
 use Rattle.paper_lower.specs.Records.{Bytes}
@@ -10,7 +10,7 @@ use Rattle.paper_upper.specs.Engine.{request, Placed, placedRun}
 use Rattle.replies.specs.Replies.{numberOf}
 use Rattle.replies.specs.declared.Reply.{Reply}
 use Rattle.engine.specs.Buffers.{Buffers, tablesOf, fit, SameLengths}
-use Rattle.demands.specs.Calls.{Requests, fitting, asked}
+use Rattle.demands.specs.Calls.{Together, Requests, fitting, asked}
 use Rattle.pile.specs.Pile.{wholeFrom, whole, repliesOf, writtenAt, pileAnswer}
 
 pub record PileDone (bytes answers : Bytes) (at : ℕ) (answers′ : Bytes) (x x′ : Buffers) (number : ℕ) : Type 0 where
@@ -32,6 +32,18 @@ pub record AsOneByOne : Type 0 where
   pub same : {bytes answers answers′ : Bytes} {at : ℕ} {x y z : Buffers} {said : List Placed}
       → PileDone bytes answers at answers′ x y 0 → Requests x said z → asked (λ a. a .said) (fitting (λ a. a .said) said) ≡ whole bytes
       → (answers′ ≡ writtenAt at answers (repliesOf (fitting (λ a. a .said) said))) × SameTables (tablesOf y) (tablesOf z)
+
+-- A pile stands in a chain of calls, as the requests in it do: so what the demands say of chains, they say of piles.
+pub record InChains : Type 0 where
+  -- what a pile that is taken said: each record with its reply, those of the answer buffer
+  pub taken : {bytes answers answers′ : Bytes} {at : ℕ} {x y : Buffers} → PileDone bytes answers at answers′ x y 0
+      → (said : List Placed)
+      × Together said x y
+      × (asked (λ a. a .said) said ≡ whole bytes)
+      × (answers′ ≡ writtenAt at answers (repliesOf said))
+  -- a refused one said nothing, and changed nothing
+  pub refused : {bytes answers answers′ : Bytes} {at number : ℕ} {x y : Buffers} → PileDone bytes answers at answers′ x y number → (number ≡ 0 → ⊥)
+      → Together [] x y
 
 -- "A proof shows that no second answer fits"
 pub record OneAnswer : Type 0 where

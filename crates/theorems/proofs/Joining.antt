@@ -25,7 +25,7 @@ use Rattle.paper_upper.specs.Orders.{Engine, withLower}
 use Rattle.paper_upper.specs.Requests.{upperKinds}
 use Rattle.paper_upper.specs.Engine.{widened, sharedKinds, requestKinds, request}
 use Rattle.sets.proofs.SetLaws.{same-members, has-new, collect-above, collect-below, has-above, plus-lt, plus-member, within-has, has-within, within-trans, within-plus, within-refl, within-empty, within-part}
-use Rattle.theorems.specs.Joining.{gathered, EachOnce, EverySetIsListed, oneByOne, AllGranted, AsOneByOne, JoinedAsOneByOne, JoinedWithoutRoles}
+use Rattle.theorems.specs.Joining.{gathered, EachOnce, EverySetIsListed, oneByOne, AllGranted, AsOneByOne, JoinedAsOneByOne, JoinedWithoutRoles, AddedAsBefore}
 use Rattle.theorems.proofs.Down.{down-part}
 use Rattle.theorems.proofs.Roles.{Within, within-less, not-broken, nothing-down}
 
@@ -58,6 +58,16 @@ none-broken ls m h = none-some (breaks m) ls (every-map ls (λ l x. le-ltb (l .n
 pub joined-without-roles : JoinedWithoutRoles
 unfolding joinChecks joinNext userChecks userNext
 joined-without-roles p a = (rw (within-empty (p .people .roles)) (rw (none-broken (p .rules .statics) _ (nothing-down (p .rules .statics) (p .seniority))) refl), refl)
+
+pub added-as-before : AddedAsBefore
+added-as-before t a small =
+    let p = t .lower .policy in
+    let e = asked-join t a empty small (omega arith) in
+    let w = joined-without-roles p a in (
+      ap (λ x. x .reply) e ∙ w .0,
+      ap (λ x. x .tables) e ∙ ap (λ (q : ℕ). granted q (with-policy t (joinNext p a empty)) t) (w .0)
+          ∙ ap (λ (n : Policy). granted (first (userChecks p a)) (with-policy t n) t) (w .1),
+    )
 
 -- ---- the roles gathered
 gathered-more : (m : Set) (rs : List ℕ) → within m (gathered m rs) ≡ true

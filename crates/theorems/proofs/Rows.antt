@@ -1,13 +1,13 @@
 -- Rows of the tables of kinds: what every row does, every request does, and every run.
 use Prim.Native.Nat.{ℕ, zero, suc}
-use mathlib.Core.Path.{_≡_, refl}
+use mathlib.Core.Path.{_≡_, refl, ap, _∙_}
 use mathlib.Core.Bool.{false, true≢false}
 use mathlib.Core.List.{List, [], _∷_}
 use Rattle.paper_lower.specs.Lists.{Every}
 use Rattle.paper_lower.specs.Checks.{granted}
 use Rattle.paper_lower.specs.Records.{Bytes, Record, decode}
 use Rattle.paper_lower.specs.Forms.{Form, lowerForms, upperForms, requestForms, formOf, outOfRange, formChecks}
-use Rattle.paper_lower.specs.Kinds.{Kind, chosen, replyTo, answer, run, after}
+use Rattle.paper_lower.specs.Kinds.{Kind, chosen, replyTo, Answer, answer, run, after}
 use Rattle.paper_lower.specs.Roles.{roleKinds}
 use Rattle.paper_lower.specs.Sessions.{sessionKinds, lowerKinds}
 use Rattle.paper_lower.proofs.CheckLaws.{Passed}
@@ -66,6 +66,19 @@ module _ {T : Type 0} (fs : List Form) (ks : List (Kind T)) (order : InOrder ks)
       (answer-rows fs (λ n t r x. I t → I x) ks order keeps t s (λ q x. I x) (λ x g. g i) (λ q. i))
       (answer-rows fs (λ n t r x. I t → (y : _) → R t y → R x (f n y r)) ks order rows t s
       (λ q x. R x (granted q (f (decode s .kind) y (decode s)) y)) (λ x g. g i y h) (λ q. h))
+
+-- two calls that answer alike where an invariant holds, which they keep: so do runs of them
+pub alike-runs : {T : Type 0} (ask ask′ : T → Bytes → Answer T) (I : T → Type 0) → ((t : T) → I t → (s : Bytes) → (ask t s ≡ ask′ t s) × I (ask t s .tables))
+    → (t : T) → I t → (ss : List Bytes) → (run ask t ss ≡ run ask′ t ss) × (after ask t ss ≡ after ask′ t ss)
+unfolding run after
+alike-runs ask ask′ I one t i [] = (refl, refl)
+alike-runs {T} ask ask′ I one t i (s ∷ ss) =
+    let q = one t i s in
+    let rest = alike-runs ask ask′ I one (ask t s .tables) (q .1) ss in (
+      ap (λ xs. record { request = s; reply = ask t s .reply } ∷ xs) (rest .0)
+          ∙ ap (λ (x : Answer T). record { request = s; reply = x .reply } ∷ run ask′ (x .tables) ss) (q .0),
+      rest .1 ∙ ap (λ (x : Answer T). after ask′ (x .tables) ss) (q .0),
+    )
 
 -- ---- the whole engine's rows: the upper part's, and the lower part's with the orders beside them
 same-forms : Every (λ k. formOf requestForms (k .kind) ≡ formOf lowerForms (k .kind)) lowerKinds

@@ -27,7 +27,7 @@ use Rattle.theorems.specs.OverEntries.{ofKind}
 use Rattle.theorems.specs.Theorems.{fixed, Fixed}
 use Rattle.theorems.specs.Seniority.{SeniorityIsRecorded, assignBefore, staticBefore, joinBefore, takeBackBefore, createBefore, activateBefore, checkBefore, claimBefore, policyRowsBefore, lowerRowsBefore, rowsBefore, policyAnswerBefore, lowerRequestBefore, requestBefore, loadFromBefore, loadBefore, NoneBelow, AsBefore}
 use Rattle.theorems.proofs.Replies.{policy-order, lower-order}
-use Rattle.theorems.proofs.Rows.{answer-rows}
+use Rattle.theorems.proofs.Rows.{answer-rows, alike-runs}
 use Rattle.sets.proofs.DownLaws.{down-alone}
 use Rattle.theorems.proofs.Down.{meets-lost}
 use Rattle.theorems.proofs.Ranks.{step-rows}
@@ -247,17 +247,6 @@ same-load (suc n) place s p none h =
     go zero x w = w
     go (suc q) x w = nothing-below
 
-same-runs : (t : Engine) → NoneBelow (t .lower .policy) → (ss : List Bytes) → (run request t ss ≡ run requestBefore t ss) × (after request t ss ≡ after requestBefore t ss)
-unfolding run after
-same-runs t none [] = (refl, refl)
-same-runs t none (s ∷ ss) =
-    let q = same-request t none s in
-    let rest = same-runs (request t s .tables) (still-none t none s) ss in (
-      ap (λ xs. record { request = s; reply = request t s .reply } ∷ xs) (rest .0)
-          ∙ ap (λ (x : Answer Engine). record { request = s; reply = x .reply } ∷ run requestBefore (x .tables) ss) q,
-      rest .1 ∙ ap (λ (x : Answer Engine). after requestBefore (x .tables) ss) q,
-    )
-
 pub as-before : AsBefore
 unfolding load loadBefore recordsOf
 as-before = record {
@@ -265,5 +254,6 @@ as-before = record {
   records = λ p none s other. same-record p none s;
   requests = λ t none s. (same-request t none s, still-none t none s);
   lowerRequests = λ t none s. (same-lower t none s, lower-still t none s);
-  runs = same-runs;
+  runs = λ t none ss. alike-runs request requestBefore (λ t. NoneBelow (t .lower .policy)) (λ t none s. (same-request t none s, still-none t none s)) t none ss;
+  lowerRuns = λ t none ss. alike-runs lowerRequest lowerRequestBefore (λ t. NoneBelow (t .policy)) (λ t none s. (same-lower t none s, lower-still t none s)) t none ss;
 }

@@ -24,7 +24,7 @@ use Rattle.paper_upper.specs.Engine.{widened, sharedKinds, requestKinds, reques
 use Rattle.theorems.specs.OverEntries.{ofKind}
 use Rattle.theorems.specs.Walls.{CheckOrCommit, RefusedAsTheCheck, OutsideWallsAllIsFree, checkUnwalled, checksUnwalled, lowerUnwalled, unwalled, lowerRequestUnwalled, requestUnwalled, Unwalled, AsBeforeWalls}
 use Rattle.theorems.proofs.Replies.{lower-order, engine-order, refused-loads-are-empty}
-use Rattle.theorems.proofs.Rows.{Rows, answer-rows, engine-rows}
+use Rattle.theorems.proofs.Rows.{Rows, answer-rows, engine-rows, alike-runs}
 use Rattle.theorems.proofs.Made.{aWalled, walls-made}
 use Rattle.theorems.proofs.Seniority.{first-behind, chosen-front, same-answer}
 use Rattle.theorems.proofs.WrittenRuns.{upd-idle}
@@ -212,17 +212,6 @@ load-unwalled policy none-there = record { walls = go (load policy .reply) refl;
     go zero e = walls-made policy e ∙ ap (each aWalled) none-there
     go (suc q) e = ap (λ (p : Policy). p .walls) (refused-loads-are-empty policy (λ z. let n : ⊥ = omega arith in n))
 
-same-runs : (t : Engine) → Unwalled (t .lower) → (ss : List Bytes) → (run request t ss ≡ run requestUnwalled t ss) × (after request t ss ≡ after requestUnwalled t ss)
-unfolding run after
-same-runs t h [] = (refl, refl)
-same-runs t h (s ∷ ss) =
-    let q = same-request t h s in
-    let rest = same-runs (request t s .tables) (still t h s) ss in (
-      ap (λ xs. record { request = s; reply = request t s .reply } ∷ xs) (rest .0)
-          ∙ ap (λ (x : Answer Engine). record { request = s; reply = x .reply } ∷ run requestUnwalled (x .tables) ss) q,
-      rest .1 ∙ ap (λ (x : Answer Engine). after requestUnwalled (x .tables) ss) q,
-    )
-
 pub as-before-walls : AsBeforeWalls
 as-before-walls = record {
   loads = load-unwalled;
@@ -230,5 +219,6 @@ as-before-walls = record {
   lowerReplies = same-lower-reply;
   requests = λ t h s. (same-request t h s, still t h s);
   lowerRequests = λ t h s. (same-lower-request t h s, lower-still t h s);
-  runs = same-runs;
+  runs = λ t h ss. alike-runs request requestUnwalled (λ t. Unwalled (t .lower)) (λ t h s. (same-request t h s, still t h s)) t h ss;
+  lowerRuns = λ t h ss. alike-runs lowerRequest lowerRequestUnwalled Unwalled (λ t h s. (same-lower-request t h s, lower-still t h s)) t h ss;
 }

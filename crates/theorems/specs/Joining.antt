@@ -7,14 +7,14 @@ use mathlib.Core.Bool.{false}
 use mathlib.Core.List.{List, [], _∷_}
 use Rattle.paper_lower.specs.Sets.{Set, empty, has, plus}
 use Rattle.paper_lower.specs.Lists.{each, Every}
-use Rattle.paper_lower.specs.Checks.{GRANTED, first}
+use Rattle.paper_lower.specs.Checks.{GRANTED, first, granted}
 use Rattle.paper_lower.specs.Records.{Bytes}
 use Rattle.paper_lower.specs.Kinds.{Said, run, after}
-use Rattle.paper_lower.specs.Tables.{Policy}
+use Rattle.paper_lower.specs.Tables.{Policy, withPolicy}
 use Rattle.paper_lower.specs.Policy.{userChecks, userNext}
 use Rattle.paper_lower.specs.Roles.{joinChecks, joinNext}
 use Rattle.paper_lower.specs.Words.{addUser, join, assign}
-use Rattle.paper_upper.specs.Orders.{Engine}
+use Rattle.paper_upper.specs.Orders.{Engine, withLower}
 use Rattle.paper_upper.specs.Engine.{request}
 
 -- the roles of m, and those of the list
@@ -49,3 +49,11 @@ JoinedAsOneByOne = (t : Engine) (a : ℕ) → a < 1024 → (rs : List ℕ) → E
 -- "m = 0 does what it did": what kind 1 does
 abbrev pub JoinedWithoutRoles : Type 0
 JoinedWithoutRoles = (p : Policy) (a : ℕ) → (first (joinChecks p a empty) ≡ first (userChecks p a)) × (joinNext p a empty ≡ userNext p a)
+
+-- and so of the request: the reply and the tables that kind 1 has
+abbrev pub AddedAsBefore : Type 0
+AddedAsBefore =
+    (t : Engine) (a : ℕ) → a < 1024
+    → let p = t .lower .policy in
+    (request t (addUser a) .reply ≡ first (userChecks p a))
+    × (request t (addUser a) .tables ≡ granted (first (userChecks p a)) (withLower t (withPolicy (t .lower) (userNext p a))) t)

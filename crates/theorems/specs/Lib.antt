@@ -15,3 +15,4 @@ pub mod Listing
 pub mod Walls
 pub mod Exactly
 pub mod Meant
+pub mod MeetingTable

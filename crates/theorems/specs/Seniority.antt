@@ -168,3 +168,5 @@ pub record AsBefore : Type 0 where
   -- so any requests, one after the other
   pub runs : (t : Engine) → NoneBelow (t .lower .policy) → (ss : List Bytes)
       → (run request t ss ≡ run requestBefore t ss) × (after request t ss ≡ after requestBefore t ss)
+  pub lowerRuns : (t : Lower) → NoneBelow (t .policy) → (ss : List Bytes)
+      → (run lowerRequest t ss ≡ run lowerRequestBefore t ss) × (after lowerRequest t ss ≡ after lowerRequestBefore t ss)

@@ -175,3 +175,5 @@ pub record AsBeforeWalls : Type 0 where
   -- so any requests, one after the other
   pub runs : (t : Engine) → Unwalled (t .lower) → (ss : List Bytes)
       → (run request t ss ≡ run requestUnwalled t ss) × (after request t ss ≡ after requestUnwalled t ss)
+  pub lowerRuns : (t : Lower) → Unwalled t → (ss : List Bytes)
+      → (run lowerRequest t ss ≡ run lowerRequestUnwalled t ss) × (after lowerRequest t ss ≡ after lowerRequestUnwalled t ss)
