@@ -48,3 +48,4 @@ pub mod ExactlyRoles
 pub mod ExactlyOrders
 pub mod ExactlyClaims
 pub mod Exactly
+pub mod WrittenOrder

@@ -5,16 +5,16 @@ use Rattle.paper_lower.specs.Lists.{Every}
 use Rattle.paper_lower.specs.Records.{Bytes, Record}
 use Rattle.paper_lower.specs.Forms.{lowerForms, requestForms}
 use Rattle.paper_lower.specs.Kinds.{Kind, chosen}
-use Rattle.paper_lower.specs.Tables.{Policy, Lower, noPolicy}
+use Rattle.paper_lower.specs.Tables.{Policy, Lower, noPolicy, noSessions}
 use Rattle.paper_lower.specs.Policy.{userNext, roleNext, permissionNext, assignNext, giveNext, taskNext, openToNext, carriesNext, staticNext, dynamicNext, taskSetNext, blockNext, banNext, mostNext, bindNext, beforeNext, raiseNext, wallNext, policyKinds}
 use Rattle.paper_lower.specs.Load.{load, recordsOf}
 use Rattle.paper_lower.specs.Roles.{joinNext, deleteNext, forgetNext, userGone, takeBackNext, withdrawNext, roleKinds}
 use Rattle.paper_lower.specs.Sessions.{createNext, destroyNext, activateNext, deactivateNext, commitNext, sessionKinds, lowerKinds, lowerRequest, lowerOf}
 use Rattle.paper_lower.proofs.ListLaws.{every-map, every-all, _⨾_}
-use Rattle.paper_upper.specs.Orders.{Orders, Engine, noOrders}
+use Rattle.paper_upper.specs.Orders.{isHeldBy, Orders, Engine, noOrders, inOrder, ofTask, heldBy}
 use Rattle.paper_upper.specs.Requests.{openNext, endNext, claimNext, releaseNext, doneNext, turned, upperKinds}
 use Rattle.paper_upper.specs.Engine.{widened, requestKinds, request, engineOf}
-use Rattle.theorems.specs.Outside.{Told, nothing, telling, hear, hearAll, outside}
+use Rattle.theorems.specs.Outside.{Told, nothing, ofInstance, inHand, theirs, nowDone, telling, hear, hearAll, outside}
 use Rattle.theorems.specs.Theorems.{shown, lowerAfter, lowerToldAfter, AfterEvery, ToldIsTrue}
 use Rattle.theorems.proofs.Replies.{of-both, lower-order, engine-order}
 use Rattle.theorems.proofs.Rows.{run-follows}
@@ -35,7 +35,7 @@ abbrev Heard : Kind Engine → Type 0
 Heard k = (t : Engine) (r : Record) → chosen telling (k .kind) .next (shown t) r ≡ shown (k .next t r)
 
 upper-rows : Every Heard upperKinds
-unfolding upperKinds telling chosen deleteNext forgetNext userGone destroyNext openNext endNext claimNext releaseNext doneNext turned
+unfolding upperKinds telling chosen deleteNext forgetNext userGone destroyNext openNext endNext claimNext releaseNext doneNext turned inOrder ofTask heldBy isHeldBy ofInstance inHand theirs nowDone
 upper-rows =
     (λ t r. refl) ⨾ (λ t r. refl) ⨾ (λ t r. refl) ⨾ (λ t r. refl) ⨾ (λ t r. refl) ⨾ (λ t r. refl) ⨾ (λ t r. refl) ⨾ (λ t r. refl) ⨾ (λ t r. refl) ⨾ (λ t r. refl) ⨾ tt
 
@@ -60,7 +60,7 @@ heard-records p (r ∷ rs) a =
     ∙ heard-records (step p r) rs (a .1)
 
 heard : (policy : Bytes) → load policy .reply ≡ 0 → hearAll nothing (recordsOf policy) ≡ shown (engineOf (load policy .tables))
-unfolding nothing noPolicy engineOf lowerOf
+unfolding nothing noPolicy noSessions noOrders engineOf lowerOf
 heard policy accepted =
     let x = load-accepted policy accepted in
     heard-records noPolicy (recordsOf policy) (x .0) ∙ ap (λ (p : Policy). shown (engineOf p)) (sym (x .1))

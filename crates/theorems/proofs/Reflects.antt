@@ -97,7 +97,8 @@ row-below (suc n) f h = go (f n) refl h (row-below n f)
     go false e h rest = let x = rest h in let l = x .1 in (x .0, omega arith, x .2)
 
 -- some row: there are no others
-pub some-row : (n : ℕ) (f : ℕ → Bool) (P : ℕ → Type 0) → ((k : ℕ) → k < n → (f k ≡ true) ↔ P k) → ((k : ℕ) → P k → k < n) → (someBelow n f ≡ true) ↔ ((k : ℕ) × P k)
+pub some-row : (n : ℕ) (f : ℕ → Bool) (P : ℕ → Type 0) → ((k : ℕ) → k < n → (f k ≡ true) ↔ P k) → ((k : ℕ) → P k → k < n)
+    → (someBelow n f ≡ true) ↔ ((k : ℕ) × P k)
 some-row n f P each small = (
   λ h. let x = row-below n f h in (x .0, each (x .0) (x .1) .0 (x .2)),
   λ x. let l = small (x .0) (x .1) in some-below n f (x .0) l (each (x .0) l .1 (x .1)),

@@ -335,10 +335,12 @@ all-runs p h hold =
     (run-then _ _ p _ _ (run-18 p h)
     (run-none p p refl))))))))))))))))))
 
+pub written-runs : (x : Running) → Run noPolicy (recordsWritten (policyOf x)) (policyOf x)
+written-runs x = all-runs (policyOf x) (ready x) (λ u. kept-after (x .policy) (x .loads) (x .requests) .2 .statics u)
+
 pub loads-again : LoadsAgain
 unfolding written
-loads-again x =
-    load-run (recordsWritten (policyOf x)) (policyOf x) (all-runs (policyOf x) (ready x) (λ u. kept-after (x .policy) (x .loads) (x .requests) .2 .statics u))
+loads-again x = load-run (recordsWritten (policyOf x)) (policyOf x) (written-runs x)
 
 pub bytes-tell : BytesTell
 bytes-tell x y = (

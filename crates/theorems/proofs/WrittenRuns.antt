@@ -15,7 +15,7 @@ use Rattle.paper_lower.specs.Forms.{policyForms, formOf, misshapen, outOfRange,
 use Rattle.paper_lower.specs.Kinds.{chosen, replyTo, answer}
 use Rattle.paper_lower.specs.Tables.{Policy, noPolicy}
 use Rattle.paper_lower.specs.Policy.{policyKinds}
-use Rattle.paper_lower.specs.Load.{accepted, policyAnswer, loadFrom, load}
+use Rattle.paper_lower.specs.Load.{accepted, policyAnswer, loadFrom, load, recordsFrom, recordsOf}
 use Rattle.paper_lower.specs.Words.{joined}
 use Rattle.paper_lower.specs.Written.{inTurn, when, ofThere, behind}
 use Rattle.paper_lower.proofs.ListLaws.{upd-same}
@@ -89,6 +89,18 @@ pub load-run : (rs : List Record) (q : Policy) → Run noPolicy rs q → load (j
 unfolding load
 load-run rs q x =
     rw (written-length rs, sixteenth (many rs)) (load-clean noPolicy rs 1 (x .0) ∙ ap (λ (p : Policy). accepted p) (x .1))
+
+-- the records in the bytes are those that were written
+read-clean : (p : Policy) (rs : List Record) → Cleanly p rs → recordsFrom (many rs) (joined (each encode rs)) ≡ rs
+unfolding recordsFrom many joined each
+read-clean p [] x = refl
+read-clean p (r ∷ rs) x =
+    let f = first-sixteen r (joined (each encode rs)) in
+    rw (f .0, f .1, read-back r (x .0 .a) (x .0 .b) (x .0 .c) (x .0 .m), read-clean (step p r) rs (x .1)) refl
+
+pub read-run : (rs : List Record) (q : Policy) → Run noPolicy rs q → recordsOf (joined (each encode rs)) ≡ rs
+unfolding recordsOf
+read-run rs q x = rw (written-length rs, sixteenth (many rs)) (read-clean noPolicy rs (x .0))
 
 -- ---- runs one behind the other
 pub run-none : (p q : Policy) → p ≡ q → Run p [] q

@@ -11,14 +11,13 @@ use Rattle.paper_lower.specs.Samples.{books}
 use Rattle.paper_upper.specs.Orders.{entry, ordersOpen}
 use Rattle.paper_upper.specs.Orders.Standing.{held, done}
 use Rattle.paper_upper.specs.PTable.{listing}
-use Rattle.paper_upper.specs.Requests.{turned}
-use Rattle.theorems.specs.Outside.{nothing, telling, hear, hearAll, followed, outside}
+use Rattle.theorems.specs.Outside.{nothing, ofInstance, inHand, theirs, nowDone, telling, hear, hearAll, followed, outside}
 use Rattle.theorems.specs.InUse.{noTally, counting, count, inUse}
 use Rattle.theorems.specs.Walls as walls
 use Rattle.theorems.specs.Walls.{noCommits, committing, committed}
 
 pub after-nine : outside (joined (listing .policy)) (take 9 (listing .requests)) .orders .entries ≡ entry 0 301 1 (held 6) ∷ entry 0 300 0 done ∷ []
-unfolding lowerOpen ordersOpen wordsOpen listing recordsFrom recordsOf nothing telling hear hearAll followed outside turned
+unfolding lowerOpen ordersOpen wordsOpen listing recordsFrom recordsOf nothing telling hear hearAll followed outside ofInstance inHand theirs nowDone
 after-nine = refl
 
 -- two entries are in use, and none after the last request

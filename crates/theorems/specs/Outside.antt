@@ -1,19 +1,19 @@
 -- The reading from outside: people, subjects, open orders and their entries, told by records and their replies alone. No table is looked at.
 use Prim.Native.Nat.{ℕ}
-use mathlib.Core.Bool.{Bool, true, false, not}
+use mathlib.Core.Bool.{Bool, true, false, not, cond, _&&_}
 use mathlib.Core.List.{List, [], _∷_}
+use lib.Dec.{eqb}
 use Rattle.paper_lower.specs.Sets.{Set, empty, plus, minus}
 use Rattle.paper_lower.specs.Lists.{upd, Maybe, orElse, add, keep, each}
 use Rattle.paper_lower.specs.Lists.Maybe.{none, just}
 use Rattle.paper_lower.specs.Checks.{granted}
 use Rattle.paper_lower.specs.Records.{Bytes, Record, decode}
 use Rattle.paper_lower.specs.Kinds.{Kind, on, chosen, Said}
-use Rattle.paper_lower.specs.Tables.{Walled, Sessions, noSessions, withBoundTo}
+use Rattle.paper_lower.specs.Tables.{Walled, Sessions, withBoundTo}
 use Rattle.paper_lower.specs.Policy.{blockOf}
 use Rattle.paper_lower.specs.Load.{recordsOf}
-use Rattle.paper_upper.specs.Orders.{Entry, entry, Orders, noOrders, inOrder, heldBy}
-use Rattle.paper_upper.specs.Orders.Standing.{held}
-use Rattle.paper_upper.specs.Requests.{turned}
+use Rattle.paper_upper.specs.Orders.{Standing, Entry, entry, Orders}
+use Rattle.paper_upper.specs.Orders.Standing.{held, done}
 
 -- who is a user, and the users' assigned roles; the roles that have each permission; the objects that stand in walls; each live subject's user, its active
 -- roles and all that it has had active, and the block that each user is bound to in each wall; the open orders, each with its template, and their entries
@@ -26,7 +26,15 @@ pub record Told : Type 0 where
   pub orders : Orders
 
 unfoldable pub nothing : Told
-nothing = record { users = λ _. false; assigned = λ _. empty; holders = λ _. empty; walls = []; sessions = noSessions; orders = noOrders }
+nothing =
+    record {
+      users = λ _. false;
+      assigned = λ _. empty;
+      holders = λ _. empty;
+      walls = [];
+      sessions = record { live = λ _. false; user = λ _. 0; active = λ _. empty; had = λ _. empty; boundTo = λ _ _. none };
+      orders = record { opened = λ _. none; entries = [] };
+    }
 
 -- ---- One of them anew.
 abbrev pub toldPeople : Told → (ℕ → Bool) → (ℕ → Set) → Told
@@ -83,6 +91,24 @@ toldOrders x f es =
 abbrev pub toldEntries : Told → List Entry → Told
 toldEntries x es = toldOrders x (x .orders .opened) es
 
+-- ---- Which entries a request names. (What the engine looks them up with is another matter: what is told shares nothing with it.)
+
+-- those of instance i
+unfoldable pub ofInstance : ℕ → Entry → Bool
+ofInstance i e = eqb (e .instance) i
+
+unfoldable pub inHand : ℕ → Standing → Bool
+inHand a (held s) = eqb s a
+inHand a done = false
+
+-- the one of task t in instance i that subject a holds
+unfoldable pub theirs : ℕ → ℕ → ℕ → Entry → Bool
+theirs i t a e = ofInstance i e && eqb (e .task) t && inHand a (e .standing)
+
+-- that one is done
+unfoldable pub nowDone : ℕ → ℕ → ℕ → Entry → Entry
+nowDone i t a e = cond (theirs i t a e) (entry (e .instance) (e .user) (e .task) done) e
+
 -- ---- What a granted record of each kind tells; of any other kind, nothing.
 abbrev pub tells : ℕ → (Told → Record → Told) → Kind Told
 tells k f = on k (λ x r. []) f
@@ -111,12 +137,12 @@ telling =
     ∷ tells 43 (λ x r. toldActive x (upd (x .sessions .active) (r .a) (minus (x .sessions .active (r .a)) (r .b))) (x .sessions .had))
     -- "48 open instance a of template b. 49 end instance a.": "ending the instance removes all its entries"
     ∷ tells 48 (λ x r. toldOrders x (upd (x .orders .opened) (r .a) (just (r .b))) (x .orders .entries))
-    ∷ tells 49 (λ x r. toldOrders x (upd (x .orders .opened) (r .a) none) (keep (λ e. not (inOrder (r .a) e)) (x .orders .entries)))
+    ∷ tells 49 (λ x r. toldOrders x (upd (x .orders .opened) (r .a) none) (keep (λ e. not (ofInstance (r .a) e)) (x .orders .entries)))
     -- "A granted claim enters (instance, user, task, held), the user being the subject's; the claiming subject is kept with it while it is
     -- held. Release removes it; done turns it from held to done"
     ∷ tells 50 (λ x r. toldEntries x (entry (r .b) (x .sessions .user (r .a)) (r .c) (held (r .a)) ∷ x .orders .entries))
-    ∷ tells 51 (λ x r. toldEntries x (keep (λ e. not (heldBy (r .b) (r .c) (r .a) e)) (x .orders .entries)))
-    ∷ tells 52 (λ x r. toldEntries x (each (turned (r .b) (r .c) (r .a)) (x .orders .entries)))
+    ∷ tells 51 (λ x r. toldEntries x (keep (λ e. not (theirs (r .b) (r .c) (r .a) e)) (x .orders .entries)))
+    ∷ tells 52 (λ x r. toldEntries x (each (nowDone (r .b) (r .c) (r .a)) (x .orders .entries)))
     -- 02, Ask 11: "policy kind 18, wall a (0 to 15), block b (0 to 15), object c"; "Request kind 59, commit": "if granted, the user is bound to the object's
     -- block in every wall that has it"
     ∷ tells 18 (λ x r. toldWalls x (add (x .walls) (record { wall = r .a; block = r .b; object = r .c })))

@@ -9,13 +9,14 @@ use lib.Seq.{take-at}
 use Rattle.paper_lower.specs.Checks.{GRANTED}
 use Rattle.paper_lower.specs.Records.{Bytes}
 use Rattle.paper_lower.specs.Tables.{Policy, Lower}
-use Rattle.paper_lower.specs.Load.{Loaded, load, accepted}
+use Rattle.paper_lower.specs.Load.{Loaded, load, accepted, recordsOf}
 use Rattle.paper_lower.specs.Written.{recordsWritten, written}
 use Rattle.paper_upper.specs.Engine.{engineOf}
 use Rattle.writing.proofs.Laws.{joined-length}
 use Rattle.engine.specs.Buffers.{Buffers, fit}
-use Rattle.theorems.specs.Written.{Running, policyOf}
+use Rattle.theorems.specs.Written.{Running, policyOf, InOrder}
 use Rattle.theorems.proofs.Written.{loads-again, bytes-tell}
+use Rattle.theorems.proofs.WrittenOrder.{written-in-order}
 use Rattle.demands.specs.Calls.{fitting, asked}
 use Rattle.demands.proofs.Demands.{demand-one, demand-two}
 use Rattle.write_out.specs.Promises.{policyIn}
@@ -62,6 +63,9 @@ written-out =
           let e : load bytes ≡ accepted (policyIn z) = ap load (out-is z bytes o) ∙ loads-as r in
           let d = demand-two .loads f l in
           (d .0 ∙ ap (λ (x : Loaded). x .reply) e, d .1 ∙ ap (λ (x : Loaded). engineOf (x .tables)) e);
+      ordered = λ {z} {bytes} r o.
+          subst (λ (s : Bytes). InOrder (policyIn z) (recordsOf s)) (sym (out-is z bytes o))
+          (subst (λ (p : Policy). InOrder p (recordsOf (written p))) (sym (running-is r)) (written-in-order (running r)));
       tell = λ {z} {u} {a} {b} r s o p.
           let t = bytes-tell (running r) (running s) in
           let x = running-is r in

@@ -8,10 +8,12 @@ use lib.ListN.{take}
 use Rattle.paper_lower.specs.Lists.{Every}
 use Rattle.paper_lower.specs.Checks.{GRANTED}
 use Rattle.paper_lower.specs.Records.{Bytes}
+use Rattle.paper_lower.specs.Load.{recordsOf}
 use Rattle.paper_upper.specs.Engine.{Placed, engineOf}
 use Rattle.replies.specs.Replies.{numberOf}
 use Rattle.writing.specs.declared.Written.{Written}
 use Rattle.engine.specs.Buffers.{Buffers, tablesOf, fit}
+use Rattle.theorems.specs.Written.{InOrder}
 use Rattle.demands.specs.Calls.{Load, Requests}
 use Rattle.write_out.specs.Promises.{policyIn, WroteOut}
 
@@ -40,5 +42,7 @@ pub record WrittenOut : Type 0 where
   -- "loading what was written is accepted and gives the same policy tables, without sessions, instances or entries"
   pub again : {z u v : Buffers} {bytes : Bytes} {reply : ℕ} → Reached z → Out z bytes → fit u ≡ true → Load bytes u v reply
       → (reply ≡ GRANTED) × (tablesOf v ≡ engineOf (policyIn z))
+  -- "kinds rising, within kinds 1 to 8, 13, 14 and 17 rising by a and then b, rules of the other kinds in the order held"
+  pub ordered : {z : Buffers} {bytes : Bytes} → Reached z → Out z bytes → InOrder (policyIn z) (recordsOf bytes)
   -- "Two such engines have equal policy tables, the orders held included, exactly when the written bytes are equal."
   pub tell : {z u : Buffers} {a b : Bytes} → Reached z → Reached u → Out z a → Out u b → (policyIn z ≡ policyIn u) ↔ (a ≡ b)
