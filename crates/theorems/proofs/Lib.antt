@@ -49,3 +49,4 @@ pub mod ExactlyOrders
 pub mod ExactlyClaims
 pub mod Exactly
 pub mod WrittenOrder
+pub mod WrittenMost

@@ -301,7 +301,7 @@ upper-rows =
     ⨾ (λ t r g c i. i) ⨾ (λ t r g c i. i) ⨾ (λ t r g c i. i) ⨾ (λ t r g c i. i) ⨾ (λ t r g c i. i) ⨾ (λ t r g c i. i) ⨾ (λ t r g c i. i) ⨾ (λ t r g c i. i) ⨾ (λ t r g c i. i)
     ⨾ tt
 
-ready : (x : Running) → Ready (policyOf x)
+pub ready : (x : Running) → Ready (policyOf x)
 unfolding request engineOf lowerOf recordsOf
 ready x =
     let a = load-accepted (x .policy) (x .loads) in

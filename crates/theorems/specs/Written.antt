@@ -3,12 +3,12 @@ use Prim.Native.Nat.{ℕ, _≤_, _<_}
 use mathlib.Core.Path.{_≡_}
 use mathlib.Core.Logic.{_⊎_, _↔_}
 use mathlib.Core.List.{List}
-use Rattle.paper_lower.specs.Lists.{each, Every}
+use Rattle.paper_lower.specs.Lists.{many, each, Every}
 use Rattle.paper_lower.specs.Checks.{GRANTED}
 use Rattle.paper_lower.specs.Records.{Bytes, Record}
 use Rattle.paper_lower.specs.Tables.{Policy}
 use Rattle.paper_lower.specs.Load.{accepted, load, recordsOf}
-use Rattle.paper_lower.specs.Written.{written}
+use Rattle.paper_lower.specs.Written.{recordsWritten, written}
 use Rattle.theorems.specs.OverEntries.{ofKind, EveryTwo}
 use Rattle.theorems.specs.Theorems.{tablesAfter}
 
@@ -52,3 +52,10 @@ pub record InOrder (p : Policy) (rs : List Record) : Type 0 where
 
 abbrev pub WrittenInOrder : Type 0
 WrittenInOrder = (x : Running) → InOrder (policyOf x) (recordsOf (written (policyOf x)))
+
+-- ---- No more than these are ever written: room for so many is always enough.
+abbrev pub mostWritten : ℕ
+mostWritten = 108528
+
+abbrev pub NeverMoreWritten : Type 0
+NeverMoreWritten = (x : Running) → many (recordsWritten (policyOf x)) ≤ mostWritten

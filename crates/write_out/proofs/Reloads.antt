@@ -1,11 +1,12 @@
 -- What the call promises, joined with what the definitions say of the bytes written.
-use Prim.Native.Nat.{ℕ, _*_}
+use Prim.Native.Nat.{ℕ, _*_, _≤_}
 use mathlib.Core.Bool.{Bool, true, false}
 use mathlib.Core.List.{List, _++_}
 use mathlib.Core.Path.{_≡_, refl, sym, ap, subst, _∙_}
 use native.Mathlib.Omega.{arith}
 use lib.ListN.{length, take, drop}
 use lib.Seq.{take-at}
+use Rattle.paper_lower.specs.Lists.{many}
 use Rattle.paper_lower.specs.Checks.{GRANTED}
 use Rattle.paper_lower.specs.Records.{Bytes}
 use Rattle.paper_lower.specs.Tables.{Policy, Lower}
@@ -14,14 +15,15 @@ use Rattle.paper_lower.specs.Written.{recordsWritten, written}
 use Rattle.paper_upper.specs.Engine.{engineOf}
 use Rattle.writing.proofs.Laws.{joined-length}
 use Rattle.engine.specs.Buffers.{Buffers, fit}
-use Rattle.theorems.specs.Written.{Running, policyOf, InOrder}
+use Rattle.theorems.specs.Written.{Running, policyOf, InOrder, mostWritten}
 use Rattle.theorems.proofs.Written.{loads-again, bytes-tell}
 use Rattle.theorems.proofs.WrittenOrder.{written-in-order}
+use Rattle.theorems.proofs.WrittenMost.{never-more-written}
 use Rattle.demands.specs.Calls.{fitting, asked}
 use Rattle.demands.proofs.Demands.{demand-one, demand-two}
 use Rattle.write_out.specs.Promises.{policyIn}
 use Rattle.write_out.specs.Reloads.{Reached, Out, WrittenOut}
-use Rattle.write_out.proofs.Statements.{writes-as-defined}
+use Rattle.write_out.proofs.Statements.{writes-as-defined, refused-for-room}
 
 -- the bytes are those of the definition
 out-is : (z : Buffers) (bytes : Bytes) → Out z bytes → bytes ≡ written (policyIn z)
@@ -66,6 +68,9 @@ written-out =
       ordered = λ {z} {bytes} r o.
           subst (λ (s : Bytes). InOrder (policyIn z) (recordsOf s)) (sym (out-is z bytes o))
           (subst (λ (p : Policy). InOrder p (recordsOf (written p))) (sym (running-is r)) (written-in-order (running r)));
+      enough = λ {z} {output} {after} {answer} r f w l.
+          let n = subst (λ (p : Policy). many (recordsWritten p) ≤ mostWritten) (sym (running-is r)) (never-more-written (running r)) in
+          refused-for-room z output after answer w .0 f (omega arith);
       tell = λ {z} {u} {a} {b} r s o p.
           let t = bytes-tell (running r) (running s) in
           let x = running-is r in

@@ -1,10 +1,10 @@
 -- 02, Ask 8, of the real calls: what was written of an engine in use loads again, and tells the tables.
-use Prim.Native.Nat.{ℕ, _*_, _<_}
+use Prim.Native.Nat.{ℕ, _*_, _≤_, _<_}
 use mathlib.Core.Bool.{true}
 use mathlib.Core.List.{List}
 use mathlib.Core.Logic.{_↔_}
 use mathlib.Core.Path.{_≡_}
-use lib.ListN.{take}
+use lib.ListN.{length, take}
 use Rattle.paper_lower.specs.Lists.{Every}
 use Rattle.paper_lower.specs.Checks.{GRANTED}
 use Rattle.paper_lower.specs.Records.{Bytes}
@@ -13,7 +13,7 @@ use Rattle.paper_upper.specs.Engine.{Placed, engineOf}
 use Rattle.replies.specs.Replies.{numberOf}
 use Rattle.writing.specs.declared.Written.{Written}
 use Rattle.engine.specs.Buffers.{Buffers, tablesOf, fit}
-use Rattle.theorems.specs.Written.{InOrder}
+use Rattle.theorems.specs.Written.{InOrder, mostWritten}
 use Rattle.demands.specs.Calls.{Load, Requests}
 use Rattle.write_out.specs.Promises.{policyIn, WroteOut}
 
@@ -44,5 +44,8 @@ pub record WrittenOut : Type 0 where
       → (reply ≡ GRANTED) × (tablesOf v ≡ engineOf (policyIn z))
   -- "kinds rising, within kinds 1 to 8, 13, 14 and 17 rising by a and then b, rules of the other kinds in the order held"
   pub ordered : {z : Buffers} {bytes : Bytes} → Reached z → Out z bytes → InOrder (policyIn z) (recordsOf bytes)
+  -- an output for 108,528 records is always enough
+  pub enough : {z : Buffers} {output after : Bytes} {answer : Written} → Reached z → fit z ≡ true → WroteOut z output after answer → 16 * mostWritten ≤ length output
+      → numberOf (answer .reply) ≡ GRANTED
   -- "Two such engines have equal policy tables, the orders held included, exactly when the written bytes are equal."
   pub tell : {z u : Buffers} {a b : Bytes} → Reached z → Reached u → Out z a → Out u b → (policyIn z ≡ policyIn u) ↔ (a ≡ b)
