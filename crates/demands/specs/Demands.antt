@@ -116,15 +116,16 @@ pub record Upheld (policy : Bytes) (said : List Placed) (z : Buffers) : Type 0 w
   pub checks : {check : Bytes} {w : Buffers} {reply place : ℕ} → CheckOrCommit check → Request check z w reply place → Reaches WALL reply
       → Decided (recordsOf policy) (committedBy (committed (allSaid said)) (decode check)) (decode check .c) reply
   -- Of every kind of request, every reply: given exactly when the page theorems/specs/Exactly says so of the policy's records, the requests and the answers.
-  pub replies : {bytes : Bytes} {w : Buffers} {reply place : ℕ} → Request bytes z w reply place → Answered engineKindsAsked (known policy (allSaid said)) bytes reply
+  pub replies : {bytes : Bytes} {w : Buffers} {reply place : ℕ} → Request bytes z w reply place
+      → Answered engineKindsAsked (known policy (allSaid said)) bytes reply
 
 -- "After an accepted load and any further requests"
 pub record DemandThree : Type 0 where
   pub upheld : {policy : Bytes} {x y z : Buffers} {reply : ℕ} {said : List Placed} → Load policy x y reply → reply ≡ GRANTED → Requests y said z
       → Upheld policy said z
 
--- ---- Calls that are no single requests stand in a chain too, so that "any further requests" are all that public calls can do with an engine's buffers. (That a
--- pile does is said in pile/specs/Promises.)
+-- ---- Calls that are no single requests stand in a chain too, so that "any further requests" are all that public calls can do with an engine's buffers.
+-- (That a pile does is said in pile/specs/Promises.)
 pub record InChains : Type 0 where
   -- a settling changes no table
   pub settling : {x y : Buffers} {reply : ℕ} → SettledAs x y reply → Together [] x y
@@ -133,8 +134,8 @@ pub record InChains : Type 0 where
 
 -- ---- 02, Ask 1: "kind 32 now takes roles in m, and all of it happens or nothing."
 pub record JoinedWithRoles : Type 0 where
-  -- "the result equals adding, then assigning one role after another, whenever none of those would be refused": on buffers of any content, in whatever order the
-  -- roles are assigned, and it is granted exactly then
+  -- "the result equals adding, then assigning one role after another, whenever none of those would be refused": on buffers of any content, in whatever order
+  -- the roles are assigned, and it is granted exactly then
   pub one-by-one : {x y z : Buffers} {reply place : ℕ} {said : List Placed} (a : ℕ) (roles : List ℕ) → fit x ≡ true → a < 1024 → EachOnce empty roles
       → Request (join a (gathered empty roles)) x y reply place → Requests x said z
       → let fitted = fitting (λ p. p .said) said in
@@ -159,8 +160,8 @@ pub record EitherFirst (c d : Bytes) (z : Buffers) : Type 0 where
 pub record ClaimsDoNotMeet : Type 0 where
   pub upheld : {policy : Bytes} {x y z : Buffers} {reply : ℕ} {said : List Placed} → Load policy x y reply → reply ≡ GRANTED → Requests y said z
       → (c d : Bytes) → Apart c d → inUse (allSaid said) + 2 ≤ 2048 → EitherFirst c d z
-  -- "With one entry free the order matters": of two claims that are granted where they go in first, the one that goes in second is FULL (theorems/specs/MeetingTable
-  -- is the table of cases)
+  -- "With one entry free the order matters": of two claims that are granted where they go in first, the one that goes in second is FULL
+  -- (theorems/specs/MeetingTable is the table of cases)
   pub one-free : {policy : Bytes} {x y z : Buffers} {reply : ℕ} {said : List Placed} → Load policy x y reply → reply ≡ GRANTED → Requests y said z
       → (c d : Bytes) → Apart c d → inUse (allSaid said) + 1 ≡ 2048
       → {w v w′ v′ : Buffers} {q p i j q′ p′ i′ j′ : ℕ} → Request c z w q i → Request d w v p j → Request d z w′ p′ j′ → Request c w′ v′ q′ i′
@@ -189,7 +190,8 @@ pub record SeniorRoles : Type 0 where
 -- ---- 02, Ask 11: commits.
 pub record Commits : Type 0 where
   -- "Request kind 59, commit, has the fields of kind 56 and is refused as the check is", on buffers of any content and lengths
-  pub as-the-check : {bytes : Bytes} {x y w : Buffers} {q p i j : ℕ} → decode bytes .kind ≡ 59 → Request bytes x y q i → Request (56 ∷ drop 1 bytes) x w p j → q ≡ p
+  pub as-the-check : {bytes : Bytes} {x y w : Buffers} {q p i j : ℕ} → decode bytes .kind ≡ 59
+      → Request bytes x y q i → Request (56 ∷ drop 1 bytes) x w p j → q ≡ p
   -- "Objects outside a wall are free of it.": one that is in no wall is never refused with WALL, and binds nobody
   pub outside-walls : {bytes : Bytes} {x y : Buffers} {reply place : ℕ} → fit x ≡ true → CheckOrCommit bytes
       → ((w : ℕ) → blockOf (tablesOf x .lower .policy .walls) (decode bytes .c) w ≡ none) → Request bytes x y reply place

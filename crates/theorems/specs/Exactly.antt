@@ -154,7 +154,8 @@ module _ (k : Known) where
       ∷ refusal STATIC (Broken (k .policy) 9 (λ q. Assigned (r .a) q ⊎ (q ≡ r .b)))
       ∷ []
 
-  -- ---- "35 take it back." "a pair to take back is absent". 02, Ask 7: "kind 35 is IN USE when an active role would no longer stand at or below an assigned one"
+  -- ---- "35 take it back.": "a pair to take back is absent". 02, Ask 7: "kind 35 is IN USE when an active role would no longer stand at or below an assigned
+  -- one"
   abbrev pub takingBack : Record → List Refusal
   takingBack r =
       refusal UNKNOWN (Not (IsUser (r .a)) ⊎ Not (IsRole (r .b)) ⊎ Not (Assigned (r .a) (r .b)))
@@ -249,7 +250,8 @@ module _ (k : Known) where
     OtherBlock =
         Says 12 (λ q. In (q .m) (r .c) × Says 12 (λ p. (p .a ≡ q .a) × Not (In (p .m) (r .c)) × ((t : ℕ) × In (p .m) t × InD t)))
 
-    -- "ALONE: the template is banned for lone workers and every task of it other than t is in D." 02, Ask 10: "the ban governs templates with two or more tasks"
+    -- "ALONE: the template is banned for lone workers and every task of it other than t is in D." 02, Ask 10: "the ban governs templates with two or more
+    -- tasks"
     abbrev pub AllButOne : Type 0
     AllButOne =
         (j : ℕ) × OpenOf (r .b) j × Says 13 (λ q. q .a ≡ j)
@@ -290,8 +292,8 @@ module _ (k : Known) where
   leaving r = refusal UNKNOWN (UnknownTask r) ∷ refusal NOT-YOURS (NotHeldBy r) ∷ []
 
   -- ---- "56 check: subject a, operation b, object c." "Request kind 59, commit, has the fields of kind 56 and is refused as the check is".
-  -- DENIED: "no active role of the subject has the permission"; "an undeclared pair is denied". WALL: "when the user is bound in some wall to another block than
-  -- the object's": one of the user's commits stands there
+  -- DENIED: "no active role of the subject has the permission"; "an undeclared pair is denied". WALL: "when the user is bound in some wall to another block
+  -- than the object's": one of the user's commits stands there
   abbrev pub checking : Record → List Refusal
   checking r =
       refusal UNKNOWN (Not (Live (r .a)))
@@ -388,4 +390,5 @@ pub record EveryReply : Type 0 where
   pub engine : AfterEvery (λ policy requests. (s : Bytes)
       → Answered engineKindsAsked (known policy (saidAfter policy requests)) s (replyAfter policy requests s))
   pub dealers : AfterEvery (λ policy requests. (s : Bytes)
-      → Answered lowerKindsAsked (known policy (run lowerRequest (lowerOf (load policy .tables)) requests)) s (lowerRequest (lowerAfter policy requests) s .reply))
+      → Answered lowerKindsAsked (known policy (run lowerRequest (lowerOf (load policy .tables)) requests)) s
+      (lowerRequest (lowerAfter policy requests) s .reply))

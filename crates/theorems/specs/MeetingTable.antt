@@ -1,5 +1,5 @@
--- 02, Ask 14: "With one entry free the order matters, and the table of cases shows it." A table of two claims in different orders, either of them first, and one
--- statement: every row comes out.
+-- 02, Ask 14: "With one entry free the order matters, and the table of cases shows it." A table of two claims in different orders, either of them first, and
+-- one statement: every row comes out.
 use Prim.Native.Nat.{ℕ}
 use mathlib.Core.Path.{_≡_, refl}
 use mathlib.Core.Bool.{Bool, true, _&&_}

@@ -136,8 +136,8 @@ pub record Exceeded (Counts : ℕ → Type 0) (set : Record) : Type 0 where
 abbrev pub Broken : List Record → ℕ → (ℕ → Type 0) → Type 0
 Broken policy kind Roles = Any (Exceeded (Reached policy Roles)) (ofKind kind policy)
 
--- 02, Ask 5: "Each subject's record keeps every role it has had active; a dynamic set counts the union over the user's live subjects." A live subject of user u,
--- whatever its number, has had role q active.
+-- 02, Ask 5: "Each subject's record keeps every role it has had active; a dynamic set counts the union over the user's live subjects." A live subject of
+-- user u, whatever its number, has had role q active.
 abbrev pub HasHad : Told → ℕ → ℕ → Type 0
 HasHad x u q = (s : ℕ) × (x .sessions .live s ≡ true) × (x .sessions .user s ≡ u) × (has (x .sessions .had s) q ≡ true)
 

@@ -30,7 +30,8 @@ LoadsAgain = (x : Running) → load (written (policyOf x)) ≡ accepted (policyO
 abbrev pub BytesTell : Type 0
 BytesTell = (x y : Running) → (policyOf x ≡ policyOf y) ↔ (written (policyOf x) ≡ written (policyOf y))
 
--- ---- "kinds rising, within kinds 1 to 8, 13, 14 and 17 rising by a and then b, rules of the other kinds in the order held": of the records in the written bytes.
+-- ---- "kinds rising, within kinds 1 to 8, 13, 14 and 17 rising by a and then b, rules of the other kinds in the order held": of the records in the written
+-- bytes.
 abbrev pub ByNumbers : ℕ → Type 0
 ByNumbers kind = (kind ≤ 8) ⊎ ((kind ≡ 13) ⊎ ((kind ≡ 14) ⊎ (kind ≡ 17)))
 

@@ -45,7 +45,7 @@ pub record WrittenOut : Type 0 where
   -- "kinds rising, within kinds 1 to 8, 13, 14 and 17 rising by a and then b, rules of the other kinds in the order held"
   pub ordered : {z : Buffers} {bytes : Bytes} → Reached z → Out z bytes → InOrder (policyIn z) (recordsOf bytes)
   -- an output for 108,528 records is always enough
-  pub enough : {z : Buffers} {output after : Bytes} {answer : Written} → Reached z → fit z ≡ true → WroteOut z output after answer → 16 * mostWritten ≤ length output
-      → numberOf (answer .reply) ≡ GRANTED
+  pub enough : {z : Buffers} {output after : Bytes} {answer : Written} → Reached z → fit z ≡ true → WroteOut z output after answer
+      → 16 * mostWritten ≤ length output → numberOf (answer .reply) ≡ GRANTED
   -- "Two such engines have equal policy tables, the orders held included, exactly when the written bytes are equal."
   pub tell : {z u : Buffers} {a b : Bytes} → Reached z → Reached u → Out z a → Out u b → (policyIn z ≡ policyIn u) ↔ (a ≡ b)
