@@ -29,10 +29,10 @@ use Rattle.write_out.proofs.Statements.{writes-as-defined, refused-for-
 out-is : (z : Buffers) (bytes : Bytes) → Out z bytes → bytes ≡ written (policyIn z)
 unfolding written
 out-is z bytes o =
-    let d = writes-as-defined z (o .output) (o .after) (o .answer) (o .wrote) (o .granted) in
+    let d = writes-as-defined z _ _ _ _ (o .wrote) (o .granted) in
     let n = joined-length (recordsWritten (policyIn z)) in
-    o .front ∙ ap (take (16 * o .answer .records)) (d .1)
-    ∙ take-at (written (policyIn z)) (drop (16 * o .answer .records) (o .output)) (16 * o .answer .records) (n ∙ ap (λ (k : ℕ). 16 * k) (sym (d .0)))
+    o .front ∙ ap (take (16 * o .records)) (d .1)
+    ∙ take-at (written (policyIn z)) (drop (16 * o .records) (o .output)) (16 * o .records) (n ∙ ap (λ (k : ℕ). 16 * k) (sym (d .0)))
 
 module _ {z : Buffers} (r : Reached z) where
   fits : fit (r .x) ≡ true
@@ -68,9 +68,9 @@ written-out =
       ordered = λ {z} {bytes} r o.
           subst (λ (s : Bytes). InOrder (policyIn z) (recordsOf s)) (sym (out-is z bytes o))
           (subst (λ (p : Policy). InOrder p (recordsOf (written p))) (sym (running-is r)) (written-in-order (running r)));
-      enough = λ {z} {output} {after} {answer} r f w l.
+      enough = λ {z} r f w l.
           let n = subst (λ (p : Policy). many (recordsWritten p) ≤ mostWritten) (sym (running-is r)) (never-more-written (running r)) in
-          refused-for-room z output after answer w .0 f (omega arith);
+          refused-for-room z _ _ _ _ w .0 f (omega arith);
       tell = λ {z} {u} {a} {b} r s o p.
           let t = bytes-tell (running r) (running s) in
           let x = running-is r in

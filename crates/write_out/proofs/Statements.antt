@@ -1,5 +1,5 @@
 -- The statements about writing out, from what the call promises.
-use Prim.Native.Nat.{ℕ, _+_, _*_, _≤_}
+use Prim.Native.Nat.{ℕ, _+_, _*_, _/_, _%_, _≤_, _<_}
 use mathlib.Core.Bool.{Bool, true, false, cond, _&&_}
 use mathlib.Core.List.{_++_}
 use mathlib.Core.Path.{_≡_, refl, sym, ap, _∙_}
@@ -12,8 +12,26 @@ use Rattle.paper_lower.specs.Records.{Bytes}
 use Rattle.paper_lower.specs.Tables.{Policy, Lower}
 use Rattle.paper_lower.specs.Written.{written}
 use Rattle.writing.specs.Answers.{Answer, answer, recordsOf, writeOf}
-use Rattle.engine.specs.Buffers.{fit}
-use Rattle.write_out.specs.Promises.{policyIn, WritesAsDefined, RefusedForRoom, OneAnswer}
+use Rattle.engine.specs.Buffers.{Buffers, fit}
+use Rattle.write_out.specs.Promises.{policyIn, WrittenBy, WritesAsDefined, RefusedForRoom, OneAnswer}
+use Rattle.write_out.specs.Promises.WrittenBy.{within, exported}
+
+-- the answer, by either function
+small-reply : (t : Bool) (p : Policy) (out : Bytes)
+    → cond t (answer GRANTED (recordsOf p) (written p ++ drop (16 * recordsOf p) out)) (answer ROOM 0 out) .reply < 256
+small-reply true p out = omega arith
+small-reply false p out = omega arith
+
+as-answer : {x : Buffers} {output output′ : Bytes} {reply records : ℕ} → WrittenBy x output output′ reply records
+    → answer reply records output′ ≡ writeOf (fit x) (policyIn x) output
+unfolding writeOf
+as-answer (within d) = d .answers
+as-answer {x} {output} (exported {n} d) =
+    let l = small-reply (fit x && leb (16 * recordsOf (policyIn x)) (length output)) (policyIn x) output in
+    let e = d .answers in
+    let reply : n % 256 ≡ writeOf (fit x) (policyIn x) output .reply = omega arith in
+    let records : n / 256 ≡ writeOf (fit x) (policyIn x) output .records = omega arith in
+    λ i. answer (reply i) (records i) (d .bytes i)
 
 -- a reply of 0 is that of the records
 granted-is : (t : Bool) (p : Policy) (out : Bytes) {reply records : ℕ} {out′ : Bytes}
@@ -24,15 +42,15 @@ granted-is false p out e g = let z : ⊥ = omega (arith, ap (λ (x : Answer). x 
 
 pub writes-as-defined : WritesAsDefined
 unfolding writeOf
-writes-as-defined x output output′ w d g =
-    let r = granted-is (fit x && leb (16 * recordsOf (policyIn x)) (length output)) (policyIn x) output (d .answers) g in
+writes-as-defined x output output′ reply records d g =
+    let r = granted-is (fit x && leb (16 * recordsOf (policyIn x)) (length output)) (policyIn x) output (as-answer d) g in
     (r .0, r .1 ∙ ap (λ (n : ℕ). written (policyIn x) ++ drop (16 * n) output) (sym (r .0)))
 
 pub refused-for-room : RefusedForRoom
 unfolding writeOf
-refused-for-room x output output′ w d = (
-  λ f r. ap (λ (y : Answer). y .reply) (d .answers) ∙ (rw (f, le-leb (16 * recordsOf (policyIn x)) (length output) r)),
-  λ short. go (fit x) refl (leb (16 * recordsOf (policyIn x)) (length output)) refl short (d .answers),
+refused-for-room x output output′ reply records d = (
+  λ f r. ap (λ (y : Answer). y .reply) (as-answer d) ∙ (rw (f, le-leb (16 * recordsOf (policyIn x)) (length output) r)),
+  λ short. go (fit x) refl (leb (16 * recordsOf (policyIn x)) (length output)) refl short (as-answer d),
 )
   where
     go : (f : Bool) → fit x ≡ f → (t : Bool) → leb (16 * recordsOf (policyIn x)) (length output) ≡ t → (fit x ≡ true → 16 * recordsOf (policyIn x) ≤ length output → ⊥)
