@@ -1,7 +1,7 @@
 // What the programs that run cases have in common: a line of a script, its numbers, its record, the bytes it hands to a call, what is
 // printed of a reply, and words compared. It knows no rule of the engine. A line is a letter, numbers behind it, and words for the reader.
 // It rests on io for what is printed.
-ghost use Prim.Native.Nat.{ℕ, _+_, _%_, _<_, _≤_};
+ghost use Prim.Native.Nat.{ℕ, _+_, _-_, _%_, _<_, _≤_};
 ghost use mathlib.Core.Bool.{true, cond};
 ghost use mathlib.Core.Path.{_≡_};
 ghost use lib.ListN.{length, getD, take};
@@ -249,7 +249,10 @@ pub fn nothing() -> Handed
     }
 }
 
-fn with_record(h: Handed, r: Fields) -> Handed {
+// What is handed with one record more behind it, where there is room.
+fn with_record(h: Handed, r: Fields) -> Handed
+    ensures { λ x. ⌜ Put (h .len) r (h .bytes) (x .bytes) (x .len) ⌝ }
+{
     let mut bytes = h.bytes;
     let len = put(&mut bytes, h.len, r);
     Handed {
@@ -258,7 +261,9 @@ fn with_record(h: Handed, r: Fields) -> Handed {
     }
 }
 
-fn of_length(h: Handed, len: usize) -> Handed {
+fn of_length(h: Handed, len: usize) -> Handed
+    ensures { λ r. ⌜ (r .bytes ≡ h .bytes) × (r .len ≡ len) ⌝ }
+{
     let bytes = h.bytes;
     Handed {
         bytes: bytes,
@@ -270,7 +275,10 @@ fn request_of(r: Fields) -> Handed {
     with_record(nothing(), r)
 }
 
-fn less(x: usize, y: usize) -> usize {
+// The difference, or 0 where y is the larger.
+fn less(x: usize, y: usize) -> usize
+    ensures { λ r. ⌜ r ≡ x - y ⌝ }
+{
     if x < y { 0 } else { x - y }
 }
 

@@ -60,7 +60,7 @@ gathered f c g one p (r ∷ rs) a =
     go false = refl
 
 -- ---- what a record of kind n declares
-abbrev more : (ℕ → Set) → ℕ → ℕ → ℕ → Set
+abbrev pub more : (ℕ → Set) → ℕ → ℕ → ℕ → Set
 more f a b = upd f a (plus (f a) b)
 
 abbrev Declares : ℕ → Policy → Record → Policy → Type 0
@@ -93,7 +93,7 @@ role-more a p r f = ap (λ (m : Set). has m a) (declares p r f .0) ∙ go (eqb (
     go false = refl
 
 -- a table of sets, one member more in one of them
-column-more : (f : ℕ → Set) (a b i k : ℕ) → has (more f a b i) k ≡ has (f i) k || (eqb i a && eqb k b)
+pub column-more : (f : ℕ → Set) (a b i k : ℕ) → has (more f a b i) k ≡ has (f i) k || (eqb i a && eqb k b)
 unfolding upd
 column-more f a b i k = go (eqb i a) refl
   where
@@ -101,7 +101,7 @@ column-more f a b i k = go (eqb i a) refl
     go true e = has-plus (f a) b k ∙ ap (λ (j : ℕ). has (f j) k || eqb k b) (sym (eqb-true i a e))
     go false e = sym (or-false (has (f i) k))
 
-column : (f g : ℕ → Set) (x : Bool) (a b i k : ℕ) → g ≡ cond x (more f a b) f → has (g i) k ≡ cond x (has (f i) k || (eqb i a && eqb k b)) (has (f i) k)
+pub column : (f g : ℕ → Set) (x : Bool) (a b i k : ℕ) → g ≡ cond x (more f a b) f → has (g i) k ≡ cond x (has (f i) k || (eqb i a && eqb k b)) (has (f i) k)
 column f g true a b i k e = ap (λ (h : ℕ → Set). has (h i) k) e ∙ column-more f a b i k
 column f g false a b i k e = ap (λ (h : ℕ → Set). has (h i) k) e
 
@@ -145,24 +145,24 @@ all-in-range p (r ∷ rs) a = go (eqb (r .kind) 3) refl (all-in-range (step p r)
     go false e h = h
 
 -- ---- the whole
-nothing-yet : (policy : Bytes) (accepted : load policy .reply ≡ 0) (f : Policy → Bool) (c : ℕ) (g : Record → Bool) → f noPolicy ≡ false
-    → ((p : Policy) (r : Record) → Fits p r → f (step p r) ≡ cond (eqb (r .kind) c) (f p || g r) (f p))
-    → f (load policy .tables) ≡ some g (ofKind c (recordsOf policy))
-nothing-yet policy accepted f c g start one =
-    let x = load-accepted policy accepted in
-    ap f (x .1) ∙ gathered f c g one noPolicy (recordsOf policy) (x .0) ∙ ap (λ (b : Bool). b || some g (ofKind c (recordsOf policy))) start
+pub nothing-yet : (rs : List Record) → Accepted noPolicy rs → (f : Policy → Bool) (c : ℕ) (g : Record → Bool) → f noPolicy ≡ false
+    → ((p : Policy) (r : Record) → Fits p r → f (step p r) ≡ cond (eqb (r .kind) c) (f p || g r) (f p)) → f (filled noPolicy rs) ≡ some g (ofKind c rs)
+nothing-yet rs a f c g start one = gathered f c g one noPolicy rs a ∙ ap (λ (b : Bool). b || some g (ofKind c rs)) start
+
+pub declared-of : (rs : List Record) → Accepted noPolicy rs → Declared rs (fixed (filled noPolicy rs))
+unfolding noPolicy holds
+declared-of rs x = record {
+  roles = λ a. nothing-yet rs x (λ p. has (p .people .roles) a) 2 (λ q. eqb a (q .a)) (has-empty a) (role-more a);
+  permissions = λ h a. nothing-yet rs x (λ p. holds h (p .permissions .declared a)) 3 (λ q. eqb a (q .a) && h (aPermission q)) refl (permission-more h a);
+  openTo = λ a b. nothing-yet rs x (λ p. has (p .tasks .openTo a) b) 7 (λ q. eqb a (q .a) && eqb b (q .b)) (has-empty b)
+      (λ p r f. column (p .tasks .openTo) _ (eqb (r .kind) 7) (r .a) (r .b) a b (declares p r f .2));
+  carriers = λ a b. nothing-yet rs x (λ p. has (p .permissions .carriers b) a) 8 (λ q. eqb b (q .b) && eqb a (q .a)) (has-empty a)
+      (λ p r f. column (p .permissions .carriers) _ (eqb (r .kind) 8) (r .b) (r .a) b a (declares p r f .3));
+  small = all-in-range noPolicy rs x;
+}
 
 pub declared-load : (policy : Bytes) → load policy .reply ≡ 0 → Declared (recordsOf policy) (fixed (load policy .tables))
-unfolding noPolicy holds
-declared-load policy accepted = record {
-  roles = λ a. nothing-yet policy accepted (λ p. has (p .people .roles) a) 2 (λ q. eqb a (q .a)) (has-empty a) (role-more a);
-  permissions = λ h a. nothing-yet policy accepted (λ p. holds h (p .permissions .declared a)) 3 (λ q. eqb a (q .a) && h (aPermission q)) refl (permission-more h a);
-  openTo = λ a b. nothing-yet policy accepted (λ p. has (p .tasks .openTo a) b) 7 (λ q. eqb a (q .a) && eqb b (q .b)) (has-empty b)
-      (λ p r f. column (p .tasks .openTo) _ (eqb (r .kind) 7) (r .a) (r .b) a b (declares p r f .2));
-  carriers = λ a b. nothing-yet policy accepted (λ p. has (p .permissions .carriers b) a) 8 (λ q. eqb b (q .b) && eqb a (q .a)) (has-empty a)
-      (λ p r f. column (p .permissions .carriers) _ (eqb (r .kind) 8) (r .b) (r .a) b a (declares p r f .3));
-  small = let x = load-accepted policy accepted in all-in-range noPolicy (recordsOf policy) (x .0);
-}
+declared-load policy h = let x = load-accepted policy h in rw (x .1) (declared-of (recordsOf policy) (x .0))
 
 -- ---- requests declare nothing of it
 fixed-after : (t : Engine) (ss : List Bytes) → fixed (after request t ss .lower .policy) ≡ fixed (t .lower .policy)

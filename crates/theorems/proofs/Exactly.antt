@@ -72,14 +72,14 @@ not-passed true p = (λ _ x. true≢false (p .1 x), λ _. refl)
 not-passed false p = (λ e. absurd (false≢true e), λ n. absurd (n (p .0 refl)))
 
 module _ (f : Form) (s : Bytes) where
-  misshaped : (not (eqb (length s) 16) || misshapen (just f) (decode s) ≡ true) ↔ Not ((length s ≡ 16) × OfFields Fits f (decode s))
+  pub misshaped : (not (eqb (length s) 16) || misshapen (just f) (decode s) ≡ true) ↔ Not ((length s ≡ 16) × OfFields Fits f (decode s))
   unfolding misshapen
   misshaped =
       let r = decode s in
       not-passed _ (neither (not (eqb (length s) 16)) _ (λ e. eqb-true _ _ (not-false _ e), λ e. ap not (eq-eqb (length s) 16 e))
       (five _ _ _ _ _ (fits (f .n) (r .n)) (fits (f .a) (r .a)) (fits (f .b) (r .b)) (fits (f .c) (r .c)) (fits (f .m) (r .m))))
 
-  too-large : (outOfRange (just f) (decode s) ≡ true) ↔ Not (OfFields WithinLimit f (decode s))
+  pub too-large : (outOfRange (just f) (decode s) ≡ true) ↔ Not (OfFields WithinLimit f (decode s))
   unfolding outOfRange
   too-large =
       let r = decode s in
@@ -116,7 +116,7 @@ unfolding formOf
 no-form [] n h = refl
 no-form (f ∷ fs) n h = rw (ne-eqb (f .kind) n (λ e. h .0 (sym e))) (no-form fs n (h .1))
 
-unlisted : {T : Type 0} (fs : List Form) (ks : List (Kind T)) (t : T) (s : Bytes) → Every (λ f. Not (decode s .kind ≡ f .kind)) fs → replyTo fs ks t s ≡ SHAPE
+pub unlisted : {T : Type 0} (fs : List Form) (ks : List (Kind T)) (t : T) (s : Bytes) → Every (λ f. Not (decode s .kind ≡ f .kind)) fs → replyTo fs ks t s ≡ SHAPE
 unfolding replyTo formChecks misshapen
 unlisted fs ks t s h = rw (no-form fs (decode s .kind) h) (go (not (eqb (length s) 16)) _)
   where

@@ -50,3 +50,6 @@ pub mod ExactlyClaims
 pub mod Exactly
 pub mod WrittenOrder
 pub mod WrittenMost
+pub mod RecordsTables
+pub mod RecordsKinds
+pub mod Records

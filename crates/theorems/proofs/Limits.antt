@@ -81,7 +81,7 @@ unfolding overlap within
 own-overlap m = ap size (eqb-true _ _ (within-refl m))
 
 -- ---- a set is exceeded where it breaks
-exceeds : (d : Set) (Counts : ℕ → Type 0) → ((r : ℕ) → In d r ↔ Counts r) → (x : Record) → (breaks d (aLimit x) ≡ true) ↔ Exceeded Counts x
+pub exceeds : (d : Set) (Counts : ℕ → Type 0) → ((r : ℕ) → In d r ↔ Counts r) → (x : Record) → (breaks d (aLimit x) ≡ true) ↔ Exceeded Counts x
 unfolding breaks
 exceeds d Counts c x = (
   λ e.

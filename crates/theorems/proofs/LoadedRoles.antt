@@ -20,11 +20,11 @@ use Rattle.theorems.proofs.Loads.{load-keeps, load-accepted}
 use Rattle.theorems.proofs.WellMade.{a-within}
 use Rattle.theorems.proofs.Roles.{Within, not-broken, Limited, nothing-down, none-counted}
 
-record Assigned (se : Seniority) (users : ℕ → Bool) (assigned : ℕ → Set) (statics : List Limit) : Type 0 where
+pub record Assigned (se : Seniority) (users : ℕ → Bool) (assigned : ℕ → Set) (statics : List Limit) : Type 0 where
   -- who is not declared has no roles
-  bare : (u : ℕ) → users u ≡ false → assigned u ≡ empty
-  small : (u : ℕ) → users u ≡ true → u < 1024
-  hold : (u : ℕ) → Within statics (down se (assigned u))
+  pub bare : (u : ℕ) → users u ≡ false → assigned u ≡ empty
+  pub small : (u : ℕ) → users u ≡ true → u < 1024
+  pub hold : (u : ℕ) → Within statics (down se (assigned u))
 
 module _ (se : Seniority) (users : ℕ → Bool) (assigned : ℕ → Set) (statics : List Limit) (i : Assigned se users assigned statics) where
   declares : (a : ℕ) → a < 1024 → Assigned se (upd users a true) (upd assigned a empty) statics
@@ -64,10 +64,10 @@ module _ (se : Seniority) (users : ℕ → Bool) (assigned : ℕ → Set) (stati
       go u true e = not-broken statics _ (not-both (users u) _ (none-below 1024 (λ u. users u && some (breaks (down z (assigned u))) statics) c u (i .small u e)) e)
       go u false e = rw (i .bare u e) (nothing-down statics z)
 
-abbrev InOrder : Policy → Type 0
+abbrev pub InOrder : Policy → Type 0
 InOrder p = Assigned (p .seniority) (p .people .users) (p .people .assigned) (p .rules .statics)
 
-rows : Rows policyForms (λ n p r x. InOrder p → InOrder x) policyKinds
+pub rows : Rows policyForms (λ n p r x. InOrder p → InOrder x) policyKinds
 unfolding policyKinds policyForms formOf outOfRange above userNext roleNext permissionNext assignChecks assignNext giveNext taskNext openToNext carriesNext staticChecks staticNext dynamicNext taskSetNext blockNext banNext mostNext bindNext beforeNext raiseChecks raiseNext wallNext
 rows =
     (λ p r g c i. declares _ _ _ _ i (r .a) (let l = a-within 1023 (r .a) false g in omega arith))
@@ -81,12 +81,15 @@ rows =
     ⨾ (λ p r g c i. i)
     ⨾ tt
 
+pub in-order-start : InOrder noPolicy
+unfolding noPolicy
+in-order-start = record { bare = λ u e. refl; small = λ u e. absurd (false≢true e); hold = λ u. tt }
+
 pub loaded-limited : (policy : Bytes) → load policy .reply ≡ 0 → Limited (load policy .tables .people) (load policy .tables .seniority) noSessions (load policy .tables .rules)
 unfolding noPolicy noSessions
 loaded-limited policy h =
     let x = load-accepted policy h in
-    let y = load-keeps InOrder rows noPolicy (recordsOf policy) (x .0)
-    (record { bare = λ u e. refl; small = λ u e. absurd (false≢true e); hold = λ u. tt }) in
+    let y = load-keeps InOrder rows noPolicy (recordsOf policy) (x .0) in-order-start in
     record {
       statics = rw (x .1) (y .hold);
       dynamics = λ u. none-counted (load policy .tables .rules .dynamics) (load policy .tables .seniority) u;

@@ -165,28 +165,30 @@ marked j p (r ∷ rs) a =
     go false = refl
 
 -- ---- the whole
-pub made : (policy : Bytes) → load policy .reply ≡ 0 → Made (recordsOf policy) (load policy .tables .tasks) (load policy .tables .rules)
+pub made-of : (rs : List Record) → Accepted noPolicy rs → Made rs (filled noPolicy rs .tasks) (filled noPolicy rs .rules)
 unfolding noPolicy holds
-made policy h =
-    let x = load-accepted policy h in
-    rw (x .1)
-    (record {
-      template = λ q t. noted (λ k. k .template) 6 (λ r. r .b) (λ n r k. refl) task-new q t noPolicy (recordsOf policy) (x .0);
-      statics = listed (λ p. p .rules .statics) 9 aLimit (λ p r f. ap (λ (k : Rules). k .statics) (made-step p r f .0)) noPolicy (recordsOf policy) (x .0);
-      dynamics = listed (λ p. p .rules .dynamics) 10 aLimit (λ p r f. ap (λ (k : Rules). k .dynamics) (made-step p r f .0)) noPolicy (recordsOf policy) (x .0);
-      taskSets = listed (λ p. p .rules .taskSets) 11 aLimit (λ p r f. ap (λ (k : Rules). k .taskSets) (made-step p r f .0)) noPolicy (recordsOf policy) (x .0);
-      blocks = listed (λ p. p .rules .blocks) 12 aBlock (λ p r f. ap (λ (k : Rules). k .blocks) (made-step p r f .0)) noPolicy (recordsOf policy) (x .0);
-      banned = λ j. marked j noPolicy (recordsOf policy) (x .0);
-      most = λ q t. noted (λ k. k .most) 14 (λ r. r .n) (λ n r k. refl) most-new q t noPolicy (recordsOf policy) (x .0);
-      bindings = listed (λ p. p .rules .bindings) 15 aPair (λ p r f. ap (λ (k : Rules). k .bindings) (made-step p r f .0)) noPolicy (recordsOf policy) (x .0);
-      befores = listed (λ p. p .rules .befores) 16 aPair (λ p r f. ap (λ (k : Rules). k .befores) (made-step p r f .0)) noPolicy (recordsOf policy) (x .0);
-    })
+made-of rs a =
+    record {
+      template = λ q t. noted (λ k. k .template) 6 (λ r. r .b) (λ n r k. refl) task-new q t noPolicy rs a;
+      statics = listed (λ p. p .rules .statics) 9 aLimit (λ p r f. ap (λ (k : Rules). k .statics) (made-step p r f .0)) noPolicy rs a;
+      dynamics = listed (λ p. p .rules .dynamics) 10 aLimit (λ p r f. ap (λ (k : Rules). k .dynamics) (made-step p r f .0)) noPolicy rs a;
+      taskSets = listed (λ p. p .rules .taskSets) 11 aLimit (λ p r f. ap (λ (k : Rules). k .taskSets) (made-step p r f .0)) noPolicy rs a;
+      blocks = listed (λ p. p .rules .blocks) 12 aBlock (λ p r f. ap (λ (k : Rules). k .blocks) (made-step p r f .0)) noPolicy rs a;
+      banned = λ j. marked j noPolicy rs a;
+      most = λ q t. noted (λ k. k .most) 14 (λ r. r .n) (λ n r k. refl) most-new q t noPolicy rs a;
+      bindings = listed (λ p. p .rules .bindings) 15 aPair (λ p r f. ap (λ (k : Rules). k .bindings) (made-step p r f .0)) noPolicy rs a;
+      befores = listed (λ p. p .rules .befores) 16 aPair (λ p r f. ap (λ (k : Rules). k .befores) (made-step p r f .0)) noPolicy rs a;
+    }
+
+pub made : (policy : Bytes) → load policy .reply ≡ 0 → Made (recordsOf policy) (load policy .tables .tasks) (load policy .tables .rules)
+made policy h = let x = load-accepted policy h in rw (x .1) (made-of (recordsOf policy) (x .0))
+
+pub walls-of : (rs : List Record) → Accepted noPolicy rs → filled noPolicy rs .walls ≡ each aWalled (ofKind 18 rs)
+unfolding noPolicy
+walls-of rs a = listed (λ p. p .walls) 18 aWalled (λ p r f. made-step p r f .2) noPolicy rs a
 
 pub walls-made : (policy : Bytes) → load policy .reply ≡ 0 → load policy .tables .walls ≡ each aWalled (ofKind 18 (recordsOf policy))
-unfolding noPolicy
-walls-made policy h =
-    let x = load-accepted policy h in
-    rw (x .1) (listed (λ p. p .walls) 18 aWalled (λ p r f. made-step p r f .2) noPolicy (recordsOf policy) (x .0))
+walls-made policy h = let x = load-accepted policy h in rw (x .1) (walls-of (recordsOf policy) (x .0))
 
 -- ---- what is asked of the rules is asked of the records
 pub of-each : {A B : Type 0} (P : B → Type 0) (f : A → B) (xs : List A) → Every P (each f xs) → Every (λ x. P (f x)) xs

@@ -206,7 +206,7 @@ or-assoc : (x y z : Bool) → x || y || z ≡ x || (y || z)
 or-assoc true y z = refl
 or-assoc false y z = refl
 
-put : (s : Seniority) (x y a b : ℕ) → named (raised s x y) a b ≡ named s a b || (eqb x a && eqb y b)
+pub put : (s : Seniority) (x y a b : ℕ) → named (raised s x y) a b ≡ named s a b || (eqb x a && eqb y b)
 unfolding raised
 put s x y a b = ⊎-elim
     (λ (q : a ≡ x). rw q
@@ -231,14 +231,18 @@ recorded a b p (r ∷ rs) x =
     go false = refl
 
 -- ---- the whole
+pub ranked-of : (rs : List Record) → Accepted noPolicy rs → Ranked (filled noPolicy rs .seniority)
+ranked-of rs a = load-keeps (λ p. Ranked (p .seniority)) rows noPolicy rs a start
+
+pub named-of : (rs : List Record) → Accepted noPolicy rs → (a b : ℕ) → named (filled noPolicy rs .seniority) a b ≡ puts rs a b
+unfolding noPolicy
+named-of rs x a b = recorded a b noPolicy rs x ∙ rw (has-empty b) refl
+
 pub loaded-ranked : (policy : Bytes) → load policy .reply ≡ 0 → Ranked (load policy .tables .seniority)
-loaded-ranked policy h = let x = load-accepted policy h in rw (x .1) (load-keeps (λ p. Ranked (p .seniority)) rows noPolicy (recordsOf policy) (x .0) start)
+loaded-ranked policy h = let x = load-accepted policy h in rw (x .1) (ranked-of (recordsOf policy) (x .0))
 
 pub loaded-named : (policy : Bytes) → load policy .reply ≡ 0 → (a b : ℕ) → named (load policy .tables .seniority) a b ≡ puts (recordsOf policy) a b
-unfolding noPolicy
-loaded-named policy h a b =
-    let x = load-accepted policy h in
-    rw (x .1) (recorded a b noPolicy (recordsOf policy) (x .0) ∙ rw (has-empty b) refl)
+loaded-named policy h a b = let x = load-accepted policy h in rw (x .1) (named-of (recordsOf policy) (x .0) a b)
 
 pub as-recorded : (policy : List Record) (s : Seniority) → Ranked s → ((a b : ℕ) → named s a b ≡ puts policy a b) → AsRecorded policy s
 as-recorded policy s r e =

@@ -14,16 +14,16 @@ use Rattle.paper_lower.specs.Records.{Bytes, Record, number, decode}
 use Rattle.paper_lower.specs.Forms.{policyForms, lowerForms, requestForms, formOf, above, outOfRange}
 use Rattle.paper_lower.specs.Tables.{Policy, noPolicy}
 use Rattle.paper_lower.specs.Policy.{down, oneTemplate, illMade, partitioned, raisings, userNext, roleNext, permissionChecks, permissionNext, assignChecks, assignNext, giveChecks, giveNext, taskChecks, taskNext, openToChecks, openToNext, carriesChecks, carriesNext, staticChecks, staticNext, dynamicChecks, dynamicNext, taskSetChecks, taskSetNext, blockChecks, blockNext, banChecks, banNext, mostChecks, mostNext, bindChecks, bindNext, beforeChecks, beforeNext, raiseChecks, raiseNext, wallChecks, wallNext, policyKinds}
-use Rattle.paper_lower.specs.Load.{Loaded, load, recordsFrom, recordsOf}
+use Rattle.paper_lower.specs.Load.{Loaded, accepted, load, recordsFrom, recordsOf}
 use Rattle.paper_lower.specs.Roles.{joinChecks, joinNext, deleteNext, userGone, takeBackChecks, takeBackNext, withdrawNext, roleKinds}
-use Rattle.paper_lower.specs.Sessions.{sessionKinds, lowerKinds, lowerOf}
+use Rattle.paper_lower.specs.Sessions.{sessionKinds, lowerKinds, lowerRequest, lowerOf}
 use Rattle.paper_lower.specs.Written.{peopleRows, taskRows, ruleRows, behind, recordsWritten, written}
 use Rattle.paper_lower.proofs.ListLaws.{or-none, every-map, every-left, every-right, _⨾_}
 use Rattle.paper_upper.specs.Requests.{openNext, endNext, claimNext, releaseNext, doneNext, upperKinds}
 use Rattle.paper_upper.specs.Engine.{requestKinds, request, engineOf}
 use Rattle.sets.proofs.SetLaws.{has-empty, within-has}
-use Rattle.theorems.specs.Written.{Running, policyOf, LoadsAgain, BytesTell}
-use Rattle.theorems.proofs.Replies.{engine-order}
+use Rattle.theorems.specs.Written.{Running, policyOf, lowerPolicyOf, LoadsAgain, BytesTell, DealersWrite}
+use Rattle.theorems.proofs.Replies.{lower-order, engine-order}
 use Rattle.theorems.proofs.Rows.{Rows, run-keeps, engine-rows}
 use Rattle.theorems.proofs.Loads.{step, filled, Accepted, fits-rows, load-accepted}
 use Rattle.theorems.proofs.WellMade.{a-within, b-within}
@@ -31,7 +31,7 @@ use Rattle.theorems.proofs.Made.{aLimit, aBlock, aPair, aWalled}
 use Rattle.theorems.proofs.Ranks.{start}
 use Rattle.theorems.proofs.Down.{down-has}
 use Rattle.theorems.proofs.Roles.{Within, within-less}
-use Rattle.theorems.proofs.Keeps.{kept-after}
+use Rattle.theorems.proofs.Keeps.{kept-after, lower-kept-after}
 use Rattle.theorems.proofs.WrittenRuns.{Run, run-none, run-then, load-run}
 use Rattle.theorems.proofs.WrittenReady.{WallOk, Ready}
 use Rattle.theorems.proofs.WrittenStages.{run-1, run-2, run-3, run-4, run-5, run-6, run-7, run-8}
@@ -347,3 +347,24 @@ bytes-tell x y = (
   λ e. ap written e,
   λ e. ap (λ (l : Loaded). l .tables) (sym (loads-again x) ∙ ap load e ∙ loads-again y),
 )
+
+-- ---- of the lower part alone
+pub lower-ready : (x : Running) → Ready (lowerPolicyOf x)
+unfolding lowerRequest lowerOf recordsOf
+lower-ready x =
+    let a = load-accepted (x .policy) (x .loads) in
+    run-keeps lowerForms lowerKinds lower-order (λ t. Ready (t .policy)) lower-rows (lowerOf (load (x .policy) .tables)) (x .requests)
+    (rw (a .1) (ready-filled noPolicy (recordsOf (x .policy)) (a .0) (all-bounded (length (x .policy) / 16) (x .policy) (x .bytes)) ready-start))
+
+pub lower-runs : (x : Running) → Run noPolicy (recordsWritten (lowerPolicyOf x)) (lowerPolicyOf x)
+lower-runs x = all-runs (lowerPolicyOf x) (lower-ready x) (λ u. lower-kept-after (x .policy) (x .loads) (x .requests) .1 .statics u)
+
+lower-again : (x : Running) → load (written (lowerPolicyOf x)) ≡ accepted (lowerPolicyOf x)
+unfolding written
+lower-again x = load-run (recordsWritten (lowerPolicyOf x)) (lowerPolicyOf x) (lower-runs x)
+
+pub dealers-write : DealersWrite
+dealers-write = record {
+  again = lower-again;
+  tell = λ x y. (λ e. ap written e, λ e. ap (λ (l : Loaded). l .tables) (sym (lower-again x) ∙ ap load e ∙ lower-again y));
+}

@@ -14,5 +14,6 @@ pub mod Mending
 pub mod Listing
 pub mod Walls
 pub mod Exactly
+pub mod Records
 pub mod Meant
 pub mod MeetingTable

@@ -10,7 +10,7 @@ use Rattle.paper_lower.specs.Tables.{Policy}
 use Rattle.paper_lower.specs.Load.{accepted, load, recordsOf}
 use Rattle.paper_lower.specs.Written.{recordsWritten, written}
 use Rattle.theorems.specs.OverEntries.{ofKind, EveryTwo}
-use Rattle.theorems.specs.Theorems.{tablesAfter}
+use Rattle.theorems.specs.Theorems.{tablesAfter, lowerAfter}
 
 -- "Starting from an accepted load and any requests": the policy's bytes are bytes
 pub record Running : Type 0 where
@@ -22,6 +22,10 @@ pub record Running : Type 0 where
 abbrev pub policyOf : Running → Policy
 policyOf x = tablesAfter (x .policy) (x .requests) .lower .policy
 
+-- of the lower part alone
+abbrev pub lowerPolicyOf : Running → Policy
+lowerPolicyOf x = lowerAfter (x .policy) (x .requests) .policy
+
 -- "loading what was written is accepted and gives the same policy tables, without sessions, instances or entries"
 abbrev pub LoadsAgain : Type 0
 LoadsAgain = (x : Running) → load (written (policyOf x)) ≡ accepted (policyOf x)
@@ -29,6 +33,11 @@ LoadsAgain = (x : Running) → load (written (policyOf x)) ≡ accepted (policyO
 -- "Two such engines have equal policy tables, the orders held included, exactly when the written bytes are equal."
 abbrev pub BytesTell : Type 0
 BytesTell = (x y : Running) → (policyOf x ≡ policyOf y) ↔ (written (policyOf x) ≡ written (policyOf y))
+
+-- Both of the lower part alone: "dealers build the lower part alone".
+pub record DealersWrite : Type 0 where
+  pub again : (x : Running) → load (written (lowerPolicyOf x)) ≡ accepted (lowerPolicyOf x)
+  pub tell : (x y : Running) → (lowerPolicyOf x ≡ lowerPolicyOf y) ↔ (written (lowerPolicyOf x) ≡ written (lowerPolicyOf y))
 
 -- ---- "kinds rising, within kinds 1 to 8, 13, 14 and 17 rising by a and then b, rules of the other kinds in the order held": of the records in the written
 -- bytes.
