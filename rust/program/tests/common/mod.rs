@@ -48,7 +48,7 @@ pub fn run(arguments: &[&str]) -> (String, String, i32) {
             .take()
             .map(|err| Box::new(err) as Box<dyn Read + Send>),
     );
-    for _ in 0..600 {
+    for _ in 0..6000 {
         if child.try_wait().unwrap().is_some() {
             break;
         }
@@ -128,9 +128,9 @@ impl Drop for Server {
 
 pub const POLICY: &str = "examples/named.txt";
 
-/// Waits until something holds, for ten seconds at most.
+/// Waits until something holds; what takes five minutes does not come, however slow the machine.
 pub fn waited(what: &str, mut holds: impl FnMut() -> bool) {
-    for _ in 0..200 {
+    for _ in 0..6000 {
         if holds() {
             return;
         }
