@@ -104,6 +104,15 @@ impl Policy {
         }
     }
 
+    /// The rule of a reply, by its place among the rules of its kind, from 1: `task set 1 of repair sign (policy.txt, line 12)`.
+    pub fn rule(&self, reply: Reply, place: usize) -> Option<String> {
+        let kind = reply.rule_kind()?;
+        let records = self.records();
+        let of_kind = (0..records.len()).filter(|&at| records[at].kind() == kind);
+        let at = of_kind.into_iter().nth(place.checked_sub(1)?)?;
+        Some(format!("{} ({})", self.line(at), self.place(at)))
+    }
+
     /// A record in words.
     pub fn line(&self, before: usize) -> String {
         let record = self.bytes.chunks(LENGTH).nth(before);

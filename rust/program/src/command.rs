@@ -199,6 +199,42 @@ fn write() -> Command {
         ))
 }
 
+fn diff() -> Command {
+    let file = |name: &'static str, value: &'static str, help: &'static str| {
+        Arg::new(name)
+            .value_name(value)
+            .required(true)
+            .value_hint(ValueHint::FilePath)
+            .help(help)
+    };
+    Command::new("diff")
+        .about("What changes from one policy to another, in words")
+        .long_about(
+            "Compares two policies of any form. Each difference is a line: + a record that came, - one that went, ~ one that gives the same thing \
+             another value, > a rule whose place among the rules of its kind is another (replies tell that place), = a name or a number \
+             that is another. The order of other records has no meaning and is not told. Where a load refuses one of the policies, that is told \
+             too, behind a !.",
+        )
+        .arg(file("old", "OLD", "The policy as it was"))
+        .arg(file("new", "NEW", "The policy as it is to be"))
+        .args([tasks().help("The task lines of OLD, where it is OPL/XML"), format()])
+        .arg(value("new-tasks", "FILE", "The task lines of NEW, where it is OPL/XML").value_hint(ValueHint::FilePath))
+        .arg(
+            value("by", "WHAT", "By what records are the same: numbers, which journals know, or names; names where both are OPL/XML")
+                .value_parser(PossibleValuesParser::new(crate::diff::By::NAMES)),
+        )
+        .arg(flag("json", "One object a line"))
+        .after_help(concat!(
+            "Example:\n",
+            "  mishantral diff policy.txt policy.new.txt\n",
+            "\n",
+            "  + task sign open to role lead (policy.new.txt, line 31)\n",
+            "  > task test before task sign (policy.new.txt, line 40), rule 2 of its kind, was 1\n",
+            "\n",
+            "Exit status: 0 no difference; 1 there are differences; 2 text errors, or a file that cannot be read.",
+        ))
+}
+
 fn mend() -> Command {
     Command::new("mend")
         .about("Mend a damaged policy file: what a load would accept is kept, the rest is told")
@@ -422,6 +458,33 @@ fn finish() -> Command {
         ))
 }
 
+fn whatif() -> Command {
+    Command::new("whatif")
+        .about("The requests of a journal under another policy: which replies would be others")
+        .long_about(
+            "Asks every request of a journal once more, of an engine with another policy, and tells which replies would be others: by the kind of the \
+             requests, the reply that was given, the one that would be, and the rules of both, with the first examples and the clerks whom that \
+             concerns; and which orders would not have been opened. A request about a user, a subject or an order that an earlier difference has \
+             made another is told as one that follows. Nothing is written, and a server may be at work meanwhile.",
+        )
+        .arg(journal_file().required(true).help("The desk's journal"))
+        .arg(policy().long("policy").help("The other policy: records, text, or OPL/XML"))
+        .args([tasks(), format()])
+        .arg(value("since", "TIME", "Compare requests from this time on, UTC: 2026-11-15, or '2026-11-15 20:31'; the desk as it was by then is brought under the other policy first"))
+        .arg(number("examples", "How many examples of each are told; 3 where it is missing"))
+        .arg(flag("json", "One object for each, and one for all"))
+        .after_help(concat!(
+            "Example:\n",
+            "  mishantral whatif --journal desk.db --policy policy.new.txt\n",
+            "\n",
+            "  claim: 0 GRANTED, would be 15 SEPARATION, rule 2: 12 times, and 3 times following from others\n",
+            "    would be refused by task set 1 of repair sign (policy.new.txt, line 12)\n",
+            "    request 1523, 2026-11-03 07:12:44, anna: claim am mill_7 sign\n",
+            "\n",
+            "Exit status: 0 told; 1 the policy or the journal is refused; 2 wrong use.",
+        ))
+}
+
 fn generate() -> Command {
     let shells = ["man", "bash", "zsh", "fish", "elvish", "powershell"];
     Command::new("generate")
@@ -463,6 +526,7 @@ pub fn command() -> Command {
             run(),
             test(),
             convert(),
+            diff(),
             write(),
             mend(),
             serve(),
@@ -470,6 +534,7 @@ pub fn command() -> Command {
             journal(),
             who(),
             finish(),
+            whatif(),
             generate(),
         ])
 }

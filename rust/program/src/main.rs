@@ -1,10 +1,12 @@
 //! `mishantral`: one program for people over the proved library. docs/PROGRAM.md tells its use.
 
 mod ask;
+mod carry;
 mod check;
 mod command;
 mod convert;
 mod desk;
+mod diff;
 mod expect;
 mod files;
 mod finish;
@@ -19,6 +21,7 @@ mod stop;
 mod tables;
 mod told;
 mod warnings;
+mod whatif;
 mod why;
 
 use clap::ArgMatches;
@@ -98,6 +101,36 @@ fn write(given: &ArgMatches, out: &mut dyn Write) -> Done {
     let (file, to) = (text(given, "output"), text(given, "to"));
     let output = files::Output::new(file, to, given.get_flag("numbers"));
     files::write(desk, &requests, &output, out)
+}
+
+fn diff(given: &ArgMatches, out: &mut dyn Write) -> Done {
+    let format = text(given, "from").and_then(Format::of_name);
+    let read = |name: &str, tasks: &str| {
+        let file = text(given, name).unwrap_or_default();
+        source::policy(file, text(given, tasks), format)
+    };
+    let old = read("old", "tasks")?;
+    let new = read("new", "new-tasks")?;
+    let by = diff::By::of(text(given, "by"), &old, &new);
+    diff::diff(&old, &new, by, given.get_flag("json"), out)
+}
+
+fn whatif(given: &ArgMatches, out: &mut dyn Write) -> Done {
+    let format = text(given, "from").and_then(Format::of_name);
+    let file = text(given, "policy").unwrap_or_default();
+    let policy = source::policy(file, text(given, "tasks"), format)?;
+    let since = match text(given, "since") {
+        None => i64::MIN,
+        Some(word) => journal::moment(word)?,
+    };
+    let examples = given.get_one::<u64>("examples").copied().unwrap_or(3);
+    let options = whatif::Options {
+        journal: text(given, "journal").unwrap_or_default(),
+        since,
+        examples: examples as usize,
+        json: given.get_flag("json"),
+    };
+    whatif::whatif(&options, &policy, out)
 }
 
 fn mend(given: &ArgMatches, out: &mut dyn Write) -> Done {
@@ -283,6 +316,8 @@ fn done(out: &mut dyn Write) -> Done {
             expect::test(&files, given.get_flag("update"), out)
         }
         Some(("convert", given)) => convert(given, out),
+        Some(("diff", given)) => diff(given, out),
+        Some(("whatif", given)) => whatif(given, out),
         Some(("write", given)) => write(given, out),
         Some(("mend", given)) => mend(given, out),
         Some(("serve", given)) => serve(given, out),

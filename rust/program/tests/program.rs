@@ -944,3 +944,72 @@ fn the_prompt_completes_explains_and_remembers() {
     let history = std::fs::read_to_string(room.join("mishantral/history")).unwrap();
     assert!(history.contains("claim 1 mill test"), "{history}");
 }
+
+#[test]
+fn two_policies_are_compared_in_words_and_as_objects() {
+    let room = room("diff");
+    let old = file(
+        &room,
+        "old.txt",
+        "user 1 anna\nrole 0 clerk\nuser anna has role clerk\n",
+    );
+    let new = file(&room, "new.txt", "user 1 anna\nrole 0 clerk\nrole 1\n");
+    let same = run(&["diff", &old, &old]);
+    assert_eq!(
+        same,
+        (
+            format!("{old}, 3 records; {old}, 3 records: no difference\n"),
+            String::new(),
+            0
+        )
+    );
+    let (told, said, status) = run(&["diff", &old, &new]);
+    let lines = format!(
+        "+ role 1 ({new}, line 3)\n- user anna has role clerk ({old}, line 3)\n{old}, 3 records; {new}, 3 records: 2 differences\n"
+    );
+    assert_eq!((told, &said[..], status), (lines, "", 1));
+    let (objects, _, _) = run(&["diff", "--json", &old, &new]);
+    let objects: Vec<Value> = objects
+        .lines()
+        .map(|line| serde_json::from_str(line).unwrap())
+        .collect();
+    assert_eq!(objects.len(), 2);
+    assert_eq!(
+        (&objects[0]["change"], &objects[0]["new"]["line"]),
+        (&"added".into(), &3.into())
+    );
+    // A policy that no load accepts is told.
+    let twice = file(&room, "twice.txt", "user 1 anna\nuser 1\n");
+    let (told, _, status) = run(&["diff", &old, &twice]);
+    assert!(
+        told.contains(&format!("\n! {twice}: line 2: 5 TAKEN: user anna\n")),
+        "{told}"
+    );
+    assert_eq!(status, 1);
+}
+
+#[test]
+fn dealers_policies_are_compared_by_names() {
+    let (xml, tasks) = (
+        "examples/opl_loan/policy.xml",
+        "examples/opl_loan/tasks.txt",
+    );
+    let text = std::fs::read_to_string(root().join(xml)).unwrap();
+    let user = "<user user_id=\"user:klaus_meier\"/>";
+    assert!(text.contains(user));
+    // Another user before the first: every number of a user is another, and one record is new.
+    let more = text.replacen(user, &format!("<user user_id=\"user:anna\"/>{user}"), 1);
+    let new = file(&room("dealt"), "new.xml", more);
+    let arguments = ["diff", xml, &new, "--tasks", tasks, "--new-tasks", tasks];
+    let (told, said, status) = run(&arguments);
+    assert_eq!((&said[..], status), ("", 1));
+    let added: Vec<&str> = told
+        .lines()
+        .filter(|line| line.starts_with(['+', '-', '~', '>']))
+        .collect();
+    assert_eq!(added, [format!("+ user \"user:anna\" ({new}, record 1)")]);
+    assert!(
+        told.contains("= user \"user:klaus_meier\": number 1, was 0\n"),
+        "{told}"
+    );
+}

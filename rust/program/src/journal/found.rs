@@ -62,7 +62,6 @@ pub fn found(file: &str, whole: bool) -> Result<Found, Stop> {
 }
 
 /// Asks a whole journal anew from its load on; `look` sees each row, and the desk after it.
-#[allow(dead_code)]
 pub fn replay(file: &str, look: &mut dyn FnMut(&Row, &Found)) -> Result<Found, Stop> {
     read(file, true, &mut |row, found| {
         look(row, found);

@@ -341,6 +341,13 @@ fn picked(connection: &Connection, filter: &Filter, policy: &Names) -> Result<Pi
     })
 }
 
+/// A time as people write it, UTC, in microseconds since 1970.
+pub fn moment(word: &str) -> Result<i64, Stop> {
+    let failed = |why: rusqlite::Error| Stop::Wrong(vec![format!("{word}: {why}")]);
+    let connection = Connection::open_in_memory().map_err(failed)?;
+    time_of(&connection, &Some(word.to_string()), i64::MIN)
+}
+
 fn time_of(connection: &Connection, word: &Option<String>, else_at: i64) -> Result<i64, Stop> {
     let Some(word) = word else {
         return Ok(else_at);

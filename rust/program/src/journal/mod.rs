@@ -18,9 +18,8 @@ pub use append::{Failed, Group, Journal, Saved};
 pub use begin::{begin, LONGEST_NAME};
 pub use check::check;
 pub use files::{lock, private};
-#[allow(unused_imports)]
 pub use found::{found, replay, said, Found};
-pub use listing::{list, Filter};
+pub use listing::{list, moment, time, Filter};
 pub use live::Live;
 
 use crate::names::Naming;
