@@ -187,6 +187,28 @@ impl Carried {
         own.into_iter().chain(lent).map(way).collect()
     }
 
+    /// By each role and each permission on the object; where the role has not got that permission any more, it is lent for that alone.
+    fn ways_to_commit(&self, user: u16, object: u16) -> Vec<Vec<Record>> {
+        let told = &self.desk.told;
+        let (mut own, mut lent) = (Vec::new(), Vec::new());
+        for (&permission, &(operation, _)) in
+            told.permissions.iter().filter(|(_, pair)| pair.1 == object)
+        {
+            let commit = Record::commit(HAND, operation, object);
+            own.extend(self.by_hand(user, told.roles.members(), &[commit]));
+            for role in told.roles.members() {
+                let number = u16::from(role);
+                for mut way in self.by_hand(user, std::iter::once(role), &[commit]) {
+                    way.insert(0, Record::give_permission(number, permission));
+                    way.push(Record::take_permission(number, permission));
+                    lent.push(way);
+                }
+            }
+        }
+        own.extend(lent);
+        own
+    }
+
     /// What the walls bind users to. Objects in no wall bind nothing.
     fn commits(&mut self, present: &Told) {
         let mut seen = BTreeSet::new();
@@ -196,14 +218,7 @@ impl Carried {
             if !walled || !seen.insert((user, object)) {
                 continue;
             }
-            let on_it = told.permissions.values().filter(|pair| pair.1 == object);
-            let operations: Vec<u16> = on_it.map(|pair| pair.0).collect();
-            let roles = told.roles;
-            let mut ways = Vec::new();
-            for operation in operations {
-                let commit = Record::commit(HAND, operation, object);
-                ways.extend(self.by_hand(user, roles.members(), &[commit]));
-            }
+            let ways = self.ways_to_commit(user, object);
             if let Err(answer) = self.first_way(ways) {
                 let object = self.desk.say(Sort::Object, object);
                 let reply = refused_with(answer);
@@ -276,24 +291,31 @@ impl Carried {
     }
 
     /// What is held in an order, each by its holder: with a role that it has had, where none that is active opens the task any more.
-    fn held(&mut self, number: u16, order: &Order) {
-        if !self.desk.told.orders.contains_key(&number) {
+    fn held(&mut self, of: u16, order: &Order) {
+        if !self.desk.told.orders.contains_key(&of) {
             return;
         }
         for entry in &order.entries {
             let Some(holder) = entry.holder else { continue };
-            let claim = Record::claim(holder, number, entry.task);
+            let claim = Record::claim(holder, of, entry.task);
             let mut ways = vec![vec![claim]];
             if let Some(session) = self.desk.told.subjects.get(&holder) {
                 let had = Set(session.had.0 & !session.active.0);
                 let opening = self.desk.told.opening(had, entry.task);
+                let may = self.desk.told.may_activate(session.user);
                 ways.extend(opening.members().map(|role| {
+                    let (user, number) = (session.user, u16::from(role));
                     let (up, down) = (Record::activate_role, Record::deactivate_role);
-                    vec![up(holder, role.into()), claim, down(holder, role.into())]
+                    let mut way = vec![up(holder, number), claim, down(holder, number)];
+                    if !may.has(role) {
+                        way.insert(0, Record::assign_role(user, number));
+                        way.push(Record::take_role(user, number));
+                    }
+                    way
                 }));
             }
             if let Err(answer) = self.first_way(ways) {
-                self.not_entered(number, entry, answer);
+                self.not_entered(of, entry, answer);
             }
         }
     }

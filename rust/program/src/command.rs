@@ -471,6 +471,10 @@ fn whatif() -> Command {
         .arg(policy().long("policy").help("The other policy: records, text, or OPL/XML"))
         .args([tasks(), format()])
         .arg(value("since", "TIME", "Compare requests from this time on, UTC: 2026-11-15, or '2026-11-15 20:31'; the desk as it was by then is brought under the other policy first"))
+        .arg(
+            flag("present", "Compare no request: tell whether the desk as it is now, with its users, sessions and open orders, fits under the other policy")
+                .conflicts_with("since"),
+        )
         .arg(number("examples", "How many examples of each are told; 3 where it is missing"))
         .arg(flag("json", "One object for each, and one for all"))
         .after_help(concat!(
@@ -481,7 +485,7 @@ fn whatif() -> Command {
             "    would be refused by task set 1 of repair sign (policy.new.txt, line 12)\n",
             "    request 1523, 2026-11-03 07:12:44, anna: claim am mill_7 sign\n",
             "\n",
-            "Exit status: 0 told; 1 the policy or the journal is refused; 2 wrong use.",
+            "Exit status: 0 told; 1 the policy or the journal is refused, or with --present something does not fit; 2 wrong use.",
         ))
 }
 

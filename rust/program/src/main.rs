@@ -127,6 +127,7 @@ fn whatif(given: &ArgMatches, out: &mut dyn Write) -> Done {
     let options = whatif::Options {
         journal: text(given, "journal").unwrap_or_default(),
         since,
+        present: given.get_flag("present"),
         examples: examples as usize,
         json: given.get_flag("json"),
     };

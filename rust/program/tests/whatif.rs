@@ -33,6 +33,11 @@ fn file(room: &Path, name: &str, text: &str) -> String {
 
 /// The journal of a desk that was served and asked these lines.
 fn journal(room: &Path, policy: &str, lines: &[&str]) -> String {
+    journal_of(room, policy, &[lines])
+}
+
+/// The same in parts, with more than two seconds between them.
+fn journal_of(room: &Path, policy: &str, parts: &[&[&str]]) -> String {
     let policy = file(room, "old.txt", policy);
     let path = |name: &str| room.join(name).to_str().unwrap().to_string();
     let (journal, socket) = (path("desk.db"), path("desk.sock"));
@@ -43,9 +48,13 @@ fn journal(room: &Path, policy: &str, lines: &[&str]) -> String {
         .unwrap();
     let mut told = BufReader::new(server.stdout.take().unwrap()).lines();
     assert!(told.any(|line| line.unwrap().starts_with("serving on ")));
-    let ask = ["ask", "--socket", &socket];
-    let (_, wrong, status) = run(&[&ask, lines].concat());
-    assert_eq!((&wrong[..], status), ("", 0));
+    for (before, lines) in parts.iter().enumerate() {
+        if before > 0 {
+            std::thread::sleep(std::time::Duration::from_millis(2_100));
+        }
+        let (_, wrong, status) = run(&[&["ask", "--socket", &socket], *lines].concat());
+        assert_eq!((&wrong[..], status), ("", 0));
+    }
     server.kill().unwrap();
     server.wait().unwrap();
     journal
@@ -97,6 +106,61 @@ fn a_rule_that_comes_is_told_with_what_follows_from_it() {
     );
     assert!(!told.contains("would not have been opened"), "{told}");
     assert_eq!(fs::read(&journal).unwrap(), kept);
+    fs::remove_dir_all(room).unwrap();
+}
+
+#[test]
+fn a_desk_as_it_is_now_fits_or_what_stands_in_the_way_is_told() {
+    let room = room("whatif-now");
+    let journal = journal(&room, POLICY, &LINES[..6]);
+    let old = room.join("old.txt").to_str().unwrap().to_string();
+    let present = ["whatif", "--present", "--journal", &journal, "--policy"];
+    let (told, _, status) = run(&[&present[..], &[&old]].concat());
+    let whole =
+        format!("{journal} as it is now, under {old}: 8 requests would bring all of it over\n");
+    assert_eq!((told, status), (whole, 0));
+    let new = file(
+        &room,
+        "new.txt",
+        &format!("{POLICY}task set 1 of test sign\n"),
+    );
+    let (told, _, status) = run(&[&present[..], &[&new]].concat());
+    let hinder = format!("  not brought over: mill: the entry of anna for sign would break task set 1 of test sign ({new}, line 10)\n");
+    assert!(told.ends_with(&hinder), "{told}");
+    assert_eq!(status, 1);
+    fs::remove_dir_all(room).unwrap();
+}
+
+#[test]
+fn requests_are_compared_from_a_time_on() {
+    let room = room("whatif-since");
+    let journal = journal_of(&room, POLICY, &[&LINES[..5], &LINES[5..]]);
+    let new = file(
+        &room,
+        "new.txt",
+        &format!("{POLICY}task set 1 of test sign\n"),
+    );
+    // From the second of the sixth request on: the desk is brought over with the first task done.
+    let (listed, _, _) = run(&["journal", "--json", &journal]);
+    let sixth: Value = serde_json::from_str(listed.lines().nth(5).unwrap()).unwrap();
+    let time = &sixth["time"].as_str().unwrap()[.."2026-11-16 10:18:48".len()];
+    let since = [
+        "whatif",
+        "--journal",
+        &journal,
+        "--policy",
+        &new,
+        "--since",
+        time,
+    ];
+    let (told, wrong, status) = run(&since);
+    assert_eq!((&wrong[..], status), ("", 0));
+    assert!(told.starts_with("4 of 9 requests under "), "{told}");
+    assert!(told.contains("was brought under it by "), "{told}");
+    assert!(
+        told.contains("would be 15 SEPARATION, rule 1: once\n"),
+        "{told}"
+    );
     fs::remove_dir_all(room).unwrap();
 }
 

@@ -9,7 +9,7 @@ use crate::check::refusal;
 use crate::journal::{self, Found, Row};
 use crate::names::Names;
 use crate::source::Policy;
-use crate::stop::{Done, Stop, WELL};
+use crate::stop::{Done, Stop, REFUSED, WELL};
 use crate::told::Told;
 use crate::writer;
 use apart::Apart;
@@ -22,6 +22,8 @@ pub struct Options<'a> {
     pub journal: &'a str,
     /// Requests from this time on are compared, microseconds since 1970.
     pub since: i64,
+    /// No request is compared; the desk as it is now is brought under the other policy.
+    pub present: bool,
     /// How many examples of each difference are told.
     pub examples: usize,
     pub json: bool,
@@ -88,7 +90,7 @@ impl Comparison<'_> {
     fn row(&mut self, row: &Row, found: &Found) {
         self.outcome.asked += 1;
         let record = row.bytes.record();
-        if row.at < self.options.since {
+        if self.options.present || row.at < self.options.since {
             let tables = || Told::loaded(&found.policy.records());
             let (_, now) = self.before.get_or_insert_with(|| (tables(), tables()));
             if let Some(record) = record.filter(|_| row.reply == GRANTED) {
@@ -185,15 +187,23 @@ pub fn whatif(options: &Options, policy: &Policy, out: &mut dyn Write) -> Done {
     let found = journal::replay(options.journal, &mut |row, found| {
         comparison.row(row, found);
     })?;
+    if options.present {
+        let tables = || Told::loaded(&found.policy.records());
+        let before = comparison.before.take();
+        let (loaded, now) = before.unwrap_or_else(|| (tables(), tables()));
+        comparison.bring(&now, &loaded, &found.live.names);
+    }
     let told = tell::Told {
         old: &found.policy,
         new: policy,
         names: &found.live.names,
         outcome: &comparison.outcome,
     };
-    match options.json {
-        true => told.objects(out)?,
-        false => told.words(out)?,
+    match (options.json, options.present) {
+        (true, _) => told.objects(out)?,
+        (false, true) => told.present(options.journal, out)?,
+        (false, false) => told.words(out)?,
     }
-    Ok(WELL)
+    let stays = options.present && !comparison.outcome.obstacles.is_empty();
+    Ok(if stays { REFUSED } else { WELL })
 }

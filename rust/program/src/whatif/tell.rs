@@ -91,6 +91,24 @@ impl Told<'_> {
         Ok(())
     }
 
+    /// Whether the desk as it is now fits under the other policy.
+    pub fn present(&self, journal: &str, out: &mut dyn Write) -> io::Result<()> {
+        let (new, requests) = (&self.new.file, self.outcome.brought.unwrap_or_default());
+        let whole = match self.outcome.obstacles.len() {
+            0 => "all of it".to_string(),
+            1 => "all but one thing".to_string(),
+            many => format!("all but {many} things"),
+        };
+        writeln!(
+            out,
+            "{journal} as it is now, under {new}: {requests} requests would bring {whole} over"
+        )?;
+        for words in &self.outcome.obstacles {
+            writeln!(out, "  not brought over: {words}")?;
+        }
+        Ok(())
+    }
+
     fn sort(&self, sort: &Sort, same: &Same, out: &mut dyn Write) -> io::Result<()> {
         let (words, was, would_be) = (words_of(sort.kind), said(sort.was), said(sort.would_be));
         let count = match (same.first, same.following) {
@@ -144,7 +162,8 @@ impl Told<'_> {
         let (first, following) = self.differ();
         let not_opened: Vec<Value> = self.outcome.not_opened.iter().map(example).collect();
         let whole = json!({
-            "requests": self.outcome.compared, "of": self.outcome.asked, "brought": self.outcome.brought, "not_brought": self.outcome.obstacles, "first": first, "following": following, "not_opened": not_opened,
+            "requests": self.outcome.compared, "of": self.outcome.asked, "first": first, "following": following,
+            "brought": self.outcome.brought, "not_brought": self.outcome.obstacles, "not_opened": not_opened,
         });
         writeln!(out, "{whole}")
     }
