@@ -113,8 +113,8 @@ uint64_t mishantral_request(const uint8_t *record, size_t length,
  * and leaves every other as it is; its answer is the reply, GRANTED, or ROOM where a buffer has not its fixed length and nothing is written.
  *
  * mishantral_settled_request answers as mishantral_request does, for a state that mishantral_settle has granted or mishantral_load was not
- * answered with ROOM for, and that nothing but the calls of this library has written to since. It is the one call that asks something of
- * the state: with another one its answer means nothing, and it may read and write past the buffers' ends. */
+ * answered with ROOM for, and that nothing but the calls of this library has written to since. With any other content its answer is some
+ * reply of the table: it stays within the buffers, and a refusal changes no word, but what it grants may leave any content. */
 uint64_t mishantral_settle(uint64_t *policy, size_t policy_words,
                            uint64_t *sessions, size_t sessions_words,
                            uint64_t *orders, size_t orders_words);
@@ -127,7 +127,7 @@ uint64_t mishantral_settled_request(const uint8_t *record, size_t length,
 /* Answers a pile of requests in one call: `length` bytes, sixteen a record, at most MISHANTRAL_MOST_PILED records. They are made one
  * after the other, and a refused one does not end the pile. The reply to each is one byte of `answers`, from the place `at` on, counted from
  * 0; the other bytes of `answers` stay. The replies, and the tables that the state reads as afterwards, are those of mishantral_request for each
- * record; an entry may stand in another slot of the ledger.
+ * record; an entry may stand in another slot of the ledger. Where no request is granted no word of the state changes.
  *
  * The answer is the reply to the pile alone: GRANTED; or, before any request is done and with nothing written, ROOM where a state buffer has
  * not its fixed length, `at` lies past the end of `answers`, there is not a byte for each whole record from there on, or there are more than

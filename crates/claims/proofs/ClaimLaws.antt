@@ -14,7 +14,7 @@ use Rattle.paper_lower.proofs.ListLaws.{or-none, both}
 use Rattle.paper_lower.proofs.CheckLaws.{Numbered, passed}
 use Rattle.paper_upper.specs.Orders.{Engine, isHeld, ofTask}
 use Rattle.paper_upper.specs.Rules.{ruleChecks, rulePlace}
-use Rattle.paper_upper.specs.Requests.{unknown, holdChecks, claimChecks, claimPlace}
+use Rattle.paper_upper.specs.Requests.{unknown, claimChecks, claimPlace}
 use Rattle.replies.specs.Replies.{numberOf}
 use Rattle.replies.specs.declared.Reply.{Reply}
 use Rattle.replies.proofs.ReplyLaws.{is-zero}
@@ -65,7 +65,7 @@ module _ (t : Engine) (a b c : ℕ) where
       leb-false _ _ (passed (claimChecks t a b c) (tt, (tt, (tt, (tt, (tt, (tt, (tt, (tt, (tt, (tt, tt)))))))))) z .1 .1 .1 .1 .1 .1 .1 .1 .1 .0)
 
   -- what is not unknown is of an open instance
-  not-unknown : unknown t a b c ≡ false → there (t .orders .opened b) ≡ true
+  pub not-unknown : unknown t a b c ≡ false → there (t .orders .opened b) ≡ true
   unfolding unknown
   not-unknown h =
       let of : ℕ → Bool = λ j. is j (t .lower .policy .tasks .template c) in
@@ -76,12 +76,6 @@ module _ (t : Engine) (a b c : ℕ) where
   claim-opened r {x} judged accepts h =
       let z = sym judged ∙ is-zero r accepts (not-false x h) in
       not-unknown (passed (claimChecks t a b c) (tt, (tt, (tt, (tt, (tt, (tt, (tt, (tt, (tt, (tt, tt)))))))))) z .0)
-
-  pub hold-opened : (r : Reply) {x : Bool} → numberOf r ≡ first (holdChecks t a b c) → x ≡ eqb (numberOf r) 0 → not x ≡ false → there (t .orders .opened b) ≡ true
-  unfolding holdChecks
-  hold-opened r {x} judged accepts h =
-      let z = sym judged ∙ is-zero r accepts (not-false x h) in
-      not-unknown (passed (holdChecks t a b c) (tt, (tt, tt)) z .0)
 
   rules-numbered : Numbered rulesOf
   unfolding ruleChecks

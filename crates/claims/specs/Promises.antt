@@ -1,5 +1,6 @@
 -- What requests 50 to 52 and 57 promise of the buffers p (policy), s (sessions) and o (orders): a judge the reply of the definition's checks, an act
--- that reply and the tables afterwards, with not one word changed where it refuses, and sound links again.
+-- that reply and the tables afterwards, with not one word changed where it refuses, and sound links again. All of it is promised of sound links; of any content, that
+-- a refusal changes no word, and that a place is at most 64.
 use Prim.Native.Nat.{ℕ, _<_}
 use mathlib.Core.Bool.{true}
 use mathlib.Core.List.{List}
@@ -15,18 +16,17 @@ use Rattle.replies.specs.declared.Reply.{Reply}
 use Rattle.policy.specs.Layout.{policyWords}
 use Rattle.policy.specs.Reading.{policyOf}
 use Rattle.sessions.specs.Reading.{sessionsWords}
-use Rattle.links.specs.Chains.{soundOf}
-use Rattle.entries.specs.Acts.{Ready}
+use Rattle.links.specs.Chains.{ordersWords, soundOf}
 use Rattle.entries.specs.declared.Gathered.{Gathered}
 use Rattle.rules.specs.declared.Judged.{Judged}
 use Rattle.rules.specs.Judging.{Verdict, Judging}
 use Rattle.orders.specs.Tables.{engineTables}
 
--- each buffer has its length, the links are sound, and subject a, instance b and task c are within their limits
+-- each buffer has its length, and subject a, instance b and task c are within their limits
 abbrev pub InLimits : List ℕ → List ℕ → List ℕ → ℕ → ℕ → ℕ → Type 0
 InLimits p s o a b c =
     (length p ≡ policyWords)
-    × ((length s ≡ sessionsWords) × (Ready o × ((a < 128) × ((b < 64) × (c < 64)))))
+    × ((length s ≡ sessionsWords) × ((length o ≡ ordersWords) × ((a < 128) × ((b < 64) × (c < 64)))))
 
 -- the claim rules for task t of an instance of the template, over what was gathered of its entries
 abbrev pub RulesJudged : List ℕ → ℕ → Gathered → ℕ → Judged → Type 0

@@ -1,7 +1,8 @@
 // Requests 50 to 52 and 57: a task claimed, released, done, and what may be done with it, over the policy, the sessions and the orders together.
-// Each is judged over what is only read, and then done; specs/Promises says what each promises.
+// A claim is judged over what is only read, and then done; specs/Promises says what each promises, of any content of the orders buffer and of sound links.
 ghost use mathlib.Core.Path.{_≡_};
-ghost use Prim.Native.Nat.{_<_};
+ghost use mathlib.Core.Bool.{true};
+ghost use Prim.Native.Nat.{_<_, _≤_};
 ghost use lib.ListN.{length};
 ghost use Rattle.paper_lower.specs.Sets.{meets};
 ghost use Rattle.paper_lower.specs.Policy.{down};
@@ -9,7 +10,9 @@ ghost use Rattle.paper_upper.specs.Requests.{unknown};
 ghost use Rattle.policy.specs.Layout.{policyWords};
 ghost use Rattle.policy.specs.Reading.{policyOf};
 ghost use Rattle.sessions.specs.Reading.{sessionsWords, sessionsOf};
+ghost use Rattle.links.specs.Chains.{soundOf};
 ghost use Rattle.orders.specs.Tables.{engineTables};
+ghost use Rattle.orders.specs.Promises.{AnyContent};
 ghost use Rattle.claims.specs.Promises.{InLimits, RulesJudged, ClaimJudged, Claimed, HoldJudged, Released, Finished, TaskCheckJudged};
 use entries::Gathered;
 use replies::Reply;
@@ -53,7 +56,7 @@ fn rules_reply(p: &[u64], template: u64, g: Gathered, t: u64) -> Judged
 
 fn claim_reply(p: &[u64], s: &[u64], o: &[u64], a: u64, b: u64, c: u64) -> Judged
     requires { ⌜ InLimits (now p) (now s) (now o) a b c ⌝ }
-    ensures { λ r. ⌜ ClaimJudged (now (p .entry)) (now (s .entry)) (now (o .entry)) a b c r ⌝ }
+    ensures { λ r. ⌜ (r .place ≤ 64) × (soundOf (now (o .entry)) ≡ true → ClaimJudged (now (p .entry)) (now (s .entry)) (now (o .entry)) a b c r) ⌝ }
 {
     if is_unknown(p, s, o, a, b, c) {
         return plain(Reply::Unknown);
@@ -80,7 +83,7 @@ fn claim_reply(p: &[u64], s: &[u64], o: &[u64], a: u64, b: u64, c: u64) -> Judge
 
 pub fn claim(p: &[u64], s: &[u64], o: &mut [u64], a: u64, b: u64, c: u64) -> Judged
     requires { ⌜ InLimits (now p) (now s) (now o) a b c ⌝ }
-    ensures { λ r. ⌜ Claimed (now (p .entry)) (now (s .entry)) (now (o .entry)) (now (o .exit)) a b c r ⌝ }
+    ensures { λ r. ⌜ (r .place ≤ 64) × AnyContent (now (o .entry)) (now (o .exit) ≡ now (o .entry)) (Claimed (now (p .entry)) (now (s .entry)) (now (o .entry)) (now (o .exit)) a b c r) (r .reply) ⌝ }
 {
     let j = claim_reply(p, s, o, a, b, c);
     let reply = j.reply;
@@ -92,11 +95,39 @@ pub fn claim(p: &[u64], s: &[u64], o: &mut [u64], a: u64, b: u64, c: u64) -> Jud
     j
 }
 
-// ---- 51 and 52: release, done.
+// ---- 51 and 52: release, done. One walk of the entries finds what the subject holds and acts on it; where it finds nothing it writes nothing.
+
+pub fn release(p: &[u64], s: &[u64], o: &mut [u64], a: u64, b: u64, c: u64) -> Reply
+    requires { ⌜ InLimits (now p) (now s) (now o) a b c ⌝ }
+    ensures { λ r. ⌜ AnyContent (now (o .entry)) (now (o .exit) ≡ now (o .entry)) (Released (now (p .entry)) (now (s .entry)) (now (o .entry)) (now (o .exit)) a b c r) r ⌝ }
+{
+    if is_unknown(p, s, o, a, b, c) {
+        return Reply::Unknown;
+    }
+    if !entries::release(o, b, c, a) {
+        return Reply::NotYours;
+    }
+    Reply::Granted
+}
+
+pub fn finish(p: &[u64], s: &[u64], o: &mut [u64], a: u64, b: u64, c: u64) -> Reply
+    requires { ⌜ InLimits (now p) (now s) (now o) a b c ⌝ }
+    ensures { λ r. ⌜ AnyContent (now (o .entry)) (now (o .exit) ≡ now (o .entry)) (Finished (now (p .entry)) (now (s .entry)) (now (o .entry)) (now (o .exit)) a b c r) r ⌝ }
+{
+    if is_unknown(p, s, o, a, b, c) {
+        return Reply::Unknown;
+    }
+    if !entries::finish(o, b, c, a) {
+        return Reply::NotYours;
+    }
+    Reply::Granted
+}
+
+// ---- 57: may the subject do this with the task that it holds? m is the operation and 65,536 times the object. It changes nothing.
 
 fn hold_reply(p: &[u64], s: &[u64], o: &[u64], a: u64, b: u64, c: u64) -> Reply
     requires { ⌜ InLimits (now p) (now s) (now o) a b c ⌝ }
-    ensures { λ r. ⌜ HoldJudged (now (p .entry)) (now (s .entry)) (now (o .entry)) a b c r ⌝ }
+    ensures { λ r. ⌜ (soundOf (now (o .entry)) ≡ true → HoldJudged (now (p .entry)) (now (s .entry)) (now (o .entry)) a b c r) ⌝ }
 {
     if is_unknown(p, s, o, a, b, c) {
         return Reply::Unknown;
@@ -107,35 +138,9 @@ fn hold_reply(p: &[u64], s: &[u64], o: &[u64], a: u64, b: u64, c: u64) -> Reply
     Reply::Granted
 }
 
-pub fn release(p: &[u64], s: &[u64], o: &mut [u64], a: u64, b: u64, c: u64) -> Reply
-    requires { ⌜ InLimits (now p) (now s) (now o) a b c ⌝ }
-    ensures { λ r. ⌜ Released (now (p .entry)) (now (s .entry)) (now (o .entry)) (now (o .exit)) a b c r ⌝ }
-{
-    let r = hold_reply(p, s, o, a, b, c);
-    if !accepted(r) {
-        return r;
-    }
-    entries::release(o, b, c, a);
-    r
-}
-
-pub fn finish(p: &[u64], s: &[u64], o: &mut [u64], a: u64, b: u64, c: u64) -> Reply
-    requires { ⌜ InLimits (now p) (now s) (now o) a b c ⌝ }
-    ensures { λ r. ⌜ Finished (now (p .entry)) (now (s .entry)) (now (o .entry)) (now (o .exit)) a b c r ⌝ }
-{
-    let r = hold_reply(p, s, o, a, b, c);
-    if !accepted(r) {
-        return r;
-    }
-    entries::finish(o, b, c, a);
-    r
-}
-
-// ---- 57: may the subject do this with the task that it holds? m is the operation and 65,536 times the object. It changes nothing.
-
 pub fn task_check_reply(p: &[u64], s: &[u64], o: &[u64], a: u64, b: u64, c: u64, m: u64) -> Reply
     requires { ⌜ InLimits (now p) (now s) (now o) a b c × (m < 4294967296) ⌝ }
-    ensures { λ r. ⌜ TaskCheckJudged (now (p .entry)) (now (s .entry)) (now (o .entry)) a b c m r ⌝ }
+    ensures { λ r. ⌜ (soundOf (now (o .entry)) ≡ true → TaskCheckJudged (now (p .entry)) (now (s .entry)) (now (o .entry)) a b c m r) ⌝ }
 {
     let r = hold_reply(p, s, o, a, b, c);
     if !accepted(r) {

@@ -4,7 +4,7 @@ use mathlib.Core.Bool.{Bool, true, false, not, cond}
 use mathlib.Core.List.{List, [], _∷_, _++_}
 use mathlib.Core.Path.{_≡_, refl, sym, ap, subst, _∙_}
 use native.Mathlib.Omega.{arith}
-use borrow.Author.Tests.{eqb-true, eq-eqb, ne-eqb}
+use borrow.Author.Tests.{eqb-true, eqb-false, eq-eqb, ne-eqb}
 use lib.Dec.{eqb}
 use Rattle.paper_lower.specs.Lists.{keep, each}
 use Rattle.paper_lower.specs.Checks.{ROOM, granted}
@@ -15,12 +15,13 @@ use Rattle.paper_upper.specs.Orders.{Engine, SameTables}
 use Rattle.paper_upper.specs.Engine.{request, placeTo, Placed, placedRun, engineOf}
 use Rattle.rules.specs.declared.Judged.{Judged}
 use Rattle.replies.specs.Replies.{numberOf}
+use Rattle.links.specs.Chains.{soundOf}
 use Rattle.engine.specs.Buffers.{Buffers, tablesOf, fit, SameLengths}
 use Rattle.engine.specs.Answers.{CallAnswer, requestAnswer, Requested, loadAnswer}
 use Rattle.engine.specs.Exports.{RequestExported, LoadExported}
 use Rattle.links.proofs.SameLaws.{tables-then}
 use Rattle.engine.proofs.RespectLaws.{respects}
-use Rattle.engine.proofs.Ways.{load-exported}
+use Rattle.engine.proofs.Ways.{load-exported, request-exported}
 use Rattle.theorems.specs.Replies.{inTable, Listed}
 use Rattle.theorems.specs.Outside.{followed}
 use Rattle.theorems.proofs.Replies.{in-byte, replies-are-listed}
@@ -35,7 +36,7 @@ fit-kept l = rw (l .policy, l .sessions, l .orders)
 pub first-byte : (q k n : ℕ) → inTable q ≡ true → n ≡ q + 256 * k → n % 256 ≡ q
 first-byte q k n l e = let b = in-byte q l in omega arith
 
-rest-of : (q k n : ℕ) → inTable q ≡ true → n ≡ q + 256 * k → n / 256 ≡ k
+pub rest-of : (q k n : ℕ) → inTable q ≡ true → n ≡ q + 256 * k → n / 256 ≡ k
 rest-of q k n l e = let b = in-byte q l in omega arith
 
 -- ---- one request
@@ -57,9 +58,10 @@ pub record Answered (bytes : Bytes) (x y : Buffers) (reply place : ℕ) : Type 0
   pub tables : SameTables (tablesOf y) (requestAnswer bytes x .tables)
   pub lengths : SameLengths x y
   pub kept : (reply ≡ 0 → ⊥) → y ≡ x
+  pub settles : reply ≡ 0 → soundOf (y .orders) ≡ true
 
 from-call : {bytes : Bytes} {x y : Buffers} {j : Judged} → Requested bytes x y j → Answered bytes x y (numberOf (j .reply)) (j .place)
-from-call d = record { replies = d .replies; places = d .places; tables = d .tables; lengths = d .lengths; kept = d .kept }
+from-call d = record { replies = d .replies; places = d .places; tables = d .tables; lengths = d .lengths; kept = d .kept; settles = d .settles }
 
 from-number : {bytes : Bytes} {x y : Buffers} (n : ℕ) → RequestExported bytes x y n → Answered bytes x y (n % 256) (n / 256)
 from-number {bytes} {x} n d =
@@ -70,13 +72,23 @@ from-number {bytes} {x} n d =
       tables = d .tables;
       lengths = d .lengths;
       kept = λ z. d .kept (λ w. z (e ∙ w));
+      settles = λ z. d .settles (sym e ∙ z);
     }
 
 pub answered : {bytes : Bytes} {x y : Buffers} {reply place : ℕ} → Request bytes x y reply place → Answered bytes x y reply place
 answered (within d) = from-call d
 answered (exported {n} d) = from-number n d
-answered (settled d) = from-call (d .0)
-answered (settled-exported {n} d) = from-number n (d .0)
+answered (settled s d) = from-call (d .sound s .0)
+answered (settled-exported {n} s d) = from-number n (rw (d .1) (request-exported (d .2 .sound s .0) refl))
+
+-- sound links are left, by a granted request whatever there was before
+module _ {bytes : Bytes} {x y : Buffers} {reply place : ℕ} (r : Request bytes x y reply place) where
+  pub stays-sound : soundOf (x .orders) ≡ true → soundOf (y .orders) ≡ true
+  stays-sound s = go (eqb reply 0) refl
+    where
+      go : (b : Bool) → eqb reply 0 ≡ b → soundOf (y .orders) ≡ true
+      go true e = answered r .settles (eqb-true reply 0 e)
+      go false e = rw (answered r .kept (eqb-false reply 0 e)) s
 
 module _ {bytes : Bytes} {x y : Buffers} {reply place : ℕ} (r : Request bytes x y reply place) where
   pub answers : fit x ≡ true

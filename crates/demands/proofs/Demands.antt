@@ -1,5 +1,5 @@
 -- The demands.
-use Prim.Native.Nat.{ℕ, _+_, _≤_, _<_}
+use Prim.Native.Nat.{ℕ, _+_, _/_, _%_, _≤_, _<_}
 use mathlib.Core.Bool.{Bool, true, false}
 use mathlib.Core.List.{List, []}
 use mathlib.Core.Path.{_≡_, refl, sym, ap, subst, _∙_}
@@ -18,15 +18,19 @@ use Rattle.paper_lower.specs.Load.{Loaded, load, recordsOf}
 use Rattle.paper_lower.specs.Sessions.{lowerOf}
 use Rattle.paper_upper.specs.Orders.{Engine, SameTables, withLower}
 use Rattle.paper_upper.specs.Engine.{requestKinds, request, placeTo, Placed, placedRun, engineOf}
+use Rattle.replies.specs.Replies.{numberOf}
 use Rattle.replies.specs.declared.Reply.{Reply}
+use Rattle.replies.specs.declared.Reply.the-variants.{Granted, Room, Shape, Range, Unknown, Taken, InUse, Rule, NotAssigned, Static, Dynamic, NoRole, NotYours, Denied, Before, Separation, Block, Alone, Bound, Count, Full, Loop, Wall}
+use Rattle.rules.specs.declared.Judged.{Judged}
 use Rattle.replies.proofs.ReplyLaws.{one-reply}
 use Rattle.lower.specs.Exports.{inOne}
 use Rattle.engine.specs.Buffers.{Buffers, tablesOf, fit}
 use Rattle.engine.specs.Answers.{loadAnswer, LoadDone}
 use Rattle.engine.specs.Exports.{LoadExported}
+use Rattle.engine.specs.Settling.{SettledRequest, SettledExported}
 use Rattle.links.proofs.SameLaws.{tables-refl, tables-sym, tables-then}
 use Rattle.engine.proofs.RespectLaws.{respects}
-use Rattle.theorems.specs.Replies.{FirstRefusal, checksOf}
+use Rattle.theorems.specs.Replies.{inTable, FirstRefusal, checksOf}
 use Rattle.theorems.specs.Outside.{hear, outside}
 use Rattle.theorems.specs.OverEntries.{ofKind}
 use Rattle.theorems.specs.Theorems.{tablesAfter, saidAfter, replyAfter, Reaches}
@@ -49,8 +53,8 @@ use Rattle.theorems.proofs.Unwalled.{refused-as-the-check, outside-walls-all-is
 use Rattle.theorems.specs.Exactly.{Known, known}
 use Rattle.theorems.proofs.Exactly.{every-reply}
 use Rattle.demands.specs.Calls.{Request, Load, Called, Together, Requests, allSaid, fitting, asked}
-use Rattle.demands.specs.Demands.{DemandOne, DemandTwo, OneAnswer, Upheld, DemandThree, InChains, JoinedWithRoles, EitherFirst, ClaimsDoNotMeet, CanFinish, SeniorRoles, Commits, WithoutWalls, StuckAreNeverEntered}
-use Rattle.demands.proofs.Calls.{fit-kept, request-listed, answered, answers, no-room, as-load, load-listed, load-reply, after-all, chain-run, told-fitting, said-fitting, told, reading}
+use Rattle.demands.specs.Demands.{Unlooked, DemandOne, LinksStaySound, DemandTwo, OneAnswer, Upheld, DemandThree, InChains, JoinedWithRoles, EitherFirst, ClaimsDoNotMeet, CanFinish, SeniorRoles, Commits, WithoutWalls, StuckAreNeverEntered}
+use Rattle.demands.proofs.Calls.{fit-kept, first-byte, rest-of, request-listed, answered, stays-sound, answers, no-room, as-load, load-listed, load-reply, after-all, chain-run, told-fitting, said-fitting, told, reading}
 
 -- ---- loads
 module _ {bytes : Bytes} {x y : Buffers} {reply : ℕ} (l : Load bytes x y reply) where
@@ -78,6 +82,55 @@ no-number : {bytes : Bytes} {x y : Buffers} {n : ℕ} → fit x ≡ false → Lo
 unfolding loadAnswer
 no-number f d = d .answers ∙ rw f
 
+-- ---- a request that does not look at the links
+listed-reply : (r : Reply) → inTable (numberOf r) ≡ true
+unfolding inTable
+listed-reply Granted = refl
+listed-reply Room = refl
+listed-reply Shape = refl
+listed-reply Range = refl
+listed-reply Unknown = refl
+listed-reply Taken = refl
+listed-reply InUse = refl
+listed-reply Rule = refl
+listed-reply NotAssigned = refl
+listed-reply Static = refl
+listed-reply Dynamic = refl
+listed-reply NoRole = refl
+listed-reply NotYours = refl
+listed-reply Denied = refl
+listed-reply Before = refl
+listed-reply Separation = refl
+listed-reply Block = refl
+listed-reply Alone = refl
+listed-reply Bound = refl
+listed-reply Count = refl
+listed-reply Full = refl
+listed-reply Loop = refl
+listed-reply Wall = refl
+
+unlooked : {bytes : Bytes} {x y : Buffers} {j : Judged} → SettledRequest bytes x y j → Unlooked x y (numberOf (j .reply)) (j .place)
+unlooked {j = j} d =
+    record {
+      answers = listed-reply (j .reply);
+      small = d .small;
+      lengths = d .lengths;
+      refused = d .kept;
+      misfit = λ f. let r = d .room f in (r .0, r .1 .0, r .1 .1);
+    }
+
+unlooked-number : {bytes : Bytes} {x y : Buffers} {n : ℕ} → SettledExported bytes x y n → Unlooked x y (n % 256) (n / 256)
+unlooked-number {n = n} d =
+    let l = listed-reply (d .0 .reply) in
+    rw (first-byte _ _ n l (d .1), rest-of _ _ n l (d .1)) (unlooked (d .2))
+
+pub links-stay-sound : LinksStaySound
+links-stay-sound = record {
+  loads = λ f l. as-load l .1 .settles f;
+  granted = λ r g. answered r .settles g;
+  settled = stays-sound;
+}
+
 pub demand-one : DemandOne
 demand-one = record {
   request-answers = λ {bytes} {x} r. rw (answered r .replies) (request-listed bytes x);
@@ -91,6 +144,8 @@ demand-one = record {
   misfit-load = λ f l. misfits l f;
   misfit-place = no-place;
   misfit-number = no-number;
+  settled-request = unlooked;
+  settled-number = unlooked-number;
 }
 
 place-of : {bytes : Bytes} {x y : Buffers} {r : Reply} {place : ℕ} → fit x ≡ true → LoadDone bytes x y r place → place ≡ load bytes .place

@@ -1,7 +1,7 @@
 -- Calls of the engine on real buffers. A call is what it promises: `Requested` and `LoadDone` are the contracts of engine::request and
--- engine::load, `RequestExported` and `LoadExported` those of the functions that C and Rust link. They ask nothing of bytes and buffers.
+-- engine::load, `RequestExported` and `LoadExported` those of the functions that C and Rust link. No call asks anything of bytes and buffers.
 use Prim.Native.Nat.{ℕ, _/_, _%_}
-use mathlib.Core.Bool.{Bool, false, not}
+use mathlib.Core.Bool.{Bool, true, false, not}
 use mathlib.Core.List.{List, [], _∷_, _++_}
 use mathlib.Core.Path.{_≡_}
 use lib.Dec.{eqb}
@@ -14,18 +14,19 @@ use Rattle.paper_upper.specs.Engine.{request, Placed, placedRun}
 use Rattle.replies.specs.Replies.{numberOf}
 use Rattle.replies.specs.declared.Reply.{Reply}
 use Rattle.rules.specs.declared.Judged.{Judged}
+use Rattle.links.specs.Chains.{soundOf}
 use Rattle.engine.specs.Buffers.{Buffers, tablesOf, fit, SameLengths}
 use Rattle.engine.specs.Answers.{Requested, LoadDone}
 use Rattle.engine.specs.Settling.{SettledRequest, SettledExported}
 use Rattle.engine.specs.Exports.{RequestExported, LoadExported}
 
--- A request by any of the four functions, those for settled buffers among them: the bytes, the buffers before and after, the reply and the
--- place. The exported ones' number is the reply + 256 times the place.
+-- A request by any of the four functions: the bytes, the buffers before and after, the reply and the place. The exported ones' number is the
+-- reply + 256 times the place. Those that do not look at the links are requests on sound links; what they promise on any others is demand 1's.
 pub data Request (bytes : Bytes) (x y : Buffers) : ℕ → ℕ → Type 0 where
   within : {j : Judged} → Requested bytes x y j → Request bytes x y (numberOf (j .reply)) (j .place)
   exported : {n : ℕ} → RequestExported bytes x y n → Request bytes x y (n % 256) (n / 256)
-  settled : {j : Judged} → SettledRequest bytes x y j → Request bytes x y (numberOf (j .reply)) (j .place)
-  settled-exported : {n : ℕ} → SettledExported bytes x y n → Request bytes x y (n % 256) (n / 256)
+  settled : {j : Judged} → soundOf (x .orders) ≡ true → SettledRequest bytes x y j → Request bytes x y (numberOf (j .reply)) (j .place)
+  settled-exported : {n : ℕ} → soundOf (x .orders) ≡ true → SettledExported bytes x y n → Request bytes x y (n % 256) (n / 256)
 
 -- A load by either function.
 pub data Load (bytes : Bytes) (x y : Buffers) : ℕ → Type 0 where

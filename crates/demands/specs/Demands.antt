@@ -1,5 +1,5 @@
 -- The three demands on the engine, each statement under its sentence: of any bytes, on buffers of any content and any lengths.
-use Prim.Native.Nat.{ℕ, _+_, _≤_, _<_}
+use Prim.Native.Nat.{ℕ, _+_, _/_, _%_, _≤_, _<_}
 use mathlib.Core.Bool.{true, false}
 use mathlib.Core.List.{List, [], _∷_}
 use mathlib.Core.Path.{_≡_}
@@ -21,10 +21,12 @@ use Rattle.paper_upper.specs.Engine.{requestKinds, request, placeTo, Placed, en
 use Rattle.replies.specs.Replies.{numberOf}
 use Rattle.replies.specs.declared.Reply.{Reply}
 use Rattle.lower.specs.Exports.{inOne}
-use Rattle.engine.specs.Buffers.{Buffers, tablesOf, fit}
+use Rattle.rules.specs.declared.Judged.{Judged}
+use Rattle.links.specs.Chains.{soundOf}
+use Rattle.engine.specs.Buffers.{Buffers, tablesOf, fit, SameLengths}
 use Rattle.engine.specs.Answers.{LoadDone, Zeros}
 use Rattle.engine.specs.Exports.{LoadExported}
-use Rattle.engine.specs.Settling.{SettledAs}
+use Rattle.engine.specs.Settling.{SettledAs, SettledRequest, SettledExported}
 use Rattle.theorems.specs.Replies.{inTable, FirstRefusal, checksOf, ChecksInOrder}
 use Rattle.theorems.specs.Outside.{hear, outside}
 use Rattle.theorems.specs.OverEntries.{ofKind, claimRules, RoleLimits}
@@ -40,6 +42,14 @@ use Rattle.theorems.specs.Exactly.{known, engineKindsAsked, Answered}
 use Rattle.demands.specs.Calls.{Request, Load, Together, Requests, allSaid, fitting, asked}
 
 -- ---- Demand 1
+-- what a request that does not look at the links leaves of any buffers
+pub record Unlooked (x y : Buffers) (reply place : ℕ) : Type 0 where
+  pub answers : inTable reply ≡ true
+  pub small : place ≤ 64
+  pub lengths : SameLengths x y
+  pub refused : (reply ≡ GRANTED → ⊥) → y ≡ x
+  pub misfit : fit x ≡ false → (reply ≡ ROOM) × (place ≡ 0) × (y ≡ x)
+
 pub record DemandOne : Type 0 where
   -- "Every record and every state, of any length or content, gets an answer from the published table, and the engine always returns.":
   -- the calls have no `requires`, and a function that is proved returns
@@ -57,6 +67,15 @@ pub record DemandOne : Type 0 where
   -- "place 0"
   pub misfit-place : {bytes : Bytes} {x y : Buffers} {r : Reply} {place : ℕ} → fit x ≡ false → LoadDone bytes x y r place → place ≡ 0
   pub misfit-number : {bytes : Bytes} {x y : Buffers} {number : ℕ} → fit x ≡ false → LoadExported bytes x y number → number ≡ inOne ROOM 0
+  -- the settled request on any content, its links sound or not
+  pub settled-request : {bytes : Bytes} {x y : Buffers} {j : Judged} → SettledRequest bytes x y j → Unlooked x y (numberOf (j .reply)) (j .place)
+  pub settled-number : {bytes : Bytes} {x y : Buffers} {n : ℕ} → SettledExported bytes x y n → Unlooked x y (n % 256) (n / 256)
+
+-- ---- 02, Ask 9: "The links never cross, never loop and reach every entry once." Sound links are what says so; each call that changes the state leaves them.
+pub record LinksStaySound : Type 0 where
+  pub loads : {bytes : Bytes} {x y : Buffers} {reply : ℕ} → fit x ≡ true → Load bytes x y reply → soundOf (y .orders) ≡ true
+  pub granted : {bytes : Bytes} {x y : Buffers} {reply place : ℕ} → Request bytes x y reply place → reply ≡ GRANTED → soundOf (y .orders) ≡ true
+  pub settled : {bytes : Bytes} {x y : Buffers} {reply place : ℕ} → Request bytes x y reply place → soundOf (x .orders) ≡ true → soundOf (y .orders) ≡ true
 
 -- ---- Demand 2
 

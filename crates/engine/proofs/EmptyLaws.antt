@@ -3,6 +3,7 @@ use Prim.Native.Nat.{ℕ, zero, suc}
 use mathlib.Core.Bool.{Bool, true, false, not, cond, _||_, false≢true}
 use mathlib.Core.List.{List, [], _∷_}
 use mathlib.Core.Path.{_≡_, refl, sym, ap, subst, _∙_}
+use native.Mathlib.Omega.{arith}
 use borrow.Author.Tests.{eq-eqb, eqb-true, ne-eqb, not-false}
 use lib.Bits.{and-zero-r}
 use lib.Dec.{eqb, T}
@@ -32,7 +33,7 @@ use Rattle.records.specs.declared.Record.{Record as Decoded}
 use Rattle.rules.specs.declared.Judged.{Judged}
 use Rattle.replies.specs.declared.Reply.the-variants.{Unknown}
 use Rattle.engine.specs.Buffers.{Buffers, productOf, noEngine, tablesOf}
-use Rattle.engine.specs.Step.{StepOf, SoundStep}
+use Rattle.engine.specs.Step.{StepOf, SoundStep, SettlingStep}
 use Rattle.engine.proofs.Lifts.{alike}
 use Rattle.engine.proofs.PlaceLaws.{no-place}
 use Rattle.engine.proofs.Ways.{tables-sound, tables-broken}
@@ -106,19 +107,22 @@ all-unknown r t h = go (eqb (r .kind) 32) refl
 
 -- ---- A step on broken links.
 pub unknown-step : (r : Decoded) (x : Buffers) {j : Judged} → j ≡ record { reply = Unknown; place = 0 } → soundOf (x .orders) ≡ false
-    → first (chosen requestKinds (r .kind) .checks noEngine (paperOf r)) ≡ UNKNOWN → StepOf noEngine (tablesOf x) r x x j
+    → first (chosen requestKinds (r .kind) .checks noEngine (paperOf r)) ≡ UNKNOWN → SettlingStep noEngine r x x j
 unknown-step r x is broken e =
-    rw is (record { replies = sym e; places = no-place noEngine (paperOf r) e; tables = rw e (alike (tables-broken x broken)); kept = λ _. refl })
+    rw is (
+      record { replies = sym e; places = no-place noEngine (paperOf r) e; tables = rw e (alike (tables-broken x broken)); kept = λ _. refl },
+      λ z. let n : ⊥ = omega arith in absurd n,
+    )
 
 pub joined-step : (r : Decoded) (x z x′ : Buffers) {j : Judged} → productOf z ≡ noEngine → soundOf (x′ .orders) ≡ true
-    → first (chosen requestKinds (r .kind) .checks noEngine (paperOf r)) ≡ 0 → StepOf (productOf z) (productOf x′) r z x′ j → StepOf noEngine (tablesOf x′) r x x′ j
+    → first (chosen requestKinds (r .kind) .checks noEngine (paperOf r)) ≡ 0 → StepOf (productOf z) (productOf x′) r z x′ j → SettlingStep noEngine r x x′ j
 joined-step r x z x′ {j} e s zero-reply d₀ =
     let d : StepOf noEngine (productOf x′) r z x′ j = subst (λ (t : Engine). StepOf t (productOf x′) r z x′ j) e d₀ in
-    record { replies = d .replies; places = d .places; tables = rw (tables-sound x′ s) (d .tables); kept = λ h. absurd (h (d .replies ∙ zero-reply)) }
+    (record { replies = d .replies; places = d .places; tables = rw (tables-sound x′ s) (d .tables); kept = λ h. absurd (h (d .replies ∙ zero-reply)) }, λ _. s)
 
 -- ---- A step on any content.
-pub broken-step : (r : Decoded) (x x′ : Buffers) {j : Judged} → soundOf (x .orders) ≡ false → StepOf noEngine (tablesOf x′) r x x′ j → StepOf (tablesOf x) (tablesOf x′) r x x′ j
-broken-step r x x′ {j} b d = subst (λ (t : Engine). StepOf t (tablesOf x′) r x x′ j) (sym (tables-broken x b)) d
+pub broken-step : (r : Decoded) (x x′ : Buffers) {j : Judged} → soundOf (x .orders) ≡ false → SettlingStep noEngine r x x′ j → SettlingStep (tablesOf x) r x x′ j
+broken-step r x x′ {j} b d = subst (λ (t : Engine). SettlingStep t r x x′ j) (sym (tables-broken x b)) d
 
 pub sound-step : (r : Decoded) (x x′ : Buffers) {j : Judged} → soundOf (x .orders) ≡ true → SoundStep r x x′ j → StepOf (tablesOf x) (tablesOf x′) r x x′ j
 sound-step r x x′ {j} b d =

@@ -1,7 +1,8 @@
 -- A change of one buffer, of the lower part's two, or of none, as a step of all three.
 use Prim.Native.Nat.{ℕ, zero, suc}
+use mathlib.Core.Bool.{true}
 use mathlib.Core.List.{List}
-use mathlib.Core.Path.{_≡_, refl, ap, subst}
+use mathlib.Core.Path.{_≡_, refl, ap, subst, _∙_}
 use Rattle.paper_lower.specs.Checks.{first, granted}
 use Rattle.paper_lower.specs.Tables.{Lower}
 use Rattle.paper_upper.specs.Orders.{Engine, SameTables, withLower}
@@ -15,10 +16,19 @@ use Rattle.entries.specs.Reading.{ordersOf}
 use Rattle.links.proofs.SameLaws.{tables-refl}
 use Rattle.lower.specs.Stepped.{Stepped}
 use Rattle.rules.specs.declared.Judged.{Judged}
+use Rattle.rules.proofs.PlaceLaws.{plain-place}
+use Rattle.records.specs.declared.Record.{Record}
+use Rattle.links.specs.Chains.{soundOf}
 use Rattle.claims.specs.Promises.{Claimed}
 use Rattle.orders.specs.Tables.{engineTables}
 use Rattle.engine.specs.Buffers.{Buffers, buffers}
-use Rattle.engine.specs.Step.{Step}
+use Rattle.engine.specs.Step.{Step, SoundStep, AnyStep}
+
+-- a reply of no rule, on any content: its place is 0
+pub any-step : {x x′ : Buffers} {d : Record} {r : Reply} {j : Judged} → j ≡ record { reply = r; place = 0 } → ((numberOf r ≡ 0 → ⊥) → x′ ≡ x)
+    → (soundOf (x .orders) ≡ true → SoundStep d x x′ j) → AnyStep d x x′ j
+any-step is kept sound =
+    record { kept = λ n. kept (λ z. n (ap (λ (y : Judged). numberOf (y .reply)) is ∙ z)); small = plain-place is; sound = sound }
 
 pub alike : {t u : Engine} → t ≡ u → SameTables t u
 alike {t} e = subst (λ (x : Engine). SameTables t x) e (tables-refl t)

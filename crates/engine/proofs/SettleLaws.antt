@@ -1,16 +1,23 @@
 -- The ways out of settling, over plain values.
-use Prim.Native.Nat.{ℕ}
+use Prim.Native.Nat.{ℕ, _≤_}
 use mathlib.Core.Bool.{true, false, true≢false}
 use mathlib.Core.List.{List}
-use mathlib.Core.Path.{_≡_, refl, sym, _∙_}
+use mathlib.Core.Path.{_≡_, refl, sym, ap, _∙_}
+use native.Mathlib.Omega.{arith}
+use Rattle.paper_lower.specs.Records.{Bytes}
+use Rattle.replies.specs.Replies.{numberOf}
+use Rattle.rules.specs.declared.Judged.{Judged}
+use Rattle.records.specs.declared.Record.{Record}
 use Rattle.replies.specs.declared.Reply.the-variants.{Granted, Room}
 use Rattle.policy.specs.Reading.{Cleared as ClearedPolicy}
 use Rattle.sessions.specs.Reading.{Cleared as ClearedSessions}
 use Rattle.links.specs.Chains.{soundOf}
 use Rattle.entries.specs.Reading.{Cleared}
-use Rattle.engine.specs.Buffers.{Buffers, buffers}
-use Rattle.engine.specs.Settling.{Settled}
-use Rattle.engine.proofs.Ways.{unfit, same-lengths, lengths, fits, fits-not, tables-sound, tables-broken}
+use Rattle.engine.specs.Buffers.{Buffers, buffers, SameLengths}
+use Rattle.engine.specs.Step.{SoundStep, AnyStep}
+use Rattle.engine.specs.Answers.{Requested}
+use Rattle.engine.specs.Settling.{Settling, Settled, SettledRequest}
+use Rattle.engine.proofs.Ways.{unfit, same-lengths, lengths, fits, fits-not, no-room, tables-sound, tables-broken}
 use Rattle.engine.proofs.EmptyLaws.{emptied}
 
 pub no-settle : (x : Buffers) → unfit x ≡ true → Settled x x Room
@@ -23,6 +30,48 @@ settled-sound x h s =
     let f = fits x h in
     let l = lengths x h in
     record { replies = rw f; tables = refl; lengths = same-lengths refl refl refl; settles = λ _. (l .0, (l .1 .0, (l .1 .1, s))); kept = λ _. refl; room = λ _. refl }
+
+-- ---- The request without a look at the links.
+pub no-settled-room : (bytes : Bytes) (x : Buffers) {j : Judged} → j ≡ record { reply = Room; place = 0 } → unfit x ≡ true → SettledRequest bytes x x j
+no-settled-room bytes x {j} is h =
+    let d = no-room x bytes is h in
+    record {
+      lengths = same-lengths refl refl refl;
+      room = λ _. (ap (λ (y : Judged). numberOf (y .reply)) is, (ap (λ (y : Judged). y .place) is, refl));
+      small = rw is (omega arith);
+      kept = λ _. refl;
+      sound = λ s. (d, s);
+    }
+
+-- refused for its form
+pub settled-refused : (bytes : Bytes) (x : Buffers) {j : Judged} → unfit x ≡ false → j .place ≤ 64 → Requested bytes x x j → SettledRequest bytes x x j
+settled-refused bytes x {j} h small d =
+    record {
+      lengths = same-lengths refl refl refl;
+      room = λ e. absurd (true≢false (sym (fits x h) ∙ e));
+      small = small;
+      kept = λ _. refl;
+      sound = λ s. (d, s);
+    }
+
+-- a step
+pub settled-step : (bytes : Bytes) (x x′ : Buffers) (r : Record) {j : Judged} → unfit x ≡ false → SameLengths x x′ → AnyStep r x x′ j
+    → (SoundStep r x x′ j → soundOf (x .orders) ≡ true → Requested bytes x x′ j) → SettledRequest bytes x x′ j
+settled-step bytes x x′ r {j} h l a d =
+    record {
+      lengths = l;
+      room = λ e. absurd (true≢false (sym (fits x h) ∙ e));
+      small = a .small;
+      kept = a .kept;
+      sound = λ s. let g = a .sound s in (d g s, g .1);
+    }
+
+-- ---- Buffers that were settled stay so.
+pub settled-on : {bytes : Bytes} {x x′ : Buffers} {j : Judged} → Settling x → SettledRequest bytes x x′ j → Requested bytes x x′ j × Settling x′
+settled-on s d =
+    let r = d .sound (s .1 .1 .1) in
+    let l = d .lengths in
+    (r .0, (l .policy ∙ s .0, (l .sessions ∙ s .1 .0, (l .orders ∙ s .1 .1 .0, r .1))))
 
 pub settled-broken : (p s o p′ s′ o′ : List ℕ) → unfit (buffers p s o) ≡ false → soundOf o ≡ false → ClearedPolicy p′ → ClearedSessions s′ → Cleared o′
     → Settled (buffers p s o) (buffers p′ s′ o′) Granted

@@ -3,7 +3,8 @@ use Prim.Native.Nat.{ℕ, _+_, _*_}
 use mathlib.Core.Bool.{Bool, true, false, not, _&&_, _||_, true≢false}
 use mathlib.Core.List.{List}
 use mathlib.Core.Path.{_≡_, refl, sym, ap, subst, _∙_}
-use borrow.Author.Tests.{eq-eqb, eqb-true}
+use native.Mathlib.Omega.{arith}
+use borrow.Author.Tests.{eq-eqb, eqb-true, not-true}
 use lib.Dec.{eqb}
 use lib.ListN.{length}
 use Rattle.paper_lower.specs.Checks.{granted}
@@ -16,6 +17,7 @@ use Rattle.paper_upper.specs.Engine.{request, placeOf, placeTo, engineOf}
 use Rattle.replies.specs.Replies.{numberOf}
 use Rattle.replies.specs.declared.Reply.{Reply}
 use Rattle.replies.specs.declared.Reply.the-variants.{Room}
+use Rattle.replies.proofs.ReplyLaws.{not-zero}
 use Rattle.rules.specs.declared.Judged.{Judged}
 use Rattle.policy.specs.Layout.{policyWords}
 use Rattle.sessions.specs.Reading.{sessionsWords}
@@ -77,14 +79,22 @@ module _ (x : Buffers) where
   unfolding requestAnswer
   no-room bytes is h =
       let f = fits-not h in
-      rw is (record { replies = rw f; places = rw f; tables = rw f (tables-refl (tablesOf x)); lengths = same-lengths refl refl refl; kept = λ _. refl })
+      rw is (record {
+        replies = rw f;
+        places = rw f;
+        tables = rw f (tables-refl (tablesOf x));
+        lengths = same-lengths refl refl refl;
+        kept = λ _. refl;
+        settles = λ e. let z : ⊥ = omega arith in absurd z;
+      })
 
 -- a step that is the definition's answer
 pub answered-at : {bytes : Bytes} {x x′ : Buffers} {r : Record} {reply : ℕ} {next : Engine} {j : Judged} → fit x ≡ true
     → request (tablesOf x) bytes ≡ record { reply = reply; tables = granted reply next (tablesOf x) }
-    → r ≡ decode bytes → Step (tablesOf x) (tablesOf x′) reply (placeOf (tablesOf x) r reply) next x x′ j → SameLengths x x′ → Requested bytes x x′ j
+    → r ≡ decode bytes → Step (tablesOf x) (tablesOf x′) reply (placeOf (tablesOf x) r reply) next x x′ j → (numberOf (j .reply) ≡ 0 → soundOf (x′ .orders) ≡ true)
+    → SameLengths x x′ → Requested bytes x x′ j
 unfolding requestAnswer placeTo
-answered-at {bytes} {x} {x′} {r} {reply} {next} {j} f e is d l =
+answered-at {bytes} {x} {x′} {r} {reply} {next} {j} f e is d w l =
     let t : request (tablesOf x) bytes .tables ≡ granted reply next (tablesOf x) = ap (λ (y : Answer Engine). y .tables) e in
     record {
       replies = d .replies ∙ rw f (sym (ap (λ (y : Answer Engine). y .reply) e));
@@ -92,12 +102,18 @@ answered-at {bytes} {x} {x′} {r} {reply} {next} {j} f e is d l =
       tables = rw f (subst (λ (t : Engine). SameTables (tablesOf x′) t) (sym t) (d .tables));
       lengths = l;
       kept = d .kept;
+      settles = w;
     }
 
 pub answered : {bytes : Bytes} {x x′ : Buffers} {r : Record} {reply : ℕ} {next : Engine} {j : Judged} → unfit x ≡ false
     → request (tablesOf x) bytes ≡ record { reply = reply; tables = granted reply next (tablesOf x) }
-    → r ≡ decode bytes → Step (tablesOf x) (tablesOf x′) reply (placeOf (tablesOf x) r reply) next x x′ j → SameLengths x x′ → Requested bytes x x′ j
+    → r ≡ decode bytes → Step (tablesOf x) (tablesOf x′) reply (placeOf (tablesOf x) r reply) next x x′ j → (numberOf (j .reply) ≡ 0 → soundOf (x′ .orders) ≡ true)
+    → SameLengths x x′ → Requested bytes x x′ j
 answered {bytes} {x} h = answered-at (fits x h)
+
+-- a refusal of the form
+pub not-granted : {r : Reply} {j : Judged} {b : Bool} {A : Type 0} → j ≡ record { reply = r; place = 0 } → b ≡ eqb (numberOf r) 0 → not b ≡ true → numberOf (j .reply) ≡ 0 → A
+not-granted {r} {j} {b} is a n z = absurd (not-zero r a (not-true b n) (sym (ap (λ (y : Judged). numberOf (y .reply)) is) ∙ z))
 
 pub fitting : (x : Buffers) → Settling x → fit x ≡ true
 fitting x h = rw (eq-eqb _ _ (h .0), eq-eqb _ _ (h .1 .0), eq-eqb _ _ (h .1 .1 .0))
@@ -107,7 +123,15 @@ pub no-load : (bytes : Bytes) (x : Buffers) → unfit x ≡ true → LoadDone by
 unfolding loadAnswer
 no-load bytes x h =
     let f = fits-not x h in
-    record { replies = rw f; places = rw f; tables = rw f; lengths = same-lengths refl refl refl; room = λ _. refl; zeros = λ e. absurd (true≢false (sym e ∙ f)) }
+    record {
+      replies = rw f;
+      places = rw f;
+      tables = rw f;
+      lengths = same-lengths refl refl refl;
+      room = λ _. refl;
+      zeros = λ e. absurd (true≢false (sym e ∙ f));
+      settles = λ e. absurd (true≢false (sym e ∙ f));
+    }
 
 -- the orders are emptied, and the lower part is loaded
 pub loaded : {bytes : Bytes} {p s o p′ s′ o′ : List ℕ} {r : Reply} {place : ℕ} → unfit (buffers p s o) ≡ false → Cleared o′ → Loads bytes p s p′ s′ r place
@@ -125,6 +149,7 @@ loaded {bytes} {p} {s} {o} {p′} {s′} {o′} {r} {place} h c d l =
       lengths = l;
       room = λ n. absurd (true≢false (sym f ∙ n));
       zeros = λ _ n. record { policy = λ i. d .zeros g n i .0; sessions = λ i. d .zeros g n i .1; orders = c .zeros };
+      settles = λ _. c .sound;
     }
 
 -- ---- The same, as one number.
@@ -136,8 +161,16 @@ load-exported d e =
       lengths = d .lengths;
       room = d .room;
       zeros = λ f n. d .zeros f (λ z. n (sym (d .replies) ∙ z));
+      settles = d .settles;
     }
 
 pub request-exported : {bytes : Bytes} {x x′ : Buffers} {j : Judged} {number : ℕ} → Requested bytes x x′ j → number ≡ numberOf (j .reply)
     → RequestExported bytes x x′ (number + 256 * j .place)
-request-exported d e = record { answers = rw (e, d .replies, d .places); tables = d .tables; lengths = d .lengths; kept = λ n. d .kept (λ z. n (sym (d .replies) ∙ z)) }
+request-exported d e =
+    record {
+      answers = rw (e, d .replies, d .places);
+      tables = d .tables;
+      lengths = d .lengths;
+      kept = λ n. d .kept (λ z. n (sym (d .replies) ∙ z));
+      settles = λ z. d .settles (d .replies ∙ z);
+    }

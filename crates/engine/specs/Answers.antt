@@ -11,6 +11,7 @@ use Rattle.paper_upper.specs.Engine.{request, placeTo, engineOf}
 use Rattle.replies.specs.Replies.{numberOf}
 use Rattle.replies.specs.declared.Reply.{Reply}
 use Rattle.rules.specs.declared.Judged.{Judged}
+use Rattle.links.specs.Chains.{soundOf}
 use Rattle.engine.specs.Buffers.{Buffers, tablesOf, fit, SameLengths}
 
 -- A call's answer: its reply, a place and the tables.
@@ -35,6 +36,8 @@ pub record Requested (bytes : Bytes) (x x′ : Buffers) (j : Judged) : Type 0 wh
   pub lengths : SameLengths x x′
   -- "Refused requests change no byte of the state."
   pub kept : (numberOf (j .reply) ≡ 0 → ⊥) → x′ ≡ x
+  -- a granted one leaves sound links, whatever was there before
+  pub settles : numberOf (j .reply) ≡ 0 → soundOf (x′ .orders) ≡ true
 
 -- ---- The load.
 
@@ -58,3 +61,5 @@ pub record LoadDone (bytes : Bytes) (x x′ : Buffers) (r : Reply) (place : ℕ)
   pub lengths : SameLengths x x′
   pub room : fit x ≡ false → x′ ≡ x
   pub zeros : fit x ≡ true → (numberOf r ≡ 0 → ⊥) → Zeros x′
+  -- the links are sound, whether it was accepted or not
+  pub settles : fit x ≡ true → soundOf (x′ .orders) ≡ true

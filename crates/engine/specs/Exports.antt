@@ -8,7 +8,7 @@ use Rattle.paper_upper.specs.Orders.{SameTables}
 use Rattle.paper_upper.specs.Questions.{answerWords}
 use Rattle.policy.specs.Layout.{policyWords}
 use Rattle.sessions.specs.Reading.{sessionsWords}
-use Rattle.links.specs.Chains.{ordersWords}
+use Rattle.links.specs.Chains.{ordersWords, soundOf}
 use Rattle.lower.specs.Exports.{inOne}
 use Rattle.engine.specs.Buffers.{Buffers, tablesOf, fit, SameLengths}
 use Rattle.engine.specs.Answers.{requestAnswer, loadAnswer, Zeros}
@@ -19,12 +19,14 @@ pub record LoadExported (bytes : Bytes) (x x′ : Buffers) (number : ℕ) : Type
   pub lengths : SameLengths x x′
   pub room : fit x ≡ false → x′ ≡ x
   pub zeros : fit x ≡ true → (loadAnswer bytes x .reply ≡ 0 → ⊥) → Zeros x′
+  pub settles : fit x ≡ true → soundOf (x′ .orders) ≡ true
 
 pub record RequestExported (bytes : Bytes) (x x′ : Buffers) (number : ℕ) : Type 0 where
   pub answers : number ≡ requestAnswer bytes x .reply + 256 * requestAnswer bytes x .place
   pub tables : SameTables (tablesOf x′) (requestAnswer bytes x .tables)
   pub lengths : SameLengths x x′
   pub kept : (requestAnswer bytes x .reply ≡ 0 → ⊥) → x′ ≡ x
+  pub settles : requestAnswer bytes x .reply ≡ 0 → soundOf (x′ .orders) ≡ true
 
 -- the scratch of the reader of OPL/XML, which has seven tables of names: a word each, and three for every name that it may hold; two words for each record that
 -- it may keep; and the list of tags: a word, and one for each that it may hold

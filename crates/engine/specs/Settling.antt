@@ -1,5 +1,5 @@
--- What those promise who own their buffers: to make the links sound once, and then to be asked without another look at them.
-use Prim.Native.Nat.{ℕ}
+-- For those who own their buffers: the links are made sound once, and then requests are made without another look at them.
+use Prim.Native.Nat.{ℕ, _+_, _*_, _≤_}
 use mathlib.Core.Bool.{true, false, cond}
 use mathlib.Core.Path.{_≡_}
 use lib.ListN.{length}
@@ -14,7 +14,6 @@ use Rattle.links.specs.Chains.{soundOf}
 use Rattle.entries.specs.Acts.{Ready}
 use Rattle.engine.specs.Buffers.{Buffers, tablesOf, fit, SameLengths}
 use Rattle.engine.specs.Answers.{Requested}
-use Rattle.engine.specs.Exports.{RequestExported}
 
 -- each buffer has its length, and the links are sound
 abbrev pub Settling : Buffers → Type 0
@@ -32,9 +31,15 @@ pub record SettledAs (x x′ : Buffers) (reply : ℕ) : Type 0 where
 abbrev pub Settled : Buffers → Buffers → Reply → Type 0
 Settled x x′ r = SettledAs x x′ (numberOf r)
 
--- a request's promise, and sound links again
-abbrev pub SettledRequest : Bytes → Buffers → Buffers → Judged → Type 0
-SettledRequest bytes x x′ j = Requested bytes x x′ j × Settling x′
+-- ---- A request without a look at the links, of any content: ROOM and nothing written where a length is wrong; a place of at most 64; no word changed where it
+-- refuses; and on sound links all that a request promises, and sound links again.
+pub record SettledRequest (bytes : Bytes) (x x′ : Buffers) (j : Judged) : Type 0 where
+  pub lengths : SameLengths x x′
+  pub room : fit x ≡ false → (numberOf (j .reply) ≡ ROOM) × ((j .place ≡ 0) × (x′ ≡ x))
+  pub small : j .place ≤ 64
+  pub kept : (numberOf (j .reply) ≡ 0 → ⊥) → x′ ≡ x
+  pub sound : soundOf (x .orders) ≡ true → Requested bytes x x′ j × (soundOf (x′ .orders) ≡ true)
 
+-- the same as one number, the reply + 256 times the place
 abbrev pub SettledExported : Bytes → Buffers → Buffers → ℕ → Type 0
-SettledExported bytes x x′ number = RequestExported bytes x x′ number × Settling x′
+SettledExported bytes x x′ number = (j : Judged) × (number ≡ numberOf (j .reply) + 256 * j .place) × SettledRequest bytes x x′ j

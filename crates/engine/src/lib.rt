@@ -7,11 +7,10 @@ ghost use Rattle.records.specs.Limits.{Limits};
 ghost use Rattle.policy.specs.Layout.{policyWords};
 ghost use Rattle.sessions.specs.Reading.{sessionsWords};
 ghost use Rattle.links.specs.Chains.{ordersWords, soundOf};
-ghost use Rattle.entries.specs.Acts.{Ready};
 ghost use Rattle.engine.specs.Buffers.{buffers, noEngine, tablesOf};
-ghost use Rattle.engine.specs.Step.{StepOf, SoundStep};
+ghost use Rattle.engine.specs.Step.{AnyStep, SettlingStep};
 ghost use Rattle.engine.specs.Answers.{Requested, LoadDone};
-ghost use Rattle.engine.specs.Settling.{Settling, Settled, SettledAs, SettledRequest};
+ghost use Rattle.engine.specs.Settling.{Settled, SettledAs, SettledRequest};
 ghost use Rattle.engine.specs.Exports.{LoadExported, RequestExported, wordsOf};
 use links::ORDERS_WORDS;
 use loading::Loaded;
@@ -23,10 +22,10 @@ use rules::Judged;
 use rules::plain;
 use sessions::SESSIONS_WORDS;
 
-// A request that SHAPE and RANGE let pass: the upper part's kinds here, all others by the lower part. A claim alone has a place.
+// A request that SHAPE and RANGE let pass, without a look at the links: the upper part's kinds here, all others by the lower part. A claim alone has a place.
 fn step(r: Record, p: &mut [u64], s: &mut [u64], o: &mut [u64]) -> Judged
-    requires { ⌜ ((length (now p) ≡ policyWords) × ((length (now s) ≡ sessionsWords) × Ready (now o))) × Limits requestForms r ⌝ }
-    ensures { λ x. ⌜ SoundStep r (buffers (now (p .entry)) (now (s .entry)) (now (o .entry))) (buffers (now (p .exit)) (now (s .exit)) (now (o .exit))) x ⌝ }
+    requires { ⌜ ((length (now p) ≡ policyWords) × ((length (now s) ≡ sessionsWords) × (length (now o) ≡ ordersWords))) × Limits requestForms r ⌝ }
+    ensures { λ x. ⌜ AnyStep r (buffers (now (p .entry)) (now (s .entry)) (now (o .entry))) (buffers (now (p .exit)) (now (s .exit)) (now (o .exit))) x ⌝ }
 {
     let kind = r.kind;
     match kind {
@@ -47,7 +46,7 @@ fn step(r: Record, p: &mut [u64], s: &mut [u64], o: &mut [u64]) -> Judged
 // The same on links that are not sound, which reads as the empty engine: it grants only that a user without roles is added.
 fn as_empty(r: Record, p: &mut [u64], s: &mut [u64], o: &mut [u64]) -> Judged
     requires { ⌜ ((length (now p) ≡ policyWords) × ((length (now s) ≡ sessionsWords) × (length (now o) ≡ ordersWords))) × (Limits requestForms r × (soundOf (now o) ≡ false)) ⌝ }
-    ensures { λ x. ⌜ StepOf noEngine (tablesOf (buffers (now (p .exit)) (now (s .exit)) (now (o .exit)))) r (buffers (now (p .entry)) (now (s .entry)) (now (o .entry))) (buffers (now (p .exit)) (now (s .exit)) (now (o .exit))) x ⌝ }
+    ensures { λ x. ⌜ SettlingStep noEngine r (buffers (now (p .entry)) (now (s .entry)) (now (o .entry))) (buffers (now (p .exit)) (now (s .exit)) (now (o .exit))) x ⌝ }
 {
     if (r.kind != 32) | (r.m != 0) {
         return plain(Reply::Unknown);
@@ -61,7 +60,7 @@ fn as_empty(r: Record, p: &mut [u64], s: &mut [u64], o: &mut [u64]) -> Judged
 // And on any content.
 fn act(r: Record, p: &mut [u64], s: &mut [u64], o: &mut [u64]) -> Judged
     requires { ⌜ ((length (now p) ≡ policyWords) × ((length (now s) ≡ sessionsWords) × (length (now o) ≡ ordersWords))) × Limits requestForms r ⌝ }
-    ensures { λ x. ⌜ StepOf (tablesOf (buffers (now (p .entry)) (now (s .entry)) (now (o .entry)))) (tablesOf (buffers (now (p .exit)) (now (s .exit)) (now (o .exit)))) r (buffers (now (p .entry)) (now (s .entry)) (now (o .entry))) (buffers (now (p .exit)) (now (s .exit)) (now (o .exit))) x ⌝ }
+    ensures { λ x. ⌜ SettlingStep (tablesOf (buffers (now (p .entry)) (now (s .entry)) (now (o .entry)))) r (buffers (now (p .entry)) (now (s .entry)) (now (o .entry))) (buffers (now (p .exit)) (now (s .exit)) (now (o .exit))) x ⌝ }
 {
     if !links::is_sound(o) {
         return as_empty(r, p, s, o);
@@ -105,16 +104,22 @@ pub fn settle(policy: &mut [u64], sessions: &mut [u64], orders: &mut [u64]) -> R
     Reply::Granted
 }
 
-// And then any bytes as a request, without another look at the links.
+// And then any bytes as a request, without another look at the links: of links that are not sound it promises no more than that it keeps to the buffers, and that a
+// refusal changes no word.
 pub fn settled_request(
     bytes: &[u8],
     policy: &mut [u64],
     sessions: &mut [u64],
     orders: &mut [u64],
 ) -> Judged
-    requires { ⌜ Settling (buffers (now policy) (now sessions) (now orders)) ⌝ }
     ensures { λ r. ⌜ SettledRequest (now (bytes .entry)) (buffers (now (policy .entry)) (now (sessions .entry)) (now (orders .entry))) (buffers (now (policy .exit)) (now (sessions .exit)) (now (orders .exit))) r ⌝ }
 {
+    if (policy.len() != POLICY_WORDS)
+        | (sessions.len() != SESSIONS_WORDS)
+        | (orders.len() != ORDERS_WORDS)
+    {
+        return plain(Reply::Room);
+    }
     let r = records::judge(Call::Request, bytes);
     if !replies::accepted(r) {
         return plain(r);

@@ -39,12 +39,18 @@ unfolding keep
 keep-own i [] h = refl
 keep-own i (e ∷ es) h = rw (h .0) (ap (_∷_ e) (keep-own i es (h .1)))
 
+-- the kept set is that of all entries' done tasks of the instance
+pub done-own : (l : List ℕ) → Whole l → (i : ℕ) → i < 64 → doneWord l i ≡ tasksDone i (ordersOf l .entries)
+unfolding ordersOf
+done-own l s i h =
+    s .dones i h ∙ sym (own-alone (tasksDone i) i (done-skip i) (done-goes i) (entriesIn l) 64 h (λ j less d. entries-other l (s .woven) i j less d))
+
 pub kept-figures : (l : List ℕ) → Whole l → (i : ℕ) → i < 64 → _≡_ {A = Figures} (record { entries = countOf (chainWord l i); done = setOf (doneWord l i) }) (kept (figuresOf i (ordersOf l .entries)))
 unfolding figuresOf ordersOf
 kept-figures l s i h =
     let others : (j : ℕ) → j < 64 → (j ≡ i → ⊥) → Every (λ e. inOrder i e ≡ false) (entriesIn l j) = λ j less d. entries-other l (s .woven) i j less d in
     let number = sym (ap many (own-alone (keep (inOrder i)) i (keep-skip i) (keep-goes i) (entriesIn l) 64 h others ∙ keep-own i (entriesIn l i) (entries-own l (s .woven) i h)) ∙ many-own l i) in
-    let tasks = s .dones i h ∙ sym (own-alone (tasksDone i) i (done-skip i) (done-goes i) (entriesIn l) 64 h others) in
+    let tasks = done-own l s i h in
     λ x. record { entries = number x; done = setOf (tasks x) }
 
 many-entries : (l : List ℕ) → many (ordersOf l .entries) ≡ sumTo (λ i. countOf (chainWord l i)) 64

@@ -1,9 +1,9 @@
 pub mod WordLaws
 pub mod OwnLaws
+pub mod FigureLaws
 pub mod GatherLaws
 pub mod FlatLaws
 pub mod SearchLaws
-pub mod FigureLaws
 pub mod ActLaws
 pub mod ZeroLaws
 pub mod TableLaws

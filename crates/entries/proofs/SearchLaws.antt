@@ -49,8 +49,12 @@ module _ (i : ℕ) (p : Entry → Bool) (other : (e : Entry) → inOrder i e ≡
   unfolding ordersOf
   own-some l s h = sym (own-alone (some p) i some-skip some-goes (entriesIn l) 64 h (λ j less d. entries-other l s i j less d))
 
+-- an instance's entries are the only ones that are asked whether a subject holds its task
+pub held-own : (l : List ℕ) → Woven l → (i t a : ℕ) → i < 64 → some (heldBy i t a) (entriesIn l i) ≡ some (heldBy i t a) (ordersOf l .entries)
+held-own l s i t a hi = own-some i (heldBy i t a) (held-other i t a) l s hi
+
 pub task-held : (l : List ℕ) → Woven l → (i t a : ℕ) → i < 64 → t < 64 → anyIn l i 1048575 (keyOf i t a) ≡ some (heldBy i t a) (ordersOf l .entries)
-task-held l s i t a hi ht = any-entries l s i 1048575 (keyOf i t a) (heldBy i t a) hi (λ w. fits-holding w i t a hi ht) ∙ own-some i (heldBy i t a) (held-other i t a) l s hi
+task-held l s i t a hi ht = any-entries l s i 1048575 (keyOf i t a) (heldBy i t a) hi (λ w. fits-holding w i t a hi ht) ∙ held-own l s i t a hi
 
 any-other : (i : ℕ) (e : Entry) → inOrder i e ≡ false → (inOrder i e && isHeld (e .standing)) ≡ false
 any-other i e h = rw h

@@ -1,10 +1,10 @@
 -- The orders after each act on the ledger, in 01's words; and what an act leaves of the buffer.
 use Prim.Native.Nat.{ℕ, _<_}
-use mathlib.Core.Bool.{true, not}
+use mathlib.Core.Bool.{Bool, true, false, not}
 use mathlib.Core.List.{List, _∷_}
 use mathlib.Core.Path.{_≡_}
 use lib.ListN.{length}
-use Rattle.paper_lower.specs.Lists.{keep, each}
+use Rattle.paper_lower.specs.Lists.{there, keep, each}
 use Rattle.paper_lower.specs.Lists.Maybe.{none}
 use Rattle.paper_upper.specs.Orders.{entry, Orders, Same, inOrder, heldBy}
 use Rattle.paper_upper.specs.Orders.Standing.{held}
@@ -16,7 +16,7 @@ use Rattle.entries.specs.Reading.{ordersOf, withInstance, withLedger}
 abbrev pub InLimits : ℕ → ℕ → ℕ → Type 0
 InLimits i t a = (i < 64) × ((t < 64) × (a < 128))
 
--- a buffer that may be asked and acted on
+-- a buffer of the right length with sound links
 abbrev pub Ready : List ℕ → Type 0
 Ready l = (length l ≡ ordersWords) × (soundOf l ≡ true)
 
@@ -48,3 +48,10 @@ pub record Enters (next : Orders) (l : List ℕ) : Type 0 where
   pub sound : soundOf l ≡ true
   pub opened : ordersOf l .opened ≡ next .opened
   pub entries : Same (ordersOf l .entries) (next .entries)
+
+-- an act that looks first whether there is something to do, on any content: the length stays, and where there was nothing to do every word; on sound links of an open
+-- instance r says whether there was, and these are the tables afterwards
+pub record Tried (i : ℕ) (found : Bool) (next : Orders) (l l′ : List ℕ) (r : Bool) : Type 0 where
+  pub room : length l′ ≡ length l
+  pub kept : r ≡ false → l′ ≡ l
+  pub sound : soundOf l ≡ true → there (ordersOf l .opened i) ≡ true → (r ≡ found) × Acts next l′

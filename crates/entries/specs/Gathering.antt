@@ -28,12 +28,12 @@ gatheredOf i u t es =
       held = digit (some (λ e. ofTask i t e && isHeld (e .standing)) es);
     }
 
--- one entry more of the instance: its user, its task, and whether it is done
+-- one entry more of the instance: its user, its task, and whether it is done; the set of done tasks is known
 unfoldable pub takenIn : ℕ → ℕ → ℕ → ℕ → Bool → Gathered → Gathered
 takenIn u t user task finished g =
     record {
       mine = setOf (cond (eqb user u) (plus (g .mine .bits) task) (g .mine .bits));
-      done = setOf (cond finished (plus (g .done .bits) task) (g .done .bits));
+      done = g .done;
       others = setOf (cond (not (eqb user u)) (plus (g .others .bits) task) (g .others .bits));
       times = cond (eqb task t) (g .times + 1) (g .times);
       held = cond (eqb task t && not finished) 1 (g .held);

@@ -1,5 +1,6 @@
 // The ledger: the instances and the entries of all of them, over the linked words of the orders buffer (links).
-// Each function equals what paper_upper defines over the tables that a sound buffer reads as (specs/Reading).
+// Each function equals what paper_upper defines over the tables that a sound buffer reads as (specs/Reading). None asks for sound links: of any content of the right
+// length each ends and keeps to the buffer, and that promise is made under the condition that the links are sound.
 ghost use mathlib.Core.Path.{_≡_};
 ghost use Prim.Native.Nat.{_+_, _/_, _%_, _<_, _≤_};
 ghost use lib.ListN.{length};
@@ -10,9 +11,9 @@ ghost use Rattle.paper_lower.specs.Lists.{there, some, many};
 ghost use Rattle.paper_lower.specs.Lists.Maybe.{just};
 ghost use Rattle.paper_upper.specs.Orders.{isHeld, isHeldBy, inOrder, heldBy};
 ghost use Rattle.paper_upper.specs.Questions.{figuresOf};
-ghost use Rattle.links.specs.Chains.{ordersWords, markOf};
+ghost use Rattle.links.specs.Chains.{ordersWords, markOf, soundOf};
 ghost use Rattle.entries.specs.Reading.{Cleared, ordersOf, withInstance, openedOf, inOpenOrder, keyOf, fits, anyIn, anyUpTo};
-ghost use Rattle.entries.specs.Acts.{InLimits, Ready, afterEnter, afterRelease, afterFinish, afterEnd, Acts, Enters};
+ghost use Rattle.entries.specs.Acts.{InLimits, afterEnter, afterRelease, afterFinish, afterEnd, Acts, Enters, Tried};
 ghost use Rattle.entries.specs.Gathering.{gatheredOf, takenIn, kept};
 use links::FREE;
 use links::ORDERS_WORDS;
@@ -44,20 +45,20 @@ pub fn opened(o: &[u64], i: u64) -> Instance
 }
 
 pub fn set_opened(o: &mut [u64], i: u64, j: u64)
-    requires { ⌜ Ready (now o) × ((there (ordersOf (now o) .opened i) ≡ false) × ((i < 64) × (j < 16))) ⌝ }
-    ensures { λ _. ⌜ Acts (withInstance (ordersOf (now (o .entry))) i (just j)) (now (o .exit)) ⌝ }
+    requires { ⌜ (length (now o) ≡ ordersWords) × ((i < 64) × (j < 16)) ⌝ }
+    ensures { λ _. ⌜ (length (now (o .exit)) ≡ length (now (o .entry))) × (soundOf (now (o .entry)) ≡ true → there (ordersOf (now (o .entry)) .opened i) ≡ false → Acts (withInstance (ordersOf (now (o .entry))) i (just j)) (now (o .exit))) ⌝ }
 {
     links::open_chain(o, i, j);
 }
 
 // How many entries there are.
 pub fn in_use(o: &[u64]) -> usize
-    requires { ⌜ Ready (now o) ⌝ }
-    ensures { λ r. ⌜ (r ≡ many (ordersOf (now (o .entry)) .entries)) × (r ≤ 2048) ⌝ }
+    requires { ⌜ length (now o) ≡ ordersWords ⌝ }
+    ensures { λ r. ⌜ (soundOf (now (o .entry)) ≡ true → r ≡ many (ordersOf (now (o .entry)) .entries)) ⌝ }
 {
     let free = links::chain(o, FREE);
     let m = links::mark(o);
-    (m - free / 4096 % 4096) as usize
+    ((m + 4096 - free / 4096 % 4096) % 4096) as usize
 }
 
 // ---- What a claim asks.
@@ -95,7 +96,7 @@ fn with_if(c: bool, tasks: Set, t: u64) -> Set
     }
 }
 
-// One entry more of the instance, without a branch.
+// One entry more of the instance, without a branch. The done tasks are the kept ones.
 fn take_in(g: Gathered, w: u64, u: u64, t: u64) -> Gathered
     requires { ⌜ g .times < 4096 ⌝ }
     ensures { λ r. ⌜ r ≡ takenIn u t (w / 1048576 % 1024) (w / 128 % 64) (eqb (w / 64 % 2) 1) g ⌝ }
@@ -105,7 +106,7 @@ fn take_in(g: Gathered, w: u64, u: u64, t: u64) -> Gathered
     let this = task == t;
     let finished = w / 64 % 2 == 1;
     let mine = with_if(own, g.mine, task);
-    let done = with_if(finished, g.done, task);
+    let done = g.done;
     let others = with_if(!own, g.others, task);
     let times = more_if(this, g.times);
     let held = pick(this & !finished, 1, g.held);
@@ -118,23 +119,24 @@ fn take_in(g: Gathered, w: u64, u: u64, t: u64) -> Gathered
     }
 }
 
-// What a claim of task t by user u in instance i asks of the entries: a walk over those of the instance.
+// What a claim of task t by user u in instance i asks of the entries: a walk over those of the instance, and its kept set of done tasks.
 pub fn gather(o: &[u64], i: u64, u: u64, t: u64) -> Gathered
-    requires { ⌜ Ready (now o) × (i < 64) ⌝ }
-    ensures { λ r. ⌜ r ≡ gatheredOf i u t (ordersOf (now (o .entry)) .entries) ⌝ }
+    requires { ⌜ (length (now o) ≡ ordersWords) × (i < 64) ⌝ }
+    ensures { λ r. ⌜ (soundOf (now (o .entry)) ≡ true → r ≡ gatheredOf i u t (ordersOf (now (o .entry)) .entries)) ⌝ }
 {
     let x = links::chain(o, i);
+    let done = links::done(o, i);
     let mut h = x % 4096;
     let mut n = x / 4096 % 4096;
     let mut g = Gathered {
         mine: Set::EMPTY,
-        done: Set::EMPTY,
+        done: set_of(done),
         others: Set::EMPTY,
         times: 0,
         held: 0,
     };
     while 0 < n {
-        let w = links::word(o, h);
+        let w = links::linked(o, h);
         g = take_in(g, w, u, t);
         h = w / 4294967296 % 4096;
         n -= 1;
@@ -146,15 +148,15 @@ pub fn gather(o: &[u64], i: u64, u: u64, t: u64) -> Gathered
 
 // Whether the word of some entry of instance i, cut by the mask, is the key.
 fn any_in(o: &[u64], i: u64, mask: u64, key: u64) -> bool
-    requires { ⌜ Ready (now o) × (i < 64) ⌝ }
-    ensures { λ r. ⌜ r ≡ anyIn (now (o .entry)) i mask key ⌝ }
+    requires { ⌜ (length (now o) ≡ ordersWords) × (i < 64) ⌝ }
+    ensures { λ r. ⌜ (soundOf (now (o .entry)) ≡ true → r ≡ anyIn (now (o .entry)) i mask key) ⌝ }
 {
     let x = links::chain(o, i);
     let mut h = x % 4096;
     let mut n = x / 4096 % 4096;
     let mut found = false;
     while 0 < n {
-        let w = links::word(o, h);
+        let w = links::linked(o, h);
         found = (w & mask == key) | found;
         h = w / 4294967296 % 4096;
         n -= 1;
@@ -179,8 +181,8 @@ fn one_more(hit: bool, n: u32) -> u32
 
 // Whether that of some entry up to the mark is: side by side, without a look at the links.
 fn any(o: &[u64], mask: u32, key: u32) -> bool
-    requires { ⌜ Ready (now o) ⌝ }
-    ensures { λ r. ⌜ r ≡ anyUpTo (now (o .entry)) (markOf (now (o .entry))) mask key ⌝ }
+    requires { ⌜ length (now o) ≡ ordersWords ⌝ }
+    ensures { λ r. ⌜ (soundOf (now (o .entry)) ≡ true → r ≡ anyUpTo (now (o .entry)) (markOf (now (o .entry))) mask key) ⌝ }
 {
     let m = links::mark(o);
     let mut k = 0;
@@ -203,32 +205,32 @@ fn key_of(i: u64, t: u64, a: u64) -> u64
 }
 
 pub fn holds_task(o: &[u64], i: u64, t: u64, a: u64) -> bool
-    requires { ⌜ Ready (now o) × InLimits i t a ⌝ }
-    ensures { λ r. ⌜ r ≡ some (heldBy i t a) (ordersOf (now (o .entry)) .entries) ⌝ }
+    requires { ⌜ (length (now o) ≡ ordersWords) × InLimits i t a ⌝ }
+    ensures { λ r. ⌜ (soundOf (now (o .entry)) ≡ true → r ≡ some (heldBy i t a) (ordersOf (now (o .entry)) .entries)) ⌝ }
 {
     let key = key_of(i, t, a);
     any_in(o, i, HELD_BY, key)
 }
 
 pub fn order_held(o: &[u64], i: u64) -> bool
-    requires { ⌜ Ready (now o) × (i < 64) ⌝ }
-    ensures { λ r. ⌜ r ≡ some (λ e. inOrder i e && isHeld (e .standing)) (ordersOf (now (o .entry)) .entries) ⌝ }
+    requires { ⌜ (length (now o) ≡ ordersWords) × (i < 64) ⌝ }
+    ensures { λ r. ⌜ (soundOf (now (o .entry)) ≡ true → r ≡ some (λ e. inOrder i e && isHeld (e .standing)) (ordersOf (now (o .entry)) .entries)) ⌝ }
 {
     any_in(o, i, ORDER_HELD, i)
 }
 
 // Whether the subject holds any task, of whatever instance.
 pub fn holds_any(o: &[u64], a: u64) -> bool
-    requires { ⌜ Ready (now o) × (a < 128) ⌝ }
-    ensures { λ r. ⌜ r ≡ some (λ e. isHeldBy a (e .standing)) (ordersOf (now (o .entry)) .entries) ⌝ }
+    requires { ⌜ (length (now o) ≡ ordersWords) × (a < 128) ⌝ }
+    ensures { λ r. ⌜ (soundOf (now (o .entry)) ≡ true → r ≡ some (λ e. isHeldBy a (e .standing)) (ordersOf (now (o .entry)) .entries)) ⌝ }
 {
     any(o, HOLDER, (8192 * a) as u32)
 }
 
 // Whether the user has an entry in an open instance: no other has any.
 pub fn in_open_order(o: &[u64], u: u64) -> bool
-    requires { ⌜ Ready (now o) × (u < 1024) ⌝ }
-    ensures { λ r. ⌜ r ≡ some (inOpenOrder (ordersOf (now (o .entry))) u) (ordersOf (now (o .entry)) .entries) ⌝ }
+    requires { ⌜ (length (now o) ≡ ordersWords) × (u < 1024) ⌝ }
+    ensures { λ r. ⌜ (soundOf (now (o .entry)) ≡ true → r ≡ some (inOpenOrder (ordersOf (now (o .entry))) u) (ordersOf (now (o .entry)) .entries)) ⌝ }
 {
     any(o, USER, (1048576 * u) as u32)
 }
@@ -242,8 +244,8 @@ pub struct Figures {
 
 // How many entries instance i has, and which of its tasks are done.
 pub fn figures_of(o: &[u64], i: u64) -> Figures
-    requires { ⌜ Ready (now o) × (i < 64) ⌝ }
-    ensures { λ r. ⌜ r ≡ kept (figuresOf i (ordersOf (now (o .entry)) .entries)) ⌝ }
+    requires { ⌜ (length (now o) ≡ ordersWords) × (i < 64) ⌝ }
+    ensures { λ r. ⌜ (soundOf (now (o .entry)) ≡ true → r ≡ kept (figuresOf i (ordersOf (now (o .entry)) .entries))) ⌝ }
 {
     let x = links::chain(o, i);
     let d = links::done(o, i);
@@ -257,30 +259,32 @@ pub fn figures_of(o: &[u64], i: u64) -> Figures
 
 // Subject a, of user u, takes task t of instance i.
 pub fn enter(o: &mut [u64], i: u64, u: u64, t: u64, a: u64)
-    requires { ⌜ Ready (now o) × ((there (ordersOf (now o) .opened i) ≡ true) × ((many (ordersOf (now o) .entries) < 2048) × ((u < 1024) × InLimits i t a))) ⌝ }
-    ensures { λ _. ⌜ Enters (afterEnter (ordersOf (now (o .entry))) i u t a) (now (o .exit)) ⌝ }
+    requires { ⌜ (length (now o) ≡ ordersWords) × ((u < 1024) × InLimits i t a) ⌝ }
+    ensures { λ _. ⌜ (length (now (o .exit)) ≡ length (now (o .entry))) × (soundOf (now (o .entry)) ≡ true → there (ordersOf (now (o .entry)) .opened i) ≡ true → many (ordersOf (now (o .entry)) .entries) < 2048 → Enters (afterEnter (ordersOf (now (o .entry))) i u t a) (now (o .exit))) ⌝ }
 {
     links::enter(o, i, u, t, a);
 }
 
-pub fn release(o: &mut [u64], i: u64, t: u64, a: u64)
-    requires { ⌜ Ready (now o) × ((there (ordersOf (now o) .opened i) ≡ true) × InLimits i t a) ⌝ }
-    ensures { λ _. ⌜ Acts (afterRelease (ordersOf (now (o .entry))) i t a) (now (o .exit)) ⌝ }
+// Subject a gives it back; answers whether it held it.
+pub fn release(o: &mut [u64], i: u64, t: u64, a: u64) -> bool
+    requires { ⌜ (length (now o) ≡ ordersWords) × InLimits i t a ⌝ }
+    ensures { λ r. ⌜ Tried i (some (heldBy i t a) (ordersOf (now (o .entry)) .entries)) (afterRelease (ordersOf (now (o .entry))) i t a) (now (o .entry)) (now (o .exit)) r ⌝ }
 {
-    links::release(o, i, t, a);
+    links::release(o, i, t, a)
 }
 
-pub fn finish(o: &mut [u64], i: u64, t: u64, a: u64)
-    requires { ⌜ Ready (now o) × ((there (ordersOf (now o) .opened i) ≡ true) × InLimits i t a) ⌝ }
-    ensures { λ _. ⌜ Acts (afterFinish (ordersOf (now (o .entry))) i t a) (now (o .exit)) ⌝ }
+// It is done; answers whether subject a held it.
+pub fn finish(o: &mut [u64], i: u64, t: u64, a: u64) -> bool
+    requires { ⌜ (length (now o) ≡ ordersWords) × InLimits i t a ⌝ }
+    ensures { λ r. ⌜ Tried i (some (heldBy i t a) (ordersOf (now (o .entry)) .entries)) (afterFinish (ordersOf (now (o .entry))) i t a) (now (o .entry)) (now (o .exit)) r ⌝ }
 {
-    links::finish(o, i, t, a);
+    links::finish(o, i, t, a)
 }
 
 // The instance is closed, and its entries go.
 pub fn end_order(o: &mut [u64], i: u64)
-    requires { ⌜ Ready (now o) × (i < 64) ⌝ }
-    ensures { λ _. ⌜ Acts (afterEnd (ordersOf (now (o .entry))) i) (now (o .exit)) ⌝ }
+    requires { ⌜ (length (now o) ≡ ordersWords) × (i < 64) ⌝ }
+    ensures { λ _. ⌜ (length (now (o .exit)) ≡ length (now (o .entry))) × (soundOf (now (o .entry)) ≡ true → Acts (afterEnd (ordersOf (now (o .entry))) i) (now (o .exit))) ⌝ }
 {
     links::close_chain(o, i);
 }

@@ -9,23 +9,22 @@ use lib.Dec.{eqb, ltb}
 use lib.ListN.{length, getD, set, length-set}
 use lib.Seq.{getD-set-same, getD-set-other}
 use Rattle.paper_lower.specs.Sets.{has, plus, minus}
-use Rattle.paper_lower.specs.Lists.{Maybe, many, add, keep, each}
+use Rattle.paper_lower.specs.Lists.{Maybe, some, many, add, keep, each}
 use Rattle.paper_lower.specs.Lists.Maybe.{none, just}
 use Rattle.paper_upper.specs.Orders.{Entry, entry, isDone, inOrder, heldBy, tasksWhere, tasksDone}
 use Rattle.paper_upper.specs.Orders.Standing.{held}
 use Rattle.paper_upper.specs.Requests.{turned}
 use Rattle.sets.proofs.SetLaws.{has-new, has-other, has-gone, has-kept}
 use Rattle.links.specs.Chains.{ordersWords, markOf, openOf, templateAt, doneWord, headOf, countOf, chainWord, wordAt, walkOver, entriesIn, figures, Fine, soundOf}
-use Rattle.links.specs.Stacks.{payloadsIn, Woven, Pushed, Taken, revOnto, entryFrom, stays, turnedLoad, Still, Sifted, Dropped, Turned, Restored}
+use Rattle.links.specs.Stacks.{payloadsIn, Woven, Pushed, Taken, revOnto, entryFrom, stays, turnedLoad, Sifted, Turned, Emptied}
 use Rattle.links.specs.Acts.{Leaves}
 use Rattle.links.proofs.ReadLaws.{chain-read, chain-closed, chain-as, chain-same, done-read, done-as, done-same, done-closed, template-read, template-as, template-same, template-closed, read-open}
 use Rattle.links.proofs.ChainLaws.{linked-same}
 use Rattle.links.proofs.OnceLaws.{sum-same}
 use Rattle.links.proofs.SoundLaws.{Sound, sound, is-sound}
 use Rattle.links.proofs.StackLaws.{stack-same, relink, payloads-at}
-use Rattle.links.proofs.SameLaws.{same-sym}
-use Rattle.links.proofs.EntryLaws.{entries-stack, entries-bag, entries-same, many-payloads, last-onto, keep-turned, each-turned, twice, keep-read, each-read, held-entry, held-key, held-not-done, turned-read, done-bag, done-add}
-use Rattle.links.proofs.CarryLaws.{none-left}
+use Rattle.links.proofs.EntryLaws.{entries-stack, entries-same, many-payloads, last-onto, keep-turned, each-turned, keep-read, each-read, held-entry, held-key, held-not-done, turned-read, done-add}
+use Rattle.links.proofs.TurnLaws.{done-turned}
 
 -- ---- Soundness in parts.
 pub record Whole (l : List ℕ) : Type 0 where
@@ -155,67 +154,13 @@ module _ (l₀ l₁ l : List ℕ) (k i u t a : ℕ) (room : length l₀ ≡ orde
       leaves i l₀ l s enter-changed (templateAt l₀ i) (add (entriesIn l₀ i) (entry i u t (held a))) (template-same l₀ l i enter-opens (λ h. pushed .beside .templates i h ∙ taken .beside .templates i h)) enter-own
       (done-same l₀ l i enter-opens (pushed .beside .dones i hi ∙ taken .beside .dones i hi) ∙ s .dones i hi ∙ sym (done-add i u t a (entriesIn l₀ i)))
 
--- ---- Put back, with the figure stored: done.
 none-many : many {A = ℕ} [] ≡ 0
 unfolding many
 none-many = refl
 
-module _ (l₀ l₁ l₂ : List ℕ) (i d : ℕ) (room : length l₀ ≡ ordersWords) (s : Whole l₀) (hi : i < 64) (opens : has (openOf l₀) i ≡ true) (first : Still i l₀ l₁) (back : Restored i l₁ l₂ d) where
-  abbrev left : List ℕ
-  left = set l₂ (132 + i) d
-
-  cell : (n : ℕ) → (n ≡ 132 + i → ⊥) → getD left n 0 ≡ getD l₂ n 0
-  cell n h = getD-set-other l₂ (132 + i) n d 0 h
-
-  left-open : openOf left ≡ openOf l₂
-  left-open = cell 1 (λ e. omega arith)
-
-  left-chain : (j : ℕ) → j ≤ 65 → chainWord left j ≡ chainWord l₂ j
-  left-chain j h = chain-same l₂ left j left-open (cell (66 + j) (λ e. omega arith))
-
-  left-word : (h : ℕ) → 0 < h → wordAt left h ≡ wordAt l₂ h
-  left-word h p = cell (195 + h) (λ e. omega arith)
-
-  left-payloads : (j : ℕ) → j ≤ 65 → payloadsIn left j ≡ payloadsIn l₂ j
-  left-payloads = kept-payloads l₂ left (back .still .woven) (cell 0 (λ e. omega arith)) (λ j h. ap headOf (left-chain j h)) (λ j h. ap countOf (left-chain j h)) left-word
-
-  same-open : openOf left ≡ openOf l₀
-  same-open = left-open ∙ back .still .beside .opens ∙ first .beside .opens
-
-  length-kept : length l₂ ≡ ordersWords
-  length-kept = back .still .beside .room ∙ first .beside .room ∙ room
-
-  same-template : (j : ℕ) → j < 64 → getD left (2 + j) 0 ≡ getD l₀ (2 + j) 0
-  same-template j h = cell (2 + j) (λ e. omega arith) ∙ back .still .beside .templates j h ∙ first .beside .templates j h
-
-  back-changed : Changed i l₀ left
-  back-changed =
-      record {
-        room = length-set l₂ (132 + i) d ∙ length-kept;
-        woven = kept-woven l₂ left (back .still .woven) (cell 0 (λ e. omega arith)) (λ j h. ap headOf (left-chain j h)) (λ j h. ap countOf (left-chain j h)) left-word;
-        others = λ j h x. left-payloads j (omega arith) ∙ back .still .others j h x ∙ first .others j h x;
-        reads = λ j x. ap (λ (m : ℕ). has m j) same-open;
-        templates = λ j h x. same-template j h;
-        dones = λ j h x. cell (132 + j) (λ e. x (omega arith)) ∙ back .still .beside .dones j h ∙ first .beside .dones j h;
-        aside = sym (many-payloads left 65) ∙ ap many (left-payloads 65 (omega arith) ∙ back .aside) ∙ none-many;
-      }
-
-  its-entries : entriesIn left i ≡ revOnto (each (entryFrom i) (payloadsIn l₂ i)) []
-  its-entries = entries-stack left (back-changed .woven) i hi ∙ ap (λ (xs : List ℕ). revOnto (each (entryFrom i) xs) []) (left-payloads i (omega arith))
-
-  its-done : doneWord left i ≡ tasksDone i (entriesIn left i)
-  its-done =
-      done-read left i (ap (λ (m : ℕ). has m i) same-open ∙ opens) ∙ getD-set-same l₂ (132 + i) d 0 (let r = length-kept in omega arith) ∙ back .dones
-      ∙ ap (λ (xs : List ℕ). tasksDone i (each (entryFrom i) xs)) (sym (left-payloads i (omega arith))) ∙ done-bag i (same-sym (entries-bag left (back-changed .woven) i hi))
-
-  pub put-back : (es : List Entry) → revOnto (each (entryFrom i) (payloadsIn l₂ i)) [] ≡ es → Leaves i (templateAt l₀ i) es l₀ left
-  put-back es e =
-      leaves i l₀ left s back-changed (templateAt l₀ i) es (template-same l₀ left i same-open (same-template i)) (its-entries ∙ e)
-      (its-done ∙ ap (tasksDone i) (its-entries ∙ e))
-
--- what was set aside and stays there alone is put back as it was
-restored-own : (i d : ℕ) (l₀ l₁ l₂ : List ℕ) (xs : List ℕ) → countOf (chainWord l₀ 65) ≡ 0 → payloadsIn l₁ 65 ≡ revOnto xs (payloadsIn l₀ 65) → Restored i l₁ l₂ d → payloadsIn l₂ i ≡ xs
-restored-own i d l₀ l₁ l₂ xs empty aside back = back .own ∙ ap (λ (ys : List ℕ). revOnto ys []) (aside ∙ ap (revOnto xs) (none-left l₀ 65 empty)) ∙ twice xs
+-- ---- Nothing done.
+pub unchanged : (l : List ℕ) (i : ℕ) (es : List Entry) → length l ≡ ordersWords → soundOf l ≡ true → entriesIn l i ≡ es → Leaves i (templateAt l i) es l l
+unchanged l i es room s e = record { room = room; sound = s; opened = refl; entries = e; others = λ j d. refl; orders = λ j h d. refl }
 
 -- ---- Released: no entry that is held makes a task done.
 done-kept : (i t a : ℕ) (es : List Entry) → tasksDone i es ≡ tasksDone i (keep (λ e. not (heldBy i t a e)) es)
@@ -251,18 +196,68 @@ released l₀ l i t a room s hi ht ha opens sift =
     own =
         entries-stack l (sift .still .woven) i hi
         ∙ ap (λ (xs : List ℕ). revOnto (each (entryFrom i) xs) []) (sift .own)
-        ∙ ap (λ (es : List Entry). revOnto es []) (keep-read (entryFrom i) (stays false (2 * t + 128 * a)) (λ e. not (heldBy i t a e)) (λ p. ap not (sym (held-key i t a p ht ha))) (payloadsIn l₀ i))
+        ∙ ap (λ (es : List Entry). revOnto es []) (keep-read (entryFrom i) (stays (2 * t + 128 * a)) (λ e. not (heldBy i t a e)) (λ p. ap not (sym (held-key i t a p ht ha))) (payloadsIn l₀ i))
         ∙ keep-turned (λ e. not (heldBy i t a e)) (each (entryFrom i) (payloadsIn l₀ i))
         ∙ ap (keep (λ e. not (heldBy i t a e))) (sym (entries-stack l₀ (s .woven) i hi))
 
-pub finished : (l₀ l₁ l₂ : List ℕ) (i t a d : ℕ) → length l₀ ≡ ordersWords → Whole l₀ → i < 64 → t < 64 → a < 128 → has (openOf l₀) i ≡ true → Turned i (2 * t + 128 * a) l₀ l₁ → Restored i l₁ l₂ d
-    → Leaves i (templateAt l₀ i) (each (turned i t a) (entriesIn l₀ i)) l₀ (set l₂ (132 + i) d)
-finished l₀ l₁ l₂ i t a d room s hi ht ha opens turn back =
-    put-back l₀ l₁ l₂ i d room s hi opens (turn .still) back (each (turned i t a) (entriesIn l₀ i))
-    (ap (λ (xs : List ℕ). revOnto (each (entryFrom i) xs) []) (restored-own i d l₀ l₁ l₂ (each (turnedLoad (2 * t + 128 * a)) (payloadsIn l₀ i)) (s .aside) (turn .aside) back)
-    ∙ ap (λ (es : List Entry). revOnto es []) (each-read (entryFrom i) (turnedLoad (2 * t + 128 * a)) (turned i t a) (λ p. turned-read i t a p ht ha) (payloadsIn l₀ i))
-    ∙ each-turned (turned i t a) (each (entryFrom i) (payloadsIn l₀ i))
-    ∙ ap (each (turned i t a)) (sym (entries-stack l₀ (s .woven) i hi)))
+-- ---- Done: the entries that fit are turned, and their task is in the kept set.
+module _ (l₀ l₁ : List ℕ) (i t a d : ℕ) (room : length l₀ ≡ ordersWords) (s : Whole l₀) (hi : i < 64) (ht : t < 64) (ha : a < 128) (opens : has (openOf l₀) i ≡ true) (turn : Turned i (2 * t + 128 * a) l₀ l₁)
+    (some-held : some (heldBy i t a) (entriesIn l₀ i) ≡ true) (stored : d ≡ plus (getD l₁ (132 + i) 0) t) where
+  abbrev left : List ℕ
+  left = set l₁ (132 + i) d
+
+  cell : (n : ℕ) → (n ≡ 132 + i → ⊥) → getD left n 0 ≡ getD l₁ n 0
+  cell n h = getD-set-other l₁ (132 + i) n d 0 h
+
+  left-open : openOf left ≡ openOf l₁
+  left-open = cell 1 (λ e. omega arith)
+
+  left-chain : (j : ℕ) → j ≤ 65 → chainWord left j ≡ chainWord l₁ j
+  left-chain j h = chain-same l₁ left j left-open (cell (66 + j) (λ e. omega arith))
+
+  left-word : (h : ℕ) → 0 < h → wordAt left h ≡ wordAt l₁ h
+  left-word h p = cell (195 + h) (λ e. omega arith)
+
+  left-payloads : (j : ℕ) → j ≤ 65 → payloadsIn left j ≡ payloadsIn l₁ j
+  left-payloads = kept-payloads l₁ left (turn .still .woven) (cell 0 (λ e. omega arith)) (λ j h. ap headOf (left-chain j h)) (λ j h. ap countOf (left-chain j h)) left-word
+
+  same-open : openOf left ≡ openOf l₀
+  same-open = left-open ∙ turn .still .beside .opens
+
+  length-kept : length l₁ ≡ ordersWords
+  length-kept = turn .still .beside .room ∙ room
+
+  same-template : (j : ℕ) → j < 64 → getD left (2 + j) 0 ≡ getD l₀ (2 + j) 0
+  same-template j h = cell (2 + j) (λ e. omega arith) ∙ turn .still .beside .templates j h
+
+  done-changed : Changed i l₀ left
+  done-changed =
+      record {
+        room = length-set l₁ (132 + i) d ∙ length-kept;
+        woven = kept-woven l₁ left (turn .still .woven) (cell 0 (λ e. omega arith)) (λ j h. ap headOf (left-chain j h)) (λ j h. ap countOf (left-chain j h)) left-word;
+        others = λ j h x. left-payloads j (omega arith) ∙ turn .still .others j h x;
+        reads = λ j x. ap (λ (m : ℕ). has m j) same-open;
+        templates = λ j h x. same-template j h;
+        dones = λ j h x. cell (132 + j) (λ e. x (omega arith)) ∙ turn .still .beside .dones j h;
+        aside = sym (many-payloads left 65) ∙ ap many (left-payloads 65 (omega arith) ∙ turn .aside) ∙ many-payloads l₀ 65 ∙ s .aside;
+      }
+
+  its-entries : entriesIn left i ≡ each (turned i t a) (entriesIn l₀ i)
+  its-entries =
+      entries-stack left (done-changed .woven) i hi
+      ∙ ap (λ (xs : List ℕ). revOnto (each (entryFrom i) xs) []) (left-payloads i (omega arith) ∙ turn .own)
+      ∙ ap (λ (es : List Entry). revOnto es []) (each-read (entryFrom i) (turnedLoad (2 * t + 128 * a)) (turned i t a) (λ p. turned-read i t a p ht ha) (payloadsIn l₀ i))
+      ∙ each-turned (turned i t a) (each (entryFrom i) (payloadsIn l₀ i))
+      ∙ ap (each (turned i t a)) (sym (entries-stack l₀ (s .woven) i hi))
+
+  its-done : doneWord left i ≡ tasksDone i (each (turned i t a) (entriesIn l₀ i))
+  its-done =
+      done-read left i (ap (λ (m : ℕ). has m i) same-open ∙ opens) ∙ getD-set-same l₁ (132 + i) d 0 (let r = length-kept in omega arith) ∙ stored
+      ∙ ap (λ (m : ℕ). plus m t) (turn .still .beside .dones i hi ∙ sym (done-read l₀ i opens) ∙ s .dones i hi)
+      ∙ sym (done-turned i t a (entriesIn l₀ i) some-held)
+
+  pub finished : Leaves i (templateAt l₀ i) (each (turned i t a) (entriesIn l₀ i)) l₀ left
+  finished = leaves i l₀ left s done-changed (templateAt l₀ i) (each (turned i t a) (entriesIn l₀ i)) (template-same l₀ left i same-open (same-template i)) its-entries its-done
 
 -- ---- An instance without entries.
 no-entries : (l : List ℕ) (i : ℕ) → countOf (chainWord l i) ≡ 0 → entriesIn l i ≡ []
@@ -276,13 +271,8 @@ none-done i = refl
 no-head : (l : List ℕ) → Woven l → (i : ℕ) → i ≤ 65 → countOf (chainWord l i) ≡ 0 → headOf (chainWord l i) ≡ 0
 no-head l s i h e = relink l (Fine l i (markOf l)) (headOf (chainWord l i)) (headOf (chainWord l i)) (countOf (chainWord l i)) 0 refl (sym e) (s .chain i h)
 
-keep-nothing : (q : ℕ → Bool) (xs : List ℕ) → ((x : ℕ) → q x ≡ false) → keep q xs ≡ []
-unfolding keep
-keep-nothing q [] h = refl
-keep-nothing q (x ∷ xs) h = rw (h x) (keep-nothing q xs h)
-
 -- ---- An instance is closed.
-module _ (l₀ l₁ : List ℕ) (i : ℕ) (room : length l₀ ≡ ordersWords) (s : Whole l₀) (hi : i < 64) (drop : Dropped i true 0 l₀ l₁) where
+module _ (l₀ l₁ : List ℕ) (i : ℕ) (room : length l₀ ≡ ordersWords) (s : Whole l₀) (hi : i < 64) (drop : Emptied i l₀ l₁) where
   abbrev ended : List ℕ
   ended = set l₁ 1 (minus (openOf l₁) i)
 
@@ -330,10 +320,6 @@ module _ (l₀ l₁ : List ℕ) (i : ℕ) (room : length l₀ ≡ ordersWords) (
   end-payloads : (j : ℕ) → j ≤ 65 → payloadsIn ended j ≡ payloadsIn l₁ j
   end-payloads = kept-payloads l₁ ended (drop .still .woven) (rest 0 (λ e. omega arith)) end-heads end-counts end-word
 
-  none-aside : payloadsIn l₁ 65 ≡ []
-  unfolding stays revOnto
-  none-aside = drop .aside ∙ ap (λ (xs : List ℕ). revOnto xs (payloadsIn l₀ 65)) (keep-nothing (stays true 0) (payloadsIn l₀ i) (λ x. refl)) ∙ none-left l₀ 65 (s .aside)
-
   end-changed : Changed i l₀ ended
   end-changed =
       record {
@@ -343,7 +329,7 @@ module _ (l₀ l₁ : List ℕ) (i : ℕ) (room : length l₀ ≡ ordersWords) (
         reads = λ j x. still-open j x ∙ ap (λ (m : ℕ). has m j) (drop .still .beside .opens);
         templates = λ j h x. rest (2 + j) (λ e. omega arith) ∙ drop .still .beside .templates j h;
         dones = λ j h x. rest (132 + j) (λ e. omega arith) ∙ drop .still .beside .dones j h;
-        aside = sym (many-payloads ended 65) ∙ ap many (end-payloads 65 (omega arith) ∙ none-aside) ∙ none-many;
+        aside = sym (many-payloads ended 65) ∙ ap many (end-payloads 65 (omega arith) ∙ drop .aside) ∙ many-payloads l₀ 65 ∙ s .aside;
       }
 
   pub closed : Leaves i none [] l₀ ended

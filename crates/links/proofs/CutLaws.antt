@@ -1,17 +1,18 @@
 -- An entry taken out of the middle of a chain: the one before it links to the one behind it, and the payloads are the same without its own.
 use Prim.Native.Nat.{ℕ, zero, suc, _+_, _-_, _*_, _/_, _%_, _≤_, _<_}
-use mathlib.Core.Bool.{Bool, true, false, not}
+use mathlib.Core.Bool.{Bool, true, false, not, cond, _||_}
 use mathlib.Core.List.{List, [], _∷_, _++_}
 use mathlib.Core.Path.{_≡_, refl, sym, ap, ap₂, _∙_, subst}
 use native.Mathlib.Numerals.{add-one}
 use native.Mathlib.Omega.{arith}
-use borrow.Author.Tests.{eq-eqb, ne-eqb, eqb-true, eqb-false}
-use lib.Dec.{eqb}
+use borrow.Author.Tests.{eq-eqb, ne-eqb, eqb-true, eqb-false, lt-ltb, le-ltb, ltb-true, ltb-false}
+use lib.Dec.{eqb, ltb}
 use lib.ListN.{length, getD, set, length-set}
 use lib.Seq.{getD-set-same, getD-set-other}
-use Rattle.paper_lower.specs.Lists.{many, keep}
+use Rattle.paper_lower.specs.Lists.{some, many, keep}
 use Rattle.links.specs.Chains.{ordersWords, markOf, openOf, headOf, countOf, chainWord, ownerOf, linkOf, wordAt, Fine, Linked}
 use Rattle.links.specs.Stacks.{payloadOf, stackOf, payloadsIn, stepTo, beforeTo, cutOut, keptFrom, stays, Woven, Pushed, Cut, Freed, Still, Sifted}
+use Rattle.links.specs.Total.{anyFits}
 use Rattle.links.proofs.ReadLaws.{chain-read, read-some, read-same, chain-same}
 use Rattle.links.proofs.ChainLaws.{linked-on, no-return, linked-same}
 use Rattle.links.proofs.StepLaws.{linked-step, fine-at, apart, step-more, before-more, step-next, linked-join, stack-append, stack-item, cutOut-at, steps-same, front-same}
@@ -21,17 +22,13 @@ use Rattle.links.proofs.EntryLaws.{many-payloads}
 use Rattle.links.proofs.CarryLaws.{still-refl}
 
 -- ---- What is met on the way is an entry up to the mark.
-pub place-room : (l : List ℕ) → Woven l → (i : ℕ) → i ≤ 65 → (a k : ℕ) → a < countOf (chainWord l i) → k ≡ stepTo l (headOf (chainWord l i)) a → k ≤ 2048
+pub place-room : (l : List ℕ) → Woven l → (i : ℕ) → i ≤ 65 → (a k : ℕ) → a < countOf (chainWord l i) → k ≡ stepTo l (headOf (chainWord l i)) a → (0 < k) × (k ≤ 2048)
 place-room l s i hi a k less e =
     let f = fine-at l (Fine l i (markOf l)) (headOf (chainWord l i)) (countOf (chainWord l i)) a less (s .chain i hi) in
+    let z : 0 < stepTo l (headOf (chainWord l i)) a = f .0 in
     let t : stepTo l (headOf (chainWord l i)) a ≤ markOf l = f .1 .0 in
     let m = s .mark in
-    omega arith
-
-pub before-room : (l : List ℕ) → Woven l → (i : ℕ) → i ≤ 65 → (a q : ℕ) → a < countOf (chainWord l i) → q ≡ beforeTo l (headOf (chainWord l i)) a → q ≤ 2048
-unfolding beforeTo
-before-room l s i hi zero q less e = omega arith
-before-room l s i hi (suc a) q less e = place-room l s i hi a q (omega arith) e
+    (omega arith, omega arith)
 
 -- ---- A word with another link.
 low-half : (v h : ℕ) → (v % 4294967296 + 4294967296 * h) % 64 ≡ v % 64
@@ -268,6 +265,33 @@ kept-all p [] (suc a) e = refl
 kept-all p (x ∷ xs) zero e = let z : ⊥ = omega arith in absurd z
 kept-all p (x ∷ xs) (suc a) e = ap (_∷_ x) (kept-all p xs a (omega arith))
 
+-- fewer are kept where one fits
+many-kept : (p : ℕ → Bool) (xs : List ℕ) → many (keep p xs) ≤ many xs
+unfolding many keep
+many-kept p [] = omega arith
+many-kept p (x ∷ xs) = go (p x) (many-kept p xs)
+  where
+    go : (b : Bool) → many (keep p xs) ≤ many xs → many (cond b (x ∷ keep p xs) (keep p xs)) ≤ suc (many xs)
+    go true h = omega arith
+    go false h = omega arith
+
+ltb-suc : (a b : ℕ) → ltb (suc a) (suc b) ≡ ltb a b
+ltb-suc a b = go (ltb a b) refl
+  where
+    go : (t : Bool) → ltb a b ≡ t → ltb (suc a) (suc b) ≡ ltb a b
+    go true e = let h = ltb-true a b e in lt-ltb (suc a) (suc b) (omega arith) ∙ sym e
+    go false e = let h = ltb-false a b e in le-ltb (suc a) (suc b) (omega arith) ∙ sym e
+
+fewer-kept : (key : ℕ) (xs : List ℕ) → ltb (many (keep (stays key) xs)) (many xs) ≡ some (λ p. eqb (p % 16384) key) xs
+unfolding many keep stays some
+fewer-kept key [] = le-ltb 0 0 (omega arith)
+fewer-kept key (x ∷ xs) = go (eqb (x % 16384) key) (many-kept (stays key) xs) (fewer-kept key xs)
+  where
+    go : (b : Bool) → many (keep (stays key) xs) ≤ many xs → ltb (many (keep (stays key) xs)) (many xs) ≡ some (λ p. eqb (p % 16384) key) xs
+        → ltb (many (cond (not b) (x ∷ keep (stays key) xs) (keep (stays key) xs))) (suc (many xs)) ≡ b || some (λ p. eqb (p % 16384) key) xs
+    go true le h = lt-ltb (many (keep (stays key) xs)) (suc (many xs)) (omega arith)
+    go false le h = ltb-suc (many (keep (stays key) xs)) (many xs) ∙ h
+
 count-cutOut : (l l′ : List ℕ) (i a : ℕ) → a < countOf (chainWord l i) → payloadsIn l′ i ≡ cutOut a (payloadsIn l i) → suc (countOf (chainWord l′ i)) ≡ countOf (chainWord l i)
 count-cutOut l l′ i a less e = ap suc (sym (many-payloads l′ i) ∙ ap many e) ∙ many-cutOut (payloadsIn l i) a (rw (many-payloads l i) less) ∙ many-payloads l i
 
@@ -318,7 +342,7 @@ pub record Sifting (i key : ℕ) (l₀ l : List ℕ) (h n kept q : ℕ) : Type 0
   pub within : kept ≤ n
   pub here : h ≡ stepTo l (headOf (chainWord l i)) kept
   pub back : q ≡ beforeTo l (headOf (chainWord l i)) kept
-  pub all : keptFrom (stays false key) kept (payloadsIn l i) ≡ keep (stays false key) (payloadsIn l₀ i)
+  pub all : keptFrom (stays key) kept (payloadsIn l i) ≡ keep (stays key) (payloadsIn l₀ i)
 
 pub begun : (i key : ℕ) (l : List ℕ) (x : ℕ) → Woven l → x ≡ chainWord l i → Sifting i key l l (headOf x) (countOf x) 0 0
 unfolding stepTo beforeTo keptFrom
@@ -328,8 +352,8 @@ module _ (i key : ℕ) (l₀ l : List ℕ) (h n kept q : ℕ) (hi : i < 64) (s :
   pub fewer-than : kept < n → kept < countOf (chainWord l i)
   fewer-than less = let c = s .count in omega arith
 
-  pub at-most : kept < n → h ≤ 2048
-  at-most less = place-room l (s .still .woven) i (omega arith) kept h (fewer-than less) (s .here)
+  pub in-room : kept < n → (0 < h) × (h ≤ 2048)
+  in-room less = place-room l (s .still .woven) i (omega arith) kept h (fewer-than less) (s .here)
 
   in-list : kept < n → kept < many (payloadsIn l i)
   in-list less = rw (many-payloads l i) (fewer-than less)
@@ -350,7 +374,7 @@ module _ (i key : ℕ) (l₀ l : List ℕ) (h n kept q : ℕ) (hi : i < 64) (s :
         within = omega arith;
         here = ap linkOf e ∙ ap (λ (x : ℕ). linkOf (wordAt l x)) (s .here) ∙ sym (step-more l (headOf (chainWord l i)) kept);
         back = s .here ∙ sym (before-more l (headOf (chainWord l i)) kept);
-        all = ap (λ (a : ℕ). keptFrom (stays false key) a (payloadsIn l i)) (add-one kept) ∙ kept-on (stays false key) (payloadsIn l i) kept (in-list less) (ap (stays false key) (load-here w less e) ∙ ap not (ne-eqb (payloadOf w % 16384) key d)) ∙ s .all;
+        all = ap (λ (a : ℕ). keptFrom (stays key) a (payloadsIn l i)) (add-one kept) ∙ kept-on (stays key) (payloadsIn l i) kept (in-list less) (ap (stays key) (load-here w less e) ∙ ap not (ne-eqb (payloadOf w % 16384) key d)) ∙ s .all;
       }
 
   pub takes-out : (w : ℕ) (l′ : List ℕ) → kept < n → w ≡ wordAt l h → payloadOf w % 16384 ≡ key → Freed l l′ i kept h → Sifting i key l₀ l′ (linkOf w) (n - 1) kept q
@@ -363,7 +387,7 @@ module _ (i key : ℕ) (l₀ l : List ℕ) (h n kept q : ℕ) (hi : i < 64) (s :
         within = omega arith;
         here = ap linkOf e ∙ sym (f .here);
         back = s .back ∙ sym (f .back);
-        all = ap (keptFrom (stays false key) kept) (f .rest) ∙ kept-out (stays false key) (payloadsIn l i) kept (in-list less) (ap (stays false key) (load-here w less e) ∙ ap not (eq-eqb (payloadOf w % 16384) key d)) ∙ s .all;
+        all = ap (keptFrom (stays key) kept) (f .rest) ∙ kept-out (stays key) (payloadsIn l i) kept (in-list less) (ap (stays key) (load-here w less e) ∙ ap not (eq-eqb (payloadOf w % 16384) key d)) ∙ s .all;
       }
 
   pub ends : n ≤ kept → Sifted i key l₀ l
@@ -371,5 +395,10 @@ module _ (i key : ℕ) (l₀ l : List ℕ) (h n kept q : ℕ) (hi : i < 64) (s :
       record {
         still = s .still;
         aside = s .aside;
-        own = sym (kept-all (stays false key) (payloadsIn l i) kept (many-payloads l i ∙ (let c = s .count in let w = s .within in omega arith))) ∙ s .all;
+        own = sym (kept-all (stays key) (payloadsIn l i) kept (many-payloads l i ∙ (let c = s .count in let w = s .within in omega arith))) ∙ s .all;
       }
+
+  -- something fitted exactly where fewer are left
+  pub any-gone : n ≤ kept → (x : ℕ) → x ≡ chainWord l₀ i → ltb n (countOf x) ≡ anyFits key l₀ i
+  any-gone le x e =
+      ap₂ ltb (s .count ∙ sym (many-payloads l i) ∙ ap many (ends le .own)) (ap countOf e ∙ sym (many-payloads l₀ i)) ∙ fewer-kept key (payloadsIn l₀ i)

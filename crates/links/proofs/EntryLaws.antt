@@ -1,7 +1,7 @@
 -- Entries and what their words hold beside chain and link: the entries of a chain are its stack, read from the oldest on.
 use Prim.Native.Nat.{ℕ, zero, suc, _+_, _*_, _/_, _%_, _<_}
 use mathlib.Core.Bool.{Bool, true, false, not, cond, _&&_, true≢false}
-use mathlib.Core.List.{List, [], _∷_, _++_}
+use mathlib.Core.List.{List, [], _∷_}
 use mathlib.Core.Path.{_≡_, refl, sym, ap, _∙_}
 use native.Mathlib.Omega.{arith}
 use borrow.Author.Tests.{eq-eqb, ne-eqb, eqb-true, eqb-false}
@@ -104,20 +104,6 @@ each-onto g (x ∷ xs) ys = each-onto g xs (x ∷ ys)
 pub each-turned : (g : Entry → Entry) (xs : List Entry) → revOnto (each g xs) [] ≡ each g (revOnto xs [])
 unfolding each
 each-turned g xs = each-onto g xs []
-
-back-again : (xs ys zs : List ℕ) → revOnto (revOnto xs ys) zs ≡ revOnto ys (xs ++ zs)
-unfolding revOnto
-back-again [] ys zs = refl
-back-again (x ∷ xs) ys zs = back-again xs (x ∷ ys) zs
-
-append-none : (xs : List ℕ) → xs ++ [] ≡ xs
-append-none [] = refl
-append-none (x ∷ xs) = ap (_∷_ x) (append-none xs)
-
--- set aside and put back: as it was
-pub twice : (xs : List ℕ) → revOnto (revOnto xs []) [] ≡ xs
-unfolding revOnto
-twice xs = back-again xs [] [] ∙ append-none xs
 
 pub keep-read : (f : ℕ → Entry) (q : ℕ → Bool) (p : Entry → Bool) → ((x : ℕ) → q x ≡ p (f x)) → (xs : List ℕ) → each f (keep q xs) ≡ keep p (each f xs)
 unfolding keep each

@@ -9,5 +9,7 @@ pub mod SameLaws
 pub mod EntryLaws
 pub mod CarryLaws
 mod CutLaws
+mod TurnLaws
 pub mod ActLaws
+mod TotalLaws
 pub mod ZeroLaws

@@ -56,7 +56,7 @@ plus-swap m a b =
     has-plus (plus m a) b x ∙ ap (λ (c : Bool). c || eqb x b) (has-plus m a x) ∙ or-last (has m x) (eqb x a) (eqb x b)
     ∙ sym (has-plus (plus m b) a x ∙ ap (λ (c : Bool). c || eqb x a) (has-plus m b x)))
 
-two-tasks : (a b : Bool) (m : Set) (i j : ℕ) → cond a (plus (cond b (plus m j) m) i) (cond b (plus m j) m) ≡ cond b (plus (cond a (plus m i) m) j) (cond a (plus m i) m)
+pub two-tasks : (a b : Bool) (m : Set) (i j : ℕ) → cond a (plus (cond b (plus m j) m) i) (cond b (plus m j) m) ≡ cond b (plus (cond a (plus m i) m) j) (cond a (plus m i) m)
 two-tasks true true m i j = plus-swap m j i
 two-tasks true false m i j = refl
 two-tasks false true m i j = refl

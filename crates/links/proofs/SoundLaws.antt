@@ -9,9 +9,11 @@ use lib.Dec.{eqb, ltb}
 use Rattle.paper_lower.specs.Lists.{many, Every}
 use Rattle.paper_lower.proofs.ListLaws.{both, none-below, below-none, every-append, every-map}
 use Rattle.paper_upper.specs.Orders.{tasksDone}
-use Rattle.links.specs.Chains.{markOf, headOf, countOf, chainWord, ownerOf, linkOf, wordAt, walkOver, takeNumber, entriesIn, numbersIn, leads, figures, chainSound, sumTo, soundOf, times, joined, Fine, Linked, ReachedOnce}
-use Rattle.links.specs.Stacks.{Woven}
+use Rattle.links.specs.Chains.{markOf, headOf, countOf, chainWord, ownerOf, linkOf, wordAt, walkOver, takeNumber, entriesIn, numbersIn, leads, figures, chainSound, sumTo, soundOf, times, joined, Fine, Linked, MetOnce}
+use Rattle.links.specs.Stacks.{stepTo, Woven}
+use Rattle.links.specs.Once.{ReachedOnce}
 use Rattle.links.proofs.ChainLaws.{linked, leading, no-return}
+use Rattle.links.proofs.StepLaws.{linked-step}
 use Rattle.links.proofs.OnceLaws.{sum-same, sum-none, sum-one, times-joined, many-joined, Within, all-once}
 
 -- ---- The test and the statement.
@@ -103,9 +105,15 @@ module _ (l : List ℕ) (s : Sound l) where
       go true e = rw (sum-one (λ i. times k (numbersIn l i)) (ownerOf (wordAt l k)) 66 (ltb-true _ _ e) (λ i h d. not-in k i (omega arith) (λ q. d (sym q)))) (let h : ownerOf (wordAt l k) < 66 = ltb-true _ _ e in once-in k (ownerOf (wordAt l k)) (omega arith))
       go false e = let h : 66 ≤ ownerOf (wordAt l k) = ltb-false _ _ e in let z = sum-none (λ i. times k (numbersIn l i)) 66 (λ i less. not-in k i (omega arith) (λ q. omega arith)) in omega arith
 
-  pub reached-once : ReachedOnce l
+  pub reached-once : MetOnce l
   reached-once k p h =
       all-once (markOf l) (joined (numbersIn l) 66) (joined-within 66 (omega arith)) (many-joined (numbersIn l) 66 ∙ sum-same (λ i. many (numbersIn l i)) (λ i. countOf (chainWord l i)) 66 (λ i less. many-numbers i) ∙ s .woven .sum) joined-once k p h
 
+  chain-ends : (i : ℕ) → i ≤ 65 → stepTo l (headOf (chainWord l i)) (countOf (chainWord l i)) ≡ 0
+  chain-ends i h =
+      let c = countOf (chainWord l i) in
+      let e : c - c ≡ 0 = omega arith in
+      rw e at (linked-step l (Fine l i (markOf l)) (headOf (chainWord l i)) c c (omega arith) (s .woven .chain i h))
+
 pub once : (l : List ℕ) → soundOf l ≡ true → ReachedOnce l
-once l e = reached-once l (sound l e)
+once l e = let s = sound l e in record { ends = chain-ends l s; own = numbers-fine l s; once = reached-once l s }

@@ -20,7 +20,7 @@ unfolding stackOf
 stack-same l l′ P same h zero p = refl
 stack-same l l′ P same h (suc n) p = rw (same h (p .0)) (ap (_∷_ (payloadOf (wordAt l h))) (stack-same l l′ P same (linkOf (wordAt l h)) n (p .1)))
 
-stack-turn : (l : List ℕ) (h n k : ℕ) → n ≡ suc k → stackOf l h n ≡ payloadOf (wordAt l h) ∷ stackOf l (linkOf (wordAt l h)) k
+pub stack-turn : (l : List ℕ) (h n k : ℕ) → n ≡ suc k → stackOf l h n ≡ payloadOf (wordAt l h) ∷ stackOf l (linkOf (wordAt l h)) k
 unfolding stackOf
 stack-turn l h n k e = rw e
 

@@ -134,6 +134,6 @@ unfoldable pub joined : {A : Type 0} → (ℕ → List A) → ℕ → List A
 joined f zero = []
 joined f (suc n) = f n ++ joined f n
 
--- "The links never cross, never loop and reach every entry once."
-abbrev pub ReachedOnce : List ℕ → Type 0
-ReachedOnce l = (h : ℕ) → 0 < h → h ≤ markOf l → times h (joined (numbersIn l) 66) ≡ 1
+-- each entry up to the mark is met once, where every chain is followed over as many entries as its number says
+abbrev pub MetOnce : List ℕ → Type 0
+MetOnce l = (h : ℕ) → 0 < h → h ≤ markOf l → times h (joined (numbersIn l) 66) ≡ 1

@@ -1,3 +1,5 @@
 pub mod Chains
 pub mod Stacks
 pub mod Acts
+pub mod Total
+pub mod Once

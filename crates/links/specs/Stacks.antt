@@ -1,12 +1,12 @@
 -- What an act does to the chains on its way: a chain as a stack, from which an entry is taken, and on which it is put.
 use Prim.Native.Nat.{ℕ, zero, suc, _+_, _*_, _/_, _%_, _≤_, _<_}
-use mathlib.Core.Bool.{Bool, false, not, cond, _||_}
+use mathlib.Core.Bool.{Bool, not, cond}
 use mathlib.Core.List.{List, [], _∷_}
 use mathlib.Core.Path.{_≡_}
 use lib.Dec.{eqb}
 use lib.ListN.{length, getD}
 use Rattle.paper_lower.specs.Lists.{keep, each}
-use Rattle.paper_upper.specs.Orders.{Entry, entry, tasksDone}
+use Rattle.paper_upper.specs.Orders.{Entry, entry}
 use Rattle.paper_upper.specs.Orders.Standing.{held, done}
 use Rattle.links.specs.Chains.{markOf, openOf, headOf, countOf, chainWord, linkOf, wordAt, sumTo, Fine, Linked}
 
@@ -108,23 +108,16 @@ revOnto (x ∷ xs) ys = revOnto xs (x ∷ ys)
 unfoldable pub entryFrom : ℕ → ℕ → Entry
 entryFrom i p = entry i (p / 16384 % 1024) (p / 2 % 64) (cond (eqb (p % 2) 1) done (held (p / 128 % 128)))
 
--- the part of a payload below its user: task t, held by subject a
-abbrev pub holdKey : ℕ → ℕ → ℕ
-holdKey t a = 2 * t + 128 * a
-
-unfoldable pub stays : Bool → ℕ → ℕ → Bool
-stays all key p = not (all || eqb (p % 16384) key)
+-- a payload that does not fit the key: the part of a payload below its user, task t held by subject a
+unfoldable pub stays : ℕ → ℕ → Bool
+stays key p = not (eqb (p % 16384) key)
 
 unfoldable pub turnedLoad : ℕ → ℕ → ℕ
 turnedLoad key p = cond (eqb (p % 16384) key) (p + 1) p
 
--- one entry more, in a search for those held
-abbrev pub takeHeld : ℕ → ℕ → ℕ → Bool → Bool
-takeHeld key h w b = eqb (payloadOf w % 16384) key || b
-
--- and for any that is held
-abbrev pub takeAnyHeld : ℕ → ℕ → Bool → Bool
-takeAnyHeld h w b = not (eqb (w / 64 % 2) 1) || b
+-- the same of an entry's word
+unfoldable pub turnedWord : ℕ → ℕ → ℕ
+turnedWord key w = cond (eqb (payloadOf w % 16384) key) (w + 64) w
 
 -- the newest entry of chain i, with payload p, is carried to chain j, and has payload q there
 pub record Carried (l l′ : List ℕ) (i j p q : ℕ) : Type 0 where
@@ -134,7 +127,7 @@ pub record Carried (l l′ : List ℕ) (i j p q : ℕ) : Type 0 where
   pub to : payloadsIn l′ j ≡ q ∷ payloadsIn l j
   pub others : (x : ℕ) → x ≤ 65 → (x ≡ i → ⊥) → (x ≡ j → ⊥) → payloadsIn l′ x ≡ payloadsIn l x
 
--- nothing but chain i, the free ones and those set aside has changed
+-- nothing but chain i and the free ones has changed
 pub record Still (i : ℕ) (l l′ : List ℕ) : Type 0 where
   pub woven : Woven l′
   pub beside : Beside l l′
@@ -152,22 +145,16 @@ pub record Freed (l l′ : List ℕ) (i a k : ℕ) : Type 0 where
 pub record Sifted (i key : ℕ) (l l′ : List ℕ) : Type 0 where
   pub still : Still i l l′
   pub aside : payloadsIn l′ 65 ≡ payloadsIn l 65
-  pub own : payloadsIn l′ i ≡ keep (stays false key) (payloadsIn l i)
+  pub own : payloadsIn l′ i ≡ keep (stays key) (payloadsIn l i)
 
--- all of chain i is set aside, but for what does not stay; or each turned
-pub record Dropped (i : ℕ) (all : Bool) (key : ℕ) (l l′ : List ℕ) : Type 0 where
-  pub still : Still i l l′
-  pub own : payloadsIn l′ i ≡ []
-  pub aside : payloadsIn l′ 65 ≡ revOnto (keep (stays all key) (payloadsIn l i)) (payloadsIn l 65)
-
+-- of chain i what fits is turned, where it stands
 pub record Turned (i key : ℕ) (l l′ : List ℕ) : Type 0 where
   pub still : Still i l l′
-  pub own : payloadsIn l′ i ≡ []
-  pub aside : payloadsIn l′ 65 ≡ revOnto (each (turnedLoad key) (payloadsIn l i)) (payloadsIn l 65)
+  pub aside : payloadsIn l′ 65 ≡ payloadsIn l 65
+  pub own : payloadsIn l′ i ≡ each (turnedLoad key) (payloadsIn l i)
 
--- and what is set aside is put back on the empty chain; d its done tasks
-pub record Restored (i : ℕ) (l l′ : List ℕ) (d : ℕ) : Type 0 where
+-- all of chain i becomes free
+pub record Emptied (i : ℕ) (l l′ : List ℕ) : Type 0 where
   pub still : Still i l l′
-  pub own : payloadsIn l′ i ≡ revOnto (payloadsIn l 65) []
-  pub aside : payloadsIn l′ 65 ≡ []
-  pub dones : d ≡ tasksDone i (each (entryFrom i) (payloadsIn l′ i))
+  pub aside : payloadsIn l′ 65 ≡ payloadsIn l 65
+  pub own : payloadsIn l′ i ≡ []

@@ -1,5 +1,6 @@
 // The words of the orders buffer: each instance's entries linked in order of entry, the free ones too, with their number and the done tasks kept.
-// Whether the links and figures of any content are sound; and what the acts on one instance leave of a sound one (specs/Acts).
+// Whether the links and figures of any content are sound; and what the acts on one instance leave of a sound one (specs/Acts). No function asks for sound links:
+// of any content of the right length each keeps to the buffer and ends, and what it does to the chains is promised where they are sound (specs/Total).
 ghost use mathlib.Core.Path.{_≡_};
 ghost use Prim.Native.Nat.{_+_, _/_, _%_, _<_, _≤_};
 ghost use lib.ListN.{length};
@@ -7,14 +8,15 @@ ghost use mathlib.Core.Bool.{true, false, cond, not, _&&_, _||_};
 ghost use mathlib.Core.List.{[]};
 ghost use lib.Dec.{eqb};
 ghost use Rattle.paper_lower.specs.Sets.{has, plus};
-ghost use Rattle.paper_lower.specs.Lists.{someBelow, add, keep, each};
+ghost use Rattle.paper_lower.specs.Lists.{someBelow, some, add, keep, each};
 ghost use Rattle.paper_lower.specs.Lists.Maybe.{none, just};
 ghost use Rattle.paper_upper.specs.Orders.{entry, heldBy};
 ghost use Rattle.paper_upper.specs.Orders.Standing.{held};
 ghost use Rattle.paper_upper.specs.Requests.{turned};
-ghost use Rattle.links.specs.Chains.{ordersWords, Counted, markOf, openOf, templateIn, templateAt, doneWord, isRead, chainWord, headOf, countOf, wordAt, entriesIn, astray, figures, chainSound, sumTo, soundOf};
-ghost use Rattle.links.specs.Stacks.{payloadOf, payloadsIn, stepTo, beforeTo, Woven, Loose, Popped, Pushed, Taken, Cut, Carried, Freed, Sifted, Dropped, Turned, Restored, turnedLoad};
-ghost use Rattle.links.specs.Acts.{Leaves};
+ghost use Rattle.links.specs.Chains.{ordersWords, Counted, markOf, openOf, templateIn, templateAt, doneWord, isRead, chainWord, countOf, wordAt, entriesIn, astray, figures, chainSound, sumTo, soundOf};
+ghost use Rattle.links.specs.Stacks.{payloadOf, Woven, Loose, Popped, Pushed, Taken, turnedWord};
+ghost use Rattle.links.specs.Acts.{Leaves, Acted};
+ghost use Rattle.links.specs.Total.{Safe, Cuts, Frees, Sifts, Drops, Empties, Turns};
 use sets::set_of;
 
 // The length of the buffer in words.
@@ -33,7 +35,7 @@ const DONE: usize = 132;
 
 const BEFORE: usize = 195;
 
-// The chain of the free entries, and that of those set aside.
+// The chain of the free entries; and one that holds nothing.
 pub const FREE: u64 = 64;
 
 const ASIDE: u64 = 65;
@@ -76,12 +78,13 @@ pub fn done(o: &[u64], i: u64) -> u64
     pick(open, o[DONE + i as usize], 0)
 }
 
-// The entries that are in some chain.
+// The entries that are in some chain: as many as there are at most.
 pub fn mark(o: &[u64]) -> u64
     requires { ⌜ length (now o) ≡ ordersWords ⌝ }
-    ensures { λ r. ⌜ r ≡ markOf (now (o .entry)) ⌝ }
+    ensures { λ r. ⌜ (r ≤ 2048) × (markOf (now (o .entry)) ≤ 2048 → r ≡ markOf (now (o .entry))) ⌝ }
 {
-    o[0]
+    let m = o[0];
+    if MOST < m { MOST } else { m }
 }
 
 // The word of a chain: 0 where it is a closed instance's.
@@ -101,6 +104,22 @@ pub fn word(o: &[u64], k: u64) -> u64
     requires { ⌜ (length (now o) ≡ ordersWords) × (k ≤ 2048) ⌝ }
     ensures { λ r. ⌜ r ≡ wordAt (now (o .entry)) k ⌝ }
 {
+    o[BEFORE + k as usize]
+}
+
+// A number for which there is an entry, whatever link was met; a number that has one is its own.
+fn in_reach(k: u64) -> u64
+    ensures { λ r. ⌜ (0 < r) × ((r ≤ 2048) × (0 < k → k ≤ 2048 → r ≡ k)) ⌝ }
+{
+    (k % 4096 + 2047) % 2048 + 1
+}
+
+// The word that a link leads to.
+pub fn linked(o: &[u64], h: u64) -> u64
+    requires { ⌜ length (now o) ≡ ordersWords ⌝ }
+    ensures { λ r. ⌜ (0 < h → h ≤ 2048 → r ≡ wordAt (now (o .entry)) h) ⌝ }
+{
+    let k = in_reach(h);
     o[BEFORE + k as usize]
 }
 
@@ -225,20 +244,20 @@ fn payload(o: &[u64], k: u64) -> u64
 
 // Takes the newest entry from a chain.
 fn pop(o: &mut [u64], i: u64) -> u64
-    requires { ⌜ (length (now o) ≡ ordersWords) × (Woven (now o) × ((i ≤ 65) × (0 < countOf (chainWord (now o) i)))) ⌝ }
-    ensures { λ r. ⌜ Popped (now (o .entry)) (now (o .exit)) i r ⌝ }
+    requires { ⌜ (length (now o) ≡ ordersWords) × (i ≤ 65) ⌝ }
+    ensures { λ r. ⌜ Safe (now (o .entry)) (now (o .exit)) r × (Woven (now (o .entry)) → 0 < countOf (chainWord (now (o .entry)) i) → Popped (now (o .entry)) (now (o .exit)) i r) ⌝ }
 {
     let x = o[CHAINS + i as usize];
-    let k = x % 4096;
+    let k = in_reach(x % 4096);
     let w = o[BEFORE + k as usize];
-    o[CHAINS + i as usize] = w / 4294967296 % 4096 + 4096 * (x / 4096 % 4096 - 1);
+    o[CHAINS + i as usize] = w / 4294967296 % 4096 + 4096 * ((x / 4096 % 4096 + 4095) % 4096);
     k
 }
 
 // Puts a loose entry on a chain.
 fn push(o: &mut [u64], i: u64, k: u64, p: u64)
-    requires { ⌜ (length (now o) ≡ ordersWords) × (Loose (now o) k × ((i ≤ 65) × ((p < 16777216) × (isRead (now o) i ≡ true)))) ⌝ }
-    ensures { λ _. ⌜ Pushed (now (o .entry)) (now (o .exit)) i p ⌝ }
+    requires { ⌜ (length (now o) ≡ ordersWords) × ((k ≤ 2048) × ((i ≤ 65) × (p < 16777216))) ⌝ }
+    ensures { λ _. ⌜ Safe (now (o .entry)) (now (o .exit)) k × (Loose (now (o .entry)) k → isRead (now (o .entry)) i ≡ true → Pushed (now (o .entry)) (now (o .exit)) i p) ⌝ }
 {
     let x = o[CHAINS + i as usize];
     o[BEFORE + k as usize] = i % 64 + i / 64 * 1073741824 + 64 * p + 4294967296 * (x % 4096);
@@ -246,105 +265,24 @@ fn push(o: &mut [u64], i: u64, k: u64, p: u64)
 }
 
 fn take_free(o: &mut [u64]) -> u64
-    requires { ⌜ (length (now o) ≡ ordersWords) × (Woven (now o) × (countOf (chainWord (now o) 64) ≡ 0 → markOf (now o) < 2048)) ⌝ }
-    ensures { λ r. ⌜ Taken (now (o .entry)) (now (o .exit)) r ⌝ }
+    requires { ⌜ length (now o) ≡ ordersWords ⌝ }
+    ensures { λ r. ⌜ Safe (now (o .entry)) (now (o .exit)) r × (Woven (now (o .entry)) → (countOf (chainWord (now (o .entry)) 64) ≡ 0 → markOf (now (o .entry)) < 2048) → Taken (now (o .entry)) (now (o .exit)) r) ⌝ }
 {
     let n = count(o, FREE);
     if n == 0 {
-        let k = o[0] + 1;
+        let k = o[0] % 2048 + 1;
         o[0] = k;
         return k;
     }
     pop(o, FREE)
 }
 
-// ---- Chains taken apart and put together again.
-
-// The newest entry of instance i becomes free, or is set aside.
-fn drop_one(o: &mut [u64], i: u64, all: bool, key: u64) -> u64
-    requires { ⌜ (length (now o) ≡ ordersWords) × (Woven (now o) × ((i < 64) × (0 < countOf (chainWord (now o) i)))) ⌝ }
-    ensures { λ r. ⌜ Carried (now (o .entry)) (now (o .exit)) i (cond (all || eqb (r % 16384) key) 64 65) r r ⌝ }
-{
-    let k = pop(o, i);
-    let p = payload(o, k);
-    let to = pick(all | (p % 16384 == key), FREE, ASIDE);
-    push(o, to, k, p);
-    p
-}
-
-fn turned_load(p: u64, key: u64) -> u64
-    requires { ⌜ (p < 16777216) × (key % 2 ≡ 0) ⌝ }
-    ensures { λ r. ⌜ (r ≡ turnedLoad key p) × (r < 16777216) ⌝ }
-{
-    if p % 16384 == key { p + 1 } else { p }
-}
-
-// The newest entry of instance i is set aside, and is done if it is the key's.
-fn turn_one(o: &mut [u64], i: u64, key: u64) -> u64
-    requires { ⌜ (length (now o) ≡ ordersWords) × (Woven (now o) × ((i < 64) × ((0 < countOf (chainWord (now o) i)) × (key % 2 ≡ 0)))) ⌝ }
-    ensures { λ r. ⌜ Carried (now (o .entry)) (now (o .exit)) i 65 r (turnedLoad key r) ⌝ }
-{
-    let k = pop(o, i);
-    let p = payload(o, k);
-    let q = turned_load(p, key);
-    push(o, ASIDE, k, q);
-    p
-}
-
-// The entry set aside last is put back.
-fn back_one(o: &mut [u64], i: u64) -> u64
-    requires { ⌜ (length (now o) ≡ ordersWords) × (Woven (now o) × ((i < 64) × ((isRead (now o) i ≡ true) × (0 < countOf (chainWord (now o) 65))))) ⌝ }
-    ensures { λ r. ⌜ Carried (now (o .entry)) (now (o .exit)) 65 i r r ⌝ }
-{
-    let k = pop(o, ASIDE);
-    let p = payload(o, k);
-    push(o, i, k, p);
-    p
-}
-
-fn drop_held(o: &mut [u64], i: u64, all: bool, key: u64)
-    requires { ⌜ (length (now o) ≡ ordersWords) × (Woven (now o) × (i < 64)) ⌝ }
-    ensures { λ _. ⌜ Dropped i all key (now (o .entry)) (now (o .exit)) ⌝ }
-{
-    let mut n = count(o, i);
-    while 0 < n {
-        drop_one(o, i, all, key);
-        n -= 1;
-    }
-}
-
-fn turn_held(o: &mut [u64], i: u64, key: u64)
-    requires { ⌜ (length (now o) ≡ ordersWords) × (Woven (now o) × ((i < 64) × (key % 2 ≡ 0))) ⌝ }
-    ensures { λ _. ⌜ Turned i key (now (o .entry)) (now (o .exit)) ⌝ }
-{
-    let mut n = count(o, i);
-    while 0 < n {
-        turn_one(o, i, key);
-        n -= 1;
-    }
-}
-
-// Puts back what was set aside; answers the done tasks.
-fn put_back(o: &mut [u64], i: u64) -> u64
-    requires { ⌜ (length (now o) ≡ ordersWords) × (Woven (now o) × ((i < 64) × ((isRead (now o) i ≡ true) × (payloadsIn (now o) i ≡ [])))) ⌝ }
-    ensures { λ r. ⌜ Restored i (now (o .entry)) (now (o .exit)) r ⌝ }
-{
-    let mut n = count(o, ASIDE);
-    let mut d = 0;
-    while 0 < n {
-        let p = back_one(o, i);
-        d = with_if(p % 2 == 1, d, p / 2 % 64);
-        n -= 1;
-    }
-    d
-}
-
-// ---- The acts on one instance.
+// ---- An instance opened, and one entry more.
 
 // Instance i is opened, of template j.
 pub fn open_chain(o: &mut [u64], i: u64, j: u64)
-    requires { ⌜ (length (now o) ≡ ordersWords) × ((soundOf (now o) ≡ true) × ((has (openOf (now o)) i ≡ false) × ((i < 64) × (j < 16)))) ⌝ }
-    ensures { λ _. ⌜ Leaves i (just j) [] (now (o .entry)) (now (o .exit)) ⌝ }
+    requires { ⌜ (length (now o) ≡ ordersWords) × ((i < 64) × (j < 16)) ⌝ }
+    ensures { λ _. ⌜ (length (now (o .exit)) ≡ length (now (o .entry))) × (soundOf (now (o .entry)) ≡ true → has (openOf (now (o .entry))) i ≡ false → Leaves i (just j) [] (now (o .entry)) (now (o .exit))) ⌝ }
 {
     let more = set_of(o[OPEN]).with(i);
     o[TEMPLATES + i as usize] = j;
@@ -355,8 +293,8 @@ pub fn open_chain(o: &mut [u64], i: u64, j: u64)
 
 // Subject a, of user u, takes task t of instance i: the last entry.
 pub fn enter(o: &mut [u64], i: u64, u: u64, t: u64, a: u64)
-    requires { ⌜ (length (now o) ≡ ordersWords) × ((soundOf (now o) ≡ true) × ((has (openOf (now o)) i ≡ true) × ((countOf (chainWord (now o) 64) ≡ 0 → markOf (now o) < 2048) × ((u < 1024) × ((i < 64) × ((t < 64) × (a < 128))))))) ⌝ }
-    ensures { λ _. ⌜ Leaves i (templateAt (now (o .entry)) i) (add (entriesIn (now (o .entry)) i) (entry i u t (held a))) (now (o .entry)) (now (o .exit)) ⌝ }
+    requires { ⌜ (length (now o) ≡ ordersWords) × ((u < 1024) × ((i < 64) × ((t < 64) × (a < 128)))) ⌝ }
+    ensures { λ _. ⌜ (length (now (o .exit)) ≡ length (now (o .entry))) × (soundOf (now (o .entry)) ≡ true → has (openOf (now (o .entry))) i ≡ true → (countOf (chainWord (now (o .entry)) 64) ≡ 0 → markOf (now (o .entry)) < 2048) → Leaves i (templateAt (now (o .entry)) i) (add (entriesIn (now (o .entry)) i) (entry i u t (held a))) (now (o .entry)) (now (o .exit))) ⌝ }
 {
     let k = take_free(o);
     push(o, i, k, 2 * t + 128 * a + 16384 * u);
@@ -366,35 +304,36 @@ pub fn enter(o: &mut [u64], i: u64, u: u64, t: u64, a: u64)
 
 // Entry k, behind the first `kept` of chain i, of which q is the last, is unlinked.
 fn cut(o: &mut [u64], i: u64, kept: u64, q: u64, k: u64)
-    requires { ⌜ (length (now o) ≡ ordersWords) × (Woven (now o) × ((i < 64) × ((kept < countOf (chainWord (now o) i)) × ((k ≡ stepTo (now o) (headOf (chainWord (now o) i)) kept) × (q ≡ beforeTo (now o) (headOf (chainWord (now o) i)) kept))))) ⌝ }
-    ensures { λ _. ⌜ Cut (now (o .entry)) (now (o .exit)) i kept k ⌝ }
+    requires { ⌜ (length (now o) ≡ ordersWords) × ((i < 64) × ((q ≤ 2048) × (k ≤ 2048))) ⌝ }
+    ensures { λ _. ⌜ Cuts (now (o .entry)) (now (o .exit)) i kept q k ⌝ }
 {
     let x = o[CHAINS + i as usize];
     let w = o[BEFORE + k as usize];
     let next = w / 4294967296 % 4096;
+    let fewer = (x / 4096 % 4096 + 4095) % 4096;
     if kept == 0 {
-        o[CHAINS + i as usize] = next + 4096 * (x / 4096 % 4096 - 1);
+        o[CHAINS + i as usize] = next + 4096 * fewer;
         return;
     }
     let v = o[BEFORE + q as usize];
     o[BEFORE + q as usize] = v % 4294967296 + 4294967296 * next;
-    o[CHAINS + i as usize] = x % 4096 + 4096 * (x / 4096 % 4096 - 1);
+    o[CHAINS + i as usize] = x % 4096 + 4096 * fewer;
 }
 
 // And becomes free.
 fn free(o: &mut [u64], i: u64, kept: u64, q: u64, k: u64)
-    requires { ⌜ (length (now o) ≡ ordersWords) × (Woven (now o) × ((i < 64) × ((kept < countOf (chainWord (now o) i)) × ((k ≡ stepTo (now o) (headOf (chainWord (now o) i)) kept) × (q ≡ beforeTo (now o) (headOf (chainWord (now o) i)) kept))))) ⌝ }
-    ensures { λ _. ⌜ Freed (now (o .entry)) (now (o .exit)) i kept k ⌝ }
+    requires { ⌜ (length (now o) ≡ ordersWords) × ((i < 64) × ((q ≤ 2048) × (k ≤ 2048))) ⌝ }
+    ensures { λ _. ⌜ Frees (now (o .entry)) (now (o .exit)) i kept q k ⌝ }
 {
     cut(o, i, kept, q, k);
     let p = payload(o, k);
     push(o, FREE, k, p);
 }
 
-// All that fit the key become free, in one walk.
-fn sift(o: &mut [u64], i: u64, key: u64)
-    requires { ⌜ (length (now o) ≡ ordersWords) × (Woven (now o) × (i < 64)) ⌝ }
-    ensures { λ _. ⌜ Sifted i key (now (o .entry)) (now (o .exit)) ⌝ }
+// All that fit the key become free, in one walk; answers whether one did.
+fn sift(o: &mut [u64], i: u64, key: u64) -> bool
+    requires { ⌜ (length (now o) ≡ ordersWords) × (i < 64) ⌝ }
+    ensures { λ r. ⌜ Sifts i key (now (o .entry)) (now (o .exit)) r ⌝ }
 {
     let x = chain(o, i);
     let mut h = x % 4096;
@@ -402,41 +341,106 @@ fn sift(o: &mut [u64], i: u64, key: u64)
     let mut kept = 0;
     let mut q = 0;
     while kept < n {
-        let w = word(o, h);
+        let k = in_reach(h);
+        let w = word(o, k);
         if w / 64 % 16777216 % 16384 == key {
-            free(o, i, kept, q, h);
+            free(o, i, kept, q, k);
             h = w / 4294967296 % 4096;
             n -= 1;
             continue;
         }
-        q = h;
+        q = k;
         h = w / 4294967296 % 4096;
         kept += 1;
     }
+    n < x / 4096 % 4096
 }
 
-pub fn release(o: &mut [u64], i: u64, t: u64, a: u64)
-    requires { ⌜ (length (now o) ≡ ordersWords) × ((soundOf (now o) ≡ true) × ((has (openOf (now o)) i ≡ true) × ((i < 64) × ((t < 64) × (a < 128))))) ⌝ }
-    ensures { λ _. ⌜ Leaves i (templateAt (now (o .entry)) i) (keep (λ e. not (heldBy i t a e)) (entriesIn (now (o .entry)) i)) (now (o .entry)) (now (o .exit)) ⌝ }
+// Subject a gives task t of instance i back; answers whether it held it.
+pub fn release(o: &mut [u64], i: u64, t: u64, a: u64) -> bool
+    requires { ⌜ (length (now o) ≡ ordersWords) × ((i < 64) × ((t < 64) × (a < 128))) ⌝ }
+    ensures { λ r. ⌜ Acted i (some (heldBy i t a) (entriesIn (now (o .entry)) i)) (keep (λ e. not (heldBy i t a e)) (entriesIn (now (o .entry)) i)) (now (o .entry)) (now (o .exit)) r ⌝ }
 {
-    sift(o, i, 2 * t + 128 * a);
+    sift(o, i, 2 * t + 128 * a)
 }
 
-pub fn finish(o: &mut [u64], i: u64, t: u64, a: u64)
-    requires { ⌜ (length (now o) ≡ ordersWords) × ((soundOf (now o) ≡ true) × ((has (openOf (now o)) i ≡ true) × ((i < 64) × ((t < 64) × (a < 128))))) ⌝ }
-    ensures { λ _. ⌜ Leaves i (templateAt (now (o .entry)) i) (each (turned i t a) (entriesIn (now (o .entry)) i)) (now (o .entry)) (now (o .exit)) ⌝ }
+// ---- An entry turned where it stands.
+
+fn turned_word(w: u64, key: u64) -> u64
+    requires { ⌜ key % 2 ≡ 0 ⌝ }
+    ensures { λ r. ⌜ r ≡ turnedWord key w ⌝ }
 {
-    turn_held(o, i, 2 * t + 128 * a);
-    let d = put_back(o, i);
-    o[DONE + i as usize] = d;
+    if w / 64 % 16777216 % 16384 == key {
+        w + 64
+    } else {
+        w
+    }
+}
+
+// All that fit the key are done, in one walk; answers whether one is.
+fn turn(o: &mut [u64], i: u64, key: u64) -> bool
+    requires { ⌜ (length (now o) ≡ ordersWords) × ((i < 64) × (key % 2 ≡ 0)) ⌝ }
+    ensures { λ r. ⌜ Turns i key (now (o .entry)) (now (o .exit)) r ⌝ }
+{
+    let x = chain(o, i);
+    let mut h = x % 4096;
+    let mut n = x / 4096 % 4096;
+    let mut hit = false;
+    while 0 < n {
+        let k = in_reach(h);
+        let w = word(o, k);
+        let v = turned_word(w, key);
+        o[BEFORE + k as usize] = v;
+        hit = (w / 64 % 16777216 % 16384 == key) | hit;
+        h = w / 4294967296 % 4096;
+        n -= 1;
+    }
+    hit
+}
+
+// Subject a has done task t of instance i; answers whether it held it.
+pub fn finish(o: &mut [u64], i: u64, t: u64, a: u64) -> bool
+    requires { ⌜ (length (now o) ≡ ordersWords) × ((i < 64) × ((t < 64) × (a < 128))) ⌝ }
+    ensures { λ r. ⌜ Acted i (some (heldBy i t a) (entriesIn (now (o .entry)) i)) (each (turned i t a) (entriesIn (now (o .entry)) i)) (now (o .entry)) (now (o .exit)) r ⌝ }
+{
+    if !turn(o, i, 2 * t + 128 * a) {
+        return false;
+    }
+    let more = set_of(o[DONE + i as usize]).with(t);
+    o[DONE + i as usize] = more.bits;
+    true
+}
+
+// ---- An instance closed.
+
+// The newest entry of instance i becomes free.
+fn drop_one(o: &mut [u64], i: u64) -> u64
+    requires { ⌜ (length (now o) ≡ ordersWords) × (i < 64) ⌝ }
+    ensures { λ r. ⌜ Drops i (now (o .entry)) (now (o .exit)) r ⌝ }
+{
+    let k = pop(o, i);
+    let p = payload(o, k);
+    push(o, FREE, k, p);
+    p
+}
+
+fn drop_all(o: &mut [u64], i: u64)
+    requires { ⌜ (length (now o) ≡ ordersWords) × (i < 64) ⌝ }
+    ensures { λ _. ⌜ Empties i (now (o .entry)) (now (o .exit)) ⌝ }
+{
+    let mut n = count(o, i);
+    while 0 < n {
+        drop_one(o, i);
+        n -= 1;
+    }
 }
 
 // Instance i is closed, and its entries go.
 pub fn close_chain(o: &mut [u64], i: u64)
-    requires { ⌜ (length (now o) ≡ ordersWords) × ((soundOf (now o) ≡ true) × (i < 64)) ⌝ }
-    ensures { λ _. ⌜ Leaves i none [] (now (o .entry)) (now (o .exit)) ⌝ }
+    requires { ⌜ (length (now o) ≡ ordersWords) × (i < 64) ⌝ }
+    ensures { λ _. ⌜ (length (now (o .exit)) ≡ length (now (o .entry))) × (soundOf (now (o .entry)) ≡ true → Leaves i none [] (now (o .entry)) (now (o .exit))) ⌝ }
 {
-    drop_held(o, i, true, 0);
+    drop_all(o, i);
     let fewer = set_of(o[OPEN]).without(i);
     o[OPEN] = fewer.bits;
 }

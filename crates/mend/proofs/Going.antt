@@ -264,6 +264,7 @@ module _ (input : Bytes) (room : ℕ) (z₀ : Now) where
               tables = ap tablesOf (w .1 .1 ∙ u .1 .1) ∙ rw q;
               lengths = sizes;
               room = λ _. w .1 .1 ∙ u .1 .1;
+              settles = λ z. let f : suc c ≡ 0 = (rw q at z) in absurd (omega arith);
             }
 
         mended : checked input (z₀ .out) (length (z₀ .ys)) (state z₀) ≡ 0 → Done
@@ -282,10 +283,11 @@ module _ (input : Bytes) (room : ℕ) (z₀ : Now) where
               reported =
                   sym (take-append-drop (z .k) (z .ys)) ∙ ap₂ (λ (x y : List Dropped). x ++ y) w (L .past ∙ ap (λ (j : ℕ). drop j (z₀ .ys)) (sym m)) ∙ rw q;
               tables =
-                  turned .alone (checks ∙ r) (L .alone) p′
+                  turned .alone (checks ∙ r) (L .alone) .tables p′
                   ∙ ap engineOf (ap (λ (x : Ending). x .tables) f ∙ L .tables ∙ ap (λ (x : Rest). x .tables) a) ∙ rw q;
               lengths = sizes;
               room = λ n. absurd (n (rw q));
+              settles = λ _. turned .alone (checks ∙ r) (L .alone) .sound;
             }
 
         pub stop : Done

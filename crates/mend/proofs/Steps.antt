@@ -151,9 +151,9 @@ module _ (s out : Bytes) (room place k : ℕ) (x : Buffers) (r : Reply) {b : Boo
   pub first-turn : {out′ : Bytes} {p₁ p′ s′ o′ : List ℕ} {d₀ d : Dropped} → not b ≡ false → k ≡ 0 → policy.Cleared p₁ → sessions.Cleared s′ → entries.Cleared o′
       → Found place k s out (policyOf p₁) out′ (policyOf p′) d₀ → d ≡ numbered d₀ → Turned room place k s out x out′ (buffers p′ s′ o′) d
   first-turn {out′} {p₁} {p′} {s′} {o′} {d₀} {d} f z c cs co found is =
-      turned out′ p₁ p′ s′ o′ d₀ d f (c .tables ∙ rw (eq-eqb k 0 z)) found is (λ _. emptied s′ o′ cs co)
+      turned out′ p₁ p′ s′ o′ d₀ d f (c .tables ∙ rw (eq-eqb k 0 z)) found is (λ _. record { tables = emptied s′ o′ cs co; sound = co .sound })
 
   pub later-turn : {out′ : Bytes} {p′ : List ℕ} {d₀ d : Dropped} → not b ≡ false → (k ≡ 0 → ⊥) → Found place k s out (policyOf (x .policy)) out′ (policyOf p′) d₀ → d ≡ numbered d₀
       → Turned room place k s out x out′ (buffers p′ (x .sessions) (x .orders)) d
   later-turn {out′} {p′} {d₀} {d} f n found is =
-      turned out′ (x .policy) p′ (x .sessions) (x .orders) d₀ d f (rw (ne-eqb k 0 n)) found is (λ h. h (omega arith))
+      turned out′ (x .policy) p′ (x .sessions) (x .orders) d₀ d f (rw (ne-eqb k 0 n)) found is (λ h. let w = h (omega arith) in record { tables = w .tables; sound = w .sound })

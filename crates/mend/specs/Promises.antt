@@ -1,6 +1,6 @@
 -- What the call promises, for every file, output, report and content of the state; and what each turn of it does.
 use Prim.Native.Nat.{ℕ, suc, _+_, _*_, _/_, _≤_, _<_}
-use mathlib.Core.Bool.{cond}
+use mathlib.Core.Bool.{true, cond}
 use mathlib.Core.List.{List, [], _∷_}
 use mathlib.Core.Path.{_≡_}
 use lib.Dec.{eqb}
@@ -12,6 +12,7 @@ use Rattle.paper_lower.specs.Load.{load}
 use Rattle.paper_lower.specs.Mend.{mend}
 use Rattle.paper_upper.specs.Engine.{engineOf}
 use Rattle.policy.specs.Reading.{policyOf}
+use Rattle.links.specs.Chains.{soundOf}
 use Rattle.lower.specs.Exports.{inOne}
 use Rattle.mending.specs.declared.Dropped.{Dropped}
 use Rattle.mending.specs.Rest.{entries, Rest, restFrom}
@@ -27,6 +28,8 @@ pub record MendDone (s out : Bytes) (report : List Dropped) (x : Buffers) (out�
   pub lengths : SameLengths x x′
   -- "nothing written", of the state neither
   pub room : (mendAnswer s out report x .reply ≡ 0 → ⊥) → x′ ≡ x
+  -- the links are sound, whatever was there before
+  pub settles : mendAnswer s out report x .reply ≡ 0 → soundOf (x′ .orders) ≡ true
 
 -- ---- One turn: from one refused record to the next.
 
@@ -60,9 +63,10 @@ toldOf dropped s out t d =
 abbrev pub tablesAt : ℕ → List ℕ → Policy
 tablesAt dropped p = cond (eqb dropped 0) noPolicy (policyOf p)
 
--- whatever policy the state holds, it holds it alone
-abbrev pub Alone : Buffers → Type 0
-Alone x = (p : List ℕ) → tablesOf (buffers p (x .sessions) (x .orders)) ≡ engineOf (policyOf p)
+-- whatever policy the state holds, it holds it alone, and its links are sound
+pub record Alone (x : Buffers) : Type 0 where
+  pub tables : (p : List ℕ) → tablesOf (buffers p (x .sessions) (x .orders)) ≡ engineOf (policyOf p)
+  pub sound : soundOf (x .orders) ≡ true
 
 pub record Turned (room place dropped : ℕ) (s out : Bytes) (x : Buffers) (out′ : Bytes) (x′ : Buffers) (d : Dropped) : Type 0 where
   pub refused : (checked s out room x ≡ 0 → ⊥) → (d ≡ record { place = checked s out room x; reply = 0 }) × ((out′ ≡ out) × (x′ ≡ x))

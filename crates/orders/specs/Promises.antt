@@ -1,5 +1,6 @@
 -- What requests 33, 41, 48, 49 and 58 promise of the buffers p (policy), s (sessions) and o (orders): a judge the reply of the definition's checks, an act
 -- that reply and the tables afterwards, with not one word changed where it refuses, and sound links again. Where a kind does not look at a buffer, its content is whatever it may be.
+-- All of it is promised of sound links; of any content, that a refusal changes no word.
 use Prim.Native.Nat.{ℕ}
 use mathlib.Core.Bool.{true}
 use mathlib.Core.List.{List}
@@ -12,6 +13,11 @@ use Rattle.replies.specs.declared.Reply.{Reply}
 use Rattle.sessions.specs.Both.{Both}
 use Rattle.links.specs.Chains.{soundOf}
 use Rattle.orders.specs.Tables.{engineTables, deleteWhole, deleteWholeNext, destroyWhole, destroyWholeNext}
+
+-- of any content no word changes where it refuses; the promise where the links are sound
+pub record AnyContent (o : List ℕ) (same promise : Type 0) (r : Reply) : Type 0 where
+  pub kept : (numberOf r ≡ 0 → ⊥) → same
+  pub sound : soundOf o ≡ true → promise
 
 -- ---- 33
 abbrev pub DeleteJudged : List ℕ → List ℕ → List ℕ → ℕ → Reply → Type 0

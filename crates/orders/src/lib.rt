@@ -1,21 +1,21 @@
 // Requests 48, 49 and 58, and 33 and 41 of the whole engine, whose IN USE looks at the entries.
-// Each is judged over what is only read, and then done; specs/Promises says what each promises.
+// Each is judged over what is only read, and then done; specs/Promises says what each promises, of any content of the orders buffer and of sound links.
 ghost use mathlib.Core.Path.{_≡_};
+ghost use mathlib.Core.Bool.{true};
 ghost use Prim.Native.Nat.{_<_};
 ghost use lib.ListN.{length};
 ghost use Rattle.policy.specs.Layout.{policyWords};
 ghost use Rattle.sessions.specs.Reading.{sessionsWords};
-ghost use Rattle.links.specs.Chains.{ordersWords};
-ghost use Rattle.entries.specs.Acts.{Ready};
-ghost use Rattle.orders.specs.Promises.{DeleteJudged, Deleted, DestroyJudged, Destroyed, OpenJudged, Opened, EndJudged, Ended, FiguresJudged};
+ghost use Rattle.links.specs.Chains.{ordersWords, soundOf};
+ghost use Rattle.orders.specs.Promises.{AnyContent, DeleteJudged, Deleted, DestroyJudged, Destroyed, OpenJudged, Opened, EndJudged, Ended, FiguresJudged};
 use replies::Reply;
 use replies::accepted;
 
 // ---- 33: delete user a, who has no entry in an open instance.
 
 fn delete_reply(p: &[u64], s: &[u64], o: &[u64], a: u64) -> Reply
-    requires { ⌜ (length (now p) ≡ policyWords) × ((length (now s) ≡ sessionsWords) × (Ready (now o) × (a < 1024))) ⌝ }
-    ensures { λ r. ⌜ DeleteJudged (now (p .entry)) (now (s .entry)) (now (o .entry)) a r ⌝ }
+    requires { ⌜ (length (now p) ≡ policyWords) × ((length (now s) ≡ sessionsWords) × ((length (now o) ≡ ordersWords) × (a < 1024))) ⌝ }
+    ensures { λ r. ⌜ (soundOf (now (o .entry)) ≡ true → DeleteJudged (now (p .entry)) (now (s .entry)) (now (o .entry)) a r) ⌝ }
 {
     let r = roles::delete_reply(p, s, a);
     if !accepted(r) {
@@ -26,8 +26,8 @@ fn delete_reply(p: &[u64], s: &[u64], o: &[u64], a: u64) -> Reply
 }
 
 pub fn delete(p: &mut [u64], s: &mut [u64], o: &[u64], a: u64) -> Reply
-    requires { ⌜ (length (now p) ≡ policyWords) × ((length (now s) ≡ sessionsWords) × (Ready (now o) × (a < 1024))) ⌝ }
-    ensures { λ r. ⌜ Deleted (now (p .entry)) (now (s .entry)) (now (p .exit)) (now (s .exit)) (now (o .entry)) a r ⌝ }
+    requires { ⌜ (length (now p) ≡ policyWords) × ((length (now s) ≡ sessionsWords) × ((length (now o) ≡ ordersWords) × (a < 1024))) ⌝ }
+    ensures { λ r. ⌜ AnyContent (now (o .entry)) ((now (p .exit) ≡ now (p .entry)) × (now (s .exit) ≡ now (s .entry))) (Deleted (now (p .entry)) (now (s .entry)) (now (p .exit)) (now (s .exit)) (now (o .entry)) a r) r ⌝ }
 {
     let r = delete_reply(p, s, o, a);
     if !accepted(r) {
@@ -40,8 +40,8 @@ pub fn delete(p: &mut [u64], s: &mut [u64], o: &[u64], a: u64) -> Reply
 // ---- 41: destroy subject a, which holds no task.
 
 fn destroy_reply(s: &[u64], o: &[u64], a: u64) -> Reply
-    requires { ⌜ (length (now s) ≡ sessionsWords) × (Ready (now o) × (a < 128)) ⌝ }
-    ensures { λ r. ⌜ DestroyJudged (now (s .entry)) (now (o .entry)) a r ⌝ }
+    requires { ⌜ (length (now s) ≡ sessionsWords) × ((length (now o) ≡ ordersWords) × (a < 128)) ⌝ }
+    ensures { λ r. ⌜ (soundOf (now (o .entry)) ≡ true → DestroyJudged (now (s .entry)) (now (o .entry)) a r) ⌝ }
 {
     let r = subjects::destroy_reply(s, a);
     if !accepted(r) {
@@ -52,8 +52,8 @@ fn destroy_reply(s: &[u64], o: &[u64], a: u64) -> Reply
 }
 
 pub fn destroy(s: &mut [u64], o: &[u64], a: u64) -> Reply
-    requires { ⌜ (length (now s) ≡ sessionsWords) × (Ready (now o) × (a < 128)) ⌝ }
-    ensures { λ r. ⌜ Destroyed (now (s .entry)) (now (s .exit)) (now (o .entry)) a r ⌝ }
+    requires { ⌜ (length (now s) ≡ sessionsWords) × ((length (now o) ≡ ordersWords) × (a < 128)) ⌝ }
+    ensures { λ r. ⌜ AnyContent (now (o .entry)) (now (s .exit) ≡ now (s .entry)) (Destroyed (now (s .entry)) (now (s .exit)) (now (o .entry)) a r) r ⌝ }
 {
     let r = destroy_reply(s, o, a);
     if !accepted(r) {
@@ -80,8 +80,8 @@ fn open_reply(p: &[u64], o: &[u64], a: u64, b: u64) -> Reply
 }
 
 pub fn open_order(p: &[u64], o: &mut [u64], a: u64, b: u64) -> Reply
-    requires { ⌜ (length (now p) ≡ policyWords) × (Ready (now o) × ((a < 64) × (b < 16))) ⌝ }
-    ensures { λ r. ⌜ Opened (now (p .entry)) (now (o .entry)) (now (o .exit)) a b r ⌝ }
+    requires { ⌜ (length (now p) ≡ policyWords) × ((length (now o) ≡ ordersWords) × ((a < 64) × (b < 16))) ⌝ }
+    ensures { λ r. ⌜ AnyContent (now (o .entry)) (now (o .exit) ≡ now (o .entry)) (Opened (now (p .entry)) (now (o .entry)) (now (o .exit)) a b r) r ⌝ }
 {
     let r = open_reply(p, o, a, b);
     if !accepted(r) {
@@ -94,8 +94,8 @@ pub fn open_order(p: &[u64], o: &mut [u64], a: u64, b: u64) -> Reply
 // ---- 49: end instance a, whatever the policy and the sessions are.
 
 fn end_reply(o: &[u64], a: u64) -> Reply
-    requires { ⌜ Ready (now o) × (a < 64) ⌝ }
-    ensures { λ r. ⌜ EndJudged (now (o .entry)) a r ⌝ }
+    requires { ⌜ (length (now o) ≡ ordersWords) × (a < 64) ⌝ }
+    ensures { λ r. ⌜ (soundOf (now (o .entry)) ≡ true → EndJudged (now (o .entry)) a r) ⌝ }
 {
     let x = entries::opened(o, a);
     if !x.open {
@@ -106,8 +106,8 @@ fn end_reply(o: &[u64], a: u64) -> Reply
 }
 
 pub fn end_order(o: &mut [u64], a: u64) -> Reply
-    requires { ⌜ Ready (now o) × (a < 64) ⌝ }
-    ensures { λ r. ⌜ Ended (now (o .entry)) (now (o .exit)) a r ⌝ }
+    requires { ⌜ (length (now o) ≡ ordersWords) × (a < 64) ⌝ }
+    ensures { λ r. ⌜ AnyContent (now (o .entry)) (now (o .exit) ≡ now (o .entry)) (Ended (now (o .entry)) (now (o .exit)) a r) r ⌝ }
 {
     let r = end_reply(o, a);
     if !accepted(r) {

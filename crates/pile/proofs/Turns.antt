@@ -1,15 +1,17 @@
 -- One turn of the pile's loop: what was replied and what is left to ask make the whole.
 use Prim.Native.Nat.{ℕ, zero, suc, _+_, _-_, _*_, _/_, _≤_, _<_}
-use mathlib.Core.Bool.{true}
+use mathlib.Core.Bool.{Bool, true, false}
 use mathlib.Core.List.{List, [], _∷_, _++_, append-nil}
+use mathlib.Core.Logic.{_⊎_, inl, inr}
 use mathlib.Core.Path.{_≡_, refl, sym, ap, subst, _∙_}
 use native.Mathlib.Nat.{not-suc-le-zero}
 use native.Mathlib.Numerals.{add-one, sub-one}
 use native.Mathlib.Omega.{arith}
-use borrow.Author.Tests.{eq-eqb}
+use borrow.Author.Tests.{eqb-true, eqb-false}
+use lib.Dec.{eqb}
 use lib.ListN.{length, take, drop, set, take-append-drop}
 use lib.Seq.{drop-drop, take-suc-set, drop-set-lt, append-snoc}
-use Rattle.paper_lower.specs.Lists.{each}
+use Rattle.paper_lower.specs.Lists.{each, Every}
 use Rattle.paper_lower.specs.Records.{Bytes}
 use Rattle.paper_lower.specs.Kinds.{after}
 use Rattle.paper_upper.specs.Orders.{SameTables}
@@ -18,15 +20,14 @@ use Rattle.replies.specs.Replies.{numberOf}
 use Rattle.rules.specs.declared.Judged.{Judged}
 use Rattle.engine.specs.Buffers.{Buffers, tablesOf, fit, SameLengths}
 use Rattle.engine.specs.Answers.{requestAnswer, Requested}
-use Rattle.engine.specs.Settling.{Settling, SettledRequest}
+use Rattle.links.specs.Chains.{soundOf}
 use Rattle.links.proofs.SameLaws.{tables-refl, tables-sym, tables-then}
 use Rattle.engine.proofs.RespectLaws.{runs-respect}
-use Rattle.engine.proofs.Ways.{fitting}
 use Rattle.theorems.proofs.Replies.{in-byte}
 use Rattle.demands.specs.Calls.Request.{within}
-use Rattle.demands.proofs.Calls.{request-listed, answers}
+use Rattle.demands.proofs.Calls.{fit-kept, request-listed, answers, stays-sound}
 use Rattle.pile.specs.Pile.{wholeFrom, repliesOf}
-use Rattle.pile.specs.Promises.{Answers}
+use Rattle.pile.specs.Promises.{NotGranted, Answers}
 
 -- a reply is a byte
 pub small : {bytes : Bytes} {x y : Buffers} {j : Judged} → Requested bytes x y j → numberOf (j .reply) ≤ 255
@@ -38,9 +39,12 @@ pub record Left (n : ℕ) (bytes : Bytes) (x₀ x : Buffers) (i at : ℕ) (out�
   pub tables : SameTables (after request (tablesOf x) (wholeFrom (n - i) (drop at bytes))) (after request (tablesOf x₀) (wholeFrom n bytes))
   pub rest : drop i out ≡ drop i out₀
   pub lengths : SameLengths x₀ x
-  pub settled : Settling x
+  pub fits : fit x ≡ true
+  pub still : Every NotGranted (repliesOf (placedRun (tablesOf x₀) (wholeFrom n bytes)))
+      → Every NotGranted (repliesOf (placedRun (tablesOf x) (wholeFrom (n - i) (drop at bytes)))) × (x ≡ x₀)
+  pub settles : (soundOf (x .orders) ≡ true) ⊎ (x ≡ x₀)
 
-pub begun : (n : ℕ) (bytes : Bytes) (x : Buffers) (out : Bytes) → Settling x → Left n bytes x x 0 0 out out
+pub begun : (n : ℕ) (bytes : Bytes) (x : Buffers) (out : Bytes) → fit x ≡ true → Left n bytes x x 0 0 out out
 begun n bytes x out f =
     let z : n - 0 ≡ n = omega arith in
     record {
@@ -48,7 +52,9 @@ begun n bytes x out f =
       tables = rw z (tables-refl _);
       rest = refl;
       lengths = record { policy = refl; sessions = refl; orders = refl };
-      settled = f;
+      fits = f;
+      still = λ e. (rw z e, refl);
+      settles = inr refl;
     }
 
 module _ (bytes : Bytes) (at : ℕ) {k : ℕ} {x y : Buffers} {j : Judged} (k16 : k ≡ 16) (q : Requested (take k (drop at bytes)) x y j) (f : fit x ≡ true) where
@@ -81,13 +87,23 @@ untouched out₀ out i v e =
     let l : i < i + 1 = omega arith in
     drop-set-lt (i + 1) out i v l ∙ sym (drop-drop 1 i out) ∙ ap (drop 1) e ∙ drop-drop 1 i out₀
 
+-- a granted request leaves sound links, and a refused one what was
+granted-or-not : {bytes : Bytes} {x₀ x y : Buffers} {j : Judged} → Requested bytes x y j → (soundOf (x .orders) ≡ true) ⊎ (x ≡ x₀) → (soundOf (y .orders) ≡ true) ⊎ (y ≡ x₀)
+granted-or-not {x₀ = x₀} {x} {y} {j} q was = go (eqb (numberOf (j .reply)) 0) refl
+  where
+    go : (b : Bool) → eqb (numberOf (j .reply)) 0 ≡ b → (soundOf (y .orders) ≡ true) ⊎ (y ≡ x₀)
+    go true e = inl (q .settles (eqb-true _ _ e))
+    go false e = rw (q .kept (eqb-false _ _ e)) was
+
+pub still-sound : {bytes : Bytes} {x y : Buffers} {j : Judged} → Requested bytes x y j → soundOf (x .orders) ≡ true → soundOf (y .orders) ≡ true
+still-sound q s = stays-sound (within q) s
+
 pub turned : {n : ℕ} {bytes : Bytes} {x₀ x y : Buffers} {i at k : ℕ} {out₀ out : Bytes} {j : Judged} {v : ℕ}
-    → Left n bytes x₀ x i at out₀ out → k ≡ 16 → SettledRequest (take k (drop at bytes)) x y j → v ≡ numberOf (j .reply) → i < n → i < length out
+    → Left n bytes x₀ x i at out₀ out → k ≡ 16 → Requested (take k (drop at bytes)) x y j → v ≡ numberOf (j .reply) → i < n → i < length out
     → Left n bytes x₀ y (i + 1) (at + 16) out₀ (set out i v)
-turned {n} {bytes} {x₀} {x} {y} {i} {at} {k} {out₀} {out} {j} {v} l k16 r e m h =
+turned {n} {bytes} {x₀} {x} {y} {i} {at} {k} {out₀} {out} {j} {v} l k16 q e m h =
     let z : n - i - 1 ≡ n - (i + 1) = omega arith in
-    let f = fitting x (l .settled) in
-    let q = r .0 in
+    let f = l .fits in
     let a = next-replies bytes at k16 q f (n - i) (omega arith) in
     let b = next-tables bytes at k16 q f (n - i) (omega arith) in
     record {
@@ -99,7 +115,12 @@ turned {n} {bytes} {x₀} {x} {y} {i} {at} {k} {out₀} {out} {j} {v} l k16 r e 
         sessions = q .lengths .sessions ∙ l .lengths .sessions;
         orders = q .lengths .orders ∙ l .lengths .orders;
       };
-      settled = r .1;
+      fits = fit-kept (q .lengths) ∙ f;
+      still = λ all.
+          let s = l .still all in
+          let t : Every NotGranted (numberOf (j .reply) ∷ repliesOf (placedRun (tablesOf y) (wholeFrom (n - i - 1) (drop (at + 16) bytes)))) = rw a at (s .0) in
+          (rw (← z) (t .1), q .kept (t .0) ∙ s .1);
+      settles = granted-or-not q (l .settles);
     }
 
 pub ended : {n : ℕ} {bytes : Bytes} {x₀ x : Buffers} {i at : ℕ} {out₀ out : Bytes} → Left n bytes x₀ x i at out₀ out → i ≡ n → Answers n bytes x₀ x out₀ out
@@ -112,4 +133,6 @@ ended {n} {bytes} {x₀} {x} {i} {at} {out₀} {out} l e =
       replies = sym (take-append-drop i out) ∙ rw (w′, l .rest, e);
       tables = rw z at (l .tables);
       lengths = l .lengths;
+      still = λ all. l .still all .1;
+      settles = l .settles;
     }

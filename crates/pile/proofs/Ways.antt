@@ -1,13 +1,14 @@
 -- The two ways out of a pile: refused, with nothing written; or done, the replies in the middle of the answer buffer.
 use Prim.Native.Nat.{ℕ, zero, suc, _+_, _-_, _%_, _≤_}
-use mathlib.Core.Bool.{Bool, true, false, not}
+use mathlib.Core.Bool.{Bool, true, false, not, _&&_}
 use mathlib.Core.List.{List, [], _∷_, _++_, append-nil}
+use mathlib.Core.Logic.{inr}
 use mathlib.Core.Path.{_≡_, refl, sym, ap, _∙_}
 use native.Mathlib.Omega.{arith}
 use lib.Dec.{eqb, ltb}
 use lib.ListN.{length, take, drop, length-drop, drop-of-length-le}
 use lib.Seq.{drop-drop, take-all}
-use borrow.Author.Tests.{ltb-false, not-true, not-false}
+use borrow.Author.Tests.{eqb-true, ltb-false, not-true, not-false}
 use Rattle.paper_lower.specs.Lists.{each}
 use Rattle.paper_lower.specs.Checks.{first, granted, ROOM}
 use Rattle.paper_lower.specs.Records.{Bytes}
@@ -17,7 +18,10 @@ use Rattle.replies.specs.Replies.{numberOf}
 use Rattle.replies.specs.declared.Reply.{Reply}
 use Rattle.replies.proofs.ReplyLaws.{is-zero, not-zero}
 use Rattle.engine.specs.Buffers.{Buffers, tablesOf, fit}
-use Rattle.engine.specs.Settling.{SettledAs}
+use Rattle.paper_lower.proofs.ListLaws.{both}
+use Rattle.policy.specs.Layout.{policyWords}
+use Rattle.sessions.specs.Reading.{sessionsWords}
+use Rattle.links.specs.Chains.{ordersWords}
 use Rattle.links.proofs.SameLaws.{tables-refl}
 use Rattle.pile.specs.Pile.{count, wholeFrom, whole, MOST, repliesOf, writtenAt, pileChecks, pileOf, pileAnswer}
 use Rattle.pile.specs.Promises.{PileDone, Answers}
@@ -33,6 +37,8 @@ module _ (s answers : Bytes) (at : ℕ) (x : Buffers) where
     tables = rw e (tables-refl (tablesOf x));
     lengths = record { policy = refl; sessions = refl; orders = refl };
     kept = λ _. refl;
+    still = λ _. refl;
+    settles = inr refl;
   }
 
   pub refused : (r : Reply) {b : Bool} → numberOf r ≡ first (pileChecks (fit x) s answers at) → b ≡ eqb (numberOf r) 0 → not b ≡ true → PileDone s answers at answers x x (numberOf r)
@@ -58,6 +64,12 @@ module _ (s answers : Bytes) (at : ℕ) (x : Buffers) where
       let h = none-of (not (fit x)) (ltb (length answers) at) (ltb (length answers) (at + count s)) (ltb MOST (count s)) (not (eqb (length s % 16) 0)) z in
       record { none-applies = z; fits = not-false (fit x) (h .0); inside = ltb-false _ _ (h .1); room = ltb-false _ _ (h .2) }
 
+-- the orders buffer then has its length
+pub room-of : (x : Buffers) → fit x ≡ true → length (x .orders) ≡ ordersWords
+room-of x f =
+    let l = both (eqb (length (x .policy)) policyWords && eqb (length (x .sessions)) sessionsWords) (eqb (length (x .orders)) ordersWords) f in
+    eqb-true _ _ (l .1)
+
 -- ---- The replies go into the middle.
 replies-count : (n : ℕ) (s : Bytes) (t : Engine) → length (repliesOf (placedRun t (wholeFrom n s))) ≡ n
 unfolding wholeFrom placedRun each
@@ -73,23 +85,20 @@ laid at n l last rs h m e =
     let e′ : last ≡ rs ++ drop n (drop at l) = rw t at e in
     rw (d, append-nil, e′, drop-drop n at l, m)
 
-pub done : {s answers : Bytes} {at k : ℕ} {x z y : Buffers} {last : Bytes} → Taken s answers at x → SettledAs x z k
-    → Answers (count s) s z y (take (length answers - at) (drop at answers)) last
+pub done : {s answers : Bytes} {at : ℕ} {x y : Buffers} {last : Bytes} → Taken s answers at x
+    → Answers (count s) s x y (take (length answers - at) (drop at answers)) last
     → PileDone s answers at (take at answers ++ (last ++ drop (length answers - at) (drop at answers))) x y 0
 unfolding pileOf
-done {s} {answers} {at} {x = x} {z} {y} {last} k m a =
+done {s} {answers} {at} {x} {y} {last} k a =
     let n = k .none-applies in
-    let r : last ≡ repliesOf (placedRun (tablesOf x) (whole s)) ++ drop (count s) (take (length answers - at) (drop at answers)) = rw (m .tables) at (a .replies) in
     record {
       replies = rw n;
-      written = laid at (count s) answers last (repliesOf (placedRun (tablesOf x) (whole s))) (k .room) (replies-count (count s) s (tablesOf x)) r ∙ rw n;
-      tables = rw n (rw (m .tables) at (a .tables));
-      lengths = record {
-        policy = a .lengths .policy ∙ m .lengths .policy;
-        sessions = a .lengths .sessions ∙ m .lengths .sessions;
-        orders = a .lengths .orders ∙ m .lengths .orders;
-      };
+      written = laid at (count s) answers last (repliesOf (placedRun (tablesOf x) (whole s))) (k .room) (replies-count (count s) s (tablesOf x)) (a .replies) ∙ rw n;
+      tables = rw n (a .tables);
+      lengths = a .lengths;
       kept = λ h. absurd (h refl);
+      still = a .still;
+      settles = a .settles;
     }
 
 -- ---- The same, as a number.
@@ -100,4 +109,6 @@ as-number d e = record {
   tables = d .tables;
   lengths = d .lengths;
   kept = λ n. d .kept (λ z. n (e ∙ z));
+  still = d .still;
+  settles = d .settles;
 }

@@ -1,17 +1,24 @@
 -- What the call promises, for every record, answer buffer, place and content of the state.
 use Prim.Native.Nat.{ℕ, _+_}
+use mathlib.Core.Bool.{true}
 use mathlib.Core.List.{List, [], _++_}
+use mathlib.Core.Logic.{_⊎_}
 use mathlib.Core.Path.{_≡_}
 use lib.ListN.{drop}
+use Rattle.paper_lower.specs.Lists.{Every}
 use Rattle.paper_lower.specs.Records.{Bytes}
 use Rattle.paper_lower.specs.Kinds.{after}
 use Rattle.paper_upper.specs.Orders.{SameTables}
 use Rattle.paper_upper.specs.Engine.{request, Placed, placedRun}
 use Rattle.replies.specs.Replies.{numberOf}
 use Rattle.replies.specs.declared.Reply.{Reply}
+use Rattle.links.specs.Chains.{soundOf}
 use Rattle.engine.specs.Buffers.{Buffers, tablesOf, fit, SameLengths}
 use Rattle.demands.specs.Calls.{Together, Requests, fitting, asked}
 use Rattle.pile.specs.Pile.{wholeFrom, whole, repliesOf, writtenAt, pileAnswer}
+
+abbrev pub NotGranted : ℕ → Type 0
+NotGranted reply = reply ≡ 0 → ⊥
 
 pub record PileDone (bytes answers : Bytes) (at : ℕ) (answers′ : Bytes) (x x′ : Buffers) (number : ℕ) : Type 0 where
   pub replies : number ≡ pileAnswer bytes answers at x .reply
@@ -20,12 +27,18 @@ pub record PileDone (bytes answers : Bytes) (at : ℕ) (answers′ : Bytes) (x x
   pub lengths : SameLengths x x′
   -- "Refusals, before any request is done": no word of the state changes
   pub kept : (number ≡ 0 → ⊥) → x′ ≡ x
+  -- "Refused requests change no byte of the state.": nor does a pile of them
+  pub still : Every NotGranted (repliesOf (placedRun (tablesOf x) (whole bytes))) → x′ ≡ x
+  -- a request that was granted left sound links
+  pub settles : (soundOf (x′ .orders) ≡ true) ⊎ (x′ ≡ x)
 
 -- so many requests, whose replies go to the front of the bytes lent
 pub record Answers (n : ℕ) (bytes : Bytes) (x x′ : Buffers) (out out′ : Bytes) : Type 0 where
   pub replies : out′ ≡ repliesOf (placedRun (tablesOf x) (wholeFrom n bytes)) ++ drop n out
   pub tables : SameTables (tablesOf x′) (after request (tablesOf x) (wholeFrom n bytes))
   pub lengths : SameLengths x x′
+  pub still : Every NotGranted (repliesOf (placedRun (tablesOf x) (wholeFrom n bytes))) → x′ ≡ x
+  pub settles : (soundOf (x′ .orders) ≡ true) ⊎ (x′ ≡ x)
 
 -- "Replies and tables equal those of the requests made one by one": by whichever function, and whatever slots of the ledger they take
 pub record AsOneByOne : Type 0 where

@@ -1,38 +1,60 @@
-// The morning pile (document 02, Ask 3): many requests in one call. The links are looked at once, and then each record is a settled request.
+// The morning pile (document 02, Ask 3): many requests in one call. The links are looked at once; where they are sound each record is a settled request, and else a
+// request, so that nothing is written before one is granted.
 ghost use mathlib.Core.Path.{_≡_};
+ghost use mathlib.Core.Bool.{true};
 ghost use Prim.Native.Nat.{_*_, _≤_};
 ghost use lib.ListN.{length};
 ghost use Rattle.paper_lower.specs.Checks.{first};
 ghost use Rattle.replies.specs.Replies.{numberOf};
 ghost use Rattle.engine.specs.Buffers.{buffers, fit};
-ghost use Rattle.engine.specs.Settling.{Settling};
+ghost use Rattle.links.specs.Chains.{soundOf};
+ghost use Rattle.engine.specs.Answers.{Requested};
 ghost use Rattle.pile.specs.Pile.{pileChecks};
 ghost use Rattle.pile.specs.Promises.{PileDone, Answers};
 use links::ORDERS_WORDS;
 use policy::POLICY_WORDS;
 use replies::Reply;
+use rules::Judged;
 use sessions::SESSIONS_WORDS;
 
 // How many records one call takes.
 pub const MOST: usize = 4096;
 
-// So many requests, one after the other, on links that are sound; their replies go to the front of `out`.
+// One request, without a look at the links where they are sound.
+fn ask(
+    bytes: &[u8],
+    sound: bool,
+    policy: &mut [u64],
+    sessions: &mut [u64],
+    orders: &mut [u64],
+) -> Judged
+    requires { ⌜ (sound ≡ true → soundOf (now orders) ≡ true) ⌝ }
+    ensures { λ j. ⌜ Requested (now (bytes .entry)) (buffers (now (policy .entry)) (now (sessions .entry)) (now (orders .entry))) (buffers (now (policy .exit)) (now (sessions .exit)) (now (orders .exit))) j ⌝ }
+{
+    if sound {
+        return engine::settled_request(bytes, policy, sessions, orders);
+    }
+    engine::request(bytes, policy, sessions, orders)
+}
+
+// So many requests, one after the other; their replies go to the front of `out`.
 fn answer_all(
     bytes: &[u8],
     n: usize,
     out: &mut [u8],
+    sound: bool,
     policy: &mut [u64],
     sessions: &mut [u64],
     orders: &mut [u64],
 )
-    requires { ⌜ (16 * n ≤ length (now bytes)) × ((n ≤ length (now out)) × Settling (buffers (now policy) (now sessions) (now orders))) ⌝ }
+    requires { ⌜ (16 * n ≤ length (now bytes)) × ((n ≤ length (now out)) × ((fit (buffers (now policy) (now sessions) (now orders)) ≡ true) × (sound ≡ true → soundOf (now orders) ≡ true))) ⌝ }
     ensures { λ _. ⌜ Answers n (now (bytes .entry)) (buffers (now (policy .entry)) (now (sessions .entry)) (now (orders .entry))) (buffers (now (policy .exit)) (now (sessions .exit)) (now (orders .exit))) (now (out .entry)) (now (out .exit)) ⌝ }
 {
     let mut at = 0;
     let mut i = 0;
     while i < n {
         let end = at + 16;
-        let j = engine::settled_request(&bytes[at..end], policy, sessions, orders);
+        let j = ask(&bytes[at..end], sound, policy, sessions, orders);
         let r = j.reply;
         out[i] = replies::number(r) as u8;
         at = end;
@@ -88,11 +110,12 @@ pub fn pile(
     if !replies::accepted(r) {
         return r;
     }
-    engine::settle(policy, sessions, orders);
+    let sound = links::is_sound(orders);
     answer_all(
         bytes,
         bytes.len() / 16,
         &mut answers[at..],
+        sound,
         policy,
         sessions,
         orders,

@@ -2,3 +2,4 @@ mod Looks
 mod BlockLaws
 mod Chain
 pub mod JudgeLaws
+pub mod PlaceLaws

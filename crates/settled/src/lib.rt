@@ -2,9 +2,10 @@
 // It rests on `engine`, which makes the request.
 ghost use mathlib.Core.Path.{_≡_};
 ghost use Rattle.engine.specs.Buffers.{buffers};
-ghost use Rattle.engine.specs.Settling.{Settling, SettledExported};
+ghost use Rattle.engine.specs.Settling.{SettledExported};
 
-// It asks that the state is settled, by mishantral_settle or a load, and that only settled requests and loads were made of it since.
+// It asks nothing of its caller. On sound links, which mishantral_settle and a load leave and it keeps, it is the request; on any others it keeps to the buffers, gives a
+// reply of the table, and changes no word where it refuses.
 #[no_mangle]
 pub extern "C" fn mishantral_settled_request(
     bytes: &[u8],
@@ -12,7 +13,6 @@ pub extern "C" fn mishantral_settled_request(
     sessions: &mut [u64],
     orders: &mut [u64],
 ) -> u64
-    requires { ⌜ Settling (buffers (now policy) (now sessions) (now orders)) ⌝ }
     ensures { λ n. ⌜ SettledExported (now (bytes .entry)) (buffers (now (policy .entry)) (now (sessions .entry)) (now (orders .entry))) (buffers (now (policy .exit)) (now (sessions .exit)) (now (orders .exit))) n ⌝ }
 {
     let r = engine::settled_request(bytes, policy, sessions, orders);

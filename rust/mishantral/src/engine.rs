@@ -18,7 +18,8 @@ use core::fmt;
 /// A call that takes bytes and may change the state.
 type Call = fn(&[u8], &mut [u64], &mut [u64], &mut [u64]) -> u64;
 
-/// The request of a settled state: it does not look through the links of the orders buffer.
+/// The request of a settled state: it does not look through the links of the orders buffer. Of any other state it stays within the buffers,
+/// and a refusal changes nothing, but its answers are not those of the empty engine that the state reads as.
 #[cfg(mishantral_settled_request)]
 const SETTLED_REQUEST: Call = mishantral_settled_request;
 #[cfg(not(mishantral_settled_request))]

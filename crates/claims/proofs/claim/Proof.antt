@@ -1,3 +1,4 @@
+-- Written from Proof.tmpl by 'prove expand': edit that file.
 -- Judged, and then one entry more: a granted claim finds room.
 use mathlib.Core.Path.{_≡_, refl, sym, subst, _∙_}
 use borrow.Author.Tests.{not-false}
@@ -25,34 +26,31 @@ same-length : tie.Need-same-length
 same-length c = search needs
 
 returns : tie.Need-returns
-returns c =
-    let z = c .before .before .before .before .before .before .before .args in
-    let t = engineTables (z .p .now) (z .s .now) (z .o .now) in
-    let d : Done (engineTables (z .p .now) (z .s .now)) (first (claimChecks t (z .a) (z .b) (z .c))) (claimNext t (z .a) (z .b) (z .c)) (z .o .now) (z .o .now) (c .before .before .claim-reply .result .reply) = refused (c .before .before .claim-reply .ensures .replies) (c .before .accepted .ensures) (c .if1 .taken) in
-    record {
-      replies = d .replies;
-      places = c .before .before .claim-reply .ensures .places ∙ rw (c .before .before .claim-reply .ensures .replies);
-      tables = subst (λ (x : Engine). SameTables t x) (d .tables) (tables-refl t);
-      kept = d .kept;
-      sound = c .before .before .before .before .before .before .before .pre .1 .1 .0 .1;
-    }
+returns c = (
+  c .before .before .claim-reply .ensures .0,
+  record {
+    kept = λ _. refl;
+    sound = λ s.
+        let z = c .before .before .before .before .before .before .before .args in
+        let t = engineTables (z .p .now) (z .s .now) (z .o .now) in
+        let q = c .before .before .claim-reply .ensures .1 s in
+        let d : Done (engineTables (z .p .now) (z .s .now)) (first (claimChecks t (z .a) (z .b) (z .c))) (claimNext t (z .a) (z .b) (z .c)) (z .o .now) (z .o .now) (c .before .before .claim-reply .result .reply) =
+        refused (q .replies) (c .before .accepted .ensures) (c .if1 .taken) in
+        record {
+          replies = d .replies;
+          places = q .places ∙ rw (q .replies);
+          tables = subst (λ (x : Engine). SameTables t x) (d .tables) (tables-refl t);
+          kept = d .kept;
+          sound = s;
+        };
+  },
+)
 
 user-requires : tie.Need-user-requires
 user-requires c κs = search needs
 
 enter-requires : tie.Need-enter-requires
-enter-requires c κs =
-    let z = c .before .before .before .before .before .before .before .before .before .args in
-    let t = engineTables (z .p .now) (z .s .now) (z .o .now) in (
-      c .before .before .before .before .before .before .before .before .before .pre .1 .1 .0,
-      (
-        claim-opened t (z .a) (z .b) (z .c) (c .before .before .before .before .claim-reply .result .reply) (c .before .before .before .before .claim-reply .ensures .replies) (c .before .before .before .accepted .ensures) (c .before .before .if1 .left),
-        (
-          room t (z .a) (z .b) (z .c) (c .before .before .before .before .claim-reply .result .reply) (c .before .before .before .before .claim-reply .ensures .replies) (c .before .before .before .accepted .ensures) (c .before .before .if1 .left),
-          (c .before .user .ensures .1, (c .before .before .before .before .before .before .before .before .before .pre .1 .1 .1 .1 .0, (c .before .before .before .before .before .before .before .before .before .pre .1 .1 .1 .1 .1, c .before .before .before .before .before .before .before .before .before .pre .1 .1 .1 .0))),
-        ),
-      ),
-    )
+enter-requires c κs = (c .before .before .before .before .before .before .before .before .before .pre .1 .1 .0, (c .before .user .ensures .1, (c .before .before .before .before .before .before .before .before .before .pre .1 .1 .1 .1 .0, (c .before .before .before .before .before .before .before .before .before .pre .1 .1 .1 .1 .1, c .before .before .before .before .before .before .before .before .before .pre .1 .1 .1 .0))))
 
 same-length-2 : tie.Need-same-length-2
 same-length-2 c = search needs
@@ -61,14 +59,24 @@ returns-2 : tie.Need-returns-2
 unfolding claimNext
 returns-2 c =
     let r = c .before .before .before .before .before .before .before .claim-reply .result .reply in
-    let z : numberOf r ≡ 0 = is-zero r (c .before .before .before .before .before .before .accepted .ensures) (not-false _ (c .before .before .before .before .before .if1 .left)) in
-    record {
-      replies = c .before .before .before .before .before .before .before .claim-reply .ensures .replies;
-      places = c .before .before .before .before .before .before .before .claim-reply .ensures .places ∙ rw (c .before .before .before .before .before .before .before .claim-reply .ensures .replies);
-      tables = rw (sym (c .before .before .before .before .before .before .before .claim-reply .ensures .replies) ∙ z, ← c .before .before .before .before .user .ensures .0) (record { lower = refl; opened = c .before .before .enter .ensures .opened; entries = c .before .before .enter .ensures .entries });
-      kept = λ h. absurd (h z);
-      sound = c .before .before .enter .ensures .sound;
-    }
+    let n : numberOf r ≡ 0 = is-zero r (c .before .before .before .before .before .before .accepted .ensures) (not-false _ (c .before .before .before .before .before .if1 .left)) in (
+      c .before .before .before .before .before .before .before .claim-reply .ensures .0,
+      record {
+        kept = λ h. absurd (h n);
+        sound = λ s.
+            let z = c .before .before .before .before .before .before .before .before .before .before .before .before .args in
+            let t = engineTables (z .p .now) (z .s .now) (z .o .now) in
+            let q = c .before .before .before .before .before .before .before .claim-reply .ensures .1 s in
+            let e = c .before .before .enter .ensures .1 s (claim-opened t (z .a) (z .b) (z .c) r (q .replies) (c .before .before .before .before .before .before .accepted .ensures) (c .before .before .before .before .before .if1 .left)) (room t (z .a) (z .b) (z .c) r (q .replies) (c .before .before .before .before .before .before .accepted .ensures) (c .before .before .before .before .before .if1 .left)) in
+            record {
+              replies = q .replies;
+              places = q .places ∙ rw (q .replies);
+              tables = rw (sym (q .replies) ∙ n, ← c .before .before .before .before .user .ensures .0) (record { lower = refl; opened = e .opened; entries = e .entries });
+              kept = λ h. absurd (h n);
+              sound = e .sound;
+            };
+      },
+    )
 
 pub claim-spec : {M : Type 1} → statement M
 claim-spec =

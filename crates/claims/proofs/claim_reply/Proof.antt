@@ -1,5 +1,7 @@
+-- Written from Proof.tmpl by 'prove expand': edit that file.
 -- Each way out is the first check of the definition that applies; the rules are judged over what one walk gathered.
 use mathlib.Core.Path.{_≡_, refl, sym}
+use mathlib.Core.Bool.{true}
 use mathlib.Core.List.{_++_}
 use borrow.Author.Needs.{needs}
 use borrow.Author.Tests.{eq-eqb, ne-eqb, le-leb, lt-leb}
@@ -9,37 +11,34 @@ use Rattle.paper_upper.specs.Requests.{claimChecks, claimPlace}
 use Rattle.replies.specs.Replies.{numberOf}
 use Rattle.replies.specs.declared.Reply.the-variants.{Granted, Unknown, Taken, NoRole, Full}
 use Rattle.rules.proofs.JudgeLaws.{plainly}
+use Rattle.rules.proofs.PlaceLaws.{judged-place, plain-place}
+use Rattle.links.specs.Chains.{soundOf}
 use Rattle.orders.specs.Tables.{engineTables}
 use Rattle.claims.proofs.ClaimLaws.{rulesOf, fullOf, template-known, rules-next, held-is, place-by-entries, by-entries, by-rule, by-room}
 use Rattle.claims.proofs.claim_reply.Statement.{statement}
 use Rattle.claims.proofs.claim_reply.Tie as tie
 
 -- what is known once the rules are judged: the checks before them passed, and the judge's reply is that of the rules
-passes : (c : tie.After-rules-reply) →
+passes : (c : tie.After-rules-reply) → soundOf (c .before .before .before .before .before .before .before .before .before .before .before .before .before .args .o .now) ≡ true →
     let z = c .before .before .before .before .before .before .before .before .before .before .before .before .before .args in
     let t = engineTables (z .p .now) (z .s .now) (z .o .now) in
     first (claimChecks t (z .a) (z .b) (z .c)) ≡ first (rulesOf t (z .a) (z .b) (z .c) ++ fullOf t (z .a) (z .b) (z .c))
-passes c =
+passes c s =
     let z = c .before .before .before .before .before .before .before .before .before .before .before .before .before .args in
     let t = engineTables (z .p .now) (z .s .now) (z .o .now) in
-    rules-next t (z .a) (z .b) (z .c)
-    (c .before .before .before .before .before .before .before .before .before .is-unknown .ensures) (c .before .before .before .before .before .before .before .before .if1 .left)
-    (held-is t (z .a) (z .b) (z .c) (c .before .before .before .before .before .before .before .user .ensures .0) (c .before .before .before .before .before .before .gather .ensures)
-    (ne-eqb _ _ (c .before .before .before .before .if2 .left)))
+    rules-next t (z .a) (z .b) (z .c) (c .before .before .before .before .before .before .before .before .before .is-unknown .ensures) (c .before .before .before .before .before .before .before .before .if1 .left)
+    (held-is t (z .a) (z .b) (z .c) (c .before .before .before .before .before .before .before .user .ensures .0) (c .before .before .before .before .before .before .gather .ensures s) (ne-eqb _ _ (c .before .before .before .before .if2 .left)))
     (c .before .before .before .has-role .ensures) (c .before .before .if3 .left)
 
-judged : (c : tie.After-rules-reply) →
+judged : (c : tie.After-rules-reply) → soundOf (c .before .before .before .before .before .before .before .before .before .before .before .before .before .args .o .now) ≡ true →
     let z = c .before .before .before .before .before .before .before .before .before .before .before .before .before .args in
     let t = engineTables (z .p .now) (z .s .now) (z .o .now) in
     numberOf (c .rules-reply .result .reply) ≡ first (rulesOf t (z .a) (z .b) (z .c))
-judged c =
+judged c s =
     let z = c .before .before .before .before .before .before .before .before .before .before .before .before .before .args in
     let t = engineTables (z .p .now) (z .s .now) (z .o .now) in
-    by-entries t (z .a) (z .b) (z .c) (c .before .before .before .before .before .before .before .user .ensures .0) (c .before .before .before .before .before .before .gather .ensures)
-    (c .rules-reply .result .reply)
-    (template-known t (z .a) (z .b) (z .c) (c .before .opened .result) (c .before .opened .ensures .0)
-    (c .before .before .before .before .before .before .before .before .before .is-unknown .ensures) (c .before .before .before .before .before .before .before .before .if1 .left))
-    (c .rules-reply .ensures .replies)
+    by-entries t (z .a) (z .b) (z .c) (c .before .before .before .before .before .before .before .user .ensures .0) (c .before .before .before .before .before .before .gather .ensures s) (c .rules-reply .result .reply)
+    (template-known t (z .a) (z .b) (z .c) (c .before .opened .result) (c .before .opened .ensures .0) (c .before .before .before .before .before .before .before .before .before .is-unknown .ensures) (c .before .before .before .before .before .before .before .before .if1 .left)) (c .rules-reply .ensures .replies)
 
 is-unknown-requires : tie.Need-is-unknown-requires
 is-unknown-requires c κs = search needs
@@ -49,7 +48,7 @@ plain-requires c κs = search needs
 
 returns : tie.Need-returns
 unfolding claimChecks claimPlace rulePlace
-returns c = plainly Unknown (c .plain .ensures) (simp (← c .before .before .is-unknown .ensures, c .before .if1 .taken)) refl
+returns c = (plain-place (c .plain .ensures), λ s. plainly Unknown (c .plain .ensures) (simp (← c .before .before .is-unknown .ensures, c .before .if1 .taken)) refl)
 
 user-requires : tie.Need-user-requires
 user-requires c κs = search needs
@@ -64,13 +63,12 @@ returns-2 : tie.Need-returns-2
 unfolding claimChecks claimPlace rulePlace
 returns-2 c =
     let z = c .before .before .before .before .before .before .before .before .before .before .args in
-    let t = engineTables (z .p .now) (z .s .now) (z .o .now) in
-    plainly Taken (c .plain2 .ensures)
-    (simp (
-      ← c .before .before .before .before .before .before .is-unknown .ensures,
-      c .before .before .before .before .before .if1 .left,
-      held-is t (z .a) (z .b) (z .c) (c .before .before .before .before .user .ensures .0) (c .before .before .before .gather .ensures) (eq-eqb _ _ (c .before .if2 .taken)),
-    )) refl
+    let t = engineTables (z .p .now) (z .s .now) (z .o .now) in (
+      plain-place (c .plain2 .ensures),
+      λ s.
+          plainly Taken (c .plain2 .ensures)
+          (simp (← c .before .before .before .before .before .before .is-unknown .ensures, c .before .before .before .before .before .if1 .left, held-is t (z .a) (z .b) (z .c) (c .before .before .before .before .user .ensures .0) (c .before .before .before .gather .ensures s) (eq-eqb _ _ (c .before .if2 .taken)))) refl,
+    )
 
 has-role-requires : tie.Need-has-role-requires
 has-role-requires c κs = search needs
@@ -82,30 +80,24 @@ returns-3 : tie.Need-returns-3
 unfolding claimChecks claimPlace rulePlace
 returns-3 c =
     let z = c .before .before .before .before .before .before .before .before .before .before .before .before .args in
-    let t = engineTables (z .p .now) (z .s .now) (z .o .now) in
-    plainly NoRole (c .plain3 .ensures)
-    (simp (
-      ← c .before .before .before .before .before .before .before .before .is-unknown .ensures,
-      c .before .before .before .before .before .before .before .if1 .left,
-      held-is t (z .a) (z .b) (z .c) (c .before .before .before .before .before .before .user .ensures .0) (c .before .before .before .before .before .gather .ensures) (ne-eqb _ _ (c .before .before .before .if2 .left)),
-      ← c .before .before .has-role .ensures,
-      c .before .if3 .taken,
-    )) refl
+    let t = engineTables (z .p .now) (z .s .now) (z .o .now) in (
+      plain-place (c .plain3 .ensures),
+      λ s.
+          plainly NoRole (c .plain3 .ensures)
+          (simp (
+            ← c .before .before .before .before .before .before .before .before .is-unknown .ensures,
+            c .before .before .before .before .before .before .before .if1 .left,
+            held-is t (z .a) (z .b) (z .c) (c .before .before .before .before .before .before .user .ensures .0) (c .before .before .before .before .before .gather .ensures s) (ne-eqb _ _ (c .before .before .before .if2 .left)),
+            ← c .before .before .has-role .ensures,
+            c .before .if3 .taken,
+          )) refl,
+    )
 
 opened-requires : tie.Need-opened-requires
-opened-requires c κs = (
-  c .before .before .before .before .before .before .before .before .before .before .before .pre .1 .1 .0 .0,
-  c .before .before .before .before .before .before .before .before .before .before .before .pre .1 .1 .1 .1 .0,
-)
+opened-requires c κs = (c .before .before .before .before .before .before .before .before .before .before .before .pre .1 .1 .0, c .before .before .before .before .before .before .before .before .before .before .before .pre .1 .1 .1 .1 .0)
 
 rules-reply-requires : tie.Need-rules-reply-requires
-rules-reply-requires c κs = (
-  c .before .before .before .before .before .before .before .before .before .before .before .before .pre .0,
-  (
-    c .opened .ensures .1,
-    c .before .before .before .before .before .before .before .before .before .before .before .before .pre .1 .1 .1 .1 .1,
-  ),
-)
+rules-reply-requires c κs = (c .before .before .before .before .before .before .before .before .before .before .before .before .pre .0, (c .opened .ensures .1, c .before .before .before .before .before .before .before .before .before .before .before .before .pre .1 .1 .1 .1 .1))
 
 accepted-requires : tie.Need-accepted-requires
 accepted-requires c κs = search needs
@@ -114,11 +106,13 @@ returns-4 : tie.Need-returns-4
 returns-4 c =
     let z = c .before .before .before .before .before .before .before .before .before .before .before .before .before .before .before .args in
     let t = engineTables (z .p .now) (z .s .now) (z .o .now) in
-    let k = c .before .before in
-    record {
-      replies = by-rule t (z .a) (z .b) (z .c) (c .before .before .rules-reply .result .reply) (passes k) (judged k) (c .before .accepted .ensures) (c .if4 .taken);
-      places = place-by-entries t (z .a) (z .b) (z .c) (c .before .before .before .before .before .before .before .before .before .user .ensures .0) (c .before .before .before .before .before .before .before .before .gather .ensures) _ (c .before .before .rules-reply .ensures .places);
-    }
+    let k = c .before .before in (
+      judged-place (z .p .now) (c .before .before .before .before .before .before .before .before .gather .result .mine .bits) (c .before .before .before .before .before .before .before .before .gather .result .done .bits) (c .before .before .before .before .before .before .before .before .gather .result .others .bits) (z .c) (c .before .before .rules-reply .ensures),
+      λ s. record {
+        replies = by-rule t (z .a) (z .b) (z .c) (c .before .before .rules-reply .result .reply) (passes k s) (judged k s) (c .before .accepted .ensures) (c .if4 .taken);
+        places = place-by-entries t (z .a) (z .b) (z .c) (c .before .before .before .before .before .before .before .before .before .user .ensures .0) (c .before .before .before .before .before .before .before .before .gather .ensures s) _ (c .before .before .rules-reply .ensures .places);
+      },
+    )
 
 in-use-requires : tie.Need-in-use-requires
 in-use-requires c κs = c .before .before .before .before .before .before .before .before .before .before .before .before .before .before .before .pre .1 .1 .0
@@ -131,10 +125,12 @@ unfolding claimPlace rulePlace
 returns-5 c =
     let z = c .before .before .before .before .before .before .before .before .before .before .before .before .before .before .before .before .before .before .args in
     let t = engineTables (z .p .now) (z .s .now) (z .o .now) in
-    let k = c .before .before .before .before .before in
-    plainly Full (c .plain4 .ensures)
-    (sym (by-room t (z .a) (z .b) (z .c) (c .before .before .before .before .before .rules-reply .result .reply) (passes k) (judged k)
-    (c .before .before .before .before .accepted .ensures) (c .before .before .before .if4 .left) (c .before .before .in-use .ensures .0) (le-leb _ _ (c .before .if5 .taken)))) refl
+    let k = c .before .before .before .before .before in (
+      plain-place (c .plain4 .ensures),
+      λ s.
+          plainly Full (c .plain4 .ensures)
+          (sym (by-room t (z .a) (z .b) (z .c) (c .before .before .before .before .before .rules-reply .result .reply) (passes k s) (judged k s) (c .before .before .before .before .accepted .ensures) (c .before .before .before .if4 .left) (c .before .before .in-use .ensures s) (le-leb _ _ (c .before .if5 .taken)))) refl,
+    )
 
 plain-requires-5 : tie.Need-plain-requires-5
 plain-requires-5 c κs = search needs
@@ -144,10 +140,12 @@ unfolding claimPlace rulePlace
 returns-6 c =
     let z = c .before .before .before .before .before .before .before .before .before .before .before .before .before .before .before .before .before .before .args in
     let t = engineTables (z .p .now) (z .s .now) (z .o .now) in
-    let k = c .before .before .before .before .before in
-    plainly Granted (c .plain5 .ensures)
-    (sym (by-room t (z .a) (z .b) (z .c) (c .before .before .before .before .before .rules-reply .result .reply) (passes k) (judged k)
-    (c .before .before .before .before .accepted .ensures) (c .before .before .before .if4 .left) (c .before .before .in-use .ensures .0) (lt-leb _ _ (c .before .if5 .left)))) refl
+    let k = c .before .before .before .before .before in (
+      plain-place (c .plain5 .ensures),
+      λ s.
+          plainly Granted (c .plain5 .ensures)
+          (sym (by-room t (z .a) (z .b) (z .c) (c .before .before .before .before .before .rules-reply .result .reply) (passes k s) (judged k s) (c .before .before .before .before .accepted .ensures) (c .before .before .before .if4 .left) (c .before .before .in-use .ensures s) (lt-leb _ _ (c .before .if5 .left)))) refl,
+    )
 
 pub claim-reply-spec : {M : Type 1} → statement M
 claim-reply-spec =

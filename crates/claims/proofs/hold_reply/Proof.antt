@@ -1,3 +1,4 @@
+-- Written from Proof.tmpl by 'prove expand': edit that file.
 -- Each way out is the first check of the definition that applies.
 use borrow.Author.Needs.{needs}
 use Rattle.paper_upper.specs.Requests.{holdChecks}
@@ -9,18 +10,18 @@ is-unknown-requires c κs = search needs
 
 returns : tie.Need-returns
 unfolding holdChecks
-returns c = simp (← c .before .is-unknown .ensures, c .if1 .taken)
+returns c = λ s. simp (← c .before .is-unknown .ensures, c .if1 .taken)
 
 holds-task-requires : tie.Need-holds-task-requires
 holds-task-requires c κs = search needs
 
 returns-2 : tie.Need-returns-2
 unfolding holdChecks
-returns-2 c = simp (← c .before .before .before .is-unknown .ensures, c .before .before .if1 .left, ← c .before .holds-task .ensures, c .if2 .taken)
+returns-2 c = λ s. simp (← c .before .before .before .is-unknown .ensures, c .before .before .if1 .left, ← c .before .holds-task .ensures s, c .if2 .taken)
 
 returns-3 : tie.Need-returns-3
 unfolding holdChecks
-returns-3 c = simp (← c .before .before .before .is-unknown .ensures, c .before .before .if1 .left, ← c .before .holds-task .ensures, c .if2 .left)
+returns-3 c = λ s. simp (← c .before .before .before .is-unknown .ensures, c .before .before .if1 .left, ← c .before .holds-task .ensures s, c .if2 .left)
 
 pub hold-reply-spec : {M : Type 1} → statement M
 hold-reply-spec =

@@ -1,9 +1,11 @@
+-- Written from Proof.tmpl by 'prove expand': edit that file.
 -- Each record before this one has added at most 63 bytes, and a block has at most 256 records; each request leaves the links sound.
 use borrow.Author.Needs.{needs}
 use Prim.Native.Nat.{_≤_, _-_, _*_}
 use mathlib.Core.Path.{sym, _∙_}
 use Rattle.engine.specs.Buffers.{buffers}
 use Rattle.engine.specs.Settling.{Settling}
+use Rattle.engine.proofs.SettleLaws.{settled-on}
 use Rattle.desk.proofs.answer.Statement.{statement}
 use Rattle.desk.proofs.answer.Tie as tie
 
@@ -35,7 +37,7 @@ part-settled-request-end : tie.Need-part-settled-request-end Inv-loop μ-loop
 part-settled-request-end c = search needs
 
 settled-request-requires : tie.Need-settled-request-requires Inv-loop μ-loop
-settled-request-requires c κs = c .before .before .before .before .before .before .loop .inv .1 .1
+settled-request-requires c κs = search needs
 
 add-put-answer : tie.Need-add-put-answer Inv-loop μ-loop
 add-put-answer c = search needs
@@ -53,7 +55,7 @@ loop-less : tie.Need-loop-less Inv-loop μ-loop
 loop-less c = search needs
 
 loop-again : tie.Need-loop-again Inv-loop μ-loop
-loop-again c = (search needs, (search needs, c .before .before .before .before .before .before .before .before .before .settled-request .ensures .1))
+loop-again c = (search needs, (search needs, settled-on (c .before .before .before .before .before .before .before .before .before .before .before .before .before .before .before .before .loop .inv .1 .1) (c .before .before .before .before .before .before .before .before .before .settled-request .ensures) .1))
 
 same-length : tie.Need-same-length Inv-loop μ-loop
 same-length c = c .before .loop .inv .1 .1 .0 ∙ sym (c .before .before .before .before .before .before .pre .1 .1 .0)

@@ -1,3 +1,4 @@
+-- Written from Proof.tmpl by 'prove expand': edit that file.
 -- A step on sound links, or on the empty engine.
 use mathlib.Core.Path.{sym, _∙_}
 use borrow.Author.Tests.{not-true, not-false}
@@ -23,10 +24,12 @@ same-length-3 : tie.Need-same-length-3
 same-length-3 c = search needs
 
 returns : tie.Need-returns
-returns c = broken-step (c .before .before .before .before .before .before .before .before .before .before .before .before .before .before .before .before .args .r) (buffers (c .before .before .before .before .before .before .before .before .before .before .before .before .before .before .before .before .args .p .now) (c .before .before .before .before .before .before .before .before .before .before .before .before .before .before .before .before .args .s .now) (c .before .before .before .before .before .before .before .before .before .before .before .before .before .before .before .before .args .o .now)) _ (sym (c .before .before .before .before .before .before .before .before .before .before .before .is-sound .ensures) ∙ not-true _ (c .before .before .before .before .before .before .before .before .before .before .if1 .taken)) (c .before .before .before .before .before .before .as-empty .ensures)
+returns c =
+    let z = c .before .before .before .before .before .before .before .before .before .before .before .before .before .before .before .before .args in
+    broken-step (z .r) (buffers (z .p .now) (z .s .now) (z .o .now)) _ (sym (c .before .before .before .before .before .before .before .before .before .before .before .is-sound .ensures) ∙ not-true _ (c .before .before .before .before .before .before .before .before .before .before .if1 .taken)) (c .before .before .before .before .before .before .as-empty .ensures)
 
 step-requires : tie.Need-step-requires
-step-requires c κs = ((c .before .before .before .before .before .before .before .before .before .pre .0 .0, (c .before .before .before .before .before .before .before .before .before .pre .0 .1 .0, (c .before .before .before .before .before .before .before .before .before .pre .0 .1 .1, sym (c .before .before .before .before .is-sound .ensures) ∙ not-false _ (c .before .before .before .if1 .left)))), c .before .before .before .before .before .before .before .before .before .pre .1)
+step-requires c κs = c .before .before .before .before .before .before .before .before .before .pre
 
 same-length-4 : tie.Need-same-length-4
 same-length-4 c = search needs
@@ -38,7 +41,12 @@ same-length-6 : tie.Need-same-length-6
 same-length-6 c = search needs
 
 returns-2 : tie.Need-returns-2
-returns-2 c = sound-step (c .before .before .before .before .before .before .before .before .before .before .before .before .before .before .before .before .args .r) (buffers (c .before .before .before .before .before .before .before .before .before .before .before .before .before .before .before .before .args .p .now) (c .before .before .before .before .before .before .before .before .before .before .before .before .before .before .before .before .args .s .now) (c .before .before .before .before .before .before .before .before .before .before .before .before .before .before .before .before .args .o .now)) _ (sym (c .before .before .before .before .before .before .before .before .before .before .before .is-sound .ensures) ∙ not-false _ (c .before .before .before .before .before .before .before .before .before .before .if1 .left)) (c .before .before .before .before .before .before .step .ensures)
+returns-2 c =
+    let z = c .before .before .before .before .before .before .before .before .before .before .before .before .before .before .before .before .args in
+    let x = buffers (z .p .now) (z .s .now) (z .o .now) in
+    let w = sym (c .before .before .before .before .before .before .before .before .before .before .before .is-sound .ensures) ∙ not-false _ (c .before .before .before .before .before .before .before .before .before .before .if1 .left) in
+    let d = c .before .before .before .before .before .before .step .ensures .sound w in
+    (sound-step (z .r) x _ w d, λ _. d .1)
 
 pub act-spec : {M : Type 1} → statement M
 act-spec =

@@ -1,3 +1,4 @@
+-- Written from Proof.tmpl by 'prove expand': edit that file.
 -- Unknown, but for a user who joins without roles: then the buffers are emptied, and the step is that of the empty engine.
 use Rattle.records.specs.Reading.{paperOf}
 use Rattle.engine.specs.Buffers.{buffers}
@@ -12,7 +13,10 @@ plain-requires : tie.Need-plain-requires
 plain-requires c κs = search needs
 
 returns : tie.Need-returns
-returns c = unknown-step (c .before .before .before .before .before .before .before .args .r) (buffers (c .before .before .before .before .before .before .before .args .p .now) (c .before .before .before .before .before .before .before .args .s .now) (c .before .before .before .before .before .before .before .args .o .now)) (c .plain .ensures) (c .before .before .before .before .before .before .before .pre .1 .1) (all-unknown (paperOf (c .before .before .before .before .before .before .before .args .r)) (c .before .before .before .before .before .before .before .pre .1 .0 .known) (other-kind (c .before .before .before .before .before .before .before .args .r .kind) (c .before .before .before .before .before .before .before .args .r .m) (c .before .if1 .taken)))
+returns c =
+    let z = c .before .before .before .before .before .before .before .args in
+    unknown-step (z .r) (buffers (z .p .now) (z .s .now) (z .o .now)) (c .plain .ensures) (c .before .before .before .before .before .before .before .pre .1 .1)
+    (all-unknown (paperOf (z .r)) (c .before .before .before .before .before .before .before .pre .1 .0 .known) (other-kind (z .r .kind) (z .r .m) (c .before .if1 .taken)))
 
 clear-requires : tie.Need-clear-requires
 clear-requires c κs = search needs
@@ -36,7 +40,12 @@ same-length-3 : tie.Need-same-length-3
 same-length-3 c = search needs
 
 returns-2 : tie.Need-returns-2
-returns-2 c = let e = that-kind (c .before .before .before .before .before .before .before .before .before .before .before .before .before .before .before .before .before .before .before .before .before .before .before .before .before .before .before .before .args .r .kind) (c .before .before .before .before .before .before .before .before .before .before .before .before .before .before .before .before .before .before .before .before .before .before .before .before .before .before .before .before .args .r .m) (c .before .before .before .before .before .before .before .before .before .before .before .before .before .before .before .before .before .before .before .before .before .before .if1 .left) in joined-step (c .before .before .before .before .before .before .before .before .before .before .before .before .before .before .before .before .before .before .before .before .before .before .before .before .before .before .before .before .args .r) (buffers (c .before .before .before .before .before .before .before .before .before .before .before .before .before .before .before .before .before .before .before .before .before .before .before .before .before .before .before .before .args .p .now) (c .before .before .before .before .before .before .before .before .before .before .before .before .before .before .before .before .before .before .before .before .before .before .before .before .before .before .before .before .args .s .now) (c .before .before .before .before .before .before .before .before .before .before .before .before .before .before .before .before .before .before .before .before .before .before .before .before .before .before .before .before .args .o .now)) _ _ (emptied _ _ _ (c .before .before .before .before .before .before .before .before .before .before .before .before .before .before .before .before .before .before .before .before .clear .ensures .tables) (c .before .before .before .before .before .before .before .before .before .before .before .before .before .before .before .before .clear2 .ensures .tables) (c .before .before .before .before .before .before .before .before .before .before .before .before .clear3 .ensures .tables)) (c .before .before .before .before .before .before .step .ensures .1) (that-step (c .before .before .before .before .before .before .before .before .before .before .before .before .before .before .before .before .before .before .before .before .before .before .before .before .before .before .before .before .args .r) (e .0) (e .1)) (c .before .before .before .before .before .before .step .ensures .0)
+returns-2 c =
+    let z = c .before .before .before .before .before .before .before .before .before .before .before .before .before .before .before .before .before .before .before .before .before .before .before .before .before .before .before .before .args in
+    let e = that-kind (z .r .kind) (z .r .m) (c .before .before .before .before .before .before .before .before .before .before .before .before .before .before .before .before .before .before .before .before .before .before .if1 .left) in
+    let d = c .before .before .before .before .before .before .step .ensures .sound (c .before .before .before .before .before .before .before .before .before .before .before .before .clear3 .ensures .sound) in
+    joined-step (z .r) (buffers (z .p .now) (z .s .now) (z .o .now)) _ _ (emptied _ _ _ (c .before .before .before .before .before .before .before .before .before .before .before .before .before .before .before .before .before .before .before .before .clear .ensures .tables) (c .before .before .before .before .before .before .before .before .before .before .before .before .before .before .before .before .clear2 .ensures .tables) (c .before .before .before .before .before .before .before .before .before .before .before .before .clear3 .ensures .tables)) (d .1)
+    (that-step (z .r) (e .0) (e .1)) (d .0)
 
 pub as-empty-spec : {M : Type 1} → statement M
 as-empty-spec =

@@ -1,3 +1,4 @@
+-- Written from Proof.tmpl by 'prove expand': edit that file.
 -- Buffers of another length are ROOM; SHAPE and RANGE store nothing; any other record is a step.
 use mathlib.Core.Path.{refl}
 use borrow.Author.Needs.{needs}
@@ -9,7 +10,7 @@ use Rattle.records.proofs.Passing.{refused-answer, sized, passed, passed-answer
 use Rattle.engine.specs.Buffers.{buffers, tablesOf}
 use Rattle.engine.proofs.Lifts.{of-none}
 use Rattle.engine.proofs.PlaceLaws.{no-form}
-use Rattle.engine.proofs.Ways.{same-lengths, lengths, no-room, answered}
+use Rattle.engine.proofs.Ways.{same-lengths, lengths, no-room, answered, not-granted}
 use Rattle.engine.proofs.request.Statement.{statement}
 use Rattle.engine.proofs.request.Tie as tie
 
@@ -17,7 +18,9 @@ plain-requires : tie.Need-plain-requires
 plain-requires c κs = search needs
 
 returns : tie.Need-returns
-returns c = no-room (buffers (c .before .before .before .before .before .before .args .policy .now) (c .before .before .before .before .before .before .args .sessions .now) (c .before .before .before .before .before .before .args .orders .now)) (c .before .before .before .before .before .before .args .bytes .now) (c .plain .ensures) (c .before .if1 .taken)
+returns c =
+    let z = c .before .before .before .before .before .before .args in
+    no-room (buffers (z .policy .now) (z .sessions .now) (z .orders .now)) (z .bytes .now) (c .plain .ensures) (c .before .if1 .taken)
 
 judge-requires : tie.Need-judge-requires
 judge-requires c κs = search needs
@@ -31,9 +34,11 @@ plain-requires-2 c κs = search needs
 returns-2 : tie.Need-returns-2
 unfolding request
 returns-2 c =
-    answered (c .before .before .before .before .if1 .left)
-    (refused-answer requestForms (c .before .before .before .before .before .before .before .before .before .args .bytes .now) requestKinds (tablesOf (buffers (c .before .before .before .before .before .before .before .before .before .args .policy .now) (c .before .before .before .before .before .before .before .before .before .args .sessions .now) (c .before .before .before .before .before .before .before .before .before .args .orders .now))) (c .before .before .before .judge .result) (c .before .before .before .judge .ensures) (c .before .before .accepted .ensures) (c .before .if2 .taken))
-    refl (of-none (c .plain2 .ensures) (no-form requestForms (c .before .before .before .before .before .before .before .before .before .args .bytes .now) (tablesOf (buffers (c .before .before .before .before .before .before .before .before .before .args .policy .now) (c .before .before .before .before .before .before .before .before .before .args .sessions .now) (c .before .before .before .before .before .before .before .before .before .args .orders .now))) (decode (c .before .before .before .before .before .before .before .before .before .args .bytes .now)) (c .before .before .before .judge .ensures)) refl) (same-lengths refl refl refl)
+    let z = c .before .before .before .before .before .before .before .before .before .args in
+    let bytes = z .bytes .now in
+    let t = tablesOf (buffers (z .policy .now) (z .sessions .now) (z .orders .now)) in
+    answered (c .before .before .before .before .if1 .left) (refused-answer requestForms bytes requestKinds t (c .before .before .before .judge .result) (c .before .before .before .judge .ensures) (c .before .before .accepted .ensures) (c .before .if2 .taken)) refl
+    (of-none (c .plain2 .ensures) (no-form requestForms bytes t (decode bytes) (c .before .before .before .judge .ensures)) refl) (not-granted (c .plain2 .ensures) (c .before .before .accepted .ensures) (c .before .if2 .taken)) (same-lengths refl refl refl)
 
 decode-requires : tie.Need-decode-requires
 decode-requires c κs = sized requestForms (c .before .before .before .before .before .before .before .before .args .bytes .now) (c .before .before .judge .result) (c .before .before .judge .ensures) (c .before .accepted .ensures) (c .if2 .left)
@@ -56,10 +61,10 @@ same-length-3 c = search needs
 returns-3 : tie.Need-returns-3
 unfolding request settled
 returns-3 c =
-    answered (c .before .before .before .before .before .before .before .before .before .before .before .before .before .before .if1 .left)
-    (passed-answer requestForms (c .before .before .before .before .before .before .before .before .before .before .before .before .before .before .before .before .before .before .before .args .bytes .now) (c .before .before .before .before .before .before .before .before .before .before .before .before .before .judge .result) (c .before .before .before .before .before .before .before .before .before .before .before .before .before .judge .ensures) (c .before .before .before .before .before .before .before .before .before .before .before .before .accepted .ensures) (c .before .before .before .before .before .before .before .before .before .before .before .if2 .left) (c .before .before .before .before .before .before .before .before .before .before .decode .ensures) requestKinds (tablesOf (buffers (c .before .before .before .before .before .before .before .before .before .before .before .before .before .before .before .before .before .before .before .args .policy .now) (c .before .before .before .before .before .before .before .before .before .before .before .before .before .before .before .before .before .before .before .args .sessions .now) (c .before .before .before .before .before .before .before .before .before .before .before .before .before .before .before .before .before .before .before .args .orders .now))))
-    (c .before .before .before .before .before .before .before .before .before .before .decode .ensures .reads)
-    (c .before .before .before .before .before .before .act .ensures) (same-lengths (same-length c) (same-length-2 c) (same-length-3 c))
+    let z = c .before .before .before .before .before .before .before .before .before .before .before .before .before .before .before .before .before .before .before .args in
+    let t = tablesOf (buffers (z .policy .now) (z .sessions .now) (z .orders .now)) in
+    answered (c .before .before .before .before .before .before .before .before .before .before .before .before .before .before .if1 .left) (passed-answer requestForms (z .bytes .now) (c .before .before .before .before .before .before .before .before .before .before .before .before .before .judge .result) (c .before .before .before .before .before .before .before .before .before .before .before .before .before .judge .ensures) (c .before .before .before .before .before .before .before .before .before .before .before .before .accepted .ensures) (c .before .before .before .before .before .before .before .before .before .before .before .if2 .left) (c .before .before .before .before .before .before .before .before .before .before .decode .ensures) requestKinds t)
+    (c .before .before .before .before .before .before .before .before .before .before .decode .ensures .reads) (c .before .before .before .before .before .before .act .ensures .0) (c .before .before .before .before .before .before .act .ensures .1) (same-lengths (same-length c) (same-length-2 c) (same-length-3 c))
 
 pub request-spec : {M : Type 1} → statement M
 request-spec =

@@ -1,18 +1,29 @@
--- SHAPE and RANGE store nothing; any other record is a step on sound links.
-use mathlib.Core.Path.{refl, _∙_}
+-- Written from Proof.tmpl by 'prove expand': edit that file.
+-- Buffers of another length are ROOM; SHAPE and RANGE store nothing; any other record is a step, without a look at the links.
+use mathlib.Core.Path.{refl}
+use borrow.Author.Needs.{needs}
 use Rattle.paper_lower.specs.Records.{decode}
 use Rattle.paper_lower.specs.Forms.{requestForms}
 use Rattle.paper_upper.specs.Engine.{requestKinds, request}
 use Rattle.records.specs.Calls.{settled}
 use Rattle.records.proofs.Passing.{refused-answer, sized, passed, passed-answer}
+use Rattle.rules.proofs.PlaceLaws.{plain-place}
 use Rattle.engine.specs.Buffers.{buffers, tablesOf}
 use Rattle.engine.proofs.Lifts.{of-none}
 use Rattle.engine.proofs.PlaceLaws.{no-form}
 use Rattle.engine.proofs.EmptyLaws.{sound-step}
-use Rattle.engine.proofs.Ways.{same-lengths, fitting, answered-at}
-use borrow.Author.Needs.{needs}
+use Rattle.engine.proofs.Ways.{same-lengths, lengths, answered, not-granted}
+use Rattle.engine.proofs.SettleLaws.{no-settled-room, settled-refused, settled-step}
 use Rattle.engine.proofs.settled_request.Statement.{statement}
 use Rattle.engine.proofs.settled_request.Tie as tie
+
+plain-requires : tie.Need-plain-requires
+plain-requires c κs = search needs
+
+returns : tie.Need-returns
+returns c =
+    let z = c .before .before .before .before .before .before .args in
+    no-settled-room (z .bytes .now) (buffers (z .policy .now) (z .sessions .now) (z .orders .now)) (c .plain .ensures) (c .before .if1 .taken)
 
 judge-requires : tie.Need-judge-requires
 judge-requires c κs = search needs
@@ -20,18 +31,27 @@ judge-requires c κs = search needs
 accepted-requires : tie.Need-accepted-requires
 accepted-requires c κs = search needs
 
-plain-requires : tie.Need-plain-requires
-plain-requires c κs = search needs
+plain-requires-2 : tie.Need-plain-requires-2
+plain-requires-2 c κs = search needs
 
-returns : tie.Need-returns
+returns-2 : tie.Need-returns-2
 unfolding request
-returns c = (answered-at (fitting (buffers (c .before .before .before .before .before .before .before .before .args .policy .now) (c .before .before .before .before .before .before .before .before .args .sessions .now) (c .before .before .before .before .before .before .before .before .args .orders .now)) (c .before .before .before .before .before .before .before .before .pre)) (refused-answer requestForms (c .before .before .before .before .before .before .before .before .args .bytes .now) requestKinds (tablesOf (buffers (c .before .before .before .before .before .before .before .before .args .policy .now) (c .before .before .before .before .before .before .before .before .args .sessions .now) (c .before .before .before .before .before .before .before .before .args .orders .now))) (c .before .before .before .judge .result) (c .before .before .before .judge .ensures) (c .before .before .accepted .ensures) (c .before .if1 .taken)) refl (of-none (c .plain .ensures) (no-form requestForms (c .before .before .before .before .before .before .before .before .args .bytes .now) (tablesOf (buffers (c .before .before .before .before .before .before .before .before .args .policy .now) (c .before .before .before .before .before .before .before .before .args .sessions .now) (c .before .before .before .before .before .before .before .before .args .orders .now))) (decode (c .before .before .before .before .before .before .before .before .args .bytes .now)) (c .before .before .before .judge .ensures)) refl) (same-lengths refl refl refl), c .before .before .before .before .before .before .before .before .pre)
+returns-2 c =
+    let z = c .before .before .before .before .before .before .before .before .before .args in
+    let bytes = z .bytes .now in
+    let x = buffers (z .policy .now) (z .sessions .now) (z .orders .now) in
+    settled-refused bytes x (c .before .before .before .before .if1 .left) (plain-place (c .plain2 .ensures))
+    (answered (c .before .before .before .before .if1 .left) (refused-answer requestForms bytes requestKinds (tablesOf x) (c .before .before .before .judge .result) (c .before .before .before .judge .ensures) (c .before .before .accepted .ensures) (c .before .if2 .taken)) refl
+    (of-none (c .plain2 .ensures) (no-form requestForms bytes (tablesOf x) (decode bytes) (c .before .before .before .judge .ensures)) refl) (not-granted (c .plain2 .ensures) (c .before .before .accepted .ensures) (c .before .if2 .taken)) (same-lengths refl refl refl))
 
 decode-requires : tie.Need-decode-requires
-decode-requires c κs = sized requestForms (c .before .before .before .before .before .before .before .args .bytes .now) (c .before .before .judge .result) (c .before .before .judge .ensures) (c .before .accepted .ensures) (c .if1 .left)
+decode-requires c κs = sized requestForms (c .before .before .before .before .before .before .before .before .args .bytes .now) (c .before .before .judge .result) (c .before .before .judge .ensures) (c .before .accepted .ensures) (c .if2 .left)
 
 step-requires : tie.Need-step-requires
-step-requires c κs = (c .before .before .before .before .before .before .before .before .before .before .before .pre, passed requestForms (c .before .before .before .before .before .before .before .before .before .before .before .args .bytes .now) (c .before .before .before .before .before .before .judge .result) (c .before .before .before .before .before .before .judge .ensures) (c .before .before .before .before .before .accepted .ensures) (c .before .before .before .before .if1 .left) (c .before .before .before .decode .ensures))
+step-requires c κs = (
+  lengths (buffers (c .before .before .before .before .before .before .before .before .before .before .before .before .args .policy .now) (c .before .before .before .before .before .before .before .before .before .before .before .before .args .sessions .now) (c .before .before .before .before .before .before .before .before .before .before .before .before .args .orders .now)) (c .before .before .before .before .before .before .before .if1 .left),
+  passed requestForms (c .before .before .before .before .before .before .before .before .before .before .before .before .args .bytes .now) (c .before .before .before .before .before .before .judge .result) (c .before .before .before .before .before .before .judge .ensures) (c .before .before .before .before .before .accepted .ensures) (c .before .before .before .before .if2 .left) (c .before .before .before .decode .ensures),
+)
 
 same-length : tie.Need-same-length
 same-length c = search needs
@@ -42,21 +62,31 @@ same-length-2 c = search needs
 same-length-3 : tie.Need-same-length-3
 same-length-3 c = search needs
 
-returns-2 : tie.Need-returns-2
+returns-3 : tie.Need-returns-3
 unfolding request settled
-returns-2 c = (answered-at (fitting (buffers (c .before .before .before .before .before .before .before .before .before .before .before .before .before .before .before .before .before .before .args .policy .now) (c .before .before .before .before .before .before .before .before .before .before .before .before .before .before .before .before .before .before .args .sessions .now) (c .before .before .before .before .before .before .before .before .before .before .before .before .before .before .before .before .before .before .args .orders .now)) (c .before .before .before .before .before .before .before .before .before .before .before .before .before .before .before .before .before .before .pre)) (passed-answer requestForms (c .before .before .before .before .before .before .before .before .before .before .before .before .before .before .before .before .before .before .args .bytes .now) (c .before .before .before .before .before .before .before .before .before .before .before .before .before .judge .result) (c .before .before .before .before .before .before .before .before .before .before .before .before .before .judge .ensures) (c .before .before .before .before .before .before .before .before .before .before .before .before .accepted .ensures) (c .before .before .before .before .before .before .before .before .before .before .before .if1 .left) (c .before .before .before .before .before .before .before .before .before .before .decode .ensures) requestKinds (tablesOf (buffers (c .before .before .before .before .before .before .before .before .before .before .before .before .before .before .before .before .before .before .args .policy .now) (c .before .before .before .before .before .before .before .before .before .before .before .before .before .before .before .before .before .before .args .sessions .now) (c .before .before .before .before .before .before .before .before .before .before .before .before .before .before .before .before .before .before .args .orders .now)))) (c .before .before .before .before .before .before .before .before .before .before .decode .ensures .reads) (sound-step (c .before .before .before .before .before .before .before .before .before .before .decode .result) (buffers (c .before .before .before .before .before .before .before .before .before .before .before .before .before .before .before .before .before .before .args .policy .now) (c .before .before .before .before .before .before .before .before .before .before .before .before .before .before .before .before .before .before .args .sessions .now) (c .before .before .before .before .before .before .before .before .before .before .before .before .before .before .before .before .before .before .args .orders .now)) _ (c .before .before .before .before .before .before .before .before .before .before .before .before .before .before .before .before .before .before .pre .1 .1 .1) (c .before .before .before .before .before .before .step .ensures)) (same-lengths (same-length c) (same-length-2 c) (same-length-3 c)), (same-length c ∙ c .before .before .before .before .before .before .before .before .before .before .before .before .before .before .before .before .before .before .pre .0, (same-length-2 c ∙ c .before .before .before .before .before .before .before .before .before .before .before .before .before .before .before .before .before .before .pre .1 .0, (same-length-3 c ∙ c .before .before .before .before .before .before .before .before .before .before .before .before .before .before .before .before .before .before .pre .1 .1 .0, c .before .before .before .before .before .before .step .ensures .1))))
+returns-3 c =
+    let z = c .before .before .before .before .before .before .before .before .before .before .before .before .before .before .before .before .before .before .before .args in
+    let bytes = z .bytes .now in
+    let x = buffers (z .policy .now) (z .sessions .now) (z .orders .now) in
+    let l = same-lengths (same-length c) (same-length-2 c) (same-length-3 c) in
+    settled-step bytes x _ (c .before .before .before .before .before .before .before .before .before .before .decode .result) (c .before .before .before .before .before .before .before .before .before .before .before .before .before .before .if1 .left) l (c .before .before .before .before .before .before .step .ensures)
+    (λ d s.
+    answered (c .before .before .before .before .before .before .before .before .before .before .before .before .before .before .if1 .left) (passed-answer requestForms bytes (c .before .before .before .before .before .before .before .before .before .before .before .before .before .judge .result) (c .before .before .before .before .before .before .before .before .before .before .before .before .before .judge .ensures) (c .before .before .before .before .before .before .before .before .before .before .before .before .accepted .ensures) (c .before .before .before .before .before .before .before .before .before .before .before .if2 .left) (c .before .before .before .before .before .before .before .before .before .before .decode .ensures) requestKinds (tablesOf x))
+    (c .before .before .before .before .before .before .before .before .before .before .decode .ensures .reads) (sound-step (c .before .before .before .before .before .before .before .before .before .before .decode .result) x _ s d) (λ _. d .1) l)
 
 pub settled-request-spec : {M : Type 1} → statement M
 settled-request-spec =
     tie.close
     (tie.spec
-    judge-requires
-    accepted-requires
     plain-requires
     returns
+    judge-requires
+    accepted-requires
+    plain-requires-2
+    returns-2
     decode-requires
     step-requires
     same-length
     same-length-2
     same-length-3
-    returns-2)
+    returns-3)

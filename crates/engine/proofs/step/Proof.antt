@@ -1,3 +1,4 @@
+-- Written from Proof.tmpl by 'prove expand': edit that file.
 -- Each kind of the upper part, as a step of the three buffers; any other kind is the lower part's.
 use mathlib.Core.Path.{refl}
 use borrow.Author.Needs.{needs}
@@ -7,7 +8,8 @@ use Rattle.paper_upper.specs.Requests.{upperKinds}
 use Rattle.paper_upper.specs.Engine.{widened, requestKinds, placeOf}
 use Rattle.records.specs.Limits.{limitA, limitB, limitC, limitM, limitsOpen}
 use Rattle.records.proofs.Passing.{below}
-use Rattle.engine.proofs.Lifts.{of-both, of-sessions, of-orders, of-claim, of-none, of-lower}
+use Rattle.engine.specs.Buffers.{buffers}
+use Rattle.engine.proofs.Lifts.{any-step, of-both, of-sessions, of-orders, of-claim, of-none, of-lower}
 use Rattle.engine.proofs.PlaceLaws.{no-claim}
 use Rattle.engine.proofs.LowerKinds.{lower-row, lower-limits, no-claim-number}
 use Rattle.engine.proofs.step.Statement.{statement}
@@ -43,18 +45,21 @@ plain-requires-4 c κs = search needs
 
 claim-requires : tie.Need-claim-requires
 unfolding limitsOpen
-claim-requires c κs = (c .before .before .before .before .before .before .before .pre .0 .0, (c .before .before .before .before .before .before .before .pre .0 .1 .0, (c .before .before .before .before .before .before .before .pre .0 .1 .1, (below (limitA requestForms) (c .before .before .before .before .before .before .before .pre .1 .a) (c .before .before .before .match .keys5) 128 tt, (below (limitB requestForms) (c .before .before .before .before .before .before .before .pre .1 .b) (c .before .before .before .match .keys5) 64 tt, below (limitC requestForms) (c .before .before .before .before .before .before .before .pre .1 .c) (c .before .before .before .match .keys5) 64 tt)))))
+claim-requires c κs =
+    (c .before .before .before .before .before .before .before .pre .0 .0, (c .before .before .before .before .before .before .before .pre .0 .1 .0, (c .before .before .before .before .before .before .before .pre .0 .1 .1, (below (limitA requestForms) (c .before .before .before .before .before .before .before .pre .1 .a) (c .before .before .before .match .keys5) 128 tt, (below (limitB requestForms) (c .before .before .before .before .before .before .before .pre .1 .b) (c .before .before .before .match .keys5) 64 tt, below (limitC requestForms) (c .before .before .before .before .before .before .before .pre .1 .c) (c .before .before .before .match .keys5) 64 tt)))))
 
 release-requires : tie.Need-release-requires
 unfolding limitsOpen
-release-requires c κs = (c .before .before .before .before .before .before .before .pre .0 .0, (c .before .before .before .before .before .before .before .pre .0 .1 .0, (c .before .before .before .before .before .before .before .pre .0 .1 .1, (below (limitA requestForms) (c .before .before .before .before .before .before .before .pre .1 .a) (c .before .before .before .match .keys6) 128 tt, (below (limitB requestForms) (c .before .before .before .before .before .before .before .pre .1 .b) (c .before .before .before .match .keys6) 64 tt, below (limitC requestForms) (c .before .before .before .before .before .before .before .pre .1 .c) (c .before .before .before .match .keys6) 64 tt)))))
+release-requires c κs =
+    (c .before .before .before .before .before .before .before .pre .0 .0, (c .before .before .before .before .before .before .before .pre .0 .1 .0, (c .before .before .before .before .before .before .before .pre .0 .1 .1, (below (limitA requestForms) (c .before .before .before .before .before .before .before .pre .1 .a) (c .before .before .before .match .keys6) 128 tt, (below (limitB requestForms) (c .before .before .before .before .before .before .before .pre .1 .b) (c .before .before .before .match .keys6) 64 tt, below (limitC requestForms) (c .before .before .before .before .before .before .before .pre .1 .c) (c .before .before .before .match .keys6) 64 tt)))))
 
 plain-requires-5 : tie.Need-plain-requires-5
 plain-requires-5 c κs = search needs
 
 finish-requires : tie.Need-finish-requires
 unfolding limitsOpen
-finish-requires c κs = (c .before .before .before .before .before .before .before .pre .0 .0, (c .before .before .before .before .before .before .before .pre .0 .1 .0, (c .before .before .before .before .before .before .before .pre .0 .1 .1, (below (limitA requestForms) (c .before .before .before .before .before .before .before .pre .1 .a) (c .before .before .before .match .keys7) 128 tt, (below (limitB requestForms) (c .before .before .before .before .before .before .before .pre .1 .b) (c .before .before .before .match .keys7) 64 tt, below (limitC requestForms) (c .before .before .before .before .before .before .before .pre .1 .c) (c .before .before .before .match .keys7) 64 tt)))))
+finish-requires c κs =
+    (c .before .before .before .before .before .before .before .pre .0 .0, (c .before .before .before .before .before .before .before .pre .0 .1 .0, (c .before .before .before .before .before .before .before .pre .0 .1 .1, (below (limitA requestForms) (c .before .before .before .before .before .before .before .pre .1 .a) (c .before .before .before .match .keys7) 128 tt, (below (limitB requestForms) (c .before .before .before .before .before .before .before .pre .1 .b) (c .before .before .before .match .keys7) 64 tt, below (limitC requestForms) (c .before .before .before .before .before .before .before .pre .1 .c) (c .before .before .before .match .keys7) 64 tt)))))
 
 plain-requires-6 : tie.Need-plain-requires-6
 plain-requires-6 c κs = search needs
@@ -68,7 +73,7 @@ plain-requires-7 c κs = search needs
 
 figures-reply-requires : tie.Need-figures-reply-requires
 unfolding limitsOpen
-figures-reply-requires c κs = (c .before .before .before .before .before .pre .0 .1 .1 .0, below (limitA requestForms) (c .before .before .before .before .before .pre .1 .a) (c .before .match .keys9) 64 tt)
+figures-reply-requires c κs = (c .before .before .before .before .before .pre .0 .1 .1, below (limitA requestForms) (c .before .before .before .before .before .pre .1 .a) (c .before .match .keys9) 64 tt)
 
 plain-requires-8 : tie.Need-plain-requires-8
 plain-requires-8 c κs = search needs
@@ -97,7 +102,9 @@ same-length-3 c = search needs
 
 returns : tie.Need-returns
 unfolding chosen requestKinds upperKinds placeOf
-returns c = rw (c .before .before .before .before .before .before .before .before .before .match .keys1) (of-both (c .plain .ensures) refl (c .before .before .before .before .before .delete .ensures), c .before .before .before .before .before .before .before .before .before .before .before .before .before .pre .0 .1 .1 .1)
+returns c =
+    any-step (c .plain .ensures) (λ n. λ i. buffers (c .before .before .before .before .before .delete .ensures .kept n .0 i) (c .before .before .before .before .before .delete .ensures .kept n .1 i) (c .before .before .before .before .before .before .before .before .before .before .before .before .before .args .o .now))
+    (λ w. rw (c .before .before .before .before .before .before .before .before .before .match .keys1) (of-both (c .plain .ensures) refl (c .before .before .before .before .before .delete .ensures .sound w), w))
 
 same-length-4 : tie.Need-same-length-4
 same-length-4 c = search needs
@@ -107,7 +114,9 @@ same-length-5 c = search needs
 
 returns-2 : tie.Need-returns-2
 unfolding chosen requestKinds upperKinds placeOf
-returns-2 c = rw (c .before .before .before .before .before .before .match .keys2) (of-sessions (c .plain2 .ensures) refl (c .before .before .before .destroy .ensures (c .before .before .before .before .before .before .before .before .before .before .args .p .now)), c .before .before .before .before .before .before .before .before .before .before .pre .0 .1 .1 .1)
+returns-2 c =
+    any-step (c .plain2 .ensures) (λ n. λ i. buffers (c .before .before .before .before .before .before .before .before .before .before .args .p .now) (c .before .before .before .destroy .ensures .kept n i) (c .before .before .before .before .before .before .before .before .before .before .args .o .now))
+    (λ w. rw (c .before .before .before .before .before .before .match .keys2) (of-sessions (c .plain2 .ensures) refl (c .before .before .before .destroy .ensures .sound w (c .before .before .before .before .before .before .before .before .before .before .args .p .now)), w))
 
 same-length-6 : tie.Need-same-length-6
 same-length-6 c = search needs
@@ -117,14 +126,18 @@ same-length-7 c = search needs
 
 returns-3 : tie.Need-returns-3
 unfolding chosen requestKinds upperKinds placeOf
-returns-3 c = rw (c .before .before .before .before .before .before .match .keys3) (of-orders (c .plain3 .ensures) refl (c .before .before .before .open-order .ensures .0 (c .before .before .before .before .before .before .before .before .before .before .args .s .now)), c .before .before .before .open-order .ensures .1)
+returns-3 c =
+    any-step (c .plain3 .ensures) (λ n. λ i. buffers (c .before .before .before .before .before .before .before .before .before .before .args .p .now) (c .before .before .before .before .before .before .before .before .before .before .args .s .now) (c .before .before .before .open-order .ensures .kept n i))
+    (λ w. rw (c .before .before .before .before .before .before .match .keys3) (of-orders (c .plain3 .ensures) refl (c .before .before .before .open-order .ensures .sound w .0 (c .before .before .before .before .before .before .before .before .before .before .args .s .now)), c .before .before .before .open-order .ensures .sound w .1))
 
 same-length-8 : tie.Need-same-length-8
 same-length-8 c = search needs
 
 returns-4 : tie.Need-returns-4
 unfolding chosen requestKinds upperKinds placeOf
-returns-4 c = rw (c .before .before .before .before .before .match .keys4) (of-orders (c .plain4 .ensures) refl (c .before .before .before .end-order .ensures .0 (c .before .before .before .before .before .before .before .before .before .args .p .now) (c .before .before .before .before .before .before .before .before .before .args .s .now)), c .before .before .before .end-order .ensures .1)
+returns-4 c =
+    any-step (c .plain4 .ensures) (λ n. λ i. buffers (c .before .before .before .before .before .before .before .before .before .args .p .now) (c .before .before .before .before .before .before .before .before .before .args .s .now) (c .before .before .before .end-order .ensures .kept n i))
+    (λ w. rw (c .before .before .before .before .before .match .keys4) (of-orders (c .plain4 .ensures) refl (c .before .before .before .end-order .ensures .sound w .0 (c .before .before .before .before .before .before .before .before .before .args .p .now) (c .before .before .before .before .before .before .before .before .before .args .s .now)), c .before .before .before .end-order .ensures .sound w .1))
 
 same-length-9 : tie.Need-same-length-9
 same-length-9 c = search needs
@@ -137,7 +150,13 @@ same-length-11 c = search needs
 
 returns-5 : tie.Need-returns-5
 unfolding chosen requestKinds upperKinds placeOf
-returns-5 c = rw (c .before .before .before .before .before .before .match .keys5) (of-claim (c .before .before .claim .ensures), c .before .before .claim .ensures .sound)
+returns-5 c =
+    let e = c .before .before .claim .ensures .1 in
+    record {
+      kept = λ n. λ i. buffers (c .before .before .before .before .before .before .before .before .before .before .args .p .now) (c .before .before .before .before .before .before .before .before .before .before .args .s .now) (e .kept n i);
+      small = c .before .before .claim .ensures .0;
+      sound = λ w. rw (c .before .before .before .before .before .before .match .keys5) (of-claim (e .sound w), e .sound w .sound);
+    }
 
 same-length-12 : tie.Need-same-length-12
 same-length-12 c = search needs
@@ -150,7 +169,9 @@ same-length-14 c = search needs
 
 returns-6 : tie.Need-returns-6
 unfolding chosen requestKinds upperKinds placeOf
-returns-6 c = rw (c .before .before .before .before .before .before .before .match .keys6) (of-orders (c .plain5 .ensures) refl (c .before .before .before .release .ensures .0), c .before .before .before .release .ensures .1)
+returns-6 c =
+    any-step (c .plain5 .ensures) (λ n. λ i. buffers (c .before .before .before .before .before .before .before .before .before .before .before .args .p .now) (c .before .before .before .before .before .before .before .before .before .before .before .args .s .now) (c .before .before .before .release .ensures .kept n i))
+    (λ w. rw (c .before .before .before .before .before .before .before .match .keys6) (of-orders (c .plain5 .ensures) refl (c .before .before .before .release .ensures .sound w .0), c .before .before .before .release .ensures .sound w .1))
 
 same-length-15 : tie.Need-same-length-15
 same-length-15 c = search needs
@@ -163,7 +184,9 @@ same-length-17 c = search needs
 
 returns-7 : tie.Need-returns-7
 unfolding chosen requestKinds upperKinds placeOf
-returns-7 c = rw (c .before .before .before .before .before .before .before .match .keys7) (of-orders (c .plain6 .ensures) refl (c .before .before .before .finish .ensures .0), c .before .before .before .finish .ensures .1)
+returns-7 c =
+    any-step (c .plain6 .ensures) (λ n. λ i. buffers (c .before .before .before .before .before .before .before .before .before .before .before .args .p .now) (c .before .before .before .before .before .before .before .before .before .before .before .args .s .now) (c .before .before .before .finish .ensures .kept n i))
+    (λ w. rw (c .before .before .before .before .before .before .before .match .keys7) (of-orders (c .plain6 .ensures) refl (c .before .before .before .finish .ensures .sound w .0), c .before .before .before .finish .ensures .sound w .1))
 
 same-length-18 : tie.Need-same-length-18
 same-length-18 c = search needs
@@ -176,21 +199,27 @@ same-length-20 c = search needs
 
 returns-8 : tie.Need-returns-8
 unfolding chosen requestKinds upperKinds placeOf
-returns-8 c = rw (c .before .before .before .before .before .match .keys8) (of-none (c .plain7 .ensures) refl (c .before .task-check-reply .ensures), c .before .before .before .before .before .before .before .before .before .pre .0 .1 .1 .1)
+returns-8 c =
+    any-step (c .plain7 .ensures) (λ _. refl)
+    (λ w. rw (c .before .before .before .before .before .match .keys8) (of-none (c .plain7 .ensures) refl (c .before .task-check-reply .ensures w), w))
 
 same-length-21 : tie.Need-same-length-21
 same-length-21 c = search needs
 
 returns-9 : tie.Need-returns-9
 unfolding chosen requestKinds upperKinds placeOf
-returns-9 c = rw (c .before .before .before .match .keys9) (of-none (c .plain8 .ensures) refl (c .before .figures-reply .ensures (c .before .before .before .before .before .before .before .args .p .now) (c .before .before .before .before .before .before .before .args .s .now)), c .before .before .before .before .before .before .before .pre .0 .1 .1 .1)
+returns-9 c =
+    any-step (c .plain8 .ensures) (λ _. refl)
+    (λ w. rw (c .before .before .before .match .keys9) (of-none (c .plain8 .ensures) refl (c .before .figures-reply .ensures (c .before .before .before .before .before .before .before .args .p .now) (c .before .before .before .before .before .before .before .args .s .now)), w))
 
 same-length-22 : tie.Need-same-length-22
 same-length-22 c = search needs
 
 returns-10 : tie.Need-returns-10
 unfolding chosen requestKinds upperKinds placeOf
-returns-10 c = rw (c .before .before .before .match .keys10) (of-none (c .plain9 .ensures) refl (c .before .judge .ensures), c .before .before .before .before .before .before .before .pre .0 .1 .1 .1)
+returns-10 c =
+    any-step (c .plain9 .ensures) (λ _. refl)
+    (λ w. rw (c .before .before .before .match .keys10) (of-none (c .plain9 .ensures) refl (c .before .judge .ensures), w))
 
 same-length-23 : tie.Need-same-length-23
 same-length-23 c = search needs
@@ -200,7 +229,9 @@ same-length-24 c = search needs
 
 returns-11 : tie.Need-returns-11
 unfolding widened
-returns-11 c = rw (lower-row (c .before .before .before .before .before .before .before .before .match .rest)) (of-lower (c .plain10 .ensures) (no-claim _ _ _ (no-claim-number (c .before .before .before .before .before .before .before .before .match .rest))) (c .before .before .before .before .before .step .ensures), c .before .before .before .before .before .before .before .before .before .before .before .before .pre .0 .1 .1 .1)
+returns-11 c =
+    any-step (c .plain10 .ensures) (λ n. λ i. buffers (c .before .before .before .before .before .step .ensures .kept n .0 i) (c .before .before .before .before .before .step .ensures .kept n .1 i) (c .before .before .before .before .before .before .before .before .before .before .before .before .args .o .now))
+    (λ w. rw (lower-row (c .before .before .before .before .before .before .before .before .match .rest)) (of-lower (c .plain10 .ensures) (no-claim _ _ _ (no-claim-number (c .before .before .before .before .before .before .before .before .match .rest))) (c .before .before .before .before .before .step .ensures), w))
 
 pub step-spec : {M : Type 1} → statement M
 step-spec =

@@ -1,3 +1,4 @@
+-- Written from Proof.tmpl by 'prove expand': edit that file.
 -- None but what was hit is among the words so far.
 use Prim.Native.Nat.{ℕ, _≤_, _-_}
 use mathlib.Core.Path.{_≡_, refl, ap, _∙_}
@@ -13,7 +14,8 @@ use Rattle.entries.proofs.any.Statement.{statement}
 use Rattle.entries.proofs.any.Tie as tie
 
 abbrev Inv-loop : tie.InvT-loop
-Inv-loop o mask key m k₀ hits₀ k hits = (k ≤ m) × ((hits ≤ k) × (ltb 0 hits ≡ anyUpTo o k mask key))
+Inv-loop o mask key m k₀ hits₀ k hits =
+    (k ≤ m) × ((hits ≤ k) × (ltb 0 hits ≡ anyUpTo o k mask key))
 
 abbrev μ-loop : tie.MeasureT-loop
 μ-loop o mask key m k₀ hits₀ k hits = m - k
@@ -26,16 +28,16 @@ unfolding someBelow
 loop-holds c = (omega arith, (omega arith, refl))
 
 add-word : tie.Need-add-word Inv-loop μ-loop
-add-word c = let m = (whole (c .before .before .before .before .args .o .now) (c .before .before .before .before .pre .1) .woven) .mark in omega arith
+add-word c = let m = c .before .before .mark .ensures .0 in omega arith
 
 word-requires : tie.Need-word-requires Inv-loop μ-loop
-word-requires c κs = (c .before .before .before .before .pre .0, (let m = (whole (c .before .before .before .before .args .o .now) (c .before .before .before .before .pre .1) .woven) .mark in omega arith))
+word-requires c κs = (c .before .before .before .before .pre, (let m = c .before .before .mark .ensures .0 in omega arith))
 
 half-fits-requires : tie.Need-half-fits-requires Inv-loop μ-loop
 half-fits-requires c κs = search needs
 
 one-more-requires : tie.Need-one-more-requires Inv-loop μ-loop
-one-more-requires c κs = let m = (whole (c .before .before .before .before .before .before .args .o .now) (c .before .before .before .before .before .before .pre .1) .woven) .mark in omega arith
+one-more-requires c κs = let m = c .before .before .before .before .mark .ensures .0 in omega arith
 
 add-k : tie.Need-add-k Inv-loop μ-loop
 add-k c = omega arith
@@ -44,10 +46,23 @@ loop-less : tie.Need-loop-less Inv-loop μ-loop
 loop-less c = omega arith
 
 loop-again : tie.Need-loop-again Inv-loop μ-loop
-loop-again c = (omega arith, (rw (c .one-more .ensures) (more-le (c .before .half-fits .result) (c .before .before .before .before .loop .hits) (c .before .before .before .before .loop .k) (c .before .before .before .before .loop .inv .1 .0)), up-more (c .before .before .before .before .before .before .before .args .o .now) (c .before .before .before .before .loop .k) (c .before .before .before .before .before .before .before .args .mask) (c .before .before .before .before .before .before .before .args .key) (c .before .before .word .result) (c .before .before .before .before .loop .hits) (c .one-more .result) (c .before .half-fits .result) (c .before .before .word .ensures) (c .before .half-fits .ensures) (c .one-more .ensures) (c .before .before .before .before .loop .inv .1 .1)))
+loop-again c =
+    let v = c .before .before .before .before .loop in (
+      omega arith,
+      (
+        rw (c .one-more .ensures) (more-le (c .before .half-fits .result) (v .hits) (v .k) (v .inv .1 .0)),
+        up-more (c .before .before .before .before .before .before .before .args .o .now) (v .k) (c .before .before .before .before .before .before .before .args .mask) (c .before .before .before .before .before .before .before .args .key) (c .before .before .word .result) (v .hits) (c .one-more .result) (c .before .half-fits .result) (c .before .before .word .ensures) (c .before .half-fits .ensures) (c .one-more .ensures) (v .inv .1 .1),
+      ),
+    )
 
 returns : tie.Need-returns Inv-loop μ-loop
-returns c = let e : c .before .loop .k ≡ markOf (c .before .before .before .before .args .o .now) = omega arith in c .before .loop .inv .1 .1 ∙ ap (λ (n : ℕ). anyUpTo (c .before .before .before .before .args .o .now) n (c .before .before .before .before .args .mask) (c .before .before .before .before .args .key)) e
+returns c = λ s.
+    let l = c .before .before .before .before .args .o .now in
+    let v = c .before .loop in
+    let m = whole l s .woven .mark in
+    let q = c .before .before .mark .ensures .1 m in
+    let e : v .k ≡ markOf l = omega arith in
+    v .inv .1 .1 ∙ ap (λ (n : ℕ). anyUpTo l n (c .before .before .before .before .args .mask) (c .before .before .before .before .args .key)) e
 
 pub any-spec : {M : Type 1} → statement M
 any-spec =

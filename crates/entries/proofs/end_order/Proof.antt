@@ -1,7 +1,8 @@
+-- Written from Proof.tmpl by 'prove expand': edit that file.
 -- The instance's entries are those that go.
+use borrow.Author.Needs.{needs}
 use Rattle.links.proofs.ActLaws.{whole}
 use Rattle.entries.proofs.ActLaws.{ends}
-use borrow.Author.Needs.{needs}
 use Rattle.entries.proofs.end_order.Statement.{statement}
 use Rattle.entries.proofs.end_order.Tie as tie
 
@@ -12,7 +13,15 @@ same-length : tie.Need-same-length
 same-length c = search needs
 
 returns : tie.Need-returns
-returns c = ends (c .before .before .before .before .before .args .i) (c .before .before .before .before .before .pre .1) (c .before .before .before .before .before .args .o .now) _ (whole (c .before .before .before .before .before .args .o .now) (c .before .before .before .before .before .pre .0 .1) .woven) (c .before .before .close-chain .ensures)
+returns c =
+    let z = c .before .before .before .before .before .args in
+    let l = z .o .now in
+    (c .before .before .close-chain .ensures .0, λ s. ends (z .i) (c .before .before .before .before .before .pre .1) l _ (whole l s .woven) (c .before .before .close-chain .ensures .1 s))
 
 pub end-order-spec : {M : Type 1} → statement M
-end-order-spec = tie.close (tie.spec close-chain-requires same-length returns)
+end-order-spec =
+    tie.close
+    (tie.spec
+    close-chain-requires
+    same-length
+    returns)

@@ -1,20 +1,34 @@
+-- Written from Proof.tmpl by 'prove expand': edit that file.
 -- There is room, and the instance is open.
 use mathlib.Core.Bool.{true}
+use borrow.Author.Needs.{needs}
 use Rattle.links.proofs.ActLaws.{whole}
 use Rattle.entries.proofs.FigureLaws.{room-left}
 use Rattle.entries.proofs.ActLaws.{opened-there, enters}
-use borrow.Author.Needs.{needs}
 use Rattle.entries.proofs.enter.Statement.{statement}
 use Rattle.entries.proofs.enter.Tie as tie
 
 enter-requires : tie.Need-enter-requires
-enter-requires c κs = (c .before .before .pre .0 .0, (c .before .before .pre .0 .1, (opened-there (c .before .before .args .o .now) (c .before .before .args .i) true (c .before .before .pre .1 .1 .1 .1 .0) (c .before .before .pre .1 .0), (room-left (c .before .before .args .o .now) (whole (c .before .before .args .o .now) (c .before .before .pre .0 .1)) (c .before .before .pre .1 .1 .0), c .before .before .pre .1 .1 .1))))
+enter-requires c κs = search needs
 
 same-length : tie.Need-same-length
 same-length c = search needs
 
 returns : tie.Need-returns
-returns c = enters (c .before .before .before .before .before .args .i) (c .before .before .before .before .before .pre .1 .1 .1 .1 .0) (c .before .before .before .before .before .args .o .now) _ (whole (c .before .before .before .before .before .args .o .now) (c .before .before .before .before .before .pre .0 .1) .woven) (c .before .before .before .before .before .args .u) (c .before .before .before .before .before .args .t) (c .before .before .before .before .before .args .a) (c .before .before .enter .ensures)
+returns c =
+    let z = c .before .before .before .before .before .args in
+    let l = z .o .now in (
+      c .before .before .enter .ensures .0,
+      λ s live fits.
+          let w = whole l s in
+          enters (z .i) (c .before .before .before .before .before .pre .1 .1 .0) l _ (w .woven) (z .u) (z .t) (z .a)
+          (c .before .before .enter .ensures .1 s (opened-there l (z .i) true (c .before .before .before .before .before .pre .1 .1 .0) live) (room-left l w fits)),
+    )
 
 pub enter-spec : {M : Type 1} → statement M
-enter-spec = tie.close (tie.spec enter-requires same-length returns)
+enter-spec =
+    tie.close
+    (tie.spec
+    enter-requires
+    same-length
+    returns)

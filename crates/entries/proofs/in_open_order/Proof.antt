@@ -1,8 +1,9 @@
+-- Written from Proof.tmpl by 'prove expand': edit that file.
 -- A search through all words: an instance that has entries is open.
 use mathlib.Core.Path.{_∙_}
+use borrow.Author.Needs.{needs}
 use Rattle.links.proofs.SoundLaws.{sound}
 use Rattle.entries.proofs.SearchLaws.{any-open}
-use borrow.Author.Needs.{needs}
 use Rattle.entries.proofs.in_open_order.Statement.{statement}
 use Rattle.entries.proofs.in_open_order.Tie as tie
 
@@ -16,7 +17,13 @@ any-requires : tie.Need-any-requires
 any-requires c κs = search needs
 
 returns : tie.Need-returns
-returns c = c .any .ensures ∙ any-open (c .before .before .args .o .now) (sound (c .before .before .args .o .now) (c .before .before .pre .0 .1)) (c .before .before .args .u) (c .before .before .pre .1)
+returns c = λ s. c .any .ensures s ∙ any-open (c .before .before .args .o .now) (sound (c .before .before .args .o .now) s) (c .before .before .args .u) (c .before .before .pre .1)
 
 pub in-open-order-spec : {M : Type 1} → statement M
-in-open-order-spec = tie.close (tie.spec mul-any cast-any any-requires returns)
+in-open-order-spec =
+    tie.close
+    (tie.spec
+    mul-any
+    cast-any
+    any-requires
+    returns)

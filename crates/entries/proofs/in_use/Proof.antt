@@ -1,8 +1,9 @@
+-- Written from Proof.tmpl by 'prove expand': edit that file.
 -- All up to the mark but the free ones.
 use native.Mathlib.Omega.{arith}
+use borrow.Author.Needs.{needs}
 use Rattle.links.proofs.ActLaws.{whole}
 use Rattle.entries.proofs.FigureLaws.{used}
-use borrow.Author.Needs.{needs}
 use Rattle.entries.proofs.in_use.Statement.{statement}
 use Rattle.entries.proofs.in_use.Tie as tie
 
@@ -12,11 +13,27 @@ chain-requires c κs = search needs
 mark-requires : tie.Need-mark-requires
 mark-requires c κs = search needs
 
+add-result : tie.Need-add-result
+add-result c = let m = c .mark .ensures .0 in omega arith
+
 sub-result : tie.Need-sub-result
-sub-result c = let u = used (c .before .before .before .args .o .now) (whole (c .before .before .before .args .o .now) (c .before .before .before .pre .1)) in let a = c .before .chain .ensures in let b = c .mark .ensures in let m = whole (c .before .before .before .args .o .now) (c .before .before .before .pre .1) .woven .mark in omega arith
+sub-result c = search needs
 
 returns : tie.Need-returns
-returns c = let u = used (c .before .before .before .args .o .now) (whole (c .before .before .before .args .o .now) (c .before .before .before .pre .1)) in let a = c .before .chain .ensures in let b = c .mark .ensures in let m = whole (c .before .before .before .args .o .now) (c .before .before .before .pre .1) .woven .mark in (omega arith, omega arith)
+returns c = λ s.
+    let w = whole (c .before .before .before .args .o .now) s in
+    let u = used (c .before .before .before .args .o .now) w in
+    let a = c .before .chain .ensures in
+    let m = w .woven .mark in
+    let b = c .mark .ensures .1 m in
+    omega arith
 
 pub in-use-spec : {M : Type 1} → statement M
-in-use-spec = tie.close (tie.spec chain-requires mark-requires sub-result returns)
+in-use-spec =
+    tie.close
+    (tie.spec
+    chain-requires
+    mark-requires
+    add-result
+    sub-result
+    returns)

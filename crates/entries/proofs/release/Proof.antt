@@ -1,19 +1,38 @@
+-- Written from Proof.tmpl by 'prove expand': edit that file.
 -- The instance's entries are the only ones that are released.
 use mathlib.Core.Bool.{true}
-use Rattle.links.proofs.ActLaws.{whole}
-use Rattle.entries.proofs.ActLaws.{opened-there, releases}
+use mathlib.Core.Path.{_∙_}
 use borrow.Author.Needs.{needs}
+use Rattle.links.proofs.ActLaws.{whole}
+use Rattle.entries.proofs.SearchLaws.{held-own}
+use Rattle.entries.proofs.ActLaws.{opened-there, releases}
 use Rattle.entries.proofs.release.Statement.{statement}
 use Rattle.entries.proofs.release.Tie as tie
 
 release-requires : tie.Need-release-requires
-release-requires c κs = (c .before .before .pre .0 .0, (c .before .before .pre .0 .1, (opened-there (c .before .before .args .o .now) (c .before .before .args .i) true (c .before .before .pre .1 .1 .0) (c .before .before .pre .1 .0), c .before .before .pre .1 .1)))
+release-requires c κs = search needs
 
 same-length : tie.Need-same-length
-same-length c = search needs
+same-length c = c .before .before .release .ensures .room
 
 returns : tie.Need-returns
-returns c = releases (c .before .before .before .before .before .args .i) (c .before .before .before .before .before .pre .1 .1 .0) (c .before .before .before .before .before .args .o .now) _ (whole (c .before .before .before .before .before .args .o .now) (c .before .before .before .before .before .pre .0 .1) .woven) (c .before .before .before .before .before .args .t) (c .before .before .before .before .before .args .a) (c .before .before .release .ensures)
+returns c =
+    let z = c .before .before .before .before .before .args in
+    let l = z .o .now in
+    let e = c .before .before .release .ensures in
+    record {
+      room = e .room;
+      kept = e .kept;
+      sound = λ s live.
+          let w = whole l s .woven in
+          let did = e .sound s (opened-there l (z .i) true (c .before .before .before .before .before .pre .1 .0) live) in
+          (did .0 ∙ held-own l w (z .i) (z .t) (z .a) (c .before .before .before .before .before .pre .1 .0), releases (z .i) (c .before .before .before .before .before .pre .1 .0) l _ w (z .t) (z .a) (did .1));
+    }
 
 pub release-spec : {M : Type 1} → statement M
-release-spec = tie.close (tie.spec release-requires same-length returns)
+release-spec =
+    tie.close
+    (tie.spec
+    release-requires
+    same-length
+    returns)

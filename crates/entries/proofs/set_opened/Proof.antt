@@ -1,20 +1,33 @@
+-- Written from Proof.tmpl by 'prove expand': edit that file.
 -- A closed instance has no entries.
 use mathlib.Core.Bool.{false}
+use borrow.Author.Needs.{needs}
 use Rattle.links.proofs.ActLaws.{whole}
 use Rattle.entries.proofs.OwnLaws.{closed-none}
 use Rattle.entries.proofs.ActLaws.{opened-there, opens}
-use borrow.Author.Needs.{needs}
 use Rattle.entries.proofs.set_opened.Statement.{statement}
 use Rattle.entries.proofs.set_opened.Tie as tie
 
 open-chain-requires : tie.Need-open-chain-requires
-open-chain-requires c κs = (c .before .before .pre .0 .0, (c .before .before .pre .0 .1, (opened-there (c .before .before .args .o .now) (c .before .before .args .i) false (c .before .before .pre .1 .1 .0) (c .before .before .pre .1 .0), c .before .before .pre .1 .1)))
+open-chain-requires c κs = search needs
 
 same-length : tie.Need-same-length
 same-length c = search needs
 
 returns : tie.Need-returns
-returns c = opens (c .before .before .before .before .before .args .i) (c .before .before .before .before .before .pre .1 .1 .0) (c .before .before .before .before .before .args .o .now) _ (whole (c .before .before .before .before .before .args .o .now) (c .before .before .before .before .before .pre .0 .1) .woven) (c .before .before .before .before .before .args .j) (closed-none (c .before .before .before .before .before .args .o .now) (c .before .before .before .before .before .args .i) (c .before .before .before .before .before .pre .1 .1 .0) (opened-there (c .before .before .before .before .before .args .o .now) (c .before .before .before .before .before .args .i) false (c .before .before .before .before .before .pre .1 .1 .0) (c .before .before .before .before .before .pre .1 .0))) (c .before .before .open-chain .ensures)
+returns c =
+    let z = c .before .before .before .before .before .args in
+    let l = z .o .now in (
+      c .before .before .open-chain .ensures .0,
+      λ s shut.
+          let was = opened-there l (z .i) false (c .before .before .before .before .before .pre .1 .0) shut in
+          opens (z .i) (c .before .before .before .before .before .pre .1 .0) l _ (whole l s .woven) (z .j) (closed-none l (z .i) (c .before .before .before .before .before .pre .1 .0) was) (c .before .before .open-chain .ensures .1 s was),
+    )
 
 pub set-opened-spec : {M : Type 1} → statement M
-set-opened-spec = tie.close (tie.spec open-chain-requires same-length returns)
+set-opened-spec =
+    tie.close
+    (tie.spec
+    open-chain-requires
+    same-length
+    returns)

@@ -1,3 +1,4 @@
+-- Written from Proof.tmpl by 'prove expand': edit that file.
 -- Field by field what one entry more adds.
 use borrow.Author.Needs.{needs}
 use Rattle.entries.specs.Gathering.{setOf, takenIn}
@@ -10,9 +11,6 @@ with-if-requires c κs = search needs
 with-if-requires-2 : tie.Need-with-if-requires-2
 with-if-requires-2 c κs = search needs
 
-with-if-requires-3 : tie.Need-with-if-requires-3
-with-if-requires-3 c κs = search needs
-
 more-if-requires : tie.Need-more-if-requires
 more-if-requires c κs = search needs
 
@@ -23,8 +21,8 @@ returns : tie.Need-returns
 unfolding takenIn
 returns c = λ x. record {
   mine = setOf (c .before .before .before .before .with-if .ensures x);
-  done = setOf (c .before .before .before .with-if2 .ensures x);
-  others = setOf (c .before .before .with-if3 .ensures x);
+  done = c .before .before .before .before .before .args .g .done;
+  others = setOf (c .before .before .with-if2 .ensures x);
   times = c .before .more-if .ensures x;
   held = c .pick .ensures x;
 }
@@ -35,7 +33,6 @@ take-in-spec =
     (tie.spec
     with-if-requires
     with-if-requires-2
-    with-if-requires-3
     more-if-requires
     pick-requires
     returns)

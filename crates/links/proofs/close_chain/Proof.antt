@@ -1,18 +1,19 @@
+-- Written from Proof.tmpl by 'prove expand': edit that file.
 -- All entries go to the free ones, and the instance is in the set no longer.
 use Prim.Native.Nat.{ℕ}
 use mathlib.Core.Path.{sym, ap, subst, _∙_}
 use mathlib.Core.List.{[]}
-use lib.ListN.{set}
+use lib.ListN.{set, length-set}
+use borrow.Author.Needs.{needs}
 use Rattle.paper_lower.specs.Sets.{minus}
 use Rattle.paper_lower.specs.Lists.Maybe.{none}
 use Rattle.links.specs.Acts.{Leaves}
 use Rattle.links.proofs.ActLaws.{whole, closed}
-use borrow.Author.Needs.{needs}
 use Rattle.links.proofs.close_chain.Statement.{statement}
 use Rattle.links.proofs.close_chain.Tie as tie
 
-drop-held-requires : tie.Need-drop-held-requires
-drop-held-requires c κs = (c .before .before .pre .0, (whole (c .before .before .args .o .now) (c .before .before .pre .1 .0) .woven, c .before .before .pre .1 .1))
+drop-all-requires : tie.Need-drop-all-requires
+drop-all-requires c κs = search needs
 
 slice-read-set-of : tie.Need-slice-read-set-of
 slice-read-set-of c = search needs
@@ -30,13 +31,23 @@ same-length : tie.Need-same-length
 same-length c = search needs
 
 returns : tie.Need-returns
-returns c = subst (λ (x : ℕ). Leaves (c .before .before .before .before .before .before .before .before .args .i) none [] (c .before .before .before .before .before .before .before .before .args .o .now) (set (c .before .before .before .before .before .drop-held .last .0) 1 x)) (sym (c .without .ensures ∙ ap (λ (m : ℕ). minus m (c .before .before .before .before .before .before .before .before .args .i)) (c .before .set-of .ensures))) (closed (c .before .before .before .before .before .before .before .before .args .o .now) _ (c .before .before .before .before .before .before .before .before .args .i) (c .before .before .before .before .before .before .before .before .pre .0) (whole (c .before .before .before .before .before .before .before .before .args .o .now) (c .before .before .before .before .before .before .before .before .pre .1 .0)) (c .before .before .before .before .before .before .before .before .pre .1 .1) (c .before .before .before .before .before .drop-held .ensures))
+returns c =
+    let z = c .before .before .before .before .before .before .before .before .args in
+    let l = z .o .now in
+    let i = z .i in
+    let l₁ = c .before .before .before .before .before .drop-all .last .0 in (
+      length-set l₁ 1 _ ∙ c .before .before .before .before .before .drop-all .ensures .0,
+      λ s.
+          let w = whole l s in
+          subst (λ (x : ℕ). Leaves i none [] l (set l₁ 1 x)) (sym (c .without .ensures ∙ ap (λ (m : ℕ). minus m i) (c .before .set-of .ensures)))
+          (closed l l₁ i (c .before .before .before .before .before .before .before .before .pre .0) w (c .before .before .before .before .before .before .before .before .pre .1) (c .before .before .before .before .before .drop-all .ensures .1 (w .woven))),
+    )
 
 pub close-chain-spec : {M : Type 1} → statement M
 close-chain-spec =
     tie.close
     (tie.spec
-    drop-held-requires
+    drop-all-requires
     slice-read-set-of
     set-of-requires
     without-requires

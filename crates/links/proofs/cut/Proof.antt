@@ -1,11 +1,9 @@
 -- The newest leaves the chain's word; every other, the link before it.
 use Prim.Native.Nat.{_+_}
 use native.Mathlib.Omega.{arith}
+use lib.ListN.{length-set}
+use Rattle.links.proofs.TotalLaws.{any-newest, any-later}
 use borrow.Author.Needs.{needs}
-use lib.ListN.{getD, length-set}
-use Rattle.links.proofs.ReadLaws.{chain-read, read-some}
-use Rattle.links.proofs.StackLaws.{cut-newest}
-use Rattle.links.proofs.CutLaws.{place-room, before-room, cut-later}
 use Rattle.links.proofs.cut.Statement.{statement}
 use Rattle.links.proofs.cut.Tie as tie
 
@@ -19,16 +17,16 @@ slice-read-x : tie.Need-slice-read-x
 slice-read-x c = search needs
 
 add-w : tie.Need-add-w
-add-w c = let m = place-room (c .before .args .o .now) (c .before .pre .1 .0) (c .before .args .i) (omega arith) (c .before .args .kept) (c .before .args .k) (c .before .pre .1 .1 .1 .0) (c .before .pre .1 .1 .1 .1 .0) in search needs
+add-w c = search needs
 
 mul-w : tie.Need-mul-w
-mul-w c = let m = place-room (c .before .args .o .now) (c .before .pre .1 .0) (c .before .args .i) (omega arith) (c .before .args .kept) (c .before .args .k) (c .before .pre .1 .1 .1 .0) (c .before .pre .1 .1 .1 .1 .0) in search needs
+mul-w c = search needs
 
 slice-read-w : tie.Need-slice-read-w
-slice-read-w c = let m = place-room (c .before .before .args .o .now) (c .before .before .pre .1 .0) (c .before .before .args .i) (omega arith) (c .before .before .args .kept) (c .before .before .args .k) (c .before .before .pre .1 .1 .1 .0) (c .before .before .pre .1 .1 .1 .1 .0) in omega arith
+slice-read-w c = search needs
 
-sub-o : tie.Need-sub-o
-sub-o c = let e = chain-read (c .before .before .before .args .o .now) (c .before .before .before .args .i) (read-some (c .before .before .before .args .o .now) (c .before .before .before .args .i) (let h = c .before .before .before .pre .1 .1 .1 .0 in omega arith)) in let h = c .before .before .before .pre .1 .1 .1 .0 in omega arith
+add-fewer : tie.Need-add-fewer
+add-fewer c = search needs
 
 mul-o : tie.Need-mul-o
 mul-o c = search needs
@@ -49,16 +47,16 @@ same-length : tie.Need-same-length
 same-length c = search needs
 
 returns : tie.Need-returns
-returns c = cut-newest (c .before .before .before .args .o .now) (c .before .before .before .pre .0) (c .before .before .before .pre .1 .0) (c .before .before .before .args .i) (omega arith) (let h = c .before .before .before .pre .1 .1 .1 .0 in omega arith) (getD (c .before .before .before .args .o .now) (66 + c .before .before .before .args .i) 0) (c .before .before .before .args .kept) (c .before .before .before .args .k) (chain-read (c .before .before .before .args .o .now) (c .before .before .before .args .i) (read-some (c .before .before .before .args .o .now) (c .before .before .before .args .i) (let h = c .before .before .before .pre .1 .1 .1 .0 in omega arith))) (c .if1 .taken) (c .before .before .before .pre .1 .1 .1 .1 .0)
+returns c = any-newest (c .before .before .before .args .o .now) (c .before .before .before .pre .0) (c .before .before .before .args .i) (omega arith) (c .before .before .before .args .kept) (c .before .before .before .args .q) (c .before .before .before .args .k) (c .if1 .taken)
 
 add-v : tie.Need-add-v
-add-v c = let m = before-room (c .before .before .before .args .o .now) (c .before .before .before .pre .1 .0) (c .before .before .before .args .i) (omega arith) (c .before .before .before .args .kept) (c .before .before .before .args .q) (c .before .before .before .pre .1 .1 .1 .0) (c .before .before .before .pre .1 .1 .1 .1 .1) in search needs
+add-v c = search needs
 
 mul-v : tie.Need-mul-v
-mul-v c = let m = before-room (c .before .before .before .args .o .now) (c .before .before .before .pre .1 .0) (c .before .before .before .args .i) (omega arith) (c .before .before .before .args .kept) (c .before .before .before .args .q) (c .before .before .before .pre .1 .1 .1 .0) (c .before .before .before .pre .1 .1 .1 .1 .1) in search needs
+mul-v c = search needs
 
 slice-read-v : tie.Need-slice-read-v
-slice-read-v c = let m = before-room (c .before .before .before .before .args .o .now) (c .before .before .before .before .pre .1 .0) (c .before .before .before .before .args .i) (omega arith) (c .before .before .before .before .args .kept) (c .before .before .before .before .args .q) (c .before .before .before .before .pre .1 .1 .1 .0) (c .before .before .before .before .pre .1 .1 .1 .1 .1) in omega arith
+slice-read-v c = search needs
 
 mul-o-3 : tie.Need-mul-o-3
 mul-o-3 c = search needs
@@ -67,16 +65,13 @@ add-o-3 : tie.Need-add-o-3
 add-o-3 c = search needs
 
 add-o-4 : tie.Need-add-o-4
-add-o-4 c = let m = before-room (c .before .before .before .before .args .o .now) (c .before .before .before .before .pre .1 .0) (c .before .before .before .before .args .i) (omega arith) (c .before .before .before .before .args .kept) (c .before .before .before .before .args .q) (c .before .before .before .before .pre .1 .1 .1 .0) (c .before .before .before .before .pre .1 .1 .1 .1 .1) in search needs
+add-o-4 c = search needs
 
 mul-o-4 : tie.Need-mul-o-4
-mul-o-4 c = let m = before-room (c .before .before .before .before .args .o .now) (c .before .before .before .before .pre .1 .0) (c .before .before .before .before .args .i) (omega arith) (c .before .before .before .before .args .kept) (c .before .before .before .before .args .q) (c .before .before .before .before .pre .1 .1 .1 .0) (c .before .before .before .before .pre .1 .1 .1 .1 .1) in search needs
+mul-o-4 c = search needs
 
 slice-write-o-2 : tie.Need-slice-write-o-2
-slice-write-o-2 c = let m = before-room (c .before .before .before .before .args .o .now) (c .before .before .before .before .pre .1 .0) (c .before .before .before .before .args .i) (omega arith) (c .before .before .before .before .args .kept) (c .before .before .before .before .args .q) (c .before .before .before .before .pre .1 .1 .1 .0) (c .before .before .before .before .pre .1 .1 .1 .1 .1) in omega arith
-
-sub-o-2 : tie.Need-sub-o-2
-sub-o-2 c = let e = chain-read (c .before .before .before .before .args .o .now) (c .before .before .before .before .args .i) (read-some (c .before .before .before .before .args .o .now) (c .before .before .before .before .args .i) (let h = c .before .before .before .before .pre .1 .1 .1 .0 in omega arith)) in let h = c .before .before .before .before .pre .1 .1 .1 .0 in omega arith
+slice-write-o-2 c = search needs
 
 mul-o-5 : tie.Need-mul-o-5
 mul-o-5 c = search needs
@@ -97,7 +92,7 @@ same-length-2 : tie.Need-same-length-2
 same-length-2 c = search needs
 
 returns-2 : tie.Need-returns-2
-returns-2 c = cut-later (c .before .before .before .before .args .o .now) (c .before .before .before .before .pre .0) (c .before .before .before .before .pre .1 .0) (c .before .before .before .before .args .i) (omega arith) (getD (c .before .before .before .before .args .o .now) (66 + c .before .before .before .before .args .i) 0) (c .before .before .before .before .args .kept) (c .before .before .before .before .args .q) (c .before .before .before .before .args .k) (chain-read (c .before .before .before .before .args .o .now) (c .before .before .before .before .args .i) (read-some (c .before .before .before .before .args .o .now) (c .before .before .before .before .args .i) (let h = c .before .before .before .before .pre .1 .1 .1 .0 in omega arith))) (c .before .if1 .left) (c .before .before .before .before .pre .1 .1 .1 .0) (c .before .before .before .before .pre .1 .1 .1 .1 .0) (c .before .before .before .before .pre .1 .1 .1 .1 .1)
+returns-2 c = any-later (c .before .before .before .before .args .o .now) (c .before .before .before .before .pre .0) (c .before .before .before .before .args .i) (omega arith) (c .before .before .before .before .args .kept) (c .before .before .before .before .args .q) (c .before .before .before .before .args .k) (c .before .if1 .left)
 
 pub cut-spec : {M : Type 1} → statement M
 cut-spec =
@@ -109,7 +104,7 @@ cut-spec =
     add-w
     mul-w
     slice-read-w
-    sub-o
+    add-fewer
     mul-o
     add-o
     add-o-2
@@ -125,7 +120,6 @@ cut-spec =
     add-o-4
     mul-o-4
     slice-write-o-2
-    sub-o-2
     mul-o-5
     add-o-5
     add-o-6

@@ -1,14 +1,14 @@
+-- Written from Proof.tmpl by 'prove expand': edit that file.
 -- A free entry is taken and put on the instance.
 use mathlib.Core.Path.{_∙_}
-use native.Mathlib.Omega.{arith}
+use borrow.Author.Needs.{needs}
 use Rattle.links.proofs.ReadLaws.{read-same, read-open}
 use Rattle.links.proofs.ActLaws.{whole, entered}
-use borrow.Author.Needs.{needs}
 use Rattle.links.proofs.enter.Statement.{statement}
 use Rattle.links.proofs.enter.Tie as tie
 
 take-free-requires : tie.Need-take-free-requires
-take-free-requires c κs = (c .before .before .pre .0, (whole (c .before .before .args .o .now) (c .before .before .pre .1 .0) .woven, c .before .before .pre .1 .1 .1 .0))
+take-free-requires c κs = search needs
 
 mul-push : tie.Need-mul-push
 mul-push c = search needs
@@ -26,13 +26,22 @@ add-push-2 : tie.Need-add-push-2
 add-push-2 c = search needs
 
 push-requires : tie.Need-push-requires
-push-requires c κs = (c .before .before .before .take-free .ensures .beside .room ∙ c .before .before .before .before .before .before .pre .0, (c .before .before .before .take-free .ensures .loose, (omega arith, (omega arith, read-same (c .before .before .before .before .before .before .args .o .now) _ (c .before .before .before .before .before .before .args .i) (c .before .before .before .take-free .ensures .beside .opens) ∙ read-open (c .before .before .before .before .before .before .args .o .now) (c .before .before .before .before .before .before .args .i) (c .before .before .before .before .before .before .pre .1 .1 .0)))))
+push-requires c κs = search needs
 
 same-length : tie.Need-same-length
 same-length c = search needs
 
 returns : tie.Need-returns
-returns c = entered (c .before .before .before .before .before .before .before .before .before .args .o .now) _ _ (c .before .before .before .before .before .before .take-free .result) (c .before .before .before .before .before .before .before .before .before .args .i) (c .before .before .before .before .before .before .before .before .before .args .u) (c .before .before .before .before .before .before .before .before .before .args .t) (c .before .before .before .before .before .before .before .before .before .args .a) (c .before .before .before .before .before .before .before .before .before .pre .0) (whole (c .before .before .before .before .before .before .before .before .before .args .o .now) (c .before .before .before .before .before .before .before .before .before .pre .1 .0)) (c .before .before .before .before .before .before .before .before .before .pre .1 .1 .1 .1 .0) (c .before .before .before .before .before .before .before .before .before .pre .1 .1 .1 .1 .1 .0) (c .before .before .before .before .before .before .before .before .before .pre .1 .1 .1 .1 .1 .1 .0) (c .before .before .before .before .before .before .before .before .before .pre .1 .1 .1 .1 .1 .1 .1) (c .before .before .before .before .before .before .take-free .ensures) (c .before .before .push .ensures)
+returns c =
+    let z = c .before .before .before .before .before .before .before .before .before .args in
+    let l = z .o .now in (
+      c .before .before .push .ensures .0 .room ∙ c .before .before .before .before .before .before .take-free .ensures .0 .room,
+      λ s opens fits.
+          let w = whole l s in
+          let taken = c .before .before .before .before .before .before .take-free .ensures .1 (w .woven) fits in
+          entered l _ _ (c .before .before .before .before .before .before .take-free .result) (z .i) (z .u) (z .t) (z .a) (c .before .before .before .before .before .before .before .before .before .pre .0) w (c .before .before .before .before .before .before .before .before .before .pre .1 .0) (c .before .before .before .before .before .before .before .before .before .pre .1 .1 .0) (c .before .before .before .before .before .before .before .before .before .pre .1 .1 .1 .0) (c .before .before .before .before .before .before .before .before .before .pre .1 .1 .1 .1) taken
+          (c .before .before .push .ensures .1 (taken .loose) (read-same l _ (z .i) (taken .beside .opens) ∙ read-open l (z .i) opens)),
+    )
 
 pub enter-spec : {M : Type 1} → statement M
 enter-spec =

@@ -1,28 +1,74 @@
--- Each is turned, and put back in its order.
-use Prim.Native.Nat.{_+_}
-use mathlib.Core.Path.{_∙_}
+-- Written from Proof.tmpl by 'prove expand': edit that file.
+-- What fits is turned, and its task is in the kept set; where nothing fits, nothing is written.
+use Prim.Native.Nat.{ℕ, _+_}
+use mathlib.Core.Path.{sym, ap, subst, _∙_}
+use mathlib.Core.List.{List}
+use mathlib.Core.Bool.{true≢false}
 use native.Mathlib.Omega.{arith}
 use lib.ListN.{length-set}
-use Rattle.links.proofs.ReadLaws.{read-same, read-open}
-use Rattle.links.proofs.ActLaws.{whole, finished}
+use borrow.Author.Tests.{not-true, not-false}
 use borrow.Author.Needs.{needs}
+use Rattle.paper_lower.specs.Sets.{plus}
+use Rattle.paper_lower.specs.Lists.{each}
+use Rattle.paper_upper.specs.Requests.{turned}
+use Rattle.links.specs.Chains.{templateAt, entriesIn}
+use Rattle.links.specs.Acts.{Leaves}
+use Rattle.links.proofs.ActLaws.{whole, unchanged, finished}
+use Rattle.links.proofs.TurnLaws.{held-fits, none-turned}
 use Rattle.links.proofs.finish.Statement.{statement}
 use Rattle.links.proofs.finish.Tie as tie
 
-mul-turn-held : tie.Need-mul-turn-held
-mul-turn-held c = search needs
+mul-turn : tie.Need-mul-turn
+mul-turn c = search needs
 
-mul-turn-held-2 : tie.Need-mul-turn-held-2
-mul-turn-held-2 c = search needs
+mul-turn-2 : tie.Need-mul-turn-2
+mul-turn-2 c = search needs
 
-add-turn-held : tie.Need-add-turn-held
-add-turn-held c = search needs
+add-turn : tie.Need-add-turn
+add-turn c = search needs
 
-turn-held-requires : tie.Need-turn-held-requires
-turn-held-requires c κs = (c .before .before .pre .0, (whole (c .before .before .args .o .now) (c .before .before .pre .1 .0) .woven, (c .before .before .pre .1 .1 .1 .0, omega arith)))
+turn-requires : tie.Need-turn-requires
+turn-requires c κs = (c .before .before .pre .0, (c .before .before .pre .1 .0, omega arith))
 
-put-back-requires : tie.Need-put-back-requires
-put-back-requires c κs = (c .before .before .before .turn-held .ensures .still .beside .room ∙ c .before .before .before .before .before .before .pre .0, (c .before .before .before .turn-held .ensures .still .woven, (c .before .before .before .before .before .before .pre .1 .1 .1 .0, (read-same (c .before .before .before .before .before .before .args .o .now) _ (c .before .before .before .before .before .before .args .i) (c .before .before .before .turn-held .ensures .still .beside .opens) ∙ read-open (c .before .before .before .before .before .before .args .o .now) (c .before .before .before .before .before .before .args .i) (c .before .before .before .before .before .before .pre .1 .1 .0), c .before .before .before .turn-held .ensures .own))))
+same-length : tie.Need-same-length
+same-length c = c .before .before .before .turn .ensures .room
+
+returns : tie.Need-returns
+returns c =
+    let z = c .before .before .before .before .before .before .args in
+    let l = z .o .now in
+    let hi = c .before .before .before .before .before .before .pre .1 .0 in
+    let ht = c .before .before .before .before .before .before .pre .1 .1 .0 in
+    let ha = c .before .before .before .before .before .before .pre .1 .1 .1 in
+    let f = not-true _ (c .if1 .taken) in
+    let k = c .before .before .before .turn .ensures .kept f in
+    let es = each (turned (z .i) (z .t) (z .a)) (entriesIn l (z .i)) in
+    record {
+      room = c .before .before .before .turn .ensures .room;
+      kept = λ _. k;
+      sound = λ s opens.
+          let w = whole l s in
+          let e = sym (c .before .before .before .turn .ensures .sound (w .woven) .1 ∙ held-fits l (w .woven) (z .i) (z .t) (z .a) hi ht ha) ∙ f in (
+            sym e,
+            subst (λ (x : List ℕ). Leaves (z .i) (templateAt l (z .i)) es l x) (sym k)
+                (unchanged l (z .i) es (c .before .before .before .before .before .before .pre .0) s (sym (none-turned (z .i) (z .t) (z .a) (entriesIn l (z .i)) e))),
+          );
+    }
+
+add-set-of : tie.Need-add-set-of
+add-set-of c = search needs
+
+mul-set-of : tie.Need-mul-set-of
+mul-set-of c = search needs
+
+slice-read-set-of : tie.Need-slice-read-set-of
+slice-read-set-of c = search needs
+
+set-of-requires : tie.Need-set-of-requires
+set-of-requires c κs = search needs
+
+with-requires : tie.Need-with-requires
+with-requires c κs = search needs
 
 add-o : tie.Need-add-o
 add-o c = search needs
@@ -33,23 +79,47 @@ mul-o c = search needs
 slice-write-o : tie.Need-slice-write-o
 slice-write-o c = search needs
 
-same-length : tie.Need-same-length
-same-length c = length-set (c .before .before .put-back .last .0) (132 + c .before .before .before .before .before .before .before .before .before .args .i) (c .before .before .put-back .result) ∙ (c .before .before .put-back .ensures .still .beside .room ∙ c .before .before .before .before .before .before .turn-held .ensures .still .beside .room)
+same-length-2 : tie.Need-same-length-2
+same-length-2 c = search needs
 
-returns : tie.Need-returns
-returns c = finished (c .before .before .before .before .before .before .before .before .before .args .o .now) _ _ (c .before .before .before .before .before .before .before .before .before .args .i) (c .before .before .before .before .before .before .before .before .before .args .t) (c .before .before .before .before .before .before .before .before .before .args .a) (c .before .before .put-back .result) (c .before .before .before .before .before .before .before .before .before .pre .0) (whole (c .before .before .before .before .before .before .before .before .before .args .o .now) (c .before .before .before .before .before .before .before .before .before .pre .1 .0)) (c .before .before .before .before .before .before .before .before .before .pre .1 .1 .1 .0) (c .before .before .before .before .before .before .before .before .before .pre .1 .1 .1 .1 .0) (c .before .before .before .before .before .before .before .before .before .pre .1 .1 .1 .1 .1) (c .before .before .before .before .before .before .before .before .before .pre .1 .1 .0) (c .before .before .before .before .before .before .turn-held .ensures) (c .before .before .put-back .ensures)
+returns-2 : tie.Need-returns-2
+returns-2 c =
+    let z = c .before .before .before .before .before .before .before .before .before .args in
+    let l = z .o .now in
+    let l₁ = c .before .before .before .before .before .before .turn .last .0 in
+    let hi = c .before .before .before .before .before .before .before .before .before .pre .1 .0 in
+    let ht = c .before .before .before .before .before .before .before .before .before .pre .1 .1 .0 in
+    let ha = c .before .before .before .before .before .before .before .before .before .pre .1 .1 .1 in
+    let t = not-false _ (c .before .before .before .if1 .left) in
+    record {
+      room = length-set l₁ (132 + z .i) _ ∙ c .before .before .before .before .before .before .turn .ensures .room;
+      kept = λ e. absurd (true≢false e);
+      sound = λ s opens.
+          let w = whole l s in
+          let out = c .before .before .before .before .before .before .turn .ensures .sound (w .woven) in
+          let e = sym (out .1 ∙ held-fits l (w .woven) (z .i) (z .t) (z .a) hi ht ha) ∙ t in (
+            sym e,
+            finished l l₁ (z .i) (z .t) (z .a) _ (c .before .before .before .before .before .before .before .before .before .pre .0) w hi ht ha opens (out .0) e (c .with .ensures ∙ ap (λ (m : ℕ). plus m (z .t)) (c .before .set-of .ensures)),
+          );
+    }
 
 pub finish-spec : {M : Type 1} → statement M
 finish-spec =
     tie.close
     (tie.spec
-    mul-turn-held
-    mul-turn-held-2
-    add-turn-held
-    turn-held-requires
-    put-back-requires
+    mul-turn
+    mul-turn-2
+    add-turn
+    turn-requires
+    same-length
+    returns
+    add-set-of
+    mul-set-of
+    slice-read-set-of
+    set-of-requires
+    with-requires
     add-o
     mul-o
     slice-write-o
-    same-length
-    returns)
+    same-length-2
+    returns-2)

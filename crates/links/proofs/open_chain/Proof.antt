@@ -1,14 +1,15 @@
+-- Written from Proof.tmpl by 'prove expand': edit that file.
 -- Four words anew: the instance stands open and has no entries.
 use Prim.Native.Nat.{ℕ, _+_}
 use mathlib.Core.Path.{sym, ap, subst, _∙_}
 use mathlib.Core.List.{[]}
 use lib.ListN.{set, length-set}
 use native.Mathlib.Omega.{arith}
+use borrow.Author.Needs.{needs}
 use Rattle.paper_lower.specs.Sets.{plus}
 use Rattle.paper_lower.specs.Lists.Maybe.{just}
 use Rattle.links.specs.Acts.{Leaves}
 use Rattle.links.proofs.ActLaws.{whole, newly-opened}
-use borrow.Author.Needs.{needs}
 use Rattle.links.proofs.open_chain.Statement.{statement}
 use Rattle.links.proofs.open_chain.Tie as tie
 
@@ -46,7 +47,10 @@ mul-o-3 : tie.Need-mul-o-3
 mul-o-3 c = search needs
 
 slice-write-o-3 : tie.Need-slice-write-o-3
-slice-write-o-3 c = rw (length-set (set (c .before .before .before .before .args .o .now) (2 + c .before .before .before .before .args .i) (c .before .before .before .before .args .j)) (66 + c .before .before .before .before .args .i) 0, length-set (c .before .before .before .before .args .o .now) (2 + c .before .before .before .before .args .i) (c .before .before .before .before .args .j)) (omega arith)
+slice-write-o-3 c =
+    let z = c .before .before .before .before .args in
+    let l = z .o .now in
+    rw (length-set (set l (2 + z .i) (z .j)) (66 + z .i) 0, length-set l (2 + z .i) (z .j)) (omega arith)
 
 slice-write-o-4 : tie.Need-slice-write-o-4
 slice-write-o-4 c = search needs
@@ -55,7 +59,17 @@ same-length : tie.Need-same-length
 same-length c = search needs
 
 returns : tie.Need-returns
-returns c = subst (λ (x : ℕ). Leaves (c .before .before .before .before .args .i) (just (c .before .before .before .before .args .j)) [] (c .before .before .before .before .args .o .now) (set (set (set (set (c .before .before .before .before .args .o .now) (2 + c .before .before .before .before .args .i) (c .before .before .before .before .args .j)) (66 + c .before .before .before .before .args .i) 0) (132 + c .before .before .before .before .args .i) 0) 1 x)) (sym (c .with .ensures ∙ ap (λ (m : ℕ). plus m (c .before .before .before .before .args .i)) (c .before .set-of .ensures))) (newly-opened (c .before .before .before .before .args .o .now) (c .before .before .before .before .args .i) (c .before .before .before .before .args .j) (c .before .before .before .before .pre .0) (whole (c .before .before .before .before .args .o .now) (c .before .before .before .before .pre .1 .0)) (c .before .before .before .before .pre .1 .1 .1 .0) (c .before .before .before .before .pre .1 .1 .1 .1) (c .before .before .before .before .pre .1 .1 .0))
+returns c =
+    let z = c .before .before .before .before .args in
+    let l = z .o .now in
+    let i = z .i in
+    let j = z .j in
+    let ready = set (set (set l (2 + i) j) (66 + i) 0) (132 + i) 0 in (
+      search needs,
+      λ s was.
+          subst (λ (x : ℕ). Leaves i (just j) [] l (set ready 1 x)) (sym (c .with .ensures ∙ ap (λ (m : ℕ). plus m i) (c .before .set-of .ensures)))
+          (newly-opened l i j (c .before .before .before .before .pre .0) (whole l s) (c .before .before .before .before .pre .1 .0) (c .before .before .before .before .pre .1 .1) was),
+    )
 
 pub open-chain-spec : {M : Type 1} → statement M
 open-chain-spec =

@@ -1,11 +1,5 @@
--- The head is unlinked: no way comes to it again.
-use Rattle.links.proofs.ReadLaws.{chain-read, read-some}
-use Prim.Native.Nat.{_+_}
-use lib.ListN.{getD}
-use native.Mathlib.Omega.{arith}
-use Rattle.links.specs.Chains.{markOf, headOf, countOf, chainWord, Fine}
-use Rattle.links.proofs.ChainLaws.{linked-here}
-use Rattle.links.proofs.StackLaws.{popped-at}
+-- The head is unlinked, if it is an entry's.
+use Rattle.links.proofs.TotalLaws.{any-popped}
 use borrow.Author.Needs.{needs}
 use Rattle.links.proofs.pop.Statement.{statement}
 use Rattle.links.proofs.pop.Tie as tie
@@ -19,6 +13,9 @@ mul-x c = search needs
 slice-read-x : tie.Need-slice-read-x
 slice-read-x c = search needs
 
+in-reach-requires : tie.Need-in-reach-requires
+in-reach-requires c κs = search needs
+
 add-w : tie.Need-add-w
 add-w c = search needs
 
@@ -26,19 +23,19 @@ mul-w : tie.Need-mul-w
 mul-w c = search needs
 
 slice-read-w : tie.Need-slice-read-w
-slice-read-w c = let f = linked-here (c .before .before .args .o .now) (Fine (c .before .before .args .o .now) (c .before .before .args .i) (markOf (c .before .before .args .o .now))) (headOf (chainWord (c .before .before .args .o .now) (c .before .before .args .i))) (countOf (chainWord (c .before .before .args .o .now) (c .before .before .args .i))) (c .before .before .pre .1 .1 .1) (c .before .before .pre .1 .0 .chain (c .before .before .args .i) (c .before .before .pre .1 .1 .0)) in let m = c .before .before .pre .1 .0 .mark in let e = chain-read (c .before .before .args .o .now) (c .before .before .args .i) (read-some (c .before .before .args .o .now) (c .before .before .args .i) (c .before .before .pre .1 .1 .1)) in omega arith
-
-sub-o : tie.Need-sub-o
-sub-o c = let e = chain-read (c .before .before .args .o .now) (c .before .before .args .i) (read-some (c .before .before .args .o .now) (c .before .before .args .i) (c .before .before .pre .1 .1 .1)) in let h = c .before .before .pre .1 .1 .1 in omega arith
-
-mul-o : tie.Need-mul-o
-mul-o c = search needs
+slice-read-w c = search needs
 
 add-o : tie.Need-add-o
 add-o c = search needs
 
+mul-o : tie.Need-mul-o
+mul-o c = search needs
+
 add-o-2 : tie.Need-add-o-2
 add-o-2 c = search needs
+
+add-o-3 : tie.Need-add-o-3
+add-o-3 c = search needs
 
 mul-o-2 : tie.Need-mul-o-2
 mul-o-2 c = search needs
@@ -50,7 +47,7 @@ same-length : tie.Need-same-length
 same-length c = search needs
 
 returns : tie.Need-returns
-returns c = popped-at (c .before .before .args .o .now) (c .before .before .pre .0) (c .before .before .pre .1 .0) (c .before .before .args .i) (c .before .before .pre .1 .1 .0) (c .before .before .pre .1 .1 .1) (getD (c .before .before .args .o .now) (66 + c .before .before .args .i) 0) (chain-read (c .before .before .args .o .now) (c .before .before .args .i) (read-some (c .before .before .args .o .now) (c .before .before .args .i) (c .before .before .pre .1 .1 .1)))
+returns c = any-popped (c .before .before .before .before .args .o .now) (c .before .before .before .before .pre .0) (c .before .before .before .before .args .i) (c .before .before .before .before .pre .1) (c .before .in-reach .result) (c .before .in-reach .ensures .1 .0) (c .before .in-reach .ensures .1 .1)
 
 pub pop-spec : {M : Type 1} → statement M
 pop-spec =
@@ -59,13 +56,14 @@ pop-spec =
     add-x
     mul-x
     slice-read-x
+    in-reach-requires
     add-w
     mul-w
     slice-read-w
-    sub-o
-    mul-o
     add-o
+    mul-o
     add-o-2
+    add-o-3
     mul-o-2
     slice-write-o
     same-length

@@ -1,10 +1,8 @@
 -- The entry links to the head before it.
-use Rattle.links.proofs.ReadLaws.{chain-read}
-use lib.ListN.{getD}
 use Prim.Native.Nat.{_+_}
 use native.Mathlib.Omega.{arith}
 use lib.ListN.{length-set}
-use Rattle.links.proofs.StackLaws.{pushed-at}
+use Rattle.links.proofs.TotalLaws.{any-pushed}
 use borrow.Author.Needs.{needs}
 use Rattle.links.proofs.push.Statement.{statement}
 use Rattle.links.proofs.push.Tie as tie
@@ -67,7 +65,7 @@ same-length : tie.Need-same-length
 same-length c = search needs
 
 returns : tie.Need-returns
-returns c = pushed-at (c .before .args .o .now) (c .before .pre .0) (c .before .args .k) (c .before .pre .1 .0) (c .before .args .i) (c .before .pre .1 .1 .0) (c .before .args .p) (c .before .pre .1 .1 .1 .0) (c .before .pre .1 .1 .1 .1) (getD (c .before .args .o .now) (66 + c .before .args .i) 0) (chain-read (c .before .args .o .now) (c .before .args .i) (c .before .pre .1 .1 .1 .1))
+returns c = any-pushed (c .before .args .o .now) (c .before .pre .0) (c .before .args .i) (c .before .pre .1 .1 .0) (c .before .args .k) (c .before .args .p) (c .before .pre .1 .0) (c .before .pre .1 .1 .1)
 
 pub push-spec : {M : Type 1} → statement M
 push-spec =

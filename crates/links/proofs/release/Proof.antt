@@ -1,6 +1,9 @@
+-- Written from Proof.tmpl by 'prove expand': edit that file.
 -- What fits becomes free, in place; no done task is among it.
-use Rattle.links.proofs.ActLaws.{whole, released}
+use mathlib.Core.Path.{_∙_}
 use borrow.Author.Needs.{needs}
+use Rattle.links.proofs.ActLaws.{whole, released}
+use Rattle.links.proofs.TurnLaws.{held-fits}
 use Rattle.links.proofs.release.Statement.{statement}
 use Rattle.links.proofs.release.Tie as tie
 
@@ -14,13 +17,37 @@ add-sift : tie.Need-add-sift
 add-sift c = search needs
 
 sift-requires : tie.Need-sift-requires
-sift-requires c κs = (c .before .before .pre .0, (whole (c .before .before .args .o .now) (c .before .before .pre .1 .0) .woven, c .before .before .pre .1 .1 .1 .0))
+sift-requires c κs = search needs
 
 same-length : tie.Need-same-length
-same-length c = c .before .before .sift .ensures .still .beside .room
+same-length c = c .before .before .sift .ensures .room
 
 returns : tie.Need-returns
-returns c = released (c .before .before .before .before .before .args .o .now) _ (c .before .before .before .before .before .args .i) (c .before .before .before .before .before .args .t) (c .before .before .before .before .before .args .a) (c .before .before .before .before .before .pre .0) (whole (c .before .before .before .before .before .args .o .now) (c .before .before .before .before .before .pre .1 .0)) (c .before .before .before .before .before .pre .1 .1 .1 .0) (c .before .before .before .before .before .pre .1 .1 .1 .1 .0) (c .before .before .before .before .before .pre .1 .1 .1 .1 .1) (c .before .before .before .before .before .pre .1 .1 .0) (c .before .before .sift .ensures)
+returns c =
+    let z = c .before .before .before .before .before .args in
+    let l = z .o .now in
+    let hi = c .before .before .before .before .before .pre .1 .0 in
+    let ht = c .before .before .before .before .before .pre .1 .1 .0 in
+    let ha = c .before .before .before .before .before .pre .1 .1 .1 in
+    let e = c .before .before .sift .ensures in
+    record {
+      room = e .room;
+      kept = e .kept;
+      sound = λ s opens.
+          let w = whole l s in
+          let out = e .sound (w .woven) in (
+            out .1 ∙ held-fits l (w .woven) (z .i) (z .t) (z .a) hi ht ha,
+            released l _ (z .i) (z .t) (z .a) (c .before .before .before .before .before .pre .0) w hi ht ha opens (out .0),
+          );
+    }
 
 pub release-spec : {M : Type 1} → statement M
-release-spec = tie.close (tie.spec mul-sift mul-sift-2 add-sift sift-requires same-length returns)
+release-spec =
+    tie.close
+    (tie.spec
+    mul-sift
+    mul-sift-2
+    add-sift
+    sift-requires
+    same-length
+    returns)

@@ -1,13 +1,21 @@
--- What stays is passed, and what does not is taken out.
-use Prim.Native.Nat.{_-_}
-use mathlib.Core.Path.{_∙_}
+-- Written from Proof.tmpl by 'prove expand': edit that file.
+-- What stays is passed, and what does not is taken out, where the links are sound; it ends in any case, and writes nothing where nothing fits.
+use borrow.Author.Needs.{needs}
+use borrow.Author.Tests.{ltb-false}
+use Prim.Native.Nat.{_≤_, _-_}
+use mathlib.Core.Path.{_≡_, refl, _∙_, sym}
 use native.Mathlib.Omega.{arith}
-use Rattle.links.proofs.CutLaws.{Sifting, begun, at-most, fewer-than, goes-on, takes-out, ends}
+use lib.ListN.{length}
+use Rattle.links.specs.Chains.{ordersWords, countOf}
+use Rattle.links.specs.Stacks.{Woven}
+use Rattle.links.proofs.CutLaws.{Sifting, begun, ends, any-gone}
+use Rattle.links.proofs.TotalLaws.{any-goes, any-takes}
 use Rattle.links.proofs.sift.Statement.{statement}
 use Rattle.links.proofs.sift.Tie as tie
 
 abbrev Inv-loop : tie.InvT-loop
-Inv-loop o₀ i key x h₀ n₀ kept₀ q₀ o h n kept q = Sifting i key o₀ o h n kept q
+Inv-loop o₀ i key x h₀ n₀ kept₀ q₀ o h n kept q =
+    (length o ≡ ordersWords) × ((q ≤ 2048) × ((n ≤ countOf x) × ((countOf x ≤ n → o ≡ o₀) × (Woven o₀ → Sifting i key o₀ o h n kept q))))
 
 abbrev μ-loop : tie.MeasureT-loop
 μ-loop o₀ i key x h₀ n₀ kept₀ q₀ o h n kept q = n - kept
@@ -16,13 +24,18 @@ chain-requires : tie.Need-chain-requires Inv-loop μ-loop
 chain-requires c κs = (c .before .before .pre .0, omega arith)
 
 loop-holds : tie.Need-loop-holds Inv-loop μ-loop
-loop-holds c = begun (c .before .before .before .args .i) (c .before .before .before .args .key) (c .before .before .before .args .o .now) (c .chain .result) (c .before .before .before .pre .1 .0) (c .chain .ensures)
+loop-holds c =
+    let z = c .before .before .before .args in
+    (c .before .before .before .pre .0, (omega arith, (omega arith, (λ _. refl, λ w. begun (z .i) (z .key) (z .o .now) (c .chain .result) w (c .chain .ensures)))))
+
+in-reach-requires : tie.Need-in-reach-requires Inv-loop μ-loop
+in-reach-requires c κs = search needs
 
 word-requires : tie.Need-word-requires Inv-loop μ-loop
-word-requires c κs = (c .before .before .loop .inv .still .beside .room ∙ c .before .before .before .before .before .before .pre .0, at-most (c .before .before .before .before .before .before .args .i) (c .before .before .before .before .before .before .args .key) (c .before .before .before .before .before .before .args .o .now) (c .before .before .loop .o) (c .before .before .loop .h) (c .before .before .loop .n) (c .before .before .loop .kept) (c .before .before .loop .q) (c .before .before .before .before .before .before .pre .1 .1) (c .before .before .loop .inv) (omega arith))
+word-requires c κs = (c .before .before .before .loop .inv .0, c .before .in-reach .ensures .1 .0)
 
 free-requires : tie.Need-free-requires Inv-loop μ-loop
-free-requires c κs = (c .before .before .before .before .before .loop .inv .still .beside .room ∙ c .before .before .before .before .before .before .before .before .before .pre .0, (c .before .before .before .before .before .loop .inv .still .woven, (c .before .before .before .before .before .before .before .before .before .pre .1 .1, (fewer-than (c .before .before .before .before .before .before .before .before .before .args .i) (c .before .before .before .before .before .before .before .before .before .args .key) (c .before .before .before .before .before .before .before .before .before .args .o .now) (c .before .before .before .before .before .loop .o) (c .before .before .before .before .before .loop .h) (c .before .before .before .before .before .loop .n) (c .before .before .before .before .before .loop .kept) (c .before .before .before .before .before .loop .q) (c .before .before .before .before .before .before .before .before .before .pre .1 .1) (c .before .before .before .before .before .loop .inv) (omega arith), (c .before .before .before .before .before .loop .inv .here, c .before .before .before .before .before .loop .inv .back)))))
+free-requires c κs = (c .before .before .before .before .before .before .loop .inv .0, (c .before .before .before .before .before .before .before .before .before .before .pre .1, (c .before .before .before .before .before .before .loop .inv .1 .0, c .before .before .before .before .in-reach .ensures .1 .0)))
 
 sub-n : tie.Need-sub-n Inv-loop μ-loop
 sub-n c = omega arith
@@ -31,22 +44,67 @@ loop-less : tie.Need-loop-less Inv-loop μ-loop
 loop-less c = omega arith
 
 loop-again : tie.Need-loop-again Inv-loop μ-loop
-loop-again c = takes-out (c .before .before .before .before .before .before .before .before .before .before .before .before .args .i) (c .before .before .before .before .before .before .before .before .before .before .before .before .args .key) (c .before .before .before .before .before .before .before .before .before .before .before .before .args .o .now) (c .before .before .before .before .before .before .before .before .loop .o) (c .before .before .before .before .before .before .before .before .loop .h) (c .before .before .before .before .before .before .before .before .loop .n) (c .before .before .before .before .before .before .before .before .loop .kept) (c .before .before .before .before .before .before .before .before .loop .q) (c .before .before .before .before .before .before .before .before .before .before .before .before .pre .1 .1) (c .before .before .before .before .before .before .before .before .loop .inv) (c .before .before .before .before .before .word .result) _ (omega arith) (c .before .before .before .before .before .word .ensures) (c .before .before .before .before .if1 .taken) (c .before .before .free .ensures)
+loop-again c =
+    let z = c .before .before .before .before .before .before .before .before .before .before .before .before .before .args in
+    let v = c .before .before .before .before .before .before .before .before .before .loop in
+    let b = v .inv .1 .1 .0 in
+    let t = c .before .before .before .before .before .before .before .before .loop-test .taken in
+    let e = c .before .before .before .before .before .before .before .in-reach .ensures .1 .1 in (
+      c .before .before .free .ensures .0 ∙ v .inv .0,
+      (
+        v .inv .1 .0,
+        (
+          omega arith,
+          (
+            λ h. let n : ⊥ = omega arith in absurd n,
+            any-takes (z .i) (z .key) (z .o .now) (v .o) (v .h) (v .n) (v .kept) (v .q) (c .before .before .before .before .before .before .before .in-reach .result) (c .before .before .before .before .before .word .result) (c .before .before .before .before .before .before .before .before .before .before .before .before .before .pre .1) (omega arith) e (c .before .before .before .before .before .word .ensures)
+                (v .inv .1 .1 .1 .1) _ (c .before .before .before .before .if1 .taken) (c .before .before .free .ensures),
+          ),
+        ),
+      ),
+    )
 
 add-kept : tie.Need-add-kept Inv-loop μ-loop
-add-kept c = omega arith
+add-kept c = let b = c .before .before .before .before .before .loop .inv .1 .1 .0 in omega arith
 
 loop-less-2 : tie.Need-loop-less-2 Inv-loop μ-loop
 loop-less-2 c = omega arith
 
 loop-again-2 : tie.Need-loop-again-2 Inv-loop μ-loop
-loop-again-2 c = goes-on (c .before .before .before .before .before .before .before .before .args .i) (c .before .before .before .before .before .before .before .before .args .key) (c .before .before .before .before .before .before .before .before .args .o .now) (c .before .before .before .before .loop .o) (c .before .before .before .before .loop .h) (c .before .before .before .before .loop .n) (c .before .before .before .before .loop .kept) (c .before .before .before .before .loop .q) (c .before .before .before .before .before .before .before .before .pre .1 .1) (c .before .before .before .before .loop .inv) (c .before .word .result) (omega arith) (c .before .word .ensures) (c .if1 .left)
+loop-again-2 c =
+    let z = c .before .before .before .before .before .before .before .before .before .args in
+    let v = c .before .before .before .before .before .loop in
+    let e = c .before .before .before .in-reach .ensures .1 .1 in (
+      v .inv .0,
+      (
+        c .before .before .before .in-reach .ensures .1 .0,
+        (
+          v .inv .1 .1 .0,
+          (
+            v .inv .1 .1 .1 .0,
+            any-goes (z .i) (z .key) (z .o .now) (v .o) (v .h) (v .n) (v .kept) (v .q) (c .before .before .before .in-reach .result) (c .before .word .result) (c .before .before .before .before .before .before .before .before .before .pre .1) (omega arith) e (c .before .word .ensures)
+                (v .inv .1 .1 .1 .1) (c .if1 .left),
+          ),
+        ),
+      ),
+    )
 
 same-length : tie.Need-same-length Inv-loop μ-loop
-same-length c = c .before .loop .inv .still .beside .room
+same-length c = c .before .loop .inv .0 ∙ sym (c .before .before .before .before .before .pre .0)
 
 returns : tie.Need-returns Inv-loop μ-loop
-returns c = ends (c .before .before .before .before .before .args .i) (c .before .before .before .before .before .args .key) (c .before .before .before .before .before .args .o .now) (c .before .loop .o) (c .before .loop .h) (c .before .loop .n) (c .before .loop .kept) (c .before .loop .q) (c .before .before .before .before .before .pre .1 .1) (c .before .loop .inv) (omega arith)
+returns c =
+    let z = c .before .before .before .before .before .args in
+    let v = c .before .loop in
+    record {
+      room = v .inv .0 ∙ sym (c .before .before .before .before .before .pre .0);
+      kept = λ e. v .inv .1 .1 .1 .0 (ltb-false _ _ e);
+      sound = λ w.
+          let s = v .inv .1 .1 .1 .1 w in (
+            ends (z .i) (z .key) (z .o .now) (v .o) (v .h) (v .n) (v .kept) (v .q) (c .before .before .before .before .before .pre .1) s (omega arith),
+            any-gone (z .i) (z .key) (z .o .now) (v .o) (v .h) (v .n) (v .kept) (v .q) (c .before .before .before .before .before .pre .1) s (omega arith) (c .before .before .chain .result) (c .before .before .chain .ensures),
+          );
+    }
 
 pub sift-spec : {M : Type 1} → statement M
 sift-spec =
@@ -56,6 +114,7 @@ sift-spec =
     μ-loop
     chain-requires
     loop-holds
+    in-reach-requires
     word-requires
     free-requires
     sub-n

@@ -1,6 +1,6 @@
 -- From the free chain, or the first past the mark.
 use mathlib.Core.Path.{sym, _∙_}
-use Rattle.links.proofs.StackLaws.{past-mark}
+use Rattle.links.proofs.TotalLaws.{any-marked, any-taken}
 use borrow.Author.Needs.{needs}
 use Rattle.links.proofs.take_free.Statement.{statement}
 use Rattle.links.proofs.take_free.Tie as tie
@@ -21,7 +21,7 @@ same-length : tie.Need-same-length
 same-length c = search needs
 
 returns : tie.Need-returns
-returns c = past-mark (c .before .before .before .before .before .args .o .now) (c .before .before .before .before .before .pre .0) (c .before .before .before .before .before .pre .1 .0) (c .before .before .before .before .before .pre .1 .1 (sym (c .before .before .count .ensures) ∙ c .before .if1 .taken))
+returns c = any-marked (c .before .before .before .before .before .args .o .now) (c .before .before .before .before .before .pre) (sym (c .before .before .count .ensures) ∙ c .before .if1 .taken)
 
 pop-requires : tie.Need-pop-requires
 pop-requires c κs = search needs
@@ -30,7 +30,7 @@ same-length-2 : tie.Need-same-length-2
 same-length-2 c = search needs
 
 returns-2 : tie.Need-returns-2
-returns-2 c = search needs
+returns-2 c = any-taken (c .before .before .before .before .before .before .before .before .args .o .now) _ (c .before .before .pop .result) (c .before .before .before .before .before .count .result) (c .before .before .before .before .before .count .ensures) (c .before .before .before .before .if1 .left) (c .before .before .pop .ensures)
 
 pub take-free-spec : {M : Type 1} → statement M
 take-free-spec =

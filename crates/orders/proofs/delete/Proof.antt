@@ -1,9 +1,13 @@
+-- Written from Proof.tmpl by 'prove expand': edit that file.
 -- Judged, and then the user removed.
 use mathlib.Core.Path.{ap}
 use borrow.Author.Needs.{needs}
 use Rattle.paper_lower.specs.Tables.{Lower}
 use Rattle.sessions.proofs.BothLaws.{both-refused, both-done}
 use Rattle.entries.specs.Reading.{ordersOf}
+use borrow.Author.Tests.{not-false}
+use Rattle.replies.proofs.ReplyLaws.{is-zero}
+use mathlib.Core.Path.{refl}
 use Rattle.orders.proofs.delete.Statement.{statement}
 use Rattle.orders.proofs.delete.Tie as tie
 
@@ -20,7 +24,7 @@ same-length-2 : tie.Need-same-length-2
 same-length-2 c = search needs
 
 returns : tie.Need-returns
-returns c = both-refused (c .before .before .delete-reply .ensures) (c .before .accepted .ensures) (c .if1 .taken)
+returns c = record { kept = λ _. (refl, refl); sound = λ s. both-refused (c .before .before .delete-reply .ensures s) (c .before .accepted .ensures) (c .if1 .taken) }
 
 remove-requires : tie.Need-remove-requires
 remove-requires c κs = search needs
@@ -33,8 +37,13 @@ same-length-4 c = search needs
 
 returns-2 : tie.Need-returns-2
 returns-2 c =
-    both-done (c .before .before .before .before .before .before .before .before .before .delete-reply .ensures) (c .before .before .before .before .before .before .before .before .accepted .ensures) (c .before .before .before .before .before .before .before .if1 .left)
-    (ap (λ (x : Lower). record { lower = x; orders = ordersOf (c .before .before .before .before .before .before .before .before .before .before .before .before .before .before .before .args .o .now) }) (c .before .before .before .before .remove .ensures))
+    let z = is-zero (c .before .before .before .before .before .before .before .before .before .delete-reply .result) (c .before .before .before .before .before .before .before .before .accepted .ensures) (not-false _ (c .before .before .before .before .before .before .before .if1 .left)) in
+    record {
+      kept = λ n. absurd (n z);
+      sound = λ s.
+          both-done (c .before .before .before .before .before .before .before .before .before .delete-reply .ensures s) (c .before .before .before .before .before .before .before .before .accepted .ensures) (c .before .before .before .before .before .before .before .if1 .left)
+          (ap (λ (x : Lower). record { lower = x; orders = ordersOf (c .before .before .before .before .before .before .before .before .before .before .before .before .before .before .before .args .o .now) }) (c .before .before .before .before .remove .ensures));
+    }
 
 pub delete-spec : {M : Type 1} → statement M
 delete-spec =

@@ -1,3 +1,4 @@
+-- Written from Proof.tmpl by 'prove expand': edit that file.
 -- The lower part's checks, and then the entries.
 use mathlib.Core.Bool.{cond}
 use mathlib.Core.Path.{_≡_, refl}
@@ -9,6 +10,8 @@ use Rattle.replies.proofs.DoneLaws.{stops}
 use Rattle.sessions.specs.Lower.{lowerTables}
 use Rattle.orders.specs.Tables.{engineTables, deleteWhole}
 use Rattle.orders.proofs.Layers.{one-more}
+use mathlib.Core.Bool.{true}
+use Rattle.links.specs.Chains.{soundOf}
 use Rattle.orders.proofs.delete_reply.Statement.{statement}
 use Rattle.orders.proofs.delete_reply.Tie as tie
 
@@ -19,32 +22,29 @@ accepted-requires : tie.Need-accepted-requires
 accepted-requires c κs = search needs
 
 returns : tie.Need-returns
-returns c =
+returns c = λ _.
     let z = c .before .before .before .before .before .before .args in
-    stops (deleteChecks (lowerTables (z .p .now) (z .s .now)) (z .a))
-    (deleteAbove (engineTables (z .p .now) (z .s .now) (z .o .now)) (z .a))
-    (c .before .before .delete-reply .result) (c .before .before .delete-reply .ensures)
-    (c .before .accepted .ensures) (c .if1 .taken)
+    stops (deleteChecks (lowerTables (z .p .now) (z .s .now)) (z .a)) (deleteAbove (engineTables (z .p .now) (z .s .now) (z .o .now)) (z .a))
+    (c .before .before .delete-reply .result) (c .before .before .delete-reply .ensures) (c .before .accepted .ensures) (c .if1 .taken)
 
 in-open-order-requires : tie.Need-in-open-order-requires
 in-open-order-requires c κs = search needs
 
 -- the lower part's checks have passed
-above : (c : tie.After-in-open-order) →
+above : (c : tie.After-in-open-order) → soundOf (c .before .before .before .before .before .before .before .args .o .now) ≡ true →
     let z = c .before .before .before .before .before .before .before .args in
     first (deleteWhole (engineTables (z .p .now) (z .s .now) (z .o .now)) (z .a)) ≡ cond (c .in-open-order .result) IN-USE 0
 unfolding deleteAbove
-above c =
+above c s =
     let z = c .before .before .before .before .before .before .before .args in
     one-more (deleteChecks (lowerTables (z .p .now) (z .s .now)) (z .a)) IN-USE (λ x. x) (unfold deleteChecks in (tt, (tt, tt)))
-    (c .before .before .before .delete-reply .result) (c .before .before .before .delete-reply .ensures)
-    (c .before .before .accepted .ensures) (c .before .if1 .left) (c .in-open-order .ensures) refl
+    (c .before .before .before .delete-reply .result) (c .before .before .before .delete-reply .ensures) (c .before .before .accepted .ensures) (c .before .if1 .left) (c .in-open-order .ensures s) refl
 
 returns-2 : tie.Need-returns-2
-returns-2 c = rw (above (c .before), c .if2 .taken)
+returns-2 c = λ s. rw (above (c .before) s, c .if2 .taken)
 
 returns-3 : tie.Need-returns-3
-returns-3 c = rw (above (c .before), c .if2 .left)
+returns-3 c = λ s. rw (above (c .before) s, c .if2 .left)
 
 pub delete-reply-spec : {M : Type 1} → statement M
 delete-reply-spec =

@@ -1,9 +1,13 @@
+-- Written from Proof.tmpl by 'prove expand': edit that file.
 -- Judged, and then the subject destroyed.
 use mathlib.Core.Path.{ap}
 use borrow.Author.Needs.{needs}
 use Rattle.replies.proofs.DoneLaws.{refused, done}
 use Rattle.policy.specs.Reading.{policyOf}
 use Rattle.entries.specs.Reading.{ordersOf}
+use borrow.Author.Tests.{not-false}
+use Rattle.replies.proofs.ReplyLaws.{is-zero}
+use mathlib.Core.Path.{refl}
 use Rattle.orders.proofs.destroy.Statement.{statement}
 use Rattle.orders.proofs.destroy.Tie as tie
 
@@ -17,7 +21,7 @@ same-length : tie.Need-same-length
 same-length c = search needs
 
 returns : tie.Need-returns
-returns c = λ p. refused (c .before .before .destroy-reply .ensures p) (c .before .accepted .ensures) (c .if1 .taken)
+returns c = record { kept = λ _. refl; sound = λ s p. refused (c .before .before .destroy-reply .ensures s p) (c .before .accepted .ensures) (c .if1 .taken) }
 
 destroy-requires : tie.Need-destroy-requires
 destroy-requires c κs = search needs
@@ -27,9 +31,13 @@ same-length-2 c = search needs
 
 returns-2 : tie.Need-returns-2
 returns-2 c =
-    let z = c .before .before .before .before .before .before .before .before .before .before .args in
-    λ p. done (c .before .before .before .before .before .before .destroy-reply .ensures p) (c .before .before .before .before .before .accepted .ensures) (c .before .before .before .before .if1 .left)
-    (ap (λ x. record { lower = record { policy = policyOf p; sessions = x }; orders = ordersOf (z .o .now) }) (c .before .before .destroy .ensures))
+    let z = is-zero (c .before .before .before .before .before .before .destroy-reply .result) (c .before .before .before .before .before .accepted .ensures) (not-false _ (c .before .before .before .before .if1 .left)) in
+    record {
+      kept = λ n. absurd (n z);
+      sound = λ s p.
+          done (c .before .before .before .before .before .before .destroy-reply .ensures s p) (c .before .before .before .before .before .accepted .ensures) (c .before .before .before .before .if1 .left)
+          (ap (λ x. record { lower = record { policy = policyOf p; sessions = x }; orders = ordersOf (c .before .before .before .before .before .before .before .before .before .before .args .o .now) }) (c .before .before .destroy .ensures));
+    }
 
 pub destroy-spec : {M : Type 1} → statement M
 destroy-spec =

@@ -1,3 +1,4 @@
+-- Written from Proof.tmpl by 'prove expand': edit that file.
 -- The lower part's checks, and then the entries.
 use Prim.Native.Nat.{ℕ}
 use mathlib.Core.Bool.{cond}
@@ -12,6 +13,8 @@ use Rattle.policy.specs.Reading.{policyOf}
 use Rattle.sessions.specs.Lower.{lowerTables}
 use Rattle.orders.specs.Tables.{engineTables, destroyWhole}
 use Rattle.orders.proofs.Layers.{one-more}
+use mathlib.Core.Bool.{true}
+use Rattle.links.specs.Chains.{soundOf}
 use Rattle.orders.proofs.destroy_reply.Statement.{statement}
 use Rattle.orders.proofs.destroy_reply.Tie as tie
 
@@ -22,32 +25,29 @@ accepted-requires : tie.Need-accepted-requires
 accepted-requires c κs = search needs
 
 returns : tie.Need-returns
-returns c =
+returns c = λ _ p.
     let z = c .before .before .before .before .before .args in
-    λ p. stops (destroyChecks (lowerTables p (z .s .now)) (z .a))
-    (destroyAbove (engineTables p (z .s .now) (z .o .now)) (z .a))
-    (c .before .before .destroy-reply .result) (c .before .before .destroy-reply .ensures (policyOf p))
-    (c .before .accepted .ensures) (c .if1 .taken)
+    stops (destroyChecks (lowerTables p (z .s .now)) (z .a)) (destroyAbove (engineTables p (z .s .now) (z .o .now)) (z .a))
+    (c .before .before .destroy-reply .result) (c .before .before .destroy-reply .ensures (policyOf p)) (c .before .accepted .ensures) (c .if1 .taken)
 
 holds-any-requires : tie.Need-holds-any-requires
 holds-any-requires c κs = search needs
 
 -- the lower part's checks have passed
-above : (c : tie.After-holds-any) →
+above : (c : tie.After-holds-any) → soundOf (c .before .before .before .before .before .before .args .o .now) ≡ true →
     let z = c .before .before .before .before .before .before .args in
     (p : List ℕ) → first (destroyWhole (engineTables p (z .s .now) (z .o .now)) (z .a)) ≡ cond (c .holds-any .result) IN-USE 0
 unfolding destroyAbove
-above c p =
+above c s p =
     let z = c .before .before .before .before .before .before .args in
     one-more (destroyChecks (lowerTables p (z .s .now)) (z .a)) IN-USE (λ x. x) (unfold destroyChecks in (tt, tt))
-    (c .before .before .before .destroy-reply .result) (c .before .before .before .destroy-reply .ensures (policyOf p))
-    (c .before .before .accepted .ensures) (c .before .if1 .left) (c .holds-any .ensures) refl
+    (c .before .before .before .destroy-reply .result) (c .before .before .before .destroy-reply .ensures (policyOf p)) (c .before .before .accepted .ensures) (c .before .if1 .left) (c .holds-any .ensures s) refl
 
 returns-2 : tie.Need-returns-2
-returns-2 c = λ p. rw (above (c .before) p, c .if2 .taken)
+returns-2 c = λ s p. rw (above (c .before) s p, c .if2 .taken)
 
 returns-3 : tie.Need-returns-3
-returns-3 c = λ p. rw (above (c .before) p, c .if2 .left)
+returns-3 c = λ s p. rw (above (c .before) s p, c .if2 .left)
 
 pub destroy-reply-spec : {M : Type 1} → statement M
 destroy-reply-spec =

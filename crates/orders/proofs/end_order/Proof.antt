@@ -1,7 +1,11 @@
+-- Written from Proof.tmpl by 'prove expand': edit that file.
 -- Judged, and then the instance and its entries are gone.
 use borrow.Author.Needs.{needs}
 use Rattle.paper_upper.specs.Requests.{endNext}
 use Rattle.replies.proofs.DoneLaws.{refused, done}
+use borrow.Author.Tests.{not-false}
+use Rattle.replies.proofs.ReplyLaws.{is-zero}
+use mathlib.Core.Path.{refl}
 use Rattle.orders.proofs.end_order.Statement.{statement}
 use Rattle.orders.proofs.end_order.Tie as tie
 
@@ -15,7 +19,7 @@ same-length : tie.Need-same-length
 same-length c = search needs
 
 returns : tie.Need-returns
-returns c = ((λ p s. refused (c .before .before .end-reply .ensures p s) (c .before .accepted .ensures) (c .if1 .taken)), c .before .before .before .before .before .pre .0 .1)
+returns c = record { kept = λ _. refl; sound = λ w. (λ p s. refused (c .before .before .end-reply .ensures w p s) (c .before .accepted .ensures) (c .if1 .taken), w) }
 
 end-order-requires : tie.Need-end-order-requires
 end-order-requires c κs = search needs
@@ -26,7 +30,13 @@ same-length-2 c = search needs
 returns-2 : tie.Need-returns-2
 unfolding endNext
 returns-2 c =
-    ((λ p s. done (c .before .before .before .before .before .before .end-reply .ensures p s) (c .before .before .before .before .before .accepted .ensures) (c .before .before .before .before .if1 .left) (rw (c .before .before .end-order .ensures .tables))), c .before .before .end-order .ensures .sound)
+    let g = is-zero (c .before .before .before .before .before .before .end-reply .result) (c .before .before .before .before .before .accepted .ensures) (not-false _ (c .before .before .before .before .if1 .left)) in
+    record {
+      kept = λ n. absurd (n g);
+      sound = λ w.
+          let e = c .before .before .end-order .ensures .1 w in
+          (λ p s. done (c .before .before .before .before .before .before .end-reply .ensures w p s) (c .before .before .before .before .before .accepted .ensures) (c .before .before .before .before .if1 .left) (rw (e .tables)), e .sound);
+    }
 
 pub end-order-spec : {M : Type 1} → statement M
 end-order-spec =

@@ -1,3 +1,4 @@
+-- Written from Proof.tmpl by 'prove expand': edit that file.
 -- Each way out is the first check of the definition that applies.
 use borrow.Author.Needs.{needs}
 use Rattle.paper_upper.specs.Requests.{endChecks}
@@ -10,34 +11,18 @@ opened-requires c κs = search needs
 
 returns : tie.Need-returns
 unfolding endChecks
-returns c =
-    λ p s. simp (
-      open-there (c .before .before .opened .result) (c .before .before .opened .ensures .0),
-      c .if1 .taken,
-    )
+returns c = λ _ p s. simp (open-there (c .before .before .opened .result) (c .before .before .opened .ensures .0), c .if1 .taken)
 
 order-held-requires : tie.Need-order-held-requires
 order-held-requires c κs = search needs
 
 returns-2 : tie.Need-returns-2
 unfolding endChecks
-returns-2 c =
-    λ p s. simp (
-      open-there (c .before .before .before .before .opened .result) (c .before .before .before .before .opened .ensures .0),
-      c .before .before .if1 .left,
-      ← c .before .order-held .ensures,
-      c .if2 .taken,
-    )
+returns-2 c = λ w p s. simp (open-there (c .before .before .before .before .opened .result) (c .before .before .before .before .opened .ensures .0), c .before .before .if1 .left, ← c .before .order-held .ensures w, c .if2 .taken)
 
 returns-3 : tie.Need-returns-3
 unfolding endChecks
-returns-3 c =
-    λ p s. simp (
-      open-there (c .before .before .before .before .opened .result) (c .before .before .before .before .opened .ensures .0),
-      c .before .before .if1 .left,
-      ← c .before .order-held .ensures,
-      c .if2 .left,
-    )
+returns-3 c = λ w p s. simp (open-there (c .before .before .before .before .opened .result) (c .before .before .before .before .opened .ensures .0), c .before .before .if1 .left, ← c .before .order-held .ensures w, c .if2 .left)
 
 pub end-reply-spec : {M : Type 1} → statement M
 end-reply-spec =

@@ -1,8 +1,12 @@
+-- Written from Proof.tmpl by 'prove expand': edit that file.
 -- Judged, and then the instance stands open.
 use borrow.Author.Needs.{needs}
 use Rattle.paper_upper.specs.Requests.{openNext}
 use Rattle.replies.proofs.DoneLaws.{refused, done}
 use Rattle.orders.proofs.Layers.{closed-before}
+use borrow.Author.Tests.{not-false}
+use Rattle.replies.proofs.ReplyLaws.{is-zero}
+use mathlib.Core.Path.{refl}
 use Rattle.orders.proofs.open_order.Statement.{statement}
 use Rattle.orders.proofs.open_order.Tie as tie
 
@@ -16,12 +20,10 @@ same-length : tie.Need-same-length
 same-length c = search needs
 
 returns : tie.Need-returns
-returns c = ((λ s. refused (c .before .before .open-reply .ensures s) (c .before .accepted .ensures) (c .if1 .taken)), c .before .before .before .before .before .before .pre .1 .0 .1)
+returns c = record { kept = λ _. refl; sound = λ w. (λ s. refused (c .before .before .open-reply .ensures s) (c .before .accepted .ensures) (c .if1 .taken), w) }
 
 set-opened-requires : tie.Need-set-opened-requires
-set-opened-requires c κs =
-    let z = c .before .before .before .before .before .before .before .args in
-    (c .before .before .before .before .before .before .before .pre .1 .0, (closed-before (z .p .now) (z .o .now) (z .a) (z .b) (c .before .before .before .open-reply .result) (c .before .before .before .open-reply .ensures) (c .before .before .accepted .ensures) (c .before .if1 .left), c .before .before .before .before .before .before .before .pre .1 .1))
+set-opened-requires c κs = search needs
 
 same-length-2 : tie.Need-same-length-2
 same-length-2 c = search needs
@@ -29,7 +31,15 @@ same-length-2 c = search needs
 returns-2 : tie.Need-returns-2
 unfolding openNext
 returns-2 c =
-    ((λ s. done (c .before .before .before .before .before .before .open-reply .ensures s) (c .before .before .before .before .before .accepted .ensures) (c .before .before .before .before .if1 .left) (rw (c .before .before .set-opened .ensures .tables))), c .before .before .set-opened .ensures .sound)
+    let z = c .before .before .before .before .before .before .before .before .before .before .args in
+    let r = c .before .before .before .before .before .before .open-reply .result in
+    let g = is-zero r (c .before .before .before .before .before .accepted .ensures) (not-false _ (c .before .before .before .before .if1 .left)) in
+    record {
+      kept = λ n. absurd (n g);
+      sound = λ w.
+          let e = c .before .before .set-opened .ensures .1 w (closed-before (z .p .now) (z .o .now) (z .a) (z .b) r (c .before .before .before .before .before .before .open-reply .ensures) (c .before .before .before .before .before .accepted .ensures) (c .before .before .before .before .if1 .left)) in
+          (λ s. done (c .before .before .before .before .before .before .open-reply .ensures s) (c .before .before .before .before .before .accepted .ensures) (c .before .before .before .before .if1 .left) (rw (e .tables)), e .sound);
+    }
 
 pub open-order-spec : {M : Type 1} → statement M
 open-order-spec =

@@ -1,43 +1,48 @@
+-- Written from Proof.tmpl by 'prove expand': edit that file.
 -- The replies so far and the requests that are left make the pile's answer.
 use Prim.Native.Nat.{_+_, _-_, _*_, _≤_}
+use mathlib.Core.Bool.{true}
 use mathlib.Core.Path.{_≡_, refl, _∙_}
 use native.Mathlib.Omega.{arith}
 use borrow.Author.Needs.{needs}
 use lib.ListN.{length, length-set}
+use Rattle.links.specs.Chains.{soundOf}
 use Rattle.engine.specs.Buffers.{buffers}
-use Rattle.pile.proofs.Turns.{Left, begun, turned, ended, small}
+use Rattle.pile.proofs.Turns.{Left, begun, still-sound, turned, ended, small}
 use Rattle.pile.proofs.answer_all.Statement.{statement}
 use Rattle.pile.proofs.answer_all.Tie as tie
 
 abbrev Inv-loop : tie.InvT-loop
-Inv-loop bytes n out₀ policy₀ sessions₀ orders₀ at₀ i₀ out policy sessions orders at i = (at ≡ 16 * i) × ((i ≤ n) × ((length out ≡ length out₀) × Left n bytes (buffers policy₀ sessions₀ orders₀) (buffers policy sessions orders) i at out₀ out))
+Inv-loop bytes n out₀ sound policy₀ sessions₀ orders₀ at₀ i₀ out policy sessions orders at i =
+    (at ≡ 16 * i)
+    × ((i ≤ n) × ((length out ≡ length out₀) × ((sound ≡ true → soundOf orders ≡ true) × Left n bytes (buffers policy₀ sessions₀ orders₀) (buffers policy sessions orders) i at out₀ out)))
 
 abbrev μ-loop : tie.MeasureT-loop
-μ-loop bytes n out₀ policy₀ sessions₀ orders₀ at₀ i₀ out policy sessions orders at i = n - i
+μ-loop bytes n out₀ sound policy₀ sessions₀ orders₀ at₀ i₀ out policy sessions orders at i = n - i
 
 loop-holds : tie.Need-loop-holds Inv-loop μ-loop
-loop-holds c = (refl, (omega arith, (refl, begun _ _ _ _ (c .before .before .before .before .before .pre .1 .1))))
+loop-holds c = (refl, (omega arith, (refl, (c .before .before .before .before .before .pre .1 .1 .1, begun _ _ _ _ (c .before .before .before .before .before .pre .1 .1 .0)))))
 
 add-end : tie.Need-add-end Inv-loop μ-loop
 add-end c = search needs
 
-sub-settled-request : tie.Need-sub-settled-request Inv-loop μ-loop
-sub-settled-request c = search needs
+sub-ask : tie.Need-sub-ask Inv-loop μ-loop
+sub-ask c = search needs
 
-part-settled-request-start : tie.Need-part-settled-request-start Inv-loop μ-loop
-part-settled-request-start c = search needs
+part-ask-start : tie.Need-part-ask-start Inv-loop μ-loop
+part-ask-start c = search needs
 
-part-settled-request-end : tie.Need-part-settled-request-end Inv-loop μ-loop
-part-settled-request-end c = search needs
+part-ask-end : tie.Need-part-ask-end Inv-loop μ-loop
+part-ask-end c = search needs
 
-settled-request-requires : tie.Need-settled-request-requires Inv-loop μ-loop
-settled-request-requires c κs = search needs
+ask-requires : tie.Need-ask-requires Inv-loop μ-loop
+ask-requires c κs = c .before .before .before .before .before .loop .inv .1 .1 .1 .0
 
 number-requires : tie.Need-number-requires Inv-loop μ-loop
 number-requires c κs = search needs
 
 cast-out : tie.Need-cast-out Inv-loop μ-loop
-cast-out c = let h = small (c .before .before .before .before .before .before .before .settled-request .ensures .0) in search needs
+cast-out c = let h = small (c .before .before .before .before .before .before .before .ask .ensures) in search needs
 
 slice-write-out : tie.Need-slice-write-out Inv-loop μ-loop
 slice-write-out c = search needs
@@ -50,8 +55,17 @@ loop-less c = search needs
 
 loop-again : tie.Need-loop-again Inv-loop μ-loop
 loop-again c =
-    let h : c .before .before .before .before .before .before .before .before .before .before .before .before .before .loop .at + 16 - c .before .before .before .before .before .before .before .before .before .before .before .before .before .loop .at ≡ 16 = omega arith in
-    (omega arith, (omega arith, (length-set (c .before .before .before .before .before .before .before .before .before .before .before .before .before .loop .out) (c .before .before .before .before .before .before .before .before .before .before .before .before .before .loop .i) (c .number .result) ∙ c .before .before .before .before .before .before .before .before .before .before .before .before .before .loop .inv .1 .1 .0, turned (c .before .before .before .before .before .before .before .before .before .before .before .before .before .loop .inv .1 .1 .1) h (c .before .before .before .before .before .before .before .settled-request .ensures) (c .number .ensures) (omega arith) (omega arith))))
+    let v = c .before .before .before .before .before .before .before .before .before .before .before .before .before .loop in
+    let h : v .at + 16 - v .at ≡ 16 = omega arith in (
+      omega arith,
+      (
+        omega arith,
+        (
+          length-set (v .out) (v .i) (c .number .result) ∙ v .inv .1 .1 .0,
+          (λ e. still-sound (c .before .before .before .before .before .before .before .ask .ensures) (v .inv .1 .1 .1 .0 e), turned (v .inv .1 .1 .1 .1) h (c .before .before .before .before .before .before .before .ask .ensures) (c .number .ensures) (omega arith) (omega arith)),
+        ),
+      ),
+    )
 
 same-length : tie.Need-same-length Inv-loop μ-loop
 same-length c = search needs
@@ -66,7 +80,7 @@ same-length-4 : tie.Need-same-length-4 Inv-loop μ-loop
 same-length-4 c = search needs
 
 returns : tie.Need-returns Inv-loop μ-loop
-returns c = ended (c .before .loop .inv .1 .1 .1) (omega arith)
+returns c = ended (c .before .loop .inv .1 .1 .1 .1) (omega arith)
 
 pub answer-all-spec : {M : Type 1} → statement M
 answer-all-spec =
@@ -76,10 +90,10 @@ answer-all-spec =
     μ-loop
     loop-holds
     add-end
-    sub-settled-request
-    part-settled-request-start
-    part-settled-request-end
-    settled-request-requires
+    sub-ask
+    part-ask-start
+    part-ask-end
+    ask-requires
     number-requires
     cast-out
     slice-write-out

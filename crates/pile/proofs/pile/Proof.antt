@@ -1,9 +1,11 @@
+-- Written from Proof.tmpl by 'prove expand': edit that file.
 -- A pile is refused, with nothing written; or its requests are made, and their replies stand in the middle of the answer buffer.
 use native.Mathlib.Omega.{arith}
+use mathlib.Core.Path.{sym, _∙_}
 use denote.Ref.{now}
 use lib.ListN.{length-take, length-drop}
 use Rattle.engine.specs.Buffers.{buffers}
-use Rattle.pile.proofs.Ways.{refused, taken, done}
+use Rattle.pile.proofs.Ways.{refused, taken, done, room-of}
 use borrow.Author.Needs.{needs}
 use Rattle.pile.proofs.pile.Statement.{statement}
 use Rattle.pile.proofs.pile.Tie as tie
@@ -27,25 +29,38 @@ same-length-4 : tie.Need-same-length-4
 same-length-4 c = search needs
 
 returns : tie.Need-returns
-returns c = refused (now (c .before .before .before .before .before .before .before .before .before .before .before .before .args .bytes)) (now (c .before .before .before .before .before .before .before .before .before .before .before .before .args .answers)) (c .before .before .before .before .before .before .before .before .before .before .before .before .args .at) (buffers (now (c .before .before .before .before .before .before .before .before .before .before .before .before .args .policy)) (now (c .before .before .before .before .before .before .before .before .before .before .before .before .args .sessions)) (now (c .before .before .before .before .before .before .before .before .before .before .before .before .args .orders))) (c .before .before .judge .result) (c .before .before .judge .ensures) (c .before .accepted .ensures) (c .if1 .taken)
+returns c =
+    let z = c .before .before .before .before .before .before .before .before .before .before .before .before .args in
+    refused (now (z .bytes)) (now (z .answers)) (z .at) (buffers (now (z .policy)) (now (z .sessions)) (now (z .orders))) (c .before .before .judge .result) (c .before .before .judge .ensures) (c .before .accepted .ensures) (c .if1 .taken)
 
-settle-requires : tie.Need-settle-requires
-settle-requires c κs = search needs
+is-sound-requires : tie.Need-is-sound-requires
+is-sound-requires c κs =
+    let z = c .before .before .before .before .before .before .before .before .before .before .before .before .before .args in
+    let k = taken (now (z .bytes)) (now (z .answers)) (z .at) (buffers (now (z .policy)) (now (z .sessions)) (now (z .orders))) (c .before .before .before .judge .result) (c .before .before .before .judge .ensures) (c .before .before .accepted .ensures) (c .before .if1 .left) in
+    room-of (buffers (now (z .policy)) (now (z .sessions)) (now (z .orders))) (k .fits)
 
 sub-answer-all : tie.Need-sub-answer-all
-sub-answer-all c = (taken (now (c .before .before .before .before .before .before .before .before .before .before .before .before .before .before .before .before .before .before .before .before .before .before .args .bytes)) (now (c .before .before .before .before .before .before .before .before .before .before .before .before .before .before .before .before .before .before .before .before .before .before .args .answers)) (c .before .before .before .before .before .before .before .before .before .before .before .before .before .before .before .before .before .before .before .before .before .before .args .at) (buffers (now (c .before .before .before .before .before .before .before .before .before .before .before .before .before .before .before .before .before .before .before .before .before .before .args .policy)) (now (c .before .before .before .before .before .before .before .before .before .before .before .before .before .before .before .before .before .before .before .before .before .before .args .sessions)) (now (c .before .before .before .before .before .before .before .before .before .before .before .before .before .before .before .before .before .before .before .before .before .before .args .orders))) (c .before .before .before .before .before .before .before .before .before .before .before .before .judge .result) (c .before .before .before .before .before .before .before .before .before .before .before .before .judge .ensures) (c .before .before .before .before .before .before .before .before .before .before .before .accepted .ensures) (c .before .before .before .before .before .before .before .before .before .before .if1 .left)) .inside
+sub-answer-all c =
+    let z = c .before .before .before .before .before .before .before .before .before .before .before .before .before .before .args in
+    let k = taken (now (z .bytes)) (now (z .answers)) (z .at) (buffers (now (z .policy)) (now (z .sessions)) (now (z .orders))) (c .before .before .before .before .judge .result) (c .before .before .before .before .judge .ensures) (c .before .before .before .accepted .ensures) (c .before .before .if1 .left) in
+    k .inside
 
 part-answer-all-start : tie.Need-part-answer-all-start
-part-answer-all-start c = let h = (taken (now (c .before .before .before .before .before .before .before .before .before .before .before .before .before .before .before .before .before .before .before .before .before .before .args .bytes)) (now (c .before .before .before .before .before .before .before .before .before .before .before .before .before .before .before .before .before .before .before .before .before .before .args .answers)) (c .before .before .before .before .before .before .before .before .before .before .before .before .before .before .before .before .before .before .before .before .before .before .args .at) (buffers (now (c .before .before .before .before .before .before .before .before .before .before .before .before .before .before .before .before .before .before .before .before .before .before .args .policy)) (now (c .before .before .before .before .before .before .before .before .before .before .before .before .before .before .before .before .before .before .before .before .before .before .args .sessions)) (now (c .before .before .before .before .before .before .before .before .before .before .before .before .before .before .before .before .before .before .before .before .before .before .args .orders))) (c .before .before .before .before .before .before .before .before .before .before .before .before .judge .result) (c .before .before .before .before .before .before .before .before .before .before .before .before .judge .ensures) (c .before .before .before .before .before .before .before .before .before .before .before .accepted .ensures) (c .before .before .before .before .before .before .before .before .before .before .if1 .left)) .inside in search needs
+part-answer-all-start c =
+    let z = c .before .before .before .before .before .before .before .before .before .before .before .before .before .before .args in
+    let k = taken (now (z .bytes)) (now (z .answers)) (z .at) (buffers (now (z .policy)) (now (z .sessions)) (now (z .orders))) (c .before .before .before .before .judge .result) (c .before .before .before .before .judge .ensures) (c .before .before .before .accepted .ensures) (c .before .before .if1 .left) in
+    let h = k .inside in
+    search needs
 
 part-answer-all-end : tie.Need-part-answer-all-end
 part-answer-all-end c = search needs
 
 answer-all-requires : tie.Need-answer-all-requires
 answer-all-requires c κs =
-    let k = taken (now (c .before .before .before .before .before .before .before .before .before .before .before .before .before .before .before .before .before .before .before .before .before .before .before .before .before .before .args .bytes)) (now (c .before .before .before .before .before .before .before .before .before .before .before .before .before .before .before .before .before .before .before .before .before .before .before .before .before .before .args .answers)) (c .before .before .before .before .before .before .before .before .before .before .before .before .before .before .before .before .before .before .before .before .before .before .before .before .before .before .args .at) (buffers (now (c .before .before .before .before .before .before .before .before .before .before .before .before .before .before .before .before .before .before .before .before .before .before .before .before .before .before .args .policy)) (now (c .before .before .before .before .before .before .before .before .before .before .before .before .before .before .before .before .before .before .before .before .before .before .before .before .before .before .args .sessions)) (now (c .before .before .before .before .before .before .before .before .before .before .before .before .before .before .before .before .before .before .before .before .before .before .before .before .before .before .args .orders))) (c .before .before .before .before .before .before .before .before .before .before .before .before .before .before .before .before .judge .result) (c .before .before .before .before .before .before .before .before .before .before .before .before .before .before .before .before .judge .ensures) (c .before .before .before .before .before .before .before .before .before .before .before .before .before .before .before .accepted .ensures) (c .before .before .before .before .before .before .before .before .before .before .before .before .before .before .if1 .left) in
+    let z = c .before .before .before .before .before .before .before .before .before .before .before .before .before .before .before .before .before .before .args in
+    let k = taken (now (z .bytes)) (now (z .answers)) (z .at) (buffers (now (z .policy)) (now (z .sessions)) (now (z .orders))) (c .before .before .before .before .before .before .before .before .judge .result) (c .before .before .before .before .before .before .before .before .judge .ensures) (c .before .before .before .before .before .before .before .accepted .ensures) (c .before .before .before .before .before .before .if1 .left) in
     let r = k .room in
-    (omega arith, (simp (length-take, length-drop) (omega arith), c .before .before .before .before .before .before .before .before .before .before .settle .ensures .settles (k .fits)))
+    (omega arith, (simp (length-take, length-drop) (omega arith), (k .fits, λ e. sym (c .before .before .before .before .is-sound .ensures) ∙ e)))
 
 same-length-5 : tie.Need-same-length-5
 same-length-5 c = search needs
@@ -60,7 +75,10 @@ same-length-8 : tie.Need-same-length-8
 same-length-8 c = search needs
 
 returns-2 : tie.Need-returns-2
-returns-2 c = done (taken (now (c .before .before .before .before .before .before .before .before .before .before .before .before .before .before .before .before .before .before .before .before .before .before .before .before .before .before .before .before .before .before .before .before .before .before .before .args .bytes)) (now (c .before .before .before .before .before .before .before .before .before .before .before .before .before .before .before .before .before .before .before .before .before .before .before .before .before .before .before .before .before .before .before .before .before .before .before .args .answers)) (c .before .before .before .before .before .before .before .before .before .before .before .before .before .before .before .before .before .before .before .before .before .before .before .before .before .before .before .before .before .before .before .before .before .before .before .args .at) (buffers (now (c .before .before .before .before .before .before .before .before .before .before .before .before .before .before .before .before .before .before .before .before .before .before .before .before .before .before .before .before .before .before .before .before .before .before .before .args .policy)) (now (c .before .before .before .before .before .before .before .before .before .before .before .before .before .before .before .before .before .before .before .before .before .before .before .before .before .before .before .before .before .before .before .before .before .before .before .args .sessions)) (now (c .before .before .before .before .before .before .before .before .before .before .before .before .before .before .before .before .before .before .before .before .before .before .before .before .before .before .before .before .before .before .before .before .before .before .before .args .orders))) (c .before .before .before .before .before .before .before .before .before .before .before .before .before .before .before .before .before .before .before .before .before .before .before .before .before .judge .result) (c .before .before .before .before .before .before .before .before .before .before .before .before .before .before .before .before .before .before .before .before .before .before .before .before .before .judge .ensures) (c .before .before .before .before .before .before .before .before .before .before .before .before .before .before .before .before .before .before .before .before .before .before .before .before .accepted .ensures) (c .before .before .before .before .before .before .before .before .before .before .before .before .before .before .before .before .before .before .before .before .before .before .before .if1 .left)) (c .before .before .before .before .before .before .before .before .before .before .before .before .before .before .before .before .before .before .before .settle .ensures) (c .before .before .before .before .before .before .before .before .answer-all .ensures)
+returns-2 c =
+    let z = c .before .before .before .before .before .before .before .before .before .before .before .before .before .before .before .before .before .before .before .before .before .before .before .before .before .before .before .args in
+    let k = taken (now (z .bytes)) (now (z .answers)) (z .at) (buffers (now (z .policy)) (now (z .sessions)) (now (z .orders))) (c .before .before .before .before .before .before .before .before .before .before .before .before .before .before .before .before .before .judge .result) (c .before .before .before .before .before .before .before .before .before .before .before .before .before .before .before .before .before .judge .ensures) (c .before .before .before .before .before .before .before .before .before .before .before .before .before .before .before .before .accepted .ensures) (c .before .before .before .before .before .before .before .before .before .before .before .before .before .before .before .if1 .left) in
+    done k (c .before .before .before .before .before .before .before .before .answer-all .ensures)
 
 pub pile-spec : {M : Type 1} → statement M
 pile-spec =
@@ -73,7 +91,7 @@ pile-spec =
     same-length-3
     same-length-4
     returns
-    settle-requires
+    is-sound-requires
     sub-answer-all
     part-answer-all-start
     part-answer-all-end

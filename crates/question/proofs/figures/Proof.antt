@@ -1,3 +1,4 @@
+-- Written from Proof.tmpl by 'prove expand': edit that file.
 -- An instance that is not open is unknown; else the cleared words get the two figures.
 use borrow.Author.Needs.{needs}
 use Rattle.question.proofs.Words.{two-words}
@@ -30,7 +31,8 @@ same-length : tie.Need-same-length
 same-length c = search needs
 
 returns-2 : tie.Need-returns-2
-returns-2 c = figured (c .before .before .before .before .before .before .before .before .figures-reply .ensures) (c .before .before .before .before .before .before .before .accepted .ensures) (c .before .before .before .before .before .before .if1 .left) _ (rw (c .before .before .clear .ensures, c .before .before .before .before .before .figures-of .ensures) (two-words _ _))
+returns-2 c =
+    figured (c .before .before .before .before .before .before .before .before .figures-reply .ensures) (c .before .before .before .before .before .before .before .accepted .ensures) (c .before .before .before .before .before .before .if1 .left) _ (rw (c .before .before .clear .ensures, c .before .before .before .before .before .figures-of .ensures (c .before .before .before .before .before .before .before .before .before .before .before .pre .1 .0 .1)) (two-words _ _))
 
 pub figures-spec : {M : Type 1} → statement M
 figures-spec =

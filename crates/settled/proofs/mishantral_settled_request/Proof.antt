@@ -1,9 +1,8 @@
+-- Written from Proof.tmpl by 'prove expand': edit that file.
 -- The settled request's reply and place as one number.
 use native.Mathlib.Omega.{arith}
-use Rattle.lower.proofs.Numbers.{number-small}
-use Rattle.engine.proofs.PlaceLaws.{requested-small}
-use Rattle.engine.proofs.Ways.{request-exported}
 use borrow.Author.Needs.{needs}
+use Rattle.lower.proofs.Numbers.{number-small}
 use Rattle.settled.proofs.mishantral_settled_request.Statement.{statement}
 use Rattle.settled.proofs.mishantral_settled_request.Tie as tie
 
@@ -14,10 +13,10 @@ number-requires : tie.Need-number-requires
 number-requires c κs = search needs
 
 mul-result : tie.Need-mul-result
-mul-result c = omega (arith, requested-small (c .before .before .before .before .before .before .before .before .settled-request .ensures .0))
+mul-result c = let s = c .before .before .before .before .before .before .before .before .settled-request .ensures .small in omega arith
 
 add-result : tie.Need-add-result
-add-result c = omega (arith, requested-small (c .before .before .before .before .before .before .before .before .settled-request .ensures .0), number-small (c .before .before .before .before .before .before .before .before .settled-request .result .reply), c .before .number .ensures)
+add-result c = let s = c .before .before .before .before .before .before .before .before .settled-request .ensures .small in omega (arith, number-small (c .before .before .before .before .before .before .before .before .settled-request .result .reply), c .before .number .ensures)
 
 same-length : tie.Need-same-length
 same-length c = search needs
@@ -29,7 +28,7 @@ same-length-3 : tie.Need-same-length-3
 same-length-3 c = search needs
 
 returns : tie.Need-returns
-returns c = (request-exported (c .before .before .before .before .before .before .before .before .settled-request .ensures .0) (c .before .number .ensures), c .before .before .before .before .before .before .before .before .settled-request .ensures .1)
+returns c = (c .before .before .before .before .before .before .before .before .settled-request .result, rw (c .before .number .ensures), c .before .before .before .before .before .before .before .before .settled-request .ensures)
 
 pub mishantral-settled-request-spec : {M : Type 1} → statement M
 mishantral-settled-request-spec =
