@@ -8,7 +8,6 @@ mod kinds;
 mod libxml2;
 mod numbers;
 mod orders;
-mod plot;
 mod policies;
 mod race;
 mod reading;

@@ -2,8 +2,8 @@
 
 use crate::figures::{Effort, Figures, Growth, Line};
 use crate::numbers::grouped;
-use crate::plot::{picture, Curve, Panel};
 use crate::reading::reading_table;
+use plot::{picture, Colour, Curve, Panel};
 use std::fmt::Write;
 use std::process::Command;
 
@@ -11,11 +11,6 @@ use std::process::Command;
 const HISTORY: &str = include_str!("../history.md");
 /// The served desk's figures, which tools/load writes.
 const LOAD: &str = include_str!("../../../docs/load.md");
-
-const PROVED_COLOUR: &str = "#c2410c";
-const PLAIN_COLOUR: &str = "#1d4ed8";
-const INDEX_COLOUR: &str = "#15803d";
-const FLAT_COLOUR: &str = "#6b7280";
 
 /// The processor's model, as far as the system tells it.
 fn processor() -> String {
@@ -82,7 +77,7 @@ pub fn table(lines: &[Line]) -> String {
 fn curve(
     growth: &Growth,
     name: &'static str,
-    colour: &'static str,
+    colour: Colour,
     of: fn(&Line) -> Option<f64>,
 ) -> Option<Curve> {
     let points = growth.counts.iter().zip(&growth.lines);
@@ -96,10 +91,10 @@ fn curve(
 
 fn curves(growth: &Growth) -> Vec<Curve> {
     let of = [
-        curve(growth, "proved", PROVED_COLOUR, |line| line.proved),
-        curve(growth, "index", INDEX_COLOUR, |line| Some(line.index)),
-        curve(growth, "plain", PLAIN_COLOUR, |line| Some(line.lists)),
-        curve(growth, "plain, flat", FLAT_COLOUR, |line| line.flat),
+        curve(growth, "proved", Colour::Orange, |line| line.proved),
+        curve(growth, "index", Colour::Green, |line| Some(line.index)),
+        curve(growth, "plain", Colour::Blue, |line| Some(line.lists)),
+        curve(growth, "plain, flat", Colour::Grey, |line| line.flat),
     ];
     of.into_iter().flatten().collect()
 }
@@ -108,10 +103,11 @@ fn curves(growth: &Growth) -> Vec<Curve> {
 pub fn plot(figures: &Figures) -> String {
     let panel = |title, along, growth| Panel {
         title,
+        unit: "nanoseconds a record",
         along,
         curves: curves(growth),
     };
-    picture(&[
+    let panels = [
         panel(
             "Work on orders",
             "entries of other orders in the ledger",
@@ -122,7 +118,11 @@ pub fn plot(figures: &Figures) -> String {
             "permissions in the policy",
             &figures.permissions,
         ),
-    ])
+    ];
+    picture(
+        &panels,
+        "Nanoseconds a record by entries in use, and by permissions",
+    )
 }
 
 fn space(figures: &Figures) -> String {

@@ -1,8 +1,8 @@
 //! The load that a desk holds: requests a second and waits, by clients; what the journal costs, and what writing in groups gives.
 
 use crate::client::{Client, Requests};
-use crate::plot::{plot, Curve, Panel};
 use crate::server::{room, How};
+use plot::{picture, Colour, Curve, Panel};
 use std::fmt::Write as _;
 use std::path::Path;
 use std::sync::atomic::{AtomicBool, Ordering};
@@ -205,7 +205,9 @@ pub fn load(program: &Path, time: Duration, folder: Option<&Path>) -> Result<(),
     if let Some(folder) = folder {
         let failed = |why: std::io::Error| why.to_string();
         std::fs::write(folder.join("load.md"), &text).map_err(failed)?;
-        std::fs::write(folder.join("load.svg"), plot(&panels(&all))).map_err(failed)?;
+        let title = "Requests a second and waits, by clients";
+        let picture = picture(&panels(&all), title);
+        std::fs::write(folder.join("load.svg"), picture).map_err(failed)?;
     }
     Ok(())
 }
@@ -235,7 +237,7 @@ fn tables(all: &[(&Way, Vec<Measured>)]) -> String {
 }
 
 fn panels(all: &[(&Way, Vec<Measured>)]) -> Vec<Panel> {
-    const COLOURS: [&str; 5] = ["#1b6ca8", "#b03a2e", "#7d3c98", "#1e8449", "#b9770e"];
+    const COLOURS: [Colour; 5] = Colour::ALL;
     let rates = all.iter().zip(COLOURS).map(|((way, some), colour)| Curve {
         name: way.name,
         colour,
@@ -255,14 +257,18 @@ fn panels(all: &[(&Way, Vec<Measured>)]) -> Vec<Panel> {
     };
     vec![
         Panel {
-            title: "requests a second",
+            title: "Load",
+            unit: "requests a second",
+            along: "clients",
             curves: rates.collect(),
         },
         Panel {
-            title: "wait in µs, with the journal",
+            title: "Waits, with the journal",
+            unit: "microseconds",
+            along: "clients",
             curves: vec![
                 waits("median", COLOURS[0], |m| m.median),
-                waits("99 %", COLOURS[4], |m| m.most),
+                waits("99 %", COLOURS[2], |m| m.most),
                 waits("worst", COLOURS[1], |m| m.worst),
             ],
         },

@@ -5,7 +5,6 @@ mod full;
 mod garbage;
 mod kills;
 mod load;
-mod plot;
 mod scale;
 mod server;
 mod torn;
