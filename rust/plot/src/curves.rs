@@ -87,19 +87,19 @@ fn range(values: impl Iterator<Item = f64>) -> [f64; 2] {
     })
 }
 
-/// The marks of a panel: round numbers, or powers of ten alone where those are enough.
-fn marks(panel: &Panel) -> Vec<f64> {
-    let [low, high] = range(panel.values().map(|(_, value)| value));
+/// The marks of a unit, the same in all panels that have it: round numbers, or powers of ten alone where those are enough.
+fn marks(panels: &[Panel], unit: &str) -> Vec<f64> {
+    let alike = panels.iter().filter(|panel| panel.unit == unit);
+    let [low, high] = range(alike.flat_map(Panel::values).map(|(_, value)| value));
     let all = rounded(low, high);
-    if all.len() <= 8 {
+    if all.len() <= 9 {
         return all;
     }
     let (first, last) = (low.log10().floor() as i32, high.log10().ceil() as i32);
     (first..=last).map(|power| 10f64.powi(power)).collect()
 }
 
-fn panel(svg: &mut Svg, panel: &Panel, left: f64) {
-    let marks = marks(panel);
+fn panel(svg: &mut Svg, panel: &Panel, marks: &[f64], left: f64) {
     let counts = || panel.values().map(|(count, _)| count);
     let x = Scale::logarithm(range(counts()), left + LEFT, left + LEFT + PLACE);
     let ends = [marks[0], marks[marks.len() - 1]];
@@ -107,7 +107,7 @@ fn panel(svg: &mut Svg, panel: &Panel, left: f64) {
     let ([from, to], foot) = (x.ends(), HEIGHT - BOTTOM);
     svg.text("title ink", left + 20.0, 26.0, panel.title);
     svg.text("small soft", left + 20.0, 43.0, panel.unit);
-    for &mark in &marks {
+    for &mark in marks {
         let height = y.at(mark);
         svg.line("grid", [from, height], [to, height]);
         svg.text("small soft end", from - 8.0, height + 4.0, &grouped(mark));
@@ -144,7 +144,7 @@ pub fn picture(panels: &[Panel], title: &str) -> String {
     let mut svg = Svg::new(width, HEIGHT, title);
     let mut left = 0.0;
     for one in panels {
-        panel(&mut svg, one, left);
+        panel(&mut svg, one, &marks(panels, one.unit), left);
         left += one.width();
     }
     svg.whole()

@@ -48,11 +48,19 @@ impl Scale {
     }
 }
 
+/// 1, 2 and 5 with their tenfolds.
+fn all_round() -> impl Iterator<Item = f64> {
+    (-9..13).flat_map(|power| [1.0, 2.0, 5.0].map(|step| step * 10f64.powi(power)))
+}
+
+/// The first of 1, 2 and 5 with their tenfolds that is not below a number.
+pub fn round_up(number: f64) -> f64 {
+    all_round().find(|&mark| mark >= number).unwrap_or(number)
+}
+
 /// 1, 2 and 5 with their tenfolds, from the last that is not above `low` to the first that is not below `high`.
 pub fn rounded(low: f64, high: f64) -> Vec<f64> {
-    let all: Vec<f64> = (-9..13)
-        .flat_map(|power| [1.0, 2.0, 5.0].map(|step| step * 10f64.powi(power)))
-        .collect();
+    let all: Vec<f64> = all_round().collect();
     let first = all.iter().rposition(|&mark| mark <= low).unwrap_or(0);
     let last = all.iter().position(|&mark| mark >= high);
     all[first..=last.unwrap_or(all.len() - 1)].to_vec()
@@ -80,11 +88,10 @@ impl Time {
             _ => ("seconds", 1.0, &STEPS[..]),
         };
         let whole = seconds / one;
-        let wide = rounded(0.001, whole / 6.0);
-        let step = steps.iter().copied().find(|step| whole / step <= 8.0);
+        let step = steps.iter().copied().find(|step| whole / step <= 9.0);
         let fine = whole / steps[0] < 3.0;
         let step = match fine {
-            true => wide[wide.len() - 1],
+            true => round_up(whole / 6.0),
             false => step.unwrap_or(24.0 * (whole / 24.0 / 6.0).ceil()),
         };
         Time {

@@ -489,6 +489,123 @@ fn whatif() -> Command {
         ))
 }
 
+/// A number of hours above 0.
+fn hours(word: &str) -> Result<f64, String> {
+    let hours = word.parse::<f64>().ok();
+    let hours = hours.filter(|hours| *hours > 0.0 && *hours < 100_000.0);
+    hours.ok_or_else(|| "a number of hours above 0 is expected".to_string())
+}
+
+fn holds() -> Command {
+    Command::new("holds")
+        .about("How long orders lie between two tasks, and why")
+        .long_about(
+            "Measures, for each opening of an order, the hold between two of its tasks: from the moment at which the first is done to the moment at \
+             which the second is claimed. The journal is asked anew from its load on, and the time of each hold is split, exactly, into: nobody could \
+             (some were signed in, and the engine would have refused each of them; by which rule), somebody could (who, and for how long), nobody signed \
+             in, and held.\n\n\
+             What counts:\n\
+             - The claim that ends a hold is the one by which the second task is first done, or by which it is held at the end of the journal. A \
+             claim that is released ends nothing; the time until its release is part of the hold, as held.\n\
+             - Where the first task was done more than once, the hold begins with the last time before that claim.\n\
+             - An opening has one hold at most. Order numbers come again: an opening is known by the request that opened it.\n\
+             - Orders that still lie are counted apart, with the time up to the journal's last request; so are orders that were ended unclaimed. Medians \
+             and the like are of the holds that ended with a claim: each is the length of a hold that was measured, the shortest that at least half \
+             of them do not exceed.\n\
+             - A hold belongs to the period in which it began.\n\n\
+             A server may be at work meanwhile. What is read is the journal as it was when the command began.",
+        )
+        .arg(journal_file().required(true).help("The desk's journal"))
+        .arg(value("from", "TASKS", "The task that is done first, by name or number; with several templates one task of each, with commas between").required(true))
+        .arg(value("to", "TASKS", "The task that is claimed next, of the same template; the same number of them").required(true))
+        .arg(
+            value("end", "WHEN", "What ends a hold: the claim of the second task (where it is missing), or that it is done")
+                .value_parser(PossibleValuesParser::new(["claim", "done"])),
+        )
+        .arg(
+            value("by", "WHAT", "By what holds are put together: by when they began (month where it is missing), by the clerk whose claim ended them, or each opening by itself")
+                .value_parser(PossibleValuesParser::new(crate::holds::By::NAMES)),
+        )
+        .arg(value("shifts", "SHIFTS", "The shifts: 'day 06:00-14:00, late 14:00-22:00, night 22:00-06:00'"))
+        .arg(value("zone", "OFFSET", "Days and hours at this distance from UTC: +01:00; UTC where it is missing").allow_hyphen_values(true))
+        .arg(value("since", "TIME", "Holds that began at this time or later, UTC: 2026-11-15, or '2026-11-15 20:31'"))
+        .arg(value("until", "TIME", "Holds that began before this time"))
+        .arg(number("worst", "How many of the longest holds are shown; 10 where it is missing"))
+        .arg(value("plot", "FILE", "Write a picture too, as SVG: holds by period with their parts, orders that lie by hour of the day, and the longest holds").value_hint(ValueHint::FilePath))
+        .arg(
+            value("panels", "PANELS", "Which panels the picture has, with commas between; all where it is missing")
+                .value_parser(PossibleValuesParser::new(crate::holds::Panel::NAMES))
+                .value_delimiter(',')
+                .action(ArgAction::Append)
+                .requires("plot"),
+        )
+        .arg(value("title", "TEXT", "The picture's title").requires("plot"))
+        .arg(
+            value("top", "HOURS", "The picture's axis of time goes up to so many hours, so that two pictures compare")
+                .value_parser(hours)
+                .requires("plot"),
+        )
+        .arg(flag("csv", "CSV: a row a group, with --by opening a row a hold; times in seconds").conflicts_with("json"))
+        .arg(flag("json", "One object; times in microseconds"))
+        .after_help(concat!(
+            "Examples:\n",
+            "  mishantral holds --journal desk.db --from test --to sign\n",
+            "  mishantral holds --journal desk.db --from test --to sign --by shift --shifts 'day 06:00-18:00, night 18:00-06:00'\n",
+            "  mishantral holds --journal desk.db --from test --to sign --by week --plot holds.svg\n",
+            "  mishantral holds --journal desk.db --from test --to sign --since 2026-11-01 --by opening --csv >holds.csv\n",
+            "\n",
+            "Exit status: 0 measured; 1 the journal is refused; 2 wrong use, or a file that cannot be written.",
+        ))
+}
+
+/// A number of minutes, 0 or more.
+fn minutes(word: &str) -> Result<f64, String> {
+    let minutes = word.parse::<f64>().ok();
+    let minutes = minutes.filter(|minutes| (0.0..1e6).contains(minutes));
+    minutes.ok_or_else(|| "a number of minutes is expected".to_string())
+}
+
+fn staff() -> Command {
+    Command::new("staff")
+        .about("Play a roster through before anybody waits: orders come in, and clerks claim what the engine grants")
+        .long_about(
+            "Plays the orders of a file through a policy and a roster, and writes what happens as a journal: `holds` then says how long they would lie, \
+             and why. Clerks sign in when their shift begins, within five minutes, with all roles that they may have active together, and sign out when \
+             it ends and what they are at is done. Whoever is free longest claims the first task that the engine grants: first come first served, \
+             or as --prefer says. A task takes its minutes, from half of them to half as much again, and so it is with the time until somebody notices it. A claim that a rule of the policy refuses is in the \
+             journal once. Every answer is the engine's own; the same seed gives the same requests and answers.",
+        )
+        .args([policy(), tasks(), format()])
+        .arg(
+            value("simulate", "ORDERS", "The orders, as CSV: columns time (2026-11-15 20:31, UTC) and template, where wanted name, and tasks with the minutes that they take")
+                .required(true)
+                .value_hint(ValueHint::FilePath),
+        )
+        .arg(
+            value("roster", "FILE", "The shifts, a line each: `night 22:00-06:00: 300-303 dirk role:signer`")
+                .required(true)
+                .value_hint(ValueHint::FilePath),
+        )
+        .arg(journal_file().required(true).help("The journal to write; there must be none yet"))
+        .arg(value("minutes", "MINUTES", "How long tasks take, where ORDERS does not say it: test=20,sign=6; else 10 minutes"))
+        .arg(
+            value("notice", "MINUTES", "How long it takes until somebody notices that an order came in or went on; 2 where it is missing")
+                .value_parser(minutes),
+        )
+        .arg(value("prefer", "WHAT", "oldest order first (where it is missing), newest, or tasks that come before all others: sign"))
+        .arg(
+            value("seed", "N", "Another course of chance; 1 where it is missing")
+                .value_parser(clap::value_parser!(u64)),
+        )
+        .after_help(concat!(
+            "Example:\n",
+            "  mishantral staff policy.txt --simulate orders.csv --roster roster.txt --journal played.db\n",
+            "  mishantral holds --journal played.db --from test --to sign --by shift --shifts 'day 08:00-16:00, night 16:00-08:00'\n",
+            "\n",
+            "Exit status: 0 played; 1 the policy was refused; 2 wrong use, or a file that cannot be read or written.",
+        ))
+}
+
 fn generate() -> Command {
     let shells = ["man", "bash", "zsh", "fish", "elvish", "powershell"];
     Command::new("generate")
@@ -539,6 +656,8 @@ pub fn command() -> Command {
             who(),
             finish(),
             whatif(),
+            holds(),
+            staff(),
             generate(),
         ])
 }

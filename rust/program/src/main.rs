@@ -10,6 +10,7 @@ mod diff;
 mod expect;
 mod files;
 mod finish;
+mod holds;
 mod journal;
 mod manual;
 mod prompt;
@@ -17,6 +18,7 @@ mod report;
 mod run;
 mod serve;
 mod source;
+mod staff;
 mod stop;
 mod tables;
 mod told;
@@ -300,6 +302,68 @@ fn finish(given: &ArgMatches, out: &mut dyn Write) -> Done {
     }
 }
 
+fn holds(given: &ArgMatches, out: &mut dyn Write) -> Done {
+    let word = |name| text(given, name);
+    let shifts = match (word("by"), word("shifts")) {
+        (Some("shift"), None) => {
+            return wrong(
+                "--by shift takes the shifts: --shifts 'day 06:00-14:00, night 22:00-06:00'",
+            )
+        }
+        (_, shifts) => holds::shifts(shifts).or_else(wrong)?,
+    };
+    let zone = word("zone").unwrap_or("UTC");
+    let Some(zone) = holds::Zone::read(zone) else {
+        return wrong(format!("--zone {zone}: +01:00, -03:30 or UTC is expected"));
+    };
+    let panels = words(given, "panels");
+    let panels = panels.iter().filter_map(|name| holds::Panel::of_name(name));
+    let mut picture = holds::Picture {
+        panels: panels.collect(),
+        title: word("title"),
+        top: given.get_one::<f64>("top").copied(),
+    };
+    if picture.panels.is_empty() {
+        picture.panels = holds::Panel::ALL.to_vec();
+    }
+    let options = holds::Options {
+        plot: word("plot").map(|file| (file, picture)),
+        from: word("from").unwrap_or_default(),
+        to: word("to").unwrap_or_default(),
+        end: match word("end") {
+            Some("done") => holds::End::Done,
+            _ => holds::End::Claim,
+        },
+        by: holds::By::of_name(word("by").unwrap_or("month"), shifts),
+        since: word("since"),
+        until: word("until"),
+        zone,
+        worst: given
+            .get_one::<u64>("worst")
+            .map_or(10, |&count| count as usize),
+        form: match (given.get_flag("csv"), given.get_flag("json")) {
+            (true, _) => holds::Form::Csv,
+            (_, true) => holds::Form::Json,
+            _ => holds::Form::Text,
+        },
+    };
+    holds::holds(word("journal").unwrap_or_default(), &options, out)
+}
+
+fn staff(given: &ArgMatches, out: &mut dyn Write) -> Done {
+    let word = |name| text(given, name);
+    let options = staff::Options {
+        orders: word("simulate").unwrap_or_default(),
+        roster: word("roster").unwrap_or_default(),
+        journal: word("journal").unwrap_or_default(),
+        minutes: word("minutes"),
+        prefer: word("prefer"),
+        notice: given.get_one::<f64>("notice").copied().unwrap_or(2.0),
+        seed: given.get_one::<u64>("seed").copied().unwrap_or(1),
+    };
+    staff::simulate(&policy(given)?, &options, out)
+}
+
 fn words(given: &ArgMatches, name: &str) -> Vec<String> {
     let all = given.get_many(name).into_iter().flatten();
     all.cloned().collect()
@@ -346,6 +410,8 @@ fn done(out: &mut dyn Write) -> Done {
             )
         }
         Some(("finish", given)) => finish(given, out),
+        Some(("holds", given)) => holds(given, out),
+        Some(("staff", given)) => staff(given, out),
         Some(("generate", given)) => generate(given, out),
         _ => Ok(WRONG),
     }

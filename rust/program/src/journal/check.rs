@@ -2,7 +2,7 @@
 //! and answered as it was, every snapshot is the state that the requests before it lead to, and SQLite finds its own file sound.
 
 use super::found::{self, snapshot_of, Found, Unfit};
-use super::tables;
+use super::{tables, Row};
 use crate::stop::{Done, Stop, WELL};
 use mishantral::Engine;
 use rusqlite::Connection;
@@ -33,7 +33,7 @@ fn whole(connection: &Connection, file: &str) -> Result<(i64, usize), Unfit> {
     };
     let mut next = kept.iter().copied().peekable();
     let mut met = 0;
-    let found = found::of(connection, file, true, &mut |row, found| {
+    let found = found::of(connection, file, true, &mut |row: &Row, found: &Found| {
         if next.peek() == Some(&row.number) {
             next.next();
             met += 1;

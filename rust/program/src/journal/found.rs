@@ -58,24 +58,39 @@ pub fn reading(file: &str) -> rusqlite::Result<Connection> {
 
 /// Reads a journal: from its last snapshot, or where `whole` from the load on.
 pub fn found(file: &str, whole: bool) -> Result<Found, Stop> {
-    read(file, whole, &mut |_, _| Ok(()))
+    read(file, whole, &mut |_: &Row, _: &Found| Ok(()))
 }
 
 /// Asks a whole journal anew from its load on; `look` sees each row, and the desk after it.
 pub fn replay(file: &str, look: &mut dyn FnMut(&Row, &Found)) -> Result<Found, Stop> {
-    read(file, true, &mut |row, found| {
+    read(file, true, &mut |row: &Row, found: &Found| {
         look(row, found);
         Ok(())
     })
 }
 
-type Look<'a> = &'a mut dyn FnMut(&Row, &Found) -> Result<(), Unfit>;
-
-fn read(file: &str, whole: bool, look: Look) -> Result<Found, Stop> {
+fn read(file: &str, whole: bool, look: &mut dyn Look) -> Result<Found, Stop> {
     there(file)?;
     let read = reading(file).map_err(Unfit::from);
     let read = read.and_then(|connection| of(&connection, file, whole, look));
     read.map_err(|Unfit(why)| Stop::Refused(vec![format!("{file}: {why}")]))
+}
+
+/// Whoever looks on while a journal is asked anew.
+pub trait Look {
+    /// A row is about to be asked. The engine is as the rows before it left it; what is tried out on it must be taken back.
+    fn before(&mut self, _row: &Row, _engine: &mut Engine) -> Result<(), Unfit> {
+        Ok(())
+    }
+
+    /// A row was asked, and answered as it had been.
+    fn after(&mut self, row: &Row, found: &Found) -> Result<(), Unfit>;
+}
+
+impl<F: FnMut(&Row, &Found) -> Result<(), Unfit>> Look for F {
+    fn after(&mut self, row: &Row, found: &Found) -> Result<(), Unfit> {
+        self(row, found)
+    }
 }
 
 /// A journal that is not there is a wrong name, and no journal that is refused.
@@ -88,8 +103,13 @@ pub fn there(file: &str) -> Result<(), Stop> {
     }
 }
 
-/// The same of an open one; `look` sees each row that is asked anew, and the desk after it.
-pub fn of(connection: &Connection, file: &str, whole: bool, look: Look) -> Result<Found, Unfit> {
+/// The same of an open one; `look` sees each row that is asked anew.
+pub fn of(
+    connection: &Connection,
+    file: &str,
+    whole: bool,
+    look: &mut dyn Look,
+) -> Result<Found, Unfit> {
     // One reading of one state, whatever is written meanwhile.
     let act = connection.unchecked_transaction()?;
     let policy = policy(&act, file)?;
@@ -108,7 +128,6 @@ pub fn of(connection: &Connection, file: &str, whole: bool, look: Look) -> Resul
         live = taken.live()?;
         (last, sum) = (taken.after, taken.row_sum);
     }
-    let later = given(&act, last)?;
     let mut found = Found {
         policy,
         live,
@@ -125,12 +144,20 @@ pub fn of(connection: &Connection, file: &str, whole: bool, look: Look) -> Resul
     );
     let mut select = act.prepare(&select)?;
     let mut rows = select.query([last])?;
+    // Names are read beside their requests, so that memory does not grow with them.
+    let mut names = act.prepare(GIVEN)?;
+    let mut names = names.query([last])?;
+    let mut next = naming_of(&mut names)?;
     while let Some(columns) = rows.next()? {
         let (mut row, kept) = row(columns)?;
-        row.namings = later.get(&row.number).cloned().unwrap_or_default();
+        while let Some((_, naming)) = next.take_if(|(request, _)| *request == row.number) {
+            row.namings.push(naming);
+            next = naming_of(&mut names)?;
+        }
+        look.before(&row, &mut found.engine)?;
         found.follow(&row, kept)?;
         found.at = row.at;
-        look(&row, &found)?;
+        look.after(&row, &found)?;
     }
     drop(rows);
     if found.replayed == 0 && last > 0 {
@@ -233,16 +260,25 @@ fn record(columns: &rusqlite::Row, from: usize) -> rusqlite::Result<Record> {
     ))
 }
 
+/// The names that requests behind one gave, in their order.
+const GIVEN: &str =
+    "SELECT request, sort, number, name FROM name WHERE request > ?1 ORDER BY request, rowid";
+
+/// The next name, with the request that gave it.
+fn naming_of(rows: &mut rusqlite::Rows) -> Result<Option<(i64, Naming)>, Unfit> {
+    let Some(columns) = rows.next()? else {
+        return Ok(None);
+    };
+    Ok(Some((columns.get(0)?, naming(columns)?)))
+}
+
 /// The names that requests behind this one gave, by request; those of the policy are under 0, behind -1.
 pub fn given(act: &Connection, after: i64) -> Result<BTreeMap<i64, Vec<Naming>>, Unfit> {
     let mut all: BTreeMap<i64, Vec<Naming>> = BTreeMap::new();
-    let select =
-        "SELECT request, sort, number, name FROM name WHERE request > ?1 ORDER BY request, rowid";
-    let mut rows = act.prepare(select)?;
+    let mut rows = act.prepare(GIVEN)?;
     let mut rows = rows.query([after])?;
-    while let Some(columns) = rows.next()? {
-        let request = columns.get(0)?;
-        all.entry(request).or_default().push(naming(columns)?);
+    while let Some((request, naming)) = naming_of(&mut rows)? {
+        all.entry(request).or_default().push(naming);
     }
     Ok(all)
 }

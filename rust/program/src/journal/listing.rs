@@ -336,8 +336,8 @@ fn picked(connection: &Connection, filter: &Filter, policy: &Names) -> Result<Pi
                 Some(replies(word).ok_or_else(|| wrong(format!("there is no reply {word:?}")))?)
             }
         },
-        since: time_of(connection, &filter.since, i64::MIN)?,
-        until: time_of(connection, &filter.until, i64::MAX)?,
+        since: time_of(connection, filter.since.as_deref(), i64::MIN)?,
+        until: time_of(connection, filter.until.as_deref(), i64::MAX)?,
     })
 }
 
@@ -345,10 +345,19 @@ fn picked(connection: &Connection, filter: &Filter, policy: &Names) -> Result<Pi
 pub fn moment(word: &str) -> Result<i64, Stop> {
     let failed = |why: rusqlite::Error| Stop::Wrong(vec![format!("{word}: {why}")]);
     let connection = Connection::open_in_memory().map_err(failed)?;
-    time_of(&connection, &Some(word.to_string()), i64::MIN)
+    time_of(&connection, Some(word), i64::MIN)
 }
 
-fn time_of(connection: &Connection, word: &Option<String>, else_at: i64) -> Result<i64, Stop> {
+/// The name that an opening of an order was given, by the request that opened it.
+pub fn name_of_opening(connection: &Connection, opening: i64) -> Result<Option<String>, Unfit> {
+    let sql = "SELECT name FROM name WHERE request = ?1 AND sort = 'order'";
+    let mut select = connection.prepare_cached(sql)?;
+    let name: Option<Vec<u8>> = select.query_row([opening], |r| r.get(0)).optional()?;
+    Ok(name.map(|name| crate::names::shown(&name)))
+}
+
+/// A time as SQLite reads it, in microseconds since 1970; `else_at` where none is given.
+pub fn time_of(connection: &Connection, word: Option<&str>, else_at: i64) -> Result<i64, Stop> {
     let Some(word) = word else {
         return Ok(else_at);
     };

@@ -3,6 +3,7 @@
 
 mod about;
 mod append;
+mod author;
 mod begin;
 mod check;
 mod clock;
@@ -15,11 +16,12 @@ mod tables;
 
 pub use about::{user_of, user_of_subject};
 pub use append::{Failed, Group, Journal, Saved};
+pub use author::Author;
 pub use begin::{begin, LONGEST_NAME};
 pub use check::check;
 pub use files::{lock, private};
-pub use found::{found, replay, said, Found};
-pub use listing::{list, moment, time, Filter};
+pub use found::{found, of, policy, reading, replay, said, there, Found, Look, Unfit};
+pub use listing::{list, moment, name_of_opening, time, time_of, Filter};
 pub use live::Live;
 
 use crate::names::Naming;

@@ -1,0 +1,121 @@
+//! `holds`: how long orders lie between two tasks, and why (docs/HOLDS.md). The journal is asked anew from its load on; what could have been
+//! claimed meanwhile is the engine's own answer.
+
+mod calendar;
+mod charts;
+mod figures;
+mod hold;
+mod measure;
+mod objects;
+mod pairs;
+mod progress;
+mod report;
+mod text;
+mod totals;
+
+#[cfg(test)]
+mod trials;
+
+pub use calendar::{length, moment, next_time, shifts, Shift, Zone};
+pub use charts::{Panel, Picture};
+pub use figures::By;
+pub use measure::End;
+
+use crate::journal::{self, Unfit};
+use crate::stop::{wrong, Done, Stop, WELL};
+use measure::{Asked, Measure};
+use pairs::Pairs;
+use progress::Progress;
+use report::Report;
+use rusqlite::Connection;
+use std::fs;
+use std::io::Write;
+
+/// What is asked for on the command line.
+pub struct Options<'a> {
+    pub from: &'a str,
+    pub to: &'a str,
+    pub end: End,
+    pub by: By,
+    pub since: Option<&'a str>,
+    pub until: Option<&'a str>,
+    pub zone: Zone,
+    /// How many of the longest holds are shown.
+    pub worst: usize,
+    pub form: Form,
+    /// A picture, and the file that it goes to.
+    pub plot: Option<(&'a str, Picture<'a>)>,
+}
+
+#[derive(Clone, Copy, PartialEq, Eq, Debug)]
+pub enum Form {
+    Text,
+    Csv,
+    Json,
+}
+
+/// Measures a journal.
+pub fn measured(file: &str, options: &Options) -> Result<Report, Stop> {
+    let refused = |Unfit(why): Unfit| Stop::Refused(vec![format!("{file}: {why}")]);
+    journal::there(file)?;
+    let connection = journal::reading(file).map_err(|why| refused(why.into()))?;
+    let policy = journal::policy(&connection, file).map_err(refused)?;
+    let asked = Asked {
+        pairs: Pairs::read(options.from, options.to, &policy.records(), &policy.names)?,
+        end: options.end,
+        since: journal::time_of(&connection, options.since, i64::MIN)?,
+        until: journal::time_of(&connection, options.until, i64::MAX)?,
+        zone: options.zone,
+        worst: options.worst,
+    };
+    let report = replayed(&connection, file, &asked, &options.by).map_err(refused)?;
+    Ok(report)
+}
+
+fn replayed(connection: &Connection, file: &str, asked: &Asked, by: &By) -> Result<Report, Unfit> {
+    let last = "SELECT coalesce(max(number), 0) FROM request";
+    let last = connection.query_row(last, [], |r| r.get(0))?;
+    let mut progress = Progress::new("holds", last);
+    let mut at = |number| progress.at(number);
+    let names = journal::policy(connection, file)?.names;
+    let mut measure = Measure::new(asked, names, &mut at);
+    let found = journal::of(connection, file, true, &mut measure);
+    measure.finish();
+    let Measure {
+        holds,
+        totals,
+        worst,
+        names,
+        ..
+    } = measure;
+    progress.end();
+    let mut report = Report::new(found?, names, asked, by, holds, totals, worst);
+    for name in report.wanted() {
+        let named = journal::name_of_opening(connection, name)?;
+        report.name(name, named);
+    }
+    Ok(report)
+}
+
+/// Puts a file into its place whole, or leaves what was there.
+fn put(file: &str, bytes: &[u8]) -> Result<(), Stop> {
+    let new = format!("{file}.new");
+    let written = fs::write(&new, bytes).and_then(|()| fs::rename(&new, file));
+    written.or_else(|why| {
+        let _ = fs::remove_file(&new);
+        wrong(format!("{file}: it cannot be written: {why}"))
+    })
+}
+
+pub fn holds(file: &str, options: &Options, out: &mut dyn Write) -> Done {
+    let report = measured(file, options)?;
+    if let Some((file, wanted)) = &options.plot {
+        put(file, charts::picture(&report, wanted).as_bytes())?;
+    }
+    match options.form {
+        Form::Text => text::write(&report, out)?,
+        Form::Csv => text::csv(&report, out)?,
+        Form::Json => writeln!(out, "{}", objects::object(&report))?,
+    }
+    Ok(WELL)
+}
