@@ -188,7 +188,7 @@ fn a_served_desk_is_measured_while_it_works() {
         "clerk",
     ]);
     assert!(
-        text.starts_with("repair done to test claimed: 1 holds; 0 still lying"),
+        text.starts_with("repair done to test claimed: 1 hold; 0 still lying"),
         "{text}"
     );
     assert!(
@@ -306,4 +306,310 @@ fn what_is_wrong_is_said() {
         status == 1 && err.contains("it is no journal"),
         "{status} {err}"
     );
+}
+
+/// `examples/year`, some days of it, with a seed.
+fn year(room: &Room, days: &str, seed: &str) {
+    let root = Path::new(env!("CARGO_MANIFEST_DIR")).join("../..");
+    let made = Command::new("sh")
+        .arg(root.join("examples/year/make"))
+        .args(["--days", days, "--seed", seed])
+        .arg(&room.0)
+        .env("MISHANTRAL", env!("CARGO_BIN_EXE_mishantral"))
+        .output()
+        .unwrap();
+    assert!(
+        made.status.success(),
+        "{}",
+        String::from_utf8_lossy(&made.stderr)
+    );
+}
+
+fn measured(room: &Room, journal: &str, more: &[&str]) -> Value {
+    let journal = room.file(journal);
+    let common = [
+        "holds",
+        "--journal",
+        &journal,
+        "--from",
+        "test",
+        "--to",
+        "sign",
+        "--json",
+    ];
+    serde_json::from_str(&well(&[&common[..], more].concat())).unwrap()
+}
+
+const HOUR: i64 = 3_600_000_000;
+
+#[test]
+fn the_year_shows_the_old_fault_and_what_it_really_is() {
+    let room = Room::new("year");
+    year(&room, "21", "1");
+    let then = measured(&room, "then.db", &["--by", "week"]);
+    let now = measured(&room, "now.db", &["--by", "week"]);
+    // The same orders, and each is signed in both.
+    assert_eq!(then["all"]["holds"], now["all"]["holds"]);
+    assert!(then["all"]["holds"].as_i64().unwrap() > 600);
+    // Flat, week by week: numbers above 255 are one person, and that rule is why nobody could.
+    for week in then["groups"].as_array().unwrap() {
+        let median = week["median_us"].as_i64().unwrap();
+        let usual = 15 * HOUR + HOUR * 2 / 3;
+        assert!((median - usual).abs() < HOUR / 2, "{week}");
+        assert_eq!(times(week), then_sum(&then, week), "{week}");
+    }
+    let met = &then["met"][0];
+    assert_eq!(
+        (met["name"].as_str(), met["rule"].as_str()),
+        (Some("SEPARATION"), Some("task set 1 of test sign"))
+    );
+    assert_eq!(met["clerks"][0]["user"], 255);
+    let part = |object: &Value, key: &str| {
+        object["all"]["parts"][key].as_i64().unwrap() as f64 / times(&object["all"]) as f64
+    };
+    assert!(part(&then, "nobody_could_us") > 0.8 && part(&now, "nobody_could_us") < 0.01);
+    assert!(now["all"]["ninety_percent_us"].as_i64().unwrap() < HOUR / 2);
+    // Every answer of both is the engine's, and a seed repeats.
+    for journal in ["then.db", "now.db"] {
+        well(&["journal", &room.file(journal), "--check"]);
+    }
+    let again = Room::new("again");
+    year(&again, "21", "1");
+    let without_file = |object: &Value| {
+        let mut object = object.clone();
+        object["met"] = Value::Null;
+        object["refused"] = Value::Null;
+        object["worst"] = Value::Null;
+        object
+    };
+    assert_eq!(
+        without_file(&measured(&again, "then.db", &["--by", "week"])),
+        without_file(&then)
+    );
+    let other = Room::new("other");
+    year(&other, "3", "2");
+    assert_ne!(
+        fs::read(other.file("orders.csv")).unwrap()[..2000],
+        fs::read(room.file("orders.csv")).unwrap()[..2000]
+    );
+    // The pictures are whole.
+    for picture in ["then.svg", "now.svg", "then-all.svg", "now-all.svg"] {
+        assert!(fs::read_to_string(room.file(picture))
+            .unwrap()
+            .ends_with("</svg>\n"));
+    }
+}
+
+/// The sum of the holds of a group, by those that are its own.
+fn then_sum(report: &Value, group: &Value) -> i64 {
+    let groups = report["groups"].as_array().unwrap();
+    let all: i64 = groups.iter().map(times).sum();
+    let others: i64 = groups
+        .iter()
+        .filter(|other| other["group"] != group["group"])
+        .map(times)
+        .sum();
+    assert_eq!(all, times(&report["all"]));
+    all - others
+}
+
+#[test]
+fn sql_finds_the_same_holds() {
+    let room = Room::new("sql");
+    year(&room, "12", "3");
+    for journal in ["then.db", "now.db"] {
+        let report = measured(&room, journal, &["--by", "opening", "--worst", "1000"]);
+        let connection = rusqlite::Connection::open(room.file(journal)).unwrap();
+        let number = |sql: &str| {
+            connection
+                .query_row(sql, [], |row| row.get::<_, i64>(0))
+                .unwrap()
+        };
+        let between = "FROM hold WHERE from_name = 'test' AND to_name = 'sign'";
+        assert_eq!(
+            number(&format!("SELECT count(*) {between}")),
+            report["all"]["holds"].as_i64().unwrap()
+        );
+        let middle = format!("SELECT hold_us {between} ORDER BY hold_us LIMIT 1 OFFSET (SELECT (count(*) - 1) / 2 {between})");
+        assert_eq!(
+            number(&middle),
+            report["all"]["median_us"].as_i64().unwrap()
+        );
+        // And each hold, with the names of its order and of the clerk who claimed.
+        let mut select = connection.prepare(&format!("SELECT opening, order_name, begun_at, claimed_at, user, user_name {between} ORDER BY opening")).unwrap();
+        let rows = select.query_map([], |r| {
+            Ok((
+                r.get::<_, i64>(0)?,
+                r.get::<_, String>(1)?,
+                r.get::<_, i64>(2)?,
+                r.get::<_, i64>(3)?,
+                r.get::<_, i64>(4)?,
+                r.get::<_, String>(5)?,
+            ))
+        });
+        let rows: Vec<_> = rows.unwrap().map(|row| row.unwrap()).collect();
+        let mut each = report["each"].as_array().unwrap().clone();
+        each.retain(|hold| hold["end"] == "reached");
+        each.sort_by_key(|hold| hold["opening"].as_i64());
+        assert_eq!(rows.len(), each.len());
+        for (row, hold) in rows.iter().zip(&each) {
+            let (number, text) = (
+                |key: &str| hold[key].as_i64().unwrap(),
+                |key: &str| hold[key].as_str().unwrap(),
+            );
+            let found = (
+                number("opening"),
+                number("begun_us"),
+                number("ended_us"),
+                number("clerk"),
+            );
+            assert_eq!((row.0, row.2, row.3, row.4), found);
+            assert_eq!(
+                (row.1.trim_matches('"'), row.5.as_str()),
+                (text("name").trim_matches('"'), text("clerk_name"))
+            );
+        }
+        // Refused claims, by the rule's words.
+        let refused = "SELECT count(*) FROM answered WHERE kind LIKE 'claim %' AND reply = 'SEPARATION' AND rule_words = 'task set 1 of test sign' AND task_name = 'sign'";
+        let all: i64 = report["refused"]
+            .as_array()
+            .unwrap()
+            .iter()
+            .map(|met| met["claims"].as_i64().unwrap())
+            .sum();
+        assert_eq!(number(refused), all);
+        assert_eq!(
+            number("SELECT count(*) FROM opening"),
+            number("SELECT count(*) FROM request WHERE kind = 48 AND reply = 0")
+        );
+        assert_eq!(
+            number("SELECT count(*) FROM opening WHERE ended IS NULL"),
+            0
+        );
+    }
+}
+
+#[test]
+fn a_run_that_is_interrupted_leaves_nothing() {
+    let room = Room::new("interrupted");
+    year(&room, "40", "1");
+    let (journal, picture) = (room.file("then.db"), room.file("cut.svg"));
+    let before = room.files();
+    let mut interrupted = 0;
+    for pause in [0, 2, 5, 10, 20, 40] {
+        let mut holds = mishantral(&[
+            "holds",
+            "--journal",
+            &journal,
+            "--from",
+            "test",
+            "--to",
+            "sign",
+            "--plot",
+            &picture,
+        ]);
+        let mut child = holds.stdout(Stdio::null()).spawn().unwrap();
+        std::thread::sleep(Duration::from_millis(pause));
+        let _ = Command::new("kill")
+            .args(["-TERM", &child.id().to_string()])
+            .status();
+        let whole = child.wait().unwrap().success();
+        interrupted += i32::from(!whole);
+        assert_eq!(Path::new(&picture).exists(), whole);
+        let _ = fs::remove_file(&picture);
+        // SQLite's own two files may stay, as with any reader of it.
+        let left: Vec<String> = room
+            .files()
+            .into_iter()
+            .filter(|file| !before.contains(file))
+            .collect();
+        assert!(
+            left.iter()
+                .all(|file| file.ends_with("-wal") || file.ends_with("-shm")),
+            "{left:?}"
+        );
+    }
+    assert!(interrupted > 0);
+    well(&["journal", &journal, "--check"]);
+}
+
+#[test]
+fn what_is_wrong_with_a_roster_is_said() {
+    let room = Room::new("roster");
+    let write = |name: &str, text: &str| fs::write(room.file(name), text).unwrap();
+    write(
+        "orders.csv",
+        "time,template\n2025-01-01 10:00,plan_change\n",
+    );
+    write("roster.txt", "day 08:00-16:00: anna bert\n");
+    write("wrong.txt", "day 08:00-16:00: zoe\nnight\n");
+    write(
+        "wrong.csv",
+        "time,template\nnoon,plan_change\n2025-01-01 10:00,repair\n",
+    );
+    let (orders, roster, journal) = (
+        room.file("orders.csv"),
+        room.file("roster.txt"),
+        room.file("desk.db"),
+    );
+    let staff = |orders: &str, roster: &str, more: &[&str]| {
+        let common = [
+            "staff",
+            "examples/year/plan_change.txt",
+            "--simulate",
+            orders,
+            "--roster",
+            roster,
+            "--journal",
+            &journal,
+        ];
+        run(&[&common[..], more].concat())
+    };
+    for (orders, roster, more, words) in [
+        (
+            &orders,
+            &room.file("wrong.txt"),
+            &[][..],
+            "line 1: there is no user \"zoe\"",
+        ),
+        (
+            &room.file("wrong.csv"),
+            &roster,
+            &[],
+            "line 2: \"noon\" is no time",
+        ),
+        (
+            &orders,
+            &roster,
+            &["--minutes", "test=x"],
+            "\"x\" is no number of minutes",
+        ),
+        (
+            &orders,
+            &roster,
+            &["--minutes", "tset=1"],
+            "--minutes: there is no task \"tset\"",
+        ),
+        (
+            &orders,
+            &roster,
+            &["--prefer", "sing"],
+            "--prefer: there is no task \"sing\"",
+        ),
+        (&orders, &room.file("none"), &[], "it cannot be read"),
+    ] {
+        let (_, err, status) = staff(orders, roster, more);
+        assert!(
+            status == 2 && err.contains(words),
+            "{more:?}: {status} {err}"
+        );
+        assert!(!Path::new(&journal).exists());
+    }
+    let (out, err, status) = staff(&orders, &roster, &["--prefer", "sign"]);
+    assert!(
+        status == 0 && out.contains("1 orders, 1 ended, 0 still open"),
+        "{out}{err}"
+    );
+    let (_, err, status) = staff(&orders, &roster, &[]);
+    assert!(status == 2 && err.contains("it is there already"), "{err}");
 }

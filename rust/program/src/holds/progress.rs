@@ -32,10 +32,11 @@ impl Progress {
         if number % STEP != 0 {
             return;
         }
-        let Some(next) = self.next.filter(|next| Instant::now() >= *next) else {
+        let now = Instant::now();
+        if self.next.is_none_or(|next| now < next) {
             return;
-        };
-        self.next = Some(next + PAUSE);
+        }
+        self.next = Some(now + PAUSE);
         self.drawn = true;
         let line = bar(self.what, number, self.whole);
         let _ = write!(stderr(), "\r{line}").and_then(|()| stderr().flush());

@@ -80,9 +80,9 @@ pub fn write(report: &Report, out: &mut dyn Write) -> io::Result<()> {
     let all = &report.all;
     writeln!(
         out,
-        "{}: {} holds; {} still lying, {} ended unclaimed; {} requests asked anew",
+        "{}: {}; {} still lying, {} ended unclaimed; {} requests asked anew",
         report.between(),
-        all.count(),
+        counted(all.count()),
         all.lying,
         all.unclaimed,
         report.requests
@@ -116,6 +116,14 @@ pub fn write(report: &Report, out: &mut dyn Write) -> io::Result<()> {
     why(report, out)?;
     refused(report, out)?;
     worst(report, out)
+}
+
+/// `1 hold`, `7 holds`.
+fn counted(holds: usize) -> String {
+    match holds {
+        1 => "1 hold".to_string(),
+        _ => format!("{holds} holds"),
+    }
 }
 
 fn first_column(by: &By) -> &'static str {

@@ -3,6 +3,7 @@
 use super::about::about;
 use super::files::{self, Locks};
 use super::sum::Sum;
+use super::views::VIEWS;
 use super::{tables, APPLICATION, VERSION};
 use crate::desk::Desk;
 use crate::names::{Naming, Sort};
@@ -94,6 +95,7 @@ fn filled(new: &Path, policy: &Policy) -> rusqlite::Result<()> {
     act.pragma_update(None, "application_id", APPLICATION)?;
     act.pragma_update(None, "user_version", VERSION)?;
     act.execute_batch(tables::TABLES)?;
+    act.execute_batch(VIEWS)?;
     words(&act)?;
     let head = head(policy);
     let [policy_words, sessions_words, orders_words] = lengths();

@@ -13,6 +13,7 @@ mod listing;
 mod live;
 mod sum;
 mod tables;
+mod views;
 
 pub use about::{user_of, user_of_subject};
 pub use append::{Failed, Group, Journal, Saved};

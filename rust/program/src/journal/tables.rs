@@ -1,6 +1,6 @@
 //! The tables, in SQL. docs/SERVE.md documents them for auditors; what is written there changes with this file.
 
-/// Every table and view of a journal.
+/// Every table of a journal.
 pub const TABLES: &str = "
 CREATE TABLE journal (
     id INTEGER PRIMARY KEY CHECK (id = 1),
@@ -75,15 +75,6 @@ CREATE TABLE start (
 );
 CREATE TABLE reply (number INTEGER PRIMARY KEY, name TEXT NOT NULL);
 CREATE TABLE kind (number INTEGER PRIMARY KEY, words TEXT NOT NULL, subject TEXT, ordr TEXT, task TEXT);
-CREATE VIEW answered AS
-    SELECT request.number,
-        strftime('%Y-%m-%d %H:%M:%f', request.at / 1e6, 'unixepoch') AS time,
-        request.client, request.account, request.via, kind.words AS kind, request.user,
-        CASE kind.subject WHEN 'a' THEN a WHEN 'b' THEN b WHEN 'c' THEN c END AS subject,
-        CASE kind.ordr WHEN 'a' THEN a WHEN 'b' THEN b WHEN 'c' THEN c END AS ordr,
-        CASE kind.task WHEN 'a' THEN a WHEN 'b' THEN b WHEN 'c' THEN c END AS task,
-        request.opening, reply.name AS reply, request.place AS rule
-    FROM request LEFT JOIN kind ON kind.number = request.kind LEFT JOIN reply ON reply.number = request.reply;
 ";
 
 /// The columns of a request, as `found::row` takes them.
