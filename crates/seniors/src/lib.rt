@@ -9,13 +9,14 @@ ghost use Rattle.policy.specs.Reading.{policyOf};
 ghost use Rattle.seniors.specs.Rows.{loweredAt};
 use sets::Set;
 
-// Role after role, since what is below a role is kept whole.
+// Role after role, since what is below a role is kept whole; those that have any alone.
 fn gathered(p: &[u64], m: Set) -> Set
     requires { ⌜ length (now p) ≡ policyWords ⌝ }
     ensures { λ r. ⌜ r .bits ≡ down (policyOf (now (p .entry)) .seniority) (m .bits) ⌝ }
 {
     let mut all = m;
-    let mut left = m;
+    let lowest = m.beyond(policy::seniors(p));
+    let mut left = m.beyond(lowest);
     while left.bits != 0 {
         let role = left.member();
         all = all.union(policy::below(p, role as usize));

@@ -1,4 +1,4 @@
--- Over the roles; what is below one that was passed is gathered.
+-- Over the roles that have some below them; what is below one that was passed is gathered.
 use mathlib.Core.Path.{_≡_, sym, _∙_}
 use native.Mathlib.Omega.{arith}
 use borrow.Author.Needs.{needs}
@@ -6,7 +6,8 @@ use Rattle.paper_lower.specs.Sets.{union}
 use Rattle.paper_lower.specs.Policy.{down}
 use Rattle.policy.specs.Reading.{policyOf}
 use Rattle.sets.proofs.SetLaws.{minus-less}
-use Rattle.sets.proofs.DownLaws.{belowAll, walk-start, walk-more, walk-end}
+use Rattle.sets.proofs.DownLaws.{belowAll, walk-more, walk-end}
+use Rattle.seniors.proofs.Counting.{seniors-start}
 use Rattle.seniors.proofs.gathered.Statement.{statement}
 use Rattle.seniors.proofs.gathered.Tie as tie
 
@@ -16,8 +17,17 @@ Inv-loop p all₀ left₀ all left = down (policyOf p .seniority) (all₀ .bits)
 abbrev μ-loop : tie.MeasureT-loop
 μ-loop p all₀ left₀ all left = left .bits
 
+seniors-requires : tie.Need-seniors-requires Inv-loop μ-loop
+seniors-requires c κs = search needs
+
+beyond-requires : tie.Need-beyond-requires Inv-loop μ-loop
+beyond-requires c κs = search needs
+
+beyond-requires-2 : tie.Need-beyond-requires-2 Inv-loop μ-loop
+beyond-requires-2 c κs = search needs
+
 loop-holds : tie.Need-loop-holds Inv-loop μ-loop
-loop-holds c = walk-start _ _
+loop-holds c = seniors-start (c .before .before .before .before .args .p .now) (c .before .before .before .before .args .m .bits) (c .before .before .seniors .ensures) (c .before .beyond .ensures) (c .beyond2 .ensures)
 
 member-requires : tie.Need-member-requires Inv-loop μ-loop
 member-requires c κs = search needs
@@ -35,10 +45,10 @@ loop-less : tie.Need-loop-less Inv-loop μ-loop
 loop-less c = rw (c .without .ensures) (minus-less _ _ (c .before .before .before .member .ensures .0))
 
 loop-again : tie.Need-loop-again Inv-loop μ-loop
-loop-again c = rw (c .without .ensures, c .before .union .ensures, c .before .before .below .ensures) (c .before .before .before .before .before .before .loop .inv ∙ walk-more (policyOf (c .before .before .before .before .before .before .before .before .args .p .now) .seniority) _ _ (c .before .before .before .member .result) (c .before .before .before .member .ensures .1) (c .before .before .before .member .ensures .0))
+loop-again c = rw (c .without .ensures, c .before .union .ensures, c .before .before .below .ensures) (c .before .before .before .before .before .before .loop .inv ∙ walk-more (policyOf (c .before .before .before .before .before .before .before .before .before .before .before .args .p .now) .seniority) _ _ (c .before .before .before .member .result) (c .before .before .before .member .ensures .1) (c .before .before .before .member .ensures .0))
 
 returns : tie.Need-returns Inv-loop μ-loop
-returns c = sym (c .before .before .loop .inv ∙ walk-end (policyOf (c .before .before .before .before .args .p .now) .seniority) _ _ (omega arith))
+returns c = sym (c .before .before .loop .inv ∙ walk-end (policyOf (c .before .before .before .before .before .before .before .args .p .now) .seniority) _ _ (omega arith))
 
 pub gathered-spec : {M : Type 1} → statement M
 gathered-spec =
@@ -46,6 +56,9 @@ gathered-spec =
     (tie.spec
     Inv-loop
     μ-loop
+    seniors-requires
+    beyond-requires
+    beyond-requires-2
     loop-holds
     member-requires
     below-requires
