@@ -2,6 +2,7 @@
 
 use crate::attempt::{follow, Attempt, Form};
 use crate::names::{Names, Sort};
+use crate::quote::{is_word, name_of};
 use crate::tokens::{between_quotes, Token, END};
 use std::fmt;
 
@@ -47,10 +48,15 @@ impl Expected {
             let sort = sort.filter(|&sort| names.has_any(sort));
             sort.map(|sort| format!("the name of a known {}", sort.word()))
         };
+        // What a field could hold is no help: the limit is that of what is numbered.
+        let limit = |last: u64, sort: Option<Sort>| sort.map_or(last, |sort| sort.last().into());
         let (first, second) = match self {
             Expected::Word(word) => (format!("\"{word}\""), None),
-            Expected::Number(last, "", sort) => (format!("a number up to {last}"), named(sort)),
+            Expected::Number(last, "", sort) => {
+                (format!("a number up to {}", limit(last, sort)), named(sort))
+            }
             Expected::Number(last, name, sort) => {
+                let last = limit(last, sort);
                 (format!("the {name}, a number up to {last}"), named(sort))
             }
             Expected::Member(true, sort) => ("a number up to 63".to_string(), named(sort)),
@@ -138,7 +144,11 @@ fn nearest(expected: &[Expected], token: Token, names: &Names) -> Option<String>
 pub(crate) fn wrong(open: &[Attempt], token: Option<Token>, end: usize, names: &Names) -> Wrong {
     let expected = expected_by(open);
     let words: Vec<String> = expected.iter().flat_map(|e| e.words(names)).collect();
-    let mut text = either(&words);
+    let mut text = match words.len() {
+        // All words that begin a line are no help.
+        MANY.. => FIRST.to_string(),
+        _ => either(&words),
+    };
     let near = token.and_then(|token| nearest(&expected, token, names));
     // Where a word is nearly right, it and nothing else is what a person wants to read.
     match near {
@@ -149,7 +159,32 @@ pub(crate) fn wrong(open: &[Attempt], token: Option<Token>, end: usize, names: &
     Wrong {
         column: token.map_or(end, |token| token.column),
         expected: text,
-        found: token.map_or(END.to_string(), Token::found),
+        found: token.map_or(END.to_string(), |token| found(&expected, token, names)),
+    }
+}
+
+/// More words than a person reads: those that begin a line.
+const MANY: usize = 16;
+const FIRST: &str = "the first word of a line, such as \"user\", \"task\", \"open\" or \"claim\"";
+
+/// What stands there, and where a name may be meant, why it is none.
+fn found(expected: &[Expected], token: Token, names: &Names) -> String {
+    let text = token.found();
+    let gives = expected.iter().any(|e| matches!(e, Expected::Name(_)));
+    if gives && is_word(token.text) {
+        return format!("{text}, a word of the notation: as a name it goes between quotes");
+    }
+    let sorts = expected.iter().filter_map(|&e| match e {
+        Expected::Number(_, _, sort) | Expected::Member(_, sort) => sort,
+        _ => None,
+    });
+    let mut unnamed = sorts.filter(|&sort| !names.has_any(sort));
+    match unnamed.next() {
+        Some(sort) if name_of(token.text).is_some() => {
+            let word = sort.word();
+            format!("{text}, and no line above names a {word}")
+        }
+        _ => text,
     }
 }
 

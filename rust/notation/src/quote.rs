@@ -49,7 +49,7 @@ pub(crate) fn is_quoted(text: &str) -> bool {
 }
 
 /// The words of the notation, none of which is a name unless between quotes.
-fn is_word(text: &str) -> bool {
+pub(crate) fn is_word(text: &str) -> bool {
     static WORDS: OnceLock<Vec<&'static str>> = OnceLock::new();
     let words = WORDS.get_or_init(|| {
         let all = FORMS.into_iter().flat_map(|(_, pattern)| parts(pattern));

@@ -126,8 +126,20 @@ impl Text {
     }
 }
 
+/// A text with two bytes a letter, as some editors save it.
+fn of_two_bytes() -> Wrong {
+    Wrong {
+        column: 1,
+        expected: "text in UTF-8".to_string(),
+        found: "UTF-16: save the file as UTF-8".to_string(),
+    }
+}
+
 /// Reads a whole text; or every error with its line. In a policy a name is given once; requests may give it anew.
 pub fn read(text: &[u8], names: &Names, once: bool) -> Result<Text, Vec<Error>> {
+    if text.starts_with(b"\xff\xfe") || text.starts_with(b"\xfe\xff") {
+        return Err(vec![Error::new(1, of_two_bytes())]);
+    }
     let mut names = names.clone();
     let (mut said, mut errors) = (Vec::new(), Vec::new());
     let mut cut = false;
@@ -214,11 +226,11 @@ task set 1 of 4 6\npermission 1 is operation 2 on object 9\nclaim 5 0 4\n";
             said("user 300 has rolle 0"),
             "14: expected \"role\", found \"rolle\""
         );
-        assert_eq!(said("delete user clerk_x"), "13: expected a number up to 65535 or the name of a known user (\"clerk_b\"?), found \"clerk_x\"");
+        assert_eq!(said("delete user clerk_x"), "13: expected a number up to 1023 or the name of a known user (\"clerk_b\"?), found \"clerk_x\"");
         assert_eq!(said("clam 5 0 1"), "1: expected \"claim\", found \"clam\"");
         assert_eq!(
             said("claim 5"),
-            "8: expected the order, a number up to 65535, found the end of the line"
+            "8: expected the order, a number up to 63, found the end of the line"
         );
         assert_eq!(said("task 4"), "7: expected \"of\", a name for the task, \"open\", \"carries\", \"at\", \"bound\" or \"before\", found the end of the line");
     }

@@ -44,11 +44,18 @@ impl Token<'_> {
     }
 }
 
-/// A token as an error shows it; a quoted name has its quotes already.
+/// A token as an error shows it; a quoted name has its quotes already. What a terminal would obey is shown and not sent.
 pub(crate) fn between_quotes(text: &str) -> String {
+    let mut shown = String::new();
+    for character in text.chars() {
+        match character.is_control() {
+            true => shown.extend(character.escape_default()),
+            false => shown.push(character),
+        }
+    }
     match is_quoted(text) {
-        true => text.to_string(),
-        false => format!("\"{text}\""),
+        true => shown,
+        false => format!("\"{shown}\""),
     }
 }
 

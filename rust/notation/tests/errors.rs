@@ -17,7 +17,7 @@ fn refused(text: &str, line: usize, column: usize, expected: &str, found: &str) 
 }
 
 const END: &str = "the end of the line";
-const HALF: &str = "a number up to 65535";
+const USER: &str = "a number up to 1023";
 
 #[test]
 fn a_wrong_word() {
@@ -29,7 +29,7 @@ fn a_wrong_word() {
         "\":\" or a name for the partitioning",
         "\"0\"",
     );
-    refused("größer 3", 1, 1, &first_words(), "\"größer\"");
+    refused("größer 3", 1, 1, FIRST, "\"größer\"");
     refused("user 3 ä x", 1, 10, END, "\"x\"");
 }
 
@@ -52,23 +52,43 @@ fn a_word_that_is_nearly_right() {
     refused("task 4 opens off template 0", 1, 14, word, "\"off\"");
 }
 
-/// All words that a line may begin with.
-fn first_words() -> String {
-    let words = "user role permission task static dynamic block lone-worker wall add delete assign take give \
-        create destroy activate deactivate open end claim release done check entries commit stuck record bytes operation \
-        object template partitioning subject";
-    let quoted: Vec<String> = words
-        .split_whitespace()
-        .map(|w| format!("\"{w}\""))
-        .collect();
-    format!("{} or \"order\"", quoted.join(", "))
+/// What is expected where a line begins with another word.
+const FIRST: &str = "the first word of a line, such as \"user\", \"task\", \"open\" or \"claim\"";
+
+#[test]
+fn a_word_of_the_notation_is_no_name_without_quotes() {
+    let found = "\"open\", a word of the notation: as a name it goes between quotes";
+    let line = "permission 0 is operation 0 open on object 0";
+    refused(
+        line,
+        1,
+        29,
+        "\"on\" or a name for the operation (\"on\"?)",
+        found,
+    );
+    assert!(read(line.replace("open", "\"open\"").as_bytes()).is_ok());
+}
+
+#[test]
+fn what_a_terminal_would_obey_is_shown_and_not_sent() {
+    refused("\u{1b}[31m 3", 1, 1, FIRST, "\"\\u{1b}[31m\"");
+}
+
+#[test]
+fn a_text_in_two_bytes_a_letter_is_told_once() {
+    let mut text = vec![0xff, 0xfe];
+    text.extend("user 1\nuser 2\n".encode_utf16().flat_map(u16::to_le_bytes));
+    let errors = read(&text).unwrap_err();
+    assert_eq!(errors.len(), 1);
+    let message = "line 1, column 1: expected text in UTF-8, found UTF-16: save the file as UTF-8";
+    assert_eq!(errors[0].to_string(), message);
 }
 
 #[test]
 fn a_line_that_ends_early() {
-    refused("user", 1, 5, HALF, END);
-    refused("user   # 3", 1, 5, HALF, END);
-    refused("claim 5 0", 1, 10, "the task, a number up to 65535", END);
+    refused("user", 1, 5, USER, END);
+    refused("user   # 3", 1, 5, USER, END);
+    refused("claim 5 0", 1, 10, "the task, a number up to 63", END);
     refused(
         "static set 1 of",
         1,
@@ -76,7 +96,7 @@ fn a_line_that_ends_early() {
         "a number up to 63 or \"none\"",
         END,
     );
-    refused("user 3 has role\r\nuser 4", 1, 16, HALF, END);
+    refused("user 3 has role\r\nuser 4", 1, 16, "a number up to 63", END);
 }
 
 #[test]
@@ -103,11 +123,11 @@ fn a_line_that_goes_on() {
 
 #[test]
 fn a_number_that_does_not_fit_its_field() {
-    refused("user 65536", 1, 6, HALF, "\"65536\"");
-    refused("user -1", 1, 6, HALF, "\"-1\"");
-    refused("user 3x", 1, 6, HALF, "\"3x\"");
-    refused("user 0x", 1, 6, HALF, "\"0x\"");
-    refused("user 0x10000", 1, 6, HALF, "\"0x10000\"");
+    refused("user 65536", 1, 6, USER, "\"65536\"");
+    refused("user -1", 1, 6, USER, "\"-1\"");
+    refused("user 3x", 1, 6, USER, "\"3x\"");
+    refused("user 0x", 1, 6, USER, "\"0x\"");
+    refused("user 0x10000", 1, 6, USER, "\"0x10000\"");
     refused(
         "task 3 at most 256 times",
         1,
@@ -169,9 +189,9 @@ fn all_errors_of_a_text() {
     assert_eq!(
         told,
         [
-            "line 1, column 6: expected a number up to 65535, found \"x\"",
+            "line 1, column 6: expected a number up to 1023, found \"x\", and no line above names a user",
             "line 3, column 3: expected text in UTF-8, found the byte 0xff",
-            "line 4, column 10: expected the task, a number up to 65535, found the end of the line",
+            "line 4, column 10: expected the task, a number up to 63, found the end of the line",
             "line 6, column 1: expected no record after a cut one, found \"user\"",
         ]
     );
@@ -188,7 +208,7 @@ fn a_comma_stands_between_members() {
         "claim 5, 0 1",
         1,
         8,
-        "the order, a number up to 65535",
+        "the order, a number up to 63",
         "\",\"",
     );
 }

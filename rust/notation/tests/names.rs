@@ -95,20 +95,20 @@ fn a_wrong_name_is_told() {
     for (line, message) in [
         (
             "claim 5 0 \"role:4\"",
-            "line 1, column 11: expected the task, a number up to 65535 or the name of a known task, \
+            "line 1, column 11: expected the task, a number up to 63 or the name of a known task, \
              found \"role:4\"",
         ),
         (
             "claim \"user:4\" 0 1",
-            "line 1, column 7: expected the subject, a number up to 65535 or the name of a known subject, found \"user:4\"",
+            "line 1, column 7: expected the subject, a number up to 127 or the name of a known subject, found \"user:4\"",
         ),
         (
             "user \"user:4",
-            "line 1, column 6: expected a number up to 65535 or the name of a known user (\"user:4\"?), found \"user:4",
+            "line 1, column 6: expected a number up to 1023 or the name of a known user (\"user:4\"?), found \"user:4",
         ),
         (
             "user é \"user:4\"",
-            "line 1, column 6: expected a number up to 65535 or the name of a known user, found \"é\"",
+            "line 1, column 6: expected a number up to 1023 or the name of a known user, found \"é\"",
         ),
         (
             "static set 1 of \"role:4\" 4",
@@ -120,7 +120,7 @@ fn a_wrong_name_is_told() {
         assert_eq!(errors[0].to_string(), message);
     }
     let errors = notation::read(b"user \"user:4\"").unwrap_err();
-    let message = "line 1, column 6: expected a number up to 65535, found \"user:4\"";
+    let message = "line 1, column 6: expected a number up to 1023, found \"user:4\", and no line above names a user";
     assert_eq!(errors[0].to_string(), message);
 }
 

@@ -44,8 +44,8 @@ fn names_are_kept_in_words_and_left_out_of_records() {
 fn a_wrong_text_writes_nothing_and_says_where() {
     let (written, said, status) = run(&["records"], b"user x\nuser 300\nuser y\n");
     assert_eq!((written.len(), status), (0, 2));
-    let message = "mishantral-notation: standard input: line 1, column 6: expected a number up to 65535, found \"x\"\n\
-        mishantral-notation: standard input: line 3, column 6: expected a number up to 65535, found \"y\"\n";
+    let message = "mishantral-notation: standard input: line 1, column 6: expected a number up to 1023, found \"x\", and no line above names a user\n\
+        mishantral-notation: standard input: line 3, column 6: expected a number up to 1023, found \"y\", and no line above names a user\n";
     assert_eq!(said, message);
 }
 

@@ -10,12 +10,17 @@ use crate::why::{has_line, is_known, range, role_limit, say_with_seniors, unknow
 use crate::writer::numbers;
 use mishantral::Refused;
 use records::{Record, Reply, Set, LENGTH};
+use serde_json::{json, Value};
 use std::io::Write;
 
 /// Loads the policy and tells the verdict; with `strict` a warning is a refusal.
-pub fn check(policy: Policy, strict: bool, out: &mut dyn Write) -> Done {
+pub fn check(policy: Policy, strict: bool, as_json: bool, out: &mut dyn Write) -> Done {
     let desk = match Desk::open(&policy) {
         Ok(desk) => desk,
+        Err(refused) if as_json => {
+            writeln!(out, "{}", refused_object(&policy, refused))?;
+            return Ok(REFUSED);
+        }
         Err(refused) => {
             for line in refusal(&policy, refused) {
                 writeln!(out, "{line}")?;
@@ -24,6 +29,17 @@ pub fn check(policy: Policy, strict: bool, out: &mut dyn Write) -> Done {
         }
     };
     let warned = warnings(&desk);
+    let status = match strict && !warned.is_empty() {
+        true => REFUSED,
+        false => WELL,
+    };
+    if as_json {
+        let (file, contents) = (&policy.file, contents(&desk));
+        let object =
+            json!({"file": file, "accepted": true, "contents": contents, "warnings": warned});
+        writeln!(out, "{object}")?;
+        return Ok(status);
+    }
     for warning in &warned {
         writeln!(out, "{warning}")?;
     }
@@ -34,11 +50,20 @@ pub fn check(policy: Policy, strict: bool, out: &mut dyn Write) -> Done {
         contents(&desk),
         counted_warnings(warned.len())
     )?;
-    Ok(if strict && !warned.is_empty() {
-        REFUSED
-    } else {
-        WELL
-    })
+    Ok(status)
+}
+
+/// The refused record as an object: its place, from 1, its line, its reply, and what it clashes with.
+fn refused_object(policy: &Policy, Refused { reply, place }: Refused) -> Value {
+    let mut object = json!({
+        "file": policy.file, "accepted": false, "reply": reply.number(), "name": reply.name(), "record": place,
+    });
+    if let Some(before) = place.checked_sub(1) {
+        object["line"] = json!(policy.lines.get(before));
+        object["refused"] = json!(policy.line(before));
+        object["because"] = json!(clashes(policy, before, reply));
+    }
+    object
 }
 
 fn counted_warnings(count: usize) -> String {

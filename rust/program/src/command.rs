@@ -47,6 +47,7 @@ fn check() -> Command {
         )
         .args([policy(), tasks(), format()])
         .arg(flag("strict", "Exit with 1 where there is a warning"))
+        .arg(flag("json", "One object"))
         .after_help(concat!(
             "Example:\n",
             "  mishantral check examples/stuck_order/policy.txt\n",
@@ -107,6 +108,7 @@ fn test() -> Command {
                 .help("Test files"),
         )
         .arg(flag("update", "Write what was answered into the files, in the place of what was expected"))
+        .arg(flag("json", "One object a failure, and a last one with the counts"))
         .after_help(concat!(
             "Example:\n",
             "  mishantral test examples/*.test examples/asks/*.test\n",
@@ -175,8 +177,8 @@ fn write() -> Command {
         .long_about(
             "Loads a policy, makes the requests, and writes the policy as it is then: users, roles and permissions that came or went since the load \
              are in it or are not, sessions and orders are left out. Kinds rise, what is declared and assigned goes by its numbers, rules stay in their \
-             order; so the same policy always gives the same file, and what is written loads to the same policy. Text has the names that policy and \
-             requests give.\n\n\
+             order; so the same policy always gives the same file, and what is written loads to the same policy. Bindings to walls are left out \
+             too. Text has the names that policy and requests give.\n\n\
              With --journal, the desk is as its journal leaves it; a server may be at work meanwhile.",
         )
         .args([policy().required(false).required_unless_present("journal")])

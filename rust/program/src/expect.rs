@@ -14,6 +14,7 @@ use crate::stop::{wrong, Done, Stop, REFUSED, WELL};
 use crate::why::why;
 use crate::writer;
 use records::{Reply, LENGTH};
+use serde_json::{json, Value};
 use std::io::Write;
 use std::path::Path;
 
@@ -703,6 +704,22 @@ fn run<'a>(file: &'a str, text: &[u8]) -> Result<Run<'a>, Stop> {
     Ok(run)
 }
 
+/// A failure as an object.
+fn object(file: &str, failure: &Failure) -> Value {
+    let load = failure.what == "load";
+    let (expected, got) = match &failure.instead {
+        Some(instead) => (failure.what.clone(), instead.clone()),
+        None => (
+            answer_text(&failure.expected.got(), load),
+            answer_text(&failure.got, load),
+        ),
+    };
+    json!({
+        "file": file, "line": failure.line, "what": failure.what, "expected": expected, "got": got,
+        "because": failure.because,
+    })
+}
+
 fn told(file: &str, failure: &Failure, out: &mut dyn Write) -> std::io::Result<()> {
     if let Some(instead) = &failure.instead {
         let (line, what) = (failure.line, &failure.what);
@@ -731,17 +748,23 @@ struct Count {
 }
 
 /// Runs a file, tells what failed, or writes it into the file.
-fn test_file(file: &str, update: bool, count: &mut Count, out: &mut dyn Write) -> Result<(), Stop> {
+fn test_file(file: &str, how: How, count: &mut Count, out: &mut dyn Write) -> Result<(), Stop> {
+    let How { update, json } = how;
     let text = bytes_of(file)?;
     let run = run(file, &text)?;
     let (can, cannot): (Vec<Failure>, Vec<Failure>) =
         run.failures.into_iter().partition(|f| update && f.told);
     if !can.is_empty() {
         rewrite(file, &text, &can)?;
-        writeln!(out, "{file}: {} updated", can.len())?;
+        if !json {
+            writeln!(out, "{file}: {} updated", can.len())?;
+        }
     }
     for failure in &cannot {
-        told(file, failure, out)?;
+        match json {
+            true => writeln!(out, "{}", object(file, failure))?,
+            false => told(file, failure, out)?,
+        }
     }
     count.passed += run.passed;
     count.failed += cannot.len();
@@ -749,12 +772,21 @@ fn test_file(file: &str, update: bool, count: &mut Count, out: &mut dyn Write) -
     Ok(())
 }
 
-/// Runs the files; with `update` their expectations become what was answered.
-pub fn test(files: &[String], update: bool, out: &mut dyn Write) -> Done {
+/// How files are run.
+#[derive(Clone, Copy)]
+pub struct How {
+    /// Expectations become what was answered.
+    pub update: bool,
+    /// One object a line.
+    pub json: bool,
+}
+
+/// Runs the files and tells what failed.
+pub fn test(files: &[String], how: How, out: &mut dyn Write) -> Done {
     let mut count = Count::default();
     let mut wrongs = Vec::new();
     for file in files {
-        match test_file(file, update, &mut count, out) {
+        match test_file(file, how, &mut count, out) {
             Ok(()) => {}
             Err(Stop::Wrong(lines)) => wrongs.extend(lines),
             Err(quiet) => return Err(quiet),
@@ -771,7 +803,12 @@ pub fn test(files: &[String], update: bool, out: &mut dyn Write) -> Done {
     if passed + failed + updated == 0 {
         return wrong("there is nothing to test in these files");
     }
-    let updated = if update {
+    if how.json {
+        let object = json!({"passed": passed, "failed": failed, "updated": updated});
+        writeln!(out, "{object}")?;
+        return Ok(if failed == 0 { WELL } else { REFUSED });
+    }
+    let updated = if how.update {
         format!(", {updated} updated")
     } else {
         String::new()

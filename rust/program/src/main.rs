@@ -71,6 +71,18 @@ fn convert(given: &ArgMatches, out: &mut dyn Write) -> Done {
     };
     let mut file;
     let to_file = text(given, "output").filter(|&name| name != "-");
+    let inputs = ["policy", "tasks", "requests"].map(|name| text(given, name));
+    if let Some(name) = to_file {
+        if inputs
+            .iter()
+            .flatten()
+            .any(|input| files::is_same(name, input))
+        {
+            return wrong(format!(
+                "{name}: it is read here, and is not written over: -o takes another name"
+            ));
+        }
+    }
     let out = match to_file.map(|name| (name, File::create(name))) {
         None => out,
         Some((_, Ok(made))) => {
@@ -102,6 +114,9 @@ fn write(given: &ArgMatches, out: &mut dyn Write) -> Done {
     };
     let (file, to) = (text(given, "output"), text(given, "to"));
     let output = files::Output::new(file, to, given.get_flag("numbers"));
+    if desk.told.rules_of(18).next().is_some() {
+        report::report("bindings to walls are left out, as sessions and orders are: whoever loads this is bound to nothing");
+    }
     files::write(desk, &requests, &output, out)
 }
 
@@ -372,13 +387,20 @@ fn words(given: &ArgMatches, name: &str) -> Vec<String> {
 fn done(out: &mut dyn Write) -> Done {
     let given = command::command().get_matches();
     match given.subcommand() {
-        Some(("check", given)) => check::check(policy(given)?, given.get_flag("strict"), out),
+        Some(("check", given)) => {
+            let (strict, json) = (given.get_flag("strict"), given.get_flag("json"));
+            check::check(policy(given)?, strict, json, out)
+        }
         Some(("run", given)) => {
             run::run(policy(given)?, text(given, "requests"), style(given), out)
         }
         Some(("test", given)) => {
             let files = words(given, "files");
-            expect::test(&files, given.get_flag("update"), out)
+            let how = expect::How {
+                update: given.get_flag("update"),
+                json: given.get_flag("json"),
+            };
+            expect::test(&files, how, out)
         }
         Some(("convert", given)) => convert(given, out),
         Some(("diff", given)) => diff(given, out),
@@ -429,10 +451,12 @@ fn main() -> ExitCode {
         out.flush()?;
         Ok(status)
     });
-    match done {
+    let status = match done {
         Ok(status) => status.into(),
         Err(Stop::Quiet) => WELL.into(),
         Err(Stop::Wrong(lines)) => told(&mut out, lines, WRONG),
         Err(Stop::Refused(lines)) => told(&mut out, lines, REFUSED),
-    }
+    };
+    report::drained();
+    status
 }

@@ -717,8 +717,7 @@ fn requests_that_are_wrong_anywhere_are_not_begun() {
     let (told, wrong, status) = run(&["run", LISTING[0], &requests]);
     assert_eq!((told.as_str(), status), ("", 2));
     assert!(
-        wrong
-            .contains("line 2, column 9: expected a number up to 65535, found the end of the line"),
+        wrong.contains("line 2, column 9: expected a number up to 1023, found the end of the line"),
         "{wrong}"
     );
 }

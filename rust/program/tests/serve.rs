@@ -282,25 +282,24 @@ fn row_sum(sql: &Connection, number: i64) -> i64 {
     let of = |field: &str| one(field, number);
     let account = "SELECT account FROM request WHERE number = ?1";
     let account: String = sql.query_row(account, [number], |r| r.get(0)).unwrap();
-    let mut bytes = (one("sum", number - 1) as u32).to_le_bytes().to_vec();
-    for field in ["number", "at", "client"] {
-        bytes.extend(of(field).to_le_bytes());
+    let mut words: Vec<u64> = vec![one("sum", number - 1) as u64];
+    words.extend(["number", "at", "client"].map(|field| of(field) as u64));
+    words.push(account.len() as u64);
+    for chunk in account.as_bytes().chunks(8) {
+        let mut word = [0; 8];
+        word[..chunk.len()].copy_from_slice(chunk);
+        words.push(u64::from_le_bytes(word));
     }
-    bytes.extend((account.len() as i64).to_le_bytes());
-    bytes.extend(account.as_bytes());
-    bytes.extend(0i64.to_le_bytes());
-    bytes.extend(of("coalesce(user, -1)").to_le_bytes());
-    bytes.extend(16i64.to_le_bytes());
-    bytes.extend([of("kind") as u8, of("n") as u8]);
-    for field in ["a", "b", "c"] {
-        bytes.extend((of(field) as u16).to_le_bytes());
-    }
-    bytes.extend(of("m").to_le_bytes());
-    bytes.push(of("reply") as u8);
-    bytes.extend((of("place") as u16).to_le_bytes());
-    bytes.extend(of("coalesce(opening, 0)").to_le_bytes());
-    let whole = bytes.iter().fold(0xcbf2_9ce4_8422_2325u64, |sum, &byte| {
-        (sum ^ u64::from(byte)).wrapping_mul(0x100_0000_01b3)
+    // No gateway, the user, and the record's length.
+    words.extend([0, of("coalesce(user, -1)") as u64, 16]);
+    let fields = ["kind", "n", "a", "b", "c"].map(|field| of(field) as u64);
+    words.push(fields[0] | fields[1] << 8 | fields[2] << 16 | fields[3] << 32 | fields[4] << 48);
+    words.push(of("m") as u64);
+    words.push((of("reply") | of("place") << 8) as u64);
+    words.push(of("coalesce(opening, 0)") as u64);
+    let whole = words.iter().fold(0xcbf2_9ce4_8422_2325u64, |sum, word| {
+        let product = (sum ^ word).wrapping_mul(0x9e37_79b9_7f4a_7c15);
+        product ^ product >> 32
     });
     i64::from((whole >> 32) as u32 ^ whole as u32)
 }

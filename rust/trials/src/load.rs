@@ -212,6 +212,31 @@ pub fn load(program: &Path, time: Duration, folder: Option<&Path>) -> Result<(),
     Ok(())
 }
 
+/// How often two programs are measured in turn.
+const TURNS: usize = 5;
+
+/// Requests a second of one program by those of another, the two measured in turn: the median of the ratios.
+pub fn ratio(program: &Path, before: &Path, time: Duration) -> Result<(), String> {
+    println!("| | clients | median ratio | lowest | highest |\n|---|---:|---:|---:|---:|");
+    for way in &WAYS {
+        for clients in CLIENTS {
+            let mut ratios = Vec::new();
+            for _ in 0..TURNS {
+                let old = measured(before, way, clients, time)?.a_second;
+                let new = measured(program, way, clients, time)?.a_second;
+                ratios.push(new / old);
+            }
+            ratios.sort_by(f64::total_cmp);
+            let (low, middle, high) = (ratios[0], ratios[TURNS / 2], ratios[TURNS - 1]);
+            println!(
+                "| {} | {clients} | {middle:.2} | {low:.2} | {high:.2} |",
+                way.name
+            );
+        }
+    }
+    Ok(())
+}
+
 fn tables(all: &[(&Way, Vec<Measured>)]) -> String {
     let mut text = String::from("| | clients | requests a second | median µs | 99 % µs | worst ms | × no journal |\n|---|---:|---:|---:|---:|---:|---:|\n");
     let without = all

@@ -1,5 +1,6 @@
 //! The served desk tried out: `trials faults` kills it, fills its disk, tears its pages and sends it garbage; `trials load` measures it.
 
+mod attacks;
 mod client;
 mod full;
 mod garbage;
@@ -7,6 +8,7 @@ mod kills;
 mod load;
 mod scale;
 mod server;
+mod talk;
 mod torn;
 mod truth;
 
@@ -19,21 +21,25 @@ trials: the served desk tried out
 
   trials faults --program PATH [--kills N] [--torn N] [--seed N]
   trials load --program PATH [--seconds N] [--docs FOLDER]
+  trials ratio --program PATH --before PATH [--seconds N]
   trials memory --program PATH [--requests N]
   trials desks --program PATH [--seconds N]
 
-  faults           kills it, fills its disk, tears its files, sends it garbage; what was answered must be there, once
+  faults           kills it, fills its disk, tears its files, sends it garbage; what was answered must be there, once. Then fifteen
+                   faults that an attack found, each with the outcome that is wanted
   load             requests a second and waits, by clients, with and without a journal
+  ratio            the same of two programs in turn, five times: how many requests a second the first answers, by those of the other
   memory           the server's memory over ten million requests
   desks            what many desks in one server take and give
 
   --program PATH   the program `mishantral`
+  --before PATH    the program that it is compared with
   --seconds N      how long each figure is measured; 3 where it is missing
   --docs FOLDER    where load.md and load.svg are written
   --requests N     10000000 where it is missing
   --kills N        how often it is killed under load; 1000 where it is missing
   --torn N         how many torn files of each sort are tried; 200 where it is missing
-  --only WHAT      kills, full, torn or garbage alone
+  --only WHAT      kills, full, torn, garbage, attacks (faults 1 to 15) or the number of one of these alone
   --seed N         other random numbers
 
 Exit status: 0 every promise was kept; 1 one was not; 2 wrong use. tools/faults builds and runs it.
@@ -41,6 +47,7 @@ Exit status: 0 every promise was kept; 1 one was not; 2 wrong use. tools/faults 
 
 struct Options {
     program: PathBuf,
+    before: Option<PathBuf>,
     kills: usize,
     torn: usize,
     seed: u64,
@@ -53,6 +60,7 @@ struct Options {
 fn options(arguments: &[String]) -> Result<Options, String> {
     let mut options = Options {
         program: PathBuf::new(),
+        before: None,
         kills: 1000,
         torn: 200,
         seed: 1,
@@ -71,6 +79,7 @@ fn options(arguments: &[String]) -> Result<Options, String> {
         };
         match option.as_str() {
             "--program" => options.program = PathBuf::from(value),
+            "--before" => options.before = Some(PathBuf::from(value)),
             "--kills" => options.kills = number()? as usize,
             "--torn" => options.torn = number()? as usize,
             "--seed" => options.seed = number()?,
@@ -144,6 +153,17 @@ fn faults(options: &Options) -> bool {
     trial("full", "disk full", &|| filled(program));
     trial("torn", "torn writes", &|| ripped(program, options));
     trial("garbage", "garbage", &|| disturbed(program));
+    for (number, what, fault) in attacks::FAULTS {
+        let name = number.to_string();
+        let attacks = options.only.as_deref() == Some("attacks");
+        let chosen = options.only.is_none() || attacks || options.only == Some(name);
+        if chosen {
+            eprintln!("fault {number}: {what}");
+            let came = fault(program);
+            kept &= came.is_ok();
+            tell(&format!("{number}: {what}"), came);
+        }
+    }
     kept
 }
 
@@ -151,6 +171,11 @@ fn measured(what: &str, options: &Options) -> Result<(), String> {
     let (program, time) = (&options.program, Duration::from_secs(options.seconds));
     match what {
         "load" => load::load(program, time, options.docs.as_deref()),
+        "ratio" => {
+            let before = options.before.as_deref();
+            let before = before.ok_or("--before PATH is missing")?;
+            load::ratio(program, before, time)
+        }
         "memory" => {
             let (sizes, rate, bytes) = load::memory(program, options.requests)?;
             let sizes: Vec<String> = sizes.iter().map(|kb| load::grouped(*kb as f64)).collect();
@@ -172,7 +197,7 @@ fn measured(what: &str, options: &Options) -> Result<(), String> {
 fn done(arguments: &[String]) -> Result<bool, String> {
     match arguments.split_first() {
         Some((what, rest)) if what == "faults" => options(rest).map(|options| faults(&options)),
-        Some((what, rest)) if matches!(what.as_str(), "load" | "memory" | "desks") => {
+        Some((what, rest)) if matches!(what.as_str(), "load" | "ratio" | "memory" | "desks") => {
             let options = options(rest)?;
             let kept = measured(what, &options);
             if let Err(why) = &kept {
@@ -180,7 +205,7 @@ fn done(arguments: &[String]) -> Result<bool, String> {
             }
             Ok(kept.is_ok())
         }
-        _ => Err("faults, load, memory or desks".to_string()),
+        _ => Err("faults, load, ratio, memory or desks".to_string()),
     }
 }
 

@@ -41,6 +41,9 @@ pub struct How {
     pub journal: Option<PathBuf>,
     pub folder: PathBuf,
     pub more: Vec<String>,
+    /// What a shell does before it becomes the server, as `ulimit -n 64`; empty without a shell.
+    pub shell: String,
+    pub envs: Vec<(String, String)>,
 }
 
 impl How {
@@ -50,7 +53,15 @@ impl How {
             journal: Some(folder.join("desk.db")),
             folder: folder.to_path_buf(),
             more: Vec::new(),
+            shell: String::new(),
+            envs: Vec::new(),
         }
+    }
+
+    /// The same by a shell that does this first.
+    pub fn under(mut self, shell: &str) -> How {
+        self.shell = shell.to_string();
+        self
     }
 
     pub fn with(mut self, more: &[&str]) -> How {
@@ -61,7 +72,16 @@ impl How {
     /// Begins one, and does not wait for it.
     pub fn spawn(&self) -> Server {
         let socket = self.folder.join("desk.sock");
-        let mut command = Command::new(&self.program);
+        let mut command = match self.shell.as_str() {
+            "" => Command::new(&self.program),
+            shell => {
+                let mut command = Command::new("sh");
+                command.args(["-c", &format!("{shell}; exec \"$@\""), "sh"]);
+                command.arg(&self.program);
+                command
+            }
+        };
+        command.envs(self.envs.iter().map(|(name, value)| (name, value)));
         command.arg("serve").arg(self.folder.join("policy.txt"));
         if let Some(journal) = &self.journal {
             command.arg("--journal").arg(journal);
@@ -108,6 +128,30 @@ impl Server {
             std::thread::sleep(Duration::from_micros(500));
         }
         false
+    }
+
+    /// What it says on standard error from now to its end, in a thread of its own.
+    pub fn errors(&mut self) -> std::thread::JoinHandle<String> {
+        let from = self.child.stderr.take();
+        std::thread::spawn(move || {
+            let mut text = String::new();
+            if let Some(mut from) = from {
+                let _ = from.read_to_string(&mut text);
+            }
+            text
+        })
+    }
+
+    /// Waits for its end, for ten seconds at most: its exit status.
+    pub fn ended(&mut self) -> Option<i32> {
+        let began = Instant::now();
+        while began.elapsed() < Duration::from_secs(10) {
+            if let Ok(Some(status)) = self.child.try_wait() {
+                return status.code();
+            }
+            std::thread::sleep(Duration::from_millis(10));
+        }
+        None
     }
 
     /// Whether it is still there.

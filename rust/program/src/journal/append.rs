@@ -9,8 +9,9 @@ use crate::report::report;
 use crate::source::Policy;
 use crate::stop::Stop;
 use mishantral::State;
-use rusqlite::{params, Connection, ErrorCode, OpenFlags};
+use rusqlite::{params, Connection, ErrorCode, OpenFlags, Statement};
 use std::path::{Path, PathBuf};
+use std::sync::Arc;
 
 /// How sure a reply is of its place on the disk.
 #[derive(Clone, Copy, PartialEq, Eq, Debug)]
@@ -163,33 +164,12 @@ impl Journal {
     fn rows(&self, rows: &[Row]) -> rusqlite::Result<u32> {
         let mut sum = self.sum;
         let mut insert = self.connection.prepare_cached(tables::INSERT)?;
+        let mut before: Option<&Row> = None;
         for row in rows {
             sum = sum::of_row(sum, row);
-            let record = row.bytes.record();
-            let [kind, n, a, b, c, m] = match record {
-                Some(record) => fields(&record).map(Some),
-                None => [None; 6],
-            };
-            let cut = record.is_none().then_some(row.bytes.as_ref());
-            insert.execute(params![
-                row.number,
-                row.at,
-                row.client,
-                &*row.account,
-                row.via.as_deref(),
-                row.user,
-                kind,
-                n,
-                a,
-                b,
-                c,
-                m,
-                cut,
-                row.reply,
-                row.place,
-                row.opening,
-                sum
-            ])?;
+            bound(&mut insert, row, before, sum)?;
+            insert.raw_execute()?;
+            before = Some(row);
             for naming in &row.namings {
                 let mut insert = self.connection.prepare_cached(tables::INSERT_NAME)?;
                 insert.execute(params![
@@ -314,6 +294,39 @@ impl Journal {
         self.truncated();
         self.identity.kept().map(drop).map_err(Failed::Lost)
     }
+}
+
+/// Binds a row's columns. What is as in the row before stays bound: most of a group's rows have one time, client and account.
+fn bound(
+    insert: &mut Statement,
+    row: &Row,
+    before: Option<&Row>,
+    sum: u32,
+) -> rusqlite::Result<()> {
+    insert.raw_bind_parameter(1, row.number)?;
+    if before.is_none_or(|b| (b.at, b.client) != (row.at, row.client)) {
+        insert.raw_bind_parameter(2, row.at)?;
+        insert.raw_bind_parameter(3, row.client)?;
+    }
+    let same = |b: &Row| Arc::ptr_eq(&b.account, &row.account) && b.via == row.via;
+    if !before.is_some_and(same) {
+        insert.raw_bind_parameter(4, &*row.account)?;
+        insert.raw_bind_parameter(5, row.via.as_deref())?;
+    }
+    insert.raw_bind_parameter(6, row.user)?;
+    let record = row.bytes.record();
+    let cut = |row: &Row| row.bytes.record().is_none();
+    if record.is_none() || before.is_none_or(cut) {
+        let bytes = record.is_none().then_some(row.bytes.as_ref());
+        insert.raw_bind_parameter(13, bytes)?;
+    }
+    for (at, field) in (7..).zip(record.map_or([None; 6], |r| fields(&r).map(Some))) {
+        insert.raw_bind_parameter(at, field)?;
+    }
+    insert.raw_bind_parameter(14, row.reply)?;
+    insert.raw_bind_parameter(15, row.place)?;
+    insert.raw_bind_parameter(16, row.opening)?;
+    insert.raw_bind_parameter(17, sum)
 }
 
 fn failed(why: &rusqlite::Error) -> Failed {

@@ -1,5 +1,5 @@
-//! Checksums against damage, not against forgery: FNV-1a over 64 bits. Each row's has the one before it in it, so that a row that is
-//! changed, missing or put elsewhere shows.
+//! Checksums against damage, not against forgery: FNV-1a over 64 bits, eight bytes at a time. Each row's has the one before it in it, so
+//! that a row that is changed, missing or put elsewhere shows.
 
 use super::Row;
 use crate::names::Naming;
@@ -12,15 +12,28 @@ impl Sum {
         Sum(0xcbf2_9ce4_8422_2325)
     }
 
-    pub fn bytes(mut self, bytes: &[u8]) -> Sum {
-        for &byte in bytes {
-            self.0 = (self.0 ^ u64::from(byte)).wrapping_mul(0x100_0000_01b3);
+    /// One word of eight bytes. The product's upper half is folded in, so that every bit of a word reaches every bit of the sum.
+    fn word(self, word: u64) -> Sum {
+        let product = (self.0 ^ word).wrapping_mul(0x9e37_79b9_7f4a_7c15);
+        Sum(product ^ product >> 32)
+    }
+
+    pub fn bytes(self, bytes: &[u8]) -> Sum {
+        let words = bytes.chunks_exact(8);
+        let rest = words.remainder();
+        let sum = words.fold(self, |sum, word| {
+            sum.word(u64::from_le_bytes(word.try_into().unwrap_or_default()))
+        });
+        if rest.is_empty() {
+            return sum;
         }
-        self
+        let mut last = [0; 8];
+        last[..rest.len()].copy_from_slice(rest);
+        sum.word(u64::from_le_bytes(last))
     }
 
     pub fn number(self, number: i64) -> Sum {
-        self.bytes(&number.to_le_bytes())
+        self.word(number as u64)
     }
 
     /// Bytes with their length before them.
@@ -29,7 +42,7 @@ impl Sum {
     }
 
     pub fn naming(self, naming: &Naming) -> Sum {
-        self.bytes(naming.sort.word().as_bytes())
+        self.text(naming.sort.word().as_bytes())
             .number(naming.number.into())
             .text(&naming.name)
     }
@@ -47,8 +60,9 @@ impl Sum {
 /// A row's sum behind the one of the row before it.
 pub fn of_row(before: u32, row: &Row) -> u32 {
     let user = row.user.map_or(-1, i64::from);
-    let head = Sum::new().bytes(&before.to_le_bytes());
-    let sum = head
+    let replied = i64::from(row.reply) | i64::from(row.place) << 8;
+    let sum = Sum::new()
+        .number(before.into())
         .number(row.number)
         .number(row.at)
         .number(row.client)
@@ -56,8 +70,7 @@ pub fn of_row(before: u32, row: &Row) -> u32 {
         .text(row.via.as_deref().unwrap_or_default().as_bytes())
         .number(user)
         .text(row.bytes.as_ref())
-        .bytes(&[row.reply])
-        .bytes(&row.place.to_le_bytes())
+        .number(replied)
         .number(row.opening.unwrap_or(0));
     row.namings.iter().fold(sum, |sum, n| sum.naming(n)).half()
 }

@@ -152,19 +152,23 @@ pub fn accept(listener: &UnixListener, house: &Arc<House>) {
                 number += 1;
                 take(stream, number, house);
             }
+            // The system looks for a free descriptor before it waits for a client: whether there is one by then shows afterwards.
             Err(why) if is_full(&why) => {
                 drop(spared.take());
-                report(format!("a client could not be taken: {why}"));
-                if let Ok((stream, _)) = listener.accept() {
-                    turned_away(
-                        stream,
-                        "the server has no descriptor left for a further client",
-                    );
-                }
+                let taken = listener.accept();
                 spared = spare();
-                // Where even the spare one is gone, others may end meanwhile.
-                if spared.is_none() {
-                    thread::sleep(Duration::from_millis(50));
+                match (taken, &spared) {
+                    (Ok((stream, _)), Some(_)) => {
+                        number += 1;
+                        take(stream, number, house);
+                    }
+                    (Ok((stream, _)), None) => {
+                        let told = "the server has no descriptor left for a further client";
+                        turned_away(stream, told);
+                        report(format!("a client could not be taken: {why}"));
+                        spared = spare();
+                    }
+                    (Err(_), _) => thread::sleep(Duration::from_millis(50)),
                 }
             }
             Err(why) => {

@@ -122,10 +122,25 @@ impl Client<'_> {
     fn lines(mut self) -> io::Result<()> {
         let served = self.each_line();
         // Whoever has not gone is told why there is no more.
-        if let Some(why) = self.door.ended() {
+        let broken = served
+            .as_ref()
+            .is_err_and(|why| why.kind() == io::ErrorKind::Other);
+        if let Some(why) = self.why_ended(broken) {
             let _ = writeln!(self.out, "wrong: {why}");
         }
         served
+    }
+
+    /// Why the desk has ended, if it has. One that broke off in the middle says so in a moment.
+    fn why_ended(&self, broken: bool) -> Option<String> {
+        for _ in 0..50 {
+            let why = self.door.ended();
+            if why.is_some() || !broken {
+                return why;
+            }
+            std::thread::sleep(Duration::from_millis(10));
+        }
+        Some(ended().to_string())
     }
 
     fn each_line(&mut self) -> io::Result<()> {

@@ -18,7 +18,7 @@ pub use question::Allowed;
 
 use crate::journal::{self, Journal, Live, Saved};
 use crate::names::Sort;
-use crate::report::report;
+use crate::report::{self, report};
 use crate::source::Policy;
 use crate::stop::{wrong, Done, Stop, REFUSED, WELL};
 use accept::{House, Limits};
@@ -70,6 +70,7 @@ pub fn serve(options: &Options, out: &mut dyn Write) -> Done {
     // Nobody may read what is told here; that ends nothing.
     let mut tell = |line: &str| drop(writeln!(out, "{line}").and_then(|()| out.flush()));
     let ends = ends_asked_for().map_err(|why| cannot("the signals cannot be waited for", &why))?;
+    report::in_background().map_err(|why| threads(&why))?;
     let pool = Pool::new(options.questions).map_err(|why| threads(&why))?;
     let gate = gate(options)?;
     let (mut desks, mut served) = (BTreeMap::new(), Vec::new());
