@@ -88,7 +88,7 @@ load-reply : {bytes : Bytes} {x y : Buffers} {reply : ℕ} → Load bytes x y re
 load-reply (load-within d) = d .replies
 load-reply {bytes} {x} (load-exported-here {n} d) = first-byte _ _ n (load-listed bytes x) (d .answers)
 
-loads : {bytes : Bytes} {x y : Buffers} {reply : ℕ} → Load bytes x y reply → fit x ≡ true → (reply ≡ load bytes .reply) × (tablesOf y ≡ lowerOf (load bytes .tables))
+pub loads : {bytes : Bytes} {x y : Buffers} {reply : ℕ} → Load bytes x y reply → fit x ≡ true → (reply ≡ load bytes .reply) × (tablesOf y ≡ lowerOf (load bytes .tables))
 loads l f = (load-reply l ∙ rw f, as-load l .1 .tables ∙ rw f)
 
 place-of : {bytes : Bytes} {p s p′ s′ : List ℕ} {r : Reply} {i : ℕ} → lower.fit p s ≡ true → lower.Loads bytes p s p′ s′ r i → i ≡ load bytes .place
@@ -141,13 +141,13 @@ module _ {policy : Bytes} {x y z : Buffers} {reply : ℕ} {said : List Said} (l 
       go true e = refl
       go false e = let m : reply ≡ ROOM = load-reply l ∙ rw e in absurd (omega arith)
 
-  accepted : load policy .reply ≡ GRANTED
+  pub accepted : load policy .reply ≡ GRANTED
   accepted = sym (loads l fits .0) ∙ g
 
-  abbrev ss : List Bytes
+  abbrev pub ss : List Bytes
   ss = asked (λ y. y) (fitting (λ y. y) said)
 
-  ran : (fitting (λ y. y) said ≡ run lowerRequest (lowerOf (load policy .tables)) ss) × (tablesOf z ≡ lowerAfter policy ss) × (fit z ≡ true)
+  pub ran : (fitting (λ y. y) said ≡ run lowerRequest (lowerOf (load policy .tables)) ss) × (tablesOf z ≡ lowerAfter policy ss) × (fit z ≡ true)
   ran = ran-on fits l c
 
   heard : outside policy (run lowerRequest (lowerOf (load policy .tables)) ss) ≡ outside policy said
