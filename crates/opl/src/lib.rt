@@ -19,7 +19,16 @@ use opl_reader::prolog;
 use opl_spaces::WORDS;
 use opl_text::Step;
 
-// The reply; with 21, the byte's place from 1 and which text, 1 or 2; the number of records.
+// Replies of document 01, and those that document 02 adds for texts.
+pub const GRANTED: u64 = 0;
+
+pub const ROOM: u64 = 1;
+
+pub const TEXT: u64 = 21;
+
+pub const NAMES: u64 = 22;
+
+// The reply; with TEXT, the byte's place from 1 and which text, 1 or 2; the number of records.
 pub struct Answer {
     pub reply: u64,
     pub place: u64,
@@ -33,7 +42,7 @@ fn bad_text(at: usize, which: u64) -> Answer
     ensures { λ r. ⌜ r ≡ badText at which ⌝ }
 {
     Answer {
-        reply: 21,
+        reply: TEXT,
         place: at as u64 + 1,
         which,
         count: 0,
@@ -59,23 +68,23 @@ fn records(s: &[u8], t: &[u8], out: &mut [u8], w: &mut [u64], from: usize) -> An
 {
     let l = check_lines(s, t, w);
     let Counted::Lines(n) = l else {
-        return refused(22);
+        return refused(NAMES);
     };
     let mut counts = [0; 17];
     let k = check_tags(s, t, w, &mut counts, from);
     let Judged::Records(j) = k else {
-        return refused(22);
+        return refused(NAMES);
     };
     counts[6] = n;
     let b = begin(&mut counts, out.len() / 16);
     let Sum::Total(total) = b else {
-        return refused(1);
+        return refused(ROOM);
     };
     let first = counts[6];
     write_lines(s, t, w, out, first);
     write_all(s, t, w, &mut counts, out, from, j);
     Answer {
-        reply: 0,
+        reply: GRANTED,
         place: 0,
         which: 0,
         count: total as u64,
@@ -88,14 +97,14 @@ fn accepted(s: &[u8], t: &[u8], out: &mut [u8], w: &mut [u64]) -> Answer
     ensures { λ r. ⌜ Gives (acceptedAnswer (length (now (w .entry))) (now (s .entry)) (now (t .entry)) (now (out .entry))) (now (out .entry)) (now (out .exit)) r ⌝ }
 {
     if w.len() != WORDS {
-        return refused(1);
+        return refused(ROOM);
     }
     let p = prolog(s);
     let Step::Next(from) = p else {
-        return refused(22);
+        return refused(NAMES);
     };
     if !name_all(s, t, w, from) {
-        return refused(22);
+        return refused(NAMES);
     }
     records(s, t, out, w, from)
 }
@@ -122,7 +131,7 @@ pub fn translate(s: &[u8], t: &[u8], out: &mut [u8], w: &mut [u64]) -> Answer
 fn shown(reply: u64, place: u64, count: u64) -> u64
     ensures { λ r. ⌜ r ≡ shownOf reply place count ⌝ }
 {
-    if reply == 21 {
+    if reply == TEXT {
         return place;
     }
     count

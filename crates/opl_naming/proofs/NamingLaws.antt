@@ -15,7 +15,8 @@ use Rattle.paper_opl.specs.Walk.{tags}
 use Rattle.paper_opl.proofs.Inversion.{on-test}
 use Rattle.opl_names.specs.Table.{namesIn, Sound, Emptied}
 use Rattle.opl_names.specs.declared.Found.{Found}
-use Rattle.opl_table.specs.Numbers.{nameOf, digit}
+use Rattle.opl_table.specs.Numbers.{OBJECT-ID, nameOf}
+use Rattle.opl_table.proofs.Cases.{Beside, last}
 use Rattle.opl_tags.specs.Tags.{givenAt, Valued, nextTag, walkAt, Opens, ReadsTag}
 use Rattle.opl_tags.specs.declared.Tag.{Tag}
 use Rattle.opl_tags.specs.declared.Tag.the-variants.{Start, End, Halt}
@@ -34,15 +35,10 @@ use Rattle.opl_turns.proofs.MeaningLaws.{meant, declares-by}
 use Rattle.opl_turns.proofs.ListLaws.{read-ended, read-stands, read-begun, count-at, entered-table, entered-length, listing-first, listing-led, listing-passed, listing-entered}
 use Rattle.opl_naming.specs.Naming.{Keeps, Onwards, LongFrom, Goes, AllSound, AllFilled, Fills, AllEmptied, declaredOf, LongName, Names}
 
--- the attributes of the five spaces, in a word
-pub attribute-is : (i : ℕ) → i < 5 → digit 250068088373 i ≡ attributeOf i
+-- the last of the five spaces is left
+pub last-attribute : (i : ℕ) → i < 5 → Beside 4 i → OBJECT-ID ≡ attributeOf i
 unfolding attributeOf
-attribute-is zero h = refl
-attribute-is (suc zero) h = refl
-attribute-is (suc (suc zero)) h = refl
-attribute-is (suc (suc (suc zero))) h = refl
-attribute-is (suc (suc (suc (suc zero)))) h = refl
-attribute-is (suc (suc (suc (suc (suc i))))) h = absurd (omega arith)
+last-attribute i h b = rw (last 4 i h b)
 
 -- ---- One tag.
 

@@ -13,11 +13,21 @@ ghost use Rattle.opl_naming.specs.Naming.{AllSound, Goes, Fills, AllEmpt
 use opl_declared::Walked;
 use opl_declared::declare_lines;
 use opl_spaces::LIST;
+use opl_spaces::LONGEST_NAME;
+use opl_spaces::SPACES;
+use opl_spaces::TASKS;
+use opl_spaces::TEMPLATES;
 use opl_spaces::declare;
+use opl_table::OBJECT;
+use opl_table::OBJECT_ID;
+use opl_table::OPERATION_ID;
+use opl_table::PERMISSION_ID;
+use opl_table::ROLE_ID;
+use opl_table::USER;
+use opl_table::USER_ID;
 use opl_tags::Tag;
 use opl_tags::read_tag;
-use opl_tags::value_of;
-use opl_turns::digit;
+use opl_tags::value_place;
 use opl_turns::element;
 use opl_turns::enter;
 
@@ -26,7 +36,13 @@ fn attribute(i: usize) -> u64
     requires { ⌜ i < 5 ⌝ }
     ensures { λ r. ⌜ r ≡ attributeOf i ⌝ }
 {
-    digit(0x3a39383635, i as u64)
+    match i {
+        0 => USER_ID,
+        1 => ROLE_ID,
+        2 => PERMISSION_ID,
+        3 => OPERATION_ID,
+        _ => OBJECT_ID,
+    }
 }
 
 // The next tag from `at` on: it is listed, and if it declares a name, that name goes into its space.
@@ -41,18 +57,17 @@ fn declare_tag(s: &[u8], w: &mut [u64], at: usize) -> Walked
         Tag::Start { name, end } => {
             let e = element(&s[name..end]);
             enter(s, w, end, e);
-            let id = e as usize;
-            if id < 12 {
+            if e < USER {
                 return Walked::Next(end);
             }
-            if 16 < id {
+            if OBJECT < e {
                 return Walked::Next(end);
             }
-            let i = id - 12;
-            let v = value_of(s, end, attribute(i));
+            let i = (e - USER) as usize;
+            let v = value_place(s, end, attribute(i));
             let from = v.from;
             let size = v.to - from;
-            if 64 < size {
+            if LONGEST_NAME < size {
                 return Walked::Long;
             }
             declare(s, w, i, from, size);
@@ -90,7 +105,7 @@ fn empty_all(w: &mut [u64])
     ensures { λ _. ⌜ AllEmptied (now (w .entry)) (now (w .exit)) ⌝ }
 {
     let mut i = 0;
-    while i < 7 {
+    while i < SPACES {
         opl_spaces::empty(w, i);
         i += 1;
     }
@@ -106,8 +121,8 @@ pub fn name_all(s: &[u8], t: &[u8], w: &mut [u64], from: usize) -> bool
     if !declare_tags(s, w, from) {
         return false;
     }
-    if !declare_lines(t, w, 5) {
+    if !declare_lines(t, w, TASKS) {
         return false;
     }
-    declare_lines(t, w, 6)
+    declare_lines(t, w, TEMPLATES)
 }

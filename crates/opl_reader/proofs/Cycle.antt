@@ -14,7 +14,7 @@ use Rattle.paper_opl.specs.Tree.{Opened, Inside, Given, Elements, attributes, o
 use Rattle.paper_opl.specs.Tree.Elements.{nothing, node}
 use Rattle.paper_opl.proofs.Inversion.{bad≢got, got-rest, got-value}
 use Rattle.paper_opl.proofs.Conforms.{row-name}
-use Rattle.paper_opl.proofs.Counts.{below, misc-below, opening-below, element-below, content-enough, ready, attributes-ready}
+use Rattle.paper_opl.proofs.Counts.{below, attributes-below, misc-below, opening-below, element-below, content-enough, ready, attributes-ready}
 use Rattle.opl_text.specs.declared.Step.{Step}
 use Rattle.opl_text.specs.declared.Step.the-variants.{Next, Bad}
 use Rattle.opl_text.specs.Steps.{Reads, stepOf, placeOf}
@@ -83,6 +83,7 @@ record Begun (d : ℕ) (left : List Child) (t : Text) (c : Opened) (z : Text) : 
   deep : 0 < d
   body-is : forget (element table d (c .name) behind) ≡ forget (body (element table (d - 1)) (rowIn table (c .name)) [] z)
   ready-is : 0 < length z
+  shorter-is : length z < suc (length behind)
 
 tag-begun : (d : ℕ) (left : List Child) (t : Text) (c : Opened) (u z : Text) (gs : List Given) → opening left t ≡ got c u
     → attributes (length u) (rowIn table (c .name) .attributes) u ≡ got gs z → Begun (suc d) left t c z
@@ -95,6 +96,7 @@ tag-begun d left t c u z gs e q =
       deep = omega arith;
       body-is = rw (q, n) (body-forgets (element table d) (rowIn table (c .name)) gs z);
       ready-is = subst (λ (x : Read (List Given)). ready x) q (attributes-ready (length u) (rowIn table (c .name) .attributes) u);
+      shorter-is = below-got (attributes (length u) (rowIn table (c .name) .attributes) u) gs z (suc (length u)) (attributes-below (length u) (rowIn table (c .name) .attributes) u) q;
     }
 
 nothing-deep : (b : Opened) (u z : Text) (c : Opened) → tagged 0 b u ≡ got c z → ⊥
@@ -128,6 +130,18 @@ pub start-ready : (d : ℕ) (left : List Child) (t : Text) (c : Opened) (z : Tex
 start-ready d left t c z e = begun d left t c z e .ready-is
 
 -- ---- Content.
+
+-- an element at k, in content that goes on at i: there is depth left, and the text from k on is shorter and not at its end
+pub record Falls (s : Text) (d i k : ℕ) : Type 0 where
+  pub deep : 0 < d
+  pub room : k + 1 ≤ length s
+  pub past : i < k
+
+-- content that goes on at n, behind such an element
+pub record Onward (s : Text) (d id l i more n : ℕ) : Type 0 where
+  pub inside : n ≤ length s
+  pub past : i < n
+  pub rest : contentRead d id l (drop i s) ≡ contentRead d id more (drop n s)
 
 -- what a turn does behind white space and comments
 turn : ℕ → ℕ → ℕ → ℕ → Text → Read Elements
@@ -192,11 +206,22 @@ module _ (s : Text) (d id l i : ℕ) where
             start : Begun d (leftOf l) (drop j s) (record { name = nameOf child; left = leftOf more }) (drop k s)
             start = begun d (leftOf l) (drop j s) (record { name = nameOf child; left = leftOf more }) (drop k s) (sym (a .read-is) ∙ rw z)
 
-            pub start-room : k + 1 ≤ length s
+            start-room : k + 1 ≤ length s
             start-room = let h = start .ready-is in let u = length-drop k s in omega arith
 
-            pub start-deep : 0 < d
-            start-deep = start .deep
+            start-past : i < k
+            start-past =
+                let f = below-got (misc (length (drop i s)) (drop i s)) tt (drop j s) (suc (length (drop i s))) (misc-below (length (drop i s)) (drop i s)) passed in
+                let g = below-got (opening (leftOf l) (drop j s)) (record { name = nameOf child; left = leftOf more }) (start .behind) (length (drop j s)) (opening-below (leftOf l) (drop j s)) (start .opened-is) in
+                let h = start .shorter-is in
+                let r = start-room in
+                let u = length-drop k s in
+                let v = length-drop i s in
+                omega arith
+
+            -- the element in it is read with less depth left, and less text
+            pub falls : Falls s d i k
+            falls = record { deep = start .deep; room = start-room; past = start-past }
 
             inner : contentRead d id l (drop i s) ≡ forget (after (element table d (nameOf child) (start .behind)) (λ e z.
                 after (content (element table d) (length (drop i s)) (nameOf id) (leftOf more) z) (λ es y. got (node (nameOf child) (e .given) (e .elements) es) y)))
@@ -218,7 +243,7 @@ module _ (s : Text) (d id l i : ℕ) where
                 read : forget (element table d (nameOf child) (start .behind)) ≡ got tt (drop n s)
                 read = judged ∙ rw c
 
-                pub on-inside : n ≤ length s
+                on-inside : n ≤ length s
                 on-inside = subst (λ (k : Step). placeOf k ≤ length s) c (b .inside)
 
                 -- the text behind the element is shorter
@@ -229,10 +254,10 @@ module _ (s : Text) (d id l i : ℕ) where
                     let h = below-forget (element table d (nameOf child) (start .behind)) (drop n s) (suc (length (start .behind))) (element-below table d (nameOf child) (start .behind)) read in
                     omega arith
 
-                pub past : i < n
+                past : i < n
                 past = let h = shorter in let u = length-drop n s in let v = length-drop i s in let o = on-inside in omega arith
 
-                pub goes-on : contentRead d id l (drop i s) ≡ contentRead d id more (drop n s)
+                goes-on : contentRead d id l (drop i s) ≡ contentRead d id more (drop n s)
                 unfolding contentRead
                 goes-on =
                     inner ∙ on-got (element table d (nameOf child) (start .behind)) (drop n s) read (λ e z.
@@ -240,6 +265,9 @@ module _ (s : Text) (d id l i : ℕ) where
                     (forget (content (element table d) (suc (length (drop n s))) (nameOf id) (leftOf more) (drop n s)))
                     (λ e _. forget-on (content (element table d) (length (drop i s)) (nameOf id) (leftOf more) (drop n s)) (λ es. node (nameOf child) (e .given) (e .elements) es)
                     ∙ ap (λ x. forget x) (content-enough (element table d) (element-below table d) (length (drop i s)) (suc (length (drop n s))) (nameOf id) (leftOf more) (drop n s) shorter (omega arith)))
+
+                pub onward : Onward s d id l i more n
+                onward = record { inside = on-inside; past = past; rest = goes-on }
 
 -- ---- An element, from the end of its start tag on.
 

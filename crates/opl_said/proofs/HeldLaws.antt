@@ -12,15 +12,13 @@ use Rattle.paper_opl.specs.Tree.{Tag, Elements, tagsOf, document}
 use Rattle.paper_opl.specs.Tree.Elements.{nothing, node}
 use Rattle.paper_opl.specs.Naming.{spaceOf}
 use Rattle.paper_opl.specs.Walk.{tags, namesIn}
-use Rattle.paper_opl.proofs.Cardinalities.{Small, AllSmall, document-small, value-small}
+use Rattle.paper_opl.proofs.Cardinalities.{Small, AllSmall, document-small}
 use Rattle.paper_opl.proofs.Tags.{tags-are}
 use Rattle.opl_names.specs.Table.{Sound, namesIn as namesHeld}
-use Rattle.opl_tags.specs.Tags.{givenAt}
 use Rattle.opl_spaces.specs.Spaces.{limitOf, scratchWords, tableOf}
 use Rattle.opl_declared.specs.Names.{declaredAt, lineNames, filled}
 use Rattle.opl_declared.proofs.FilledLaws.{numbers-are, users-are, roles-are, permissions-are, operations-are, objects-are}
 use Rattle.opl_declared.proofs.LineNames.{tasks-are, templates-are}
-use Rattle.opl_turns.specs.Turning.{Cardinal}
 use Rattle.opl_said.specs.Said.{spaceAt, allNames, Held}
 
 -- ---- Cardinalities.
@@ -35,9 +33,6 @@ tree-cardinal (node w gs inside behind) h =
 
 pub all-cardinal : (s : Text) (es : Elements) (r : Text) → document s ≡ got es r → AllCardinal (tags s)
 all-cardinal s es r e = rw (tags-are s es r e) (tree-cardinal es (document-small s es r e))
-
-pub cardinal-at : (s : Text) (end : ℕ) → Every Small (givenAt s end) → Cardinal s end
-cardinal-at s end h = value-small (givenAt s end) h
 
 -- ---- The spaces.
 module _ (s t : Text) where

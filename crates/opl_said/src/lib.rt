@@ -8,13 +8,38 @@ ghost use Rattle.paper_lower.specs.Sets.{plus};
 ghost use Rattle.paper_opl.specs.Tree.{decimal as decimalOf};
 ghost use Rattle.paper_opl.specs.Naming.{numberIn};
 ghost use Rattle.paper_opl.specs.Walk.{recordSaid};
-ghost use Rattle.opl_spaces.specs.Spaces.{limitOf, scratchWords, listOf};
+ghost use Rattle.opl_table.specs.Numbers.{OPERATION, OBJECT, PARTITION-TASK, PERMISSION-ID, OPERATION-ID, OBJECT-ID, TASK-ID};
+ghost use Rattle.opl_spaces.specs.Spaces.{PERMISSIONS, OPERATIONS, OBJECTS, TASKS, limitOf, scratchWords, listOf};
 ghost use Rattle.opl_turns.specs.Meaning.{innerOf};
 ghost use Rattle.opl_turns.specs.Listing.{Leads};
 ghost use Rattle.opl_turns.specs.Turning.{Cardinal, sayingAt};
 ghost use Rattle.opl_said.specs.Said.{spaceAt, allNames, Holds, NumberIs, cardinalityAt, SaysIt};
 ghost use Rattle.opl_said.specs.Forms.{fieldAt, Inner, MemberIs, NextIs, firstAt, setAt, bitsOf, oneSaid, twoSaid, threeSaid, setSaid, partitioningOf, FieldsAre};
 use opl_names::Found;
+use opl_spaces::BY_TAGS;
+use opl_spaces::OBJECTS;
+use opl_spaces::OPERATIONS;
+use opl_spaces::PERMISSIONS;
+use opl_spaces::ROLES;
+use opl_spaces::TASKS;
+use opl_spaces::TEMPLATES;
+use opl_spaces::USERS;
+use opl_table::BOUND_TASK_ID;
+use opl_table::CARDINALITY;
+use opl_table::CRITICAL_ROLE;
+use opl_table::CRITICAL_ROLES;
+use opl_table::CRITICAL_TASK;
+use opl_table::OBJECT;
+use opl_table::OBJECT_ID;
+use opl_table::OPERATION;
+use opl_table::OPERATION_ID;
+use opl_table::PARTITION_TASK;
+use opl_table::PERMISSION_ID;
+use opl_table::PREREQ_TASK_ID;
+use opl_table::ROLE_ID;
+use opl_table::TASK_ID;
+use opl_table::TEMPLATE_ID;
+use opl_table::USER_ID;
 use opl_tags::value_of;
 use opl_turns::Met;
 use opl_turns::meet;
@@ -56,7 +81,7 @@ pub fn number_of(s: &[u8], t: &[u8], w: &[u64], i: usize, name: &[u8]) -> Found
     requires { ⌜ Holds (now s) (now t) (now w) × (i < 7) ⌝ }
     ensures { λ r. ⌜ NumberIs (limitOf i) (numberIn (spaceAt (allNames (now (s .entry)) (now (t .entry))) i) (now (name .entry))) r ⌝ }
 {
-    if i < 5 {
+    if i < BY_TAGS {
         return opl_spaces::number(s, w, i, name);
     }
     opl_spaces::number(t, w, i, name)
@@ -67,10 +92,7 @@ fn field(s: &[u8], t: &[u8], w: &[u64], end: usize, id: u64, i: usize) -> Found
     requires { ⌜ Holds (now s) (now t) (now w) × ((end ≤ length (now s)) × (i < 7)) ⌝ }
     ensures { λ r. ⌜ NumberIs (limitOf i) (fieldAt (now (s .entry)) (now (t .entry)) end id i) r ⌝ }
 {
-    let v = value_of(s, end, id);
-    let from = v.from;
-    let to = v.to;
-    number_of(s, t, w, i, &s[from..to])
+    number_of(s, t, w, i, value_of(s, end, id))
 }
 
 // ---- Cardinalities.
@@ -101,10 +123,7 @@ fn cardinality(s: &[u8], end: usize) -> u64
     requires { ⌜ (end ≤ length (now s)) × Cardinal (now s) end ⌝ }
     ensures { λ r. ⌜ r ≡ cardinalityAt (now (s .entry)) end ⌝ }
 {
-    let v = value_of(s, end, 59);
-    let from = v.from;
-    let to = v.to;
-    decimal(&s[from..to])
+    decimal(value_of(s, end, CARDINALITY))
 }
 
 // ---- The elements in an element.
@@ -113,7 +132,12 @@ fn cardinality(s: &[u8], end: usize) -> u64
 fn inner(id: u64) -> bool
     ensures { λ r. ⌜ r ≡ innerOf id ⌝ }
 {
-    (id == 15) | (id == 16) | (id == 24) | (id == 25) | (id == 36) | (id == 40)
+    (id == OPERATION)
+        | (id == OBJECT)
+        | (id == CRITICAL_ROLES)
+        | (id == CRITICAL_ROLE)
+        | (id == CRITICAL_TASK)
+        | (id == PARTITION_TASK)
 }
 
 // The tag at `at`, where such elements are looked for.
@@ -275,9 +299,9 @@ fn two(s: &[u8], t: &[u8], w: &[u64], end: usize, id: u64, i: usize, id2: u64, i
 
 fn counted(s: &[u8], t: &[u8], w: &[u64], end: usize) -> Fields
     requires { ⌜ Holds (now s) (now t) (now w) × ((end ≤ length (now s)) × Cardinal (now s) end) ⌝ }
-    ensures { λ r. ⌜ FieldsAre (oneSaid (cardinalityAt (now (s .entry)) end) (fieldAt (now (s .entry)) (now (t .entry)) end 61 5)) r ⌝ }
+    ensures { λ r. ⌜ FieldsAre (oneSaid (cardinalityAt (now (s .entry)) end) (fieldAt (now (s .entry)) (now (t .entry)) end TASK-ID TASKS)) r ⌝ }
 {
-    let f = field(s, t, w, end, 61, 5);
+    let f = field(s, t, w, end, TASK_ID, TASKS);
     let Found::At(a) = f else {
         return Fields::Unnamed;
     };
@@ -292,17 +316,17 @@ fn counted(s: &[u8], t: &[u8], w: &[u64], end: usize) -> Fields
 
 fn permission(s: &[u8], t: &[u8], w: &[u64], end: usize, entry: usize) -> Fields
     requires { ⌜ Holds (now s) (now t) (now w) × ((end ≤ length (now s)) × Leads (now s) (listOf (now w)) entry end) ⌝ }
-    ensures { λ r. ⌜ FieldsAre (threeSaid (fieldAt (now (s .entry)) (now (t .entry)) end 56 2) (firstAt (now (s .entry)) (now (t .entry)) end 15 57 3) (firstAt (now (s .entry)) (now (t .entry)) end 16 58 4)) r ⌝ }
+    ensures { λ r. ⌜ FieldsAre (threeSaid (fieldAt (now (s .entry)) (now (t .entry)) end PERMISSION-ID PERMISSIONS) (firstAt (now (s .entry)) (now (t .entry)) end OPERATION OPERATION-ID OPERATIONS) (firstAt (now (s .entry)) (now (t .entry)) end OBJECT OBJECT-ID OBJECTS)) r ⌝ }
 {
-    let f = field(s, t, w, end, 56, 2);
+    let f = field(s, t, w, end, PERMISSION_ID, PERMISSIONS);
     let Found::At(a) = f else {
         return Fields::Unnamed;
     };
-    let g = first_member(s, t, w, 15, 57, 3, end, entry);
+    let g = first_member(s, t, w, OPERATION, OPERATION_ID, OPERATIONS, end, entry);
     let Found::At(b) = g else {
         return Fields::Unnamed;
     };
-    let h = first_member(s, t, w, 16, 58, 4, end, entry);
+    let h = first_member(s, t, w, OBJECT, OBJECT_ID, OBJECTS, end, entry);
     let Found::At(c) = h else {
         return Fields::Unnamed;
     };
@@ -345,12 +369,23 @@ fn of_set(
 
 fn partition(s: &[u8], t: &[u8], w: &[u64], number: u64, end: usize, entry: usize) -> Fields
     requires { ⌜ Holds (now s) (now t) (now w) × ((end ≤ length (now s)) × Leads (now s) (listOf (now w)) entry end) ⌝ }
-    ensures { λ r. ⌜ FieldsAre (setSaid 0 (partitioningOf number) (setAt (now (s .entry)) (now (t .entry)) end 40 61 5)) r ⌝ }
+    ensures { λ r. ⌜ FieldsAre (setSaid 0 (partitioningOf number) (setAt (now (s .entry)) (now (t .entry)) end PARTITION-TASK TASK-ID TASKS)) r ⌝ }
 {
     if 16 <= number {
         return Fields::Unnamed;
     }
-    of_set(s, t, w, 0, number, 40, 61, 5, end, entry)
+    of_set(
+        s,
+        t,
+        w,
+        0,
+        number,
+        PARTITION_TASK,
+        TASK_ID,
+        TASKS,
+        end,
+        entry,
+    )
 }
 
 fn sized(
@@ -384,21 +419,21 @@ pub fn said(
     ensures { λ r. ⌜ SaysIt kind (recordSaid (allNames (now (s .entry)) (now (t .entry))) (sayingAt (now (s .entry)) kind number end)) r ⌝ }
 {
     match kind {
-        1 => one(s, t, w, end, 53, 0),
-        2 => one(s, t, w, end, 54, 1),
+        1 => one(s, t, w, end, USER_ID, USERS),
+        2 => one(s, t, w, end, ROLE_ID, ROLES),
         3 => permission(s, t, w, end, entry),
-        4 => two(s, t, w, end, 53, 0, 54, 1),
-        5 => two(s, t, w, end, 54, 1, 56, 2),
-        7 => two(s, t, w, end, 61, 5, 54, 1),
-        8 => two(s, t, w, end, 61, 5, 56, 2),
-        9 => sized(s, t, w, 25, 54, 1, end, entry),
-        10 => sized(s, t, w, 25, 54, 1, end, entry),
-        11 => sized(s, t, w, 36, 61, 5, end, entry),
+        4 => two(s, t, w, end, USER_ID, USERS, ROLE_ID, ROLES),
+        5 => two(s, t, w, end, ROLE_ID, ROLES, PERMISSION_ID, PERMISSIONS),
+        7 => two(s, t, w, end, TASK_ID, TASKS, ROLE_ID, ROLES),
+        8 => two(s, t, w, end, TASK_ID, TASKS, PERMISSION_ID, PERMISSIONS),
+        9 => sized(s, t, w, CRITICAL_ROLE, ROLE_ID, ROLES, end, entry),
+        10 => sized(s, t, w, CRITICAL_ROLE, ROLE_ID, ROLES, end, entry),
+        11 => sized(s, t, w, CRITICAL_TASK, TASK_ID, TASKS, end, entry),
         12 => partition(s, t, w, number, end, entry),
-        13 => one(s, t, w, end, 62, 6),
+        13 => one(s, t, w, end, TEMPLATE_ID, TEMPLATES),
         14 => counted(s, t, w, end),
-        15 => two(s, t, w, end, 61, 5, 63, 5),
-        16 => two(s, t, w, end, 64, 5, 61, 5),
+        15 => two(s, t, w, end, TASK_ID, TASKS, BOUND_TASK_ID, TASKS),
+        16 => two(s, t, w, end, PREREQ_TASK_ID, TASKS, TASK_ID, TASKS),
         _ => Fields::Unnamed,
     }
 }

@@ -12,6 +12,28 @@ use Rattle.paper_opl.specs.Naming.{placeOf}
 use Rattle.opl_names.specs.Table.{namesIn, Emptied, Declares}
 use Rattle.opl_names.specs.declared.Found.{Found}
 
+-- the spaces
+abbrev pub USERS : ℕ
+USERS = 0
+
+abbrev pub ROLES : ℕ
+ROLES = 1
+
+abbrev pub PERMISSIONS : ℕ
+PERMISSIONS = 2
+
+abbrev pub OPERATIONS : ℕ
+OPERATIONS = 3
+
+abbrev pub OBJECTS : ℕ
+OBJECTS = 4
+
+abbrev pub TASKS : ℕ
+TASKS = 5
+
+abbrev pub TEMPLATES : ℕ
+TEMPLATES = 6
+
 -- how many names each holds, and where its table begins
 unfoldable pub limitOf : ℕ → ℕ
 limitOf i = getD (1024 ∷ 64 ∷ 256 ∷ 65536 ∷ 65536 ∷ 64 ∷ 16 ∷ []) i 0

@@ -7,6 +7,29 @@ ghost use Rattle.opl_names.specs.Table.{Sound, foundOf};
 ghost use Rattle.opl_spaces.specs.Spaces.{limitOf, baseOf, scratchWords, tableOf, numbered, Empties, DeclaresIn};
 use opl_names::Found;
 
+// The spaces.
+pub const USERS: usize = 0;
+
+pub const ROLES: usize = 1;
+
+pub const PERMISSIONS: usize = 2;
+
+pub const OPERATIONS: usize = 3;
+
+pub const OBJECTS: usize = 4;
+
+pub const TASKS: usize = 5;
+
+pub const TEMPLATES: usize = 6;
+
+// How many there are; the first five are filled by the tags of the policy text, the others by the task lines.
+pub const SPACES: usize = 7;
+
+pub const BY_TAGS: usize = 5;
+
+// A longer name has no number.
+pub const LONGEST_NAME: usize = 64;
+
 // The length of the scratch, in words: those of the tables, behind them two for each record that can be kept, and from LIST on the list of tags, its length and one for
 // each that can be listed.
 pub const WORDS: usize = 921784;
@@ -80,12 +103,13 @@ pub fn number(s: &[u8], w: &[u64], i: usize, name: &[u8]) -> Found
     requires { ⌜ ((length (now w) ≡ scratchWords) × (i < 7)) × Sound (now s) (limitOf i) (tableOf i (now w)) ⌝ }
     ensures { λ r. ⌜ foundOf r ≡ numbered (now (s .entry)) i (now (w .entry)) (now (name .entry)) ⌝ }
 {
-    if 64 < name.len() {
+    if LONGEST_NAME < name.len() {
         return Found::Nowhere;
     }
     let n = limit(i);
     let from = base(i);
     let to = from + 1 + 3 * n;
+    // Matched into itself: as it is, the answer would be copied whole, and the copy waits for its parts (4 to 5 in a hundred of the call).
     let r = opl_names::find(s, &w[from..to], n, name);
     match r {
         Found::At(k) => Found::At(k),

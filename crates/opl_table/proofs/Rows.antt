@@ -11,7 +11,7 @@ use Rattle.paper_lower.specs.Lists.{some, every, each}
 use Rattle.paper_opl.specs.Reading.{Text, text, same}
 use Rattle.paper_opl.specs.Elements.{Attribute, Child, elements, rowIn, one, mayEnd}
 use Rattle.paper_opl.specs.Tree.{required}
-use Rattle.opl_table.specs.Numbers.{names, nameOf, stages, joined, lefts, leftOf, lists, listOf, firstState, firstList, packed, wordAt, numberAt}
+use Rattle.opl_table.specs.Numbers.{names, nameOf, USER, OPERATION, OBJECT, STATIC-SEPARATION, DYNAMIC-SEPARATION, CRITICAL-ROLE-SET, CRITICAL-ROLES, CRITICAL-ROLE, CRITICAL-TASK, PARTITIONING, PARTITION, PARTITION-TASK, USER-ID, ROLE-ID, PERMISSION-ID, OPERATION-ID, OBJECT-ID, CARDINALITY, TASK-ID, TEMPLATE-ID, BOUND-TASK-ID, PREREQ-TASK-ID, stages, joined, lefts, leftOf, lists, listOf, firstState, firstList, packed, wordAt, numberAt}
 use Rattle.opl_table.proofs.Cases.{valuesTo, agree, agree-everywhere, past, lefts-length, lists-length, names-length}
 
 nothing-named : (id : ℕ) → 65 ≤ id → nameOf id ≡ []
@@ -117,3 +117,10 @@ missing-past list h =
 pub document-left : leftOf 1 ≡ one "policy_object" ∷ []
 unfolding leftOf lefts
 document-left = refl
+
+-- the numbers that have a name of their own are those of these names
+pub named-right :
+    each nameOf (USER ∷ OPERATION ∷ OBJECT ∷ STATIC-SEPARATION ∷ DYNAMIC-SEPARATION ∷ CRITICAL-ROLE-SET ∷ CRITICAL-ROLES ∷ CRITICAL-ROLE ∷ CRITICAL-TASK ∷ PARTITIONING ∷ PARTITION ∷ PARTITION-TASK ∷ USER-ID ∷ ROLE-ID ∷ PERMISSION-ID ∷ OPERATION-ID ∷ OBJECT-ID ∷ CARDINALITY ∷ TASK-ID ∷ TEMPLATE-ID ∷ BOUND-TASK-ID ∷ PREREQ-TASK-ID ∷ [])
+    ≡ each text ("user" ∷ "operation" ∷ "object" ∷ "static_separation_of_duty" ∷ "dynamic_separation_of_duty" ∷ "critical_role_set" ∷ "critical_roles" ∷ "critical_role" ∷ "critical_task" ∷ "hdsodtp_partitioning" ∷ "hdsodtp_partition" ∷ "partition_task" ∷ "user_id" ∷ "role_id" ∷ "permission_id" ∷ "operation_id" ∷ "object_id" ∷ "cardinality" ∷ "task_id" ∷ "template_id" ∷ "bound_task_id" ∷ "prereq_task_id" ∷ [])
+unfolding nameOf names each elements text
+named-right = refl

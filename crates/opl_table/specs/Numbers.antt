@@ -19,6 +19,77 @@ names =
 unfoldable pub nameOf : ℕ → Text
 nameOf id = getD names id []
 
+-- the numbers of those that other crates ask for
+abbrev pub USER : ℕ
+USER = 12
+
+abbrev pub OPERATION : ℕ
+OPERATION = 15
+
+abbrev pub OBJECT : ℕ
+OBJECT = 16
+
+abbrev pub STATIC-SEPARATION : ℕ
+STATIC-SEPARATION = 20
+
+abbrev pub DYNAMIC-SEPARATION : ℕ
+DYNAMIC-SEPARATION = 21
+
+abbrev pub CRITICAL-ROLE-SET : ℕ
+CRITICAL-ROLE-SET = 23
+
+abbrev pub CRITICAL-ROLES : ℕ
+CRITICAL-ROLES = 24
+
+abbrev pub CRITICAL-ROLE : ℕ
+CRITICAL-ROLE = 25
+
+abbrev pub CRITICAL-TASK : ℕ
+CRITICAL-TASK = 36
+
+abbrev pub PARTITIONING : ℕ
+PARTITIONING = 38
+
+abbrev pub PARTITION : ℕ
+PARTITION = 39
+
+abbrev pub PARTITION-TASK : ℕ
+PARTITION-TASK = 40
+
+abbrev pub USER-ID : ℕ
+USER-ID = 53
+
+abbrev pub ROLE-ID : ℕ
+ROLE-ID = 54
+
+abbrev pub PERMISSION-ID : ℕ
+PERMISSION-ID = 56
+
+abbrev pub OPERATION-ID : ℕ
+OPERATION-ID = 57
+
+abbrev pub OBJECT-ID : ℕ
+OBJECT-ID = 58
+
+abbrev pub CARDINALITY : ℕ
+CARDINALITY = 59
+
+abbrev pub TASK-ID : ℕ
+TASK-ID = 61
+
+abbrev pub TEMPLATE-ID : ℕ
+TEMPLATE-ID = 62
+
+abbrev pub BOUND-TASK-ID : ℕ
+BOUND-TASK-ID = 63
+
+abbrev pub PREREQ-TASK-ID : ℕ
+PREREQ-TASK-ID = 64
+
+-- the number of no name
+abbrev pub NO-NAME : ℕ
+NO-NAME = 65
+
 -- ---- What may still stand in an open element. Number 0 is nothing, 1 the document before its element.
 
 -- what may stand at first, and behind each child that stands

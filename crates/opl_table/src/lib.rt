@@ -20,6 +20,54 @@ pub enum Place {
     Nowhere,
 }
 
+// Numbers of names that other crates ask for: of elements, and of attributes.
+pub const USER: u64 = 12;
+
+pub const OPERATION: u64 = 15;
+
+pub const OBJECT: u64 = 16;
+
+pub const STATIC_SEPARATION: u64 = 20;
+
+pub const DYNAMIC_SEPARATION: u64 = 21;
+
+pub const CRITICAL_ROLE_SET: u64 = 23;
+
+pub const CRITICAL_ROLES: u64 = 24;
+
+pub const CRITICAL_ROLE: u64 = 25;
+
+pub const CRITICAL_TASK: u64 = 36;
+
+pub const PARTITIONING: u64 = 38;
+
+pub const PARTITION: u64 = 39;
+
+pub const PARTITION_TASK: u64 = 40;
+
+pub const USER_ID: u64 = 53;
+
+pub const ROLE_ID: u64 = 54;
+
+pub const PERMISSION_ID: u64 = 56;
+
+pub const OPERATION_ID: u64 = 57;
+
+pub const OBJECT_ID: u64 = 58;
+
+pub const CARDINALITY: u64 = 59;
+
+pub const TASK_ID: u64 = 61;
+
+pub const TEMPLATE_ID: u64 = 62;
+
+pub const BOUND_TASK_ID: u64 = 63;
+
+pub const PREREQ_TASK_ID: u64 = 64;
+
+// The number of no name.
+pub const NO_NAME: u64 = 65;
+
 // The name is number 0 + i.
 fn is_name_0(v: &[u8], i: u64) -> bool
     requires { ⌜ i < 10 ⌝ }

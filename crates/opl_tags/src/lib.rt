@@ -85,8 +85,8 @@ pub fn given(s: &[u8], at: usize) -> Attribute
     plain(s, i)
 }
 
-// The value of the attribute of this name, of the start tag whose name ends at `at`; no bytes where it is not given.
-pub fn value_of(s: &[u8], at: usize, id: u64) -> Part
+// Where the value of the attribute of this name stands, of the start tag whose name ends at `at`; nowhere, at no bytes, where it is not given.
+pub fn value_place(s: &[u8], at: usize, id: u64) -> Part
     requires { ⌜ at ≤ length (now s) ⌝ }
     ensures { λ r. ⌜ Valued (now (s .entry)) (valueOf (nameOf id) (givenAt (now (s .entry)) at)) r ⌝ }
 {
@@ -117,6 +117,17 @@ pub fn value_of(s: &[u8], at: usize, id: u64) -> Part
         }
     }
     Part { from: 0, to: 0 }
+}
+
+// The value itself: the part of the text between its quotes.
+pub fn value_of(s: &[u8], at: usize, id: u64) -> &[u8]
+    requires { ⌜ at ≤ length (now s) ⌝ }
+    ensures { λ r. ⌜ now r ≡ valueOf (nameOf id) (givenAt (now (s .entry)) at) ⌝ }
+{
+    let p = value_place(s, at, id);
+    let from = p.from;
+    let to = p.to;
+    &s[from..to]
 }
 
 // ---- Tags. In an accepted text "<" begins a tag or a comment, and stands nowhere else but in comments: from the name of a tag on, the next "<" is looked

@@ -10,12 +10,23 @@ ghost use Rattle.opl_turns.specs.Listing.{entered, Leads, Reads, Meets};
 ghost use Rattle.opl_turns.specs.Turning.{turnedBy, Stood, Led, Turns};
 use opl_spaces::LIST;
 use opl_spaces::LISTED;
+use opl_table::CRITICAL_ROLE_SET;
+use opl_table::DYNAMIC_SEPARATION;
+use opl_table::NO_NAME;
+use opl_table::PARTITION;
+use opl_table::PARTITIONING;
+use opl_table::STATIC_SEPARATION;
 use opl_table::is_name;
 use opl_tags::Tag;
 use opl_tags::read_tag;
 
 // A text of so many bytes or more is not listed: a place in it may not fit into a word beside the element.
 const LONGEST: usize = 144115188075855872;
+
+// The kinds of a set of roles.
+const STATIC_SET: u64 = 9;
+
+const DYNAMIC_SET: u64 = 10;
 
 // A place in the text, with how many entries of the list lie before it, and with what the tags before it told: the kind of a set of roles, and how many partitionings
 // have begun.
@@ -97,7 +108,7 @@ fn guess(v: &[u8]) -> u64
 {
     let n = v.len();
     if n == 0 {
-        return 65;
+        return NO_NAME;
     }
     let h = (n as u64 + 17 * wide(v[n - 1])) % 64;
     digit(guess_word(h / 8), h)
@@ -110,7 +121,7 @@ pub fn element(v: &[u8]) -> u64
     if is_name(v, g) {
         return g;
     }
-    65
+    NO_NAME
 }
 
 // ---- The list of tags, and the next one by it.
@@ -169,7 +180,7 @@ pub fn meet(s: &[u8], w: &[u64], at: usize, entry: usize) -> Met
 fn kind_by(sets: u64, id: u64) -> u64
     ensures { λ r. ⌜ r ≡ kindBy sets id ⌝ }
 {
-    if id == 23 {
+    if id == CRITICAL_ROLE_SET {
         return sets;
     }
     digit(kind_word(id / 8), id)
@@ -178,11 +189,11 @@ fn kind_by(sets: u64, id: u64) -> u64
 fn sets_by(sets: u64, id: u64) -> u64
     ensures { λ r. ⌜ r ≡ setsBy sets id ⌝ }
 {
-    if id == 20 {
-        return 9;
+    if id == STATIC_SEPARATION {
+        return STATIC_SET;
     }
-    if id == 21 {
-        return 10;
+    if id == DYNAMIC_SEPARATION {
+        return DYNAMIC_SET;
     }
     sets
 }
@@ -191,7 +202,7 @@ fn parts_by(parts: usize, id: u64) -> usize
     requires { ⌜ parts < 18446744073709551615 ⌝ }
     ensures { λ r. ⌜ r ≡ partsBy parts id ⌝ }
 {
-    if id == 38 {
+    if id == PARTITIONING {
         return parts + 1;
     }
     parts
@@ -200,7 +211,7 @@ fn parts_by(parts: usize, id: u64) -> usize
 fn number_by(parts: usize, id: u64) -> u64
     ensures { λ r. ⌜ r ≡ numberBy parts id ⌝ }
 {
-    if id != 39 {
+    if id != PARTITION {
         return 0;
     }
     if parts == 0 {

@@ -216,6 +216,9 @@ pub fn found(text: &[u8], place: usize) -> String {
     };
     match *rest {
         [] => "the end of the text".to_string(),
+        [0xff, 0xfe, ..] | [0xfe, 0xff, ..] if place == 1 => {
+            "the byte order mark of UTF-16 (write the text as UTF-8)".to_string()
+        }
         [b'<', b'!' | b'?', ..] => format!("\"{}\"", shown(&rest[..run(2)])),
         [b'<', b'/', ..] => format!("{}>", shown(&rest[..run(2)])),
         [b'<', ..] if run(1) > 1 => format!("{}>", shown(&rest[..run(1)])),

@@ -280,6 +280,10 @@ fn refusals_in_words() {
         let refusal = read(text.as_bytes(), b"").unwrap_err();
         assert_eq!(refusal.message(text.as_bytes()), message);
     }
+    let utf16 = b"\xff\xfe<\0p\0";
+    let refusal = read(utf16, b"").unwrap_err();
+    let message = "line 1, column 1: TEXT: expected <policy_object>, found the byte order mark of UTF-16 (write the text as UTF-8)";
+    assert_eq!(refusal.message(utf16), message);
     let policy = policy("<module_sep_duty_policy/>");
     for (lines, message) in [
         (

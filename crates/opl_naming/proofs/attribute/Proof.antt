@@ -1,15 +1,16 @@
--- As the word has it.
-use mathlib.Core.Path.{_∙_}
-use borrow.Author.Needs.{needs}
-use Rattle.opl_naming.proofs.NamingLaws.{attribute-is}
+-- One case for each space.
+use Rattle.opl_declared.specs.Names.{attributeOf}
+use Rattle.opl_naming.proofs.NamingLaws.{last-attribute}
 use Rattle.opl_naming.proofs.attribute.Statement.{statement}
 use Rattle.opl_naming.proofs.attribute.Tie as tie
 
-digit-requires : tie.Need-digit-requires
-digit-requires c κs = search needs
-
-returns : tie.Need-returns
-returns c = c .digit .ensures ∙ attribute-is (c .before .args .i) (c .before .pre)
-
 pub attribute-spec : {M : Type 1} → statement M
-attribute-spec = tie.close (tie.spec digit-requires returns)
+unfolding attributeOf
+attribute-spec =
+    tie.close
+    (tie.spec
+    (λ c. rw (c .match .keys1))
+    (λ c. rw (c .match .keys2))
+    (λ c. rw (c .match .keys3))
+    (λ c. rw (c .match .keys4))
+    (λ c. last-attribute (c .before .args .i) (c .before .pre) (c .match .rest)))

@@ -1,7 +1,9 @@
--- The two readers that call each other: the depth falls from one to the other, and the text in the loop over the content.
+-- The two readers that call each other. Remaining depth and remaining text fall together: from an element to its content the text, from content
+-- to an element in it both. The loop over the content goes by the text alone.
 use borrow.Author.Needs.{needs}
-use Prim.Native.Nat.{_+_, _*_, _-_, _≤_}
+use Prim.Native.Nat.{_+_, _-_, _≤_}
 use mathlib.Core.Path.{_≡_, _∙_}
+use mathlib.Core.List.{List}
 use lib.ListN.{length, drop}
 use native.Mathlib.Omega.{arith}
 use denote.Ref.{now}
@@ -26,11 +28,15 @@ use Rattle.opl_text.proofs.skip_misc.Reads as skip-misc-reads
 use Rattle.opl_reader.proofs.+content+element.{statement}
 use Rattle.opl_reader.proofs.+content+element.Tie.{close}
 
+-- the depth that is left and the text that is left, together
+abbrev remaining : ℕ → List ℕ → ℕ → ℕ
+remaining d s at = d + (length s - at)
+
 abbrev μ-content : Measures 1 content-kinds.ps ℕ
-μ-content κs a = 2 * a .1 .1 .0
+μ-content κs a = remaining (a .1 .1 .0) (now (a .0)) (a .1 .0)
 
 abbrev μ-element : Measures 1 element-kinds.ps ℕ
-μ-element κs a = 2 * a .1 .1 .0 + 1
+μ-element κs a = remaining (a .1 .1 .0) (now (a .0)) (a .1 .0)
 
 abbrev content-at : ℕ → In 1 content-kinds.ps
 content-at t = and 1 content-kinds.ps (is 1 content-kinds.ps μ-content t) content.Pre
@@ -45,7 +51,7 @@ abbrev element-below : ℕ → In 1 element-kinds.ps
 element-below t = and 1 element-kinds.ps (falls 1 element-kinds.ps _<_ μ-element t) element.Pre
 
 abbrev content-Inv-loop : content-lts.InvT-loop
-content-Inv-loop s at d id left i₀ l₀ i l = (i ≤ length s) × (contentRead d id left (drop at s) ≡ contentRead d id l (drop i s))
+content-Inv-loop s at d id left i₀ l₀ i l = ((at ≤ i) × (i ≤ length s)) × (contentRead d id left (drop at s) ≡ contentRead d id l (drop i s))
 
 abbrev content-μ-loop : content-lts.MeasureT-loop
 content-μ-loop s at d id left i₀ l₀ i l = length s - i
@@ -258,7 +264,19 @@ content-sub-element : (t : ℕ) → content-lts.Need-sub-element (
   element-below t,
   element.Post,
 ) (content-at t) content.Post content-Inv-loop content-μ-loop
-content-sub-element t c = let h : 0 < c .before .before .before .before .before .before .before .before .before .before .before .before .before .before .args .d = cy.start-deep (now (c .before .before .before .before .before .before .before .before .before .before .before .before .before .before .args .s)) (c .before .before .before .before .before .before .before .before .before .before .before .before .before .before .args .d) (c .before .before .before .before .before .before .before .before .before .before .before .before .before .before .args .id) (c .before .before .before .before .before .before .before .before .before .before .before .before .loop .l) (c .before .before .before .before .before .before .before .before .before .before .before .before .loop .i) (c .before .before .before .before .before .before .before .before .before .before .skip-misc .result) (c .before .before .before .before .before .before .before .before .before .before .skip-misc .ensures) (c .before .before .before .before .before .before .before .before .m .given .0 .0) (c .before .before .before .before .before .before .before .before .m .given .1) (c .before .before .before .before .before .before .is-at .result) (c .before .before .before .before .before .is-at2 .result) (c .before .before .before .before .before .before .is-at .ensures) (c .before .before .before .before .before .is-at2 .ensures) (c .before .before .before .before .if1 .left) (c .before .before .before .opening .result) (c .before .before .before .opening .ensures) (c .before .o2 .given .0 .0) (c .before .o2 .given .0 .1 .0) (c .before .o2 .given .0 .1 .1 .0) (c .before .o2 .given .1) in search needs
+content-sub-element t c =
+    let a = c .before .before .before .before .before .before .before .before .before .before .before .before .before .before .args in
+    let loop = c .before .before .before .before .before .before .before .before .before .before .before .before .loop in
+    let misc = c .before .before .before .before .before .before .before .before .before .before .skip-misc in
+    let m = c .before .before .before .before .before .before .before .before .m .given in
+    let x = c .before .before .before .before .before .before .is-at in
+    let y = c .before .before .before .before .before .is-at2 in
+    let o = c .before .before .before .opening in
+    let k = c .before .o2 .given in
+    let h =
+    cy.falls (now (a .s)) (a .d) (a .id) (loop .l) (loop .i) (misc .result) (misc .ensures) (m .0 .0) (m .1) (x .result) (y .result) (x .ensures) (y .ensures)
+    (c .before .before .before .before .if1 .left) (o .result) (o .ensures) (k .0 .0) (k .0 .1 .0) (k .0 .1 .1 .0) (k .1) in
+    search needs
 
 content-element-requires : (t : ℕ) → content-lts.Need-element-requires (
   skip-misc-reads.Asked,
@@ -272,7 +290,24 @@ content-element-requires : (t : ℕ) → content-lts.Need-element-requires (
   element-below t,
   element.Post,
 ) (content-at t) content.Post content-Inv-loop content-μ-loop
-content-element-requires t c κs = (let h : 0 < c .before .before .before .before .before .before .before .before .before .before .before .before .before .before .args .d = cy.start-deep (now (c .before .before .before .before .before .before .before .before .before .before .before .before .before .before .args .s)) (c .before .before .before .before .before .before .before .before .before .before .before .before .before .before .args .d) (c .before .before .before .before .before .before .before .before .before .before .before .before .before .before .args .id) (c .before .before .before .before .before .before .before .before .before .before .before .before .loop .l) (c .before .before .before .before .before .before .before .before .before .before .before .before .loop .i) (c .before .before .before .before .before .before .before .before .before .before .skip-misc .result) (c .before .before .before .before .before .before .before .before .before .before .skip-misc .ensures) (c .before .before .before .before .before .before .before .before .m .given .0 .0) (c .before .before .before .before .before .before .before .before .m .given .1) (c .before .before .before .before .before .before .is-at .result) (c .before .before .before .before .before .is-at2 .result) (c .before .before .before .before .before .before .is-at .ensures) (c .before .before .before .before .before .is-at2 .ensures) (c .before .before .before .before .if1 .left) (c .before .before .before .opening .result) (c .before .before .before .opening .ensures) (c .before .o2 .given .0 .0) (c .before .o2 .given .0 .1 .0) (c .before .o2 .given .0 .1 .1 .0) (c .before .o2 .given .1) in search needs, cy.start-room (now (c .before .before .before .before .before .before .before .before .before .before .before .before .before .before .args .s)) (c .before .before .before .before .before .before .before .before .before .before .before .before .before .before .args .d) (c .before .before .before .before .before .before .before .before .before .before .before .before .before .before .args .id) (c .before .before .before .before .before .before .before .before .before .before .before .before .loop .l) (c .before .before .before .before .before .before .before .before .before .before .before .before .loop .i) (c .before .before .before .before .before .before .before .before .before .before .skip-misc .result) (c .before .before .before .before .before .before .before .before .before .before .skip-misc .ensures) (c .before .before .before .before .before .before .before .before .m .given .0 .0) (c .before .before .before .before .before .before .before .before .m .given .1) (c .before .before .before .before .before .before .is-at .result) (c .before .before .before .before .before .is-at2 .result) (c .before .before .before .before .before .before .is-at .ensures) (c .before .before .before .before .before .is-at2 .ensures) (c .before .before .before .before .if1 .left) (c .before .before .before .opening .result) (c .before .before .before .opening .ensures) (c .before .o2 .given .0 .0) (c .before .o2 .given .0 .1 .0) (c .before .o2 .given .0 .1 .1 .0) (c .before .o2 .given .1))
+content-element-requires t c κs =
+    let a = c .before .before .before .before .before .before .before .before .before .before .before .before .before .before .args in
+    let loop = c .before .before .before .before .before .before .before .before .before .before .before .before .loop in
+    let misc = c .before .before .before .before .before .before .before .before .before .before .skip-misc in
+    let m = c .before .before .before .before .before .before .before .before .m .given in
+    let x = c .before .before .before .before .before .before .is-at in
+    let y = c .before .before .before .before .before .is-at2 in
+    let o = c .before .before .before .opening in
+    let k = c .before .o2 .given in
+    let h =
+    cy.falls (now (a .s)) (a .d) (a .id) (loop .l) (loop .i) (misc .result) (misc .ensures) (m .0 .0) (m .1) (x .result) (y .result) (x .ensures) (y .ensures)
+    (c .before .before .before .before .if1 .left) (o .result) (o .ensures) (k .0 .0) (k .0 .1 .0) (k .0 .1 .1 .0) (k .1) in
+    let from = loop .inv .0 .0 in
+    let deep = h .deep in
+    let room = h .room in
+    let past = h .past in
+    let whole = c .before .before .before .before .before .before .before .before .before .before .before .before .before .before .pre .0 in
+    (omega arith, room)
 
 content-enum-known-r : (t : ℕ) → content-lts.Need-enum-known-r (
   skip-misc-reads.Asked,
@@ -328,7 +363,23 @@ content-loop-less : (t : ℕ) → content-lts.Need-loop-less (
   element-below t,
   element.Post,
 ) (content-at t) content.Post content-Inv-loop content-μ-loop
-content-loop-less t c = let h : c .before .before .before .before .before .before .before .before .before .before .before .before .before .before .before .before .loop .i < c .before .r .given .0 .0 = cy.past (now (c .before .before .before .before .before .before .before .before .before .before .before .before .before .before .before .before .before .before .args .s)) (c .before .before .before .before .before .before .before .before .before .before .before .before .before .before .before .before .before .before .args .d) (c .before .before .before .before .before .before .before .before .before .before .before .before .before .before .before .before .before .before .args .id) (c .before .before .before .before .before .before .before .before .before .before .before .before .before .before .before .before .loop .l) (c .before .before .before .before .before .before .before .before .before .before .before .before .before .before .before .before .loop .i) (c .before .before .before .before .before .before .before .before .before .before .before .before .before .before .skip-misc .result) (c .before .before .before .before .before .before .before .before .before .before .before .before .before .before .skip-misc .ensures) (c .before .before .before .before .before .before .before .before .before .before .before .before .m .given .0 .0) (c .before .before .before .before .before .before .before .before .before .before .before .before .m .given .1) (c .before .before .before .before .before .before .before .before .before .before .is-at .result) (c .before .before .before .before .before .before .before .before .before .is-at2 .result) (c .before .before .before .before .before .before .before .before .before .before .is-at .ensures) (c .before .before .before .before .before .before .before .before .before .is-at2 .ensures) (c .before .before .before .before .before .before .before .before .if1 .left) (c .before .before .before .before .before .before .before .opening .result) (c .before .before .before .before .before .before .before .opening .ensures) (c .before .before .before .before .before .o2 .given .0 .0) (c .before .before .before .before .before .o2 .given .0 .1 .0) (c .before .before .before .before .before .o2 .given .0 .1 .1 .0) (c .before .before .before .before .before .o2 .given .1) (c .before .before .before .element .result) (c .before .before .before .element .ensures) (c .before .r .given .0 .0) (c .before .r .given .1) in let o : c .before .r .given .0 .0 ≤ length (now (c .before .before .before .before .before .before .before .before .before .before .before .before .before .before .before .before .before .before .args .s)) = cy.on-inside (now (c .before .before .before .before .before .before .before .before .before .before .before .before .before .before .before .before .before .before .args .s)) (c .before .before .before .before .before .before .before .before .before .before .before .before .before .before .before .before .before .before .args .d) (c .before .before .before .before .before .before .before .before .before .before .before .before .before .before .before .before .before .before .args .id) (c .before .before .before .before .before .before .before .before .before .before .before .before .before .before .before .before .loop .l) (c .before .before .before .before .before .before .before .before .before .before .before .before .before .before .before .before .loop .i) (c .before .before .before .before .before .before .before .before .before .before .before .before .before .before .skip-misc .result) (c .before .before .before .before .before .before .before .before .before .before .before .before .before .before .skip-misc .ensures) (c .before .before .before .before .before .before .before .before .before .before .before .before .m .given .0 .0) (c .before .before .before .before .before .before .before .before .before .before .before .before .m .given .1) (c .before .before .before .before .before .before .before .before .before .before .is-at .result) (c .before .before .before .before .before .before .before .before .before .is-at2 .result) (c .before .before .before .before .before .before .before .before .before .before .is-at .ensures) (c .before .before .before .before .before .before .before .before .before .is-at2 .ensures) (c .before .before .before .before .before .before .before .before .if1 .left) (c .before .before .before .before .before .before .before .opening .result) (c .before .before .before .before .before .before .before .opening .ensures) (c .before .before .before .before .before .o2 .given .0 .0) (c .before .before .before .before .before .o2 .given .0 .1 .0) (c .before .before .before .before .before .o2 .given .0 .1 .1 .0) (c .before .before .before .before .before .o2 .given .1) (c .before .before .before .element .result) (c .before .before .before .element .ensures) (c .before .r .given .0 .0) (c .before .r .given .1) in omega arith
+content-loop-less t c =
+    let a = c .before .before .before .before .before .before .before .before .before .before .before .before .before .before .before .before .before .before .args in
+    let loop = c .before .before .before .before .before .before .before .before .before .before .before .before .before .before .before .before .loop in
+    let misc = c .before .before .before .before .before .before .before .before .before .before .before .before .before .before .skip-misc in
+    let m = c .before .before .before .before .before .before .before .before .before .before .before .before .m .given in
+    let x = c .before .before .before .before .before .before .before .before .before .before .is-at in
+    let y = c .before .before .before .before .before .before .before .before .before .is-at2 in
+    let o = c .before .before .before .before .before .before .before .opening in
+    let k = c .before .before .before .before .before .o2 .given in
+    let e = c .before .before .before .element in
+    let r = c .before .r .given in
+    let h =
+    cy.onward (now (a .s)) (a .d) (a .id) (loop .l) (loop .i) (misc .result) (misc .ensures) (m .0 .0) (m .1) (x .result) (y .result) (x .ensures) (y .ensures)
+    (c .before .before .before .before .before .before .before .before .if1 .left) (o .result) (o .ensures) (k .0 .0) (k .0 .1 .0) (k .0 .1 .1 .0) (k .1) (e .result) (e .ensures) (r .0 .0) (r .1) in
+    let past = h .past in
+    let inside = h .inside in
+    omega arith
 
 content-loop-again : (t : ℕ) → content-lts.Need-loop-again (
   skip-misc-reads.Asked,
@@ -342,7 +393,23 @@ content-loop-again : (t : ℕ) → content-lts.Need-loop-again (
   element-below t,
   element.Post,
 ) (content-at t) content.Post content-Inv-loop content-μ-loop
-content-loop-again t c = (cy.on-inside (now (c .before .before .before .before .before .before .before .before .before .before .before .before .before .before .before .before .before .before .args .s)) (c .before .before .before .before .before .before .before .before .before .before .before .before .before .before .before .before .before .before .args .d) (c .before .before .before .before .before .before .before .before .before .before .before .before .before .before .before .before .before .before .args .id) (c .before .before .before .before .before .before .before .before .before .before .before .before .before .before .before .before .loop .l) (c .before .before .before .before .before .before .before .before .before .before .before .before .before .before .before .before .loop .i) (c .before .before .before .before .before .before .before .before .before .before .before .before .before .before .skip-misc .result) (c .before .before .before .before .before .before .before .before .before .before .before .before .before .before .skip-misc .ensures) (c .before .before .before .before .before .before .before .before .before .before .before .before .m .given .0 .0) (c .before .before .before .before .before .before .before .before .before .before .before .before .m .given .1) (c .before .before .before .before .before .before .before .before .before .before .is-at .result) (c .before .before .before .before .before .before .before .before .before .is-at2 .result) (c .before .before .before .before .before .before .before .before .before .before .is-at .ensures) (c .before .before .before .before .before .before .before .before .before .is-at2 .ensures) (c .before .before .before .before .before .before .before .before .if1 .left) (c .before .before .before .before .before .before .before .opening .result) (c .before .before .before .before .before .before .before .opening .ensures) (c .before .before .before .before .before .o2 .given .0 .0) (c .before .before .before .before .before .o2 .given .0 .1 .0) (c .before .before .before .before .before .o2 .given .0 .1 .1 .0) (c .before .before .before .before .before .o2 .given .1) (c .before .before .before .element .result) (c .before .before .before .element .ensures) (c .before .r .given .0 .0) (c .before .r .given .1), c .before .before .before .before .before .before .before .before .before .before .before .before .before .before .before .before .loop .inv .1 ∙ cy.goes-on (now (c .before .before .before .before .before .before .before .before .before .before .before .before .before .before .before .before .before .before .args .s)) (c .before .before .before .before .before .before .before .before .before .before .before .before .before .before .before .before .before .before .args .d) (c .before .before .before .before .before .before .before .before .before .before .before .before .before .before .before .before .before .before .args .id) (c .before .before .before .before .before .before .before .before .before .before .before .before .before .before .before .before .loop .l) (c .before .before .before .before .before .before .before .before .before .before .before .before .before .before .before .before .loop .i) (c .before .before .before .before .before .before .before .before .before .before .before .before .before .before .skip-misc .result) (c .before .before .before .before .before .before .before .before .before .before .before .before .before .before .skip-misc .ensures) (c .before .before .before .before .before .before .before .before .before .before .before .before .m .given .0 .0) (c .before .before .before .before .before .before .before .before .before .before .before .before .m .given .1) (c .before .before .before .before .before .before .before .before .before .before .is-at .result) (c .before .before .before .before .before .before .before .before .before .is-at2 .result) (c .before .before .before .before .before .before .before .before .before .before .is-at .ensures) (c .before .before .before .before .before .before .before .before .before .is-at2 .ensures) (c .before .before .before .before .before .before .before .before .if1 .left) (c .before .before .before .before .before .before .before .opening .result) (c .before .before .before .before .before .before .before .opening .ensures) (c .before .before .before .before .before .o2 .given .0 .0) (c .before .before .before .before .before .o2 .given .0 .1 .0) (c .before .before .before .before .before .o2 .given .0 .1 .1 .0) (c .before .before .before .before .before .o2 .given .1) (c .before .before .before .element .result) (c .before .before .before .element .ensures) (c .before .r .given .0 .0) (c .before .r .given .1))
+content-loop-again t c =
+    let a = c .before .before .before .before .before .before .before .before .before .before .before .before .before .before .before .before .before .before .args in
+    let loop = c .before .before .before .before .before .before .before .before .before .before .before .before .before .before .before .before .loop in
+    let misc = c .before .before .before .before .before .before .before .before .before .before .before .before .before .before .skip-misc in
+    let m = c .before .before .before .before .before .before .before .before .before .before .before .before .m .given in
+    let x = c .before .before .before .before .before .before .before .before .before .before .is-at in
+    let y = c .before .before .before .before .before .before .before .before .before .is-at2 in
+    let o = c .before .before .before .before .before .before .before .opening in
+    let k = c .before .before .before .before .before .o2 .given in
+    let e = c .before .before .before .element in
+    let r = c .before .r .given in
+    let h =
+    cy.onward (now (a .s)) (a .d) (a .id) (loop .l) (loop .i) (misc .result) (misc .ensures) (m .0 .0) (m .1) (x .result) (y .result) (x .ensures) (y .ensures)
+    (c .before .before .before .before .before .before .before .before .if1 .left) (o .result) (o .ensures) (k .0 .0) (k .0 .1 .0) (k .0 .1 .1 .0) (k .1) (e .result) (e .ensures) (r .0 .0) (r .1) in
+    let from = loop .inv .0 .0 in
+    let past = h .past in
+    ((omega arith, h .inside), loop .inv .1 ∙ h .rest)
 
 content-returns-5 : (t : ℕ) → content-lts.Need-returns-5 (
   skip-misc-reads.Asked,
@@ -356,7 +423,7 @@ content-returns-5 : (t : ℕ) → content-lts.Need-returns-5 (
   element-below t,
   element.Post,
 ) (content-at t) content.Post content-Inv-loop content-μ-loop
-content-returns-5 t c = moved (c .before .loop .inv .1) (record { read-is = cy.at-end (now (c .before .before .before .args .s)) (c .before .before .before .args .d) (c .before .before .before .args .id) (c .before .loop .l) (c .before .loop .i) (c .loop-test .left); inside = c .before .loop .inv .0 })
+content-returns-5 t c = moved (c .before .loop .inv .1) (record { read-is = cy.at-end (now (c .before .before .before .args .s)) (c .before .before .before .args .d) (c .before .before .before .args .id) (c .before .loop .l) (c .before .loop .i) (c .loop-test .left); inside = c .before .loop .inv .0 .1 })
 
 element-first-requires : (t : ℕ) → element-lts.Need-first-requires (
   first-reads.Asked,

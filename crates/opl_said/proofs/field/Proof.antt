@@ -6,28 +6,16 @@ use Rattle.opl_said.proofs.field.Tie as tie
 value-of-requires : tie.Need-value-of-requires
 value-of-requires c κs = search needs
 
-sub-number-of : tie.Need-sub-number-of
-sub-number-of c = search needs
-
-part-number-of-start : tie.Need-part-number-of-start
-part-number-of-start c = search needs
-
-part-number-of-end : tie.Need-part-number-of-end
-part-number-of-end c = search needs
-
 number-of-requires : tie.Need-number-of-requires
 number-of-requires c κs = search needs
 
 returns : tie.Need-returns
-returns c = rw (c .before .before .value-of .ensures .value) at (c .number-of .ensures)
+returns c = rw (c .before .value-of .ensures) at (c .number-of .ensures)
 
 pub field-spec : {M : Type 1} → statement M
 field-spec =
     tie.close
     (tie.spec
     value-of-requires
-    sub-number-of
-    part-number-of-start
-    part-number-of-end
     number-of-requires
     returns)

@@ -9,8 +9,8 @@ use Rattle.paper_opl.specs.Naming.{valueOf as valueIn}
 use Rattle.opl_table.specs.Numbers.{nameOf}
 use Rattle.opl_tags.specs.Tags.{givenAt, collected}
 use Rattle.opl_tags.proofs.AttributeLaws.{collected-enough, collected-done, collected-stop, within, value-none, value-here, value-later, value-end}
-use Rattle.opl_tags.proofs.value_of.Statement.{statement}
-use Rattle.opl_tags.proofs.value_of.Tie as tie
+use Rattle.opl_tags.proofs.value_place.Statement.{statement}
+use Rattle.opl_tags.proofs.value_place.Tie as tie
 
 abbrev Inv-loop : tie.InvT-loop
 Inv-loop s at id i₀ i = (i ≤ length s) × (valueIn (nameOf id) (givenAt s at) ≡ valueIn (nameOf id) (collected (length s) (drop i s)))
@@ -66,8 +66,8 @@ loop-again c = let w = within (now (c .before .before .before .before .before .b
 returns-4 : tie.Need-returns-4 Inv-loop μ-loop
 returns-4 c = value-end (now (c .before .before .before .args .s)) (c .before .before .before .args .at) (c .before .loop .i) (nameOf (c .before .before .before .args .id)) (c .before .loop .inv .1) (c .loop-test .left)
 
-pub value-of-spec : {M : Type 1} → statement M
-value-of-spec =
+pub value-place-spec : {M : Type 1} → statement M
+value-place-spec =
     tie.close
     (tie.spec
     Inv-loop
