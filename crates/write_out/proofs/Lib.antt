@@ -1,3 +1,4 @@
 mod Ways
 mod Statements
 mod Reloads
+mod Dealers

@@ -17,7 +17,7 @@ use Rattle.write_out.specs.Promises.{policyIn, WrittenBy, WritesAsDefine
 use Rattle.write_out.specs.Promises.WrittenBy.{within, exported}
 
 -- the answer, by either function
-small-reply : (t : Bool) (p : Policy) (out : Bytes)
+pub small-reply : (t : Bool) (p : Policy) (out : Bytes)
     → cond t (answer GRANTED (recordsOf p) (written p ++ drop (16 * recordsOf p) out)) (answer ROOM 0 out) .reply < 256
 small-reply true p out = omega arith
 small-reply false p out = omega arith
@@ -34,7 +34,7 @@ as-answer {x} {output} (exported {n} d) =
     λ i. answer (reply i) (records i) (d .bytes i)
 
 -- a reply of 0 is that of the records
-granted-is : (t : Bool) (p : Policy) (out : Bytes) {reply records : ℕ} {out′ : Bytes}
+pub granted-is : (t : Bool) (p : Policy) (out : Bytes) {reply records : ℕ} {out′ : Bytes}
     → answer reply records out′ ≡ cond t (answer GRANTED (recordsOf p) (written p ++ drop (16 * recordsOf p) out)) (answer ROOM 0 out) → reply ≡ GRANTED
     → (records ≡ recordsOf p) × (out′ ≡ written p ++ drop (16 * recordsOf p) out)
 granted-is true p out e g = (ap (λ (x : Answer). x .records) e, ap (λ (x : Answer). x .output) e)
