@@ -36,6 +36,9 @@ pub use engine::PILE;
 #[cfg(mishantral_engine)]
 pub use engine::{Engine, Figures, State, StuckTasks, ANSWER};
 
+#[cfg(all(test, mishantral_pile, mishantral_settled_request))]
+mod any_content;
+
 #[cfg(mishantral_mend)]
 mod mend;
 #[cfg(mishantral_mend)]
