@@ -1,13 +1,17 @@
--- The lower part alone: one answer, the role limits, senior roles and walls.
-use Prim.Native.Nat.{ℕ}
+-- The lower part alone: one answer, the role limits, joining, senior roles and walls.
+use Prim.Native.Nat.{ℕ, _<_}
 use mathlib.Core.Bool.{Bool, true, false, cond}
 use mathlib.Core.List.{List, []}
 use mathlib.Core.Path.{_≡_, refl, sym, ap, subst, _∙_}
+use mathlib.Core.Logic.{_↔_}
 use native.Mathlib.Omega.{arith}
-use Rattle.paper_lower.specs.Checks.{GRANTED, ROOM, WALL}
+use Rattle.paper_lower.specs.Sets.{empty}
+use Rattle.paper_lower.specs.Checks.{GRANTED, ROOM, WALL, first, granted}
 use Rattle.paper_lower.specs.Records.{Bytes, decode}
-use Rattle.paper_lower.specs.Kinds.{Answer, Said, run}
-use Rattle.paper_lower.specs.Tables.{Lower}
+use Rattle.paper_lower.specs.Kinds.{Answer, Said, run, after}
+use Rattle.paper_lower.specs.Tables.{Lower, withPolicy}
+use Rattle.paper_lower.specs.Policy.{userChecks, userNext}
+use Rattle.paper_lower.specs.Words.{addUser, join}
 use Rattle.paper_lower.specs.Load.{Loaded, load, recordsOf}
 use Rattle.paper_lower.specs.Sessions.{lowerRequest, lowerOf}
 use Rattle.replies.specs.declared.Reply.{Reply}
@@ -18,17 +22,19 @@ use Rattle.theorems.specs.Outside.{hear, outside}
 use Rattle.theorems.specs.Replies.{inTable}
 use Rattle.theorems.specs.OverEntries.{ofKind, RoleLimits}
 use Rattle.theorems.specs.Theorems.{lowerAfter, Reaches}
+use Rattle.theorems.specs.Joining.{gathered, EachOnce, oneByOne, AllGranted}
 use Rattle.theorems.specs.Seniority.{AsRecorded, lowerRequestBefore, loadBefore, NoneBelow}
 use Rattle.theorems.specs.Walls.{noCommits, commit, committed, lowerCommitsAfter, OneBlockOfEach, Decided, CheckOrCommit, committedBy, lowerRequestUnwalled}
 use Rattle.theorems.proofs.Replies.{replies-are-listed}
 use Rattle.theorems.proofs.Theorems.{dealers-keep-the-limits}
 use Rattle.theorems.proofs.Seniority.{seniority-is-recorded, as-before}
 use Rattle.theorems.proofs.Walls.{clerks-keep-to-one-block, wall-exactly-when}
-use Rattle.theorems.proofs.Unwalled.{refused-as-the-check, as-before-walls}
+use Rattle.theorems.proofs.Joining.{joined-as-one-by-one, added-as-before}
+use Rattle.theorems.proofs.Unwalled.{refused-as-the-check, outside-walls-all-is-free, as-before-walls}
 use Rattle.theorems.specs.Exactly.{Known, known, lowerKindsAsked, Answered}
 use Rattle.theorems.proofs.Exactly.{every-reply}
 use Rattle.demands.specs.Calls.{fitting, asked}
-use Rattle.demands.specs.Dealers.{Buffers, tablesOf, fit, Request, Called, Together, Requests, Load, OneAnswer, LimitsHold, RepliesExactly, SeniorRoles, WallsHold}
+use Rattle.demands.specs.Dealers.{Buffers, tablesOf, fit, Request, Called, Together, Requests, Load, OneAnswer, LimitsHold, RepliesExactly, JoinedWithRoles, SeniorRoles, WallsHold}
 use Rattle.demands.specs.Dealers.Request.{within, exported}
 use Rattle.demands.specs.Dealers.Load.{within as load-within, exported as load-exported-here}
 use Rattle.demands.proofs.Calls.{first-byte, Reading, after-all, chain-run, told-fitting}
@@ -188,6 +194,48 @@ limits-hold = record { upheld = λ l g c. limits l g c }
 pub replies-exactly : RepliesExactly
 replies-exactly = record { upheld = λ l g c r. exactly l g c r }
 
+-- ---- joining
+-- calls on buffers of any content, as a run of the definition
+from-here : {x z : Buffers} {said : List Said} → fit x ≡ true → Requests x said z
+    → let fitted = fitting (λ y. y) said in
+    (fitted ≡ run lowerRequest (tablesOf x) (asked (λ y. y) fitted)) × (tablesOf z ≡ after lowerRequest (tablesOf x) (asked (λ y. y) fitted))
+from-here {x} {said = said} f c =
+    let a = chain-run Called Together fit tablesOf (λ t s. lowerRequest t s .tables) (λ y. y) told (run lowerRequest) (λ t u. t ≡ u) reading c f (tablesOf x) refl in
+    (a .0, a .1 ∙ after-all lowerRequest (tablesOf x) (asked (λ y. y) (fitting (λ y. y) said)))
+
+joined-calls : {x y z : Buffers} {reply : ℕ} {said : List Said} (a : ℕ) (roles : List ℕ) → fit x ≡ true → a < 1024 → EachOnce empty roles
+    → Request (join a (gathered empty roles)) x y reply → Requests x said z
+    → let fitted = fitting (λ y. y) said in
+    asked (λ y. y) fitted ≡ oneByOne a roles → ((reply ≡ GRANTED) ↔ AllGranted fitted) × (reply ≡ GRANTED → tablesOf y ≡ tablesOf z)
+joined-calls {x} {said = said} a roles f small once r c e =
+    let t = tablesOf x in
+    let j = joined-as-one-by-one .dealers t a small roles once in
+    let n = answers r f in
+    let ran = from-here f c in
+    let said-is : fitting (λ y. y) said ≡ run lowerRequest t (oneByOne a roles) = ran .0 ∙ ap (run lowerRequest t) e in (
+      (
+        λ g. subst AllGranted (sym said-is) (j .granted .0 (sym (n .0) ∙ g)),
+        λ g. n .0 ∙ j .granted .1 (subst AllGranted said-is g),
+      ),
+      λ g. n .1 ∙ j .tables (sym (n .0) ∙ g) ∙ sym (ran .1 ∙ ap (after lowerRequest t) e),
+    )
+
+alone-call : {x y : Buffers} {reply : ℕ} (a : ℕ) → fit x ≡ true → a < 1024 → Request (addUser a) x y reply
+    → let t = tablesOf x in
+    (reply ≡ first (userChecks (t .policy) a)) × (reply ≡ GRANTED → tablesOf y ≡ withPolicy t (userNext (t .policy) a))
+alone-call {x} a f small r =
+    let t = tablesOf x in
+    let n = answers r f in
+    let j = added-as-before .dealers t a small in
+    let e = n .0 ∙ j .0 in
+    (e, λ g. n .1 ∙ j .1 ∙ ap (λ (q : ℕ). granted q (withPolicy t (userNext (t .policy) a)) t) (sym e ∙ g))
+
+pub joined-with-roles : JoinedWithRoles
+joined-with-roles = record {
+  one-by-one = λ a roles f small once r c e. joined-calls a roles f small once r c e;
+  without-roles = λ a f small r. alone-call a f small r;
+}
+
 -- ---- senior roles
 request-as-before : {bytes : Bytes} {x y : Buffers} {reply : ℕ} → fit x ≡ true → NoneBelow (tablesOf x .policy) → Request bytes x y reply
     → (reply ≡ lowerRequestBefore (tablesOf x) bytes .reply) × (tablesOf y ≡ lowerRequestBefore (tablesOf x) bytes .tables)
@@ -235,6 +283,10 @@ walls-hold = record {
   upheld = λ l g c. one-block l g c;
   checks = λ l g c e r h. walled l g c e r h;
   as-the-check = λ {bytes} {x} k r s. same-reply (refused-as-the-check .dealers (tablesOf x) bytes k) r s (fit x) refl;
+  outside-walls = λ {bytes} {x} f k n r.
+      let a = answers r f in
+      let o = outside-walls-all-is-free .dealers (tablesOf x) bytes k n in
+      (λ e. o .0 (sym (a .0) ∙ e), a .1 ∙ o .1);
   requests = λ {bytes} {x} f none r. answers r f .0 ∙ as-before-walls .lowerReplies (tablesOf x) none bytes;
   tables = λ {bytes} {x} f none r. answers r f .1 ∙ ap (λ (q : Answer Lower). q .tables) (as-before-walls .lowerRequests (tablesOf x) none bytes .0);
   runs = λ f h l c. run-unwalled f h l c;

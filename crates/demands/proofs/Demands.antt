@@ -402,7 +402,7 @@ joined-calls : {x y z : Buffers} {reply place : ℕ} {said : List Placed} (a : �
     → ((reply ≡ GRANTED) ↔ AllGranted (allSaid (fitted said))) × (reply ≡ GRANTED → SameTables (tablesOf y) (tablesOf z))
 joined-calls {x} {y} {z} {said = said} a roles f small once r c e =
     let t = tablesOf x in
-    let j = joined-as-one-by-one t a small roles once in
+    let j = joined-as-one-by-one .engine t a small roles once in
     let n = answers r f in
     let run-is = from-here f c in
     let said-is : allSaid (fitted said) ≡ run request t (oneByOne a roles) = ap allSaid (run-is .0) ∙ placed-said t (requestsIn said) ∙ ap (run request t) e in (
@@ -422,7 +422,7 @@ alone-call : {x y : Buffers} {reply place : ℕ} (a : ℕ) → fit x ≡ true �
 alone-call {x} {y} a f small r =
     let t = tablesOf x in
     let n = answers r f in
-    let j = added-as-before t a small in
+    let j = added-as-before .engine t a small in
     let e = n .0 ∙ j .0 in
     (e, λ g. subst (SameTables (tablesOf y)) (j .1 ∙ ap (λ (q : ℕ). granted q (withLower t (withPolicy (t .lower) (userNext (t .lower .policy) a))) t) (sym e ∙ g)) (n .2))
 
@@ -444,6 +444,6 @@ calls-commit = record {
   as-the-check = λ {bytes} {x} k r s. same-reply (refused-as-the-check .engine (tablesOf x) bytes k) r s (fit x) refl;
   outside-walls = λ {bytes} {x} {y} f k n r.
       let a = answers r f in
-      let o = outside-walls-all-is-free (tablesOf x) bytes k n in
+      let o = outside-walls-all-is-free .engine (tablesOf x) bytes k n in
       (λ e. o .0 (sym (a .0) ∙ e), subst (SameTables (tablesOf y)) (o .1) (a .2));
 }

@@ -1,16 +1,21 @@
 -- "dealers build the lower part alone": one answer of its two calls, by the functions of Rattle and by those that C and Rust link, and the
--- role limits, and walls. (What demands 1 and 2 say of a call is its contract itself: lower/specs/Answers.)
-use Prim.Native.Nat.{ℕ, _%_}
+-- role limits, joining, senior roles and walls. (What demands 1 and 2 say of a call is its contract itself: lower/specs/Answers.)
+use Prim.Native.Nat.{ℕ, _<_, _%_}
 use mathlib.Core.Bool.{Bool, true}
 use mathlib.Core.List.{List, [], _∷_}
 use mathlib.Core.Path.{_≡_}
+use mathlib.Core.Logic.{_↔_}
 use lib.ListN.{drop}
-use Rattle.paper_lower.specs.Checks.{GRANTED, WALL}
+use Rattle.paper_lower.specs.Sets.{empty}
+use Rattle.paper_lower.specs.Lists.Maybe.{none}
+use Rattle.paper_lower.specs.Checks.{GRANTED, WALL, first}
 use Rattle.paper_lower.specs.Records.{Bytes, decode}
 use Rattle.paper_lower.specs.Kinds.{Said, run, after}
 use Rattle.paper_lower.specs.Load.{load, recordsOf}
 use Rattle.paper_lower.specs.Sessions.{lowerRequest, lowerOf}
-use Rattle.paper_lower.specs.Tables.{Lower}
+use Rattle.paper_lower.specs.Tables.{Lower, withPolicy}
+use Rattle.paper_lower.specs.Policy.{userChecks, userNext, blockOf}
+use Rattle.paper_lower.specs.Words.{addUser, join}
 use Rattle.replies.specs.Replies.{numberOf}
 use Rattle.replies.specs.declared.Reply.{Reply}
 use Rattle.sessions.specs.Lower.{lowerTables}
@@ -19,6 +24,7 @@ use Rattle.lower.specs.Exports as exports
 use Rattle.theorems.specs.Outside.{outside}
 use Rattle.theorems.specs.OverEntries.{ofKind, RoleLimits}
 use Rattle.theorems.specs.Theorems.{Reaches}
+use Rattle.theorems.specs.Joining.{gathered, EachOnce, oneByOne, AllGranted}
 use Rattle.theorems.specs.Seniority.{AsRecorded, lowerRequestBefore, loadBefore, NoneBelow}
 use Rattle.theorems.specs.Exactly.{known, lowerKindsAsked, Answered}
 use Rattle.theorems.specs.Walls.{committed, OneBlockOfEach, Decided, CheckOrCommit, committedBy, lowerRequestUnwalled, Unwalled}
@@ -77,6 +83,19 @@ pub record RepliesExactly : Type 0 where
   pub upheld : {policy : Bytes} {x y z : Buffers} {reply : ℕ} {said : List Said} → Load policy x y reply → reply ≡ GRANTED → Requests y said z
       → {bytes : Bytes} {w : Buffers} {q : ℕ} → Request bytes z w q → Answered lowerKindsAsked (known policy said) bytes q
 
+-- ---- 02, Ask 1: joining with roles, here too.
+pub record JoinedWithRoles : Type 0 where
+  -- "the result equals adding, then assigning one role after another, whenever none of those would be refused": it is granted exactly then
+  pub one-by-one : {x y z : Buffers} {reply : ℕ} {said : List Said} (a : ℕ) (roles : List ℕ) → fit x ≡ true → a < 1024 → EachOnce empty roles
+      → Request (join a (gathered empty roles)) x y reply → Requests x said z
+      → let fitted = fitting (λ p. p) said in
+      asked (λ p. p) fitted ≡ oneByOne a roles
+      → ((reply ≡ GRANTED) ↔ AllGranted fitted) × (reply ≡ GRANTED → tablesOf y ≡ tablesOf z)
+  -- "m = 0 does what it did": what kind 1 does
+  pub without-roles : {x y : Buffers} {reply : ℕ} (a : ℕ) → fit x ≡ true → a < 1024 → Request (addUser a) x y reply
+      → let t = tablesOf x in
+      (reply ≡ first (userChecks (t .policy) a)) × (reply ≡ GRANTED → tablesOf y ≡ withPolicy t (userNext (t .policy) a))
+
 -- ---- 02, Ask 7: senior roles, here too.
 pub record SeniorRoles : Type 0 where
   pub recorded : {policy : Bytes} {x y z : Buffers} {reply : ℕ} {said : List Said} → Load policy x y reply → reply ≡ GRANTED → Requests y said z
@@ -101,6 +120,10 @@ pub record WallsHold : Type 0 where
       → Decided (recordsOf policy) (committedBy (committed said) (decode check)) (decode check .c) q
   -- "Request kind 59, commit, has the fields of kind 56 and is refused as the check is"
   pub as-the-check : {bytes : Bytes} {x y w : Buffers} {q p : ℕ} → decode bytes .kind ≡ 59 → Request bytes x y q → Request (56 ∷ drop 1 bytes) x w p → q ≡ p
+  -- "Objects outside a wall are free of it.": one that is in no wall is never refused with WALL, and binds nobody
+  pub outside-walls : {bytes : Bytes} {x y : Buffers} {reply : ℕ} → fit x ≡ true → CheckOrCommit bytes
+      → ((w : ℕ) → blockOf (tablesOf x .policy .walls) (decode bytes .c) w ≡ none) → Request bytes x y reply
+      → (reply ≡ WALL → ⊥) × (tablesOf y ≡ tablesOf x)
   -- without walls every reply is as before
   pub requests : {bytes : Bytes} {x y : Buffers} {reply : ℕ} → fit x ≡ true → tablesOf x .policy .walls ≡ [] → Request bytes x y reply
       → reply ≡ lowerRequestUnwalled (tablesOf x) bytes .reply

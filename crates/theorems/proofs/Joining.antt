@@ -1,6 +1,6 @@
 -- A clerk who joins with roles: the checks of the whole are those of the steps, since a part of a set that fits fits too.
 use Prim.Native.Nat.{ℕ, zero, suc, _<_, _≤_, _^_}
-use mathlib.Core.Path.{_≡_, refl, sym, ap, _∙_}
+use mathlib.Core.Path.{_≡_, refl, sym, ap, subst, _∙_}
 use mathlib.Core.Logic.{⊎-elim}
 use mathlib.Core.Bool.{Bool, true, false, not, cond}
 use mathlib.Core.List.{List, [], _∷_, _++_}
@@ -10,18 +10,18 @@ use lib.Dec.{eqb, ltb}
 use Rattle.paper_lower.specs.Sets.{Set, empty, has, plus, overlap, within, collect}
 use Rattle.paper_lower.specs.Lists.{upd, some, keep, each, Every}
 use Rattle.paper_lower.specs.Checks.{first, granted, UNKNOWN, TAKEN, STATIC}
-use Rattle.paper_lower.specs.Records.{bytes, encode}
+use Rattle.paper_lower.specs.Records.{Bytes, decode, bytes, encode}
 use Rattle.paper_lower.specs.Forms.{lowerForms, requestForms, formOf, misplaced, above, misshapen, outOfRange, formChecks}
 use Rattle.paper_lower.specs.Kinds.{Answer, chosen, replyTo, answer, run, after}
-use Rattle.paper_lower.specs.Tables.{Limit, Policy, withPeople, withPolicy}
+use Rattle.paper_lower.specs.Tables.{Limit, Policy, Lower, withPeople, withPolicy}
 use Rattle.paper_lower.specs.Policy.{down, breaks, userChecks, userNext, assignChecks, assignNext}
 use Rattle.paper_lower.specs.Roles.{joinChecks, joinNext, roleKinds}
-use Rattle.paper_lower.specs.Sessions.{sessionKinds, lowerKinds}
+use Rattle.paper_lower.specs.Sessions.{sessionKinds, lowerKinds, lowerRequest}
 use Rattle.paper_lower.specs.Words.{addUser, join, assign}
-use Rattle.paper_lower.proofs.ListLaws.{upd-same, every-map, none-some}
+use Rattle.paper_lower.proofs.ListLaws.{upd-same, every-map, every-each, every-all, none-some}
 use Rattle.paper_lower.proofs.CheckLaws.{passed}
 use Rattle.paper_lower.proofs.ReadBack.{read-back}
-use Rattle.paper_upper.specs.Orders.{Engine, withLower}
+use Rattle.paper_upper.specs.Orders.{Engine, noOrders, withLower}
 use Rattle.paper_upper.specs.Requests.{upperKinds}
 use Rattle.paper_upper.specs.Engine.{widened, sharedKinds, requestKinds, request}
 use Rattle.sets.proofs.SetLaws.{same-members, has-new, collect-above, collect-below, has-above, plus-lt, plus-member, within-has, has-within, within-trans, within-plus, within-refl, within-empty, within-part}
@@ -59,8 +59,11 @@ pub joined-without-roles : JoinedWithoutRoles
 unfolding joinChecks joinNext userChecks userNext
 joined-without-roles p a = (rw (within-empty (p .people .roles)) (rw (none-broken (p .rules .statics) _ (nothing-down (p .rules .statics) (p .seniority))) refl), refl)
 
-pub added-as-before : AddedAsBefore
-added-as-before t a small =
+added-above : (t : Engine) (a : ℕ) → a < 1024
+    → let p = t .lower .policy in
+    (request t (addUser a) .reply ≡ first (userChecks p a))
+    × (request t (addUser a) .tables ≡ granted (first (userChecks p a)) (with-policy t (userNext p a)) t)
+added-above t a small =
     let p = t .lower .policy in
     let e = asked-join t a empty small (omega arith) in
     let w = joined-without-roles p a in (
@@ -168,8 +171,8 @@ module _ (t : Engine) (a : ℕ) (small : a < 1024) where
       let b = backward empty rs o (rw (added new) at (all .1)) (within-empty (p .people .roles)) (nothing-down (p .rules .statics) (p .seniority)) in
       rw (b .0) (rw (c .0) (rw (none-broken (p .rules .statics) _ (b .1)) refl))
 
-pub joined-as-one-by-one : JoinedAsOneByOne
-joined-as-one-by-one t a small rs o =
+joined-above : (t : Engine) (a : ℕ) → a < 1024 → (rs : List ℕ) → EachOnce empty rs → AsOneByOne request t a rs
+joined-above t a small rs o =
     let m = gathered empty rs in
     let k = gathered-lt empty rs (omega arith) o in
     let e = joins t a small m k in
@@ -177,6 +180,63 @@ joined-as-one-by-one t a small rs o =
       granted = (λ h. steps t a small rs o (sym e ∙ h) .0, λ all. e ∙ whole t a small rs o all);
       tables = λ h. ap (λ x. x .tables) (asked-join t a m small k) ∙ rw (sym e ∙ h) (sym (steps t a small rs o (sym e ∙ h) .1));
     }
+
+-- ---- the lower part alone: of these requests it makes what an engine with no order makes
+abbrev raised : Lower → Engine
+raised t = record { lower = t; orders = noOrders }
+
+granted-raised : (q : ℕ) (t u : Lower) → granted q (raised t) (raised u) ≡ raised (granted q t u)
+granted-raised zero t u = refl
+granted-raised (suc q) t u = refl
+
+abbrev Below : Bytes → Type 0
+Below s = (t : Lower) → (request (raised t) s .reply ≡ lowerRequest t s .reply) × (request (raised t) s .tables ≡ raised (lowerRequest t s .tables))
+
+join-below : (a : ℕ) (m : Set) → Below (join a m)
+unfolding request lowerRequest answer replyTo formChecks requestForms lowerForms formOf requestKinds upperKinds sharedKinds lowerKinds roleKinds sessionKinds widened keep each chosen decode encode
+join-below a m t = (refl, granted-raised (lowerRequest t (join a m) .reply) (chosen lowerKinds 32 .next t (decode (join a m))) t)
+
+assign-below : (a b : ℕ) → Below (assign a b)
+unfolding request lowerRequest answer replyTo formChecks requestForms lowerForms formOf requestKinds upperKinds sharedKinds lowerKinds roleKinds sessionKinds widened keep each chosen decode encode
+assign-below a b t = (refl, granted-raised (lowerRequest t (assign a b) .reply) (chosen lowerKinds 34 .next t (decode (assign a b))) t)
+
+run-below : (ss : List Bytes) → Every Below ss → (t : Lower)
+    → (run request (raised t) ss ≡ run lowerRequest t ss) × (after request (raised t) ss ≡ raised (after lowerRequest t ss))
+unfolding run after
+run-below [] h t = (refl, refl)
+run-below (s ∷ ss) h t =
+    let b = h .0 t in
+    let rest = run-below ss (h .1) (lowerRequest t s .tables) in
+    rw (b .1) (λ i. record { request = s; reply = b .0 i } ∷ rest .0 i, rest .1)
+
+one-by-one-below : (a : ℕ) (rs : List ℕ) → Every Below (oneByOne a rs)
+one-by-one-below a rs = (join-below a empty, every-each Below (assign a) rs (every-all rs (assign-below a)))
+
+joined-below : (t : Lower) (a : ℕ) → a < 1024 → (rs : List ℕ) → EachOnce empty rs → AsOneByOne lowerRequest t a rs
+joined-below t a small rs o =
+    let x = joined-above (raised t) a small rs o in
+    let j = join-below a (gathered empty rs) t in
+    let ran = run-below (oneByOne a rs) (one-by-one-below a rs) t in
+    record {
+      granted = (λ g. subst AllGranted (ran .0) (x .granted .0 (j .0 ∙ g)), λ all. sym (j .0) ∙ x .granted .1 (subst AllGranted (sym (ran .0)) all));
+      tables = λ g. ap (λ (y : Engine). y .lower) (sym (j .1) ∙ x .tables (j .0 ∙ g) ∙ ran .1);
+    }
+
+pub joined-as-one-by-one : JoinedAsOneByOne
+joined-as-one-by-one = record { engine = joined-above; dealers = joined-below }
+
+added-below : (t : Lower) (a : ℕ) → a < 1024
+    → (lowerRequest t (addUser a) .reply ≡ first (userChecks (t .policy) a))
+    × (lowerRequest t (addUser a) .tables ≡ granted (first (userChecks (t .policy) a)) (withPolicy t (userNext (t .policy) a)) t)
+added-below t a small =
+    let x = added-above (raised t) a small in
+    let j = join-below a empty t in (
+      sym (j .0) ∙ x .0,
+      ap (λ (y : Engine). y .lower) (sym (j .1) ∙ x .1 ∙ granted-raised (first (userChecks (t .policy) a)) (withPolicy t (userNext (t .policy) a)) t),
+    )
+
+pub added-as-before : AddedAsBefore
+added-as-before = record { engine = added-above; dealers = added-below }
 
 -- ---- the roles of a set below a number, rising
 listed : ℕ → Set → List ℕ

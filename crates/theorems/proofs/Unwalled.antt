@@ -28,7 +28,7 @@ use Rattle.theorems.proofs.Rows.{Rows, answer-rows, engine-rows, alike-
 use Rattle.theorems.proofs.Made.{aWalled, walls-made}
 use Rattle.theorems.proofs.Seniority.{first-behind, chosen-front, same-answer}
 use Rattle.theorems.proofs.WrittenRuns.{upd-idle}
-use Rattle.theorems.proofs.Walls.{engine-reply}
+use Rattle.theorems.proofs.Walls.{engine-reply, lower-reply}
 
 -- ---- refused as the check is
 same-engine : (t : Engine) (x : ℕ) (s : Bytes) → 59 ≡ x → request t (x ∷ s) .reply ≡ request t (56 ∷ s) .reply
@@ -85,19 +85,32 @@ stays t s (inr e) free =
     same-tables (request t s .reply) (chosen requestKinds (decode s .kind) .next t (decode s)) t
     (ap (λ (n : ℕ). chosen requestKinds n .next t (decode s)) e ∙ ap (λ (x : Lower). withLower t x) (none-bound (t .lower) (decode s .c) free (decode s .a)))
 
-pub outside-walls-all-is-free : OutsideWallsAllIsFree
+stays-below : (t : Lower) (s : Bytes) → CheckOrCommit s → ((w : ℕ) → blockOf (t .policy .walls) (decode s .c) w ≡ none) → lowerRequest t s .tables ≡ t
+unfolding lowerRequest answer lowerKinds roleKinds sessionKinds chosen
+stays-below t s (inl e) free =
+    same-tables (lowerRequest t s .reply) (chosen lowerKinds (decode s .kind) .next t (decode s)) t (ap (λ (n : ℕ). chosen lowerKinds n .next t (decode s)) e)
+stays-below t s (inr e) free =
+    same-tables (lowerRequest t s .reply) (chosen lowerKinds (decode s .kind) .next t (decode s)) t
+    (ap (λ (n : ℕ). chosen lowerKinds n .next t (decode s)) e ∙ none-bound t (decode s .c) free (decode s .a))
+
+-- no check before WALL gives it, and between objects of no wall it does not apply
+never-walled : (l : Lower) (fs : List Form) (s : Bytes) → ((w : ℕ) → blockOf (l .policy .walls) (decode s .c) w ≡ none) → {q : ℕ}
+    → q ≡ first (formChecks fs s ++ checkChecks l (decode s .a) (decode s .b) (decode s .c)) → q ≡ WALL → ⊥
 unfolding formChecks checkChecks
-outside-walls-all-is-free t s kind free =
-    let l = t .lower in
+never-walled l fs s free is e =
     let r = decode s in
-    let early : List Check = formChecks requestForms s
+    let early : List Check = formChecks fs s
     ++ ((not (l .sessions .live (r .a)), UNKNOWN)
     ∷ (not (allowed (l .policy .permissions) (down (l .policy .seniority) (l .sessions .active (r .a))) (r .b) (r .c)), DENIED)
     ∷ []) in
-    let none-between = no-wall l (r .c) free (l .sessions .user (r .a)) in (
-      λ e. not-wall early (omega arith) (sym (ap (λ (b : Bool). first (early ++ ((b, WALL) ∷ []))) none-between) ∙ sym (engine-reply t s kind) ∙ e),
-      stays t s kind free,
-    )
+    let none-between = no-wall l (r .c) free (l .sessions .user (r .a)) in
+    not-wall early (omega arith) (sym (ap (λ (b : Bool). first (early ++ ((b, WALL) ∷ []))) none-between) ∙ sym is ∙ e)
+
+pub outside-walls-all-is-free : OutsideWallsAllIsFree
+outside-walls-all-is-free = record {
+  engine = λ t s kind free. (λ e. never-walled (t .lower) requestForms s free (engine-reply t s kind) e, stays t s kind free);
+  dealers = λ t s kind free. (λ e. never-walled t lowerForms s free (lower-reply t s kind) e, stays-below t s kind free);
+}
 
 -- ---- without walls
 empty-free : (t : Lower) → t .policy .walls ≡ [] → (c w : ℕ) → blockOf (t .policy .walls) c w ≡ none

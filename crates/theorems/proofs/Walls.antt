@@ -392,7 +392,7 @@ unfolding request answer replyTo requestKinds upperKinds sharedKinds widened low
 engine-reply t s (inl e) = ap (λ (n : ℕ). first (formChecks requestForms s ++ chosen requestKinds n .checks t (decode s))) e
 engine-reply t s (inr e) = ap (λ (n : ℕ). first (formChecks requestForms s ++ chosen requestKinds n .checks t (decode s))) e
 
-lower-reply : (t : Lower) (s : Bytes) → CheckOrCommit s
+pub lower-reply : (t : Lower) (s : Bytes) → CheckOrCommit s
     → lowerRequest t s .reply ≡ first (formChecks lowerForms s ++ checkChecks t (decode s .a) (decode s .b) (decode s .c))
 unfolding lowerRequest answer replyTo lowerKinds roleKinds sessionKinds chosen
 lower-reply t s (inl e) = ap (λ (n : ℕ). first (formChecks lowerForms s ++ chosen lowerKinds n .checks t (decode s))) e

@@ -9,10 +9,11 @@ use Rattle.paper_lower.specs.Sets.{Set, empty, has, plus}
 use Rattle.paper_lower.specs.Lists.{each, Every}
 use Rattle.paper_lower.specs.Checks.{GRANTED, first, granted}
 use Rattle.paper_lower.specs.Records.{Bytes}
-use Rattle.paper_lower.specs.Kinds.{Said, run, after}
-use Rattle.paper_lower.specs.Tables.{Policy, withPolicy}
+use Rattle.paper_lower.specs.Kinds.{Answer, Said, run, after}
+use Rattle.paper_lower.specs.Tables.{Policy, Lower, withPolicy}
 use Rattle.paper_lower.specs.Policy.{userChecks, userNext}
 use Rattle.paper_lower.specs.Roles.{joinChecks, joinNext}
+use Rattle.paper_lower.specs.Sessions.{lowerRequest}
 use Rattle.paper_lower.specs.Words.{addUser, join, assign}
 use Rattle.paper_upper.specs.Orders.{Engine, withLower}
 use Rattle.paper_upper.specs.Engine.{request}
@@ -38,22 +39,25 @@ oneByOne a rs = addUser a ∷ each (assign a) rs
 abbrev pub AllGranted : List Said → Type 0
 AllGranted said = Every (λ y. y .reply ≡ GRANTED) said
 
-pub record AsOneByOne (t : Engine) (a : ℕ) (rs : List ℕ) : Type 0 where
-  pub granted : (request t (join a (gathered empty rs)) .reply ≡ GRANTED) ↔ AllGranted (run request t (oneByOne a rs))
-  pub tables : request t (join a (gathered empty rs)) .reply ≡ GRANTED
-      → request t (join a (gathered empty rs)) .tables ≡ after request t (oneByOne a rs)
+pub record AsOneByOne {T : Type 0} (ask : T → Bytes → Answer T) (t : T) (a : ℕ) (rs : List ℕ) : Type 0 where
+  pub granted : (ask t (join a (gathered empty rs)) .reply ≡ GRANTED) ↔ AllGranted (run ask t (oneByOne a rs))
+  pub tables : ask t (join a (gathered empty rs)) .reply ≡ GRANTED → ask t (join a (gathered empty rs)) .tables ≡ after ask t (oneByOne a rs)
 
-abbrev pub JoinedAsOneByOne : Type 0
-JoinedAsOneByOne = (t : Engine) (a : ℕ) → a < 1024 → (rs : List ℕ) → EachOnce empty rs → AsOneByOne t a rs
+-- of the engine, and of the lower part that dealers build
+pub record JoinedAsOneByOne : Type 0 where
+  pub engine : (t : Engine) (a : ℕ) → a < 1024 → (rs : List ℕ) → EachOnce empty rs → AsOneByOne request t a rs
+  pub dealers : (t : Lower) (a : ℕ) → a < 1024 → (rs : List ℕ) → EachOnce empty rs → AsOneByOne lowerRequest t a rs
 
 -- "m = 0 does what it did": what kind 1 does
 abbrev pub JoinedWithoutRoles : Type 0
 JoinedWithoutRoles = (p : Policy) (a : ℕ) → (first (joinChecks p a empty) ≡ first (userChecks p a)) × (joinNext p a empty ≡ userNext p a)
 
 -- and so of the request: the reply and the tables that kind 1 has
-abbrev pub AddedAsBefore : Type 0
-AddedAsBefore =
-    (t : Engine) (a : ℕ) → a < 1024
-    → let p = t .lower .policy in
-    (request t (addUser a) .reply ≡ first (userChecks p a))
-    × (request t (addUser a) .tables ≡ granted (first (userChecks p a)) (withLower t (withPolicy (t .lower) (userNext p a))) t)
+pub record AddedAsBefore : Type 0 where
+  pub engine : (t : Engine) (a : ℕ) → a < 1024
+      → let p = t .lower .policy in
+      (request t (addUser a) .reply ≡ first (userChecks p a))
+      × (request t (addUser a) .tables ≡ granted (first (userChecks p a)) (withLower t (withPolicy (t .lower) (userNext p a))) t)
+  pub dealers : (t : Lower) (a : ℕ) → a < 1024
+      → (lowerRequest t (addUser a) .reply ≡ first (userChecks (t .policy) a))
+      × (lowerRequest t (addUser a) .tables ≡ granted (first (userChecks (t .policy) a)) (withPolicy t (userNext (t .policy) a)) t)

@@ -125,10 +125,11 @@ pub record DeletingForgets : Type 0 where
       → BoundNowhere (request (tablesAfter policy requests) s .tables .lower .sessions .boundTo) (decode s .a))
 
 -- ---- "Objects outside a wall are free of it.": one that is in no wall is never refused with WALL, and binds nobody; whatever the tables hold
-abbrev pub OutsideWallsAllIsFree : Type 0
-OutsideWallsAllIsFree =
-    (t : Engine) (s : Bytes) → CheckOrCommit s → ((w : ℕ) → blockOf (t .lower .policy .walls) (decode s .c) w ≡ none)
-    → (request t s .reply ≡ WALL → ⊥) × (request t s .tables ≡ t)
+pub record OutsideWallsAllIsFree : Type 0 where
+  pub engine : (t : Engine) (s : Bytes) → CheckOrCommit s → ((w : ℕ) → blockOf (t .lower .policy .walls) (decode s .c) w ≡ none)
+      → (request t s .reply ≡ WALL → ⊥) × (request t s .tables ≡ t)
+  pub dealers : (t : Lower) (s : Bytes) → CheckOrCommit s → ((w : ℕ) → blockOf (t .policy .walls) (decode s .c) w ≡ none)
+      → (lowerRequest t s .reply ≡ WALL → ⊥) × (lowerRequest t s .tables ≡ t)
 
 -- ---- Without walls: the kinds that the walls changed, as they stood, and the commit as a check.
 unfoldable pub checkUnwalled : Lower → ℕ → ℕ → ℕ → List Check
