@@ -376,10 +376,12 @@ fn ask() -> Command {
 
 fn journal() -> Command {
     Command::new("journal")
-        .about("Print a desk's journal, or check it")
+        .about("Print a desk's journal, check it, or seal it")
         .long_about(
             "Prints the requests of a journal with their replies, those that meet every option given. With --check, the whole journal is \
-             asked anew from its load on, and every reply, checksum and snapshot compared. A server may be at work meanwhile.",
+             asked anew from its load on, and every reply, sum and snapshot compared. With --seal, the number of the last request and its sum \
+             are printed: kept where nobody who can write the journal can write, they show with --check --seal whatever was changed or cut \
+             before them. A server may be at work meanwhile.",
         )
         .arg(
             Arg::new("file")
@@ -406,10 +408,18 @@ fn journal() -> Command {
         .arg(number("last", "The last so many of these"))
         .arg(flag("json", "One object a line"))
         .arg(flag("check", "Ask everything anew and compare"))
+        .arg(
+            value("seal", "SEAL", "Print the journal's seal; with --check, the seal that it must have")
+                .num_args(0..=1)
+                .default_missing_value("")
+                .conflicts_with("socket"),
+        )
         .after_help(concat!(
             "Examples:\n",
             "  mishantral journal desk.db --user anna --reply refused\n",
             "  mishantral journal desk.db --check\n",
+            "  mishantral journal desk.db --seal >>/elsewhere/seals\n",
+            "  mishantral journal desk.db --check --seal \"$(tail -n 1 /elsewhere/seals)\"\n",
             "  sqlite3 -readonly desk.db 'SELECT reply, count(*) FROM answered GROUP BY reply'\n",
             "\n",
             "Exit status: 0 printed, or sound; 1 the journal is refused; 2 wrong use.",

@@ -276,8 +276,25 @@ fn journal(given: &ArgMatches, out: &mut dyn Write) -> Done {
         return journal_of_desk(given, socket, out);
     }
     let file = text(given, "file").unwrap_or_default();
+    let seal = match text(given, "seal") {
+        Some(word) if !word.is_empty() => {
+            Some(journal::Seal::of_text(word).map_err(|why| Stop::Wrong(vec![why]))?)
+        }
+        _ => None,
+    };
+    let print = given.contains_id("seal") && seal.is_none();
     if given.get_flag("check") {
-        return journal::check(file, out);
+        let sound = journal::check(file, seal.as_ref(), out)?;
+        return match print {
+            true => journal::print_seal(file, out),
+            false => Ok(sound),
+        };
+    }
+    if seal.is_some() {
+        return wrong("a seal is compared by --check: journal FILE --check --seal SEAL");
+    }
+    if print {
+        return journal::print_seal(file, out);
     }
     let word = |name: &str| text(given, name).map(String::from);
     let filter = journal::Filter {

@@ -2,7 +2,7 @@
 
 mod common;
 
-use common::{mishantral, room, run, Server, POLICY};
+use common::{forge, mishantral, room, run, Server, POLICY};
 use rusqlite::Connection;
 use serde_json::Value;
 use std::fs;
@@ -194,7 +194,11 @@ fn what_is_not_fit_is_refused_and_stays_as_it_is() {
     damaged("PRAGMA application_id = 7", "no journal");
     damaged(
         "UPDATE journal SET orders_words = 2000",
-        "it is of another library",
+        "does not have its checksum",
+    );
+    damaged(
+        "UPDATE policy SET words = 'user 300 may everything' WHERE place = 1",
+        "does not have its checksum",
     );
     damaged(
         "UPDATE policy SET a = 305 WHERE place = 1",
@@ -216,7 +220,11 @@ fn what_is_not_fit_is_refused_and_stays_as_it_is() {
         "UPDATE snapshot SET policy = zeroblob(length(policy)) WHERE after = 8",
         "the snapshot after request 8",
     );
-    damaged("UPDATE snapshot SET version = 3", "version 3");
+    damaged(
+        "UPDATE snapshot SET version = 3",
+        "the snapshot after request 8",
+    );
+    damaged("PRAGMA user_version = 4", "reads versions 2 to 3");
     // What is before the snapshot is not read at a start; a check finds it.
     fs::copy(&whole, &journal).unwrap();
     Connection::open(&journal)
@@ -253,9 +261,7 @@ fn a_reply_that_would_be_another_stops_the_server() {
     let sql = Connection::open(&journal).unwrap();
     sql.execute("UPDATE request SET reply = 0 WHERE number = 2", [])
         .unwrap();
-    let sum = row_sum(&sql, 2);
-    sql.execute("UPDATE request SET sum = ?1 WHERE number = 2", [sum])
-        .unwrap();
+    forge::chained(&sql);
     drop(sql);
     let socket = room.join("other.sock");
     let (_, why, status) = run(&[
@@ -271,37 +277,6 @@ fn a_reply_that_would_be_another_stops_the_server() {
         why.contains("the engine answers 5 TAKEN, and had answered 0 GRANTED"),
         "{why}"
     );
-}
-
-/// The sum that a row without names and without a gateway should have behind the one before it, as docs/SERVE.md tells it.
-fn row_sum(sql: &Connection, number: i64) -> i64 {
-    let one = |select: &str, number: i64| -> i64 {
-        let select = format!("SELECT {select} FROM request WHERE number = ?1");
-        sql.query_row(&select, [number], |r| r.get(0)).unwrap()
-    };
-    let of = |field: &str| one(field, number);
-    let account = "SELECT account FROM request WHERE number = ?1";
-    let account: String = sql.query_row(account, [number], |r| r.get(0)).unwrap();
-    let mut words: Vec<u64> = vec![one("sum", number - 1) as u64];
-    words.extend(["number", "at", "client"].map(|field| of(field) as u64));
-    words.push(account.len() as u64);
-    for chunk in account.as_bytes().chunks(8) {
-        let mut word = [0; 8];
-        word[..chunk.len()].copy_from_slice(chunk);
-        words.push(u64::from_le_bytes(word));
-    }
-    // No gateway, the user, and the record's length.
-    words.extend([0, of("coalesce(user, -1)") as u64, 16]);
-    let fields = ["kind", "n", "a", "b", "c"].map(|field| of(field) as u64);
-    words.push(fields[0] | fields[1] << 8 | fields[2] << 16 | fields[3] << 32 | fields[4] << 48);
-    words.push(of("m") as u64);
-    words.push((of("reply") | of("place") << 8) as u64);
-    words.push(of("coalesce(opening, 0)") as u64);
-    let whole = words.iter().fold(0xcbf2_9ce4_8422_2325u64, |sum, word| {
-        let product = (sum ^ word).wrapping_mul(0x9e37_79b9_7f4a_7c15);
-        product ^ product >> 32
-    });
-    i64::from((whole >> 32) as u32 ^ whole as u32)
 }
 
 #[test]

@@ -59,7 +59,7 @@ pub fn measured(file: &str, options: &Options) -> Result<Report, Stop> {
     let refused = |Unfit(why): Unfit| Stop::Refused(vec![format!("{file}: {why}")]);
     journal::there(file)?;
     let connection = journal::reading(file).map_err(|why| refused(why.into()))?;
-    let policy = journal::policy(&connection, file).map_err(refused)?;
+    let policy = journal::head(&connection, file).map_err(refused)?.policy;
     let asked = Asked {
         pairs: Pairs::read(options.from, options.to, &policy.records(), &policy.names)?,
         end: options.end,
@@ -77,7 +77,7 @@ fn replayed(connection: &Connection, file: &str, asked: &Asked, by: &By) -> Resu
     let last = connection.query_row(last, [], |r| r.get(0))?;
     let mut progress = Progress::new("holds", last);
     let mut at = |number| progress.at(number);
-    let names = journal::policy(connection, file)?.names;
+    let names = journal::head(connection, file)?.policy.names;
     let mut measure = Measure::new(asked, names, &mut at);
     let found = journal::of(connection, file, true, &mut measure);
     measure.finish();

@@ -1,10 +1,13 @@
 //! Writing a journal: groups of requests with their replies, one transaction each, and snapshots among them.
 
 use super::begin::{fields, now, PROGRAM};
+use super::chain::{Chain, Note, Start, Sum};
 use super::clock::{Clock, Jump};
 use super::files::{self, Identity, Locks, Reserve};
-use super::found::{reading, Snapshot};
-use super::{found, sum, tables, Barred, Found, Live, Row, VERSION};
+use super::found::{reading, Unfit};
+use super::links::{Kept, Links};
+use super::snapshot::Snapshot;
+use super::{found, head, renew, tables, Barred, Found, Live, Row, VERSION};
 use crate::report::report;
 use crate::source::Policy;
 use crate::stop::Stop;
@@ -40,7 +43,7 @@ pub struct Journal {
     /// Held as long as this lives: a journal has one writer.
     _locks: Locks,
     last: i64,
-    sum: u32,
+    chain: Chain,
     clock: Clock,
     /// A jump of the clock that no group has told yet.
     jump: Option<Jump>,
@@ -71,9 +74,13 @@ impl Journal {
         let refused = |why: String| Stop::Refused(vec![format!("{file}: {why}")]);
         let path = Path::new(file);
         // Where it is none, no file is made beside it.
-        reading(file).map_err(|why| refused(format!("it cannot be opened: {why}")))?;
+        let read = reading(file);
+        let read = read.map_err(|why| refused(format!("it cannot be opened: {why}")))?;
         let locks = Locks::take(path).map_err(refused)?;
-        let found = found(file, false)?;
+        let version = head::version(&read).map_err(|Unfit(why)| refused(why))?;
+        drop(read);
+        // What an earlier version wrote is asked anew from its load on before it is written anew.
+        let found = found(file, version < VERSION)?;
         if let Some(given) = policy.filter(|given| given.bytes != found.policy.bytes) {
             let (given, begun) = (&given.file, &found.policy.file);
             return Err(refused(format!(
@@ -82,15 +89,21 @@ impl Journal {
         }
         let unwritten = |why: String| refused(format!("it cannot be written: {why}"));
         guarded(path).map_err(unwritten)?;
-        let opened = opened(file, saved, found.last);
+        let opened = opened(file, saved);
         let connection = opened.map_err(|why| unwritten(why.to_string()))?;
+        let chain = match &found.links {
+            Links::Chain(chain) => chain.clone(),
+            Links::Checksums(_) => {
+                renew::renewed(&connection, &found).map_err(|Unfit(why)| unwritten(why))?
+            }
+        };
         let identity = Identity::of(path).map_err(refused)?;
         let (reserve, none) = Reserve::make(path);
         none.iter().for_each(report);
         let limits = limited(&connection, &reserve);
         limits.map_err(|why| unwritten(why.to_string()))?;
         let (clock, jump) = Clock::after(found.at);
-        let journal = Journal {
+        let mut journal = Journal {
             connection,
             file: path.to_path_buf(),
             identity,
@@ -98,13 +111,46 @@ impl Journal {
             reserve,
             _locks: locks,
             last: found.last,
-            sum: found.sum,
+            chain,
             clock,
             jump,
             every,
             snapshot: found.snapshot,
         };
+        let started = journal.started(&found);
+        started.map_err(|why| unwritten(why.to_string()))?;
         Ok((journal, found))
+    }
+
+    /// Writes that it was started, so that what cannot be written shows before anyone is answered; and a snapshot, where the last one is of no
+    /// use to this program.
+    fn started(&mut self, found: &Found) -> rusqlite::Result<()> {
+        let start = Start {
+            at: now(),
+            program: PROGRAM.to_string(),
+        };
+        let act = self.connection.unchecked_transaction()?;
+        act.execute(
+            tables::INSERT_START,
+            params![start.at, self.last, start.program],
+        )?;
+        if (found.relaid || found.version < VERSION) && self.last > 0 {
+            self.keep(
+                self.last,
+                self.chain.head(),
+                found.engine.state(),
+                &found.live,
+            )?;
+            self.snapshot = self.last;
+            report(format!(
+                "{}: it was written by another version of the program: {} requests were asked anew, all answered as before",
+                self.file.display(),
+                self.last
+            ));
+        }
+        act.commit()?;
+        self.chain.note(&Note::Start(start));
+        Ok(())
     }
 
     /// The time of a group that is written now.
@@ -133,8 +179,8 @@ impl Journal {
 
     fn tried(&mut self, group: &Group) -> Result<(), Failed> {
         match self.wrote(group) {
-            Ok((last, sum, snapshot)) => {
-                (self.last, self.sum, self.snapshot) = (last, sum, snapshot);
+            Ok((last, chain, snapshot)) => {
+                (self.last, self.chain, self.snapshot) = (last, chain, snapshot);
                 self.jump = None;
                 Ok(())
             }
@@ -147,44 +193,24 @@ impl Journal {
         }
     }
 
-    fn wrote(&self, group: &Group) -> rusqlite::Result<(i64, u32, i64)> {
+    fn wrote(&self, group: &Group) -> rusqlite::Result<(i64, Chain, i64)> {
         let run = |sql| self.connection.prepare_cached(sql)?.execute([]);
         run("BEGIN IMMEDIATE")?;
-        let sum = self.rows(group.rows)?;
-        self.notes(group.barred)?;
+        let mut chain = self.chain.clone();
+        // What was barred stands behind the last request of the group before.
+        self.notes(group.barred, &mut chain)?;
+        rows(&self.connection, group.rows, &mut chain)?;
         let last = group.rows.last().map_or(self.last, |row| row.number);
         let taken = last - self.snapshot >= self.every;
         if taken {
-            self.keep(last, sum, group.state, group.live)?;
+            self.keep(last, chain.head(), group.state, group.live)?;
         }
         run("COMMIT")?;
-        Ok((last, sum, if taken { last } else { self.snapshot }))
-    }
-
-    fn rows(&self, rows: &[Row]) -> rusqlite::Result<u32> {
-        let mut sum = self.sum;
-        let mut insert = self.connection.prepare_cached(tables::INSERT)?;
-        let mut before: Option<&Row> = None;
-        for row in rows {
-            sum = sum::of_row(sum, row);
-            bound(&mut insert, row, before, sum)?;
-            insert.raw_execute()?;
-            before = Some(row);
-            for naming in &row.namings {
-                let mut insert = self.connection.prepare_cached(tables::INSERT_NAME)?;
-                insert.execute(params![
-                    row.number,
-                    naming.sort.word(),
-                    naming.number,
-                    naming.name
-                ])?;
-            }
-        }
-        Ok(sum)
+        Ok((last, chain, if taken { last } else { self.snapshot }))
     }
 
     /// What was barred, and that the clock was set.
-    fn notes(&self, barred: &[Barred]) -> rusqlite::Result<()> {
+    fn notes(&self, barred: &[Barred], chain: &mut Chain) -> rusqlite::Result<()> {
         for one in barred {
             let mut insert = self.connection.prepare_cached(tables::INSERT_BARRED)?;
             let record = one.record.as_ref().map(|record| record.as_ref());
@@ -198,29 +224,30 @@ impl Journal {
                 one.asked,
                 one.why
             ])?;
+            chain.note(&Note::Barred(one.clone()));
         }
         if let Some(jump) = self.jump {
             let mut insert = self.connection.prepare_cached(tables::INSERT_CLOCK)?;
             insert.execute(params![self.last, jump.expected, jump.found])?;
+            chain.note(&Note::Clock(jump));
         }
         Ok(())
     }
 
-    fn keep(&self, after: i64, sum: u32, state: &State, live: &Live) -> rusqlite::Result<()> {
-        let taken = Snapshot::of(after, sum, state, live);
+    fn keep(&self, after: i64, sum: Sum, state: &State, live: &Live) -> rusqlite::Result<()> {
+        let taken = Snapshot::of(after, Kept::Sum(sum), state, live);
         let [policy, sessions, orders, openings] = &taken.blobs;
         let mut insert = self.connection.prepare_cached(tables::INSERT_SNAPSHOT)?;
-        let (names, sum) = (&taken.names, taken.sum());
         insert.execute(params![
             after,
-            VERSION,
-            taken.row_sum,
+            taken.layout,
+            &sum[..],
             policy,
             sessions,
             orders,
             openings,
-            names,
-            sum
+            taken.names,
+            &taken.sum()[..]
         ])?;
         Ok(())
     }
@@ -287,7 +314,7 @@ impl Journal {
     /// Takes a snapshot of the desk as it stands, and moves the log into the journal: what comes last at an end that was asked for.
     pub fn finish(&mut self, state: &State, live: &Live) -> Result<(), Failed> {
         let done = match self.last > self.snapshot {
-            true => self.keep(self.last, self.sum, state, live),
+            true => self.keep(self.last, self.chain.head(), state, live),
             false => Ok(()),
         };
         done.map_err(|why| failed(&why))?;
@@ -296,12 +323,40 @@ impl Journal {
     }
 }
 
+/// Writes rows, each with its sum.
+fn rows(connection: &Connection, rows: &[Row], chain: &mut Chain) -> rusqlite::Result<()> {
+    let mut insert = connection.prepare_cached(tables::INSERT)?;
+    let mut before: Option<&Row> = None;
+    for row in rows {
+        bound(&mut insert, row, before, chain.row(row))?;
+        insert.raw_execute()?;
+        before = Some(row);
+        for naming in &row.namings {
+            let mut insert = connection.prepare_cached(tables::INSERT_NAME)?;
+            let (sort, name) = (naming.sort.word(), &naming.name);
+            insert.execute(params![row.number, sort, naming.number, name])?;
+        }
+        if let Some(moved) = &row.moved {
+            let mut insert = connection.prepare_cached(tables::INSERT_MOVED)?;
+            let account = &*moved.account;
+            insert.execute(params![
+                row.number,
+                moved.number,
+                moved.at,
+                account,
+                moved.opening
+            ])?;
+        }
+    }
+    Ok(())
+}
+
 /// Binds a row's columns. What is as in the row before stays bound: most of a group's rows have one time, client and account.
-fn bound(
+pub fn bound(
     insert: &mut Statement,
     row: &Row,
     before: Option<&Row>,
-    sum: u32,
+    sum: Sum,
 ) -> rusqlite::Result<()> {
     insert.raw_bind_parameter(1, row.number)?;
     if before.is_none_or(|b| (b.at, b.client) != (row.at, row.client)) {
@@ -326,7 +381,10 @@ fn bound(
     insert.raw_bind_parameter(14, row.reply)?;
     insert.raw_bind_parameter(15, row.place)?;
     insert.raw_bind_parameter(16, row.opening)?;
-    insert.raw_bind_parameter(17, sum)
+    if row.key.is_some() || before.is_none_or(|b| b.key.is_some()) {
+        insert.raw_bind_parameter(17, row.key.as_deref())?;
+    }
+    insert.raw_bind_parameter(18, &sum[..])
 }
 
 fn failed(why: &rusqlite::Error) -> Failed {
@@ -351,8 +409,8 @@ fn guarded(file: &Path) -> Result<(), String> {
 /// How many seconds another program's lock is waited for.
 const PATIENCE: u64 = 10;
 
-/// Opens it for writing, and writes that it was opened, so that what cannot be written shows before anyone is answered.
-fn opened(file: &str, saved: Saved, after: i64) -> rusqlite::Result<Connection> {
+/// Opens it for writing.
+fn opened(file: &str, saved: Saved) -> rusqlite::Result<Connection> {
     let flags = OpenFlags::SQLITE_OPEN_READ_WRITE | OpenFlags::SQLITE_OPEN_NO_MUTEX;
     let connection = Connection::open_with_flags(file, flags)?;
     connection.busy_timeout(std::time::Duration::from_secs(PATIENCE))?;
@@ -366,10 +424,6 @@ fn opened(file: &str, saved: Saved, after: i64) -> rusqlite::Result<Connection> 
     )?;
     // A desk reads its journal at its start alone: a small cache is enough.
     connection.pragma_update(None, "cache_size", -512)?;
-    connection.execute(
-        "INSERT INTO start (at, after, program) VALUES (?1, ?2, ?3)",
-        params![now(), after, PROGRAM],
-    )?;
     Ok(connection)
 }
 

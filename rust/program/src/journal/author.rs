@@ -71,6 +71,8 @@ impl Author {
             reply: answer.reply.number(),
             place: answer.place as u16,
             opening: before.or_else(|| self.live.opening(record)),
+            key: None,
+            moved: None,
             namings: namings.to_vec(),
         });
         if self.rows.len() == GROUP {

@@ -1,8 +1,9 @@
 //! A new journal: made whole beside its place, and put there by its name alone, so that a journal that is there is whole.
 
 use super::about::about;
+use super::chain::Sum;
 use super::files::{self, Locks};
-use super::sum::Sum;
+use super::head;
 use super::views::VIEWS;
 use super::{tables, APPLICATION, VERSION};
 use crate::desk::Desk;
@@ -94,13 +95,13 @@ fn filled(new: &Path, policy: &Policy) -> rusqlite::Result<()> {
     let act = connection.transaction()?;
     act.pragma_update(None, "application_id", APPLICATION)?;
     act.pragma_update(None, "user_version", VERSION)?;
-    act.execute_batch(tables::TABLES)?;
+    act.execute_batch(tables::NEW)?;
+    act.execute_batch(tables::KEPT)?;
     act.execute_batch(VIEWS)?;
     words(&act)?;
-    let head = head(policy);
     let [policy_words, sessions_words, orders_words] = lengths();
     act.execute(
-        "INSERT INTO journal VALUES (1, ?1, ?2, ?3, ?4, ?5, ?6, ?7, ?8)",
+        "INSERT INTO journal VALUES (1, ?1, ?2, ?3, ?4, ?5, ?6, ?7, NULL, NULL, NULL, x'')",
         params![
             VERSION,
             PROGRAM,
@@ -108,8 +109,7 @@ fn filled(new: &Path, policy: &Policy) -> rusqlite::Result<()> {
             sessions_words,
             orders_words,
             now(),
-            policy.file,
-            head
+            policy.file
         ],
     )?;
     for (place, record) in policy.records().iter().enumerate() {
@@ -136,6 +136,7 @@ fn filled(new: &Path, policy: &Policy) -> rusqlite::Result<()> {
         } = &naming;
         act.execute(tables::INSERT_NAME, params![0, sort.word(), number, name])?;
     }
+    sealed(&act)?;
     act.commit()?;
     let sound: String = connection.query_row("PRAGMA integrity_check(1)", [], |r| r.get(0))?;
     let mode: String = connection.query_row("PRAGMA journal_mode = WAL", [], |r| r.get(0))?;
@@ -144,6 +145,13 @@ fn filled(new: &Path, policy: &Policy) -> rusqlite::Result<()> {
         return Err(rusqlite::Error::InvalidParameterName(why));
     }
     connection.close().map_err(|(_, why)| why)
+}
+
+/// Gives the head its sum, which the sums of all requests are behind.
+pub fn sealed(act: &Connection) -> rusqlite::Result<Sum> {
+    let sum = head::sum(act)?;
+    act.execute("UPDATE journal SET sum = ?1", [&sum[..]])?;
+    Ok(sum)
 }
 
 /// The replies' names and the kinds' lines, for those who read with SQL.
@@ -210,17 +218,4 @@ pub fn namings(policy: &Policy) -> Vec<Naming> {
         })
     };
     Sort::ALL.into_iter().flat_map(of).filter_map(one).collect()
-}
-
-/// The sum of what stands before the first request: version, lengths, policy and names.
-pub fn head(policy: &Policy) -> i64 {
-    let sum = lengths()
-        .into_iter()
-        .fold(Sum::new().number(VERSION), Sum::number);
-    let sum = sum.text(policy.file.as_bytes()).text(&policy.bytes);
-    let sum = policy
-        .lines
-        .iter()
-        .fold(sum, |sum, &line| sum.number(line as i64));
-    namings(policy).iter().fold(sum, Sum::naming).whole()
 }

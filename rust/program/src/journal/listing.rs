@@ -2,8 +2,11 @@
 //! as it was at the time of the row.
 
 use super::about::about;
-use super::found::{self, given, row, snapshot_before, Unfit};
-use super::{tables, Live, Row};
+use super::found::{self, Unfit};
+use super::head::{head, Head};
+use super::rows::{given, moved, row, select};
+use super::snapshot::snapshot_before;
+use super::{Live, Row};
 use crate::names::{name_of, Names, Sort};
 use crate::stop::{Done, Stop, WELL};
 use crate::writer;
@@ -136,7 +139,9 @@ pub fn list(file: &str, filter: &Filter, out: &mut dyn Write) -> Done {
     let stop = |Unfit(why): Unfit| Stop::Refused(vec![format!("{file}: {why}")]);
     found::there(file)?;
     let connection = found::reading(file).map_err(|why| stop(why.into()))?;
-    let policy = found::policy(&connection, file).map_err(stop)?;
+    let Head {
+        policy, version, ..
+    } = head(&connection, file).map_err(stop)?;
     let picked = picked(&connection, filter, &policy.names)?;
     let mut lines = Lines {
         out,
@@ -145,6 +150,7 @@ pub fn list(file: &str, filter: &Filter, out: &mut dyn Write) -> Done {
     };
     let listing = Listing {
         connection: &connection,
+        version,
         picked,
         filter,
     };
@@ -174,6 +180,7 @@ impl<T: Into<Unfit>> From<T> for Ended {
 
 struct Listing<'a> {
     connection: &'a Connection,
+    version: i64,
     picked: Picked,
     filter: &'a Filter,
 }
@@ -188,15 +195,13 @@ impl Listing<'_> {
         let mut live = before.map_or(Ok(policy), |taken| taken.live())?;
         let mut given = given(&act, after)?;
         let mut jumps = self.jumps(&act)?;
-        let select = format!(
-            "SELECT {} FROM request WHERE number > ?1 ORDER BY number",
-            tables::COLUMNS
-        );
-        let mut select = act.prepare(&select)?;
+        let mut moved = moved(&act, self.version, after)?;
+        let mut select = act.prepare(&select(self.version, "request"))?;
         let mut rows = select.query([after])?;
         while let Some(columns) = rows.next()? {
             let (mut row, _) = row(columns)?;
             row.namings = given.remove(&row.number).unwrap_or_default();
+            row.moved = moved.remove(&row.number);
             while jumps.front().is_some_and(|jump| jump.0 < row.number) {
                 let jump = jumps.pop_front().unwrap_or_default();
                 if jump.0 + 1 >= first {

@@ -5,13 +5,20 @@ mod about;
 mod append;
 mod author;
 mod begin;
+mod chain;
 mod check;
+mod checksums;
 mod clock;
 mod files;
 mod found;
+mod head;
+mod links;
 mod listing;
 mod live;
-mod sum;
+mod renew;
+mod rows;
+mod seal;
+mod snapshot;
 mod tables;
 mod views;
 
@@ -21,16 +28,24 @@ pub use author::Author;
 pub use begin::{begin, LONGEST_NAME};
 pub use check::check;
 pub use files::{lock, private};
-pub use found::{found, of, policy, reading, replay, said, there, Found, Look, Unfit};
+pub use found::{found, of, reading, replay, said, there, Found, Look, Unfit};
+pub use head::head;
 pub use listing::{list, moment, name_of_opening, time, time_of, Filter};
 pub use live::Live;
+pub use seal::{print as print_seal, Seal};
 
 use crate::names::Naming;
 use records::{Record, LENGTH};
 use std::sync::Arc;
 
-/// The version of the tables, and of the layout of the snapshots' buffers (docs/STATE.md).
-pub const VERSION: i64 = 2;
+/// The version of the tables that is written.
+pub const VERSION: i64 = 3;
+
+/// The oldest version that is read. The rows of version 1 lack the account, which nobody can add.
+pub const OLDEST: i64 = 2;
+
+/// The layout of the snapshots' buffers (docs/STATE.md): another one is another number.
+pub const LAYOUT: i64 = 2;
 
 /// What marks an SQLite file as a journal: "MISH".
 pub const APPLICATION: i64 = 0x4d49_5348;
@@ -86,8 +101,24 @@ pub struct Row {
     pub place: u16,
     /// The number of the request that opened the order that this one is about, where that order is open.
     pub opening: Option<i64>,
+    /// The key that its client gave it, by which it is asked once however often it is sent.
+    pub key: Option<Arc<str>>,
+    /// The row of another journal that a move brought it from.
+    pub moved: Option<Moved>,
     /// The names that its line gave, where it was granted.
     pub namings: Vec<Naming>,
+}
+
+/// A row of the journal that a desk was moved from.
+#[derive(Clone, PartialEq, Eq, Debug)]
+pub struct Moved {
+    /// Its number there.
+    pub number: i64,
+    /// When it was asked, and by whom: also where it had been moved there already.
+    pub at: i64,
+    pub account: Arc<str>,
+    /// The opening there.
+    pub opening: Option<i64>,
 }
 
 /// What an account may not ask: it was not put to the engine.

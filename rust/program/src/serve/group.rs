@@ -287,6 +287,8 @@ impl Served {
                 reply: asked.reply,
                 place: asked.place,
                 opening,
+                key: None,
+                moved: None,
                 // A name holds where its request was granted.
                 namings: match asked.reply {
                     0 => asked.namings.clone(),

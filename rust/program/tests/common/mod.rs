@@ -2,6 +2,8 @@
 
 #![allow(dead_code)]
 
+pub mod forge;
+
 use std::fs;
 use std::io::{BufRead, BufReader, Read, Write};
 use std::net::Shutdown;

@@ -1,24 +1,25 @@
-//! Checksums against damage, not against forgery: FNV-1a over 64 bits, eight bytes at a time. Each row's has the one before it in it, so
-//! that a row that is changed, missing or put elsewhere shows.
+//! The checksums of journals of version 2, against damage alone: FNV-1a over 64 bits, eight bytes at a time. They are read, and no longer written.
 
+use super::begin::namings;
 use super::Row;
 use crate::names::Naming;
+use crate::source::Policy;
 
 #[derive(Clone, Copy)]
-pub struct Sum(u64);
+pub struct Checksum(u64);
 
-impl Sum {
-    pub fn new() -> Sum {
-        Sum(0xcbf2_9ce4_8422_2325)
+impl Checksum {
+    pub fn new() -> Checksum {
+        Checksum(0xcbf2_9ce4_8422_2325)
     }
 
     /// One word of eight bytes. The product's upper half is folded in, so that every bit of a word reaches every bit of the sum.
-    fn word(self, word: u64) -> Sum {
+    fn word(self, word: u64) -> Checksum {
         let product = (self.0 ^ word).wrapping_mul(0x9e37_79b9_7f4a_7c15);
-        Sum(product ^ product >> 32)
+        Checksum(product ^ product >> 32)
     }
 
-    pub fn bytes(self, bytes: &[u8]) -> Sum {
+    fn bytes(self, bytes: &[u8]) -> Checksum {
         let words = bytes.chunks_exact(8);
         let rest = words.remainder();
         let sum = words.fold(self, |sum, word| {
@@ -32,16 +33,16 @@ impl Sum {
         sum.word(u64::from_le_bytes(last))
     }
 
-    pub fn number(self, number: i64) -> Sum {
+    pub fn number(self, number: i64) -> Checksum {
         self.word(number as u64)
     }
 
     /// Bytes with their length before them.
-    pub fn text(self, text: &[u8]) -> Sum {
+    pub fn text(self, text: &[u8]) -> Checksum {
         self.number(text.len() as i64).bytes(text)
     }
 
-    pub fn naming(self, naming: &Naming) -> Sum {
+    fn naming(self, naming: &Naming) -> Checksum {
         self.text(naming.sort.word().as_bytes())
             .number(naming.number.into())
             .text(&naming.name)
@@ -57,11 +58,11 @@ impl Sum {
     }
 }
 
-/// A row's sum behind the one of the row before it.
+/// A row's checksum behind the one of the row before it.
 pub fn of_row(before: u32, row: &Row) -> u32 {
     let user = row.user.map_or(-1, i64::from);
     let replied = i64::from(row.reply) | i64::from(row.place) << 8;
-    let sum = Sum::new()
+    let sum = Checksum::new()
         .number(before.into())
         .number(row.number)
         .number(row.at)
@@ -72,10 +73,21 @@ pub fn of_row(before: u32, row: &Row) -> u32 {
         .text(row.bytes.as_ref())
         .number(replied)
         .number(row.opening.unwrap_or(0));
-    row.namings.iter().fold(sum, |sum, n| sum.naming(n)).half()
+    let named = row.namings.iter().fold(sum, |sum, n| sum.naming(n));
+    named.half()
 }
 
-/// The sum that the first row's is behind: that of the journal's head.
+/// The checksum that the first row's is behind: that of the journal's head.
 pub fn first(head: i64) -> u32 {
-    Sum(head as u64).half()
+    Checksum(head as u64).half()
+}
+
+/// The checksum of what stands before the first request: version, the buffers' lengths, policy and names.
+pub fn head(policy: &Policy, lengths: [i64; 3]) -> i64 {
+    let sum = Checksum::new().number(2);
+    let sum = lengths.into_iter().fold(sum, Checksum::number);
+    let sum = sum.text(policy.file.as_bytes()).text(&policy.bytes);
+    let lines = policy.lines.iter();
+    let sum = lines.fold(sum, |sum, &line| sum.number(line as i64));
+    namings(policy).iter().fold(sum, Checksum::naming).whole()
 }
