@@ -1,16 +1,22 @@
 //! `ask`: lines to a desk that is served, and its replies; and `journal --socket`, which reads a journal through the desk.
+//!
+//! Each request is sent with a key of its own. Where the connection is lost, what was not answered is sent again, to whichever of the
+//! servers has the desk by then: what had been done is answered as it was, and nothing is done twice.
+
+mod again;
 
 use crate::report::report;
 use crate::stop::{wrong, Done, Stop, REFUSED, WELL, WRONG};
+use again::Keys;
 use serde_json::{json, Value};
 use std::io::{self, BufRead, BufReader, Read, Write};
-use std::net::Shutdown;
 use std::os::unix::net::UnixStream;
-use std::thread;
+use std::time::{Duration, Instant};
 
 /// How a desk is asked, and its replies shown.
 pub struct Options<'a> {
-    pub socket: &'a str,
+    /// The servers of the desk: whoever has it answers.
+    pub sockets: &'a [String],
     pub desk: Option<&'a str>,
     /// The account that a gateway speaks for.
     pub account: Option<&'a str>,
@@ -19,6 +25,15 @@ pub struct Options<'a> {
     pub why: bool,
     /// A refusal is exit status 1.
     pub strict: bool,
+    /// How long a server that is gone is looked for again.
+    pub retry: Duration,
+}
+
+impl Options<'_> {
+    /// The servers, as messages name them.
+    fn shown(&self) -> String {
+        self.sockets.join(", ")
+    }
 }
 
 /// A connection to a desk that has taken what is said first.
@@ -27,16 +42,40 @@ struct Asked {
     replies: BufReader<UnixStream>,
 }
 
-fn failed(socket: &str) -> impl Fn(io::Error) -> Stop + '_ {
-    move |why| Stop::Wrong(vec![format!("{socket}: {why}")])
+fn failed(options: &Options) -> impl Fn(io::Error) -> Stop {
+    let sockets = options.shown();
+    move |why| Stop::Wrong(vec![format!("{sockets}: {why}")])
+}
+
+/// Connects to the first server that has the desk; or what each said.
+fn connected(options: &Options) -> Result<Asked, Stop> {
+    let mut told = Vec::new();
+    for socket in options.sockets {
+        match greeted(options, socket) {
+            Ok(asked) => return Ok(asked),
+            Err(why) => told.push(format!("{socket}: {why}")),
+        }
+    }
+    Err(Stop::Wrong(told))
+}
+
+/// The same, again and again, of servers that are gone or are taking the desk over.
+fn again(options: &Options) -> Result<Asked, Stop> {
+    let began = Instant::now();
+    loop {
+        let came = connected(options);
+        if came.is_ok() || began.elapsed() >= options.retry {
+            return came;
+        }
+        std::thread::sleep(Duration::from_millis(50));
+    }
 }
 
 /// Connects, and says who, which desk and in which form.
-fn connected(options: &Options) -> Result<Asked, Stop> {
-    let socket = options.socket;
-    let failed = failed(socket);
-    let stream = UnixStream::connect(socket).map_err(&failed)?;
-    let mut replies = BufReader::new(stream.try_clone().map_err(&failed)?);
+fn greeted(options: &Options, socket: &str) -> Result<Asked, String> {
+    let failed = |why: io::Error| why.to_string();
+    let stream = UnixStream::connect(socket).map_err(failed)?;
+    let mut replies = BufReader::new(stream.try_clone().map_err(failed)?);
     let account = options.account.map(|account| format!("as {account}"));
     let desk = options.desk.map(|desk| format!("desk {desk}"));
     let first = account.into_iter().chain(desk);
@@ -44,18 +83,20 @@ fn connected(options: &Options) -> Result<Asked, Stop> {
         // One that was told something else already may be gone.
         let _ = writeln!(&stream, "{line}");
         let mut told = String::new();
-        replies.read_line(&mut told).map_err(&failed)?;
+        replies.read_line(&mut told).map_err(failed)?;
         if told.trim_end() != line {
             let told = told.trim_end();
             let told = told.strip_prefix("wrong: ").unwrap_or(told);
-            return wrong(match told {
-                "" => format!("{socket}: the server ended the connection"),
-                told => format!("{socket}: {told}"),
+            return Err(match told {
+                "" => ENDED.to_string(),
+                told => told.to_string(),
             });
         }
     }
     Ok(Asked { stream, replies })
 }
+
+const ENDED: &str = "the server ended the connection";
 
 /// What a reply comes to.
 #[derive(Clone, Copy, PartialEq, Eq)]
@@ -124,6 +165,12 @@ fn sent(line: &str, json: bool) -> String {
     }
 }
 
+/// Whether a line, or the request of an object, is a question, which changes nothing and has no key.
+fn is_question(line: &str) -> bool {
+    let word = line.split_whitespace().next().unwrap_or_default();
+    matches!(word, "who" | "finish" | "why" | "journal")
+}
+
 /// Whether a line asks for nothing.
 fn is_blank(line: &str) -> bool {
     let line = line.trim_start_matches('\u{feff}').trim_start();
@@ -135,7 +182,11 @@ type Lines = Box<dyn Iterator<Item = io::Result<String>> + Send>;
 
 pub fn ask(options: &Options, lines: &[String], out: &mut dyn Write) -> Done {
     let asked = connected(options)?;
-    let (lines, given) = (lines.to_vec(), !lines.is_empty());
+    let given = !lines.is_empty();
+    let lines: Vec<String> = lines
+        .iter()
+        .flat_map(|word| word.lines().map(String::from))
+        .collect();
     let from_input = || {
         let mut line = String::new();
         match io::stdin().read_line(&mut line) {
@@ -148,53 +199,37 @@ pub fn ask(options: &Options, lines: &[String], out: &mut dyn Write) -> Done {
         true => Box::new(lines.into_iter().map(Ok)),
         false => Box::new(std::iter::from_fn(from_input)),
     };
+    let keys = Keys::new().map_err(|why| Stop::Wrong(vec![format!("/dev/urandom: {why}")]))?;
     match options.why {
-        true => one_by_one(options, asked, all, out),
-        false => at_once(options, asked, all, out),
-    }
-}
-
-/// Replies are read while requests are sent, so that neither side waits for the other to read.
-fn at_once(options: &Options, mut asked: Asked, lines: Lines, out: &mut dyn Write) -> Done {
-    let (failed, json) = (failed(options.socket), options.json);
-    let stream = asked.stream.try_clone().map_err(&failed)?;
-    let sender = thread::spawn(move || -> io::Result<()> {
-        let mut to = io::BufWriter::new(&stream);
-        for line in lines {
-            let line = line?;
-            if !is_blank(&line) {
-                writeln!(to, "{}", sent(&line, json))?;
-                to.flush()?;
-            }
-        }
-        stream.shutdown(Shutdown::Write)
-    });
-    let mut worst = WELL;
-    for reply in asked.replies.by_ref().lines() {
-        let reply = reply.map_err(&failed)?;
-        worst = status(worst, came(&reply), options.strict);
-        writeln!(out, "{reply}")?;
-        out.flush()?;
-    }
-    match sender.join() {
-        Ok(Ok(())) => Ok(worst),
-        // A desk that has ended was told above.
-        Ok(Err(why)) if why.kind() == io::ErrorKind::BrokenPipe => Ok(WRONG),
-        Ok(Err(why)) => Err(failed(why)),
-        Err(_) => wrong("standard input could not be sent"),
+        true => one_by_one(options, asked, keys, all, out),
+        false => again::at_once(options, asked, keys, all, out),
     }
 }
 
 /// Each line waits for its reply, and a refusal for its explanation.
-fn one_by_one(options: &Options, mut asked: Asked, lines: Lines, out: &mut dyn Write) -> Done {
-    let failed = failed(options.socket);
+fn one_by_one(
+    options: &Options,
+    mut asked: Asked,
+    mut keys: Keys,
+    lines: Lines,
+    out: &mut dyn Write,
+) -> Done {
+    let failed = failed(options);
     let mut worst = WELL;
     for line in lines {
         let line = line.map_err(|why| Stop::Wrong(vec![format!("standard input: {why}")]))?;
         if is_blank(&line) {
             continue;
         }
-        let replies = asked.answered(&line, options.json).map_err(&failed)?;
+        let keyed = keys.keyed(&line, options.json);
+        let replies = match asked.answered(&keyed) {
+            Ok(replies) => replies,
+            // Gone: it is sent again, with the same key.
+            Err(_) => {
+                asked = again(options)?;
+                asked.answered(&keyed).map_err(&failed)?
+            }
+        };
         let (last, rows) = replies.split_last().ok_or(Stop::Quiet)?;
         for row in rows {
             writeln!(out, "{row}")?;
@@ -221,14 +256,14 @@ fn one_by_one(options: &Options, mut asked: Asked, lines: Lines, out: &mut dyn W
 }
 
 impl Asked {
-    fn answered(&mut self, line: &str, json: bool) -> io::Result<Vec<String>> {
-        writeln!(&self.stream, "{}", sent(line, json))?;
-        let question = line.trim_start().starts_with("journal");
+    fn answered(&mut self, line: &str) -> io::Result<Vec<String>> {
+        writeln!(&self.stream, "{line}")?;
+        let question = again::is_listing(line);
         let mut all = Vec::new();
         loop {
             let mut reply = String::new();
-            if self.replies.read_line(&mut reply)? == 0 {
-                return Err(io::Error::other("the server ended the connection"));
+            if self.replies.read_line(&mut reply)? == 0 || again::is_end(&reply) {
+                return Err(io::Error::other(ENDED));
             }
             let reply = reply.trim_end().to_string();
             let more = is_row(&reply, question);
@@ -245,7 +280,8 @@ impl Asked {
             Ok(object) => object["request"].as_str().unwrap_or_default().to_string(),
             Err(_) => line.to_string(),
         };
-        let told = self.answered(&format!("why {line}"), true)?;
+        let line = again::without_key(&line);
+        let told = self.answered(&sent(&format!("why {line}"), true))?;
         let last = told.last().map_or("", String::as_str);
         let object: Value = serde_json::from_str(last).unwrap_or_default();
         let why = object["answer"]["why"].as_array().cloned();
@@ -264,12 +300,12 @@ pub fn journal(options: &Options, filter: &[(&str, String)], out: &mut dyn Write
             false => format!(" {word} {}", crate::names::quoted(value.as_bytes())),
         };
     }
-    let failed = failed(options.socket);
+    let failed = failed(options);
     writeln!(&asked.stream, "{}", sent(&line, options.json)).map_err(&failed)?;
     for row in asked.replies.by_ref().lines() {
         let row = row.map_err(&failed)?;
         if came(&row) == Came::Not {
-            report(format!("{}: {row}", options.socket));
+            report(format!("{}: {row}", options.shown()));
             return Ok(WRONG);
         }
         if !is_row(&row, true) {
@@ -277,10 +313,7 @@ pub fn journal(options: &Options, filter: &[(&str, String)], out: &mut dyn Write
         }
         writeln!(out, "{row}")?;
     }
-    wrong(format!(
-        "{}: the server ended the connection",
-        options.socket
-    ))
+    wrong(format!("{}: {ENDED}", options.shown()))
 }
 
 #[cfg(test)]

@@ -311,6 +311,7 @@ fn serve() -> Command {
         )
         .arg(number("group", "How many requests go into one transaction at most; 4096 where it is missing"))
         .arg(number("snapshot", "Take a snapshot after so many requests; 100000 where it is missing"))
+        .arg(number("keys", "For how many days a request that is sent again with its key is answered from the journal; 30 where it is missing"))
         .arg(number("clients", "How many clients there may be at once; 1000 where it is missing"))
         .arg(number("account-clients", "How many clients of one account there may be at once; half of all where it is missing"))
         .arg(number("question-seconds", "How many seconds a question (who, finish, why) may take; 5 where it is missing"))
@@ -349,9 +350,14 @@ fn ask() -> Command {
         .long_about(
             "Sends lines to a desk and prints a reply for each: its number, the reply, and the figures of a question. A line may be a \
              request, or one of the questions `who ORDER TASK`, `finish ORDER`, `finish all`, `why REQUEST` and `journal`. Whom the desk \
-             takes the sender for is the system's word: the account that runs this program.",
+             takes the sender for is the system's word: the account that runs this program. Each request has a key: where the \
+             connection is lost, what was not answered is sent again, and nothing is done twice.",
         )
-        .arg(socket("The server's socket"))
+        .arg(socket("The server's socket; of several, given one by one, the one that has the desk answers").action(ArgAction::Append))
+        .arg(
+            value("retry", "SECONDS", "How long a server that is gone is looked for again; 10 where it is missing, and 0 for not at all")
+                .value_parser(clap::value_parser!(u64)),
+        )
         .arg(value("desk", "NAME", "Which desk, where there are several"))
         .arg(value("as", "ACCOUNT", "The account that is spoken for: allowed to accounts that speak for everyone"))
         .arg(flag("why", "Explain each refusal, as `run` does"))

@@ -36,6 +36,7 @@ use source::{Format, Policy};
 use std::fs::File;
 use std::io::{stdout, BufWriter, Write};
 use std::process::ExitCode;
+use std::time::Duration;
 use stop::{wrong, Done, Stop, REFUSED, WELL, WRONG};
 
 fn text<'a>(given: &'a ArgMatches, name: &str) -> Option<&'a str> {
@@ -232,6 +233,7 @@ fn serve(given: &ArgMatches, out: &mut dyn Write) -> Done {
             Some("normal") => Saved::Normal,
             _ => Saved::Full,
         },
+        keys: number("keys", 30) as i64 * 86_400_000_000,
         clients: number("clients", 1000) as usize,
         clients_each: given
             .get_one::<u64>("account-clients")
@@ -261,12 +263,13 @@ fn journal_of_desk(given: &ArgMatches, socket: &str, out: &mut dyn Write) -> Don
         filter.push(("barred", String::new()));
     }
     let options = ask::Options {
-        socket,
+        sockets: &[socket.to_string()],
         desk: text(given, "desk"),
         account: None,
         json: given.get_flag("json"),
         why: false,
         strict: false,
+        retry: Duration::ZERO,
     };
     ask::journal(&options, &filter, out)
 }
@@ -426,13 +429,15 @@ fn done(out: &mut dyn Write) -> Done {
         Some(("mend", given)) => mend(given, out),
         Some(("serve", given)) => serve(given, out),
         Some(("ask", given)) => {
+            let retry = given.get_one::<u64>("retry").copied();
             let options = ask::Options {
-                socket: text(given, "socket").unwrap_or_default(),
+                sockets: &words(given, "socket"),
                 desk: text(given, "desk"),
                 account: text(given, "as"),
                 json: given.get_flag("json"),
                 why: given.get_flag("why"),
                 strict: given.get_flag("strict"),
+                retry: Duration::from_secs(retry.unwrap_or(10)),
             };
             ask::ask(&options, &words(given, "lines"), out)
         }

@@ -6,13 +6,16 @@ use super::clock::{Clock, Jump};
 use super::files::{self, Identity, Locks, Reserve};
 use super::found::{reading, Unfit};
 use super::links::{Kept, Links};
+use super::rows::record;
 use super::snapshot::Snapshot;
-use super::{found, head, renew, tables, Barred, Found, Live, Row, VERSION};
+use super::{
+    found, head, renew, tables, Barred, Bytes, Found, Known, Live, Recorded, Row, Whose, VERSION,
+};
 use crate::report::report;
 use crate::source::Policy;
 use crate::stop::Stop;
 use mishantral::State;
-use rusqlite::{params, Connection, ErrorCode, OpenFlags, Statement};
+use rusqlite::{params, Connection, ErrorCode, OpenFlags, OptionalExtension, Statement};
 use std::path::{Path, PathBuf};
 use std::sync::Arc;
 
@@ -300,6 +303,38 @@ impl Journal {
             ));
             self.large = 2 * log;
         }
+    }
+
+    /// What these accounts were answered under these keys since a time.
+    pub fn known(&mut self, keyed: &[Whose], since: i64) -> Result<Known, Failed> {
+        let mut known = Known::new();
+        for whose in keyed {
+            let recorded = self.recorded(whose, since);
+            if let Some(recorded) = recorded.map_err(|why| failed(&why))? {
+                known.insert(whose.clone(), recorded);
+            }
+        }
+        Ok(known)
+    }
+
+    /// The last request that an account sent with a key: here, or in the journal that the desk was moved from.
+    fn recorded(&self, (account, key): &Whose, since: i64) -> rusqlite::Result<Option<Recorded>> {
+        let mut select = self.connection.prepare_cached(tables::KNOWN)?;
+        let found = select.query_row(params![&**account, &**key, since], |r| {
+            let cut: Option<Vec<u8>> = r.get(7)?;
+            let bytes = match cut {
+                Some(cut) => Bytes::of(&cut),
+                None => Bytes::of(&record(r, 1)?.0),
+            };
+            let (number, reply, place) = (r.get(0)?, r.get(8)?, r.get(9)?);
+            Ok(Recorded {
+                number,
+                bytes,
+                reply,
+                place,
+            })
+        });
+        found.optional()
     }
 
     /// What is to be looked at while nobody asks: the files, and the log.

@@ -36,6 +36,7 @@ pub use seal::{print as print_seal, Seal};
 
 use crate::names::Naming;
 use records::{Record, LENGTH};
+use std::collections::HashMap;
 use std::sync::Arc;
 
 /// The version of the tables that is written.
@@ -120,6 +121,32 @@ pub struct Moved {
     /// The opening there.
     pub opening: Option<i64>,
 }
+
+/// What a request was answered, as it is told to whoever sends it again by its key.
+#[derive(Clone, Copy, PartialEq, Eq, Debug)]
+pub struct Recorded {
+    pub number: i64,
+    pub bytes: Bytes,
+    pub reply: u8,
+    pub place: u16,
+}
+
+impl Recorded {
+    pub fn of(row: &Row) -> Recorded {
+        Recorded {
+            number: row.number,
+            bytes: row.bytes,
+            reply: row.reply,
+            place: row.place,
+        }
+    }
+}
+
+/// An account and a key of its own.
+pub type Whose = (Arc<str>, Arc<str>);
+
+/// What accounts were answered under their keys.
+pub type Known = HashMap<Whose, Recorded>;
 
 /// What an account may not ask: it was not put to the engine.
 #[derive(Clone, PartialEq, Eq, Debug)]

@@ -128,3 +128,9 @@ pub const INSERT_START: &str = "INSERT INTO start (at, after, program) VALUES (?
 pub const INSERT_SNAPSHOT: &str =
     "INSERT OR REPLACE INTO snapshot (after, version, row_sum, policy, sessions, orders, openings, names, sum) \
      VALUES (?1, ?2, ?3, ?4, ?5, ?6, ?7, ?8, ?9)";
+
+/// What an account was answered under a key since a time, the last of it.
+pub const KNOWN: &str = "
+SELECT number, kind, n, a, b, c, m, cut, reply, place, at FROM request WHERE account = ?1 AND key = ?2 AND key IS NOT NULL AND at >= ?3
+UNION ALL SELECT number, NULL, NULL, NULL, NULL, NULL, NULL, record, reply, place, at FROM moved_key WHERE account = ?1 AND key = ?2 AND at >= ?3
+ORDER BY at DESC, number DESC LIMIT 1";

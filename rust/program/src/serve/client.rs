@@ -6,7 +6,8 @@ use super::door::{Door, Entered};
 use super::form::{self, Item, Shown};
 use super::greeting::{greeted, Form, Greeted};
 use super::group::{Asked, Batch, Waiting};
-use super::input::{Cut, Input};
+use super::input::{Cut, Input, Keyed};
+use super::keys;
 use super::question::{self, Asks, Unanswered};
 use crate::journal::{self, Barred, Bytes};
 use nix::unistd::Uid;
@@ -96,6 +97,7 @@ pub fn serve(stream: &Arc<UnixStream>, number: i64, uid: Uid, house: &House) -> 
     match form {
         Form::Lines => client.lines(),
         Form::Records => client.records(),
+        Form::Keyed => client.keyed(),
     }
 }
 
@@ -112,6 +114,30 @@ impl Client<'_> {
                     break;
                 };
                 self.ask(Asked::of(&record, Vec::new()), Shown::Record);
+            }
+            if !self.answered()? && !self.next()? {
+                return Ok(());
+            }
+        }
+    }
+
+    /// Records, each with its key behind it.
+    fn keyed(mut self) -> io::Result<()> {
+        loop {
+            while self.asked.len() < MOST {
+                let Some(Keyed { record, key }) = self.input.keyed() else {
+                    break;
+                };
+                let mut asked = Asked::of(&record, Vec::new());
+                match key
+                    .filter(|key| !key.is_empty())
+                    .map(|key| keys::key_of(&key))
+                {
+                    None => {}
+                    Some(Ok(key)) => asked.key = Some(key),
+                    Some(Err(why)) => asked.unread = Some(why),
+                }
+                self.ask(asked, Shown::Record);
             }
             if !self.answered()? && !self.next()? {
                 return Ok(());
@@ -184,14 +210,24 @@ impl Client<'_> {
         if line.first() == Some(&b'{') {
             return self.object(line);
         }
-        self.said(line, Shown::Line)
+        match keys::of_line(line) {
+            Ok((key, line)) => self.said(line, key, Shown::Line),
+            Err(why) => {
+                self.wrong(&why, Shown::Line);
+                Ok(false)
+            }
+        }
     }
 
     fn object(&mut self, line: &[u8]) -> io::Result<bool> {
         match form::of_object(line) {
-            (Ok(form::Said::Line(text)), id) => self.said(text.as_bytes(), Shown::Object(id)),
-            (Ok(form::Said::Record(bytes)), id) => {
-                Ok(self.ask(Asked::of(&bytes, Vec::new()), Shown::Object(id)))
+            (Ok((form::Said::Line(text), key)), id) => {
+                self.said(text.as_bytes(), key, Shown::Object(id))
+            }
+            (Ok((form::Said::Record(bytes), key)), id) => {
+                let mut asked = Asked::of(&bytes, Vec::new());
+                asked.key = key;
+                Ok(self.ask(asked, Shown::Object(id)))
             }
             (Err(why), id) => {
                 self.wrong(&why, Shown::Object(id));
@@ -201,7 +237,7 @@ impl Client<'_> {
     }
 
     /// Takes what a line says: a question, or a request.
-    fn said(&mut self, line: &[u8], shown: Shown) -> io::Result<bool> {
+    fn said(&mut self, line: &[u8], key: form::Key, shown: Shown) -> io::Result<bool> {
         match question::of_line(line) {
             None => {}
             Some(Err(how)) => {
@@ -216,12 +252,22 @@ impl Client<'_> {
         }
         let read = form::of_line(line, &self.door.live());
         match read {
-            Ok(None) if matches!(shown, Shown::Line) => Ok(false),
+            Ok(None) if matches!(shown, Shown::Line) && key.is_none() => Ok(false),
             Ok(None) => {
                 self.wrong("the request is empty", shown);
                 Ok(false)
             }
-            Ok(Some(asked)) => Ok(self.ask(asked, shown)),
+            Ok(Some(mut asked)) => {
+                asked.key = key;
+                Ok(self.ask(asked, shown))
+            }
+            // Names may have ended since it was first sent: what is known under its key is answered all the same.
+            Err(why) if key.is_some() => {
+                let mut asked = Asked::of(&[], Vec::new());
+                (asked.key, asked.choose) = (key, form::choice_of(line));
+                asked.unread = Some(format!("line {}, {why}", self.lines));
+                Ok(self.ask(asked, shown))
+            }
             Err(why) => {
                 self.wrong(&why, shown);
                 Ok(false)

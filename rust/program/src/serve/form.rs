@@ -1,11 +1,13 @@
 //! The forms that requests and replies have: lines of the notation, objects a line, and records.
 
 use super::group::{Asked, More};
+use super::keys;
 use crate::journal::{said, Live, LONGEST_NAME};
 use crate::names::Sort;
 use crate::reader::{self, Token};
 use records::Reply;
 use serde_json::{json, Value};
+use std::sync::Arc;
 
 /// One thing that a client said, in its place among the others.
 pub enum Item {
@@ -50,6 +52,12 @@ pub fn of_line(line: &[u8], live: &Live) -> Result<Option<Asked>, String> {
     Ok(Some(asked))
 }
 
+/// The sort of number that the server chooses for a line, whether or not its names can be read.
+pub fn choice_of(line: &[u8]) -> Option<Sort> {
+    let text = reader::decode(line).ok()?;
+    chosen(&mut reader::tokens(text).0)
+}
+
 /// Where a line opens an order or creates a subject without a number, a number is put there, which the server chooses anew:
 /// `open order mill of template repair`, `create subject for user anna with roles clerk`.
 fn chosen(tokens: &mut Vec<Token>) -> Option<Sort> {
@@ -73,20 +81,28 @@ pub enum Said {
     Record(Vec<u8>),
 }
 
-/// What an object says, `{"request": "claim 5 0 1"}`, or `{"record": "3200..."}` in hexadecimal digits; and its `id`.
-pub fn of_object(line: &[u8]) -> (Result<Said, String>, Option<Value>) {
+/// The key of a request, by which it may be sent again.
+pub type Key = Option<Arc<str>>;
+
+/// What an object says, `{"request": "claim 5 0 1"}`, or `{"record": "3200..."}` in hexadecimal digits, with its `key`; and its `id`.
+pub fn of_object(line: &[u8]) -> (Result<(Said, Key), String>, Option<Value>) {
     let mut object: Value = match serde_json::from_slice(line) {
         Ok(object) => object,
         Err(why) => return (Err(format!("no object: {why}")), None),
     };
     let id = object.get_mut("id").map(Value::take);
+    let key = match object.get("key") {
+        None => Ok(None),
+        Some(Value::String(key)) => keys::key_of(key.as_bytes()).map(Some),
+        Some(_) => Err("a key is text".to_string()),
+    };
     let said = match (object["request"].as_str(), object["record"].as_str()) {
         (Some(line), None) if line.contains('\n') => Err("a request is one line".to_string()),
         (Some(line), None) => Ok(Said::Line(line.to_string())),
         (None, Some(digits)) => bytes_of(digits).map(Said::Record),
         _ => Err("an object has a \"request\", a line, or a \"record\", its digits".to_string()),
     };
-    (said, id)
+    (said.and_then(|said| Ok((said, key?))), id)
 }
 
 /// Hexadecimal digits, two a byte, at most sixteen bytes.

@@ -1,4 +1,4 @@
-//! What a client may say before its requests, a line each: `as ACCOUNT`, `desk NAME`, `lines`, `records`. Each is answered with the same
+//! What a client may say before its requests, a line each: `as ACCOUNT`, `desk NAME`, `lines`, `records`, `keyed`. Each is answered with the same
 //! line. Without them there is one desk, and the first byte tells the form: a letter, `{` or a byte order mark begins text; every other
 //! byte is the kind of a record, since no kind is a letter. Text that begins with a comment or a blank says `lines` first.
 
@@ -17,6 +17,8 @@ use std::sync::Arc;
 pub enum Form {
     Lines,
     Records,
+    /// Records, each with its key behind it.
+    Keyed,
 }
 
 /// A client that may go on to its requests.
@@ -30,7 +32,7 @@ pub struct Greeted {
 }
 
 /// The words that begin such a line; a line of one word ends behind it.
-const WORDS: [&[u8]; 4] = [b"as ", b"desk ", b"lines", b"records"];
+const WORDS: [&[u8]; 5] = [b"as ", b"desk ", b"lines", b"records", b"keyed"];
 
 /// Whether the line that comes is one of them. What is there may be too little to tell; then more is waited for.
 fn comes(input: &mut Input<Stream>) -> io::Result<bool> {
@@ -106,6 +108,10 @@ pub fn greeted(
             },
             ("lines", _) => {
                 form = Some(Form::Lines);
+                Ok(())
+            }
+            ("keyed", _) => {
+                form = Some(Form::Keyed);
                 Ok(())
             }
             _ => {

@@ -3,7 +3,10 @@
 
 use super::account::Who;
 use super::form;
-use crate::journal::{user_of, Barred, Bytes, Failed, Group, Journal, Live, Row};
+use super::keys::{self, Remembered};
+use crate::journal::{
+    user_of, Barred, Bytes, Failed, Group, Journal, Known, Live, Recorded, Row, Whose,
+};
 use crate::names::{Naming, Sort};
 use crate::writer;
 use mishantral::{Engine, ANSWER};
@@ -23,6 +26,10 @@ pub struct Asked {
     pub line: Option<(Box<[u8]>, u64)>,
     /// The server chooses the number of this sort: the lowest that is free.
     pub choose: Option<Sort>,
+    /// By which it may be sent again.
+    pub key: Option<Arc<str>>,
+    /// Why it could not be read: it is asked for by its key alone.
+    pub unread: Option<String>,
     /// Its number among the desk's requests; 0 until it is answered.
     pub number: i64,
     pub reply: u8,
@@ -53,6 +60,8 @@ impl Asked {
             namings,
             line: None,
             choose: None,
+            key: None,
+            unread: None,
             number: 0,
             reply: 0,
             place: 0,
@@ -98,6 +107,10 @@ pub struct Served {
     pub last: i64,
     /// How many requests this and other desks have answered since the start.
     pub answered: Arc<AtomicU64>,
+    /// For how long a key is honoured, in microseconds.
+    pub keys: i64,
+    /// The keys of a desk without a journal.
+    pub remembered: Remembered,
 }
 
 /// How often the journal's files are looked at while nobody asks.
@@ -246,6 +259,8 @@ impl Served {
         let before = kept.then(|| (self.engine.clone(), self.live.openings));
         let changes = self.live.changes;
         let at = self.journal.as_mut().map_or(0, Journal::time);
+        let mut known = self.known(group, part, at)?;
+        let mut again: Vec<(usize, usize, Recorded)> = Vec::new();
         let mut rows: Vec<Row> = Vec::with_capacity(part.len());
         let mut places: Vec<(usize, usize)> = Vec::with_capacity(part.len());
         let mut barred: Vec<Barred> = Vec::new();
@@ -256,6 +271,11 @@ impl Served {
             } = &mut group[batch];
             let (client, asked) = (*client, &mut asked[request]);
             let (account, via) = (who.account.clone(), who.via.clone());
+            let whose = asked.key.clone().map(|key| (account.clone(), key));
+            if let Some(recorded) = whose.as_ref().and_then(|whose| known.get(whose)) {
+                again.push((batch, request, *recorded));
+                continue;
+            }
             if let Err(why) = self.settled(asked) {
                 asked.more = More::Wrong(why);
                 continue;
@@ -276,6 +296,9 @@ impl Served {
             }
             let (user, opening) = self.asks(asked, number);
             places.push((batch, request));
+            if let Some(whose) = whose {
+                known.insert(whose, recorded(number, asked));
+            }
             rows.push(Row {
                 number,
                 at,
@@ -287,7 +310,7 @@ impl Served {
                 reply: asked.reply,
                 place: asked.place,
                 opening,
-                key: None,
+                key: asked.key.clone(),
                 moved: None,
                 // A name holds where its request was granted.
                 namings: match asked.reply {
@@ -325,7 +348,47 @@ impl Served {
         if self.live.changes != changes {
             self.publish(&rows);
         }
+        for (batch, request, recorded) in again {
+            keys::answered(
+                &mut group[batch].asked[request],
+                &recorded,
+                &self.live.names,
+            );
+        }
+        if !kept {
+            for row in rows {
+                if let Some(key) = row.key.clone() {
+                    let recorded = Recorded::of(&row);
+                    self.remembered.keep((row.account, key), recorded);
+                }
+            }
+        }
         Ok(())
+    }
+
+    /// What is known under the keys of these requests.
+    fn known(
+        &mut self,
+        group: &[Batch],
+        part: &[(usize, usize)],
+        at: i64,
+    ) -> Result<Known, Failed> {
+        let mut keyed: Vec<Whose> = Vec::new();
+        for &(batch, request) in part {
+            let Batch { who, asked, .. } = &group[batch];
+            let key = asked[request].key.clone();
+            keyed.extend(key.map(|key| (who.account.clone(), key)));
+        }
+        if keyed.is_empty() {
+            return Ok(Known::new());
+        }
+        match &mut self.journal {
+            Some(journal) => journal.known(&keyed, at - self.keys),
+            None => {
+                let one = |whose: Whose| Some((whose.clone(), self.remembered.get(&whose)?));
+                Ok(keyed.into_iter().filter_map(one).collect())
+            }
+        }
     }
 
     /// Whether an account may ask this, beside the engine, so that nothing changes between the two.
@@ -353,6 +416,9 @@ impl Served {
 
     /// What a request says by the names that hold now, with the number that the server chooses; or what is wrong with it.
     fn settled(&self, asked: &mut Asked) -> Result<(), String> {
+        if let Some(why) = asked.unread.take() {
+            return Err(why);
+        }
         if let Some((line, changes)) = asked.line.take() {
             if changes != self.live.changes {
                 let again = form::of_line(&line, &self.live)?;
@@ -419,5 +485,15 @@ impl Served {
             }
         }
         (user, before.or_else(|| self.live.opening(&record)))
+    }
+}
+
+/// What a request is answered under its key from now on.
+fn recorded(number: i64, asked: &Asked) -> Recorded {
+    Recorded {
+        number,
+        bytes: asked.bytes,
+        reply: asked.reply,
+        place: asked.place,
     }
 }

@@ -26,6 +26,13 @@ pub enum Cut {
     TooLong,
 }
 
+/// A record and its key, of which there is none behind a cut one.
+#[derive(PartialEq, Eq, Debug)]
+pub struct Keyed {
+    pub record: Vec<u8>,
+    pub key: Option<Vec<u8>>,
+}
+
 impl<R: Read> Input<R> {
     pub fn new(from: R) -> Input<R> {
         Input {
@@ -92,6 +99,27 @@ impl<R: Read> Input<R> {
                 false => Cut::Line(line),
             });
         }
+    }
+
+    /// The next record with its key behind it: a byte that has the key's length, and the key. At the end of input the last may be cut.
+    pub fn keyed(&mut self) -> Option<Keyed> {
+        let rest = self.rest();
+        if rest.len() <= LENGTH {
+            let record = if self.ended { self.record() } else { None };
+            return record.map(|record| Keyed { record, key: None });
+        }
+        let (record, rest) = (rest[..LENGTH].to_vec(), &rest[LENGTH..]);
+        let length = 1 + usize::from(rest[0]);
+        if rest.len() < length && !self.ended {
+            return None;
+        }
+        // A key that is cut is none that there may be.
+        let key = rest.get(1..length).map_or(vec![0], <[u8]>::to_vec);
+        self.at += LENGTH + length.min(rest.len());
+        Some(Keyed {
+            record,
+            key: Some(key),
+        })
     }
 
     /// The next record that is there whole; at the end of input the last may be cut.
@@ -170,5 +198,40 @@ mod tests {
             }
         }
         assert_eq!(all, [&bytes[..16], &bytes[16..32], &bytes[32..]]);
+    }
+
+    #[test]
+    fn a_record_has_its_key_behind_it() {
+        let mut bytes: Vec<u8> = (0..16).collect();
+        bytes.extend([2, b'a', b'b']);
+        bytes.extend(16..32);
+        bytes.push(0);
+        bytes.extend(32..48);
+        bytes.extend([3, b'c']);
+        for drop in [1, 5, 100] {
+            let mut input = Input::new(Drops(&bytes, drop));
+            let mut all = Vec::new();
+            while !input.ended() {
+                input.fill().unwrap();
+                while let Some(keyed) = input.keyed() {
+                    all.push(keyed);
+                }
+            }
+            let one = |from: usize, to: usize, key: &[u8]| Keyed {
+                record: bytes[from..to].to_vec(),
+                key: Some(key.to_vec()),
+            };
+            let expected = [one(0, 16, b"ab"), one(19, 35, b""), one(36, 52, b"\0")];
+            assert_eq!(all, expected, "{drop}");
+        }
+        let mut input = Input::new(Drops(&bytes[..7], 100));
+        input.fill().unwrap();
+        assert_eq!(input.keyed(), None);
+        input.fill().unwrap();
+        let cut = Keyed {
+            record: bytes[..7].to_vec(),
+            key: None,
+        };
+        assert_eq!(input.keyed(), Some(cut));
     }
 }

@@ -10,6 +10,7 @@ mod form;
 mod greeting;
 mod group;
 mod input;
+mod keys;
 mod listen;
 mod question;
 
@@ -57,6 +58,8 @@ pub struct Options {
     /// After how many requests a snapshot is taken.
     pub snapshot: i64,
     pub saved: Saved,
+    /// For how long a key is honoured, in microseconds.
+    pub keys: i64,
     /// How many clients there may be at once, and of one account.
     pub clients: usize,
     pub clients_each: Option<usize>,
@@ -221,6 +224,8 @@ fn opened(options: &Options, wanted: &Wanted, answered: &Arc<AtomicU64>) -> Resu
         most: options.group,
         last,
         answered: answered.clone(),
+        keys: options.keys,
+        remembered: Default::default(),
     };
     let (to, waiting) = channel();
     let (name, file) = (wanted.name.clone(), wanted.journal.clone());

@@ -140,3 +140,129 @@ pub fn waited(what: &str, mut holds: impl FnMut() -> bool) {
     }
     panic!("{what}: it does not come");
 }
+
+pub fn whoami() -> String {
+    let whoami = Command::new("id").arg("-un").output().unwrap().stdout;
+    String::from_utf8(whoami).unwrap().trim().to_string()
+}
+
+/// Where a desk of a test has its journal: a file, or a database.
+pub struct Place {
+    pub room: PathBuf,
+    /// As `--journal` takes it.
+    pub journal: String,
+    /// In a database, the desk.
+    pub desk: Option<String>,
+}
+
+/// A place in each store that there is. Without a PostgreSQL server (tools/postgresql) it is said that there is one less.
+pub fn stores(name: &str) -> Vec<Place> {
+    let file = room(name);
+    let mut all = vec![Place {
+        journal: file.join("desk.db").to_str().unwrap().to_string(),
+        desk: None,
+        room: file,
+    }];
+    match database() {
+        Some(journal) => all.push(Place {
+            journal,
+            desk: Some(format!("{name}-{}", std::process::id())),
+            room: room(&format!("{name}-pg")),
+        }),
+        None => eprintln!("{name}: not tried with PostgreSQL, which is not there"),
+    }
+    all
+}
+
+/// The address of the PostgreSQL server that the tests have.
+pub fn database() -> Option<String> {
+    std::env::var("MISHANTRAL_POSTGRESQL").ok()
+}
+
+impl Place {
+    /// `--journal` and `--desk`, as every command takes them.
+    pub fn options(&self) -> Vec<&str> {
+        let mut all = vec!["--journal", &self.journal];
+        if let Some(desk) = &self.desk {
+            all.extend(["--desk", desk]);
+        }
+        all
+    }
+
+    pub fn start(&self, more: &[&str]) -> Server {
+        self.start_at("desk.sock", more)
+    }
+
+    pub fn start_at(&self, socket: &str, more: &[&str]) -> Server {
+        let socket = self.room.join(socket);
+        let mut all = vec!["serve"];
+        all.extend(self.options());
+        all.extend(["--socket", socket.to_str().unwrap()]);
+        all.extend(more);
+        Server::started(&mut mishantral(&all), socket)
+    }
+
+    /// `journal`, with its file in its place.
+    pub fn journal(&self, more: &[&str]) -> (String, String, i32) {
+        let mut all = vec!["journal", &self.journal];
+        if let Some(desk) = &self.desk {
+            all.extend(["--desk", desk]);
+        }
+        all.extend(more);
+        run(&all)
+    }
+
+    /// The rows that `journal` prints.
+    pub fn listed(&self, more: &[&str]) -> Vec<String> {
+        let (listed, why, status) = self.journal(more);
+        assert_eq!(status, 0, "{why}");
+        listed.lines().map(String::from).collect()
+    }
+
+    /// The whole journal asked anew; what is told of it.
+    pub fn checked(&self, told: &str) {
+        let (checked, why, status) = self.journal(&["--check"]);
+        assert_eq!(
+            (checked.contains(told), status),
+            (true, 0),
+            "{checked}{why}"
+        );
+    }
+
+    /// One column of rows, by SQL that both stores understand.
+    pub fn rows(&self, select: &str) -> Vec<serde_json::Value> {
+        match &self.desk {
+            None => {
+                let sql = rusqlite::Connection::open(&self.journal).unwrap();
+                let mut select = sql.prepare(select).unwrap();
+                let one = |row: &rusqlite::Row| {
+                    Ok(match row.get::<_, rusqlite::types::Value>(0)? {
+                        rusqlite::types::Value::Integer(number) => number.into(),
+                        rusqlite::types::Value::Text(text) => text.into(),
+                        _ => serde_json::Value::Null,
+                    })
+                };
+                let rows = select.query_map([], one).unwrap();
+                rows.map(Result::unwrap).collect()
+            }
+            Some(desk) => {
+                let lines = self.psql(&format!(
+                    "SELECT to_json(x) FROM ({}) AS q (x)",
+                    select.replace(" FROM request", &format!(" FROM (SELECT * FROM mishantral.request WHERE desk = '{desk}') AS request"))
+                ));
+                let one = |line: &str| serde_json::from_str(line).unwrap();
+                lines.lines().map(one).collect()
+            }
+        }
+    }
+
+    /// What psql prints.
+    pub fn psql(&self, sql: &str) -> String {
+        let mut command = Command::new("psql");
+        command.args([&self.journal, "-X", "-q", "-A", "-t", "-c", sql]);
+        let output = command.output().unwrap();
+        let told = String::from_utf8(output.stderr).unwrap();
+        assert!(output.status.success(), "{sql}: {told}");
+        String::from_utf8(output.stdout).unwrap().trim().to_string()
+    }
+}
