@@ -109,7 +109,8 @@ module _ (p₀ p₁ p₂ p₃ : ℕ) (h₀ : p₀ < 65536) (h₁ : p₁ < 65536)
           ap (λ (k : ℕ). k / 65536 % 65536) r₁ ∙ ap (λ (k : ℕ). k % 65536) (high-part p₀ y h₀) ∙ low-part p₁ z h₁,
           (
             ap (λ (k : ℕ). k / 4294967296 % 65536) r₂ ∙ ap (λ (k : ℕ). k % 65536) (halves (p₀ + 65536 * p₁) z (omega arith)) ∙ low-part p₂ p₃ h₂,
-            ap (λ (k : ℕ). k / 281474976710656 % 65536) is ∙ ap (λ (k : ℕ). k % 65536) (top (p₀ + 65536 * p₁ + 4294967296 * p₂) p₃ (omega arith)) ∙ (let m : p₃ % 65536 ≡ p₃ = omega arith in m),
+            ap (λ (k : ℕ). k / 281474976710656 % 65536) is ∙ ap (λ (k : ℕ). k % 65536) (top (p₀ + 65536 * p₁ + 4294967296 * p₂) p₃ (omega arith)) ∙
+                (let m : p₃ % 65536 ≡ p₃ = omega arith in m),
           ),
         ),
       )
@@ -140,7 +141,8 @@ over-words u a v b = fun-ext at
     mask : ℕ
     mask = u % 65536 * 281479271743489
 
-    every : (mask % 65536 ≡ u % 65536) × ((mask / 65536 % 65536 ≡ u % 65536) × ((mask / 4294967296 % 65536 ≡ u % 65536) × (mask / 281474976710656 % 65536 ≡ u % 65536)))
+    every : (mask % 65536 ≡ u % 65536) ×
+        ((mask / 65536 % 65536 ≡ u % 65536) × ((mask / 4294967296 % 65536 ≡ u % 65536) × (mask / 281474976710656 % 65536 ≡ u % 65536)))
     every = planes (u % 65536) (u % 65536) (u % 65536) (u % 65536) (omega arith) (omega arith) (omega arith) (omega arith) mask (omega arith)
 
     at-plane : (p m x y w : ℕ) → p ≡ picked m x y → m ≡ u % 65536 → has p w ≡ cond (has (u % 65536) w) (has x w) (has y w)
@@ -153,15 +155,23 @@ over-words u a v b = fun-ext at
     at w =
         let walls = ap (λ (k : ℕ). has k w) low ∙ has-or (u % 65536) (v % 65536) w in
         let q₀ = at-plane (picked mask a b % 65536) (mask % 65536) (a % 65536) (b % 65536) w (picked-mod 16 mask a b) (every .0) in
-        let q₁ = at-plane (picked mask a b / 65536 % 65536) (mask / 65536 % 65536) (a / 65536 % 65536) (b / 65536 % 65536) w (picked-part 16 mask a b) (every .1 .0) in
-        let q₂ = at-plane (picked mask a b / 4294967296 % 65536) (mask / 4294967296 % 65536) (a / 4294967296 % 65536) (b / 4294967296 % 65536) w (picked-part 32 mask a b) (every .1 .1 .0) in
-        let q₃ = at-plane (picked mask a b / 281474976710656 % 65536) (mask / 281474976710656 % 65536) (a / 281474976710656 % 65536) (b / 281474976710656 % 65536) w (picked-part 48 mask a b) (every .1 .1 .1) in
+        let q₁ =
+        at-plane (picked mask a b / 65536 % 65536) (mask / 65536 % 65536) (a / 65536 % 65536) (b / 65536 % 65536) w (picked-part 16 mask a b)
+        (every .1 .0) in
+        let q₂ =
+        at-plane (picked mask a b / 4294967296 % 65536) (mask / 4294967296 % 65536) (a / 4294967296 % 65536) (b / 4294967296 % 65536) w
+        (picked-part 32 mask a b) (every .1 .1 .0) in
+        let q₃ =
+        at-plane (picked mask a b / 281474976710656 % 65536) (mask / 281474976710656 % 65536) (a / 281474976710656 % 65536) (b / 281474976710656 % 65536) w
+        (picked-part 48 mask a b) (every .1 .1 .1) in
         ap₂ (λ (t : Bool) (k : ℕ). cond t (just k) none) walls (λ i. told (q₀ i) (q₁ i) (q₂ i) (q₃ i))
         ∙ chosen (has (u % 65536) w) (has (v % 65536) w) _ _ _ _ _ _ _ _
 
 -- ---- a single block
 power : (i t : ℕ) → has (2 ^ t) i ≡ eqb t i
-power i t = ⊎-elim (λ e. bit-has (2 ^ t) i (rw e (bit-one t)) ∙ sym (eq-eqb t i (sym e))) (λ n. bit-hasnt (2 ^ t) i (bit-other i t n) ∙ sym (ne-eqb t i (λ e. n (sym e)))) (same-or-other i t)
+power i t =
+    ⊎-elim (λ e. bit-has (2 ^ t) i (rw e (bit-one t)) ∙ sym (eq-eqb t i (sym e)))
+    (λ n. bit-hasnt (2 ^ t) i (bit-other i t n) ∙ sym (ne-eqb t i (λ e. n (sym e)))) (same-or-other i t)
 
 low-digit : (x : ℕ) → cond (eqb (x % 2) 1) 1 0 ≡ x % 2
 low-digit x = go (eqb (x % 2) 1) refl
@@ -237,7 +247,8 @@ single-words wall block one p₀ p₁ p₂ p₃ h k o e₀ e₁ e₂ e₃ l₀ l
         in-planes p₀ p₁ p₂ p₃ (omega arith) (omega arith) (omega arith) (omega arith) (p₀ + 65536 * p₁ + 4294967296 * p₂ + 281474976710656 * p₃) refl wall
         ∙ (λ i. told (q₀ i) (q₁ i) (q₂ i) (q₃ i)) ∙ digits block k
 
-    at : (w : ℕ) → cond (has (one % 65536) w) (just (blockIn (p₀ + 65536 * p₁ + 4294967296 * p₂ + 281474976710656 * p₃) w)) none ≡ cond (eqb wall w) (just block) none
+    at : (w : ℕ) →
+        cond (has (one % 65536) w) (just (blockIn (p₀ + 65536 * p₁ + 4294967296 * p₂ + 281474976710656 * p₃) w)) none ≡ cond (eqb wall w) (just block) none
     at w = ap (λ (t : Bool). cond t (just (blockIn (p₀ + 65536 * p₁ + 4294967296 * p₂ + 281474976710656 * p₃) w)) none) (walls w) ∙ go (eqb wall w) refl
       where
         go : (t : Bool) → eqb wall w ≡ t → cond t (just (blockIn (p₀ + 65536 * p₁ + 4294967296 * p₂ + 281474976710656 * p₃) w)) none ≡ cond t (just block) none
@@ -270,7 +281,9 @@ told-apart : (a₀ a₁ a₂ a₃ b₀ b₁ b₂ b₃ : Bool)
     → not (eqb (told b₀ b₁ b₂ b₃) (told a₀ a₁ a₂ a₃)) ≡ differs a₀ b₀ || (differs a₁ b₁ || (differs a₂ b₂ || differs a₃ b₃))
 unfolding told
 told-apart a₀ a₁ a₂ a₃ b₀ b₁ b₂ b₃ =
-    digit-apart a₀ b₀ _ _ ∙ ap (λ (x : Bool). differs a₀ b₀ || x) (digit-apart a₁ b₁ _ _ ∙ ap (λ (x : Bool). differs a₁ b₁ || x) (digit-apart a₂ b₂ _ _ ∙ ap (λ (x : Bool). differs a₂ b₂ || x) (last-apart a₃ b₃)))
+    digit-apart a₀ b₀ _ _ ∙
+    ap (λ (x : Bool). differs a₀ b₀ || x)
+    (digit-apart a₁ b₁ _ _ ∙ ap (λ (x : Bool). differs a₁ b₁ || x) (digit-apart a₂ b₂ _ _ ∙ ap (λ (x : Bool). differs a₂ b₂ || x) (last-apart a₃ b₃)))
 
 and-true : (x : Bool) → (x && true) ≡ x
 and-true true = refl
@@ -283,7 +296,8 @@ and-false false = refl
 -- the planes in which two words differ, joined
 abbrev pub unlike : ℕ → ℕ → Set
 unlike a b =
-    bitOr (bitOr (bitOr (bitXor (a % 65536) (b % 65536)) (bitXor (a / 65536 % 65536) (b / 65536 % 65536))) (bitXor (a / 4294967296 % 65536) (b / 4294967296 % 65536)))
+    bitOr
+    (bitOr (bitOr (bitXor (a % 65536) (b % 65536)) (bitXor (a / 65536 % 65536) (b / 65536 % 65536))) (bitXor (a / 4294967296 % 65536) (b / 4294967296 % 65536)))
     (bitXor (a / 281474976710656 % 65536) (b / 281474976710656 % 65536))
 
 or-right : (p q r s : Bool) → (((p || q) || r) || s) ≡ p || (q || (r || s))
@@ -296,7 +310,9 @@ has-unlike : (a b i : ℕ) → has (unlike a b) i ≡ not (eqb (blockIn b i) (bl
 unfolding blockIn
 has-unlike a b i =
     has-or _ _ i
-    ∙ ap₂ _||_ (has-or _ _ i ∙ ap₂ _||_ (has-or _ _ i ∙ ap₂ _||_ (has-xor (a % 65536) (b % 65536) i) (has-xor (a / 65536 % 65536) (b / 65536 % 65536) i)) (has-xor (a / 4294967296 % 65536) (b / 4294967296 % 65536) i))
+    ∙ ap₂ _||_ (has-or _ _ i ∙
+    ap₂ _||_ (has-or _ _ i ∙ ap₂ _||_ (has-xor (a % 65536) (b % 65536) i) (has-xor (a / 65536 % 65536) (b / 65536 % 65536) i))
+    (has-xor (a / 4294967296 % 65536) (b / 4294967296 % 65536) i))
     (has-xor (a / 281474976710656 % 65536) (b / 281474976710656 % 65536) i)
     ∙ or-right (differs (in₀ a) (in₀ b)) (differs (in₁ a) (in₁ b)) (differs (in₂ a) (in₂ b)) (differs (in₃ a) (in₃ b))
     ∙ sym (told-apart (in₀ a) (in₁ a) (in₂ a) (in₃ a) (in₀ b) (in₁ b) (in₂ b) (in₃ b))
@@ -320,7 +336,9 @@ apart-at u a v b i =
     ∙ ap₂ _&&_ (has-unlike a b i) (has-and (u % 65536) (v % 65536) i)
     ∙ go (has (u % 65536) i) (has (v % 65536) i)
   where
-    go : (p q : Bool) → not (eqb (blockIn b i) (blockIn a i)) && (p && q) ≡ holds (λ k. holds (λ n. not (eqb n k)) (cond q (just (blockIn b i)) none)) (cond p (just (blockIn a i)) none)
+    go : (p q : Bool) →
+        not (eqb (blockIn b i) (blockIn a i)) && (p && q) ≡
+        holds (λ k. holds (λ n. not (eqb n k)) (cond q (just (blockIn b i)) none)) (cond p (just (blockIn a i)) none)
     go true true = and-true (not (eqb (blockIn b i) (blockIn a i)))
     go true false = and-false (not (eqb (blockIn b i) (blockIn a i)))
     go false q = and-false (not (eqb (blockIn b i) (blockIn a i)))
@@ -329,11 +347,13 @@ pub between-words : (u a v b : ℕ) → not (eqb (bitAnd (unlike a b) (bitAnd (u
 between-words u a v b =
     ap (λ (m : Set). not (eqb m 0)) (same-members _ _ (λ i. at i (ltb i 16) refl)) ∙ sym (some-collected 16 (apart (blocksIn u a) (blocksIn v b)))
   where
-    at : (i : ℕ) (t : Bool) → ltb i 16 ≡ t → has (bitAnd (unlike a b) (bitAnd (u % 65536) (v % 65536))) i ≡ has (collect 16 (apart (blocksIn u a) (blocksIn v b))) i
+    at : (i : ℕ) (t : Bool) → ltb i 16 ≡ t →
+        has (bitAnd (unlike a b) (bitAnd (u % 65536) (v % 65536))) i ≡ has (collect 16 (apart (blocksIn u a) (blocksIn v b))) i
     at i true e = apart-at u a v b i ∙ sym (collect-below 16 (apart (blocksIn u a) (blocksIn v b)) i (ltb-true i 16 e))
     at i false e =
         let far = ltb-false i 16 e in
         has-and (unlike a b) (bitAnd (u % 65536) (v % 65536)) i
-        ∙ ap (λ (x : Bool). has (unlike a b) i && x) (has-and (u % 65536) (v % 65536) i ∙ ap (λ (x : Bool). x && has (v % 65536) i) (has-above 16 (u % 65536) i (omega arith) far))
+        ∙ ap (λ (x : Bool). has (unlike a b) i && x)
+        (has-and (u % 65536) (v % 65536) i ∙ ap (λ (x : Bool). x && has (v % 65536) i) (has-above 16 (u % 65536) i (omega arith) far))
         ∙ and-false (has (unlike a b) i)
         ∙ sym (collect-above 16 (apart (blocksIn u a) (blocksIn v b)) i far)

@@ -14,10 +14,10 @@
 // The words of the buffers go from line to line by value: a proof about a value is far cheaper than one about what is lent.
 ghost use Prim.Native.Nat.{_<_, _≤_};
 ghost use lib.ListN.{length};
-use links::ORDERS_WORDS;
-use loading::Loaded;
+use order_links::ORDERS_WORDS;
+use order_rules::Judged;
 use policy::POLICY_WORDS;
-use rules::Judged;
+use policy_loading::Loaded;
 use scripts::Fields;
 use scripts::Handed;
 use sessions::SESSIONS_WORDS;

@@ -13,13 +13,13 @@ use Rattle.paper_lower.specs.Kinds.{Answer, Said, after}
 use Rattle.paper_lower.specs.Load.{load}
 use Rattle.paper_upper.specs.Orders.{Engine, SameTables}
 use Rattle.paper_upper.specs.Engine.{request, placeTo, Placed, placedRun, engineOf}
-use Rattle.rules.specs.declared.Judged.{Judged}
+use Rattle.order_rules.specs.declared.Judged.{Judged}
 use Rattle.replies.specs.Replies.{numberOf}
-use Rattle.links.specs.Chains.{soundOf}
+use Rattle.order_links.specs.Chains.{soundOf}
 use Rattle.engine.specs.Buffers.{Buffers, tablesOf, fit, SameLengths}
 use Rattle.engine.specs.Answers.{CallAnswer, requestAnswer, Requested, loadAnswer}
 use Rattle.engine.specs.Exports.{RequestExported, LoadExported}
-use Rattle.links.proofs.SameLaws.{tables-then}
+use Rattle.order_links.proofs.SameLaws.{tables-then}
 use Rattle.engine.proofs.RespectLaws.{respects}
 use Rattle.engine.proofs.Ways.{load-exported, request-exported}
 use Rattle.theorems.specs.Replies.{inTable, Listed}
@@ -249,7 +249,8 @@ said-fitting [] = refl
 said-fitting (a ∷ ys) = go (not (eqb (a .said .reply) ROOM)) (said-fitting ys)
   where
     go : (b : Bool) → allSaid (fitting (λ a. a .said) ys) ≡ fitting (λ y. y) (allSaid ys)
-        → allSaid (cond b (a ∷ fitting (λ a. a .said) ys) (fitting (λ a. a .said) ys)) ≡ cond b (a .said ∷ fitting (λ y. y) (allSaid ys)) (fitting (λ y. y) (allSaid ys))
+        → allSaid (cond b (a ∷ fitting (λ a. a .said) ys) (fitting (λ a. a .said) ys)) ≡
+        cond b (a .said ∷ fitting (λ y. y) (allSaid ys)) (fitting (λ y. y) (allSaid ys))
     go true h = ap (λ (l : List Said). a .said ∷ l) h
     go false h = h
 

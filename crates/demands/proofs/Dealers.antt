@@ -94,7 +94,8 @@ load-reply : {bytes : Bytes} {x y : Buffers} {reply : ℕ} → Load bytes x y re
 load-reply (load-within d) = d .replies
 load-reply {bytes} {x} (load-exported-here {n} d) = first-byte _ _ n (load-listed bytes x) (d .answers)
 
-pub loads : {bytes : Bytes} {x y : Buffers} {reply : ℕ} → Load bytes x y reply → fit x ≡ true → (reply ≡ load bytes .reply) × (tablesOf y ≡ lowerOf (load bytes .tables))
+pub loads : {bytes : Bytes} {x y : Buffers} {reply : ℕ} → Load bytes x y reply → fit x ≡ true →
+    (reply ≡ load bytes .reply) × (tablesOf y ≡ lowerOf (load bytes .tables))
 loads l f = (load-reply l ∙ rw f, as-load l .1 .tables ∙ rw f)
 
 place-of : {bytes : Bytes} {p s p′ s′ : List ℕ} {r : Reply} {i : ℕ} → lower.fit p s ≡ true → lower.Loads bytes p s p′ s′ r i → i ≡ load bytes .place
@@ -200,7 +201,8 @@ from-here : {x z : Buffers} {said : List Said} → fit x ≡ true → Requests x
     → let fitted = fitting (λ y. y) said in
     (fitted ≡ run lowerRequest (tablesOf x) (asked (λ y. y) fitted)) × (tablesOf z ≡ after lowerRequest (tablesOf x) (asked (λ y. y) fitted))
 from-here {x} {said = said} f c =
-    let a = chain-run Called Together fit tablesOf (λ t s. lowerRequest t s .tables) (λ y. y) told (run lowerRequest) (λ t u. t ≡ u) reading c f (tablesOf x) refl in
+    let a =
+    chain-run Called Together fit tablesOf (λ t s. lowerRequest t s .tables) (λ y. y) told (run lowerRequest) (λ t u. t ≡ u) reading c f (tablesOf x) refl in
     (a .0, a .1 ∙ after-all lowerRequest (tablesOf x) (asked (λ y. y) (fitting (λ y. y) said)))
 
 joined-calls : {x y z : Buffers} {reply : ℕ} {said : List Said} (a : ℕ) (roles : List ℕ) → fit x ≡ true → a < 1024 → EachOnce empty roles

@@ -21,14 +21,14 @@ use Rattle.paper_upper.specs.Engine.{requestKinds, request, placeTo, Placed, pl
 use Rattle.replies.specs.Replies.{numberOf}
 use Rattle.replies.specs.declared.Reply.{Reply}
 use Rattle.replies.specs.declared.Reply.the-variants.{Granted, Room, Shape, Range, Unknown, Taken, InUse, Rule, NotAssigned, Static, Dynamic, NoRole, NotYours, Denied, Before, Separation, Block, Alone, Bound, Count, Full, Loop, Wall}
-use Rattle.rules.specs.declared.Judged.{Judged}
+use Rattle.order_rules.specs.declared.Judged.{Judged}
 use Rattle.replies.proofs.ReplyLaws.{one-reply}
 use Rattle.lower.specs.Exports.{inOne}
 use Rattle.engine.specs.Buffers.{Buffers, tablesOf, fit}
 use Rattle.engine.specs.Answers.{loadAnswer, LoadDone}
 use Rattle.engine.specs.Exports.{LoadExported}
 use Rattle.engine.specs.Settling.{SettledRequest, SettledExported}
-use Rattle.links.proofs.SameLaws.{tables-refl, tables-sym, tables-then}
+use Rattle.order_links.proofs.SameLaws.{tables-refl, tables-sym, tables-then}
 use Rattle.engine.proofs.RespectLaws.{respects}
 use Rattle.theorems.specs.Replies.{inTable, FirstRefusal, checksOf}
 use Rattle.theorems.specs.Outside.{hear, outside}
@@ -169,7 +169,9 @@ requestsIn said = asked (λ a. a .said) (fitted said)
 runs : {policy : Bytes} {x y z : Buffers} {reply : ℕ} {said : List Placed} → fit x ≡ true → Load policy x y reply → Requests y said z
     → (fitted said ≡ placedAfter policy (requestsIn said)) × SameTables (tablesOf z) (tablesAfter policy (requestsIn said)) × (fit z ≡ true)
 runs {policy} {said = said} f l c =
-    let a = chain-run Called Together fit tablesOf (λ t s. request t s .tables) (λ a. a .said) told placedRun SameTables reading c (fit-kept (as-load l .1 .lengths) ∙ f)
+    let a =
+    chain-run Called Together fit tablesOf (λ t s. request t s .tables) (λ a. a .said) told placedRun SameTables reading c
+    (fit-kept (as-load l .1 .lengths) ∙ f)
     (engineOf (load policy .tables)) (start f l) in
     (a .0, rw (after-all request (engineOf (load policy .tables)) (requestsIn said)) at (a .1), a .2)
 
@@ -284,7 +286,10 @@ module _ {policy : Bytes} {x y z : Buffers} {reply : ℕ} {said : List Placed} (
   used : inUse (saidAfter policy (requestsIn said)) ≡ inUse (allSaid said)
   unfolding inUse
   used =
-      rw (sym (placed-said (engineOf (load policy .tables)) (requestsIn said)) ∙ ap allSaid (sym (runs (fits l g) l k .0)) ∙ said-fitting said, told-fitting count noTally (allSaid said))
+      rw (
+        sym (placed-said (engineOf (load policy .tables)) (requestsIn said)) ∙ ap allSaid (sym (runs (fits l g) l k .0)) ∙ said-fitting said,
+        told-fitting count noTally (allSaid said),
+      )
 
   either : (c d : Bytes) → Apart c d → inUse (allSaid said) + 2 ≤ 2048 → EitherFirst c d z
   either c d a room = record {
@@ -394,7 +399,9 @@ in-chains = record {
 from-here : {x z : Buffers} {said : List Placed} → fit x ≡ true → Requests x said z
     → (fitted said ≡ placedRun (tablesOf x) (requestsIn said)) × SameTables (tablesOf z) (after request (tablesOf x) (requestsIn said))
 from-here {x} {said = said} f c =
-    let a = chain-run Called Together fit tablesOf (λ t s. request t s .tables) (λ a. a .said) told placedRun SameTables reading c f (tablesOf x) (tables-refl (tablesOf x)) in
+    let a =
+    chain-run Called Together fit tablesOf (λ t s. request t s .tables) (λ a. a .said) told placedRun SameTables reading c f (tablesOf x)
+    (tables-refl (tablesOf x)) in
     (a .0, rw (after-all request (tablesOf x) (requestsIn said)) at (a .1))
 
 joined-calls : {x y z : Buffers} {reply place : ℕ} {said : List Placed} (a : ℕ) (roles : List ℕ) → fit x ≡ true → a < 1024 → EachOnce empty roles
@@ -423,8 +430,11 @@ alone-call {x} {y} a f small r =
     let t = tablesOf x in
     let n = answers r f in
     let j = added-as-before .engine t a small in
-    let e = n .0 ∙ j .0 in
-    (e, λ g. subst (SameTables (tablesOf y)) (j .1 ∙ ap (λ (q : ℕ). granted q (withLower t (withPolicy (t .lower) (userNext (t .lower .policy) a))) t) (sym e ∙ g)) (n .2))
+    let e = n .0 ∙ j .0 in (
+      e,
+      λ g. subst (SameTables (tablesOf y))
+          (j .1 ∙ ap (λ (q : ℕ). granted q (withLower t (withPolicy (t .lower) (userNext (t .lower .policy) a))) t) (sym e ∙ g)) (n .2),
+    )
 
 pub joined-with-roles : JoinedWithRoles
 joined-with-roles = record {

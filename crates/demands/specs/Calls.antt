@@ -13,8 +13,8 @@ use Rattle.paper_upper.specs.Orders.{SameTables}
 use Rattle.paper_upper.specs.Engine.{request, Placed, placedRun}
 use Rattle.replies.specs.Replies.{numberOf}
 use Rattle.replies.specs.declared.Reply.{Reply}
-use Rattle.rules.specs.declared.Judged.{Judged}
-use Rattle.links.specs.Chains.{soundOf}
+use Rattle.order_rules.specs.declared.Judged.{Judged}
+use Rattle.order_links.specs.Chains.{soundOf}
 use Rattle.engine.specs.Buffers.{Buffers, tablesOf, fit, SameLengths}
 use Rattle.engine.specs.Answers.{Requested, LoadDone}
 use Rattle.engine.specs.Settling.{SettledRequest, SettledExported}

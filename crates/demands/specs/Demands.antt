@@ -21,8 +21,8 @@ use Rattle.paper_upper.specs.Engine.{requestKinds, request, placeTo, Placed, en
 use Rattle.replies.specs.Replies.{numberOf}
 use Rattle.replies.specs.declared.Reply.{Reply}
 use Rattle.lower.specs.Exports.{inOne}
-use Rattle.rules.specs.declared.Judged.{Judged}
-use Rattle.links.specs.Chains.{soundOf}
+use Rattle.order_rules.specs.declared.Judged.{Judged}
+use Rattle.order_links.specs.Chains.{soundOf}
 use Rattle.engine.specs.Buffers.{Buffers, tablesOf, fit, SameLengths}
 use Rattle.engine.specs.Answers.{LoadDone, Zeros}
 use Rattle.engine.specs.Exports.{LoadExported}

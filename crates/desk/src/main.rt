@@ -1,6 +1,6 @@
 // The desk program (docs/RULES.md): loads the file policy.rec, then answers the request records of standard input, one line a request,
 // each as soon as it is there. It rests on the crate engine for every decision, and on io, libc and os for files and numbers as text.
-use loading::Loaded;
+use policy_loading::Loaded;
 use replies::Reply;
 ghost use Prim.Native.Nat.{_+_, _%_, _<_, _≤_, min};
 ghost use mathlib.Core.Path.{_≡_};
@@ -269,7 +269,7 @@ fn write_load(number: u64, place: u64) -> bool {
 fn main() {
     let mut policy = [0u64; policy::POLICY_WORDS];
     let mut sessions = [0u64; sessions::SESSIONS_WORDS];
-    let mut orders = [0u64; links::ORDERS_WORDS];
+    let mut orders = [0u64; order_links::ORDERS_WORDS];
     let loaded = load_file(&mut policy, &mut sessions, &mut orders);
     let reply = loaded.reply;
     let number = replies::number(reply);

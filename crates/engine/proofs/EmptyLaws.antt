@@ -25,12 +25,12 @@ use Rattle.paper_upper.specs.Requests.{deleteAbove, destroyAbove, openChecks, e
 use Rattle.paper_upper.specs.Engine.{widened, sharedKinds, requestKinds, engineOf}
 use Rattle.policy.specs.Reading.{policyOf}
 use Rattle.sessions.specs.Reading.{sessionsOf}
-use Rattle.entries.specs.Reading.{ordersOf}
-use Rattle.orders.specs.Tables.{engineTables}
-use Rattle.links.specs.Chains.{soundOf}
+use Rattle.order_entries.specs.Reading.{ordersOf}
+use Rattle.order_requests.specs.Tables.{engineTables}
+use Rattle.order_links.specs.Chains.{soundOf}
 use Rattle.records.specs.Reading.{paperOf}
 use Rattle.records.specs.declared.Record.{Record as Decoded}
-use Rattle.rules.specs.declared.Judged.{Judged}
+use Rattle.order_rules.specs.declared.Judged.{Judged}
 use Rattle.replies.specs.declared.Reply.the-variants.{Unknown}
 use Rattle.engine.specs.Buffers.{Buffers, productOf, noEngine, tablesOf}
 use Rattle.engine.specs.Step.{StepOf, SoundStep, SettlingStep}
@@ -62,16 +62,20 @@ lone-stuck a = rw (no-task a)
 all-lone : Every Lone requestKinds
 unfolding requestKinds upperKinds sharedKinds widened lowerKinds roleKinds sessionKinds keep each engineOf lowerOf noPolicy noSessions noOrders deleteChecks destroyChecks deleteAbove destroyAbove endChecks unknown claimChecks holdChecks taskCheckChecks figuresChecks assignChecks takeBackChecks giveChecks withdrawChecks createChecks activateChecks deactivateChecks checkChecks holds
 all-lone =
-    (λ r h. refl) ⨾ (λ r h. refl) ⨾ (λ r h. lone-open (r .a) (r .b)) ⨾ (λ r h. refl) ⨾ (λ r h. refl) ⨾ (λ r h. refl) ⨾ (λ r h. refl) ⨾ (λ r h. refl) ⨾ (λ r h. refl) ⨾ (λ r h. lone-stuck (r .a))
-    ⨾ (λ r h. absurd (h refl)) ⨾ (λ r h. refl) ⨾ (λ r h. refl) ⨾ (λ r h. rw (has-empty (r .a))) ⨾ (λ r h. rw (has-empty (r .a))) ⨾ (λ r h. refl) ⨾ (λ r h. refl) ⨾ (λ r h. refl) ⨾ (λ r h. refl) ⨾ (λ r h. refl) ⨾ tt
+    (λ r h. refl) ⨾ (λ r h. refl) ⨾ (λ r h. lone-open (r .a) (r .b)) ⨾ (λ r h. refl) ⨾ (λ r h. refl) ⨾ (λ r h. refl) ⨾ (λ r h. refl) ⨾ (λ r h. refl) ⨾
+    (λ r h. refl) ⨾ (λ r h. lone-stuck (r .a))
+    ⨾ (λ r h. absurd (h refl)) ⨾ (λ r h. refl) ⨾ (λ r h. refl) ⨾ (λ r h. rw (has-empty (r .a))) ⨾ (λ r h. rw (has-empty (r .a))) ⨾ (λ r h. refl) ⨾ (λ r h. refl)
+    ⨾ (λ r h. refl) ⨾ (λ r h. refl) ⨾ (λ r h. refl) ⨾ tt
 
 -- a kind that has a form has a row
-has-row : (ks : List (Kind Engine)) (n : ℕ) → some (λ k. eqb (k .kind) n) ks ≡ true → Every Lone ks → (r : Record) → (n ≡ 32 → ⊥) → first (chosen ks n .checks noEngine r) ≡ UNKNOWN
+has-row : (ks : List (Kind Engine)) (n : ℕ) → some (λ k. eqb (k .kind) n) ks ≡ true → Every Lone ks → (r : Record) → (n ≡ 32 → ⊥) →
+    first (chosen ks n .checks noEngine r) ≡ UNKNOWN
 unfolding chosen some
 has-row [] n h e r d = absurd (false≢true h)
 has-row (k ∷ ks) n h e r d = go (eqb (k .kind) n) refl h (λ z. has-row ks n z (e .1) r d)
   where
-    go : (b : Bool) → eqb (k .kind) n ≡ b → (b || some (λ k. eqb (k .kind) n) ks) ≡ true → (some (λ k. eqb (k .kind) n) ks ≡ true → first (chosen ks n .checks noEngine r) ≡ UNKNOWN)
+    go : (b : Bool) → eqb (k .kind) n ≡ b → (b || some (λ k. eqb (k .kind) n) ks) ≡ true →
+        (some (λ k. eqb (k .kind) n) ks ≡ true → first (chosen ks n .checks noEngine r) ≡ UNKNOWN)
         → first (cond b k (chosen ks n) .checks noEngine r) ≡ UNKNOWN
     go true q z rest = e .0 r (λ y. d (sym (eqb-true (k .kind) n q) ∙ y))
     go false q z rest = rest z
@@ -98,12 +102,15 @@ pub joins : (r : Record) → r .m ≡ 0 → first (chosen requestKinds 32 .check
 unfolding chosen requestKinds upperKinds sharedKinds widened lowerKinds roleKinds sessionKinds keep each engineOf lowerOf noPolicy joinChecks within cut some
 joins r h = rw h
 
-pub all-unknown : (r : Record) → T (there (formOf requestForms (r .kind))) → ((r .kind ≡ 32) → r .m ≡ 0 → ⊥) → first (chosen requestKinds (r .kind) .checks noEngine r) ≡ UNKNOWN
+pub all-unknown : (r : Record) → T (there (formOf requestForms (r .kind))) → ((r .kind ≡ 32) → r .m ≡ 0 → ⊥) →
+    first (chosen requestKinds (r .kind) .checks noEngine r) ≡ UNKNOWN
 all-unknown r t h = go (eqb (r .kind) 32) refl
   where
     go : (b : Bool) → eqb (r .kind) 32 ≡ b → first (chosen requestKinds (r .kind) .checks noEngine r) ≡ UNKNOWN
     go true q = let e = eqb-true (r .kind) 32 q in subst (λ (n : ℕ). first (chosen requestKinds n .checks noEngine r) ≡ UNKNOWN) (sym e) (no-roles r (h e))
-    go false q = has-row requestKinds (r .kind) (known-row (λ n. some (λ k. eqb (k .kind) n) requestKinds) requestForms all-rows (r .kind) t) all-lone r (λ e. false≢true (sym q ∙ ap (λ (n : ℕ). eqb n 32) e))
+    go false q =
+        has-row requestKinds (r .kind) (known-row (λ n. some (λ k. eqb (k .kind) n) requestKinds) requestForms all-rows (r .kind) t) all-lone r
+        (λ e. false≢true (sym q ∙ ap (λ (n : ℕ). eqb n 32) e))
 
 -- ---- A step on broken links.
 pub unknown-step : (r : Decoded) (x : Buffers) {j : Judged} → j ≡ record { reply = Unknown; place = 0 } → soundOf (x .orders) ≡ false
@@ -121,12 +128,14 @@ joined-step r x z x′ {j} e s zero-reply d₀ =
     (record { replies = d .replies; places = d .places; tables = rw (tables-sound x′ s) (d .tables); kept = λ h. absurd (h (d .replies ∙ zero-reply)) }, λ _. s)
 
 -- ---- A step on any content.
-pub broken-step : (r : Decoded) (x x′ : Buffers) {j : Judged} → soundOf (x .orders) ≡ false → SettlingStep noEngine r x x′ j → SettlingStep (tablesOf x) r x x′ j
+pub broken-step : (r : Decoded) (x x′ : Buffers) {j : Judged} → soundOf (x .orders) ≡ false → SettlingStep noEngine r x x′ j →
+    SettlingStep (tablesOf x) r x x′ j
 broken-step r x x′ {j} b d = subst (λ (t : Engine). SettlingStep t r x x′ j) (sym (tables-broken x b)) d
 
 pub sound-step : (r : Decoded) (x x′ : Buffers) {j : Judged} → soundOf (x .orders) ≡ true → SoundStep r x x′ j → StepOf (tablesOf x) (tablesOf x′) r x x′ j
 sound-step r x x′ {j} b d =
-    subst (λ (t : Engine). StepOf t (tablesOf x′) r x x′ j) (sym (tables-sound x b)) (subst (λ (u : Engine). StepOf (productOf x) u r x x′ j) (sym (tables-sound x′ (d .1))) (d .0))
+    subst (λ (t : Engine). StepOf t (tablesOf x′) r x x′ j) (sym (tables-sound x b))
+    (subst (λ (u : Engine). StepOf (productOf x) u r x x′ j) (sym (tables-sound x′ (d .1))) (d .0))
 
 -- the code's test for the one that is granted
 pub other-kind : (k m : ℕ) → (not (eqb k 32) || not (eqb m 0)) ≡ true → k ≡ 32 → m ≡ 0 → ⊥

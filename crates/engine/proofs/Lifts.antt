@@ -12,15 +12,15 @@ use Rattle.replies.specs.Done.{Done}
 use Rattle.replies.specs.declared.Reply.{Reply}
 use Rattle.sessions.specs.Lower.{lowerTables}
 use Rattle.sessions.specs.Both.{Both}
-use Rattle.entries.specs.Reading.{ordersOf}
-use Rattle.links.proofs.SameLaws.{tables-refl}
+use Rattle.order_entries.specs.Reading.{ordersOf}
+use Rattle.order_links.proofs.SameLaws.{tables-refl}
 use Rattle.lower.specs.Stepped.{Stepped}
-use Rattle.rules.specs.declared.Judged.{Judged}
-use Rattle.rules.proofs.PlaceLaws.{plain-place}
+use Rattle.order_rules.specs.declared.Judged.{Judged}
+use Rattle.order_rules.proofs.PlaceLaws.{plain-place}
 use Rattle.records.specs.declared.Record.{Record}
-use Rattle.links.specs.Chains.{soundOf}
-use Rattle.claims.specs.Promises.{Claimed}
-use Rattle.orders.specs.Tables.{engineTables}
+use Rattle.order_links.specs.Chains.{soundOf}
+use Rattle.order_claims.specs.Promises.{Claimed}
+use Rattle.order_requests.specs.Tables.{engineTables}
 use Rattle.engine.specs.Buffers.{Buffers, buffers}
 use Rattle.engine.specs.Step.{Step, SoundStep, AnyStep}
 
@@ -35,20 +35,24 @@ alike {t} e = subst (λ (x : Engine). SameTables t x) e (tables-refl t)
 
 -- a reply of no rule: its place is 0
 module _ {p s o : List ℕ} {reply place : ℕ} {next : Engine} {r : Reply} {j : Judged} (is : j ≡ record { reply = r; place = 0 }) (none : 0 ≡ place) where
-  pub of-both : {p′ s′ : List ℕ} → Both (λ k l. engineTables k l o) reply next p s p′ s′ r → Step (engineTables p s o) (engineTables p′ s′ o) reply place next (buffers p s o) (buffers p′ s′ o) j
+  pub of-both : {p′ s′ : List ℕ} → Both (λ k l. engineTables k l o) reply next p s p′ s′ r →
+      Step (engineTables p s o) (engineTables p′ s′ o) reply place next (buffers p s o) (buffers p′ s′ o) j
   of-both d =
       rw is (record { replies = d .replies; places = none; tables = alike (d .tables); kept = λ h. λ i. buffers (d .kept h .0 i) (d .kept h .1 i) o })
 
-  pub of-sessions : {s′ : List ℕ} → Done (λ l. engineTables p l o) reply next s s′ r → Step (engineTables p s o) (engineTables p s′ o) reply place next (buffers p s o) (buffers p s′ o) j
+  pub of-sessions : {s′ : List ℕ} → Done (λ l. engineTables p l o) reply next s s′ r →
+      Step (engineTables p s o) (engineTables p s′ o) reply place next (buffers p s o) (buffers p s′ o) j
   of-sessions d = rw is (record { replies = d .replies; places = none; tables = alike (d .tables); kept = λ h. ap (λ (l : List ℕ). buffers p l o) (d .kept h) })
 
-  pub of-orders : {o′ : List ℕ} → Done (engineTables p s) reply next o o′ r → Step (engineTables p s o) (engineTables p s o′) reply place next (buffers p s o) (buffers p s o′) j
+  pub of-orders : {o′ : List ℕ} → Done (engineTables p s) reply next o o′ r →
+      Step (engineTables p s o) (engineTables p s o′) reply place next (buffers p s o) (buffers p s o′) j
   of-orders d = rw is (record { replies = d .replies; places = none; tables = alike (d .tables); kept = λ h. ap (λ (l : List ℕ). buffers p s l) (d .kept h) })
 
 -- a claim, with its place
 pub of-claim : {p s o o′ : List ℕ} {a b c : ℕ} {j : Judged} → Claimed p s o o′ a b c j
     → let t = engineTables p s o in
-    Step t (engineTables p s o′) (first (claimChecks t a b c)) (claimPlace t a b c (first (claimChecks t a b c))) (claimNext t a b c) (buffers p s o) (buffers p s o′) j
+    Step t (engineTables p s o′) (first (claimChecks t a b c)) (claimPlace t a b c (first (claimChecks t a b c))) (claimNext t a b c) (buffers p s o)
+    (buffers p s o′) j
 of-claim {p} {s} d =
     record { replies = d .replies; places = d .places; tables = d .tables; kept = λ h. ap (λ (l : List ℕ). buffers p s l) (d .kept h) }
 
@@ -60,12 +64,15 @@ pub of-none : {t : Engine} {x : Buffers} {reply place : ℕ} {r : Reply} {j : Ju
     → Step t t reply place t x x j
 of-none {t} {x} {reply} is none e = rw is (record { replies = e; places = none; tables = alike (same t reply); kept = λ h. refl })
 
-raise : (o : List ℕ) (k : ℕ) (next old : Lower) {new : Lower} → new ≡ granted k next old → _≡_ {A = Engine} (record { lower = new; orders = ordersOf o }) (granted k (record { lower = next; orders = ordersOf o }) (record { lower = old; orders = ordersOf o }))
+raise : (o : List ℕ) (k : ℕ) (next old : Lower) {new : Lower} → new ≡ granted k next old →
+    _≡_ {A = Engine} (record { lower = new; orders = ordersOf o })
+    (granted k (record { lower = next; orders = ordersOf o }) (record { lower = old; orders = ordersOf o }))
 raise o zero next old e = ap (λ (x : Lower). record { lower = x; orders = ordersOf o }) e
 raise o (suc k) next old e = ap (λ (x : Lower). record { lower = x; orders = ordersOf o }) e
 
 pub of-lower : {p s o p′ s′ : List ℕ} {reply place : ℕ} {next : Lower} {r : Reply} {j : Judged} → j ≡ record { reply = r; place = 0 } → 0 ≡ place
-    → Stepped reply next p s p′ s′ r → Step (engineTables p s o) (engineTables p′ s′ o) reply place (withLower (engineTables p s o) next) (buffers p s o) (buffers p′ s′ o) j
+    → Stepped reply next p s p′ s′ r →
+    Step (engineTables p s o) (engineTables p′ s′ o) reply place (withLower (engineTables p s o) next) (buffers p s o) (buffers p′ s′ o) j
 of-lower {p} {s} {o} {p′} {s′} {reply} {next = next} is none d =
     rw is (record {
       replies = d .replies;

@@ -17,9 +17,9 @@ use Rattle.paper_upper.specs.Orders.{Engine}
 use Rattle.paper_upper.specs.Rules.{rulePlace}
 use Rattle.paper_upper.specs.Requests.{claimPlace}
 use Rattle.paper_upper.specs.Engine.{request, placeOf, placeTo, engineOf}
-use Rattle.rules.proofs.PlaceLaws.{either-within, rule-place-within, policy-place}
-use Rattle.rules.specs.declared.Judged.{Judged}
-use Rattle.links.specs.Chains.{soundOf}
+use Rattle.order_rules.proofs.PlaceLaws.{either-within, rule-place-within, policy-place}
+use Rattle.order_rules.specs.declared.Judged.{Judged}
+use Rattle.order_links.specs.Chains.{soundOf}
 use Rattle.engine.specs.Buffers.{Buffers, productOf, noEngine, tablesOf, fit}
 use Rattle.engine.specs.Answers.{CallAnswer, requestAnswer, Requested}
 
@@ -34,14 +34,16 @@ place-small x s = go (soundOf (x .orders))
         either-within 64 (eqb (decode s .kind) 50) _ 0 (policy-place (x .policy) _ _ _ (decode s .c) (request (productOf x) s .reply)) (omega arith)
     go false =
         either-within 64 (eqb (decode s .kind) 50) _ 0
-        (rule-place-within 64 (noPolicy .rules) (omega arith) (omega arith) (omega arith) (omega arith) _ _ _ (decode s .c) (request noEngine s .reply)) (omega arith)
+        (rule-place-within 64 (noPolicy .rules) (omega arith) (omega arith) (omega arith) (omega arith) _ _ _ (decode s .c) (request noEngine s .reply))
+        (omega arith)
 
 pub requested-small : {bytes : Bytes} {x x′ : Buffers} {j : Judged} → Requested bytes x x′ j → j .place ≤ 64
 unfolding requestAnswer
 requested-small {bytes} {x} d = rw (d .places) (go (fit x))
   where
     go : (b : Bool)
-        → cond {A = CallAnswer} b (record { reply = request (tablesOf x) bytes .reply; place = placeTo (tablesOf x) bytes; tables = request (tablesOf x) bytes .tables })
+        → cond {A = CallAnswer} b
+        (record { reply = request (tablesOf x) bytes .reply; place = placeTo (tablesOf x) bytes; tables = request (tablesOf x) bytes .tables })
         (record { reply = ROOM; place = 0; tables = tablesOf x }) .place ≤ 64
     go true = place-small x bytes
     go false = omega arith

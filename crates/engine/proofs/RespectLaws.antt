@@ -16,7 +16,7 @@ use Rattle.paper_upper.specs.Rules.{ruleChecks}
 use Rattle.paper_upper.specs.Requests.{deleteAbove, destroyAbove, openChecks, openNext, endChecks, endNext, unknown, claimChecks, claimNext, holdChecks, releaseNext, doneNext, taskCheckChecks, claimPlace, figuresChecks, stuckChecks, upperKinds}
 use Rattle.paper_upper.specs.Engine.{widened, sharedKinds, requestKinds, request, placeOf, placeTo, placedRun}
 use Rattle.engine.specs.Respects.{Respects, RunsRespect}
-use Rattle.links.proofs.SameLaws.{some-same, many-same, many-kept, tasks-same, keep-same, each-same}
+use Rattle.order_links.proofs.SameLaws.{some-same, many-same, many-kept, tasks-same, keep-same, each-same}
 
 -- ---- Tables that differ in the order of their entries alone.
 abbrev engine : Lower → (ℕ → Maybe ℕ) → List Entry → Engine
@@ -72,7 +72,8 @@ granted-same zero h k = h
 granted-same (suc q) h k = k
 
 -- the place too
-place-same : (x : Lower) (opened : ℕ → Maybe ℕ) {es es′ : List Entry} → Same es es′ → (r : Record) (reply : ℕ) → placeOf (engine x opened es) r reply ≡ placeOf (engine x opened es′) r reply
+place-same : (x : Lower) (opened : ℕ → Maybe ℕ) {es es′ : List Entry} → Same es es′ → (r : Record) (reply : ℕ) →
+    placeOf (engine x opened es) r reply ≡ placeOf (engine x opened es′) r reply
 unfolding placeOf claimPlace tasksBy tasksDone tasksOthers
 place-same x opened h r reply = rw (tasks-same _ h, tasks-same _ h, tasks-same _ h)
 

@@ -6,13 +6,13 @@ use mathlib.Core.Path.{_≡_, refl, sym, ap, _∙_}
 use native.Mathlib.Omega.{arith}
 use Rattle.paper_lower.specs.Records.{Bytes}
 use Rattle.replies.specs.Replies.{numberOf}
-use Rattle.rules.specs.declared.Judged.{Judged}
+use Rattle.order_rules.specs.declared.Judged.{Judged}
 use Rattle.records.specs.declared.Record.{Record}
 use Rattle.replies.specs.declared.Reply.the-variants.{Granted, Room}
 use Rattle.policy.specs.Reading.{Cleared as ClearedPolicy}
 use Rattle.sessions.specs.Reading.{Cleared as ClearedSessions}
-use Rattle.links.specs.Chains.{soundOf}
-use Rattle.entries.specs.Reading.{Cleared}
+use Rattle.order_links.specs.Chains.{soundOf}
+use Rattle.order_entries.specs.Reading.{Cleared}
 use Rattle.engine.specs.Buffers.{Buffers, buffers, SameLengths}
 use Rattle.engine.specs.Step.{SoundStep, AnyStep}
 use Rattle.engine.specs.Answers.{Requested}
@@ -23,13 +23,15 @@ use Rattle.engine.proofs.EmptyLaws.{emptied}
 pub no-settle : (x : Buffers) → unfit x ≡ true → Settled x x Room
 no-settle x h =
     let f = fits-not x h in
-    record { replies = rw f; tables = refl; lengths = same-lengths refl refl refl; settles = λ e. absurd (true≢false (sym e ∙ f)); kept = λ _. refl; room = λ _. refl }
+    record
+    { replies = rw f; tables = refl; lengths = same-lengths refl refl refl; settles = λ e. absurd (true≢false (sym e ∙ f)); kept = λ _. refl; room = λ _. refl }
 
 pub settled-sound : (x : Buffers) → unfit x ≡ false → soundOf (x .orders) ≡ true → Settled x x Granted
 settled-sound x h s =
     let f = fits x h in
     let l = lengths x h in
-    record { replies = rw f; tables = refl; lengths = same-lengths refl refl refl; settles = λ _. (l .0, (l .1 .0, (l .1 .1, s))); kept = λ _. refl; room = λ _. refl }
+    record
+    { replies = rw f; tables = refl; lengths = same-lengths refl refl refl; settles = λ _. (l .0, (l .1 .0, (l .1 .1, s))); kept = λ _. refl; room = λ _. refl }
 
 -- ---- The request without a look at the links.
 pub no-settled-room : (bytes : Bytes) (x : Buffers) {j : Judged} → j ≡ record { reply = Room; place = 0 } → unfit x ≡ true → SettledRequest bytes x x j

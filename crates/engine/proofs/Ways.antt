@@ -18,13 +18,13 @@ use Rattle.replies.specs.Replies.{numberOf}
 use Rattle.replies.specs.declared.Reply.{Reply}
 use Rattle.replies.specs.declared.Reply.the-variants.{Room}
 use Rattle.replies.proofs.ReplyLaws.{not-zero}
-use Rattle.rules.specs.declared.Judged.{Judged}
+use Rattle.order_rules.specs.declared.Judged.{Judged}
 use Rattle.policy.specs.Layout.{policyWords}
 use Rattle.sessions.specs.Reading.{sessionsWords}
 use Rattle.sessions.specs.Lower.{lowerTables}
-use Rattle.links.specs.Chains.{ordersWords, soundOf}
-use Rattle.links.proofs.SameLaws.{tables-refl}
-use Rattle.entries.specs.Reading.{Cleared}
+use Rattle.order_links.specs.Chains.{ordersWords, soundOf}
+use Rattle.order_links.proofs.SameLaws.{tables-refl}
+use Rattle.order_entries.specs.Reading.{Cleared}
 use Rattle.lower.specs.Answers.{Loads, fit as lowerFit}
 use Rattle.lower.specs.Exports.{inOne}
 use Rattle.engine.specs.Buffers.{Buffers, buffers, productOf, noEngine, tablesOf, fit, SameLengths}
@@ -58,7 +58,8 @@ not-all false b c h = refl
 abbrev pub unfit : Buffers → Bool
 unfit x = (not (eqb (length (x .policy)) policyWords) || not (eqb (length (x .sessions)) sessionsWords)) || not (eqb (length (x .orders)) ordersWords)
 
-pub same-lengths : {p s o p′ s′ o′ : List ℕ} → length p′ ≡ length p → length s′ ≡ length s → length o′ ≡ length o → SameLengths (buffers p s o) (buffers p′ s′ o′)
+pub same-lengths : {p s o p′ s′ o′ : List ℕ} → length p′ ≡ length p → length s′ ≡ length s → length o′ ≡ length o →
+    SameLengths (buffers p s o) (buffers p′ s′ o′)
 same-lengths a b c = record { policy = a; sessions = b; orders = c }
 
 module _ (x : Buffers) where
@@ -91,7 +92,8 @@ module _ (x : Buffers) where
 -- a step that is the definition's answer
 pub answered-at : {bytes : Bytes} {x x′ : Buffers} {r : Record} {reply : ℕ} {next : Engine} {j : Judged} → fit x ≡ true
     → request (tablesOf x) bytes ≡ record { reply = reply; tables = granted reply next (tablesOf x) }
-    → r ≡ decode bytes → Step (tablesOf x) (tablesOf x′) reply (placeOf (tablesOf x) r reply) next x x′ j → (numberOf (j .reply) ≡ 0 → soundOf (x′ .orders) ≡ true)
+    → r ≡ decode bytes → Step (tablesOf x) (tablesOf x′) reply (placeOf (tablesOf x) r reply) next x x′ j →
+    (numberOf (j .reply) ≡ 0 → soundOf (x′ .orders) ≡ true)
     → SameLengths x x′ → Requested bytes x x′ j
 unfolding requestAnswer placeTo
 answered-at {bytes} {x} {x′} {r} {reply} {next} {j} f e is d w l =
@@ -107,12 +109,14 @@ answered-at {bytes} {x} {x′} {r} {reply} {next} {j} f e is d w l =
 
 pub answered : {bytes : Bytes} {x x′ : Buffers} {r : Record} {reply : ℕ} {next : Engine} {j : Judged} → unfit x ≡ false
     → request (tablesOf x) bytes ≡ record { reply = reply; tables = granted reply next (tablesOf x) }
-    → r ≡ decode bytes → Step (tablesOf x) (tablesOf x′) reply (placeOf (tablesOf x) r reply) next x x′ j → (numberOf (j .reply) ≡ 0 → soundOf (x′ .orders) ≡ true)
+    → r ≡ decode bytes → Step (tablesOf x) (tablesOf x′) reply (placeOf (tablesOf x) r reply) next x x′ j →
+    (numberOf (j .reply) ≡ 0 → soundOf (x′ .orders) ≡ true)
     → SameLengths x x′ → Requested bytes x x′ j
 answered {bytes} {x} h = answered-at (fits x h)
 
 -- a refusal of the form
-pub not-granted : {r : Reply} {j : Judged} {b : Bool} {A : Type 0} → j ≡ record { reply = r; place = 0 } → b ≡ eqb (numberOf r) 0 → not b ≡ true → numberOf (j .reply) ≡ 0 → A
+pub not-granted : {r : Reply} {j : Judged} {b : Bool} {A : Type 0} → j ≡ record { reply = r; place = 0 } → b ≡ eqb (numberOf r) 0 → not b ≡ true →
+    numberOf (j .reply) ≡ 0 → A
 not-granted {r} {j} {b} is a n z = absurd (not-zero r a (not-true b n) (sym (ap (λ (y : Judged). numberOf (y .reply)) is) ∙ z))
 
 pub fitting : (x : Buffers) → Settling x → fit x ≡ true
@@ -153,7 +157,8 @@ loaded {bytes} {p} {s} {o} {p′} {s′} {o′} {r} {place} h c d l =
     }
 
 -- ---- The same, as one number.
-pub load-exported : {bytes : Bytes} {x x′ : Buffers} {r : Reply} {place number : ℕ} → LoadDone bytes x x′ r place → number ≡ numberOf r → LoadExported bytes x x′ (inOne number place)
+pub load-exported : {bytes : Bytes} {x x′ : Buffers} {r : Reply} {place number : ℕ} → LoadDone bytes x x′ r place → number ≡ numberOf r →
+    LoadExported bytes x x′ (inOne number place)
 load-exported d e =
     record {
       answers = rw (e, d .replies, d .places);

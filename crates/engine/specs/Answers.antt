@@ -10,8 +10,8 @@ use Rattle.paper_upper.specs.Orders.{Engine, SameTables}
 use Rattle.paper_upper.specs.Engine.{request, placeTo, engineOf}
 use Rattle.replies.specs.Replies.{numberOf}
 use Rattle.replies.specs.declared.Reply.{Reply}
-use Rattle.rules.specs.declared.Judged.{Judged}
-use Rattle.links.specs.Chains.{soundOf}
+use Rattle.order_rules.specs.declared.Judged.{Judged}
+use Rattle.order_links.specs.Chains.{soundOf}
 use Rattle.engine.specs.Buffers.{Buffers, tablesOf, fit, SameLengths}
 
 -- A call's answer: its reply, a place and the tables.

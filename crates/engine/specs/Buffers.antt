@@ -10,8 +10,8 @@ use Rattle.paper_upper.specs.Orders.{Engine}
 use Rattle.paper_upper.specs.Engine.{engineOf}
 use Rattle.policy.specs.Layout.{policyWords}
 use Rattle.sessions.specs.Reading.{sessionsWords}
-use Rattle.links.specs.Chains.{ordersWords, soundOf}
-use Rattle.orders.specs.Tables.{engineTables}
+use Rattle.order_links.specs.Chains.{ordersWords, soundOf}
+use Rattle.order_requests.specs.Tables.{engineTables}
 
 pub record Buffers : Type 0 where
   pub policy : List ℕ

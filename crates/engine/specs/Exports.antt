@@ -8,7 +8,7 @@ use Rattle.paper_upper.specs.Orders.{SameTables}
 use Rattle.paper_upper.specs.Questions.{answerWords}
 use Rattle.policy.specs.Layout.{policyWords}
 use Rattle.sessions.specs.Reading.{sessionsWords}
-use Rattle.links.specs.Chains.{ordersWords, soundOf}
+use Rattle.order_links.specs.Chains.{ordersWords, soundOf}
 use Rattle.lower.specs.Exports.{inOne}
 use Rattle.engine.specs.Buffers.{Buffers, tablesOf, fit, SameLengths}
 use Rattle.engine.specs.Answers.{requestAnswer, loadAnswer, Zeros}

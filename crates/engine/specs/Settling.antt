@@ -7,11 +7,11 @@ use Rattle.paper_lower.specs.Checks.{ROOM}
 use Rattle.paper_lower.specs.Records.{Bytes}
 use Rattle.replies.specs.Replies.{numberOf}
 use Rattle.replies.specs.declared.Reply.{Reply}
-use Rattle.rules.specs.declared.Judged.{Judged}
+use Rattle.order_rules.specs.declared.Judged.{Judged}
 use Rattle.policy.specs.Layout.{policyWords}
 use Rattle.sessions.specs.Reading.{sessionsWords}
-use Rattle.links.specs.Chains.{soundOf}
-use Rattle.entries.specs.Acts.{Ready}
+use Rattle.order_links.specs.Chains.{soundOf}
+use Rattle.order_entries.specs.Acts.{Ready}
 use Rattle.engine.specs.Buffers.{Buffers, tablesOf, fit, SameLengths}
 use Rattle.engine.specs.Answers.{Requested}
 

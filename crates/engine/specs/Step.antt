@@ -9,8 +9,8 @@ use Rattle.paper_upper.specs.Engine.{requestKinds, placeOf}
 use Rattle.replies.specs.Replies.{numberOf}
 use Rattle.records.specs.Reading.{paperOf}
 use Rattle.records.specs.declared.Record.{Record}
-use Rattle.rules.specs.declared.Judged.{Judged}
-use Rattle.links.specs.Chains.{soundOf}
+use Rattle.order_rules.specs.declared.Judged.{Judged}
+use Rattle.order_links.specs.Chains.{soundOf}
 use Rattle.engine.specs.Buffers.{Buffers, productOf, tablesOf}
 
 -- from tables t to tables u

@@ -6,20 +6,20 @@ ghost use Rattle.paper_lower.specs.Forms.{requestForms};
 ghost use Rattle.records.specs.Limits.{Limits};
 ghost use Rattle.policy.specs.Layout.{policyWords};
 ghost use Rattle.sessions.specs.Reading.{sessionsWords};
-ghost use Rattle.links.specs.Chains.{ordersWords, soundOf};
+ghost use Rattle.order_links.specs.Chains.{ordersWords, soundOf};
 ghost use Rattle.engine.specs.Buffers.{buffers, noEngine, tablesOf};
 ghost use Rattle.engine.specs.Step.{AnyStep, SettlingStep};
 ghost use Rattle.engine.specs.Answers.{Requested, LoadDone};
 ghost use Rattle.engine.specs.Settling.{Settled, SettledAs, SettledRequest};
 ghost use Rattle.engine.specs.Exports.{LoadExported, RequestExported, wordsOf};
-use links::ORDERS_WORDS;
-use loading::Loaded;
+use order_links::ORDERS_WORDS;
+use order_rules::Judged;
+use order_rules::plain;
 use policy::POLICY_WORDS;
+use policy_loading::Loaded;
 use records::Call;
 use records::Record;
 use replies::Reply;
-use rules::Judged;
-use rules::plain;
 use sessions::SESSIONS_WORDS;
 
 // A request that SHAPE and RANGE let pass, without a look at the links: the upper part's kinds here, all others by the lower part. A claim alone has a place.
@@ -29,16 +29,16 @@ fn step(r: Record, p: &mut [u64], s: &mut [u64], o: &mut [u64]) -> Judged
 {
     let kind = r.kind;
     match kind {
-        33 => plain(orders::delete(p, s, o, r.a)),
-        41 => plain(orders::destroy(s, o, r.a)),
-        48 => plain(orders::open_order(p, o, r.a, r.b)),
-        49 => plain(orders::end_order(o, r.a)),
-        50 => claims::claim(p, s, o, r.a, r.b, r.c),
-        51 => plain(claims::release(p, s, o, r.a, r.b, r.c)),
-        52 => plain(claims::finish(p, s, o, r.a, r.b, r.c)),
-        57 => plain(claims::task_check_reply(p, s, o, r.a, r.b, r.c, r.m)),
-        58 => plain(orders::figures_reply(o, r.a)),
-        60 => plain(stuck::judge(p, r.a)),
+        33 => plain(order_requests::delete(p, s, o, r.a)),
+        41 => plain(order_requests::destroy(s, o, r.a)),
+        48 => plain(order_requests::open_order(p, o, r.a, r.b)),
+        49 => plain(order_requests::end_order(o, r.a)),
+        50 => order_claims::claim(p, s, o, r.a, r.b, r.c),
+        51 => plain(order_claims::release(p, s, o, r.a, r.b, r.c)),
+        52 => plain(order_claims::finish(p, s, o, r.a, r.b, r.c)),
+        57 => plain(order_claims::task_check_reply(p, s, o, r.a, r.b, r.c, r.m)),
+        58 => plain(order_requests::figures_reply(o, r.a)),
+        60 => plain(order_stuck::judge(p, r.a)),
         _ => plain(lower::step(r, p, s)),
     }
 }
@@ -53,7 +53,7 @@ fn as_empty(r: Record, p: &mut [u64], s: &mut [u64], o: &mut [u64]) -> Judged
     }
     policy::clear(p);
     sessions::clear(s);
-    entries::clear(o);
+    order_entries::clear(o);
     step(r, p, s, o)
 }
 
@@ -62,7 +62,7 @@ fn act(r: Record, p: &mut [u64], s: &mut [u64], o: &mut [u64]) -> Judged
     requires { ⌜ ((length (now p) ≡ policyWords) × ((length (now s) ≡ sessionsWords) × (length (now o) ≡ ordersWords))) × Limits requestForms r ⌝ }
     ensures { λ x. ⌜ SettlingStep (tablesOf (buffers (now (p .entry)) (now (s .entry)) (now (o .entry)))) r (buffers (now (p .entry)) (now (s .entry)) (now (o .entry))) (buffers (now (p .exit)) (now (s .exit)) (now (o .exit))) x ⌝ }
 {
-    if !links::is_sound(o) {
+    if !order_links::is_sound(o) {
         return as_empty(r, p, s, o);
     }
     step(r, p, s, o)
@@ -95,12 +95,12 @@ pub fn settle(policy: &mut [u64], sessions: &mut [u64], orders: &mut [u64]) -> R
     {
         return Reply::Room;
     }
-    if links::is_sound(orders) {
+    if order_links::is_sound(orders) {
         return Reply::Granted;
     }
     policy::clear(policy);
     sessions::clear(sessions);
-    entries::clear(orders);
+    order_entries::clear(orders);
     Reply::Granted
 }
 
@@ -140,7 +140,7 @@ pub fn load(bytes: &[u8], policy: &mut [u64], sessions: &mut [u64], orders: &mut
             place: 0,
         };
     }
-    entries::clear(orders);
+    order_entries::clear(orders);
     lower::load(bytes, policy, sessions)
 }
 

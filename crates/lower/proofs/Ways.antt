@@ -17,7 +17,7 @@ use Rattle.replies.specs.declared.Reply.the-variants.{Room}
 use Rattle.policy.specs.Layout.{policyWords}
 use Rattle.sessions.specs.Reading.{sessionsWords, Cleared}
 use Rattle.sessions.specs.Lower.{lowerTables}
-use Rattle.loading.specs.LoadDone.{LoadDone}
+use Rattle.policy_loading.specs.LoadDone.{LoadDone}
 use Rattle.lower.specs.Stepped.{Stepped}
 use Rattle.replies.specs.Replies.{numberOf}
 use Rattle.lower.specs.Exports.{inOne, LoadExported, RequestExported}
@@ -67,7 +67,8 @@ no-load bytes p s h =
     let f = not-both (eqb (length p) policyWords) (eqb (length s) sessionsWords) h in
     record { replies = rw f; places = rw f; tables = rw f; lengths = (refl, refl); room = λ _. (refl, refl); zeros = λ e. absurd (true≢false (sym e ∙ f)) }
 
-pub loaded : {bytes : Bytes} {p s p′ s′ : List ℕ} {r : Reply} {place : ℕ} → unfit p s ≡ false → Cleared s′ → LoadDone bytes p p′ r place → SameLengths p s p′ s′ → Loads bytes p s p′ s′ r place
+pub loaded : {bytes : Bytes} {p s p′ s′ : List ℕ} {r : Reply} {place : ℕ} → unfit p s ≡ false → Cleared s′ → LoadDone bytes p p′ r place →
+    SameLengths p s p′ s′ → Loads bytes p s p′ s′ r place
 unfolding lowerOf
 loaded {bytes} {p} {s} {p′} {s′} {r} {place} h c d n =
     let e = both (eqb (length p) policyWords) (eqb (length s) sessionsWords) h in
@@ -84,7 +85,8 @@ loaded {bytes} {p} {s} {p′} {s′} {r} {place} h c d n =
     }
 
 -- ---- The same, as one number.
-pub load-exported : {bytes : Bytes} {p s p′ s′ : List ℕ} {r : Reply} {place number : ℕ} → Loads bytes p s p′ s′ r place → number ≡ numberOf r → LoadExported bytes p s p′ s′ (inOne number place)
+pub load-exported : {bytes : Bytes} {p s p′ s′ : List ℕ} {r : Reply} {place number : ℕ} → Loads bytes p s p′ s′ r place → number ≡ numberOf r →
+    LoadExported bytes p s p′ s′ (inOne number place)
 load-exported d e =
     record {
       answers = rw (e, d .replies, d .places);
@@ -94,5 +96,6 @@ load-exported d e =
       zeros = λ f n. d .zeros f (λ z. n (sym (d .replies) ∙ z));
     }
 
-pub request-exported : {bytes : Bytes} {p s p′ s′ : List ℕ} {r : Reply} {number : ℕ} → Requested bytes p s p′ s′ r → number ≡ numberOf r → RequestExported bytes p s p′ s′ number
+pub request-exported : {bytes : Bytes} {p s p′ s′ : List ℕ} {r : Reply} {number : ℕ} → Requested bytes p s p′ s′ r → number ≡ numberOf r →
+    RequestExported bytes p s p′ s′ number
 request-exported d e = record { answers = e ∙ d .replies; tables = d .tables; lengths = d .lengths; kept = λ n. d .kept (λ z. n (sym (d .replies) ∙ z)) }

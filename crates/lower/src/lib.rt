@@ -13,8 +13,8 @@ ghost use Rattle.sessions.specs.Lower.{lowerTables};
 ghost use Rattle.lower.specs.Stepped.{Stepped};
 ghost use Rattle.lower.specs.Answers.{Requested, Loads};
 ghost use Rattle.lower.specs.Exports.{LoadExported, RequestExported, wordsOf};
-use loading::Loaded;
 use policy::POLICY_WORDS;
+use policy_loading::Loaded;
 use records::Call;
 use records::Record;
 use replies::Reply;
@@ -28,17 +28,17 @@ pub fn step(r: Record, p: &mut [u64], s: &mut [u64]) -> Reply
 {
     let kind = r.kind;
     match kind {
-        32 => roles::join(p, r.a, Set { bits: r.m }),
-        33 => roles::delete(p, s, r.a),
-        34 => declarations::assign(p, r.a, r.b),
-        35 => roles::take_back(p, s, r.a, r.b),
-        36 => declarations::give(p, r.a, r.b),
-        37 => roles::withdraw(p, r.a, r.b),
-        40 => subjects::create(p, s, r.a, r.b, Set { bits: r.m }),
-        41 => subjects::destroy(s, r.a),
-        42 => subjects::activate(p, s, r.a, r.b),
-        43 => subjects::deactivate(p, s, r.a, r.b),
-        56 | 59 => subjects::ask(p, s, kind, r.a, r.b, r.c),
+        32 => session_roles::join(p, r.a, Set { bits: r.m }),
+        33 => session_roles::delete(p, s, r.a),
+        34 => policy_declarations::assign(p, r.a, r.b),
+        35 => session_roles::take_back(p, s, r.a, r.b),
+        36 => policy_declarations::give(p, r.a, r.b),
+        37 => session_roles::withdraw(p, r.a, r.b),
+        40 => session_subjects::create(p, s, r.a, r.b, Set { bits: r.m }),
+        41 => session_subjects::destroy(s, r.a),
+        42 => session_subjects::activate(p, s, r.a, r.b),
+        43 => session_subjects::deactivate(p, s, r.a, r.b),
+        56 | 59 => session_subjects::ask(p, s, kind, r.a, r.b, r.c),
         _ => Reply::Shape,
     }
 }
@@ -68,7 +68,7 @@ pub fn load(bytes: &[u8], p: &mut [u64], s: &mut [u64]) -> Loaded
         };
     }
     sessions::clear(s);
-    loading::load(bytes, p)
+    policy_loading::load(bytes, p)
 }
 
 // ---- For C and Rust: the reply + 256 times the place, as one number.

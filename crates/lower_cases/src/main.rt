@@ -13,8 +13,8 @@
 // The words of the buffers go from line to line by value: a proof about a value is far cheaper than one about what is lent.
 ghost use Prim.Native.Nat.{_<_, _≤_};
 ghost use lib.ListN.{length};
-use loading::Loaded;
 use policy::POLICY_WORDS;
+use policy_loading::Loaded;
 use scripts::Handed;
 use sessions::SESSIONS_WORDS;
 

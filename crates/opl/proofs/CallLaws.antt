@@ -27,9 +27,9 @@ use Rattle.opl_lines.specs.Lines.{linesIn, forget as forgetLines}
 use Rattle.opl_spaces.specs.Spaces.{scratchWords}
 use Rattle.opl_tags.specs.Tags.{walkAt}
 use Rattle.opl_tags.proofs.Walked.{tags-met}
-use Rattle.opl_declared.specs.Names.{short, accepted}
-use Rattle.opl_declared.proofs.FilledLaws.{users-are, roles-are, permissions-are, operations-are, objects-are}
-use Rattle.opl_declared.proofs.LineNames.{tasks-are, templates-are}
+use Rattle.opl_line_names.specs.Names.{short, accepted}
+use Rattle.opl_line_names.proofs.FilledLaws.{users-are, roles-are, permissions-are, operations-are, objects-are}
+use Rattle.opl_line_names.proofs.LineNames.{tasks-are, templates-are}
 use Rattle.opl_said.proofs.HeldLaws.{AllCardinal, all-cardinal}
 use Rattle.opl_turns.specs.Turning.{SmallTag}
 use Rattle.opl_naming.specs.Naming.{declaredOf, LongName, Names}
@@ -98,7 +98,8 @@ unfolding answer acceptedAnswer recordsAnswer linesIn
 by-walk s t words out a =
     reads-on (document s) (a .policy) (λ es z u. reads-on (lines (length t) t) (a .task-lines) (λ ls y v. rw (u, v, walk-gives s es z ls u)))
 
-pub accepted-is : (s t : Text) (words : ℕ) (out out′ : Bytes) (r : Answer) → Accepts s t → Gives (acceptedAnswer words s t out) out out′ r → Answers s t words out out′ r
+pub accepted-is : (s t : Text) (words : ℕ) (out out′ : Bytes) (r : Answer) → Accepts s t → Gives (acceptedAnswer words s t out) out out′ r →
+    Answers s t words out out′ r
 accepted-is s t words out out′ r a g = record { answer-is = g .answer-is ∙ sym (by-walk s t words out a); room = g .room }
 
 -- ---- Two accepted texts.
@@ -107,7 +108,8 @@ module _ (s t : Text) (words : ℕ) (out : Bytes) where
   unfolding acceptedAnswer
   no-scratch n = record { answer-is = rw (ne-eqb words scratchWords n); room = refl }
 
-  pub with-scratch : (out′ : Bytes) (r : Answer) → words ≡ scratchWords → Gives (recordsAnswer s t out) out out′ r → Gives (acceptedAnswer words s t out) out out′ r
+  pub with-scratch : (out′ : Bytes) (r : Answer) → words ≡ scratchWords → Gives (recordsAnswer s t out) out out′ r →
+      Gives (acceptedAnswer words s t out) out out′ r
   unfolding acceptedAnswer
   with-scratch out′ r e g = record { answer-is = g .answer-is ∙ rw (eq-eqb words scratchWords e); room = g .room }
 
@@ -152,7 +154,8 @@ all-short s t (suc (suc (suc (suc (suc (suc (suc i))))))) h n = absurd (omega ar
 pub too-long : (s t : Text) (out : Bytes) → Accepts s t → LongName s t → Gives (recordsAnswer s t out) out out (refusal 22)
 too-long s t out a n =
     unnamed s t out (on-found (recordsIn (tags s) (linesIn t))
-    (λ rs q. reads-on (document s) (a .policy) (λ es z u. absurd (true≢false (sym (all-short s t (n .space) (n .of-seven) (short-names s es z (linesIn t) rs u q)) ∙ n .long))))
+    (λ rs q. reads-on (document s) (a .policy)
+    (λ es z u. absurd (true≢false (sym (all-short s t (n .space) (n .of-seven) (short-names s es z (linesIn t) rs u q)) ∙ n .long))))
     (λ q. q))
 
 -- ---- The statements.
@@ -161,7 +164,8 @@ unfolding answer translate
 answers-as-defined s t out = refl
 
 fields-are : (r₁ r₂ : Answer) (out₁ out₂ : Bytes) → answered r₁ out₁ ≡ answered r₂ out₂ → (r₁ ≡ r₂) × (out₁ ≡ out₂)
-fields-are r₁ r₂ out₁ out₂ e = (ap (λ (a : Translated). record { reply = a .reply; place = a .place; which = a .which; count = a .count }) e, ap (λ (a : Translated). a .output) e)
+fields-are r₁ r₂ out₁ out₂ e =
+    (ap (λ (a : Translated). record { reply = a .reply; place = a .place; which = a .which; count = a .count }) e, ap (λ (a : Translated). a .output) e)
 
 -- no second answer fits
 pub one-answer : OneAnswer
@@ -193,7 +197,8 @@ small-answer words s t out =
     (λ es z u. on (lines (length t) t)
     (λ ls y v. on-test (eqb words scratchWords)
     (λ q. on-found (recordsOf es ls)
-    (λ rs p. on-test (leb (length (written rs)) (length out)) (λ f. rw (u, v, q, p, f) (omega arith, omega arith)) (λ f. rw (u, v, q, p, f) (omega arith, omega arith)))
+    (λ rs p. on-test (leb (length (written rs)) (length out)) (λ f. rw (u, v, q, p, f) (omega arith, omega arith))
+    (λ f. rw (u, v, q, p, f) (omega arith, omega arith)))
     (λ p. rw (u, v, q, p) (omega arith, omega arith)))
     (λ q. rw (u, v, q) (omega arith, omega arith)))
     (λ y v. rw (u, v) (omega arith, omega arith)))

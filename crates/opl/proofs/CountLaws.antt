@@ -9,12 +9,12 @@ use lib.ListN.{length, length-append}
 use borrow.Author.Tests.{eqb-true, eqb-false, ne-eqb}
 use Rattle.paper_lower.specs.Lists.{Maybe, upd, every, many, keep, each}
 use Rattle.paper_lower.specs.Lists.Maybe.{just}
-use Rattle.paper_lower.specs.Records.{Bytes, Record, bytes, encode}
+use Rattle.paper_lower.specs.Records.{Bytes, Record, bytes, encode, putAt}
 use Rattle.paper_lower.proofs.ListLaws.{both, upd-same, upd-other, many-each, many-append}
 use Rattle.paper_opl.specs.Tree.{Tag}
 use Rattle.paper_opl.specs.Naming.{Line, Names, taskRecord, written}
 use Rattle.paper_opl.specs.Walk.{namesIn, Context, start, turn, kindAt, leading, Saying, saying, sayings, recordSaid, rising, recordsIn}
-use Rattle.paper_opl.specs.Filling.{putAt, valued, fill, countOf, startOf, tally}
+use Rattle.paper_opl.specs.Filling.{valued, fill, countOf, startOf, tally}
 use Rattle.paper_opl.proofs.Inversion.{on-test}
 use Rattle.paper_opl.proofs.Judging.{oneOf, ofTags, said-range, ordered}
 use Rattle.paper_opl.proofs.Tallied.{tally-is}
@@ -130,5 +130,7 @@ fill-agree ns (t ∷ ts) c low f g h out =
     let z = eqb-false (kindAt c t) 0 q in
     let s : kindAt c t < 17 = rw (kind-is c t) (kind-small (c .sets) (t .name) low) in
     let o : 1 ≤ kindAt c t = omega (arith, z) in
-    rw q (ap (λ (p : ℕ). fill ns (turn c t) (upd f (kindAt c t) (suc (f (kindAt c t)))) ts (putAt out p (valued (recordSaid ns (saying c t (leading ts)))))) (h (kindAt c t) o s)
-    ∙ fill-agree ns ts (turn c t) (low-turn c t low) (upd f (kindAt c t) (suc (f (kindAt c t)))) (upd g (kindAt c t) (suc (g (kindAt c t)))) (agree-upd f g (kindAt c t) o s h) (putAt out (g (kindAt c t)) (valued (recordSaid ns (saying c t (leading ts)))))))
+    rw q (ap (λ (p : ℕ). fill ns (turn c t) (upd f (kindAt c t) (suc (f (kindAt c t)))) ts (putAt out p (valued (recordSaid ns (saying c t (leading ts))))))
+    (h (kindAt c t) o s)
+    ∙ fill-agree ns ts (turn c t) (low-turn c t low) (upd f (kindAt c t) (suc (f (kindAt c t)))) (upd g (kindAt c t) (suc (g (kindAt c t))))
+    (agree-upd f g (kindAt c t) o s h) (putAt out (g (kindAt c t)) (valued (recordSaid ns (saying c t (leading ts)))))))

@@ -89,7 +89,9 @@ module _ (s t : Text) (out : Bytes) where
 
   module _ (from : ℕ) (tags-are : tags s ≡ walkAt s from) (l₀ l₁ : List ℕ) where
     pub no-tag : ChecksAll (allNames s t) (walkAt s from) l₀ l₁ false → Gives (recordsAnswer s t out) out out (refusal 22)
-    no-tag c = unnamed (absent (recordsIn (tags s) (linesIn t)) (judged (tags s) (linesIn t) ∙ and-neither (few s) (lined s t) (tagged s t) (rw (← tags-are) at (c .verdict))))
+    no-tag c =
+        unnamed
+        (absent (recordsIn (tags s) (linesIn t)) (judged (tags s) (linesIn t) ∙ and-neither (few s) (lined s t) (tagged s t) (rw (← tags-are) at (c .verdict))))
 
     module _ (lines-there : linesThere (allNames s t) (linesIn t) ≡ true) (room₀ : length l₀ ≡ 17) (zeros : (k : ℕ) → of l₀ k ≡ 0)
         (checks : ChecksAll (allNames s t) (walkAt s from) l₀ l₁ true) (n : ℕ) (many-lines : many (linesIn t) ≡ n) where
@@ -161,7 +163,8 @@ module _ (s t : Text) (out : Bytes) where
               let u = tally-ends (tags s) (linesIn t) (of l₀) (of l₁) zeros tallied (of l₂) with-lines (of l₃) (begun .each-begins) k a b in
               let v = upto (suc k) (omega arith) in
               let f = fits in
-              let z : tally start (of l₃) (walkAt s from) k ≡ tally start (of l₃) (tags s) k = ap (λ (ts : List Tag). tally start (of l₃) ts k) (sym tags-are) in
+              let z : tally start (of l₃) (walkAt s from) k ≡ tally start (of l₃) (tags s) k =
+              ap (λ (ts : List Tag). tally start (of l₃) ts k) (sym tags-are) in
               omega (arith, u, v, f, z, kept)
 
           agrees : (k : ℕ) → 1 ≤ k → k < 17 → of l₃ k ≡ starts k
@@ -177,7 +180,8 @@ module _ (s t : Text) (out : Bytes) where
               let w : out₂ ≡ written rs ++ drop (length (written rs)) out
               = tags-put ∙ ap (λ (ts : List Tag). fill (allNames s t) start (of l₃) ts out₁) (sym tags-are)
               ∙ fill-agree (allNames s t) (tags s) start (omega arith) (of l₃) (startOf (sayings start (tags s)) (linesIn t)) agrees out₁
-              ∙ ap (fill (allNames s t) start (startOf (sayings start (tags s)) (linesIn t)) (tags s)) (lines-put ∙ ap (λ (p : ℕ). fillLines (allNames s t) p (linesIn t) out) (agrees 6 (omega arith) (omega arith)))
+              ∙ ap (fill (allNames s t) start (startOf (sayings start (tags s)) (linesIn t)) (tags s))
+              (lines-put ∙ ap (λ (p : ℕ). fillLines (allNames s t) p (linesIn t) out) (agrees 6 (omega arith) (omega arith)))
               ∙ fill-writes (tags s) (linesIn t) rs out e d in
               let m : many rs ≡ total = c .0 ∙ sym total-is in
               record { answer-is = rw (e, le-leb (length (written rs)) (length out) d, m, ← w); room = kept₂ ∙ kept })

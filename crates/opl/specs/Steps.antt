@@ -15,7 +15,7 @@ use Rattle.paper_opl.specs.Walk.{tags, recordsIn}
 use Rattle.opl_lines.specs.Lines.{linesIn}
 use Rattle.opl_spaces.specs.Spaces.{scratchWords, listOf}
 use Rattle.opl_tags.specs.Tags.{walkAt}
-use Rattle.opl_declared.specs.Names.{accepted}
+use Rattle.opl_line_names.specs.Names.{accepted}
 use Rattle.opl_said.specs.Said.{allNames, Held}
 use Rattle.opl_turns.specs.Listing.{Leads}
 use Rattle.opl_turns.specs.Turning.{SmallTag}

@@ -45,11 +45,14 @@ module _ (t : Text) (at e : ℕ) (room : at ≤ length t) (ends : drop e t ≡ b
         module _ (template : f ≡ e + 1 → ⊥) where
           two-names :
               line (drop at t)
-              ≡ after (cond (same (drop f t) []) (got tt (drop f t)) (expect (10 ∷ []) (drop f t))) (λ _ y. got (record { task = take (e - at) (drop at t); template = take (f - (e + 1)) (drop (e + 1) t) }) y)
+              ≡ after (cond (same (drop f t) []) (got tt (drop f t)) (expect (10 ∷ []) (drop f t)))
+              (λ _ y. got (record { task = take (e - at) (drop at t); template = take (f - (e + 1)) (drop (e + 1) t) }) y)
           unfolding line
-          two-names = rw (← a-word inLine t at e room ends inside task, spaced .0, drop-drop 1 e t, ← a-word inLine t (e + 1) f line-past ends₂ inside₂ template)
+          two-names =
+              rw (← a-word inLine t at e room ends inside task, spaced .0, drop-drop 1 e t, ← a-word inLine t (e + 1) f line-past ends₂ inside₂ template)
 
-          pub line-last : length t ≤ f → got (record { task = take (e - at) (drop at t); template = take (f - (e + 1)) (drop (e + 1) t) }) (drop f t) ≡ line (drop at t)
+          pub line-last : length t ≤ f →
+              got (record { task = take (e - at) (drop at t); template = take (f - (e + 1)) (drop (e + 1) t) }) (drop f t) ≡ line (drop at t)
           unfolding same
           line-last h = let z : drop f t ≡ [] = drop-of-length-le t h in rw (two-names, z)
 
@@ -61,14 +64,17 @@ module _ (t : Text) (at e : ℕ) (room : at ≤ length t) (ends : drop e t ≡ b
             pub line-unended : not c ≡ true → bad (drop f t) ≡ line (drop at t)
             line-unended u = rw (two-names, goes-on, one-not 10 (drop f t) (sym is₂ ∙ not-true c u))
 
-            pub line-whole : not c ≡ false → got (record { task = take (e - at) (drop at t); template = take (f - (e + 1)) (drop (e + 1) t) }) (drop (f + 1) t) ≡ line (drop at t)
+            pub line-whole : not c ≡ false →
+                got (record { task = take (e - at) (drop at t); template = take (f - (e + 1)) (drop (e + 1) t) }) (drop (f + 1) t) ≡ line (drop at t)
             line-whole u = rw (two-names, goes-on, one-yes 10 (drop f t) (sym is₂ ∙ not-false c u) .0, drop-drop 1 f t)
 
 -- ---- Lines, one by one.
 by-line : (n : ℕ) (s : Text) → lines (suc n) s ≡ cond (same s []) (got [] s) (after (line s) (λ l y. after (lines n y) (λ ls x. got (l ∷ ls) x)))
 unfolding lines line
 by-line n s =
-    on (word inLine s) (λ v r e. rw e (on (expect (32 ∷ []) r) (λ _ u d. rw d (on (word inLine u) (λ w z c. rw c (on (cond (same z []) (got tt z) (expect (10 ∷ []) z)) (λ _ y b. rw b) (λ y b. rw b))) (λ z c. rw c))) (λ u d. rw d))) (λ r e. rw e)
+    on (word inLine s) (λ v r e. rw e (on (expect (32 ∷ []) r)
+    (λ _ u d. rw d (on (word inLine u) (λ w z c. rw c (on (cond (same z []) (got tt z) (expect (10 ∷ []) z)) (λ _ y b. rw b) (λ y b. rw b))) (λ z c. rw c)))
+    (λ u d. rw d))) (λ r e. rw e)
 
 more-text : (s : Text) → 0 < length s → same s [] ≡ false
 unfolding same
@@ -120,13 +126,17 @@ module _ (t : Text) (at : ℕ) (h : at < length t) where
 
       pub judge-on : forget (lines (length t) (drop at t)) ≡ forget (lines (length t) (drop n t))
       judge-on =
-          ap forget (lines-on (drop at t) longer (length t) _ (drop n t) fits (omega (arith, length-drop at t, length-drop n t, judge-past .0, judge-past .1)) (sym (rw q at (reads .read-is))))
+          ap forget (lines-on (drop at t) longer (length t) _ (drop n t) fits (omega (arith, length-drop at t, length-drop n t, judge-past .0, judge-past .1))
+          (sym (rw q at (reads .read-is))))
           ∙ forget-on (lines (length t) (drop n t)) _
 
       -- an accepted text is this line and those behind it
-      pub lines-step : (z : Text) → forget (lines (length t) (drop at t)) ≡ got tt z → linesRead (lines (length t) (drop at t)) ≡ record { task = take (e - at) (drop at t); template = take (f - (e + 1)) (drop (e + 1) t) } ∷ linesRead (lines (length t) (drop n t))
+      pub lines-step : (z : Text) → forget (lines (length t) (drop at t)) ≡ got tt z →
+          linesRead (lines (length t) (drop at t)) ≡
+          record { task = take (e - at) (drop at t); template = take (f - (e + 1)) (drop (e + 1) t) } ∷ linesRead (lines (length t) (drop n t))
       lines-step z u =
-          ap linesRead (lines-on (drop at t) longer (length t) _ (drop n t) fits (omega (arith, length-drop at t, length-drop n t, judge-past .0, judge-past .1)) (sym (rw q at (reads .read-is))))
+          ap linesRead (lines-on (drop at t) longer (length t) _ (drop n t) fits
+          (omega (arith, length-drop at t, length-drop n t, judge-past .0, judge-past .1)) (sym (rw q at (reads .read-is))))
           ∙ read-on (lines (length t) (drop n t)) _ z (sym judge-on ∙ u)
 
     pub lines-never : (i : ℕ) (z : Text) → r ≡ Bad i → forget (lines (length t) (drop at t)) ≡ got tt z → ⊥
@@ -135,7 +145,8 @@ module _ (t : Text) (at : ℕ) (h : at < length t) where
 -- the lines of a text that the judge accepts
 pub lines-are : (t z : Text) → forget (lines (length t) t) ≡ got tt z → lines (length t) t ≡ got (linesIn t) z
 unfolding linesIn
-lines-are t z e = on (lines (length t) t) (λ ls r q. q ∙ (let w = got-rest (sym (ap forget q) ∙ e) in rw (q, w))) (λ r q. absurd (bad≢got (sym (ap forget q) ∙ e)))
+lines-are t z e =
+    on (lines (length t) t) (λ ls r q. q ∙ (let w = got-rest (sym (ap forget q) ∙ e) in rw (q, w))) (λ r q. absurd (bad≢got (sym (ap forget q) ∙ e)))
 
 pub judge-end : (t : Text) (at : ℕ) → length t ≤ at → got tt (drop at t) ≡ forget (lines (length t) (drop at t))
 judge-end t at h = sym (ap forget (lines-none (length t) (drop at t) (omega (arith, length-drop at t))))

@@ -79,11 +79,21 @@ grown n l h at w r q u =
       size = length-set l3 0 (k + 1) ∙ r3 ∙ sym r;
       count = getD-set-same l3 0 (k + 1) 0 (omega arith);
       head = other l3 0 (k + 1) (1 + 3 * h) (λ e. omega arith) ∙ getD-set-same l2 (1 + 3 * h) (k + 1) 0 (omega arith);
-      heads = λ j d. other l3 0 (k + 1) (1 + 3 * j) (λ e. omega arith) ∙ other l2 (1 + 3 * h) (k + 1) (1 + 3 * j) (λ e. d (omega arith)) ∙ other l1 (3 + 3 * k) w (1 + 3 * j) (λ e. omega arith) ∙ other l (2 + 3 * k) at (1 + 3 * j) (λ e. omega arith);
-      place = other l3 0 (k + 1) (2 + 3 * k) (λ e. omega arith) ∙ other l2 (1 + 3 * h) (k + 1) (2 + 3 * k) (λ e. omega arith) ∙ other l1 (3 + 3 * k) w (2 + 3 * k) (λ e. omega arith) ∙ getD-set-same l (2 + 3 * k) at 0 (omega arith);
-      places = λ j d. other l3 0 (k + 1) (2 + 3 * j) (λ e. omega arith) ∙ other l2 (1 + 3 * h) (k + 1) (2 + 3 * j) (λ e. omega arith) ∙ other l1 (3 + 3 * k) w (2 + 3 * j) (λ e. omega arith) ∙ other l (2 + 3 * k) at (2 + 3 * j) (λ e. omega arith);
-      word = other l3 0 (k + 1) (3 + 3 * k) (λ e. omega arith) ∙ other l2 (1 + 3 * h) (k + 1) (3 + 3 * k) (λ e. omega arith) ∙ getD-set-same l1 (3 + 3 * k) w 0 (omega arith);
-      words = λ j d. other l3 0 (k + 1) (3 + 3 * j) (λ e. omega arith) ∙ other l2 (1 + 3 * h) (k + 1) (3 + 3 * j) (λ e. omega arith) ∙ other l1 (3 + 3 * k) w (3 + 3 * j) (λ e. omega arith) ∙ other l (2 + 3 * k) at (3 + 3 * j) (λ e. omega arith);
+      heads =
+          λ j d. other l3 0 (k + 1) (1 + 3 * j) (λ e. omega arith) ∙ other l2 (1 + 3 * h) (k + 1) (1 + 3 * j) (λ e. d (omega arith)) ∙
+          other l1 (3 + 3 * k) w (1 + 3 * j) (λ e. omega arith) ∙ other l (2 + 3 * k) at (1 + 3 * j) (λ e. omega arith);
+      place =
+          other l3 0 (k + 1) (2 + 3 * k) (λ e. omega arith) ∙ other l2 (1 + 3 * h) (k + 1) (2 + 3 * k) (λ e. omega arith) ∙
+          other l1 (3 + 3 * k) w (2 + 3 * k) (λ e. omega arith) ∙ getD-set-same l (2 + 3 * k) at 0 (omega arith);
+      places =
+          λ j d. other l3 0 (k + 1) (2 + 3 * j) (λ e. omega arith) ∙ other l2 (1 + 3 * h) (k + 1) (2 + 3 * j) (λ e. omega arith) ∙
+          other l1 (3 + 3 * k) w (2 + 3 * j) (λ e. omega arith) ∙ other l (2 + 3 * k) at (2 + 3 * j) (λ e. omega arith);
+      word =
+          other l3 0 (k + 1) (3 + 3 * k) (λ e. omega arith) ∙ other l2 (1 + 3 * h) (k + 1) (3 + 3 * k) (λ e. omega arith) ∙
+          getD-set-same l1 (3 + 3 * k) w 0 (omega arith);
+      words =
+          λ j d. other l3 0 (k + 1) (3 + 3 * j) (λ e. omega arith) ∙ other l2 (1 + 3 * h) (k + 1) (3 + 3 * j) (λ e. omega arith) ∙
+          other l1 (3 + 3 * k) w (3 + 3 * j) (λ e. omega arith) ∙ other l (2 + 3 * k) at (3 + 3 * j) (λ e. omega arith);
     }
 
 pub names-many : (s : Text) (l : List ℕ) → 0 + many (namesIn s l) ≡ kept l
@@ -136,7 +146,9 @@ module _ (s : Text) (n : ℕ) (l l′ : List ℕ) (at size m : ℕ) (name : Text
   unfolding startOf
   start-other h d = rw (g .heads h d, g .count) (go (headWord l h) (ltb (kept l) (headWord l h)) (ltb (kept l + 1) (headWord l h)) refl refl)
     where
-      go : (x : ℕ) (low high : Bool) → ltb (kept l) x ≡ low → ltb (kept l + 1) x ≡ high → cond (eqb x 0) 0 (cond (ltb (kept l + 1) x) 0 (cond (inBucket n l′ h (x - 1)) x 0)) ≡ cond (eqb x 0) 0 (cond (ltb (kept l) x) 0 (cond (inBucket n l h (x - 1)) x 0))
+      go : (x : ℕ) (low high : Bool) → ltb (kept l) x ≡ low → ltb (kept l + 1) x ≡ high →
+          cond (eqb x 0) 0 (cond (ltb (kept l + 1) x) 0 (cond (inBucket n l′ h (x - 1)) x 0)) ≡
+          cond (eqb x 0) 0 (cond (ltb (kept l) x) 0 (cond (inBucket n l h (x - 1)) x 0))
       go zero low high p q = refl
       go (suc y) true true p q = rw (p, q)
       go (suc y) true false p q =
@@ -149,7 +161,14 @@ module _ (s : Text) (n : ℕ) (l l′ : List ℕ) (at size m : ℕ) (name : Text
   unfolding startOf
   start-new =
       let e : kept l + 1 - 1 ≡ kept l = omega arith in
-      rw (g .head, g .count, ne-eqb (kept l + 1) 0 (λ z. omega arith), le-ltb (kept l + 1) (kept l + 1) (omega arith), e, eq-eqb (bucketAt n l′ (kept l)) (bucketOf n m) bucket-new)
+      rw (
+        g .head,
+        g .count,
+        ne-eqb (kept l + 1) 0 (λ z. omega arith),
+        le-ltb (kept l + 1) (kept l + 1) (omega arith),
+        e,
+        eq-eqb (bucketAt n l′ (kept l)) (bucketOf n m) bucket-new,
+      )
 
   last-new : lastBelow (inBucket n l′ (bucketOf n m)) (kept l′) ≡ kept l + 1
   unfolding lastBelow
@@ -170,8 +189,12 @@ module _ (s : Text) (n : ℕ) (l l′ : List ℕ) (at size m : ℕ) (name : Text
         few = sound .few;
         room = g .size ∙ sound .room;
         within = omega (arith, g .count);
-        inside = each-number (λ j. placeAt l′ j + sizeIn (wordAt l′ j) ≤ length s) (λ j h. rw (g .places j h, g .words j h) (sound .inside j h)) (rw (g .place, size-is) fits);
-        marks = each-number (λ j. markIn (wordAt l′ j) ≡ markOf (nameAt s l′ j)) (λ j h. rw (name-old j h, g .words j h) (sound .marks j h)) (mark-is ∙ marked ∙ sym (ap markOf name-new));
+        inside =
+            each-number (λ j. placeAt l′ j + sizeIn (wordAt l′ j) ≤ length s) (λ j h. rw (g .places j h, g .words j h) (sound .inside j h))
+            (rw (g .place, size-is) fits);
+        marks =
+            each-number (λ j. markIn (wordAt l′ j) ≡ markOf (nameAt s l′ j)) (λ j h. rw (name-old j h, g .words j h) (sound .marks j h))
+            (mark-is ∙ marked ∙ sym (ap markOf name-new));
         firsts =
             each-number (λ j. placeOf 0 (nameAt s l′ j) (namesIn s l′) ≡ just j)
             (λ j h. rw (names-more, name-old j h) (place-kept (nameAt s l j) name 0 j (namesIn s l) (sound .firsts j h)))
@@ -211,7 +234,8 @@ module _ (s : Text) (n : ℕ) (l : List ℕ) (w : Text) (sound : Sound s n l) wh
 
     pub declared-new : (l′ : List ℕ) → l′ ≡ withName l (bucketOf n m) at (packed size (startOf n l (bucketOf n m)) m) → Declares s n w l l′ (At (kept l))
     declared-new l′ e =
-        let g : Grown l l′ (bucketOf n m) at (packed size (startOf n l (bucketOf n m)) m) = rw e (grown n l (bucketOf n m) at (packed size (startOf n l (bucketOf n m)) m) (sound .room) room lower) in
+        let g : Grown l l′ (bucketOf n m) at (packed size (startOf n l (bucketOf n m)) m) =
+        rw e (grown n l (bucketOf n m) at (packed size (startOf n l (bucketOf n m)) m) (sound .room) room lower) in
         record {
           sound = sound-more s n l l′ at size m w sound g room fits short is marked h lower;
           number = sym (rw (added-new w (namesIn s l) h, place-new w 0 (namesIn s l) h, names-many s l, lt-ltb (kept l) n room));

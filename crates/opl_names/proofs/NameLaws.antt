@@ -38,7 +38,8 @@ unfolding placeOf add
 place-kept w v i j [] h = let z : _≡_ {A = ℕ} 0 1 = cc in absurd (omega arith)
 place-kept w v i j (u ∷ ws) h = go (same u w) h (place-kept w v (suc i) j ws)
   where
-    go : (b : Bool) → cond b (just i) (placeOf (suc i) w ws) ≡ just j → (placeOf (suc i) w ws ≡ just j → placeOf (suc i) w (add ws v) ≡ just j) → cond b (just i) (placeOf (suc i) w (add ws v)) ≡ just j
+    go : (b : Bool) → cond b (just i) (placeOf (suc i) w ws) ≡ just j → (placeOf (suc i) w ws ≡ just j → placeOf (suc i) w (add ws v) ≡ just j) →
+        cond b (just i) (placeOf (suc i) w (add ws v)) ≡ just j
     go true h rest = h
     go false h rest = rest h
 
@@ -48,7 +49,8 @@ unfolding placeOf add many
 place-new w i [] h = rw (same-self w, add-zero i)
 place-new w i (u ∷ ws) h = go (same u w) h (place-new w (suc i) ws)
   where
-    go : (b : Bool) → cond b (just i) (placeOf (suc i) w ws) ≡ none → (placeOf (suc i) w ws ≡ none → placeOf (suc i) w (add ws w) ≡ just (suc i + many ws)) → cond b (just i) (placeOf (suc i) w (add ws w)) ≡ just (i + suc (many ws))
+    go : (b : Bool) → cond b (just i) (placeOf (suc i) w ws) ≡ none → (placeOf (suc i) w ws ≡ none → placeOf (suc i) w (add ws w) ≡ just (suc i + many ws)) →
+        cond b (just i) (placeOf (suc i) w (add ws w)) ≡ just (i + suc (many ws))
     go true h rest = let z : _≡_ {A = ℕ} 0 1 = cc in absurd (omega arith)
     go false h rest = let q : suc i + many ws ≡ i + suc (many ws) = omega arith in rest h ∙ ap just q
 
@@ -68,7 +70,8 @@ unfolding some placeOf holds
 place-some w i [] = refl
 place-some w i (u ∷ ws) = go (same u w) (same-swap w u) (place-some w (suc i) ws)
   where
-    go : (b : Bool) → same w u ≡ b → some (same w) ws ≡ there (placeOf (suc i) w ws) → same w u || some (same w) ws ≡ there (cond b (just i) (placeOf (suc i) w ws))
+    go : (b : Bool) → same w u ≡ b → some (same w) ws ≡ there (placeOf (suc i) w ws) →
+        same w u || some (same w) ws ≡ there (cond b (just i) (placeOf (suc i) w ws))
     go true e rest = rw e
     go false e rest = rw e rest
 

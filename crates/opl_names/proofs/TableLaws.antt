@@ -40,7 +40,8 @@ module _ (s : Text) (k : ℕ) where
   quads-end e l q f = f ∙ rw (q, e, l)
 
 -- ---- The name of number k, compared with another.
-pub is-last : (s : Text) (l : List ℕ) (k m : ℕ) (name : Text) {r : Bool} → markIn (wordAt l k) ≡ m → r ≡ same (take (placeAt l k + sizeIn (wordAt l k) - placeAt l k) (drop (placeAt l k) s)) name → r ≡ eqb (markIn (wordAt l k)) m && same (nameAt s l k) name
+pub is-last : (s : Text) (l : List ℕ) (k m : ℕ) (name : Text) {r : Bool} → markIn (wordAt l k) ≡ m →
+    r ≡ same (take (placeAt l k + sizeIn (wordAt l k) - placeAt l k) (drop (placeAt l k) s)) name → r ≡ eqb (markIn (wordAt l k)) m && same (nameAt s l k) name
 unfolding nameAt
 is-last s l k m name e f =
     let z : placeAt l k + sizeIn (wordAt l k) - placeAt l k ≡ sizeIn (wordAt l k) = omega arith in
@@ -127,10 +128,13 @@ module _ (s : Text) (n : ℕ) (l : List ℕ) (w : Text) (m b : ℕ) (sound : Sou
       not-here : same (nameAt s l (next - 1)) w ≡ false
       not-here =
           same-not (nameAt s l (next - 1)) w
-          (λ q. false≢true (sym (not-both (eqb (markIn (wordAt l (next - 1))) m) (same (nameAt s l (next - 1)) w) (sym differs) (eq-eqb _ _ (sound .marks (next - 1) here ∙ ap markOf q ∙ sym marked))) ∙ rw q (same-self w)))
+          (λ q. false≢true (sym (not-both (eqb (markIn (wordAt l (next - 1))) m) (same (nameAt s l (next - 1)) w) (sym differs)
+          (eq-eqb _ _ (sound .marks (next - 1) here ∙ ap markOf q ∙ sym marked))) ∙ rw q (same-self w)))
 
       older : on ≡ lastBelow (inBucket n l b) (next - 1)
-      older = leads ∙ sound .links (next - 1) here ∙ ap (λ h. lastBelow (inBucket n l h) (next - 1)) (eqb-true _ _ (last-here (inBucket n l b) next more (walking .stands)))
+      older =
+          leads ∙ sound .links (next - 1) here ∙
+          ap (λ h. lastBelow (inBucket n l h) (next - 1)) (eqb-true _ _ (last-here (inBucket n l b) next more (walking .stands)))
 
       pub walk-less : on < next
       walk-less = omega (arith, older, last-le (inBucket n l b) (next - 1))

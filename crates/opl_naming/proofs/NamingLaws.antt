@@ -23,10 +23,10 @@ use Rattle.opl_tags.specs.declared.Tag.the-variants.{Start, End, Halt}
 use Rattle.opl_tags.specs.declared.Part.{Part}
 use Rattle.opl_spaces.specs.Spaces.{limitOf, listPlace, scratchWords, tableOf, listOf, Empties, DeclaresIn}
 use Rattle.opl_spaces.proofs.SpaceLaws.{table-kept}
-use Rattle.opl_declared.specs.Names.{attributeOf, declaredAt, short, tagNames, lineNames, filled, Onward, DeclaresAll}
-use Rattle.opl_declared.specs.declared.Walked.{Walked}
-use Rattle.opl_declared.specs.declared.Walked.the-variants.{Next, Long, Done}
-use Rattle.opl_declared.proofs.DeclaredLaws.{walked-halt, walked-end, walked-other, walked-long, walked-on, no-tags}
+use Rattle.opl_line_names.specs.Names.{attributeOf, declaredAt, short, tagNames, lineNames, filled, Onward, DeclaresAll}
+use Rattle.opl_line_names.specs.declared.Walked.{Walked}
+use Rattle.opl_line_names.specs.declared.Walked.the-variants.{Next, Long, Done}
+use Rattle.opl_line_names.proofs.DeclaredLaws.{walked-halt, walked-end, walked-other, walked-long, walked-on, no-tags}
 use Rattle.opl_said.specs.Said.{allNames, Held}
 use Rattle.opl_said.proofs.HeldLaws.{held}
 use Rattle.opl_turns.specs.Meaning.{elementOf}
@@ -43,7 +43,8 @@ last-attribute i h b = rw (last 4 i h b)
 -- ---- One tag.
 
 -- what a step does for one space, whose table was so and is left so
-keeps : (s : Text) (i at n : ℕ) (l l₀ l₁ l′ : List ℕ) → Onward s i (tagNames s i) at n l₀ l₁ → tableOf i l₀ ≡ tableOf i l → tableOf i l′ ≡ tableOf i l₁ → Keeps s i at n l l′
+keeps : (s : Text) (i at n : ℕ) (l l₀ l₁ l′ : List ℕ) → Onward s i (tagNames s i) at n l₀ l₁ → tableOf i l₀ ≡ tableOf i l → tableOf i l′ ≡ tableOf i l₁ →
+    Keeps s i at n l l′
 keeps s i at n l l₀ l₁ l′ o d e = record { sound = rw e (o .sound); fills = rw (e, ← d) (o .fills); shorts = o .shorts }
 
 module _ (s : Text) (at : ℕ) (r : Tag) (reads : ReadsTag s (nextTag (drop at s)) r) (l : List ℕ) (sound : AllSound s l) where
@@ -120,7 +121,8 @@ module _ (s : Text) (at : ℕ) (r : Tag) (reads : ReadsTag s (nextTag (drop at s
               long = walked-long s i at r reads l (sound i h) name end e (same v (nameOf (12 + i))) refl named p valued q .walks;
             }
 
-        pub goes-on : (l′ : List ℕ) (k : Found) → p .to - p .from ≤ 64 → DeclaresIn s i (take (p .to - p .from) (drop (p .from) s)) l₁ l′ k → Goes s at l l′ (Next end)
+        pub goes-on : (l′ : List ℕ) (k : Found) → p .to - p .from ≤ 64 → DeclaresIn s i (take (p .to - p .from) (drop (p .from) s)) l₁ l′ k →
+            Goes s at l l′ (Next end)
         goes-on l′ k q d =
             let o = walked-on s i at r reads l₁ (goes-sound i h) name end e (same v (nameOf (12 + i))) refl named p valued l′ k q d .walks in
             record {
@@ -129,7 +131,9 @@ module _ (s : Text) (at : ℕ) (r : Tag) (reads : ReadsTag s (nextTag (drop at s
               room = d .apart .room ∙ same-room;
               keeps = λ j a. on-test (eqb j i)
                   (λ u. let z = eqb-true j i u in rw z (keeps s i at end l l₁ l′ l′ o (same-table i (omega arith)) refl))
-                  (λ u. let z = eqb-false j i u in keeps s j at end l l l l′ (other j a (λ w. z (omega (arith, here, w)))) refl (d .apart .others j (omega arith) z ∙ same-table j (omega arith)));
+                  (λ u. let z =
+                  eqb-false j i u in keeps s j at end l l l l′ (other j a (λ w. z (omega (arith, here, w)))) refl
+                  (d .apart .others j (omega arith) z ∙ same-table j (omega arith)));
               others = λ j a b. d .apart .others j b (λ w. omega (arith, w)) ∙ same-table j b;
               lists = λ from g. rw (d .apart .list) (lists from g);
             }
@@ -166,7 +170,11 @@ module _ (s : Text) (from : ℕ) (l : List ℕ) where
           room = left .room;
           each-space = λ i h.
               let a = left .spaces i h in
-              record { shorts = a .shorts ∙ ap (every short) (e i h); sound = a .sound; names = sym (a .fills ∙ ap (filled (limitOf i) (namesIn s (tableOf i l′))) (e i h)) };
+              record {
+                shorts = a .shorts ∙ ap (every short) (e i h);
+                sound = a .sound;
+                names = sym (a .fills ∙ ap (filled (limitOf i) (namesIn s (tableOf i l′))) (e i h));
+              };
           others = left .others;
           lists = λ z. listing-led s from l′ at (left .lists z);
         }
@@ -196,7 +204,12 @@ module _ (s : Text) (from : ℕ) (l : List ℕ) where
             record {
               inside = o .inside;
               room = o .room ∙ left .room;
-              spaces = λ i h. record { sound = o .keeps i h .sound; fills = left .spaces i h .fills ∙ o .keeps i h .fills; shorts = left .spaces i h .shorts ∙ o .keeps i h .shorts };
+              spaces =
+                  λ i h. record {
+                    sound = o .keeps i h .sound;
+                    fills = left .spaces i h .fills ∙ o .keeps i h .fills;
+                    shorts = left .spaces i h .shorts ∙ o .keeps i h .shorts;
+                  };
               others = λ j a b. o .others j a b ∙ left .others j a b;
               lists = λ z. o .lists from (left .lists z);
             }
@@ -259,7 +272,8 @@ module _ (s t : Text) (from : ℕ) (same-tags : tags s ≡ walkAt s from) where
       module _ (l₃ : List ℕ) (tasks : DeclaresAll t 5 (lineNames t 5 0) l₂ l₃ true) where
         pub templates-sound : Sound t (limitOf 6) (tableOf 6 l₃)
         templates-sound =
-            rw (tasks .apart .others 6 (omega arith) (λ e. omega (arith, e)) ∙ filled-tags .others 6 (omega arith) (omega arith)) (emptied .emptied 6 (omega arith) .sound t)
+            rw (tasks .apart .others 6 (omega arith) (λ e. omega (arith, e)) ∙ filled-tags .others 6 (omega arith) (omega arith))
+            (emptied .emptied 6 (omega arith) .sound t)
 
         module _ (l₄ : List ℕ) (templates : DeclaresAll t 6 (lineNames t 6 0) l₃ l₄ true) where
           tags-stay : (i : ℕ) → i < 5 → tableOf i l₄ ≡ tableOf i l₂
@@ -280,7 +294,8 @@ module _ (s t : Text) (from : ℕ) (same-tags : tags s ≡ walkAt s from) where
           tasks-held = (
             rw tasks-stay (tasks .ends .1 .0),
             ap (namesIn t) tasks-stay ∙ tasks .ends .1 .1
-                ∙ ap (λ (x : List Text). filled (limitOf 5) x (lineNames t 5 0)) (ap (namesIn t) (filled-tags .others 5 (omega arith) (omega arith)) ∙ emptied .emptied 5 (omega arith) .empty t),
+                ∙ ap (λ (x : List Text). filled (limitOf 5) x (lineNames t 5 0))
+                (ap (namesIn t) (filled-tags .others 5 (omega arith) (omega arith)) ∙ emptied .emptied 5 (omega arith) .empty t),
           )
 
           templates-held : Sound t (limitOf 6) (tableOf 6 l₄) × (namesIn t (tableOf 6 l₄) ≡ filled (limitOf 6) [] (lineNames t 6 0))
@@ -288,7 +303,8 @@ module _ (s t : Text) (from : ℕ) (same-tags : tags s ≡ walkAt s from) where
             templates .ends .1 .0,
             templates .ends .1 .1
                 ∙ ap (λ (x : List Text). filled (limitOf 6) x (lineNames t 6 0))
-                (ap (namesIn t) (tasks .apart .others 6 (omega arith) (λ e. omega (arith, e)) ∙ filled-tags .others 6 (omega arith) (omega arith)) ∙ emptied .emptied 6 (omega arith) .empty t),
+                (ap (namesIn t) (tasks .apart .others 6 (omega arith) (λ e. omega (arith, e)) ∙ filled-tags .others 6 (omega arith) (omega arith)) ∙
+                emptied .emptied 6 (omega arith) .empty t),
           )
 
           lines-held : (i : ℕ) → 4 < i → i < 7 → Sound t (limitOf i) (tableOf i l₄) × (namesIn t (tableOf i l₄) ≡ filled (limitOf i) [] (lineNames t i 0))
@@ -306,5 +322,8 @@ module _ (s t : Text) (from : ℕ) (same-tags : tags s ≡ walkAt s from) where
 module _ (s t : Text) (from : ℕ) (same-tags : tags s ≡ walkAt s from) (l₀ l₁ l₂ l₃ l₄ : List ℕ) (room : length l₀ ≡ scratchWords) (emptied : AllEmptied l₀ l₁)
     (filled-tags : AllFilled s from l₁ l₂) (tasks : DeclaresAll t 5 (lineNames t 5 0) l₂ l₃ true) where
   pub named-all : (r : Bool) → DeclaresAll t 6 (lineNames t 6 0) l₃ l₄ r → Names s t from l₄ r
-  named-all true d = (all-held s t from same-tags l₀ l₁ l₂ room emptied filled-tags l₃ tasks l₄ d, all-listed s t from same-tags l₀ l₁ l₂ room emptied filled-tags l₃ tasks l₄ d)
+  named-all true d = (
+    all-held s t from same-tags l₀ l₁ l₂ room emptied filled-tags l₃ tasks l₄ d,
+    all-listed s t from same-tags l₀ l₁ l₂ room emptied filled-tags l₃ tasks l₄ d,
+  )
   named-all false d = long-line s t from same-tags 6 l₃ l₄ (omega arith) (omega arith) d

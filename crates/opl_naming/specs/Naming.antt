@@ -10,9 +10,9 @@ use Rattle.paper_opl.specs.Reading.{Text}
 use Rattle.paper_opl.specs.Walk.{tags}
 use Rattle.opl_names.specs.Table.{namesIn, Sound, Emptied}
 use Rattle.opl_spaces.specs.Spaces.{limitOf, tableOf, listOf}
-use Rattle.opl_declared.specs.Names.{declaredAt, short, tagNames, lineNames, filled}
-use Rattle.opl_declared.specs.declared.Walked.{Walked}
-use Rattle.opl_declared.specs.declared.Walked.the-variants.{Next, Long, Done}
+use Rattle.opl_line_names.specs.Names.{declaredAt, short, tagNames, lineNames, filled}
+use Rattle.opl_line_names.specs.declared.Walked.{Walked}
+use Rattle.opl_line_names.specs.declared.Walked.the-variants.{Next, Long, Done}
 use Rattle.opl_said.specs.Said.{allNames, Held}
 use Rattle.opl_turns.specs.Listing.{countIn, Leads, Listing}
 

@@ -1,5 +1,5 @@
 // The names that two accepted texts declare: five spaces by one walk over the tags, two by the lines. It rests on the tags of opl_tags, on the guess
-// of opl_turns, on the tables of opl_spaces and on opl_declared's walk over the lines.
+// of opl_turns, on the tables of opl_spaces and on opl_line_names's walk over the lines.
 ghost use mathlib.Core.Path.{_≡_};
 ghost use mathlib.Core.Bool.{true};
 ghost use Prim.Native.Nat.{_≤_, _<_};
@@ -8,10 +8,10 @@ ghost use Rattle.paper_opl.specs.Naming.{lines};
 ghost use Rattle.paper_opl.specs.Walk.{tags};
 ghost use Rattle.opl_spaces.specs.Spaces.{scratchWords};
 ghost use Rattle.opl_tags.specs.Tags.{walkAt};
-ghost use Rattle.opl_declared.specs.Names.{attributeOf, accepted};
+ghost use Rattle.opl_line_names.specs.Names.{attributeOf, accepted};
 ghost use Rattle.opl_naming.specs.Naming.{AllSound, Goes, Fills, AllEmptied, Names};
-use opl_declared::Walked;
-use opl_declared::declare_lines;
+use opl_line_names::Walked;
+use opl_line_names::declare_lines;
 use opl_spaces::LIST;
 use opl_spaces::LONGEST_NAME;
 use opl_spaces::SPACES;

@@ -9,16 +9,16 @@ use lib.Seq.{getD-set-same, getD-set-other}
 use borrow.Author.Tests.{eqb-true, eqb-false, leb-false, lt-leb}
 use Rattle.paper_lower.specs.Lists.{Maybe, upd}
 use Rattle.paper_lower.specs.Lists.Maybe.{just}
-use Rattle.paper_lower.specs.Records.{Bytes, Record}
+use Rattle.paper_lower.specs.Records.{Bytes, Record, putAt}
 use Rattle.paper_lower.proofs.ListLaws.{upd-same, upd-other}
 use Rattle.paper_opl.specs.Reading.{Text}
 use Rattle.paper_opl.specs.Tree.{Tag}
 use Rattle.paper_opl.specs.Naming.{Names}
 use Rattle.paper_opl.specs.Walk.{recordSaid}
-use Rattle.paper_opl.specs.Filling.{putAt, valued, fill, tally}
+use Rattle.paper_opl.specs.Filling.{valued, fill, tally}
 use Rattle.paper_opl.proofs.Inversion.{on-test}
-use Rattle.opl_output.specs.Output.{twoWords, lowWord, recordOf}
-use Rattle.opl_output.proofs.Words.{words-put}
+use Rattle.record_output.specs.Output.{twoWords, lowWord, recordOf}
+use Rattle.record_output.proofs.Words.{words-put}
 use Rattle.opl_spaces.specs.Spaces.{tableWords, keptRoom, scratchWords, listOf}
 use Rattle.opl_spaces.proofs.SpaceLaws.{table-kept, list-kept}
 use Rattle.opl_said.specs.Said.{Held, SaysIt, Small}
@@ -52,14 +52,16 @@ unfolding keptWith
 list-still l j low high =
     on-test (leb keptRoom j) (λ q. rw q)
     (λ q. let h = leb-false keptRoom j q in
-    rw q (list-kept (set l (tableWords + 2 * j) low) (tableWords + 2 * j + 1) high (omega (arith, h)) ∙ list-kept l (tableWords + 2 * j) low (omega (arith, h))))
+    rw q
+    (list-kept (set l (tableWords + 2 * j) low) (tableWords + 2 * j + 1) high (omega (arith, h)) ∙ list-kept l (tableWords + 2 * j) low (omega (arith, h))))
 
 module _ (l : List ℕ) (j low high : ℕ) (room : length l ≡ scratchWords) (here : j < keptRoom) where
   fresh : (lowAt (keptWith l j low high) j ≡ low) × (highAt (keptWith l j low high) j ≡ high)
   unfolding keptWith
   fresh =
       rw (lt-leb keptRoom j here) (
-        getD-set-other (set l (tableWords + 2 * j) low) (tableWords + 2 * j + 1) (tableWords + 2 * j) high 0 (λ e. omega arith) ∙ getD-set-same l (tableWords + 2 * j) low 0 (omega arith),
+        getD-set-other (set l (tableWords + 2 * j) low) (tableWords + 2 * j + 1) (tableWords + 2 * j) high 0 (λ e. omega arith) ∙
+            getD-set-same l (tableWords + 2 * j) low 0 (omega arith),
         getD-set-same (set l (tableWords + 2 * j) low) (tableWords + 2 * j + 1) high 0 (omega (arith, length-set l (tableWords + 2 * j) low)),
       )
 
@@ -67,8 +69,10 @@ module _ (l : List ℕ) (j low high : ℕ) (room : length l ≡ scratchWords) (h
   unfolding keptWith
   older i b =
       rw (lt-leb keptRoom j here) (
-        getD-set-other (set l (tableWords + 2 * j) low) (tableWords + 2 * j + 1) (tableWords + 2 * i) high 0 (λ e. omega arith) ∙ getD-set-other l (tableWords + 2 * j) (tableWords + 2 * i) low 0 (λ e. omega arith),
-        getD-set-other (set l (tableWords + 2 * j) low) (tableWords + 2 * j + 1) (tableWords + 2 * i + 1) high 0 (λ e. omega arith) ∙ getD-set-other l (tableWords + 2 * j) (tableWords + 2 * i + 1) low 0 (λ e. omega arith),
+        getD-set-other (set l (tableWords + 2 * j) low) (tableWords + 2 * j + 1) (tableWords + 2 * i) high 0 (λ e. omega arith) ∙
+            getD-set-other l (tableWords + 2 * j) (tableWords + 2 * i) low 0 (λ e. omega arith),
+        getD-set-other (set l (tableWords + 2 * j) low) (tableWords + 2 * j + 1) (tableWords + 2 * i + 1) high 0 (λ e. omega arith) ∙
+            getD-set-other l (tableWords + 2 * j) (tableWords + 2 * i + 1) low 0 (λ e. omega arith),
       )
 
 -- what the first n write depends on them alone
@@ -80,7 +84,8 @@ module _ (l l′ : List ℕ) where
       ap (λ (g : ℕ → ℕ). upd g (kindIn l′ n) (suc (g (kindIn l′ n)))) (next-agree n (λ i b. h i (omega arith)) f)
       ∙ ap (λ (x : ℕ). upd (nextTo l n f) (x % 256) (suc (nextTo l n f (x % 256)))) (h n (omega arith) .0)
 
-  written-agree : (n : ℕ) → ((i : ℕ) → i < n → (lowAt l′ i ≡ lowAt l i) × (highAt l′ i ≡ highAt l i)) → (f : ℕ → ℕ) (out : Bytes) → writtenTo l′ n f out ≡ writtenTo l n f out
+  written-agree : (n : ℕ) → ((i : ℕ) → i < n → (lowAt l′ i ≡ lowAt l i) × (highAt l′ i ≡ highAt l i)) → (f : ℕ → ℕ) (out : Bytes) →
+      writtenTo l′ n f out ≡ writtenTo l n f out
   unfolding writtenTo
   written-agree zero h f out = refl
   written-agree (suc n) h f out =
@@ -101,7 +106,8 @@ module _ (l : List ℕ) (j low high : ℕ) (room : length l ≡ scratchWords) (h
   unfolding nextTo
   next-new f =
       let z : j + 1 ≡ suc j = omega arith in
-      sym (ap (λ (k : ℕ). nextTo l′ k f) z ∙ ap (λ (g : ℕ → ℕ). upd g (kindIn l′ j) (suc (g (kindIn l′ j)))) (next-agree l l′ j (older l j low high room here) f)
+      sym (ap (λ (k : ℕ). nextTo l′ k f) z ∙
+      ap (λ (g : ℕ → ℕ). upd g (kindIn l′ j) (suc (g (kindIn l′ j)))) (next-agree l l′ j (older l j low high room here) f)
       ∙ ap (λ (k : ℕ). upd (nextTo l j f) k (suc (nextTo l j f k))) kind-new)
 
   written-new : (f : ℕ → ℕ) (out : Bytes) → twoWords (writtenTo l j f out) (nextTo l j f kind) low high ≡ writtenTo l′ (j + 1) f out
@@ -132,7 +138,11 @@ module _ (ns : Names) (s t : Text) (c : Cursor) (j : ℕ) (w : List ℕ) (held :
         few = omega (arith, few, p .steps .past);
         goes-on = λ ts before room.
             let b = before room in
-            record { kinds = b .kinds; tallies = λ f. b .tallies f ∙ p .tallies (nextTo w j f); fills = λ f out. b .fills f out ∙ p .fills ns (nextTo w j f) (writtenTo w j f out) };
+            record {
+              kinds = b .kinds;
+              tallies = λ f. b .tallies f ∙ p .tallies (nextTo w j f);
+              fills = λ f out. b .fills f out ∙ p .fills ns (nextTo w j f) (writtenTo w j f out);
+            };
       }
 
   module _ (kind number end : ℕ) (n : Cursor) (tells : Tells s c kind number end n) (f : Fields) (says : SaysIt kind (recordSaid ns (sayingAt s kind number end)) f)
@@ -159,8 +169,10 @@ module _ (ns : Names) (s t : Text) (c : Cursor) (j : ℕ) (w : List ℕ) (held :
             tallies = λ f. before .tallies f ∙ tells .tallies (nextTo w j f)
                 ∙ ap (λ (g : ℕ → ℕ). tally (contextOf n) g (tagsAt s n)) (next-new w j (lowWord kind a₀ a b d) m (held .room) here kind kind-low f);
             fills = λ f out. before .fills f out ∙ tells .fills ns (nextTo w j f) (writtenTo w j f out)
-                ∙ ap (λ (o : Bytes). fill ns (contextOf n) (upd (nextTo w j f) kind (suc (nextTo w j f kind))) (tagsAt s n) o) (puts (writtenTo w j f out) (nextTo w j f kind) ∙ written-new w j (lowWord kind a₀ a b d) m (held .room) here kind kind-low f out)
-                ∙ ap (λ (g : ℕ → ℕ). fill ns (contextOf n) g (tagsAt s n) (writtenTo (keptWith w j (lowWord kind a₀ a b d) m) (j + 1) f out)) (next-new w j (lowWord kind a₀ a b d) m (held .room) here kind kind-low f);
+                ∙ ap (λ (o : Bytes). fill ns (contextOf n) (upd (nextTo w j f) kind (suc (nextTo w j f kind))) (tagsAt s n) o)
+                (puts (writtenTo w j f out) (nextTo w j f kind) ∙ written-new w j (lowWord kind a₀ a b d) m (held .room) here kind kind-low f out)
+                ∙ ap (λ (g : ℕ → ℕ). fill ns (contextOf n) g (tagsAt s n) (writtenTo (keptWith w j (lowWord kind a₀ a b d) m) (j + 1) f out))
+                (next-new w j (lowWord kind a₀ a b d) m (held .room) here kind kind-low f);
           }
 
       pub kept-on : (w′ : List ℕ) → w′ ≡ keptWith w j (lowWord kind a₀ a b d) m → Led s (listOf w) n → Keeps ns s t c n j (j + 1) w w′
@@ -187,7 +199,8 @@ next-up w f k j (suc d) = let z : suc d + j ≡ suc (d + j) = omega arith in let
     one : (i : ℕ) → nextTo w j f k ≤ nextTo w i f k → nextTo w j f k ≤ nextTo w (suc i) f k
     one i h =
         on-test (eqb k (kindIn w i))
-        (λ q. let e = eqb-true k (kindIn w i) q in let u = upd-same (nextTo w i f) (kindIn w i) k (suc (nextTo w i f (kindIn w i))) e in let v = ap (nextTo w i f) e in rw u (omega (arith, h, v)))
+        (λ q. let e = eqb-true k (kindIn w i) q in let u = upd-same (nextTo w i f) (kindIn w i) k (suc (nextTo w i f (kindIn w i))) e in let v =
+        ap (nextTo w i f) e in rw u (omega (arith, h, v)))
         (λ q. let e = eqb-false k (kindIn w i) q in let u = upd-other (nextTo w i f) (kindIn w i) k (suc (nextTo w i f (kindIn w i))) e in rw u h)
 
 pub place-fits : (w : List ℕ) (n : ℕ) (f : ℕ → ℕ) (out : Bytes) → Fitting w n f out → (j : ℕ) → j < n → 16 * nextTo w j f (kindIn w j) + 16 ≤ length out

@@ -7,21 +7,21 @@ use native.Mathlib.Omega.{arith}
 use lib.ListN.{length, drop, length-drop}
 use Rattle.paper_lower.specs.Lists.{Maybe, holds, every, many}
 use Rattle.paper_lower.specs.Lists.Maybe.{none, just}
-use Rattle.paper_lower.specs.Records.{Bytes, Record}
+use Rattle.paper_lower.specs.Records.{Bytes, Record, putAt}
 use Rattle.paper_opl.specs.Reading.{Text, Read}
 use Rattle.paper_opl.specs.Reading.Read.{got, bad}
 use Rattle.paper_opl.specs.Naming.{Line, Names, lines, numberIn, taskRecord}
-use Rattle.paper_opl.specs.Filling.{putAt, valued, fillLines}
+use Rattle.paper_opl.specs.Filling.{valued, fillLines}
 use Rattle.opl_names.specs.declared.Found.{Found}
 use Rattle.opl_names.specs.declared.Found.the-variants.{At, Nowhere}
 use Rattle.opl_lines.specs.Lines.{forget, linesIn, Apart, ReadsLine}
 use Rattle.opl_lines.specs.declared.Ends.{Ends}
 use Rattle.opl_lines.specs.declared.Ends.the-variants.{Line as ends, Bad}
 use Rattle.opl_lines.proofs.LineLaws.{judge-past, judge-on, lines-step, lines-never, lines-none}
-use Rattle.opl_output.specs.Output.{Fits}
+use Rattle.record_output.specs.Output.{Fits}
 use Rattle.opl_spaces.specs.Spaces.{limitOf}
-use Rattle.opl_declared.specs.Names.{accepted}
-use Rattle.opl_declared.proofs.LineNames.{leaves, accepts}
+use Rattle.opl_line_names.specs.Names.{accepted}
+use Rattle.opl_line_names.proofs.LineNames.{leaves, accepts}
 use Rattle.opl_said.specs.Said.{spaceAt, NumberIs}
 use Rattle.opl_passes.specs.Lines.{linesAt, linesGood, linesThere, pairRecord, lineBetween, Pairs, LineSteps, Paired, RowIs, LinesAre, LineWritten, LinesFit}
 use Rattle.opl_passes.specs.declared.Row.{Row}
@@ -42,7 +42,8 @@ module _ (ns : Names) (v w : Text) (x : Found) (task : NumberIs (limitOf 5) (num
         let z : none ≡ numberIn (ns .templates) w = rw e at (template .number-is) in
         rw (← u, ← z)
 
-    pub both-named : (b next : ℕ) → y ≡ At b → (taskRecord ns (record { task = v; template = w }) ≡ just (pairRecord a b)) × ((a < 65536) × ((b < 65536) × (next ≡ next)))
+    pub both-named : (b next : ℕ) → y ≡ At b →
+        (taskRecord ns (record { task = v; template = w }) ≡ just (pairRecord a b)) × ((a < 65536) × ((b < 65536) × (next ≡ next)))
     unfolding spaceAt limitOf
     both-named b next e =
         let u : just a ≡ numberIn (ns .tasks) v = rw here at (task .number-is) in
@@ -65,14 +66,16 @@ module _ (ns : Names) (t : Text) (at : ℕ) (h : at < length t) (ok : linesGood 
     lines-are = leaves (lines (length t) (drop at t)) ok (linesAt t at ≡ lineBetween t at e f ∷ linesAt t n) (λ z u. lines-step t at h r reads e f n q z u)
 
     still : linesGood t n
-    still = leaves (lines (length t) (drop at t)) ok (linesGood t n) (λ z u. accepts (lines (length t) (drop n t)) z (sym (judge-on t at h r reads e f n q) ∙ u))
+    still =
+        leaves (lines (length t) (drop at t)) ok (linesGood t n) (λ z u. accepts (lines (length t) (drop n t)) z (sym (judge-on t at h r reads e f n q) ∙ u))
 
     steps : LineSteps t at n
     steps = let b = judge-past t at h r reads e f n q in record { past = b .0; inside = b .1; good = still }
 
     pub row-is : (x : Row) → Pairs ns (lineBetween t at e f) n x → RowIs ns t at x
     unfolding every holds
-    row-is (Pair a b m) p = rw (p .1 .1 .1) (record { steps = steps; line = lineBetween t at e f; lines-are = lines-are; record-is = p .0; a-fits = p .1 .0; b-fits = p .1 .1 .0 })
+    row-is (Pair a b m) p =
+        rw (p .1 .1 .1) (record { steps = steps; line = lineBetween t at e f; lines-are = lines-are; record-is = p .0; a-fits = p .1 .0; b-fits = p .1 .1 .0 })
     row-is Nameless p = rw (lines-are, p)
 
 -- ---- All lines: those left from `at` on, behind n.
@@ -92,7 +95,9 @@ no-lines t at h = let e = lines-none (length t) (drop at t) (omega (arith, lengt
 module _ (ns : Names) (t : Text) where
   pub lines-first : linesGood t 0 → LinesLeft ns t 0 0
   unfolding linesIn
-  lines-first g = record { inside = omega arith; few = omega arith; good = g; there-too = refl; count = let z : many (linesIn t) ≡ many (linesAt t 0) = refl in omega (arith, z) }
+  lines-first g =
+      record
+      { inside = omega arith; few = omega arith; good = g; there-too = refl; count = let z : many (linesIn t) ≡ many (linesAt t 0) = refl in omega (arith, z) }
 
   module _ (n at : ℕ) (left : LinesLeft ns t n at) where
     pub lines-on : (a b next : ℕ) → Paired ns t at a b next → LinesLeft ns t (n + 1) next
@@ -138,7 +143,8 @@ module _ (ns : Names) (t : Text) (at : ℕ) (there-all : linesThere ns (linesAt 
           c-fits = omega arith;
         }
 
-    pub line-written : (place : ℕ) (out out′ : Bytes) → out′ ≡ putAt out place (pairRecord a b) → length out′ ≡ length out → LineWritten ns t at place next out out′
+    pub line-written : (place : ℕ) (out out′ : Bytes) → out′ ≡ putAt out place (pairRecord a b) → length out′ ≡ length out →
+        LineWritten ns t at place next out out′
     unfolding every holds fillLines
     line-written place out out′ e l =
         let z : suc place ≡ place + 1 = omega arith in

@@ -10,16 +10,16 @@ use lib.Seq.{getD-set-same, getD-set-other}
 use borrow.Author.Tests.{eqb-true, eqb-false}
 use Rattle.paper_lower.specs.Lists.{upd, holds, every, many, keep, Every}
 use Rattle.paper_lower.specs.Lists.Maybe.{none, just}
-use Rattle.paper_lower.specs.Records.{Bytes}
+use Rattle.paper_lower.specs.Records.{Bytes, putAt}
 use Rattle.paper_lower.proofs.ListLaws.{upd-same, upd-other}
 use Rattle.paper_opl.specs.Reading.{Text}
 use Rattle.paper_opl.specs.Tree.{Tag}
 use Rattle.paper_opl.specs.Naming.{Names}
 use Rattle.paper_opl.specs.Walk.{called, start, sayings, recordSaid}
-use Rattle.paper_opl.specs.Filling.{putAt, fill, tally}
+use Rattle.paper_opl.specs.Filling.{fill, tally}
 use Rattle.paper_opl.proofs.Inversion.{on-test}
 use Rattle.paper_opl.proofs.Tallied.{tally-is}
-use Rattle.opl_output.specs.Output.{twoWords, Fits, recordOf}
+use Rattle.record_output.specs.Output.{twoWords, Fits, recordOf}
 use Rattle.opl_spaces.specs.Spaces.{keptRoom, listOf}
 use Rattle.opl_tags.specs.Tags.{nextTags, walkAt}
 use Rattle.opl_said.specs.Said.{Held, SaysIt, Small}
@@ -110,7 +110,8 @@ module _ (ns : Names) (s : Text) (c : Cursor) where
           place-fits : 16 * (of l kind + 1) ≤ length out
           place-fits =
               let g = fit kind (omega (arith, t .some)) (t .small) in
-              let u : tallied s c l kind ≡ upd (of l) kind (suc (of l kind)) kind + many _ = ap (λ (g : ℕ → ℕ). g kind) (t .tallies (of l)) ∙ tally-is (tagsAt s n) (contextOf n) (upd (of l) kind (suc (of l kind))) kind in
+              let u : tallied s c l kind ≡ upd (of l) kind (suc (of l kind)) kind + many _ =
+              ap (λ (g : ℕ → ℕ). g kind) (t .tallies (of l)) ∙ tally-is (tagsAt s n) (contextOf n) (upd (of l) kind (suc (of l kind))) kind in
               let v = upd-same (of l) kind kind (suc (of l kind)) refl in
               omega (arith, g, u, v)
 
@@ -177,7 +178,8 @@ module _ (ns : Names) (s : Text) (from : ℕ) (l₀ : List ℕ) where
   abbrev ts : List Tag
   ts = walkAt s from
 
-  pub check-first : from ≤ length s → Every SmallTag ts → ((k : ℕ) → of l₀ k ≡ 0) → CheckLeft ns s ts l₀ (record { at = from; entry = 0; sets = 9; parts = 0 }) l₀
+  pub check-first : from ≤ length s → Every SmallTag ts → ((k : ℕ) → of l₀ k ≡ 0) →
+      CheckLeft ns s ts l₀ (record { at = from; entry = 0; sets = 9; parts = 0 }) l₀
   check-first h small zeros =
       record {
         stood = record { inside = h; few = omega arith; low = omega arith; small = small };
@@ -248,7 +250,8 @@ module _ (ns : Names) (s t : Text) (from : ℕ) (l₀ w₀ : List ℕ) where
       }
 
   module _ (c : Cursor) (j : ℕ) (l w : List ℕ) (k : CheckKept ns s t (walkAt s from) l₀ w₀ c j l w) where
-    tags-are : (l′ : List ℕ) (b : Bool) → ChecksAll ns (walkAt s from) l₀ l′ b → Keeping ns (walkAt s from) w j → TagsAre ns s t (walkAt s from) l₀ l′ w₀ w (keptOf b j)
+    tags-are : (l′ : List ℕ) (b : Bool) → ChecksAll ns (walkAt s from) l₀ l′ b → Keeping ns (walkAt s from) w j →
+        TagsAre ns s t (walkAt s from) l₀ l′ w₀ w (keptOf b j)
     tags-are l′ true a q = (a, ((k .held, k .list), q))
     tags-are l′ false a q = a
 
@@ -295,7 +298,8 @@ pub record WriteLeft (ns : Names) (s : Text) (m : List ℕ) (ts : List Tag) (l�
   pub kinds : length l ≡ length l₀
 
 module _ (ns : Names) (s : Text) (m : List ℕ) (from : ℕ) (l₀ : List ℕ) (out₀ : Bytes) where
-  pub write-first : from ≤ length s → Leads s m 0 from → Every SmallTag (walkAt s from) → allThere ns start (walkAt s from) ≡ true → FitsAll (walkAt s from) l₀ out₀
+  pub write-first : from ≤ length s → Leads s m 0 from → Every SmallTag (walkAt s from) → allThere ns start (walkAt s from) ≡ true →
+      FitsAll (walkAt s from) l₀ out₀
       → WriteLeft ns s m (walkAt s from) l₀ out₀ (record { at = from; entry = 0; sets = 9; parts = 0 }) l₀ out₀
   write-first h leads small all fit =
       record {
@@ -428,10 +432,12 @@ module _ (w l₀ : List ℕ) (out₀ : Bytes) (n : ℕ) where
   pub put-last : (l : List ℕ) (out : Bytes) (j : ℕ) → KeptPut w l₀ out₀ n l out j → n ≤ j → out ≡ writtenTo w n (of l₀) out₀
   put-last l out j k h = let z : j ≡ n = omega (arith, k .upto) in k .written-is ∙ ap (λ (i : ℕ). writtenTo w i (of l₀) out₀) z
 
-pub puts-kept : (w : List ℕ) (j : ℕ) (l : List ℕ) (out out′ : Bytes) → kindIn w j < length l → out′ ≡ twoWords out (of l (kindIn w j)) (lowAt w j) (highAt w j) → length out′ ≡ length out
+pub puts-kept : (w : List ℕ) (j : ℕ) (l : List ℕ) (out out′ : Bytes) → kindIn w j < length l →
+    out′ ≡ twoWords out (of l (kindIn w j)) (lowAt w j) (highAt w j) → length out′ ≡ length out
     → PutsKept w j l (set l (kindIn w j) (of l (kindIn w j) + 1)) out out′
 puts-kept w j l out out′ h e r =
     record { next-is = sym (one-up l (kindIn w j) h); written-is = e; room = r; kinds = length-set l (kindIn w j) (of l (kindIn w j) + 1) }
 
 pub all-fit : (ns : Names) (ts : List Tag) (w : List ℕ) (n : ℕ) (l : List ℕ) (out : Bytes) → AllKept ns ts w n → FitsAll ts l out → Fitting w n (of l) out
-all-fit ns ts w n l out a fit = record { kinds = a .kinds; fits = λ k p q. let e = ap (λ (g : ℕ → ℕ). g k) (a .tallies (of l)) in let f = fit k p q in omega (arith, e, f) }
+all-fit ns ts w n l out a fit =
+    record { kinds = a .kinds; fits = λ k p q. let e = ap (λ (g : ℕ → ℕ). g k) (a .tallies (of l)) in let f = fit k p q in omega (arith, e, f) }

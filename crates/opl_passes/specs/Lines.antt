@@ -11,7 +11,7 @@ use Rattle.paper_opl.specs.Reading.{Text}
 use Rattle.paper_opl.specs.Naming.{Line, Names, lines, taskRecord}
 use Rattle.paper_opl.specs.Filling.{fillLines}
 use Rattle.opl_lines.specs.Lines.{linesRead, linesIn}
-use Rattle.opl_declared.specs.Names.{accepted}
+use Rattle.opl_line_names.specs.Names.{accepted}
 use Rattle.opl_passes.specs.declared.Row.{Row}
 use Rattle.opl_passes.specs.declared.Row.the-variants.{Pair, Nameless}
 use Rattle.opl_passes.specs.declared.Counted.{Counted}

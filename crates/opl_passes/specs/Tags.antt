@@ -12,7 +12,7 @@ use Rattle.paper_opl.specs.Tree.{Tag}
 use Rattle.paper_opl.specs.Naming.{Names}
 use Rattle.paper_opl.specs.Walk.{called, Context, start, sayings, recordSaid}
 use Rattle.paper_opl.specs.Filling.{fill, tally}
-use Rattle.opl_output.specs.Output.{twoWords}
+use Rattle.record_output.specs.Output.{twoWords}
 use Rattle.opl_said.specs.Said.{Held}
 use Rattle.opl_spaces.specs.Spaces.{listOf}
 use Rattle.opl_turns.specs.Turning.{contextOf, tagsAt, Led, Steps}

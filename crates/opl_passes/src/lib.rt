@@ -1,5 +1,5 @@
 // The walks over accepted texts behind the one that declares names: whether every record is there, how many of each kind, and the records into the
-// output. It rests on opl_turns, opl_said and opl_output.
+// output. It rests on opl_turns, opl_said and record_output.
 ghost use mathlib.Core.Path.{_≡_};
 ghost use mathlib.Core.Bool.{true};
 ghost use Prim.Native.Nat.{ℕ, _+_, _*_, _≤_, _<_};
@@ -20,9 +20,6 @@ ghost use Rattle.opl_passes.specs.Tags.{of, allThere, thereFrom, Checks,
 use opl_lines::Ends;
 use opl_lines::read_line;
 use opl_names::Found;
-use opl_output::low_word;
-use opl_output::put;
-use opl_output::put_words;
 use opl_said::Fields;
 use opl_said::number_of;
 use opl_said::said;
@@ -31,6 +28,9 @@ use opl_spaces::TABLES;
 use opl_turns::Cursor;
 use opl_turns::Turned;
 use opl_turns::turn;
+use record_output::low_word;
+use record_output::put;
+use record_output::put_words;
 
 // The numbers of a task and its template, and where the next line begins; or a name in the line has no number.
 pub enum Row {

@@ -37,7 +37,9 @@ module _ (s : Text) (at class more : ℕ) (h : at ≤ length s) (e : Step) (q : 
   pub class-bad : (p : ℕ) → e ≡ Bad p → Takes s (classed (classOf class) (listOf more) (drop at s)) (Refused p)
   unfolding classed
   class-bad p v = record {
-    read-is = sym (goes-on s (valueOf s (at + 1)) (value (drop at s)) e q (Bad p) v (λ x r. cond (fits (classOf class) x) (got (listOf more) r) (bad (drop 1 (drop at s)))));
+    read-is =
+        sym (goes-on s (valueOf s (at + 1)) (value (drop at s)) e q (Bad p) v
+        (λ x r. cond (fits (classOf class) x) (got (listOf more) r) (bad (drop 1 (drop at s)))));
     inside = stopped-at s (valueOf s (at + 1)) (value (drop at s)) e q p v;
   }
 
@@ -48,7 +50,8 @@ module _ (s : Text) (at class more : ℕ) (h : at ≤ length s) (e : Step) (q : 
     here : classed (classOf class) (listOf more) (drop at s) ≡ cond b (got (listOf more) (drop (end + 1) s)) (bad (drop (at + 1) s))
     unfolding classed
     here =
-        goes-on s (valueOf s (at + 1)) (value (drop at s)) e q (Next end) v (λ x r. cond (fits (classOf class) x) (got (listOf more) r) (bad (drop 1 (drop at s))))
+        goes-on s (valueOf s (at + 1)) (value (drop at s)) e q (Next end) v
+        (λ x r. cond (fits (classOf class) x) (got (listOf more) r) (bad (drop 1 (drop at s))))
         ∙ rw (sym t, sym f, drop-drop 1 at s)
 
     pub class-not : not b ≡ true → Takes s (classed (classOf class) (listOf more) (drop at s)) (Refused (at + 1))
@@ -65,18 +68,21 @@ module _ (s : Text) (at class more : ℕ) (e : Step) (q : Reads s (stepOf s) (eq
     inside = stopped-at s (stepOf s) (equals (drop at s)) e q p v;
   }
 
-  pub value-on : (u : ℕ) → e ≡ Next u → (r : Taken) → Takes s (classed (classOf class) (listOf more) (drop u s)) r → Takes s (valued (classOf class) (listOf more) (drop at s)) r
+  pub value-on : (u : ℕ) → e ≡ Next u → (r : Taken) → Takes s (classed (classOf class) (listOf more) (drop u s)) r →
+      Takes s (valued (classOf class) (listOf more) (drop at s)) r
   unfolding valued
   value-on u v r a = retaken (goes-on s (stepOf s) (equals (drop at s)) e q (Next u) v (λ _ r. classed (classOf class) (listOf more) r)) a
 
 -- ---- An attribute.
 
-remains : (left : List Attribute) (t : Text) → remaining left t ≡ after (name t) (λ w r. if-found (find left w) (strange t r) (λ a. valued (a .class) (without w left) r))
+remains : (left : List Attribute) (t : Text) →
+    remaining left t ≡ after (name t) (λ w r. if-found (find left w) (strange t r) (λ a. valued (a .class) (without w left) r))
 unfolding remaining attribute strange valued classed
 remains left t =
     on (name t) (λ w r p. on (equals r) (λ _ u q. on (value u) (λ v z o. on-found (find left w)
     (λ a f. on-test (fits (a .class) v) (λ c. rw (p, q, o, f, c)) (λ c. rw (p, q, o, f, c))) (λ f. rw (p, q, o, f)))
-    (λ z o. on-found (find left w) (λ a f. rw (p, q, o, f)) (λ f. rw (p, q, o, f)))) (λ u q. on-found (find left w) (λ a f. rw (p, q, f)) (λ f. rw (p, q, f)))) (λ r p. rw p)
+    (λ z o. on-found (find left w) (λ a f. rw (p, q, o, f)) (λ f. rw (p, q, o, f)))) (λ u q. on-found (find left w) (λ a f. rw (p, q, f)) (λ f. rw (p, q, f))))
+    (λ r p. rw p)
 
 module _ (s : Text) (at n : ℕ) (h : n ≤ length s) (e : Step) (q : Reads s (stepOf s) (equals (drop at s)) e) where
   pub strange-none : (p : ℕ) → e ≡ Bad p → Takes s (strange (drop n s) (drop at s)) (Refused p)
@@ -98,43 +104,52 @@ module _ (s : Text) (at n : ℕ) (h : n ≤ length s) (e : Step) (q : Reads s (s
     }
 
     pub strange-whole : (p : ℕ) → k ≡ Next p → Takes s (strange (drop n s) (drop at s)) (Refused n)
-    strange-whole p w = record { read-is = sym (behind-equals ∙ goes-on s (valueOf s (u + 1)) (value (drop u s)) k o (Next p) w (λ _ _. bad (drop n s))); inside = h }
+    strange-whole p w =
+        record { read-is = sym (behind-equals ∙ goes-on s (valueOf s (u + 1)) (value (drop u s)) k o (Next p) w (λ _ _. bad (drop n s))); inside = h }
 
 module _ (s : Text) (at list : ℕ) (n : Step) (q : Reads s (wordOf s at) (name (drop at s)) n) where
   pub attribute-none : (p : ℕ) → n ≡ Bad p → Takes s (remaining (listOf list) (drop at s)) (Refused p)
   attribute-none p v = record {
     read-is =
         sym (remains (listOf list) (drop at s)
-        ∙ goes-on s (wordOf s at) (name (drop at s)) n q (Bad p) v (λ w r. if-found (find (listOf list) w) (strange (drop at s) r) (λ a. valued (a .class) (without w (listOf list)) r)));
+        ∙ goes-on s (wordOf s at) (name (drop at s)) n q (Bad p) v
+        (λ w r. if-found (find (listOf list) w) (strange (drop at s) r) (λ a. valued (a .class) (without w (listOf list)) r)));
     inside = stopped-at s (wordOf s at) (name (drop at s)) n q p v;
   }
 
   module _ (k : ℕ) (v : n ≡ Next k) (w : Text) (t : w ≡ take (k - at) (drop at s)) (f : Found) (a : Allows w (listOf list) f) where
-    named : remaining (listOf list) (drop at s) ≡ if-found (find (listOf list) w) (strange (drop at s) (drop k s)) (λ a. valued (a .class) (without w (listOf list)) (drop k s))
+    named : remaining (listOf list) (drop at s) ≡
+        if-found (find (listOf list) w) (strange (drop at s) (drop k s)) (λ a. valued (a .class) (without w (listOf list)) (drop k s))
     named =
         remains (listOf list) (drop at s)
-        ∙ goes-on s (wordOf s at) (name (drop at s)) n q (Next k) v (λ w r. if-found (find (listOf list) w) (strange (drop at s) r) (λ a. valued (a .class) (without w (listOf list)) r))
+        ∙ goes-on s (wordOf s at) (name (drop at s)) n q (Next k) v
+        (λ w r. if-found (find (listOf list) w) (strange (drop at s) r) (λ a. valued (a .class) (without w (listOf list)) r))
         ∙ rw (sym t)
 
     pub attribute-unknown : f ≡ Unknown → (r : Taken) → Takes s (strange (drop at s) (drop k s)) r → Takes s (remaining (listOf list) (drop at s)) r
     attribute-unknown e r b = retaken (named ∙ rw (a .found, e)) b
 
-    pub attribute-known : (class more : ℕ) → f ≡ Known class more → (r : Taken) → Takes s (valued (classOf class) (listOf more) (drop k s)) r → Takes s (remaining (listOf list) (drop at s)) r
+    pub attribute-known : (class more : ℕ) → f ≡ Known class more → (r : Taken) → Takes s (valued (classOf class) (listOf more) (drop k s)) r →
+        Takes s (remaining (listOf list) (drop at s)) r
     attribute-known class more e r b = retaken (named ∙ rw (a .found, e, a .behind class more e)) b
 
 -- ---- The attributes of a tag, one after the other.
 
 remaining-below : (left : List Attribute) (t : Text) → below (suc (length t)) (remaining left t)
 unfolding remaining
-remaining-below left t = below-after (attribute left t) (λ g r. got (without (g .name) left) r) (suc (length t)) (suc (length t)) (attribute-below left t) (λ g r h. h)
+remaining-below left t =
+    below-after (attribute left t) (λ g r. got (without (g .name) left) r) (suc (length t)) (suc (length t)) (attribute-below left t) (λ g r h. h)
 
 -- one attribute and those behind it, whatever they say
 on-more : (n : ℕ) (left : List Attribute) (t : Text)
-    → forget (after (attribute left t) (λ g u. after (attributes n (without (g .name) left) u) (λ gs z. got (g ∷ gs) z))) ≡ forget (after (remaining left t) (λ more u. attributes n more u))
+    → forget (after (attribute left t) (λ g u. after (attributes n (without (g .name) left) u) (λ gs z. got (g ∷ gs) z))) ≡
+    forget (after (remaining left t) (λ more u. attributes n more u))
 unfolding remaining
 on-more n left t = go (attribute left t)
   where
-    go : (x : Read Given) → forget (after x (λ g u. after (attributes n (without (g .name) left) u) (λ gs z. got (g ∷ gs) z))) ≡ forget (after (after x (λ g r. got (without (g .name) left) r)) (λ more u. attributes n more u))
+    go : (x : Read Given) →
+        forget (after x (λ g u. after (attributes n (without (g .name) left) u) (λ gs z. got (g ∷ gs) z))) ≡
+        forget (after (after x (λ g r. got (without (g .name) left) r)) (λ more u. attributes n more u))
     go (got g u) = forget-on (attributes n (without (g .name) left) u) (λ gs. g ∷ gs)
     go (bad u) = refl
 
@@ -148,7 +163,8 @@ unfolding turn attributes text
 turns n left t = go (starts (62 ∷ []) (skip t) || starts (47 ∷ []) (skip t)) (some (λ a. required (a .class)) left) (space t)
   where
     go : (b c : Bool) (x : Read (Unit {0}))
-        → forget (cond b (cond c (bad (skip t)) (got [] (skip t))) (after x (λ _ r. after (attribute left r) (λ g u. after (attributes n (without (g .name) left) u) (λ gs z. got (g ∷ gs) z)))))
+        → forget (cond b (cond c (bad (skip t)) (got [] (skip t)))
+        (after x (λ _ r. after (attribute left r) (λ g u. after (attributes n (without (g .name) left) u) (λ gs z. got (g ∷ gs) z)))))
         ≡ cond b (cond c (bad (skip t)) (got tt (skip t))) (after x (λ _ r. forget (after (remaining left r) (λ more u. attributes n more u))))
     go true true x = refl
     go true false x = refl

@@ -65,7 +65,8 @@ module _ (s : Text) (at i : ℕ) (h : at ≤ length s) (from : drop i s ≡ behi
 
 -- ---- What is known of a reading whose value is forgotten.
 
-pub on-got : {A B : Type 0} (x : Read A) (r : Text) → forget x ≡ got tt r → (f : A → Text → Read B) (g : Read (Unit {0})) → ((v : A) → x ≡ got v r → forget (f v r) ≡ g) → forget (after x f) ≡ g
+pub on-got : {A B : Type 0} (x : Read A) (r : Text) → forget x ≡ got tt r → (f : A → Text → Read B) (g : Read (Unit {0})) →
+    ((v : A) → x ≡ got v r → forget (f v r) ≡ g) → forget (after x f) ≡ g
 on-got (got v u) r e f g h = let q : u ≡ r = got-rest e in ap (λ (z : Text). forget (f v z)) q ∙ h v (ap (λ (z : Text). got v z) q)
 on-got (bad u) r e f g h = absurd (bad≢got e)
 

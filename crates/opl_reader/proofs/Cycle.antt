@@ -41,29 +41,37 @@ both false y e = absurd (false≢true e)
 -- ---- A start tag and the rest of its element.
 
 -- what the attributes say is forgotten with the rest
-pub body-forgets : (inner : Text → Text → Read Inside) (row : Element) (gs : List Given) (s : Text) → forget (body inner row gs s) ≡ forget (body inner row [] s)
+pub body-forgets : (inner : Text → Text → Read Inside) (row : Element) (gs : List Given) (s : Text) →
+    forget (body inner row gs s) ≡ forget (body inner row [] s)
 body-forgets inner row gs s = go (starts (text ">") s)
   where
-    slash : (x : Read (Unit {0})) (b : Bool) → forget {A = Inside} (after x (λ _ u. cond b (got (record { given = gs; elements = nothing }) u) (bad s))) ≡ forget {A = Inside} (after x (λ _ u. cond b (got (record { given = []; elements = nothing }) u) (bad s)))
+    slash : (x : Read (Unit {0})) (b : Bool) →
+        forget {A = Inside} (after x (λ _ u. cond b (got (record { given = gs; elements = nothing }) u) (bad s))) ≡
+        forget {A = Inside} (after x (λ _ u. cond b (got (record { given = []; elements = nothing }) u) (bad s)))
     slash (got v u) true = refl
     slash (got v u) false = refl
     slash (bad u) b = refl
 
-    go : (b : Bool) → forget {A = Inside} (cond b (after (content inner (length s) (row .name) (row .children) (drop 1 s)) (λ es u. got (record { given = gs; elements = es }) u))
+    go : (b : Bool) →
+        forget {A = Inside} (cond b
+        (after (content inner (length s) (row .name) (row .children) (drop 1 s)) (λ es u. got (record { given = gs; elements = es }) u))
         (after (expect (text ">") (drop 1 s)) (λ _ u. cond (mayEnd (row .children)) (got (record { given = gs; elements = nothing }) u) (bad s))))
-        ≡ forget {A = Inside} (cond b (after (content inner (length s) (row .name) (row .children) (drop 1 s)) (λ es u. got (record { given = []; elements = es }) u))
+        ≡ forget {A = Inside} (cond b
+        (after (content inner (length s) (row .name) (row .children) (drop 1 s)) (λ es u. got (record { given = []; elements = es }) u))
         (after (expect (text ">") (drop 1 s)) (λ _ u. cond (mayEnd (row .children)) (got (record { given = []; elements = nothing }) u) (bad s))))
     go true =
         forget-on (content inner (length s) (row .name) (row .children) (drop 1 s)) (λ es. record { given = gs; elements = es })
         ∙ sym (forget-on (content inner (length s) (row .name) (row .children) (drop 1 s)) (λ es. record { given = []; elements = es }))
     go false = slash (expect (text ">") (drop 1 s)) (mayEnd (row .children))
 
-tag-stops : (d : ℕ) (c : Opened) (u y : Text) → tagged d c u ≡ bad y → (f : Inside → Text → Read Elements) → forget (after (element table d (c .name) u) f) ≡ bad y
+tag-stops : (d : ℕ) (c : Opened) (u y : Text) → tagged d c u ≡ bad y → (f : Inside → Text → Read Elements) →
+    forget (after (element table d (c .name) u) f) ≡ bad y
 unfolding tagged element
 tag-stops zero c u y e f = ap bad (bad-same e)
 tag-stops (suc d) c u y e f = go (attributes (length u) (rowIn table (c .name) .attributes) u) e
   where
-    go : (x : Read (List Given)) → after x (λ _ r. got c r) ≡ bad y → forget (after (after x (λ gs r. body (element table d) (rowIn table (c .name)) gs r)) f) ≡ bad y
+    go : (x : Read (List Given)) → after x (λ _ r. got c r) ≡ bad y →
+        forget (after (after x (λ gs r. body (element table d) (rowIn table (c .name)) gs r)) f) ≡ bad y
     go (got gs r) e = absurd (bad≢got (sym e))
     go (bad r) e = ap bad (bad-same e)
 
@@ -96,18 +104,22 @@ tag-begun d left t c u z gs e q =
       deep = omega arith;
       body-is = rw (q, n) (body-forgets (element table d) (rowIn table (c .name)) gs z);
       ready-is = subst (λ (x : Read (List Given)). ready x) q (attributes-ready (length u) (rowIn table (c .name) .attributes) u);
-      shorter-is = below-got (attributes (length u) (rowIn table (c .name) .attributes) u) gs z (suc (length u)) (attributes-below (length u) (rowIn table (c .name) .attributes) u) q;
+      shorter-is =
+          below-got (attributes (length u) (rowIn table (c .name) .attributes) u) gs z (suc (length u))
+          (attributes-below (length u) (rowIn table (c .name) .attributes) u) q;
     }
 
 nothing-deep : (b : Opened) (u z : Text) (c : Opened) → tagged 0 b u ≡ got c z → ⊥
 unfolding tagged
 nothing-deep b u z c e = bad≢got e
 
-attributed : (d : ℕ) (b : Opened) (u z : Text) (c : Opened) (left : List Child) (t : Text) → opening left t ≡ got b u → tagged (suc d) b u ≡ got c z → Begun (suc d) left t c z
+attributed : (d : ℕ) (b : Opened) (u z : Text) (c : Opened) (left : List Child) (t : Text) → opening left t ≡ got b u → tagged (suc d) b u ≡ got c z →
+    Begun (suc d) left t c z
 unfolding tagged
 attributed d b u z c left t o e = go (attributes (length u) (rowIn table (b .name) .attributes) u) refl e
   where
-    go : (x : Read (List Given)) → attributes (length u) (rowIn table (b .name) .attributes) u ≡ x → after x (λ _ r. got b r) ≡ got c z → Begun (suc d) left t c z
+    go : (x : Read (List Given)) → attributes (length u) (rowIn table (b .name) .attributes) u ≡ x → after x (λ _ r. got b r) ≡ got c z →
+        Begun (suc d) left t c z
     go (got gs r) q e =
         let p : b ≡ c = got-value e in
         let w : r ≡ z = got-rest e in
@@ -185,12 +197,14 @@ module _ (s : Text) (d id l i : ℕ) where
             let c = length-drop (j + 1) s in
             omega arith
 
-        pub at-end-tag : x && y ≡ true → (r : Step) → Reads s (stepOf s) (forget (ending (nameOf id) (leftOf l) (drop j s))) r → Reads s (stepOf s) (contentRead d id l (drop i s)) r
+        pub at-end-tag : x && y ≡ true → (r : Step) → Reads s (stepOf s) (forget (ending (nameOf id) (leftOf l) (drop j s))) r →
+            Reads s (stepOf s) (contentRead d id l (drop i s)) r
         unfolding turn
         at-end-tag e r a = record { read-is = a .read-is ∙ sym (here ∙ rw (tag, e)); inside = a .inside }
 
         module _ (e : x && y ≡ false) (o : Start) (a : Opens s (startRead d (leftOf l) (drop j s)) o) where
-          opened : forget (turn d id l (length (drop i s)) (drop j s)) ≡ forget (after (opening (leftOf l) (drop j s)) (λ c u. after (element table d (c .name) u) (λ e z.
+          opened : forget (turn d id l (length (drop i s)) (drop j s)) ≡
+              forget (after (opening (leftOf l) (drop j s)) (λ c u. after (element table d (c .name) u) (λ e z.
               after (content (element table d) (length (drop i s)) (nameOf id) (c .left) z) (λ es y. got (node (c .name) (e .given) (e .elements) es) y))))
           unfolding turn
           opened = rw (tag, e)
@@ -211,8 +225,11 @@ module _ (s : Text) (d id l i : ℕ) where
 
             start-past : i < k
             start-past =
-                let f = below-got (misc (length (drop i s)) (drop i s)) tt (drop j s) (suc (length (drop i s))) (misc-below (length (drop i s)) (drop i s)) passed in
-                let g = below-got (opening (leftOf l) (drop j s)) (record { name = nameOf child; left = leftOf more }) (start .behind) (length (drop j s)) (opening-below (leftOf l) (drop j s)) (start .opened-is) in
+                let f =
+                below-got (misc (length (drop i s)) (drop i s)) tt (drop j s) (suc (length (drop i s))) (misc-below (length (drop i s)) (drop i s)) passed in
+                let g =
+                below-got (opening (leftOf l) (drop j s)) (record { name = nameOf child; left = leftOf more }) (start .behind) (length (drop j s))
+                (opening-below (leftOf l) (drop j s)) (start .opened-is) in
                 let h = start .shorter-is in
                 let r = start-room in
                 let u = length-drop k s in
@@ -224,7 +241,8 @@ module _ (s : Text) (d id l i : ℕ) where
             falls = record { deep = start .deep; room = start-room; past = start-past }
 
             inner : contentRead d id l (drop i s) ≡ forget (after (element table d (nameOf child) (start .behind)) (λ e z.
-                after (content (element table d) (length (drop i s)) (nameOf id) (leftOf more) z) (λ es y. got (node (nameOf child) (e .given) (e .elements) es) y)))
+                after (content (element table d) (length (drop i s)) (nameOf id) (leftOf more) z)
+                (λ es y. got (node (nameOf child) (e .given) (e .elements) es) y)))
             inner = here ∙ opened ∙ rw (start .opened-is)
 
             module _ (r : Step) (b : Reads s (stepOf s) (elementRead (d - 1) child (drop k s)) r) where
@@ -234,8 +252,10 @@ module _ (s : Text) (d id l i : ℕ) where
 
               pub refused : (n : ℕ) → r ≡ Bad n → Reads s (stepOf s) (contentRead d id l (drop i s)) r
               refused n c = record {
-                read-is = ap (λ (x : Step). stepOf s x) c ∙ sym (inner ∙ on-bad (element table d (nameOf child) (start .behind)) (drop n s) (judged ∙ rw c) (λ e z.
-                    after (content (element table d) (length (drop i s)) (nameOf id) (leftOf more) z) (λ es y. got (node (nameOf child) (e .given) (e .elements) es) y)));
+                read-is =
+                    ap (λ (x : Step). stepOf s x) c ∙ sym (inner ∙ on-bad (element table d (nameOf child) (start .behind)) (drop n s) (judged ∙ rw c) (λ e z.
+                    after (content (element table d) (length (drop i s)) (nameOf id) (leftOf more) z)
+                    (λ es y. got (node (nameOf child) (e .given) (e .elements) es) y)));
                 inside = b .inside;
               }
 
@@ -249,9 +269,15 @@ module _ (s : Text) (d id l i : ℕ) where
                 -- the text behind the element is shorter
                 shorter : length (drop n s) < length (drop i s)
                 shorter =
-                    let f = below-got (misc (length (drop i s)) (drop i s)) tt (drop j s) (suc (length (drop i s))) (misc-below (length (drop i s)) (drop i s)) passed in
-                    let g = below-got (opening (leftOf l) (drop j s)) (record { name = nameOf child; left = leftOf more }) (start .behind) (length (drop j s)) (opening-below (leftOf l) (drop j s)) (start .opened-is) in
-                    let h = below-forget (element table d (nameOf child) (start .behind)) (drop n s) (suc (length (start .behind))) (element-below table d (nameOf child) (start .behind)) read in
+                    let f =
+                    below-got (misc (length (drop i s)) (drop i s)) tt (drop j s) (suc (length (drop i s))) (misc-below (length (drop i s)) (drop i s))
+                    passed in
+                    let g =
+                    below-got (opening (leftOf l) (drop j s)) (record { name = nameOf child; left = leftOf more }) (start .behind) (length (drop j s))
+                    (opening-below (leftOf l) (drop j s)) (start .opened-is) in
+                    let h =
+                    below-forget (element table d (nameOf child) (start .behind)) (drop n s) (suc (length (start .behind)))
+                    (element-below table d (nameOf child) (start .behind)) read in
                     omega arith
 
                 past : i < n
@@ -261,10 +287,13 @@ module _ (s : Text) (d id l i : ℕ) where
                 unfolding contentRead
                 goes-on =
                     inner ∙ on-got (element table d (nameOf child) (start .behind)) (drop n s) read (λ e z.
-                    after (content (element table d) (length (drop i s)) (nameOf id) (leftOf more) z) (λ es y. got (node (nameOf child) (e .given) (e .elements) es) y))
+                    after (content (element table d) (length (drop i s)) (nameOf id) (leftOf more) z)
+                    (λ es y. got (node (nameOf child) (e .given) (e .elements) es) y))
                     (forget (content (element table d) (suc (length (drop n s))) (nameOf id) (leftOf more) (drop n s)))
-                    (λ e _. forget-on (content (element table d) (length (drop i s)) (nameOf id) (leftOf more) (drop n s)) (λ es. node (nameOf child) (e .given) (e .elements) es)
-                    ∙ ap (λ x. forget x) (content-enough (element table d) (element-below table d) (length (drop i s)) (suc (length (drop n s))) (nameOf id) (leftOf more) (drop n s) shorter (omega arith)))
+                    (λ e _. forget-on (content (element table d) (length (drop i s)) (nameOf id) (leftOf more) (drop n s))
+                    (λ es. node (nameOf child) (e .given) (e .elements) es)
+                    ∙ ap (λ x. forget x) (content-enough (element table d) (element-below table d) (length (drop i s)) (suc (length (drop n s))) (nameOf id)
+                    (leftOf more) (drop n s) shorter (omega arith)))
 
                 pub onward : Onward s d id l i more n
                 onward = record { inside = on-inside; past = past; rest = goes-on }
@@ -276,7 +305,8 @@ module _ (s : Text) (at d id : ℕ) (room : at + 1 ≤ length s) (left : ℕ) (c
   unfolding text
   opens = sym p
 
-  pub with-content : x ≡ true → (r : Step) → Reads s (stepOf s) (contentRead d id left (drop (at + 1) s)) r → Reads s (stepOf s) (elementRead d id (drop at s)) r
+  pub with-content : x ≡ true → (r : Step) → Reads s (stepOf s) (contentRead d id left (drop (at + 1) s)) r →
+      Reads s (stepOf s) (elementRead d id (drop at s)) r
   unfolding contentRead elementRead
   with-content e r a =
       let l = length-drop at s in
@@ -284,7 +314,8 @@ module _ (s : Text) (at d id : ℕ) (room : at + 1 ≤ length s) (left : ℕ) (c
       let n : length (drop at s) ≡ suc (length (drop (at + 1) s)) = omega arith in
       record {
         read-is = a .read-is ∙ sym (rw (opens, e)
-            (forget-on (content (element table d) (length (drop at s)) (rowIn table (nameOf id) .name) (rowIn table (nameOf id) .children) (drop 1 (drop at s))) (λ es. record { given = []; elements = es })
+            (forget-on (content (element table d) (length (drop at s)) (rowIn table (nameOf id) .name) (rowIn table (nameOf id) .children) (drop 1 (drop at s)))
+            (λ es. record { given = []; elements = es })
             ∙ rw (n, row-name table (nameOf id), sym c, drop-drop 1 at s)));
         inside = a .inside;
       }

@@ -66,7 +66,8 @@ module _ (v : Text) (n i : ℕ) where
     count-more e = rw (drop-here v i h, sym w, sym d) (go x e)
       where
         go : (x : Bool) → not x ≡ false
-            → x && every digit (drop (i + 1) v) && leb (decimal (10 * n + (b - 48)) (drop (i + 1) v)) 255 ≡ every digit (drop (i + 1) v) && leb (decimal (10 * n + (b - 48)) (drop (i + 1) v)) 255
+            → x && every digit (drop (i + 1) v) && leb (decimal (10 * n + (b - 48)) (drop (i + 1) v)) 255 ≡
+            every digit (drop (i + 1) v) && leb (decimal (10 * n + (b - 48)) (drop (i + 1) v)) 255
         go true e = refl
         go false e = absurd (false≢true (sym e))
 

@@ -51,7 +51,8 @@ module _ (s : Text) (at : ℕ) (w v : Text) (x : Step) (a : Reads s (stepOf s) (
 
       pub pseudo-value : (p : ℕ) → z ≡ Bad p → Reads s (stepOf s) (pseudo w v (drop at s)) z
       unfolding this
-      pseudo-value p g = moved to-value (halted s (valueOf s (u + 1)) (value (drop u s)) z c p g refl (λ m r. cond (same m v) (got tt r) (bad (drop 1 (drop u s)))))
+      pseudo-value p g =
+          moved to-value (halted s (valueOf s (u + 1)) (value (drop u s)) z c p g refl (λ m r. cond (same m v) (got tt r) (bad (drop 1 (drop u s)))))
 
       module _ (end : ℕ) (g : z ≡ Next end) (m : Text) (t : m ≡ take (end - (u + 1)) (drop (u + 1) s)) (d : Bool) (q : d ≡ same m v) where
         judged : pseudo w v (drop at s) ≡ cond d (got tt (drop (end + 1) s)) (bad (drop (u + 1) s))
@@ -108,7 +109,8 @@ module _ (s : Text) (at : ℕ) (x : Step) (a : Reads s (stepOf s) (space (drop a
           ∙ goes-on s (stepOf s) (pseudo (text "version") (text "1.0") (drop i s)) y b (Next u) f (λ _ u. closed u)
           ∙ rw (same-place s u j h from inside, sym from, sym q)
 
-      pub declaration-short : not (d && not (eqb j u)) ≡ true → (r : Step) → Reads s (stepOf s) (expect (text "?>") (drop j s)) r → Reads s (stepOf s) (declaration (drop at s)) r
+      pub declaration-short : not (d && not (eqb j u)) ≡ true → (r : Step) → Reads s (stepOf s) (expect (text "?>") (drop j s)) r →
+          Reads s (stepOf s) (declaration (drop at s)) r
       declaration-short n r c = moved (to-closed ∙ rw (not-true (d && not (eqb j u)) n)) c
 
       module _ (n : not (d && not (eqb j u)) ≡ false) (z : Step) (c : Reads s (stepOf s) (pseudo (text "encoding") (text "UTF-8") (drop j s)) z) where
@@ -117,12 +119,15 @@ module _ (s : Text) (at : ℕ) (x : Step) (a : Reads s (stepOf s) (space (drop a
         to-encoding = to-closed ∙ rw (not-false (d && not (eqb j u)) n)
 
         pub declaration-encoding : (p : ℕ) → z ≡ Bad p → Reads s (stepOf s) (declaration (drop at s)) z
-        declaration-encoding p g = moved to-encoding (halted s (stepOf s) (pseudo (text "encoding") (text "UTF-8") (drop j s)) z c p g refl (λ _ z. expect (text "?>") (skip z)))
+        declaration-encoding p g =
+            moved to-encoding (halted s (stepOf s) (pseudo (text "encoding") (text "UTF-8") (drop j s)) z c p g refl (λ _ z. expect (text "?>") (skip z)))
 
-        pub declaration-long : (k : ℕ) → z ≡ Next k → (end : ℕ) → drop end s ≡ behind white (drop k s) → (r : Step) → Reads s (stepOf s) (expect (text "?>") (drop end s)) r
+        pub declaration-long : (k : ℕ) → z ≡ Next k → (end : ℕ) → drop end s ≡ behind white (drop k s) → (r : Step) →
+            Reads s (stepOf s) (expect (text "?>") (drop end s)) r
             → Reads s (stepOf s) (declaration (drop at s)) r
         declaration-long k g end l r o =
-            moved (to-encoding ∙ goes-on s (stepOf s) (pseudo (text "encoding") (text "UTF-8") (drop j s)) z c (Next k) g (λ _ z. expect (text "?>") (skip z)) ∙ rw (sym l)) o
+            moved (to-encoding ∙ goes-on s (stepOf s) (pseudo (text "encoding") (text "UTF-8") (drop j s)) z c (Next k) g (λ _ z. expect (text "?>") (skip z)) ∙
+            rw (sym l)) o
 
 -- ---- The DOCTYPE.
 
@@ -178,7 +183,8 @@ module _ (s : Text) (at : ℕ) (x : Step) (a : Reads s (stepOf s) (spacedRead (t
         pub doctype-value : (p : ℕ) → m ≡ Bad p → Reads s (stepOf s) (doctype (drop at s)) m
         doctype-value p l = moved to-literal (halted s (valueOf s (u + 1)) (value (drop u s)) m d p l refl (λ _ v. expect (text ">") (skip v)))
 
-        pub doctype-end : (end : ℕ) → m ≡ Next end → (k : ℕ) → drop k s ≡ behind white (drop (end + 1) s) → (r : Step) → Reads s (stepOf s) (expect (text ">") (drop k s)) r
+        pub doctype-end : (end : ℕ) → m ≡ Next end → (k : ℕ) → drop k s ≡ behind white (drop (end + 1) s) → (r : Step) →
+            Reads s (stepOf s) (expect (text ">") (drop k s)) r
             → Reads s (stepOf s) (doctype (drop at s)) r
         doctype-end end l k o r q =
             moved (to-literal ∙ goes-on s (valueOf s (u + 1)) (value (drop u s)) m d (Next end) l (λ _ v. expect (text ">") (skip v)) ∙ rw (sym o)) q
@@ -210,7 +216,9 @@ module _ (s : Text) (at : ℕ) (b : Bool) (q : b ≡ starts (text "<!DOCTYPE") (
 
   pub typed-room : not b ≡ false → at + 9 ≤ length s
   unfolding text
-  typed-room n = let h = starts-le (60 ∷ 33 ∷ 68 ∷ 79 ∷ 67 ∷ 84 ∷ 89 ∷ 80 ∷ 69 ∷ []) (drop at s) (sym q ∙ not-false b n) in let l = length-drop at s in omega arith
+  typed-room n = let h = starts-le (60 ∷ 33 ∷ 68 ∷ 79 ∷ 67 ∷ 84 ∷ 89 ∷ 80 ∷ 69 ∷ []) (drop at s) (sym q ∙ not-false b n) in
+      let l = length-drop at s in
+      omega arith
 
   module _ (n : not b ≡ false) (x : Step) (a : Reads s (stepOf s) (doctype (drop (at + 9) s)) x) where
     here : typedRead (drop at s) ≡ after (doctype (drop (at + 9) s)) (λ _ r. misc (length r) r)
@@ -284,7 +292,8 @@ module _ (s : Text) (at id : ℕ) (x : Step) (a : Reads s (stepOf s) (elementRea
 whole : Opened → Text → Read (Unit {0})
 whole c u = after (forget (body (element table 7) (rowIn table (c .name)) [] u)) (λ _ r. rest r)
 
-forgets : (w : Text) (e : Inside) (u : Text) (x : Read (Unit {0})) → forget (after x (λ _ y. cond (same y []) (got (node w (e .given) (e .elements) nothing) y) (bad y))) ≡ after x (λ _ y. last y)
+forgets : (w : Text) (e : Inside) (u : Text) (x : Read (Unit {0})) →
+    forget (after x (λ _ y. cond (same y []) (got (node w (e .given) (e .elements) nothing) y) (bad y))) ≡ after x (λ _ y. last y)
 unfolding last
 forgets w e u (got v y) = go (same y [])
   where
@@ -302,9 +311,12 @@ module _ (c : Opened) where
   inner (got e z) = forgets (c .name) e z (misc (length z) z)
   inner (bad z) = refl
 
-  attributed : (x : Read (List Given)) → forget (after (after x (λ gs r. body (element table 7) (rowIn table (c .name)) gs r)) ends) ≡ after (after x (λ _ r. got c r)) (λ c u. whole c u)
+  attributed : (x : Read (List Given)) →
+      forget (after (after x (λ gs r. body (element table 7) (rowIn table (c .name)) gs r)) ends) ≡ after (after x (λ _ r. got c r)) (λ c u. whole c u)
   unfolding whole
-  attributed (got gs r) = inner (body (element table 7) (rowIn table (c .name)) gs r) ∙ ap (λ x. after x (λ _ r. rest r)) (body-forgets (element table 7) (rowIn table (c .name)) gs r)
+  attributed (got gs r) =
+      inner (body (element table 7) (rowIn table (c .name)) gs r) ∙
+      ap (λ x. after x (λ _ r. rest r)) (body-forgets (element table 7) (rowIn table (c .name)) gs r)
   attributed (bad r) = refl
 
   tagged-is : (u : Text) → forget (after (element table 8 (c .name) u) ends) ≡ after (tagged 8 c u) (λ c u. whole c u)
@@ -315,11 +327,13 @@ document-is : (s : Text) → forget (document s) ≡ after (prolog s) (λ _ r. a
 unfolding document startRead ends
 document-is s = rw document-left (go (prolog s))
   where
-    outer : (x : Read Opened) → forget (after x (λ c u. after (element table 8 (c .name) u) (λ e z. ends c e z))) ≡ after (after x (λ c r. tagged 8 c r)) (λ c u. whole c u)
+    outer : (x : Read Opened) →
+        forget (after x (λ c u. after (element table 8 (c .name) u) (λ e z. ends c e z))) ≡ after (after x (λ c r. tagged 8 c r)) (λ c u. whole c u)
     outer (got c u) = tagged-is c u
     outer (bad u) = refl
 
-    go : (x : Read (Unit {0})) → forget (after x (λ _ r. after (opening (one "policy_object" ∷ []) r) (λ c u. after (element table 8 (c .name) u) (λ e z. ends c e z))))
+    go : (x : Read (Unit {0})) →
+        forget (after x (λ _ r. after (opening (one "policy_object" ∷ []) r) (λ c u. after (element table 8 (c .name) u) (λ e z. ends c e z))))
         ≡ after x (λ _ r. after (after (opening (one "policy_object" ∷ []) r) (λ c r. tagged 8 c r)) (λ c u. whole c u))
     go (got v r) = outer (opening (one "policy_object" ∷ []) r)
     go (bad r) = refl
@@ -344,6 +358,7 @@ module _ (s : Text) (x : Step) (a : Reads s (stepOf s) (prolog s) x) where
         let l = length-drop k s in
         omega arith
 
-    pub document-root : (k id more : ℕ) → o ≡ Inner k id more → (r : Step) → Reads s (stepOf s) (rootRead id (drop k s)) r → Reads s (stepOf s) (forget (document s)) r
+    pub document-root : (k id more : ℕ) → o ≡ Inner k id more → (r : Step) → Reads s (stepOf s) (rootRead id (drop k s)) r →
+        Reads s (stepOf s) (forget (document s)) r
     unfolding whole rootRead elementRead rest last
     document-root k id more f r c = moved (to-opening ∙ rw (sym (b .read-is), f)) c

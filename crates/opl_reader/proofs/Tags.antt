@@ -82,26 +82,35 @@ module _ (s : Text) (at d id more : ℕ) where
   tag-deep e = rw e
 
   module _ (n : d ≡ 0 → ⊥) (t : Step) (q : Reads s (stepOf s) (attributesRead (rowIn elements (nameOf id) .attributes) (drop at s)) t) where
-    tag-is : taggedRead d id more (drop at s) ≡ after (attributes (length (drop at s)) (rowIn elements (nameOf id) .attributes) (drop at s)) (λ _ r. got (record { name = nameOf id; left = leftOf more }) r)
+    tag-is : taggedRead d id more (drop at s) ≡
+        after (attributes (length (drop at s)) (rowIn elements (nameOf id) .attributes) (drop at s))
+        (λ _ r. got (record { name = nameOf id; left = leftOf more }) r)
     unfolding taggedRead tagged
     tag-is = go d n
       where
         go : (d : ℕ) → (d ≡ 0 → ⊥) → tagged d (record { name = nameOf id; left = leftOf more }) (drop at s)
-            ≡ after (attributes (length (drop at s)) (rowIn elements (nameOf id) .attributes) (drop at s)) (λ _ r. got (record { name = nameOf id; left = leftOf more }) r)
+            ≡ after (attributes (length (drop at s)) (rowIn elements (nameOf id) .attributes) (drop at s))
+            (λ _ r. got (record { name = nameOf id; left = leftOf more }) r)
         go zero n = absurd (n refl)
         go (suc d) n = refl
 
     pub tag-bad : (p : ℕ) → t ≡ Bad p → Opens s (taggedRead d id more (drop at s)) (Stop p)
     unfolding attributesRead
     tag-bad p v = record {
-      read-is = sym (tag-is ∙ judged-bad (attributes (length (drop at s)) (rowIn elements (nameOf id) .attributes) (drop at s)) (drop p s) (sym (q .read-is) ∙ rw v) (λ _ r. got (record { name = nameOf id; left = leftOf more }) r));
+      read-is =
+          sym (tag-is ∙
+          judged-bad (attributes (length (drop at s)) (rowIn elements (nameOf id) .attributes) (drop at s)) (drop p s) (sym (q .read-is) ∙ rw v)
+          (λ _ r. got (record { name = nameOf id; left = leftOf more }) r));
       inside = stopped-at s (stepOf s) (attributesRead (rowIn elements (nameOf id) .attributes) (drop at s)) t q p v;
     }
 
     pub tag-got : (i : ℕ) → t ≡ Next i → Opens s (taggedRead d id more (drop at s)) (Inner i id more)
     unfolding attributesRead
     tag-got i v = record {
-      read-is = sym (tag-is ∙ judged-got (attributes (length (drop at s)) (rowIn elements (nameOf id) .attributes) (drop at s)) (drop i s) (record { name = nameOf id; left = leftOf more }) (sym (q .read-is) ∙ rw v));
+      read-is =
+          sym (tag-is ∙
+          judged-got (attributes (length (drop at s)) (rowIn elements (nameOf id) .attributes) (drop at s)) (drop i s)
+          (record { name = nameOf id; left = leftOf more }) (sym (q .read-is) ∙ rw v));
       inside = within s (stepOf s) (attributesRead (rowIn elements (nameOf id) .attributes) (drop at s)) t q i v;
     }
 
@@ -131,8 +140,11 @@ module _ (s : Text) (at id left : ℕ) (n : Step) (w : Reads s (wordOf s (at + 2
   unfolding ending ended
   ending-is = rw (drop-drop 2 at s) (go (name (drop (at + 2) s)))
     where
-      go : (x : Read Text) → forget (after x (λ v r. cond (same v (nameOf id) && mayEnd (leftOf left)) (after (expect (text ">") (skip r)) (λ _ u. got nothing u)) (bad (drop at s))))
-          ≡ after x (λ v r. forget (cond (same v (nameOf id) && mayEnd (leftOf left)) (after (expect (text ">") (skip r)) (λ _ u. got nothing u)) (bad (drop at s))))
+      go : (x : Read Text) →
+          forget
+          (after x (λ v r. cond (same v (nameOf id) && mayEnd (leftOf left)) (after (expect (text ">") (skip r)) (λ _ u. got nothing u)) (bad (drop at s))))
+          ≡ after x
+          (λ v r. forget (cond (same v (nameOf id) && mayEnd (leftOf left)) (after (expect (text ">") (skip r)) (λ _ u. got nothing u)) (bad (drop at s))))
       go (got v r) = refl
       go (bad r) = refl
 
@@ -143,7 +155,8 @@ module _ (s : Text) (at id left : ℕ) (n : Step) (w : Reads s (wordOf s (at + 2
   }
 
   module _ (k : ℕ) (v : n ≡ Next k) (u : Text) (t : u ≡ take (k - (at + 2)) (drop (at + 2) s)) (x y : Bool) (c : x ≡ same u (nameOf id)) (d : y ≡ mayEnd (leftOf left)) where
-    matched : forget (ending (nameOf id) (leftOf left) (drop at s)) ≡ forget (cond (x && y) (after (expect (62 ∷ []) (skip (drop k s))) (λ _ u. got nothing u)) (bad (drop at s)))
+    matched : forget (ending (nameOf id) (leftOf left) (drop at s)) ≡
+        forget (cond (x && y) (after (expect (62 ∷ []) (skip (drop k s))) (λ _ u. got nothing u)) (bad (drop at s)))
     unfolding ended text
     matched = ending-is ∙ goes-on s (wordOf s (at + 2)) (name (drop (at + 2) s)) n w (Next k) v ended ∙ rw (sym t, sym c, sym d)
 

@@ -42,7 +42,8 @@ one-is n a x e h k = record { fields-are = rw e; fits = record { n-fits = h; a-f
 pub two-are : (a b : ℕ) (x y : Maybe ℕ) → x ≡ just a → y ≡ just b → a < 65536 → b < 65536 → FieldsAre (twoSaid x y) (Numbers 0 a b 0 0)
 two-are a b x y e f h k = record { fields-are = rw (e, f); fits = record { n-fits = omega arith; a-fits = h; b-fits = k; c-fits = omega arith } }
 
-pub three-are : (a b c : ℕ) (x y z : Maybe ℕ) → x ≡ just a → y ≡ just b → z ≡ just c → a < 65536 → b < 65536 → c < 65536 → FieldsAre (threeSaid x y z) (Numbers 0 a b c 0)
+pub three-are : (a b c : ℕ) (x y z : Maybe ℕ) → x ≡ just a → y ≡ just b → z ≡ just c → a < 65536 → b < 65536 → c < 65536 →
+    FieldsAre (threeSaid x y z) (Numbers 0 a b c 0)
 three-are a b c x y z e f g h k l = record { fields-are = rw (e, f, g); fits = record { n-fits = omega arith; a-fits = h; b-fits = k; c-fits = l } }
 
 module _ (n a : ℕ) (x : Maybe ℕ) (g : Group) (is : bitsOf g ≡ x) where
@@ -50,7 +51,8 @@ module _ (n a : ℕ) (x : Maybe ℕ) (g : Group) (is : bitsOf g ≡ x) where
   set-none q = let z : none ≡ x = rw q at is in record { fields-are = rw (← z); fits = tt }
 
   pub set-is : (m : ℕ) → g ≡ Bits m → n < 256 → a < 65536 → FieldsAre (setSaid n (just a) x) (Numbers n a 0 0 m)
-  set-is m q h k = let z : just m ≡ x = rw q at is in record { fields-are = rw (← z); fits = record { n-fits = h; a-fits = k; b-fits = omega arith; c-fits = omega arith } }
+  set-is m q h k = let z : just m ≡ x = rw q at is in
+      record { fields-are = rw (← z); fits = record { n-fits = h; a-fits = k; b-fits = omega arith; c-fits = omega arith } }
 
 module _ (n : ℕ) (x : Maybe ℕ) where
   pub partition-none : 16 ≤ n → FieldsAre (setSaid 0 (partitioningOf n) x) Unnamed

@@ -16,9 +16,9 @@ use Rattle.paper_opl.proofs.Cardinalities.{Small, AllSmall, document-small}
 use Rattle.paper_opl.proofs.Tags.{tags-are}
 use Rattle.opl_names.specs.Table.{Sound, namesIn as namesHeld}
 use Rattle.opl_spaces.specs.Spaces.{limitOf, scratchWords, tableOf}
-use Rattle.opl_declared.specs.Names.{declaredAt, lineNames, filled}
-use Rattle.opl_declared.proofs.FilledLaws.{numbers-are, users-are, roles-are, permissions-are, operations-are, objects-are}
-use Rattle.opl_declared.proofs.LineNames.{tasks-are, templates-are}
+use Rattle.opl_line_names.specs.Names.{declaredAt, lineNames, filled}
+use Rattle.opl_line_names.proofs.FilledLaws.{numbers-are, users-are, roles-are, permissions-are, operations-are, objects-are}
+use Rattle.opl_line_names.proofs.LineNames.{tasks-are, templates-are}
 use Rattle.opl_said.specs.Said.{spaceAt, allNames, Held}
 
 -- ---- Cardinalities.

@@ -27,7 +27,8 @@ kept-many : (s : Text) (l : List ℕ) → many (namesIn s l) ≡ kept l
 unfolding namesIn
 kept-many s l = many-rows (nameAt s l) 0 (kept l)
 
-pub number-in : (s : Text) (i : ℕ) (l : List ℕ) (w : Text) (x : Maybe ℕ) (r : Found) → Sound s (limitOf i) (tableOf i l) → numbered s i l w ≡ x → foundOf r ≡ numbered s i l w → NumberIs (limitOf i) x r
+pub number-in : (s : Text) (i : ℕ) (l : List ℕ) (w : Text) (x : Maybe ℕ) (r : Found) → Sound s (limitOf i) (tableOf i l) → numbered s i l w ≡ x →
+    foundOf r ≡ numbered s i l w → NumberIs (limitOf i) x r
 number-in s i l w x r sound e f = record { number-is = f ∙ e; small = go r (leb (length w) 64) f }
   where
     go : (r : Found) (b : Bool) → foundOf r ≡ cond b (placeOf 0 w (namesIn s (tableOf i l))) none → Below (limitOf i) r

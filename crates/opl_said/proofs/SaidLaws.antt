@@ -45,7 +45,8 @@ module _ (k : ℕ) (r : Fields) (said : Maybe Record) where
       go (just a) none = refl
       go (just a) (just b) = refl
 
-  three-say : (x y z : Maybe ℕ) → said ≡ if-found x none (λ a. if-found y none (λ b. if-found z none (λ c. fields k 0 a b c 0))) → FieldsAre (threeSaid x y z) r → SaysIt k said r
+  three-say : (x y z : Maybe ℕ) → said ≡ if-found x none (λ a. if-found y none (λ b. if-found z none (λ c. fields k 0 a b c 0))) →
+      FieldsAre (threeSaid x y z) r → SaysIt k said r
   three-say x y z e h = says-by k (threeSaid x y z) r said h (go x y z ∙ sym e)
     where
       go : (x y z : Maybe ℕ) → recordOf k (threeSaid x y z) ≡ if-found x none (λ a. if-found y none (λ b. if-found z none (λ c. fields k 0 a b c 0)))

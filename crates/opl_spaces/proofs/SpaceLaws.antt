@@ -171,7 +171,8 @@ module _ (i : ℕ) (h : i < 7) (l : List ℕ) (n from : ℕ) (limit : n ≡ limi
       let size = e .sound [] .room in
       record { emptied = rw (lent-here p size, ← limit) e; apart = lent-apart p size }
 
-  pub declares-in : (s w : Text) (p : List ℕ) (r : Found) → Declares s n w (take (from + 1 + 3 * n - from) (drop from l)) p r → DeclaresIn s i w l (take from l ++ (p ++ drop (from + 1 + 3 * n - from) (drop from l))) r
+  pub declares-in : (s w : Text) (p : List ℕ) (r : Found) → Declares s n w (take (from + 1 + 3 * n - from) (drop from l)) p r →
+      DeclaresIn s i w l (take from l ++ (p ++ drop (from + 1 + 3 * n - from) (drop from l))) r
   declares-in s w p r e =
       let size = e .sound .room in
       record { declares = rw (lent-here p size, ← limit, ← lent-is) e; apart = lent-apart p size }

@@ -88,13 +88,15 @@ ways : List Child → List Way
 ways [] = []
 ways (c ∷ cs) = waysOf (c .names) (follow (c .times) (c .names) cs) (cond (needed (c .times)) [] (ways cs))
 
-some-way : (ws : List Text) (f : List Child) (more : List Way) (v : Text) → leftIn (firstBy nameIn (waysOf ws f more) v) ≡ cond (some (same v) ws) (just f) (leftIn (firstBy nameIn more v))
+some-way : (ws : List Text) (f : List Child) (more : List Way) (v : Text) →
+    leftIn (firstBy nameIn (waysOf ws f more) v) ≡ cond (some (same v) ws) (just f) (leftIn (firstBy nameIn more v))
 unfolding waysOf firstBy some leftIn nameIn
 some-way [] f more v = refl
 some-way (w ∷ ws) f more v = go (same v w) (some-way ws f more v)
   where
     go : (b : Bool) → leftIn (firstBy nameIn (waysOf ws f more) v) ≡ cond (some (same v) ws) (just f) (leftIn (firstBy nameIn more v))
-        → leftIn (cond b (just (record { name = w; left = f })) (firstBy nameIn (waysOf ws f more) v)) ≡ cond (b || some (same v) ws) (just f) (leftIn (firstBy nameIn more v))
+        → leftIn (cond b (just (record { name = w; left = f })) (firstBy nameIn (waysOf ws f more) v)) ≡
+        cond (b || some (same v) ws) (just f) (leftIn (firstBy nameIn more v))
     go true h = refl
     go false h = h
 
@@ -178,7 +180,8 @@ find-parts whole [] v = refl
 find-parts whole (a ∷ us) v = rw (same-swap (a .name) v) (go (same v (a .name)) (find-parts whole us v))
   where
     go : (b : Bool) → find us v ≡ attributeIn (firstBy nameOn (parts whole us) v)
-        → cond b (just a) (find us v) ≡ attributeIn (cond b (just (record { attribute = a; rest = without (a .name) whole })) (firstBy nameOn (parts whole us) v))
+        → cond b (just a) (find us v) ≡
+        attributeIn (cond b (just (record { attribute = a; rest = without (a .name) whole })) (firstBy nameOn (parts whole us) v))
     go true h = refl
     go false h = h
 
@@ -190,7 +193,8 @@ part-rest whole (a ∷ us) v p e = go (same v (a .name)) e (part-rest whole us v
     go : (b : Bool) → cond b (just (record { attribute = a; rest = without (a .name) whole })) (firstBy nameOn (parts whole us) v) ≡ just p
         → (firstBy nameOn (parts whole us) v ≡ just p → p .rest ≡ without (p .attribute .name) whole)
         → p .rest ≡ without (p .attribute .name) whole
-    go true e h = let q : record { attribute = a; rest = without (a .name) whole } ≡ p = cc in ap (λ x. x .rest) (sym q) ∙ ap (λ (x : Part). without (x .attribute .name) whole) q
+    go true e h = let q : record { attribute = a; rest = without (a .name) whole } ≡ p = cc in
+        ap (λ x. x .rest) (sym q) ∙ ap (λ (x : Part). without (x .attribute .name) whole) q
     go false e h = h e
 
 partAt : ℕ → Part

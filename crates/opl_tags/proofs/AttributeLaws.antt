@@ -93,7 +93,8 @@ module _ (s : Text) (at i : ℕ) (h : at ≤ length s) (to : drop i s ≡ behind
     unfolding given text
     given-is e = rw (← to, ← ends, ← empty, q, ← a-word white s at i h to inside e)
 
-    pub given-plain : (i ≡ at → ⊥) → (r : Attribute) → ReadsAttribute s i (after (plain (drop i s)) (λ g u. got (just g) u)) r → ReadsAttribute s at (given (drop at s)) r
+    pub given-plain : (i ≡ at → ⊥) → (r : Attribute) → ReadsAttribute s i (after (plain (drop i s)) (λ g u. got (just g) u)) r →
+        ReadsAttribute s at (given (drop at s)) r
     given-plain e r x =
         record { read-is = x .read-is ∙ sym (ap placeless (given-is e)); stands = earlier s at i (onward white s at i h to inside) r (x .stands) }
 
@@ -125,7 +126,8 @@ collected-enough (suc n) zero [] h l = rw none-given
 collected-enough (suc n) zero (b ∷ s) h l = absurd (omega arith)
 collected-enough (suc n) (suc m) s h l = go (given s) refl (collected-enough n m)
   where
-    go : (x : Read (Maybe Given)) → given s ≡ x → ((r : Text) → length r ≤ n → length r ≤ m → collected n r ≡ collected m r) → collectedOn x (λ r. collected n r) ≡ collectedOn x (λ r. collected m r)
+    go : (x : Read (Maybe Given)) → given s ≡ x → ((r : Text) → length r ≤ n → length r ≤ m → collected n r ≡ collected m r) →
+        collectedOn x (λ r. collected n r) ≡ collectedOn x (λ r. collected m r)
     go (got none r) e rest = refl
     go (got (just g) r) e rest = let k = shrinks s g r e in ap (λ y. g ∷ y) (rest r (omega arith) (omega arith))
     go (bad r) e rest = refl
@@ -155,15 +157,22 @@ module _ (s : Text) (i : ℕ) (r : Attribute) (reads : ReadsAttribute s i (given
     pub within : Within s i from end value close
     within = rw pair at (reads .stands)
 
-    given-is-pair : given (drop i s) ≡ got (just (record { name = take (end - from) (drop from s); value = take (close - value) (drop value s) })) (drop (close + 1) s)
+    given-is-pair : given (drop i s) ≡
+        got (just (record { name = take (end - from) (drop from s); value = take (close - value) (drop value s) })) (drop (close + 1) s)
     given-is-pair = placed (given (drop i s)) _ _ (rw pair at (reads .read-is))
 
-    pub collected-pair : (n : ℕ) → length s ≤ n → collected n (drop i s) ≡ record { name = take (end - from) (drop from s); value = take (close - value) (drop value s) } ∷ collected n (drop (close + 1) s)
+    pub collected-pair : (n : ℕ) → length s ≤ n →
+        collected n (drop i s) ≡
+        record { name = take (end - from) (drop from s); value = take (close - value) (drop value s) } ∷ collected n (drop (close + 1) s)
     unfolding collected
     collected-pair zero h = let w = within in absurd (omega (arith, w .inside))
     collected-pair (suc n) h =
         let w = within in
-        rw (given-is-pair, collected-enough n (suc n) (drop (close + 1) s) (omega (arith, length-drop (close + 1) s, w .inside)) (omega (arith, length-drop (close + 1) s, w .inside)))
+        rw (
+          given-is-pair,
+          collected-enough n (suc n) (drop (close + 1) s) (omega (arith, length-drop (close + 1) s, w .inside))
+              (omega (arith, length-drop (close + 1) s, w .inside)),
+        )
 
 -- ---- The value of an attribute.
 module _ (s : Text) (at i : ℕ) (w : Text) (left : valueIn w (givenAt s at) ≡ valueIn w (collected (length s) (drop i s))) where
@@ -198,7 +207,8 @@ module _ (s : Text) (at i : ℕ) (w : Text) (left : valueIn w (givenAt s at) ≡
 by-given : (n : ℕ) (s : Text) → givens (suc n) s ≡ after (given s) (λ m u. if-found m (got [] u) (λ g. after (givens n u) (λ gs z. got (g ∷ gs) z)))
 unfolding givens given
 by-given n s =
-    on-test (starts (text ">") (skip s) || starts (text "/") (skip s)) (λ q. rw q) (λ q. rw q (on (space s) (λ _ r e. rw e (on (plain r) (λ g u d. rw d) (λ u d. rw d))) (λ r e. rw e)))
+    on-test (starts (text ">") (skip s) || starts (text "/") (skip s)) (λ q. rw q)
+    (λ q. rw q (on (space s) (λ _ r e. rw e (on (plain r) (λ g u d. rw d) (λ u d. rw d))) (λ r e. rw e)))
 
 -- what is collected is what is given, where all can be read
 pub collected-is : (n : ℕ) (s : Text) (gs : List Given) (r : Text) → givens n s ≡ got gs r → collected n s ≡ gs
@@ -206,11 +216,13 @@ unfolding givens collected
 collected-is zero s gs r e = absurd (bad≢got e)
 collected-is (suc n) s gs r e = go (given s) refl (sym (by-given n s) ∙ e) (collected-is n)
   where
-    more : (g : Given) (x : Read (List Given)) (y : List Given) → after x (λ hs z. got (g ∷ hs) z) ≡ got gs r → ((hs : List Given) (u : Text) → x ≡ got hs u → y ≡ hs) → g ∷ y ≡ gs
+    more : (g : Given) (x : Read (List Given)) (y : List Given) → after x (λ hs z. got (g ∷ hs) z) ≡ got gs r →
+        ((hs : List Given) (u : Text) → x ≡ got hs u → y ≡ hs) → g ∷ y ≡ gs
     more g (got hs u) y q f = ap (λ k. g ∷ k) (f hs u refl) ∙ got-value q
     more g (bad u) y q f = absurd (bad≢got q)
 
-    go : (x : Read (Maybe Given)) → given s ≡ x → after (given s) (λ m u. if-found m (got [] u) (λ g. after (givens n u) (λ gs z. got (g ∷ gs) z))) ≡ got gs r → ((u : Text) (hs : List Given) (z : Text) → givens n u ≡ got hs z → collected n u ≡ hs) → collectedOn x (λ u. collected n u) ≡ gs
+    go : (x : Read (Maybe Given)) → given s ≡ x → after (given s) (λ m u. if-found m (got [] u) (λ g. after (givens n u) (λ gs z. got (g ∷ gs) z))) ≡ got gs r →
+        ((u : Text) (hs : List Given) (z : Text) → givens n u ≡ got hs z → collected n u ≡ hs) → collectedOn x (λ u. collected n u) ≡ gs
     go (got none u) p q rest = got-value (rw p at q)
     go (got (just g) u) p q rest = more g (givens n u) (collected n u) (rw p at q) (rest u)
     go (bad u) p q rest = absurd (bad≢got (rw p at q))

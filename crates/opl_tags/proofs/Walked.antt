@@ -45,7 +45,8 @@ next-enough zero (suc m) [] h l = rw none-at-end
 next-enough zero (suc m) (b ∷ s) h l = absurd (omega arith)
 next-enough (suc n) zero [] h l = rw none-at-end
 next-enough (suc n) zero (b ∷ s) h l = absurd (omega arith)
-next-enough (suc n) (suc m) s h l = on (nextTag s) (λ ts r e. let b = below-of e (next-below s) in rw (e, next-enough n m r (omega arith) (omega arith))) (λ r e. rw e)
+next-enough (suc n) (suc m) s h l =
+    on (nextTag s) (λ ts r e. let b = below-of e (next-below s) in rw (e, next-enough n m r (omega arith) (omega arith))) (λ r e. rw e)
 
 -- the tags from a text on
 abbrev pub walk : Text → List Tagged
@@ -144,7 +145,8 @@ over-plain s g r e =
 
 over-space : (s r : Text) → space s ≡ got tt r → Same s r
 over-space s r e =
-    on (word white s) (λ w u p. let k : u ≡ r = got-rest (rw p at e) in over-word white white-shut s w u p ∙ ap (behind shut) k) (λ u p. absurd (bad≢got (rw p at e)))
+    on (word white s) (λ w u p. let k : u ≡ r = got-rest (rw p at e) in over-word white white-shut s w u p ∙ ap (behind shut) k)
+    (λ u p. absurd (bad≢got (rw p at e)))
 
 -- the attributes of a start tag, and its end
 over-givens : (n : ℕ) (s : Text) (gs : List Given) (r : Text) → givens n s ≡ got gs r → Same s r × (starts (text ">") r || starts (text "/") r ≡ true)
@@ -226,7 +228,8 @@ entered s u w z e r m b t =
     (rw (misc-open s u m (expect-open u (b .behind) (b .sign)), b .sign, no-slash (b .behind) w z (b .named), b .named))
     ∙ rw (t .given-is, t .walked)
 
-ended : (s u v z y : Text) → misc (length s) s ≡ got tt u → starts (text "</") u ≡ true → name (drop 2 u) ≡ got v z → expect (text ">") (skip z) ≡ got tt y → walk s ≡ walk y
+ended : (s u v z y : Text) → misc (length s) s ≡ got tt u → starts (text "</") u ≡ true → name (drop 2 u) ≡ got v z → expect (text ">") (skip z) ≡ got tt y →
+    walk s ≡ walk y
 unfolding starts expect nextTag text behind
 ended s u v z y m c o p = go u refl m c o
   where
@@ -258,13 +261,19 @@ content-walk inner keeps (suc n) w left s es r e =
     (λ c. on (opening left u) (λ k z o. on (inner (k .name) z) (λ i y p. on (content inner n w (k .left) y)
     (λ fs x q.
     let j = rw (m, c, o, p, q) at e in
-    rw (sym (got-value j), sym (got-rest j), entered s u (k .name) z i y m (begun left u k z o) (keeps (k .name) z i y p), content-walk inner keeps n w (k .left) y fs x q)
+    rw (
+      sym (got-value j),
+      sym (got-rest j),
+      entered s u (k .name) z i y m (begun left u k z o) (keeps (k .name) z i y p),
+      content-walk inner keeps n w (k .left) y fs x q,
+    )
     (sym (ap (λ (l : List Tagged). record { name = k .name; given = i .given } ∷ l) (append-assoc (tagsOf (i .elements)) (tagsOf fs) (walk x)))))
     (λ x q. absurd (bad≢got (rw (m, c, o, p, q) at e)))) (λ y p. absurd (bad≢got (rw (m, c, o, p) at e)))) (λ z o. absurd (bad≢got (rw (m, c, o) at e)))))
     (λ u m. absurd (bad≢got (rw m at e)))
 
 -- behind the name: attributes, the end of the start tag, and what stands in the element
-met : (s : Text) (left : List Attribute) (gs : List Given) (z y : Text) (es : Elements) (r : Text) → attributes (length s) left s ≡ got gs z → closed z ≡ got tt y → walk y ≡ tagsOf es ++ walk r
+met : (s : Text) (left : List Attribute) (gs : List Given) (z y : Text) (es : Elements) (r : Text) → attributes (length s) left s ≡ got gs z →
+    closed z ≡ got tt y → walk y ≡ tagsOf es ++ walk r
     → Met s (record { given = gs; elements = es }) r
 met s left gs z y es r a c w =
     let g = givens-of (length s) left s gs z a in
@@ -300,10 +309,16 @@ nothing-left s e = stop s [] (rw (misc-open s [] e refl))
 pub tags-met : (s : Text) (es : Elements) (r u : Text) → document s ≡ got es r → prolog s ≡ got tt u → tags s ≡ walk u
 unfolding document tagsOf
 tags-met s es r u e p =
-    tags-are s es r e ∙ on (opening (one "policy_object" ∷ []) u) (λ c z o. on (element elements DEPTH (c .name) z) (λ i y h. on (misc (length y) y) (λ _ x m. on-test (same x [])
+    tags-are s es r e ∙
+    on (opening (one "policy_object" ∷ []) u) (λ c z o. on (element elements DEPTH (c .name) z) (λ i y h. on (misc (length y) y) (λ _ x m. on-test (same x [])
     (λ f.
     let k = rw (p, o, h, m, f) at e in
     let b = begun (one "policy_object" ∷ []) u c z o in
-    rw (sym (got-value k), entered u u (c .name) z i y (misc-here (length u) u (b .behind) (b .sign) (b .no-comment)) b (element-walk elements DEPTH (c .name) z i y h), nothing-left y (m ∙ ap (got tt) (same-end x f)))
+    rw (
+      sym (got-value k),
+      entered u u (c .name) z i y (misc-here (length u) u (b .behind) (b .sign) (b .no-comment)) b (element-walk elements DEPTH (c .name) z i y h),
+      nothing-left y (m ∙ ap (got tt) (same-end x f)),
     )
-    (λ f. absurd (bad≢got (rw (p, o, h, m, f) at e)))) (λ x m. absurd (bad≢got (rw (p, o, h, m) at e)))) (λ y h. absurd (bad≢got (rw (p, o, h) at e)))) (λ z o. absurd (bad≢got (rw (p, o) at e)))
+    )
+    (λ f. absurd (bad≢got (rw (p, o, h, m, f) at e)))) (λ x m. absurd (bad≢got (rw (p, o, h, m) at e)))) (λ y h. absurd (bad≢got (rw (p, o, h) at e))))
+    (λ z o. absurd (bad≢got (rw (p, o) at e)))

@@ -156,7 +156,8 @@ module _ (s : Text) (at : ℕ) where
   unfolding value
   value-open h n = rw (drop-here s at h) (go (eqb (getD s at 0) 34 || eqb (getD s at 0) 39) n)
     where
-      go : (c : Bool) → not c ≡ false → cond c (upTo (getD s at 0) (drop (at + 1) s)) (bad (getD s at 0 ∷ drop (at + 1) s)) ≡ upTo (getD s at 0) (drop (at + 1) s)
+      go : (c : Bool) → not c ≡ false →
+          cond c (upTo (getD s at 0) (drop (at + 1) s)) (bad (getD s at 0 ∷ drop (at + 1) s)) ≡ upTo (getD s at 0) (drop (at + 1) s)
       go true n = refl
       go false n = absurd (true≢false n)
 
@@ -175,7 +176,8 @@ module _ (s : Text) (at : ℕ) where
       value-got true q n =
           let y : expect (getD s at 0 ∷ []) (drop e s) ≡ got tt (drop 1 (drop e s)) = one-yes (getD s at 0) (drop e s) (sym q) .0 in
           let d : drop 1 (drop e s) ≡ drop (e + 1) s = drop-drop 1 e s in
-          let r : run (inValue (getD s at 0)) (drop (at + 1) s) ≡ take (e - (at + 1)) (drop (at + 1) s) = run-is (inValue (getD s at 0)) s (at + 1) e (omega arith) from inside in
+          let r : run (inValue (getD s at 0)) (drop (at + 1) s) ≡ take (e - (at + 1)) (drop (at + 1) s) =
+          run-is (inValue (getD s at 0)) s (at + 1) e (omega arith) from inside in
           sym (value-open h open-quote ∙ rw (sym from, y, d, r))
 
 -- ---- Comments.
@@ -200,7 +202,8 @@ module _ (s : Text) (i : ℕ) where
   comment-end h = let e : drop i s ≡ [] = drop-of-length-le s h in rw e
 
   module _ (h : i < length s) (x y : Bool) (p : x ≡ starts (45 ∷ []) (drop i s)) (q : y ≡ starts (45 ∷ []) (drop (i + 1) s)) where
-    here : comment (drop i s) ≡ cond (x && y) (closing (drop i s) (drop 1 (drop (i + 1) s))) (cond (control (getD s i 0)) (bad (drop i s)) (comment (drop (i + 1) s)))
+    here : comment (drop i s) ≡
+        cond (x && y) (closing (drop i s) (drop 1 (drop (i + 1) s))) (cond (control (getD s i 0)) (bad (drop i s)) (comment (drop (i + 1) s)))
     unfolding comment
     here = rw (sym (hyphens s i x y p q)) (rw (drop-here s i h))
 
@@ -235,7 +238,8 @@ unfolding text
 opening-le t e = starts-le (60 ∷ 33 ∷ 45 ∷ 45 ∷ []) t e
 
 -- the four bytes that open a comment
-pub opening-is : (s : Text) (i : ℕ) (a b c d : Bool) → a ≡ starts (60 ∷ []) (drop i s) → b ≡ starts (33 ∷ []) (drop (i + 1) s) → c ≡ starts (45 ∷ []) (drop (i + 2) s)
+pub opening-is : (s : Text) (i : ℕ) (a b c d : Bool) → a ≡ starts (60 ∷ []) (drop i s) → b ≡ starts (33 ∷ []) (drop (i + 1) s) →
+    c ≡ starts (45 ∷ []) (drop (i + 2) s)
     → d ≡ starts (45 ∷ []) (drop (i + 3) s) → a && b && c && d ≡ starts (text "<!--") (drop i s)
 unfolding text
 opening-is s i a b c d p q r t =
@@ -256,7 +260,8 @@ unfolding behind
 skip-skip [] = refl
 skip-skip (b ∷ t) = go (white b) refl (skip-skip t)
   where
-    go : (c : Bool) → white b ≡ c → behind white (behind white t) ≡ behind white t → behind white (cond c (behind white t) (b ∷ t)) ≡ cond c (behind white t) (b ∷ t)
+    go : (c : Bool) → white b ≡ c → behind white (behind white t) ≡ behind white t →
+        behind white (cond c (behind white t) (b ∷ t)) ≡ cond c (behind white t) (b ∷ t)
     go true e h = h
     go false e h = rw e
 
@@ -272,7 +277,8 @@ module _ (s : Text) (i : ℕ) (clear : behind white (drop i s) ≡ drop i s) whe
   misc-stop zero e = refl
   misc-stop (suc n) e = rw (clear, e)
 
-  pub misc-bad : (n : ℕ) (r : Text) → length (drop i s) ≤ n → starts (text "<!--") (drop i s) ≡ true → comment (drop (i + 4) s) ≡ bad r → misc n (drop i s) ≡ bad r
+  pub misc-bad : (n : ℕ) (r : Text) → length (drop i s) ≤ n → starts (text "<!--") (drop i s) ≡ true → comment (drop (i + 4) s) ≡ bad r →
+      misc n (drop i s) ≡ bad r
   unfolding misc
   misc-bad zero r h e q = let k = opening-le (drop i s) e in absurd (omega arith)
   misc-bad (suc n) r h e q = rw (clear, e, drop-drop 4 i s, q)

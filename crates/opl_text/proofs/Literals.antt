@@ -76,7 +76,8 @@ unfolding run behind
 run-length p [] = refl
 run-length p (b ∷ t) = go (p b) (run-length p t)
   where
-    go : (c : Bool) → length (run p t) + length (behind p t) ≡ length t → length (cond c (b ∷ run p t) []) + length (cond c (behind p t) (b ∷ t)) ≡ suc (length t)
+    go : (c : Bool) → length (run p t) + length (behind p t) ≡ length t →
+        length (cond c (b ∷ run p t) []) + length (cond c (behind p t) (b ∷ t)) ≡ suc (length t)
     go true h = omega arith
     go false h = omega arith
 
@@ -106,11 +107,13 @@ value-whole (b ∷ t) = go (eqb b 34 || eqb b 39)
     go true = up-to-whole b t
     go false = tt
 
-pub value-room : (s : Text) (at : ℕ) (r : Step) → Reads s (valueOf s (at + 1)) (value (drop at s)) r → (e : ℕ) → r ≡ Next e → at ≤ length s → (at + 1 ≤ e) × (e + 1 ≤ length s)
+pub value-room : (s : Text) (at : ℕ) (r : Step) → Reads s (valueOf s (at + 1)) (value (drop at s)) r → (e : ℕ) → r ≡ Next e → at ≤ length s →
+    (at + 1 ≤ e) × (e + 1 ≤ length s)
 unfolding whole
 value-room s at r q e v h =
     let u : value (drop at s) ≡ got (take (e - (at + 1)) (drop (at + 1) s)) (drop (e + 1) s) = sym (q .read-is) ∙ rw v in
-    let w : whole (length (drop at s)) (got (take (e - (at + 1)) (drop (at + 1) s)) (drop (e + 1) s)) = subst (λ (x : Read Text). whole (length (drop at s)) x) u (value-whole (drop at s)) in
+    let w : whole (length (drop at s)) (got (take (e - (at + 1)) (drop (at + 1) s)) (drop (e + 1) s)) =
+    subst (λ (x : Read Text). whole (length (drop at s)) x) u (value-whole (drop at s)) in
     let a = length-drop at s in
     let b = length-drop (at + 1) s in
     let c = length-drop (e + 1) s in

@@ -196,7 +196,8 @@ module _ (s : Text) (from : ℕ) (w : List ℕ) where
         joined = λ a b. let j = h .joined a b in record { order = omega (arith, j .order, p .past); walk = j .walk ∙ p .walk };
       }
 
-  pub listing-entered : length w ≡ scratchWords → (at end id : ℕ) → Opened s at end id → id < 128 → Listing s from (listOf w) at → Listing s from (listOf (entered (length s) w end id)) end
+  pub listing-entered : length w ≡ scratchWords → (at end id : ℕ) → Opened s at end id → id < 128 → Listing s from (listOf w) at →
+      Listing s from (listOf (entered (length s) w end id)) end
   unfolding entered
   listing-entered room at end id o low h =
       on-test (leb listRoom (getD w listPlace 0))
@@ -208,9 +209,11 @@ module _ (s : Text) (from : ℕ) (w : List ℕ) where
       still : (length s < longest → countIn (listOf w) < listRoom → ⊥) → Listing s from (listOf w) end
       still f = record { room = h .room; chain = h .chain; joined = λ a b. absurd (f a b) }
 
-      added : length s < longest → countIn (listOf w) < listRoom → Listing s from (listOf (set (set w (listPlace + 1 + getD w listPlace 0) (end * 128 + id)) listPlace (getD w listPlace 0 + 1))) end
+      added : length s < longest → countIn (listOf w) < listRoom →
+          Listing s from (listOf (set (set w (listPlace + 1 + getD w listPlace 0) (end * 128 + id)) listPlace (getD w listPlace 0 + 1))) end
       added a b =
-          let e : listOf (set (set w (listPlace + 1 + getD w listPlace 0) (end * 128 + id)) listPlace (getD w listPlace 0 + 1)) ≡ set (set (listOf w) (1 + countIn (listOf w)) (end * 128 + id)) 0 (countIn (listOf w) + 1) =
+          let e : listOf (set (set w (listPlace + 1 + getD w listPlace 0) (end * 128 + id)) listPlace (getD w listPlace 0 + 1)) ≡
+          set (set (listOf w) (1 + countIn (listOf w)) (end * 128 + id)) 0 (countIn (listOf w) + 1) =
           let z : listPlace + 1 + getD w listPlace 0 ≡ listPlace + (1 + getD w listPlace 0) = omega arith in
           list-set (set w (listPlace + 1 + getD w listPlace 0) (end * 128 + id)) 0 (getD w listPlace 0 + 1)
           ∙ ap (λ (i : ℕ). set (listOf (set w i (end * 128 + id))) 0 (getD w listPlace 0 + 1)) z

@@ -68,7 +68,8 @@ kinds-guessed : every (λ x. guessed (x .0)) kinds ≡ true
 unfolding listsOpen readingOpen elementsOpen kinds names nameOf guesses guessOf numberAt wordAt packed
 kinds-guessed = refl
 
-others-guessed : (guessed (text "critical_role_set") ≡ true) × (guessed (text "static_separation_of_duty") ≡ true) × (guessed (text "dynamic_separation_of_duty") ≡ true) × (guessed (text "hdsodtp_partitioning") ≡ true) × (guessed (text "hdsodtp_partition") ≡ true)
+others-guessed : (guessed (text "critical_role_set") ≡ true) × (guessed (text "static_separation_of_duty") ≡ true) ×
+    (guessed (text "dynamic_separation_of_duty") ≡ true) × (guessed (text "hdsodtp_partitioning") ≡ true) × (guessed (text "hdsodtp_partition") ≡ true)
 unfolding listsOpen readingOpen elementsOpen names nameOf guesses guessOf numberAt wordAt packed
 others-guessed = (refl, refl, refl, refl, refl)
 
@@ -172,7 +173,8 @@ every-at p (d ∷ es) e h a =
 
 guess-sought : (w : Text) → every (λ e. named (guessOf w) (nameOf e) e) sought ≡ true
 unfolding guessOf
-guess-sought w = below-at (λ h. every (λ e. named (numberAt guesses h) (nameOf e) e) sought) 64 _ guesses-sought (mod-lt (length w + 17 * getD w (length w - 1) 0))
+guess-sought w =
+    below-at (λ h. every (λ e. named (numberAt guesses h) (nameOf e) e) sought) 64 _ guesses-sought (mod-lt (length w + 17 * getD w (length w - 1) 0))
 
 unguessed-other : (e : ℕ) → some (eqb e) sought ≡ true → eqb 65 e ≡ false
 unfolding some sought

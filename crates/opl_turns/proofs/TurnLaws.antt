@@ -7,12 +7,12 @@ use native.Mathlib.Omega.{arith}
 use lib.Dec.{eqb}
 use borrow.Author.Tests.{eqb-false}
 use Rattle.paper_lower.specs.Lists.{upd, many, keep, Every}
-use Rattle.paper_lower.specs.Records.{Bytes}
+use Rattle.paper_lower.specs.Records.{Bytes, putAt}
 use Rattle.paper_opl.specs.Reading.{Text}
 use Rattle.paper_opl.specs.Tree.{Tag as Tagged}
 use Rattle.paper_opl.specs.Naming.{Names}
 use Rattle.paper_opl.specs.Walk.{called, Context, turn, kindAt, leading, Saying, sayings, recordSaid}
-use Rattle.paper_opl.specs.Filling.{putAt, valued, fill, tally}
+use Rattle.paper_opl.specs.Filling.{valued, fill, tally}
 use Rattle.paper_opl.proofs.Inversion.{on-test}
 use Rattle.opl_tags.specs.Tags.{givenAt, walkAt}
 use Rattle.opl_turns.specs.Meaning.{kindBy, setsBy, partsBy, numberBy}
@@ -51,7 +51,8 @@ module _ (c : Context) (t : Tagged) (ts : List Tagged) (k : ℕ) (kind : kindAt 
     unfolding tally
     loud-tallies f = rw (kind, q, turned)
 
-    loud-fills : (ns : Names) (f : ℕ → ℕ) (out : Bytes) → fill ns c f (t ∷ ts) out ≡ fill ns n (upd f k (suc (f k))) ts (putAt out (f k) (valued (recordSaid ns said)))
+    loud-fills : (ns : Names) (f : ℕ → ℕ) (out : Bytes) →
+        fill ns c f (t ∷ ts) out ≡ fill ns n (upd f k (suc (f k))) ts (putAt out (f k) (valued (recordSaid ns said)))
     unfolding fill
     loud-fills ns f out = rw (kind, q, turned, numbered)
 
@@ -130,7 +131,9 @@ module _ (s : Text) (l : List ℕ) (c : Cursor) (stood : Stood s c) (r : Met) (m
             steps = steps;
             says = ap (sayings (contextOf c)) (o .walk) ∙ quiet-says (contextOf c) here (walkAt s end) _ k (contextOf n) turned q;
             tallies = λ f. ap (tally (contextOf c) f) (o .walk) ∙ quiet-tallies (contextOf c) here (walkAt s end) _ k (contextOf n) turned q f;
-            fills = λ ns f out. ap (λ (ts : List Tagged). fill ns (contextOf c) f ts out) (o .walk) ∙ quiet-fills (contextOf c) here (walkAt s end) _ k (contextOf n) turned q ns f out;
+            fills =
+                λ ns f out. ap (λ (ts : List Tagged). fill ns (contextOf c) f ts out) (o .walk) ∙
+                quiet-fills (contextOf c) here (walkAt s end) _ k (contextOf n) turned q ns f out;
           },
           begun-is .1,
         )
@@ -144,7 +147,9 @@ module _ (s : Text) (l : List ℕ) (c : Cursor) (stood : Stood s c) (r : Met) (m
                 small = rw (o .element) at (kind-small (c .sets) (o .name) (stood .low));
                 says = ap (sayings (contextOf c)) (o .walk) ∙ loud-says (contextOf c) here (walkAt s end) _ k (contextOf n) turned q _ m;
                 tallies = λ f. ap (tally (contextOf c) f) (o .walk) ∙ loud-tallies (contextOf c) here (walkAt s end) _ k (contextOf n) turned q _ m f;
-                fills = λ ns f out. ap (λ (ts : List Tagged). fill ns (contextOf c) f ts out) (o .walk) ∙ loud-fills (contextOf c) here (walkAt s end) _ k (contextOf n) turned q _ m ns f out;
+                fills =
+                    λ ns f out. ap (λ (ts : List Tagged). fill ns (contextOf c) f ts out) (o .walk) ∙
+                    loud-fills (contextOf c) here (walkAt s end) _ k (contextOf n) turned q _ m ns f out;
               },
               begun-is .1,
             )

@@ -6,12 +6,12 @@ use mathlib.Core.List.{List, [], _∷_}
 use lib.Dec.{eqb}
 use lib.ListN.{length}
 use Rattle.paper_lower.specs.Lists.{upd, many, keep, Every}
-use Rattle.paper_lower.specs.Records.{Bytes}
+use Rattle.paper_lower.specs.Records.{Bytes, putAt}
 use Rattle.paper_opl.specs.Reading.{Text, text}
 use Rattle.paper_opl.specs.Tree.{Tag, decimal}
 use Rattle.paper_opl.specs.Naming.{Names, valueOf}
 use Rattle.paper_opl.specs.Walk.{called, Context, leading, Saying, sayings, recordSaid}
-use Rattle.paper_opl.specs.Filling.{putAt, valued, fill, tally}
+use Rattle.paper_opl.specs.Filling.{valued, fill, tally}
 use Rattle.opl_tags.specs.Tags.{givenAt, walkAt}
 use Rattle.opl_turns.specs.Meaning.{kindBy, setsBy, partsBy, numberBy}
 use Rattle.opl_turns.specs.Listing.{Leads}

@@ -12,7 +12,8 @@ use Rattle.paper_lower.specs.Kinds.{Kind, chosen, replyTo}
 use Rattle.paper_lower.proofs.CheckLaws.{Numbered, Passed, passed}
 
 -- what holds of every kind of the list, and of a kind that is not in it, holds of the one with a number
-pub of-chosen : {T : Type 0} (P : ℕ → Kind T → Type 0) (ks : List (Kind T)) → Every (λ k. P (k .kind) k) ks → ((n : ℕ) → P n (chosen [] n)) → (n : ℕ) → P n (chosen ks n)
+pub of-chosen : {T : Type 0} (P : ℕ → Kind T → Type 0) (ks : List (Kind T)) → Every (λ k. P (k .kind) k) ks → ((n : ℕ) → P n (chosen [] n)) → (n : ℕ) →
+    P n (chosen ks n)
 unfolding chosen
 of-chosen P [] h d n = d n
 of-chosen P (k ∷ ks) h d n = go (eqb (k .kind) n) refl (of-chosen P ks (h .1) d n)

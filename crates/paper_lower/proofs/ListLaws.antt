@@ -173,7 +173,8 @@ unfolding placeFrom
 none-from k p [] h = tt
 none-from k p (y ∷ ys) h = go (p y) refl h (none-from (suc k) p ys)
   where
-    go : (b : Bool) → p y ≡ b → cond b (suc k) (placeFrom (suc (suc k)) p ys) ≡ 0 → (placeFrom (suc (suc k)) p ys ≡ 0 → Every (λ x. p x ≡ false) ys) → (p y ≡ false) × Every (λ x. p x ≡ false) ys
+    go : (b : Bool) → p y ≡ b → cond b (suc k) (placeFrom (suc (suc k)) p ys) ≡ 0 → (placeFrom (suc (suc k)) p ys ≡ 0 → Every (λ x. p x ≡ false) ys) →
+        (p y ≡ false) × Every (λ x. p x ≡ false) ys
     go true e q rest = let z : ⊥ = omega arith in absurd z
     go false e q rest = (e, rest q)
 
@@ -197,7 +198,8 @@ unfolding firstOf
 first-none k zero f h j l = absurd (not-suc-le-zero l)
 first-none k (suc n) f h j l = go (eqb (f k) 0) refl h (first-none (suc k) n f) j l
   where
-    go : (b : Bool) → eqb (f k) 0 ≡ b → cond b (firstOf (suc k) n f) (f k) ≡ 0 → (firstOf (suc k) n f ≡ 0 → (j : ℕ) → j < n → f (suc k + j) ≡ 0) → (j : ℕ) → j < suc n → f (k + j) ≡ 0
+    go : (b : Bool) → eqb (f k) 0 ≡ b → cond b (firstOf (suc k) n f) (f k) ≡ 0 → (firstOf (suc k) n f ≡ 0 → (j : ℕ) → j < n → f (suc k + j) ≡ 0) → (j : ℕ) →
+        j < suc n → f (k + j) ≡ 0
     go true e h rest zero l = rw (add-zero k) (eqb-true _ _ e)
     go true e h rest (suc j) l = let q : k + suc j ≡ suc k + j = omega arith in rw q (rest h j (le-of-suc-le-suc l))
     go false e h rest j l = absurd (eqb-false _ _ e h)

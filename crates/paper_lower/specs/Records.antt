@@ -1,7 +1,7 @@
 -- Records of sixteen bytes.
 use Prim.Native.Nat.{ℕ, zero, suc, _+_, _*_, _/_, _%_}
 use mathlib.Core.List.{List, [], _∷_, _++_}
-use lib.ListN.{getD}
+use lib.ListN.{getD, take, drop}
 
 abbrev pub Bytes : Type 0
 Bytes = List ℕ
@@ -30,6 +30,10 @@ bytes (suc k) x = x % 256 ∷ bytes k (x / 256)
 
 unfoldable pub encode : Record → Bytes
 encode r = r .kind ∷ r .n ∷ bytes 2 (r .a) ++ bytes 2 (r .b) ++ bytes 2 (r .c) ++ bytes 8 (r .m)
+
+-- the record at place p of an output replaced by r, sixteen bytes a place
+unfoldable pub putAt : Bytes → ℕ → Record → Bytes
+putAt out p r = take (16 * p) out ++ (encode r ++ drop (16 * p + 16) out)
 
 -- What this page defines, opened together where a case is computed.
 unfoldable pub recordsOpen : Unit {0}

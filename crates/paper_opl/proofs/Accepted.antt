@@ -30,16 +30,19 @@ unfolding document
 document-end s es r e =
     on (prolog s) (λ _ u p. on (opening root u) (λ c z o. on (element elements DEPTH (c .name) z) (λ i y h. on (misc (length y) y) (λ _ x m. on-test (same x [])
     (λ f. sym (got-rest (rw (p, o, h, m, f) at e)) ∙ same-end x f)
-    (λ f. absurd (bad≢got (rw (p, o, h, m, f) at e)))) (λ x m. absurd (bad≢got (rw (p, o, h, m) at e)))) (λ y h. absurd (bad≢got (rw (p, o, h) at e)))) (λ z o. absurd (bad≢got (rw (p, o) at e)))) (λ u p. absurd (bad≢got (rw p at e)))
+    (λ f. absurd (bad≢got (rw (p, o, h, m, f) at e)))) (λ x m. absurd (bad≢got (rw (p, o, h, m) at e)))) (λ y h. absurd (bad≢got (rw (p, o, h) at e))))
+    (λ z o. absurd (bad≢got (rw (p, o) at e)))) (λ u p. absurd (bad≢got (rw p at e)))
 
 pub lines-end : (n : ℕ) (s : Text) (ls : List Line) (r : Text) → lines n s ≡ got ls r → r ≡ []
 unfolding lines
 lines-end zero s ls r e = on-test (same s []) (λ q. sym (got-rest (rw q at e)) ∙ same-end s q) (λ q. absurd (bad≢got (rw q at e)))
 lines-end (suc n) s ls r e =
     on-test (same s []) (λ q. sym (got-rest (rw q at e)) ∙ same-end s q)
-    (λ q. on (word inLine s) (λ v u a. on (expect (32 ∷ []) u) (λ _ z b. on (word inLine z) (λ w y c. on (cond (same y []) (got tt y) (expect (10 ∷ []) y)) (λ _ x d. on (lines n x)
+    (λ q. on (word inLine s) (λ v u a. on (expect (32 ∷ []) u) (λ _ z b. on (word inLine z) (λ w y c. on (cond (same y []) (got tt y) (expect (10 ∷ []) y)) (λ _
+    x d. on (lines n x)
     (λ ms i f. sym (got-rest (rw (q, a, b, c, d, f) at e)) ∙ lines-end n x ms i f)
-    (λ i f. absurd (bad≢got (rw (q, a, b, c, d, f) at e)))) (λ x d. absurd (bad≢got (rw (q, a, b, c, d) at e)))) (λ y c. absurd (bad≢got (rw (q, a, b, c) at e))))
+    (λ i f. absurd (bad≢got (rw (q, a, b, c, d, f) at e)))) (λ x d. absurd (bad≢got (rw (q, a, b, c, d) at e))))
+    (λ y c. absurd (bad≢got (rw (q, a, b, c) at e))))
     (λ z b. absurd (bad≢got (rw (q, a, b) at e)))) (λ u a. absurd (bad≢got (rw (q, a) at e))))
 
 -- ---- Records.
@@ -82,7 +85,8 @@ accepted s t out e =
       sixteen-each = written-length rs (w .0);
       answer-is = rw (d, l, q, f);
     })
-    (λ f. absurd (one≢zero (rw (d, l, q, f) at e)))) (λ q. absurd (names≢zero (rw (d, l, q) at e)))) (λ u l. absurd (text≢zero (rw (d, l) at e)))) (λ r d. absurd (text≢zero (rw d at e)))
+    (λ f. absurd (one≢zero (rw (d, l, q, f) at e)))) (λ q. absurd (names≢zero (rw (d, l, q) at e)))) (λ u l. absurd (text≢zero (rw (d, l) at e))))
+    (λ r d. absurd (text≢zero (rw d at e)))
   where
     one≢zero : _≡_ {A = ℕ} 1 0 → ⊥
     one≢zero q = omega arith
@@ -98,4 +102,5 @@ pub refusal-writes-nothing : (s t : Text) (out : Bytes) → (translate s t out .
 unfolding translate
 refusal-writes-nothing s t out n =
     on (document s) (λ es r d. on (lines (length t) t) (λ ls u l. on-found (recordsOf es ls)
-    (λ rs q. on-test (leb (length (written rs)) (length out)) (λ f. absurd (n (rw (d, l, q, f)))) (λ f. rw (d, l, q, f))) (λ q. rw (d, l, q))) (λ u l. rw (d, l))) (λ r d. rw d)
+    (λ rs q. on-test (leb (length (written rs)) (length out)) (λ f. absurd (n (rw (d, l, q, f)))) (λ f. rw (d, l, q, f))) (λ q. rw (d, l, q)))
+    (λ u l. rw (d, l))) (λ r d. rw d)

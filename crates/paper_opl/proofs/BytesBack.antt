@@ -88,7 +88,8 @@ comment-back (b ∷ body) rest h =
     (λ e. rw (e, no-hyphen body (text "-->" ++ rest) (rw e at r), c) (comment-back body rest (p .1)))
     (λ e. rw (e, c) (comment-back body rest (p .1)))
 
-pub gap-back : (n : ℕ) (g : Gap) (rest : Text) → gapFits g ≡ true → stops white rest ≡ true → starts (text "<!--") rest ≡ false → length (gap g rest) ≤ n → misc n (gap g rest) ≡ got tt rest
+pub gap-back : (n : ℕ) (g : Gap) (rest : Text) → gapFits g ≡ true → stops white rest ≡ true → starts (text "<!--") rest ≡ false → length (gap g rest) ≤ n →
+    misc n (gap g rest) ≡ got tt rest
 unfolding misc gap gapFits starts text
 gap-back n (only-space s) rest h k c l = misc-enough n (suc n) (s ++ rest) l (omega arith) ∙ rw (behind-all white s rest h k, c)
 gap-back n (with-comment s body g) rest h k c l =

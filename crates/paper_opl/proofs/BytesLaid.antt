@@ -67,7 +67,8 @@ skip-laid s = (run-has white s, split white s)
 
 pub space-laid : (s r : Text) → space s ≡ got tt r → (w : Text) × (someBlank w ≡ true) × (s ≡ w ++ r)
 space-laid s r e =
-    on (word white s) (λ w u q. let k = word-laid white s w u q in (w, rw (k .has, k .some), k .text-is ∙ ap (λ (x : Text). w ++ x) (got-rest (rw q at e)))) (λ u q. absurd (bad≢got (rw q at e)))
+    on (word white s) (λ w u q. let k = word-laid white s w u q in (w, rw (k .has, k .some), k .text-is ∙ ap (λ (x : Text). w ++ x) (got-rest (rw q at e))))
+    (λ u q. absurd (bad≢got (rw q at e)))
 
 -- ---- Values.
 
@@ -80,7 +81,8 @@ value-laid (b ∷ s) v r e =
     (λ _ u x.
     let k = rw (q, x) at e in
     let y = expect-laid (b ∷ []) (behind (inValue b) s) u x in
-    rw (sym (got-value k), sym (got-rest k)) (b, rw (q, run-has (inValue b) s), ap (λ (z : Text). b ∷ z) (split (inValue b) s ∙ ap (λ (z : Text). run (inValue b) s ++ z) y)))
+    rw (sym (got-value k), sym (got-rest k))
+    (b, rw (q, run-has (inValue b) s), ap (λ (z : Text). b ∷ z) (split (inValue b) s ∙ ap (λ (z : Text). run (inValue b) s ++ z) y)))
     (λ u x. absurd (bad≢got (rw (q, x) at e))))
     (λ q. absurd (bad≢got (rw q at e)))
 
@@ -156,7 +158,9 @@ gap-laid (suc n) s r e =
     let y = gap-laid n u r (rw (q, c) at e) in (
       with-comment (run white s) (x .0) (y .0),
       rw (w .0, x .1, y .1),
-      w .1 ∙ ap (λ (z : Text). run white s ++ z) (opens (skip s) q ∙ ap (λ (z : Text). text "<!--" ++ z) (x .2 ∙ ap (λ (z : Text). x .0 ++ (text "-->" ++ z)) (y .2))),
+      w .1 ∙
+          ap (λ (z : Text). run white s ++ z)
+          (opens (skip s) q ∙ ap (λ (z : Text). text "<!--" ++ z) (x .2 ∙ ap (λ (z : Text). x .0 ++ (text "-->" ++ z)) (y .2))),
     ))
     (λ u c. absurd (bad≢got (rw (q, c) at e))))
     (λ q. (only-space (run white s), w .0, w .1 ∙ ap (λ (z : Text). run white s ++ z) (got-rest (rw q at e))))

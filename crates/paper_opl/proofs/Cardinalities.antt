@@ -44,7 +44,8 @@ fits-small number v n e = leb-true _ _ (both (not (same v []) && every digit v) 
 fits-small any v n e = absurd (false≢true n)
 fits-small spare v n e = absurd (false≢true n)
 
-pub found-passes : (q : Attribute → Bool) (left : List Attribute) (w : Text) (a : Attribute) → every q left ≡ true → find left w ≡ just a → (q a ≡ true) × (a .name ≡ w)
+pub found-passes : (q : Attribute → Bool) (left : List Attribute) (w : Text) (a : Attribute) → every q left ≡ true → find left w ≡ just a →
+    (q a ≡ true) × (a .name ≡ w)
 unfolding find every
 found-passes q [] w a h e = absurd (none≢just e)
 found-passes q (b ∷ left) w a h e =
@@ -67,8 +68,10 @@ attributes-small left (g ∷ gs) h f =
     on-found (find left (g .name))
     (λ a o.
     let k = found-passes numberTest left (g .name) a h o in
-    let m = both (fits (a .class) (g .value)) (attributesFit (without (g .name) left) gs) (rw o at f) in
-    (λ n. fits-small (a .class) (g .value) (rw n at (rw (k .1) at (k .0))) (m .0), attributes-small (without (g .name) left) gs (kept-passes numberTest (λ a. not (same (a .name) (g .name))) left h) (m .1)))
+    let m = both (fits (a .class) (g .value)) (attributesFit (without (g .name) left) gs) (rw o at f) in (
+      λ n. fits-small (a .class) (g .value) (rw n at (rw (k .1) at (k .0))) (m .0),
+      attributes-small (without (g .name) left) gs (kept-passes numberTest (λ a. not (same (a .name) (g .name))) left h) (m .1),
+    ))
     (λ o. absurd (false≢true (rw o at f)))
 
 -- ---- Elements.

@@ -93,7 +93,8 @@ root = one "policy_object" ∷ []
 -- ---- One test for all rows.
 
 -- a test that an element without a row passes
-pub row-has : (q : Element → Bool) (es : List Element) (w : Text) → ((v : Text) → q (record { name = v; attributes = []; children = [] }) ≡ true) → every q es ≡ true → q (rowIn es w) ≡ true
+pub row-has : (q : Element → Bool) (es : List Element) (w : Text) → ((v : Text) → q (record { name = v; attributes = []; children = [] }) ≡ true) →
+    every q es ≡ true → q (rowIn es w) ≡ true
 unfolding rowIn every
 row-has q [] w d h = d w
 row-has q (e ∷ es) w d h =

@@ -47,7 +47,8 @@ pub child-lower : (w v : Text) → among (rowIn elements w .children) v ≡ true
 unfolding every
 child-lower w v h =
     let t = row-has (λ e. forNames (λ v. ltb (rank v) (rank (e .name))) (e .children)) elements w (λ v. refl) lower in
-    let k = ltb-true (rank v) (rank (rowIn elements w .name)) (child-has (λ u. ltb (rank u) (rank (rowIn elements w .name))) (rowIn elements w .children) v t h) in
+    let k =
+    ltb-true (rank v) (rank (rowIn elements w .name)) (child-has (λ u. ltb (rank u) (rank (rowIn elements w .name))) (rowIn elements w .children) v t h) in
     rw (row-name elements w) at k
 
 -- two limits that both let the children stand
@@ -58,7 +59,8 @@ Deep n m cs = (v : Text) → among cs v ≡ true → (rank v ≤ n) × (rank v �
 abbrev Alike : ℕ → ℕ → Type 0
 Alike n m = (w s : Text) → rank w ≤ n → rank w ≤ m → element elements n w s ≡ element elements m w s
 
-content-alike : (n m : ℕ) → Alike n m → (k : ℕ) (w : Text) (left : List Child) (s : Text) → Deep n m left → content (element elements n) k w left s ≡ content (element elements m) k w left s
+content-alike : (n m : ℕ) → Alike n m → (k : ℕ) (w : Text) (left : List Child) (s : Text) → Deep n m left →
+    content (element elements n) k w left s ≡ content (element elements m) k w left s
 unfolding content
 content-alike n m alike zero w left s d = refl
 content-alike n m alike (suc k) w left s d =
@@ -76,7 +78,12 @@ element-alike zero m w s a b = absurd (omega arith)
 element-alike (suc n) zero w s a b = absurd (omega arith)
 element-alike (suc n) (suc m) w s a b =
     on (attributes (length s) (rowIn elements w .attributes) s) (λ gs r p. on-test (starts (text ">") r)
-    (λ c. rw (p, c, content-alike n m (element-alike n m) (length r) (rowIn elements w .name) (rowIn elements w .children) (drop 1 r) (λ v g. let l = child-lower w v g in (omega arith, omega arith))))
+    (λ c. rw (
+      p,
+      c,
+      content-alike n m (element-alike n m) (length r) (rowIn elements w .name) (rowIn elements w .children) (drop 1 r)
+          (λ v g. let l = child-lower w v g in (omega arith, omega arith)),
+    ))
     (λ c. rw (p, c))) (λ r p. rw p)
 
 -- "down to depth 8": no text is refused, or read otherwise, for that limit

@@ -64,7 +64,8 @@ pseudo-back w x v rest h e =
 
 -- the end of a declaration, with an encoding or without
 encoding-back : (m : Maybe (Text × Value)) (s rest : Text) → encodingFits m ≡ true → blank s ≡ true
-    → cond (starts (text "e") (skip (encodingText m (s ++ (text "?>" ++ rest)))) && not (same (encodingText m (s ++ (text "?>" ++ rest))) (skip (encodingText m (s ++ (text "?>" ++ rest))))))
+    → cond (starts (text "e") (skip (encodingText m (s ++ (text "?>" ++ rest)))) && not
+    (same (encodingText m (s ++ (text "?>" ++ rest))) (skip (encodingText m (s ++ (text "?>" ++ rest))))))
     (after (pseudo (text "encoding") (text "UTF-8") (skip (encodingText m (s ++ (text "?>" ++ rest))))) (λ _ z. expect (text "?>") (skip z)))
     (expect (text "?>") (skip (encodingText m (s ++ (text "?>" ++ rest)))))
     ≡ got tt rest
@@ -113,7 +114,9 @@ declaration-back d rest h =
 -- ---- The DOCTYPE.
 
 doctype-back : (d : Doctype) (rest : Text) → doctypeFits (just d) ≡ true
-    → doctype (d .first ++ (text "policy_object" ++ (d .second ++ (text "SYSTEM" ++ (d .third ++ quoted (d .quote) (d .value) (d .last ++ (text ">" ++ rest))))))) ≡ got tt rest
+    → doctype
+    (d .first ++ (text "policy_object" ++ (d .second ++ (text "SYSTEM" ++ (d .third ++ quoted (d .quote) (d .value) (d .last ++ (text ">" ++ rest))))))) ≡
+    got tt rest
 unfolding doctype
 doctype-back d rest h =
     let a = both (gapFits (d .gap)) _ h in
@@ -123,11 +126,14 @@ doctype-back d rest h =
     let f = both (quoteFits (d .quote) (d .value)) (blank (d .last)) (e .1) in
     let q = both (eqb (d .quote) 34 || eqb (d .quote) 39) _ (f .0) in
     rw (
-      space-back (d .first) (text "policy_object" ++ (d .second ++ (text "SYSTEM" ++ (d .third ++ quoted (d .quote) (d .value) (d .last ++ (text ">" ++ rest)))))) (b .0) (object-clear _),
+      space-back (d .first)
+          (text "policy_object" ++ (d .second ++ (text "SYSTEM" ++ (d .third ++ quoted (d .quote) (d .value) (d .last ++ (text ">" ++ rest)))))) (b .0)
+          (object-clear _),
       expect-back (text "policy_object") (d .second ++ (text "SYSTEM" ++ (d .third ++ quoted (d .quote) (d .value) (d .last ++ (text ">" ++ rest))))),
       space-back (d .second) (text "SYSTEM" ++ (d .third ++ quoted (d .quote) (d .value) (d .last ++ (text ">" ++ rest)))) (c .0) (system-clear _),
       expect-back (text "SYSTEM") (d .third ++ quoted (d .quote) (d .value) (d .last ++ (text ">" ++ rest))),
-      space-back (d .third) (quoted (d .quote) (d .value) (d .last ++ (text ">" ++ rest))) (e .0) (quote-clear (d .quote) (d .value ++ (d .quote ∷ (d .last ++ (text ">" ++ rest)))) (q .0)),
+      space-back (d .third) (quoted (d .quote) (d .value) (d .last ++ (text ">" ++ rest))) (e .0)
+          (quote-clear (d .quote) (d .value ++ (d .quote ∷ (d .last ++ (text ">" ++ rest)))) (q .0)),
       value-back (d .quote) (d .value) (d .last ++ (text ">" ++ rest)) (f .0),
       behind-all white (d .last) (text ">" ++ rest) (f .1) (angle-clear rest),
       expect-back (text ">") rest,
@@ -144,7 +150,8 @@ unfolding gap gapFits starts text every
 no-declaration (only-space []) rest h n = starts-more 63 (120 ∷ 109 ∷ 108 ∷ []) rest n
 no-declaration (only-space (b ∷ s)) rest h n = rw (white-no-angle b (both (white b) (every white s) h .0))
 no-declaration (with-comment [] body g) rest h n = refl
-no-declaration (with-comment (b ∷ s) body g) rest h n = rw (white-no-angle b (both (white b) (every white s) (both (blank (b ∷ s)) (calm body) (both (blank (b ∷ s) && calm body) (gapFits g) h .0) .0) .0))
+no-declaration (with-comment (b ∷ s) body g) rest h n =
+    rw (white-no-angle b (both (white b) (every white s) (both (blank (b ∷ s)) (calm body) (both (blank (b ∷ s) && calm body) (gapFits g) h .0) .0) .0))
 
 -- a start tag, behind white space and comments
 module _ (g : Gap) (rest : Text) (fit : gapFits g ≡ true) (no-mark : starts (33 ∷ []) rest ≡ false) (no-question : starts (63 ∷ []) rest ≡ false) where
@@ -160,7 +167,10 @@ module _ (g : Gap) (rest : Text) (fit : gapFits g ≡ true) (no-mark : starts (3
   doctype-read (just d) h =
       rw (
         gap-back (length (doctypeText (just d) (gap g (text "<" ++ rest)))) (d .gap)
-            (text "<!DOCTYPE" ++ (d .first ++ (text "policy_object" ++ (d .second ++ (text "SYSTEM" ++ (d .third ++ quoted (d .quote) (d .value) (d .last ++ (text ">" ++ gap g (text "<" ++ rest)))))))))
+            (text "<!DOCTYPE" ++
+            (d .first ++
+            (text "policy_object" ++
+            (d .second ++ (text "SYSTEM" ++ (d .third ++ quoted (d .quote) (d .value) (d .last ++ (text ">" ++ gap g (text "<" ++ rest)))))))))
             (both (gapFits (d .gap)) _ h .0) refl refl (omega arith),
         doctype-back d (gap g (text "<" ++ rest)) h,
         root-gap (length (gap g (text "<" ++ rest))) (omega arith),
@@ -171,12 +181,15 @@ module _ (g : Gap) (rest : Text) (fit : gapFits g ≡ true) (no-mark : starts (3
   undeclared none h = no-declaration g rest fit no-question
   undeclared (just d) h = no-declaration (d .gap) _ (both (gapFits (d .gap)) _ h .0) refl
 
-  prolog-back : (x : Maybe Declaration) (m : Maybe Doctype) → declarationFits x ≡ true → doctypeFits m ≡ true → prolog (declarationText x (doctypeText m (gap g (text "<" ++ rest)))) ≡ got tt (text "<" ++ rest)
+  prolog-back : (x : Maybe Declaration) (m : Maybe Doctype) → declarationFits x ≡ true → doctypeFits m ≡ true →
+      prolog (declarationText x (doctypeText m (gap g (text "<" ++ rest)))) ≡ got tt (text "<" ++ rest)
   unfolding prolog declarationText starts text
   prolog-back none m a h = rw (undeclared m h) (doctype-read m h)
   prolog-back (just d) m a h =
       rw (
-        skipped (d .before) (text "version" ++ valueText (d .version) (encodingText (d .encoding) (d .last ++ (text "?>" ++ doctypeText m (gap g (text "<" ++ rest)))))) (both (someBlank (d .before)) _ a .0) refl,
+        skipped (d .before)
+            (text "version" ++ valueText (d .version) (encodingText (d .encoding) (d .last ++ (text "?>" ++ doctypeText m (gap g (text "<" ++ rest))))))
+            (both (someBlank (d .before)) _ a .0) refl,
         declaration-back d (doctypeText m (gap g (text "<" ++ rest))) a,
       ) (doctype-read m h)
 
@@ -199,13 +212,20 @@ root-deep v h = let l = ltb-true (rank v) 9 (child-has (λ u. ltb (rank u) 9) ro
 
 -- the element, and white space and comments behind it
 module _ (x : Document) (fit : documentFits x ≡ true) where
-  whole : (g : Gap) (v u : Text) (cs : List Child) (e : Inside) (h : Gap) → layoutText (x .root) [] ≡ gap g (text "<" ++ (v ++ u)) → gapFits g ≡ true → gapFits h ≡ true → aName v ≡ true → stops inName u ≡ true
+  whole : (g : Gap) (v u : Text) (cs : List Child) (e : Inside) (h : Gap) → layoutText (x .root) [] ≡ gap g (text "<" ++ (v ++ u)) → gapFits g ≡ true →
+      gapFits h ≡ true → aName v ≡ true → stops inName u ≡ true
       → next root v ≡ just cs → element elements DEPTH v u ≡ got e (gap h []) → document (documentText x) ≡ got (node v (e .given) (e .elements) nothing) []
   unfolding document documentText starts text same
   whole g v u cs e h p f i a k n r =
       let m = both (declarationFits (x .declaration)) _ fit in
       let o = both (doctypeFits (x .doctype)) (layoutFits (x .root)) (m .1) in
-      rw (p, prolog-back g (v ++ u) f (not-first 33 v u refl a) (not-first 63 v u refl a) (x .declaration) (x .doctype) (m .0) (o .0), opening-back root cs v u a k n, r, gap-back (length (gap h [])) h [] i refl refl (omega arith))
+      rw (
+        p,
+        prolog-back g (v ++ u) f (not-first 33 v u refl a) (not-first 63 v u refl a) (x .declaration) (x .doctype) (m .0) (o .0),
+        opening-back root cs v u a k n,
+        r,
+        gap-back (length (gap h [])) h [] i refl refl (omega arith),
+      )
 
 last-only : (y : Layout) → elementsFit [] (treeOf y) ≡ true → layoutFits y ≡ true → (h : Gap) × (y ≡ last h) × (gapFits h ≡ true)
 unfolding elementsFit treeOf layoutFits next
@@ -223,7 +243,8 @@ read-back x fit h = go (x .root) refl h (both (doctypeFits (x .doctype)) (layout
     go (short g v xs s y) q e l =
         on-found (next root v)
         (λ cs n.
-        let m = both (attributesFit (rowIn elements v .attributes) (givenBy xs) && mayEnd (rowIn elements v .children)) (elementsFit cs (treeOf y)) (rw n at e) in
+        let m =
+        both (attributesFit (rowIn elements v .attributes) (givenBy xs) && mayEnd (rowIn elements v .children)) (elementsFit cs (treeOf y)) (rw n at e) in
         let i = both (attributesFit (rowIn elements v .attributes) (givenBy xs)) (mayEnd (rowIn elements v .children)) (m .0) in
         let o = both (gapFits g && attributesLaid xs && blank s) (layoutFits y) l in
         let j = both (gapFits g && attributesLaid xs) (blank s) (o .0) in
@@ -231,14 +252,18 @@ read-back x fit h = go (x .root) refl h (both (doctypeFits (x .doctype)) (layout
         let k = last-only y (rw (root-next v cs n) at (m .1)) (o .1) in
         let a = next-among root cs v n .0 in
         whole x fit g v (attributesText xs (s ++ (text "/>" ++ gap (k .0) []))) cs (record { given = givenBy xs; elements = nothing }) (k .0)
-        (ap (λ (z : Layout). layoutText z []) (sym q) ∙ ap (λ (z : Layout). gap g (text "<" ++ (v ++ attributesText xs (s ++ (text "/>" ++ layoutText z []))))) (k .1)) (r .0) (k .2) (root-named v a) (attributes-stop xs s _ (r .1) (j .1) (slash-stops (gap (k .0) []))) n
+        (ap (λ (z : Layout). layoutText z []) (sym q) ∙
+        ap (λ (z : Layout). gap g (text "<" ++ (v ++ attributesText xs (s ++ (text "/>" ++ layoutText z []))))) (k .1)) (r .0) (k .2) (root-named v a)
+        (attributes-stop xs s _ (r .1) (j .1) (slash-stops (gap (k .0) []))) n
         (element-short 7 v xs s (i .0) (r .1) (j .1) (gap (k .0) []) (i .1))
         ∙ ap (λ (z : Elements). got z []) (sym (ap treeOf (sym q) ∙ ap (λ (z : Layout). node v (givenBy xs) nothing (treeOf z)) (k .1))))
         (λ n. absurd (false≢true (rw n at e)))
     go (long g v xs s b c y) q e l =
         on-found (next root v)
         (λ cs n.
-        let m = both (attributesFit (rowIn elements v .attributes) (givenBy xs) && elementsFit (rowIn elements v .children) (treeOf b)) (elementsFit cs (treeOf y)) (rw n at e) in
+        let m =
+        both (attributesFit (rowIn elements v .attributes) (givenBy xs) && elementsFit (rowIn elements v .children) (treeOf b)) (elementsFit cs (treeOf y))
+        (rw n at e) in
         let i = both (attributesFit (rowIn elements v .attributes) (givenBy xs)) (elementsFit (rowIn elements v .children) (treeOf b)) (m .0) in
         let o = both (gapFits g && attributesLaid xs && blank s && layoutFits b && blank c) (layoutFits y) l in
         let o2 = both (gapFits g && attributesLaid xs && blank s && layoutFits b) (blank c) (o .0) in
@@ -248,12 +273,16 @@ read-back x fit h = go (x .root) refl h (both (doctypeFits (x .doctype)) (layout
         let k = last-only y (rw (root-next v cs n) at (m .1)) (o .1) in
         let a = next-among root cs v n .0 in
         let d : rank v ≤ 8 = root-deep v a in
-        whole x fit g v (attributesText xs (s ++ (text ">" ++ layoutText b (text "</" ++ (v ++ (c ++ (text ">" ++ gap (k .0) []))))))) cs (record { given = givenBy xs; elements = treeOf b }) (k .0)
+        whole x fit g v (attributesText xs (s ++ (text ">" ++ layoutText b (text "</" ++ (v ++ (c ++ (text ">" ++ gap (k .0) []))))))) cs
+        (record { given = givenBy xs; elements = treeOf b }) (k .0)
         (ap (λ (z : Layout). layoutText z []) (sym q)
-        ∙ ap (λ (z : Layout). gap g (text "<" ++ (v ++ attributesText xs (s ++ (text ">" ++ layoutText b (text "</" ++ (v ++ (c ++ (text ">" ++ layoutText z []))))))))) (k .1)) (r .0) (k .2) (root-named v a) (attributes-stop xs s _ (r .1) (j .1) (angle-stops (layoutText b (text "</" ++ (v ++ (c ++ (text ">" ++ gap (k .0) [])))))))
+        ∙ ap (λ (z : Layout). gap g
+        (text "<" ++ (v ++ attributesText xs (s ++ (text ">" ++ layoutText b (text "</" ++ (v ++ (c ++ (text ">" ++ layoutText z []))))))))) (k .1)) (r .0)
+        (k .2) (root-named v a) (attributes-stop xs s _ (r .1) (j .1) (angle-stops (layoutText b (text "</" ++ (v ++ (c ++ (text ">" ++ gap (k .0) [])))))))
         n
         (element-long 7 v xs s (i .0) (r .1) (j .1) (layoutText b (text "</" ++ (v ++ (c ++ (text ">" ++ gap (k .0) []))))) (gap (k .0) []) (treeOf b)
-        (content-back 7 b (rowIn elements v .children) v c (gap (k .0) []) (children-named v) (λ u z. let w = child-lower v u z in omega arith) (i .1) (o3 .1) (root-named v a) (o2 .1)
+        (content-back 7 b (rowIn elements v .children) v c (gap (k .0) []) (children-named v) (λ u z. let w = child-lower v u z in omega arith) (i .1) (o3 .1)
+        (root-named v a) (o2 .1)
         (suc (length (layoutText b (text "</" ++ (v ++ (c ++ (text ">" ++ gap (k .0) []))))))) (omega arith)))
         ∙ ap (λ (z : Elements). got z []) (sym (ap treeOf (sym q) ∙ ap (λ (z : Layout). node v (givenBy xs) (treeOf b) (treeOf z)) (k .1))))
         (λ n. absurd (false≢true (rw n at e)))

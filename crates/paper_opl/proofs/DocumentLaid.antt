@@ -35,7 +35,8 @@ pseudo-laid w x s r e =
     let k = rw (p, q, t, c) at e in
     let l = equals-laid u z v y q t in
     rw (sym (got-rest k)) (l .value, l .fits, ap (λ (o : Text). same o x) (l .value-is) ∙ c, expect-laid w s u p ∙ ap (λ (o : Text). w ++ o) (l .text-is)))
-    (λ c. absurd (bad≢got (rw (p, q, t, c) at e)))) (λ y t. absurd (bad≢got (rw (p, q, t) at e)))) (λ z q. absurd (bad≢got (rw (p, q) at e)))) (λ u p. absurd (bad≢got (rw p at e)))
+    (λ c. absurd (bad≢got (rw (p, q, t, c) at e)))) (λ y t. absurd (bad≢got (rw (p, q, t) at e)))) (λ z q. absurd (bad≢got (rw (p, q) at e))))
+    (λ u p. absurd (bad≢got (rw p at e)))
 
 some-skipped : (u : Text) → same u (skip u) ≡ false → someBlank (run white u) ≡ true
 some-skipped u h =
@@ -64,10 +65,13 @@ declaration-laid s r e =
     let w = skip-laid z in
     record {
       declaration = record { before = a .0; version = b .0; encoding = just (run white z, g .0); last = run white y };
-      fits = rw (a .1, b .1, b .2, some-skipped z (not-true (same z (skip z)) (both (starts (text "e") (skip z)) (not (same z (skip z))) c .1)), g .1, g .2, h .0);
+      fits =
+          rw (a .1, b .1, b .2, some-skipped z (not-true (same z (skip z)) (both (starts (text "e") (skip z)) (not (same z (skip z))) c .1)), g .1, g .2, h .0);
       text-is =
           a .2 ∙ ap (λ (o : Text). a .0 ++ o) (b .3 ∙ ap (λ (o : Text). text "version" ++ valueText (b .0) o)
-          (w .1 ∙ ap (λ (o : Text). run white z ++ o) (g .3 ∙ ap (λ (o : Text). text "encoding" ++ valueText (g .0) o) (h .1 ∙ ap (λ (o : Text). run white y ++ o) f))));
+          (w .1 ∙
+          ap (λ (o : Text). run white z ++ o)
+          (g .3 ∙ ap (λ (o : Text). text "encoding" ++ valueText (g .0) o) (h .1 ∙ ap (λ (o : Text). run white y ++ o) f))));
     })
     (λ y t. absurd (bad≢got (rw (p, q, c, t) at e))))
     (λ c.
@@ -76,7 +80,8 @@ declaration-laid s r e =
     record {
       declaration = record { before = a .0; version = b .0; encoding = none; last = run white z };
       fits = rw (a .1, b .1, b .2, w .0);
-      text-is = a .2 ∙ ap (λ (o : Text). a .0 ++ o) (b .3 ∙ ap (λ (o : Text). text "version" ++ valueText (b .0) o) (w .1 ∙ ap (λ (o : Text). run white z ++ o) f));
+      text-is =
+          a .2 ∙ ap (λ (o : Text). a .0 ++ o) (b .3 ∙ ap (λ (o : Text). text "version" ++ valueText (b .0) o) (w .1 ∙ ap (λ (o : Text). run white z ++ o) f));
     }))
     (λ z q. absurd (bad≢got (rw (p, q) at e)))) (λ u p. absurd (bad≢got (rw p at e)))
 
@@ -91,7 +96,8 @@ pub record Typed (g : Gap) (s r : Text) : Type 0 where
 doctype-laid : (g : Gap) (s r : Text) → gapFits g ≡ true → doctype s ≡ got tt r → Typed g s r
 unfolding doctype
 doctype-laid g s r f e =
-    on (space s) (λ _ a pa. on (expect (text "policy_object") a) (λ _ b pb. on (space b) (λ _ c pc. on (expect (text "SYSTEM") c) (λ _ d pd. on (space d) (λ _ h ph. on (value h)
+    on (space s) (λ _ a pa. on (expect (text "policy_object") a) (λ _ b pb. on (space b) (λ _ c pc. on (expect (text "SYSTEM") c) (λ _ d pd. on (space d) (λ _ h
+    ph. on (value h)
     (λ v i pi.
     let x = space-laid s a pa in
     let y = space-laid b c pc in
@@ -104,10 +110,14 @@ doctype-laid g s r f e =
       gap-is = refl;
       fits = rw (f, x .1, y .1, z .1, w .1, k .0);
       text-is =
-          x .2 ∙ ap (λ (o : Text). x .0 ++ o) (expect-laid (text "policy_object") a b pb ∙ ap (λ (o : Text). text "policy_object" ++ o) (y .2 ∙ ap (λ (o : Text). y .0 ++ o)
-          (expect-laid (text "SYSTEM") c d pd ∙ ap (λ (o : Text). text "SYSTEM" ++ o) (z .2 ∙ ap (λ (o : Text). z .0 ++ o) (w .2 ∙ ap (λ (o : Text). quoted (w .0) v o) (k .1 ∙ ap (λ (o : Text). run white i ++ o) l))))));
+          x .2 ∙ ap (λ (o : Text). x .0 ++ o) (expect-laid (text "policy_object") a b pb ∙ ap (λ (o : Text). text "policy_object" ++ o) (y .2 ∙
+          ap (λ (o : Text). y .0 ++ o)
+          (expect-laid (text "SYSTEM") c d pd ∙
+          ap (λ (o : Text). text "SYSTEM" ++ o)
+          (z .2 ∙ ap (λ (o : Text). z .0 ++ o) (w .2 ∙ ap (λ (o : Text). quoted (w .0) v o) (k .1 ∙ ap (λ (o : Text). run white i ++ o) l))))));
     })
-    (λ i pi. absurd (bad≢got (rw (pa, pb, pc, pd, ph, pi) at e)))) (λ h ph. absurd (bad≢got (rw (pa, pb, pc, pd, ph) at e)))) (λ d pd. absurd (bad≢got (rw (pa, pb, pc, pd) at e)))) (λ c pc. absurd (bad≢got (rw (pa, pb, pc) at e))))
+    (λ i pi. absurd (bad≢got (rw (pa, pb, pc, pd, ph, pi) at e)))) (λ h ph. absurd (bad≢got (rw (pa, pb, pc, pd, ph) at e))))
+    (λ d pd. absurd (bad≢got (rw (pa, pb, pc, pd) at e)))) (λ c pc. absurd (bad≢got (rw (pa, pb, pc) at e))))
     (λ b pb. absurd (bad≢got (rw (pa, pb) at e)))) (λ a pa. absurd (bad≢got (rw pa at e)))
 
 -- ---- The prolog.
@@ -147,7 +157,10 @@ typed-laid r u e =
       d .fits,
       h .1,
       g .2 ∙ ap (λ (o : Gap). gap o v) (sym (d .gap-is)) ∙ ap (gap (d .doctype .gap)) (nine v c ∙ ap (λ (o : Text). text "<!DOCTYPE" ++ o) (d .text-is
-          ∙ ap (λ (o : Text). d .doctype .first ++ (text "policy_object" ++ (d .doctype .second ++ (text "SYSTEM" ++ (d .doctype .third ++ quoted (d .doctype .quote) (d .doctype .value) (d .doctype .last ++ (text ">" ++ o))))))) (h .2))),
+          ∙ ap (λ (o : Text). d .doctype .first ++
+          (text "policy_object" ++
+          (d .doctype .second ++ (text "SYSTEM" ++ (d .doctype .third ++ quoted (d .doctype .quote) (d .doctype .value) (d .doctype .last ++ (text ">" ++ o)))))))
+          (h .2))),
     ))
     (λ z q. absurd (bad≢got (rw (p, c, q) at e))))
     (λ c. (none, g .0, refl, g .1, g .2 ∙ ap (gap (g .0)) (got-rest (rw (p, c) at e)))))
@@ -170,23 +183,31 @@ prolog-laid s u e =
       gap-fits = t .3;
       text-is =
           five s (both (starts (text "<?xml") s) _ c .0) ∙ ap (λ (o : Text). text "<?xml" ++ o) (d .text-is
-          ∙ ap (λ (o : Text). d .declaration .before ++ (text "version" ++ valueText (d .declaration .version) (encodingText (d .declaration .encoding) (d .declaration .last ++ (text "?>" ++ o))))) (t .4));
+          ∙ ap (λ (o : Text). d .declaration .before ++
+          (text "version" ++ valueText (d .declaration .version) (encodingText (d .declaration .encoding) (d .declaration .last ++ (text "?>" ++ o))))) (t .4));
     })
     (λ r p. absurd (bad≢got (rw (c, p) at e))))
-    (λ c. let t = typed-laid s u (rw c at e) in record { declaration = none; doctype = t .0; gap-before = t .1; declared = refl; typed = t .2; gap-fits = t .3; text-is = t .4 })
+    (λ c. let t =
+    typed-laid s u (rw c at e) in record
+    { declaration = none; doctype = t .0; gap-before = t .1; declared = refl; typed = t .2; gap-fits = t .3; text-is = t .4 })
 
 -- ---- The document.
 
 root-laid : (v u z : Text) (i : Inside) (g h : Gap) → gapFits g ≡ true → gapFits h ≡ true → z ≡ gap h [] → ElementLaid v u i z
     → (y : Layout) × (layoutFits y ≡ true) × (treeOf y ≡ node v (i .given) (i .elements) nothing) × (gap g (text "<" ++ (v ++ u)) ≡ layoutText y [])
 unfolding layoutText layoutFits treeOf
-root-laid v u z i g h f k e (one-tag xs b gs l n m t) =
-    (short g v xs b (last h), rw (f, l, n, k), node-same gs (sym m) refl, ap (λ (o : Text). gap g (text "<" ++ (v ++ o))) (t ∙ ap (λ (o : Text). attributesText xs (b ++ (text "/>" ++ o))) e))
+root-laid v u z i g h f k e (one-tag xs b gs l n m t) = (
+  short g v xs b (last h),
+  rw (f, l, n, k),
+  node-same gs (sym m) refl,
+  ap (λ (o : Text). gap g (text "<" ++ (v ++ o))) (t ∙ ap (λ (o : Text). attributesText xs (b ++ (text "/>" ++ o))) e),
+)
 root-laid v u z i g h f k e (two-tags xs b y c gs l n p q m t) = (
   long g v xs b y c (last h),
   rw (f, l, n, p, m, k),
   node-same gs q refl,
-  ap (λ (o : Text). gap g (text "<" ++ (v ++ o))) (t ∙ ap (λ (o : Text). attributesText xs (b ++ (text ">" ++ layoutText y (text "</" ++ (v ++ (c ++ (text ">" ++ o))))))) e),
+  ap (λ (o : Text). gap g (text "<" ++ (v ++ o)))
+      (t ∙ ap (λ (o : Text). attributesText xs (b ++ (text ">" ++ layoutText y (text "</" ++ (v ++ (c ++ (text ">" ++ o))))))) e),
 )
 
 -- an accepted text is written from its tree
@@ -197,16 +218,25 @@ written-from s es r e =
     (λ f.
     let w = prolog-laid s u p in
     let g = gap-laid (length y) y x m in
-    let q = root-laid (c .name) z y i (w .gap-before) (g .0) (w .gap-fits) (g .1) (g .2 ∙ ap (gap (g .0)) (same-end x f)) (element-laid elements DEPTH (c .name) z i y h) in
+    let q =
+    root-laid (c .name) z y i (w .gap-before) (g .0) (w .gap-fits) (g .1) (g .2 ∙ ap (gap (g .0)) (same-end x f))
+    (element-laid elements DEPTH (c .name) z i y h) in
     record {
       layout = record { declaration = w .declaration; doctype = w .doctype; root = q .0 };
       fits = rw (w .declared, w .typed) (q .1);
       tree-is = q .2 ∙ got-value (rw (p, o, h, m, f) at e);
       in-grammar = document-in-grammar s es r e;
-      text-is = w .text-is ∙ ap (λ (n : Text). declarationText (w .declaration) (doctypeText (w .doctype) n)) (ap (gap (w .gap-before)) (started u root (c .name) z (begun root u c z o)) ∙ q .3);
+      text-is =
+          w .text-is ∙
+          ap (λ (n : Text). declarationText (w .declaration) (doctypeText (w .doctype) n))
+          (ap (gap (w .gap-before)) (started u root (c .name) z (begun root u c z o)) ∙ q .3);
     })
-    (λ f. absurd (bad≢got (rw (p, o, h, m, f) at e)))) (λ x m. absurd (bad≢got (rw (p, o, h, m) at e)))) (λ y h. absurd (bad≢got (rw (p, o, h) at e)))) (λ z o. absurd (bad≢got (rw (p, o) at e)))) (λ u p. absurd (bad≢got (rw p at e)))
+    (λ f. absurd (bad≢got (rw (p, o, h, m, f) at e)))) (λ x m. absurd (bad≢got (rw (p, o, h, m) at e)))) (λ y h. absurd (bad≢got (rw (p, o, h) at e))))
+    (λ z o. absurd (bad≢got (rw (p, o) at e)))) (λ u p. absurd (bad≢got (rw p at e)))
 
 -- Accepted are exactly the texts that are written from a tree of the grammar, and they are read as that tree.
 pub exactly : (s : Text) (es : Elements) → document s ≡ got es [] ↔ WrittenFrom es s
-exactly s es = (written-from s es [], λ w. ap document (w .text-is) ∙ read-back (w .layout) (w .fits) (ap inGrammar (w .tree-is) ∙ w .in-grammar) ∙ ap (λ (x : Elements). got x []) (w .tree-is))
+exactly s es = (
+  written-from s es [],
+  λ w. ap document (w .text-is) ∙ read-back (w .layout) (w .fits) (ap inGrammar (w .tree-is) ∙ w .in-grammar) ∙ ap (λ (x : Elements). got x []) (w .tree-is),
+)

@@ -9,12 +9,12 @@ use lib.ListN.{length, drop, length-append}
 use borrow.Author.Tests.{eqb-true, eqb-false, ne-eqb}
 use Rattle.paper_lower.specs.Lists.{upd, every, many, keep, each, Every}
 use Rattle.paper_lower.specs.Lists.Maybe.{just}
-use Rattle.paper_lower.specs.Records.{Bytes, Record, bytes, encode}
+use Rattle.paper_lower.specs.Records.{Bytes, Record, bytes, encode, putAt}
 use Rattle.paper_lower.proofs.ListLaws.{both, upd-same, upd-other, every-append, many-each}
 use Rattle.paper_opl.specs.Tree.{Tag}
 use Rattle.paper_opl.specs.Naming.{Line, Names, taskRecord, written}
 use Rattle.paper_opl.specs.Walk.{namesIn, Context, start, turn, kindAt, leading, Saying, saying, sayings, recordSaid, rising, recordsIn}
-use Rattle.paper_opl.specs.Filling.{putAt, valued, fillLines, fill, countOf, startOf}
+use Rattle.paper_opl.specs.Filling.{valued, fillLines, fill, countOf, startOf}
 use Rattle.paper_opl.proofs.Inversion.{on-test}
 use Rattle.paper_opl.proofs.KindByKind.{each-append}
 use Rattle.paper_opl.proofs.Judging.{oneOf, ofTags, said-range, ordered}
@@ -33,7 +33,8 @@ unfolding fill fillAll sayings each
 fill-is ns [] c next out = refl
 fill-is ns (t ∷ ts) c next out =
     on-test (eqb (kindAt c t) 0) (λ q. rw q (fill-is ns ts (turn c t) next out))
-    (λ q. rw q (fill-is ns ts (turn c t) (upd next (kindAt c t) (suc (next (kindAt c t)))) (putAt out (next (kindAt c t)) (valued (recordSaid ns (saying c t (leading ts)))))))
+    (λ q. rw q (fill-is ns ts (turn c t) (upd next (kindAt c t) (suc (next (kindAt c t))))
+    (putAt out (next (kindAt c t)) (valued (recordSaid ns (saying c t (leading ts)))))))
 
 -- places of kinds that do not come do not matter
 abbrev Apart : (ℕ → ℕ) → (ℕ → ℕ) → Type 0
@@ -72,7 +73,8 @@ picked-append k (y ∷ ys) zs = on-test (eqb (y .0) k) (λ q. rw (q, picked-appe
 tags-picked : (ns : Names) (k : ℕ) (xs : List Saying) → picked k (tagsKinded ns xs) ≡ each valued (each (recordSaid ns) (keep (λ x. eqb (x .kind) k) xs))
 unfolding picked each keep
 tags-picked ns k [] = refl
-tags-picked ns k (x ∷ xs) = on-test (eqb (x .kind) k) (λ q. rw q (ap (λ (l : List Record). valued (recordSaid ns x) ∷ l) (tags-picked ns k xs))) (λ q. rw q (tags-picked ns k xs))
+tags-picked ns k (x ∷ xs) =
+    on-test (eqb (x .kind) k) (λ q. rw q (ap (λ (l : List Record). valued (recordSaid ns x) ∷ l) (tags-picked ns k xs))) (λ q. rw q (tags-picked ns k xs))
 
 lines-picked : (ns : Names) (ls : List Line) → picked 6 (linesKinded ns ls) ≡ each valued (each (taskRecord ns) ls)
 unfolding picked each
@@ -88,7 +90,8 @@ one-range : (n k j : ℕ) → oneOf k n j ≡ true → (k ≤ j) × (j < k + n)
 unfolding oneOf
 one-range zero k j e = absurd (false≢true e)
 one-range (suc n) k j e =
-    on-test (eqb j k) (λ q. let x = eqb-true j k q in (omega arith, omega arith)) (λ q. let x = one-range n (suc k) j (rw q at e) in let y = x .0 in let z = x .1 in (omega arith, omega arith))
+    on-test (eqb j k) (λ q. let x = eqb-true j k q in (omega arith, omega arith))
+    (λ q. let x = one-range n (suc k) j (rw q at e) in let y = x .0 in let z = x .1 in (omega arith, omega arith))
 
 tag-kind : (j : ℕ) → ofTags j ≡ true → (1 ≤ j) × (j < 17) × (j ≡ 6 → ⊥)
 tag-kind j e =
@@ -96,7 +99,8 @@ tag-kind j e =
     (λ q. let x = one-range 5 1 j q in let y = x .0 in let z = x .1 in (omega arith, omega arith, λ w. omega arith))
     (λ q. let x = one-range 10 7 j (rw q at e) in let y = x .0 in let z = x .1 in (omega arith, omega arith, λ w. omega arith))
 
-tags-in-kinds : (ns : Names) (xs : List Saying) → every (λ x. ofTags (x .kind)) xs ≡ true → Every InKinds (tagsKinded ns xs) × Every (λ y. y .0 ≡ 6 → ⊥) (tagsKinded ns xs) × (keep (λ x. eqb (x .kind) 6) xs ≡ [])
+tags-in-kinds : (ns : Names) (xs : List Saying) → every (λ x. ofTags (x .kind)) xs ≡ true →
+    Every InKinds (tagsKinded ns xs) × Every (λ y. y .0 ≡ 6 → ⊥) (tagsKinded ns xs) × (keep (λ x. eqb (x .kind) 6) xs ≡ [])
 unfolding every each keep
 tags-in-kinds ns [] h = (tt, tt, refl)
 tags-in-kinds ns (x ∷ xs) h =
@@ -111,13 +115,16 @@ lines-in-kinds ns [] = tt
 lines-in-kinds ns (l ∷ ls) = ((omega arith, omega arith), lines-in-kinds ns ls)
 
 -- the blocks of kinds other than 6 are those of the tags
-gather-tags : (ns : Names) (xs : List Saying) (ls : List Line) (n k : ℕ) → ((j : ℕ) → k ≤ j → j < k + n → j ≡ 6 → ⊥) → gather k n (linesKinded ns ls ++ tagsKinded ns xs) ≡ each valued (rising ns k n xs)
+gather-tags : (ns : Names) (xs : List Saying) (ls : List Line) (n k : ℕ) → ((j : ℕ) → k ≤ j → j < k + n → j ≡ 6 → ⊥) →
+    gather k n (linesKinded ns ls ++ tagsKinded ns xs) ≡ each valued (rising ns k n xs)
 unfolding gather rising each
 gather-tags ns xs ls zero k h = refl
 gather-tags ns xs ls (suc n) k h =
     ap (λ (x : List Record). x ++ gather (suc k) n (linesKinded ns ls ++ tagsKinded ns xs))
-    (picked-append k (linesKinded ns ls) (tagsKinded ns xs) ∙ ap (λ (x : List Record). x ++ picked k (tagsKinded ns xs)) (lines-other ns k ls (h k (omega arith) (omega arith))) ∙ tags-picked ns k xs)
-    ∙ ap (λ (x : List Record). each valued (each (recordSaid ns) (keep (λ x. eqb (x .kind) k) xs)) ++ x) (gather-tags ns xs ls n (suc k) (λ j a b. h j (omega arith) (omega arith)))
+    (picked-append k (linesKinded ns ls) (tagsKinded ns xs) ∙
+    ap (λ (x : List Record). x ++ picked k (tagsKinded ns xs)) (lines-other ns k ls (h k (omega arith) (omega arith))) ∙ tags-picked ns k xs)
+    ∙ ap (λ (x : List Record). each valued (each (recordSaid ns) (keep (λ x. eqb (x .kind) k) xs)) ++ x)
+    (gather-tags ns xs ls n (suc k) (λ j a b. h j (omega arith) (omega arith)))
     ∙ sym (each-append valued (each (recordSaid ns) (keep (λ x. eqb (x .kind) k) xs)) (rising ns (suc k) n xs))
 
 gather-split : (n m a : ℕ) (ys : List Kinded) → gather a (n + m) ys ≡ gather a n ys ++ gather (a + n) m ys
@@ -126,7 +133,8 @@ gather-split zero m a ys = let z : 0 + m ≡ m = omega arith in let w : a + 0 �
 gather-split (suc n) m a ys =
     let z : suc n + m ≡ suc (n + m) = omega arith in
     let w : suc a + n ≡ a + suc n = omega arith in
-    rw z (ap (λ (x : List Record). picked a ys ++ x) (gather-split n m (suc a) ys ∙ ap (λ (k : ℕ). gather (suc a) n ys ++ gather k m ys) w) ∙ sym (append-assoc (picked a ys) (gather (suc a) n ys) (gather (a + suc n) m ys)))
+    rw z (ap (λ (x : List Record). picked a ys ++ x) (gather-split n m (suc a) ys ∙ ap (λ (k : ℕ). gather (suc a) n ys ++ gather k m ys) w) ∙
+    sym (append-assoc (picked a ys) (gather (suc a) n ys) (gather (a + suc n) m ys)))
 
 valued-all : (rs : List Record) → each valued (each just rs) ≡ rs
 unfolding each
@@ -183,12 +191,14 @@ module _ (ns : Names) (xs : List Saying) (ls : List Line) (range : every (λ x. 
       gather-split 5 11 1 all-kinded
       ∙ ap (λ (x : List Record). gather 1 5 all-kinded ++ x) (later all-kinded)
       ∙ rw (gather-tags ns xs ls 5 1 (λ j a b e. omega arith), six, gather-tags ns xs ls 10 7 (λ j a b e. omega arith))
-      (sym (each-append valued (rising ns 1 5 xs ++ each (taskRecord ns) ls) (rising ns 7 10 xs) ∙ ap (λ (x : List Record). x ++ each valued (rising ns 7 10 xs)) (each-append valued (rising ns 1 5 xs) (each (taskRecord ns) ls))
+      (sym (each-append valued (rising ns 1 5 xs ++ each (taskRecord ns) ls) (rising ns 7 10 xs) ∙
+      ap (λ (x : List Record). x ++ each valued (rising ns 7 10 xs)) (each-append valued (rising ns 1 5 xs) (each (taskRecord ns) ls))
       ∙ append-assoc (each valued (rising ns 1 5 xs)) (each valued (each (taskRecord ns) ls)) (each valued (rising ns 7 10 xs))))
 
 -- "Records go by kind rising, then in text order": as the pass that writes leaves them
 pub fill-writes : (ts : List Tag) (ls : List Line) (rs : List Record) (out : Bytes) → recordsIn ts ls ≡ just rs → length (written rs) ≤ length out
-    → fill (namesIn ts ls) start (startOf (sayings start ts) ls) ts (fillLines (namesIn ts ls) (startOf (sayings start ts) ls 6) ls out) ≡ written rs ++ drop (length (written rs)) out
+    → fill (namesIn ts ls) start (startOf (sayings start ts) ls) ts (fillLines (namesIn ts ls) (startOf (sayings start ts) ls 6) ls out) ≡
+    written rs ++ drop (length (written rs)) out
 unfolding all-kinded
 fill-writes ts ls rs out e fits =
     let range = said-range start refl ts in
@@ -196,12 +206,14 @@ fill-writes ts ls rs out e fits =
     let g : gather 1 16 (linesKinded ns ls ++ tagsKinded ns xs) ≡ rs = gathered ns xs ls range ∙ ap (each valued) (ordered ts ls rs e) ∙ valued-all rs in
     let w = written-sixteen rs in
     let z = start-first xs ls in
-    let c = starts-count out s (countOf xs ls) (start-step xs ls) (linesKinded ns ls ++ tagsKinded ns xs) (counted ns xs ls range) 16 1 (omega arith) (omega arith) in
+    let c =
+    starts-count out s (countOf xs ls) (start-step xs ls) (linesKinded ns ls ++ tagsKinded ns xs) (counted ns xs ls range) 16 1 (omega arith) (omega arith) in
     let m = ap (λ (x : List Record). many x) g in
     let t : 16 * s 17 ≡ length (written rs) = omega arith in
     fill-is ns ts start s (fillLines ns (s 6) ls out)
     ∙ sym (lines-then ns ls s s (s 6) (tagsKinded ns xs) out refl (λ k o. refl) (i .1))
-    ∙ places out s (countOf xs ls) (start-step xs ls) (omega arith) (linesKinded ns ls ++ tagsKinded ns xs) z (counted ns xs ls range) (every-append InKinds (linesKinded ns ls) (tagsKinded ns xs) (lines-in-kinds ns ls) (i .0))
+    ∙ places out s (countOf xs ls) (start-step xs ls) (omega arith) (linesKinded ns ls ++ tagsKinded ns xs) z (counted ns xs ls range)
+    (every-append InKinds (linesKinded ns ls) (tagsKinded ns xs) (lines-in-kinds ns ls) (i .0))
     ∙ rw (g, t)
   where
     ns : Names

@@ -21,10 +21,12 @@ abbrev pub groupTest : (Text → Bool) → (Text → Bool) → Element → Bool
 groupTest heads ins e = cond (heads (e .name) || ins (e .name)) (forNames ins (e .children)) (forNames (λ v. not (ins v)) (e .children))
 
 module _ (heads ins : Text → Bool) (w : Text) where
-  group-row : every (groupTest heads ins) elements ≡ true → cond (heads w || ins w) (forNames ins (rowIn elements w .children)) (forNames (λ v. not (ins v)) (rowIn elements w .children)) ≡ true
+  group-row : every (groupTest heads ins) elements ≡ true →
+      cond (heads w || ins w) (forNames ins (rowIn elements w .children)) (forNames (λ v. not (ins v)) (rowIn elements w .children)) ≡ true
   unfolding every
   group-row h =
-      rw (ap (λ (v : Text). cond (heads v || ins v) (forNames ins (rowIn elements w .children)) (forNames (λ v. not (ins v)) (rowIn elements w .children))) (sym (row-name elements w)))
+      rw (ap (λ (v : Text). cond (heads v || ins v) (forNames ins (rowIn elements w .children)) (forNames (λ v. not (ins v)) (rowIn elements w .children)))
+      (sym (row-name elements w)))
       (row-has (groupTest heads ins) elements w (λ v. on-test (heads v || ins v) (λ q. rw q) (λ q. rw q)) h)
 
   pub stands-in : every (groupTest heads ins) elements ≡ true → heads w || ins w ≡ true → forNames ins (rowIn elements w .children) ≡ true
@@ -101,18 +103,22 @@ silent cs h (node w gs i b) f c rest =
     let n : innerName w ≡ true = child-has innerName cs w h (f .0) in
     let q : head w ≡ false = not-true (head w) (name-has (λ v. not (head v)) innerNames w inner-quiet n) in
     let k : kindAt c (record { name = w; given = gs }) ≡ 0 = quiet c (record { name = w; given = gs }) q in
-    let m : turn c (record { name = w; given = gs }) ≡ c = still c (record { name = w; given = gs }) (not-true (turning w) (name-has (λ v. not (turning v)) innerNames w inner-still n)) in
+    let m : turn c (record { name = w; given = gs }) ≡ c =
+    still c (record { name = w; given = gs }) (not-true (turning w) (name-has (λ v. not (turning v)) innerNames w inner-still n)) in
     let x = silent (rowIn elements w .children) (stands-in head innerName w heads-group (rw (q, n))) i (f .1) c (tagsOf b ++ rest) in
     let y = silent cs h b (f .2) c rest in
     record {
       says-nothing = rw (k, m, x .says-nothing, x .turns-nothing, y .says-nothing);
-      turns-nothing = ap (λ (d : Context). turns d (tagsOf i ++ tagsOf b)) m ∙ turns-append c (tagsOf i) (tagsOf b) ∙ ap (λ (d : Context). turns d (tagsOf b)) (x .turns-nothing) ∙ y .turns-nothing;
+      turns-nothing =
+          ap (λ (d : Context). turns d (tagsOf i ++ tagsOf b)) m ∙ turns-append c (tagsOf i) (tagsOf b) ∙
+          ap (λ (d : Context). turns d (tagsOf b)) (x .turns-nothing) ∙ y .turns-nothing;
       adds-nothing = rw (k, m, append-assoc (tagsOf i) (tagsOf b) rest, x .adds-nothing, y .adds-nothing);
       leads = rw (n, append-assoc (tagsOf i) (tagsOf b) rest, x .leads, y .leads, append-assoc (tagsOf i) (tagsOf b) (leading rest));
     }
 
 -- what does not stand in such an element ends the tags that do
-leads-out : (cs : List Child) → forNames (λ v. not (innerName v)) cs ≡ true → (es : Elements) → Fits cs es → (rest : List Tag) → leading rest ≡ [] → leading (tagsOf es ++ rest) ≡ []
+leads-out : (cs : List Child) → forNames (λ v. not (innerName v)) cs ≡ true → (es : Elements) → Fits cs es → (rest : List Tag) → leading rest ≡ [] →
+    leading (tagsOf es ++ rest) ≡ []
 unfolding Fits tagsOf leading
 leads-out cs h nothing f rest l = l
 leads-out cs h (node w gs i b) f rest l = rw (not-true (innerName w) (child-has (λ v. not (innerName v)) cs w h (f .0)))
@@ -120,15 +126,18 @@ leads-out cs h (node w gs i b) f rest l = rw (not-true (innerName w) (child-has 
 joined : {A : Type 0} (s t a b z x : List A) → s ≡ t → x ≡ a ++ (b ++ z) → s ++ x ≡ ((t ++ a) ++ b) ++ z
 joined s t a b z x p q = rw (p, q, append-assoc (t ++ a) b z, append-assoc t a (b ++ z))
 
-pub told-is : (cs : List Child) → forNames (λ v. not (innerName v)) cs ≡ true → (es : Elements) → Fits cs es → (c : Context) (rest : List Tag) → leading rest ≡ []
+pub told-is : (cs : List Child) → forNames (λ v. not (innerName v)) cs ≡ true → (es : Elements) → Fits cs es → (c : Context) (rest : List Tag) →
+    leading rest ≡ []
     → sayings c (tagsOf es ++ rest) ≡ told c es ++ sayings (turns c (tagsOf es)) rest
 unfolding Fits tagsOf told turns sayings
 told-is cs h nothing f c rest l = refl
 told-is cs h (node w gs i b) f c rest l =
     joined _ _ (told d i) (told (turns d (tagsOf i)) b) (sayings (turns d (tagsOf i ++ tagsOf b)) rest) (sayings d ((tagsOf i ++ tagsOf b) ++ rest))
     (on-test (head w) (λ q. ap (λ (x : List Tag). cond (eqb (kindAt c t) 0) [] (saying c t x ∷ [])) (leading-all q)) (λ q. rw (quiet c t q)))
-    (ap (sayings d) (append-assoc (tagsOf i) (tagsOf b) rest) ∙ on-test (head w) (λ q. all-in q) (λ q. told-is (rowIn elements w .children) (outer q) i (f .1) d (tagsOf b ++ rest) out)
-    ∙ ap (λ (x : List Saying). told d i ++ x) (told-is cs h b (f .2) (turns d (tagsOf i)) rest l ∙ ap (λ (x : Context). told (turns d (tagsOf i)) b ++ sayings x rest) (sym (turns-append d (tagsOf i) (tagsOf b)))))
+    (ap (sayings d) (append-assoc (tagsOf i) (tagsOf b) rest) ∙
+    on-test (head w) (λ q. all-in q) (λ q. told-is (rowIn elements w .children) (outer q) i (f .1) d (tagsOf b ++ rest) out)
+    ∙ ap (λ (x : List Saying). told d i ++ x) (told-is cs h b (f .2) (turns d (tagsOf i)) rest l ∙
+    ap (λ (x : Context). told (turns d (tagsOf i)) b ++ sayings x rest) (sym (turns-append d (tagsOf i) (tagsOf b)))))
   where
     t : Tag
     t = record { name = w; given = gs }

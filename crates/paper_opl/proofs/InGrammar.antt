@@ -28,7 +28,8 @@ attribute-allowed left s g r e =
     on (name s) (λ w x p. on (equals x) (λ _ u q. on (value u) (λ v z t. on-found (find left w) (λ a o. on-test (fits (a .class) v)
     (λ c. rw (sym (got-value (rw (p, q, t, o, c) at e))) (record { attribute = a; found = o; fit = c }))
     (λ c. absurd (bad≢got (rw (p, q, t, o, c) at e))))
-    (λ o. absurd (bad≢got (rw (p, q, t, o) at e)))) (λ z t. absurd (bad≢got (rw (p, q, t) at e)))) (λ u q. absurd (bad≢got (rw (p, q) at e)))) (λ x p. absurd (bad≢got (rw p at e)))
+    (λ o. absurd (bad≢got (rw (p, q, t, o) at e)))) (λ z t. absurd (bad≢got (rw (p, q, t) at e)))) (λ u q. absurd (bad≢got (rw (p, q) at e))))
+    (λ x p. absurd (bad≢got (rw p at e)))
 
 attributes-fit : (n : ℕ) (left : List Attribute) (s : Text) (gs : List Given) (r : Text) → attributes n left s ≡ got gs r → attributesFit left gs ≡ true
 unfolding attributes attributesFit
@@ -44,7 +45,9 @@ attributes-fit (suc n) left s gs r e =
 
 -- a reader of elements that keeps the grammar
 abbrev Keeps : (Text → Text → Read Inside) → Type 0
-Keeps inner = (w s : Text) (e : Inside) (r : Text) → inner w s ≡ got e r → (attributesFit (rowIn elements w .attributes) (e .given) ≡ true) × (elementsFit (rowIn elements w .children) (e .elements) ≡ true)
+Keeps inner =
+    (w s : Text) (e : Inside) (r : Text) → inner w s ≡ got e r →
+    (attributesFit (rowIn elements w .attributes) (e .given) ≡ true) × (elementsFit (rowIn elements w .children) (e .elements) ≡ true)
 
 content-fit : (inner : Text → Text → Read Inside) → Keeps inner → (n : ℕ) (w : Text) (left : List Child) (s : Text) (es : Elements) (r : Text)
     → content inner n w left s ≡ got es r → elementsFit left es ≡ true
@@ -70,7 +73,8 @@ element-fit (suc d) w s e r h =
     let g = attributes-fit (length s) (rowIn elements w .attributes) s gs z a in
     on-test (starts (text ">") z)
     (λ c. on (content (element elements d) (length z) (rowIn elements w .name) (rowIn elements w .children) (drop 1 z))
-    (λ es u q. rw (sym (got-value (rw (a, c, q) at h))) (g, content-fit (element elements d) (element-fit d) (length z) (rowIn elements w .name) (rowIn elements w .children) (drop 1 z) es u q))
+    (λ es u q. rw (sym (got-value (rw (a, c, q) at h)))
+    (g, content-fit (element elements d) (element-fit d) (length z) (rowIn elements w .name) (rowIn elements w .children) (drop 1 z) es u q))
     (λ u q. absurd (bad≢got (rw (a, c, q) at h))))
     (λ c. on (expect (text ">") (drop 1 z)) (λ _ u q. on-test (mayEnd (rowIn elements w .children))
     (λ f. rw (sym (got-value (rw (a, c, q, f) at h))) (g, f))
@@ -89,7 +93,8 @@ document-in-grammar s es r e =
     let k = element-fit DEPTH (c .name) z i y h in
     let n = opened-fits root u c z o in
     rw (sym (got-value (rw (p, o, h, m, f) at e)), n, k .0, k .1) (root-ends (c .name) (c .left) n))
-    (λ f. absurd (bad≢got (rw (p, o, h, m, f) at e)))) (λ x m. absurd (bad≢got (rw (p, o, h, m) at e)))) (λ y h. absurd (bad≢got (rw (p, o, h) at e)))) (λ z o. absurd (bad≢got (rw (p, o) at e)))) (λ u p. absurd (bad≢got (rw p at e)))
+    (λ f. absurd (bad≢got (rw (p, o, h, m, f) at e)))) (λ x m. absurd (bad≢got (rw (p, o, h, m) at e)))) (λ y h. absurd (bad≢got (rw (p, o, h) at e))))
+    (λ z o. absurd (bad≢got (rw (p, o) at e)))) (λ u p. absurd (bad≢got (rw p at e)))
 
 -- ---- What a tree of the grammar keeps of the table.
 
@@ -100,8 +105,11 @@ fits-in left (node w gs i b) h =
     on-found (next left w)
     (λ cs q.
     let t = next-among left cs w q in
-    let m = both (attributesFit (rowIn elements w .attributes) gs && elementsFit (rowIn elements w .children) i) (elementsFit cs b) (rw q at h) in
-    (t .0, fits-in (rowIn elements w .children) i (both (attributesFit (rowIn elements w .attributes) gs) (elementsFit (rowIn elements w .children) i) (m .0) .1), fits-more cs left b (t .1) (fits-in cs b (m .1))))
+    let m = both (attributesFit (rowIn elements w .attributes) gs && elementsFit (rowIn elements w .children) i) (elementsFit cs b) (rw q at h) in (
+      t .0,
+      fits-in (rowIn elements w .children) i (both (attributesFit (rowIn elements w .attributes) gs) (elementsFit (rowIn elements w .children) i) (m .0) .1),
+      fits-more cs left b (t .1) (fits-in cs b (m .1)),
+    ))
     (λ q. absurd (false≢true (rw q at h)))
 
 pub document-fits : (s : Text) (es : Elements) (r : Text) → document s ≡ got es r → Fits root es

@@ -9,11 +9,10 @@ use lib.ListN.{length, take, drop, length-append, length-drop, take-append-drop}
 use lib.Seq.{take-at, drop-at, drop-append-le, drop-drop, length-take-le}
 use borrow.Author.Tests.{eqb-true, eqb-false, eq-eqb, ne-eqb}
 use Rattle.paper_lower.specs.Lists.{upd, many, Every}
-use Rattle.paper_lower.specs.Records.{Bytes, Record, bytes, encode}
+use Rattle.paper_lower.specs.Records.{Bytes, Record, bytes, encode, putAt}
 use Rattle.paper_lower.proofs.ListLaws.{upd-same, upd-other, many-append}
 use Rattle.paper_lower.proofs.ReadBack.{sixteen}
 use Rattle.paper_opl.specs.Naming.{written}
-use Rattle.paper_opl.specs.Filling.{putAt}
 use Rattle.paper_opl.proofs.Inversion.{on-test}
 
 -- ---- Blocks, one a kind: what is written of it, and the bytes left for it.
@@ -35,14 +34,16 @@ before a zero done left = 0
 before a (suc j) done left = length (done a) + length (left a) + before (suc a) j done left
 
 -- a record put at the head of what is left
-put-here : (p d l rest : Bytes) (q : ℕ) (r : Record) → 16 * q ≡ length p + length d → 16 ≤ length l → putAt (p ++ (d ++ (l ++ rest))) q r ≡ p ++ ((d ++ encode r) ++ (drop 16 l ++ rest))
+put-here : (p d l rest : Bytes) (q : ℕ) (r : Record) → 16 * q ≡ length p + length d → 16 ≤ length l →
+    putAt (p ++ (d ++ (l ++ rest))) q r ≡ p ++ ((d ++ encode r) ++ (drop 16 l ++ rest))
 unfolding putAt
 put-here p d l rest q r e h =
     let a = length-append p d in
     let w : (p ++ d) ++ (l ++ rest) ≡ p ++ (d ++ (l ++ rest)) = append-assoc p d (l ++ rest) in
     let t : take (16 * q) (p ++ (d ++ (l ++ rest))) ≡ p ++ d = ap (take (16 * q)) (sym w) ∙ take-at (p ++ d) (l ++ rest) (16 * q) (a ∙ sym e) in
     let u : drop (16 * q) (p ++ (d ++ (l ++ rest))) ≡ l ++ rest = ap (drop (16 * q)) (sym w) ∙ drop-at (p ++ d) (l ++ rest) (16 * q) (a ∙ sym e) in
-    let v : drop (16 * q + 16) (p ++ (d ++ (l ++ rest))) ≡ drop 16 l ++ rest = sym (drop-drop 16 (16 * q) (p ++ (d ++ (l ++ rest)))) ∙ ap (drop 16) u ∙ drop-append-le 16 l rest h in
+    let v : drop (16 * q + 16) (p ++ (d ++ (l ++ rest))) ≡ drop 16 l ++ rest =
+    sym (drop-drop 16 (16 * q) (p ++ (d ++ (l ++ rest)))) ∙ ap (drop 16) u ∙ drop-append-le 16 l rest h in
     rw (t, v) (append-assoc p d (encode r ++ (drop 16 l ++ rest)) ∙ ap (λ (x : Bytes). p ++ x) (sym (append-assoc d (encode r) (drop 16 l ++ rest))))
 
 -- a block that stands earlier does not matter
@@ -55,7 +56,11 @@ put-first : (n a : ℕ) (p : Bytes) (d l : ℕ → Bytes) (rest : Bytes) (q : �
 unfolding body
 put-first n a p d l rest q r e h =
     put-here p (d a) (l a) (body (suc a) n d l rest) q r e h
-    ∙ rw (upd-same d a a (d a ++ encode r) refl, upd-same l a a (drop 16 (l a)) refl, body-other (suc a) n a d l (d a ++ encode r) (drop 16 (l a)) rest (omega arith))
+    ∙ rw (
+      upd-same d a a (d a ++ encode r) refl,
+      upd-same l a a (drop 16 (l a)) refl,
+      body-other (suc a) n a d l (d a ++ encode r) (drop 16 (l a)) rest (omega arith),
+    )
 
 -- the same with the first block counted to what stands before
 later : (n a k : ℕ) (p : Bytes) (d l : ℕ → Bytes) (x y rest : Bytes) (q : ℕ) (r : Record) → (a ≡ k → ⊥)
@@ -63,14 +68,16 @@ later : (n a k : ℕ) (p : Bytes) (d l : ℕ → Bytes) (x y rest : Bytes) (q : 
     → putAt (p ++ body a (suc n) d l rest) q r ≡ p ++ body a (suc n) (upd d k x) (upd l k y) rest
 unfolding body
 later n a k p d l x y rest q r o v =
-    ap (λ (z : Bytes). putAt z q r) (sym (three p (d a) (l a) (body (suc a) n d l rest))) ∙ v ∙ three p (d a) (l a) (body (suc a) n (upd d k x) (upd l k y) rest)
+    ap (λ (z : Bytes). putAt z q r) (sym (three p (d a) (l a) (body (suc a) n d l rest))) ∙ v ∙
+    three p (d a) (l a) (body (suc a) n (upd d k x) (upd l k y) rest)
     ∙ rw (upd-other d k a x o, upd-other l k a y o)
   where
     three : (p d l b : Bytes) → (p ++ (d ++ l)) ++ b ≡ p ++ (d ++ (l ++ b))
     three p d l b = append-assoc p (d ++ l) b ∙ ap (λ (z : Bytes). p ++ z) (append-assoc d l b)
 
 -- a record put into the block of its kind
-put-body : (n j a k : ℕ) (p : Bytes) (d l : ℕ → Bytes) (rest : Bytes) (q : ℕ) (r : Record) → j < n → k ≡ a + j → 16 * q ≡ length p + before a j d l + length (d k) → 16 ≤ length (l k)
+put-body : (n j a k : ℕ) (p : Bytes) (d l : ℕ → Bytes) (rest : Bytes) (q : ℕ) (r : Record) → j < n → k ≡ a + j →
+    16 * q ≡ length p + before a j d l + length (d k) → 16 ≤ length (l k)
     → putAt (p ++ body a n d l rest) q r ≡ p ++ body a n (upd d k (d k ++ encode r)) (upd l k (drop 16 (l k))) rest
 unfolding before
 put-body zero j a k p d l rest q r i z e h = absurd (omega arith)
@@ -126,7 +133,10 @@ module _ (next : ℕ → ℕ) (k : ℕ) (r : Record) (ys : List Kinded) (d l : �
 
   put-one : (rest : Bytes) → putAt (body 1 16 d l rest) (next k) r ≡ body 1 16 done left rest
   unfolding done left
-  put-one rest = let x = here in let y = x .0 in let z = x .1 in put-body 16 (k - 1) 1 k [] d l rest (next k) r (omega arith) (omega arith) (omega arith) (omega arith)
+  put-one rest = let x = here in
+      let y = x .0 in
+      let z = x .1 in
+      put-body 16 (k - 1) 1 k [] d l rest (next k) r (omega arith) (omega arith) (omega arith) (omega arith)
 
   same-bytes : (i : ℕ) → length (d i) + length (l i) ≡ length (done i) + length (left i)
   unfolding done left
@@ -157,7 +167,8 @@ module _ (next : ℕ → ℕ) (k : ℕ) (r : Record) (ys : List Kinded) (d l : �
       (rw (upd-same next k i (suc (next k)) g, upd-same d k i (d k ++ encode r) g) (omega arith), rw (upd-same l k i (drop 16 (l k)) g, g) (omega arith)))
       (λ q.
       let g = eqb-false i k q in
-      let x : length (l i) ≡ 16 * many (picked i ys) = o .1 ∙ ap (λ (t : Bool). 16 * many (cond t (r ∷ picked i ys) (picked i ys))) (ne-eqb k i (λ h. g (sym h))) in
+      let x : length (l i) ≡ 16 * many (picked i ys) =
+      o .1 ∙ ap (λ (t : Bool). 16 * many (cond t (r ∷ picked i ys) (picked i ys))) (ne-eqb k i (λ h. g (sym h))) in
       let o0 = o .0 in
       (rw (upd-other next k i (suc (next k)) g, upd-other d k i (d k ++ encode r) g) (omega arith), rw (upd-other l k i (drop 16 (l k)) g) x))
 
@@ -179,9 +190,11 @@ filled [] next d l rest room h =
     body-same 1 16 d (λ k. d k ++ []) l (λ k. []) rest (λ k i j. (sym (append-nil (d k)), no-bytes (l k) (room (k - 1) k (omega arith) (omega arith) .1)))
 filled (y ∷ ys) next d l rest room h =
     ap (fillAll (upd next (y .0) (suc (next (y .0)))) ys) (put-one next (y .0) (y .1) ys d l room (h .0 .0) (h .0 .1) rest)
-    ∙ filled ys (upd next (y .0) (suc (next (y .0)))) (done next (y .0) (y .1) ys d l room (h .0 .0) (h .0 .1)) (left next (y .0) (y .1) ys d l room (h .0 .0) (h .0 .1)) rest
+    ∙ filled ys (upd next (y .0) (suc (next (y .0)))) (done next (y .0) (y .1) ys d l room (h .0 .0) (h .0 .1))
+    (left next (y .0) (y .1) ys d l room (h .0 .0) (h .0 .1)) rest
     (room-left next (y .0) (y .1) ys d l room (h .0 .0) (h .0 .1)) (h .1)
-    ∙ body-same 1 16 _ (λ k. d k ++ written (picked k (y ∷ ys))) (λ k. []) (λ k. []) rest (λ k i j. (pick-same next (y .0) (y .1) ys d l room (h .0 .0) (h .0 .1) k, refl))
+    ∙ body-same 1 16 _ (λ k. d k ++ written (picked k (y ∷ ys))) (λ k. []) (λ k. []) rest
+    (λ k i j. (pick-same next (y .0) (y .1) ys d l room (h .0 .0) (h .0 .1) k, refl))
 
 -- ---- The output before: a block for each kind.
 
@@ -198,7 +211,8 @@ body-gathers : (n a : ℕ) (ys : List Kinded) (rest : Bytes) → body a n (λ k.
 unfolding body gather written
 body-gathers zero a ys rest = refl
 body-gathers (suc n) a ys rest =
-    ap (λ (x : Bytes). written (picked a ys) ++ x) (body-gathers n (suc a) ys rest) ∙ sym (append-assoc (written (picked a ys)) (written (gather (suc a) n ys)) rest)
+    ap (λ (x : Bytes). written (picked a ys) ++ x) (body-gathers n (suc a) ys rest) ∙
+    sym (append-assoc (written (picked a ys)) (written (gather (suc a) n ys)) rest)
     ∙ ap (λ (x : Bytes). x ++ rest) (sym (written-append (picked a ys) (gather (suc a) n ys)))
 
 module _ (out : Bytes) (s c : ℕ → ℕ) (steps : (k : ℕ) → 1 ≤ k → s (suc k) ≡ s k + c k) where
@@ -221,9 +235,11 @@ module _ (out : Bytes) (s c : ℕ → ℕ) (steps : (k : ℕ) → 1 ≤ k → s 
       let z : a + suc n ≡ suc a + n = omega arith in
       let w : 16 * s a + 16 * c a ≡ 16 * s (suc a) = omega arith in
       sym (take-append-drop (16 * c a) (drop (16 * s a) out))
-      ∙ ap (λ (x : Bytes). take (16 * c a) (drop (16 * s a) out) ++ x) (drop-drop (16 * c a) (16 * s a) out ∙ ap (λ (m : ℕ). drop m out) w ∙ split-out n (suc a) (omega arith) ∙ ap (λ (m : ℕ). body (suc a) n (λ k. []) segment (drop (16 * s m) out)) (sym z))
+      ∙ ap (λ (x : Bytes). take (16 * c a) (drop (16 * s a) out) ++ x) (drop-drop (16 * c a) (16 * s a) out ∙ ap (λ (m : ℕ). drop m out) w ∙
+      split-out n (suc a) (omega arith) ∙ ap (λ (m : ℕ). body (suc a) n (λ k. []) segment (drop (16 * s m) out)) (sym z))
 
-  pub starts-count : (ys : List Kinded) → ((k : ℕ) → 1 ≤ k → k < 17 → c k ≡ many (picked k ys)) → (n a : ℕ) → 1 ≤ a → a + n ≤ 17 → s a + many (gather a n ys) ≡ s (a + n)
+  pub starts-count : (ys : List Kinded) → ((k : ℕ) → 1 ≤ k → k < 17 → c k ≡ many (picked k ys)) → (n a : ℕ) → 1 ≤ a → a + n ≤ 17 →
+      s a + many (gather a n ys) ≡ s (a + n)
   unfolding gather many
   starts-count ys counts zero a h l = let z : a + 0 ≡ a = omega arith in rw z (omega arith)
   starts-count ys counts (suc n) a h l =
@@ -255,7 +271,8 @@ module _ (out : Bytes) (s c : ℕ → ℕ) (steps : (k : ℕ) → 1 ≤ k → s 
         let w = segment-length a h (omega arith) in
         rw z (omega arith)
 
-    pub places : (ys : List Kinded) → s 1 ≡ 0 → ((k : ℕ) → 1 ≤ k → k < 17 → c k ≡ many (picked k ys)) → Every InKinds ys → fillAll s ys out ≡ written (gather 1 16 ys) ++ drop (16 * s 17) out
+    pub places : (ys : List Kinded) → s 1 ≡ 0 → ((k : ℕ) → 1 ≤ k → k < 17 → c k ≡ many (picked k ys)) → Every InKinds ys →
+        fillAll s ys out ≡ written (gather 1 16 ys) ++ drop (16 * s 17) out
     unfolding body
     places ys zero-start counts h =
         let room : Room s ys (λ k. []) segment

@@ -85,7 +85,11 @@ unfolding rising oneOf every
 risen ns k zero xs = sym (every-true xs)
 risen ns k (suc n) xs =
     every-append there (each (recordSaid ns) (keep (λ x. eqb (x .kind) k) xs)) (rising ns (suc k) n xs)
-    ∙ rw (every-of there (recordSaid ns) (keep (λ x. eqb (x .kind) k) xs), every-kept (λ x. there (recordSaid ns x)) (λ x. eqb (x .kind) k) xs, risen ns (suc k) n xs)
+    ∙ rw (
+      every-of there (recordSaid ns) (keep (λ x. eqb (x .kind) k) xs),
+      every-kept (λ x. there (recordSaid ns x)) (λ x. eqb (x .kind) k) xs,
+      risen ns (suc k) n xs,
+    )
     (every-and (λ x. not (eqb (x .kind) k) || there (recordSaid ns x)) (λ x. not (oneOf (suc k) n (x .kind)) || there (recordSaid ns x)) xs
     ∙ every-same _ _ xs (λ x. either (eqb (x .kind) k) (oneOf (suc k) n (x .kind)) (there (recordSaid ns x))))
 
@@ -144,12 +148,14 @@ judged ts ls =
     xs : List Saying
     xs = sayings start ts
 
-    together : every there (rising ns 1 5 xs ++ each (taskRecord ns) ls ++ rising ns 7 10 xs) ≡ every (λ l. there (taskRecord ns l)) ls && every (λ x. there (recordSaid ns x)) xs
+    together : every there (rising ns 1 5 xs ++ each (taskRecord ns) ls ++ rising ns 7 10 xs) ≡
+        every (λ l. there (taskRecord ns l)) ls && every (λ x. there (recordSaid ns x)) xs
     together =
         every-append there (rising ns 1 5 xs ++ each (taskRecord ns) ls) (rising ns 7 10 xs)
         ∙ ap (λ (b : Bool). b && every there (rising ns 7 10 xs)) (every-append there (rising ns 1 5 xs) (each (taskRecord ns) ls))
         ∙ rw (every-of there (taskRecord ns) ls, risen ns 1 5 xs, risen ns 7 10 xs)
-        (and-order (every (λ x. not (oneOf 1 5 (x .kind)) || there (recordSaid ns x)) xs) (every (λ x. not (oneOf 7 10 (x .kind)) || there (recordSaid ns x)) xs) (every (λ l. there (taskRecord ns l)) ls)
+        (and-order (every (λ x. not (oneOf 1 5 (x .kind)) || there (recordSaid ns x)) xs)
+        (every (λ x. not (oneOf 7 10 (x .kind)) || there (recordSaid ns x)) xs) (every (λ l. there (taskRecord ns l)) ls)
         ∙ ap (λ (b : Bool). every (λ l. there (taskRecord ns l)) ls && b)
         (every-and (λ x. not (oneOf 1 5 (x .kind)) || there (recordSaid ns x)) (λ x. not (oneOf 7 10 (x .kind)) || there (recordSaid ns x)) xs
         ∙ every-same _ _ xs (λ x. either (oneOf 1 5 (x .kind)) (oneOf 7 10 (x .kind)) (there (recordSaid ns x)))
@@ -160,7 +166,8 @@ unfolding allOf each
 all-are [] rs e = ap (each just) (just-value e)
 all-are (none ∷ xs) rs e = absurd (none≢just e)
 all-are (just r ∷ xs) rs e =
-    on-found (allOf xs) (λ us q. ap (λ (l : List (Maybe Record)). just r ∷ l) (all-are xs us q) ∙ ap (each just) (just-value (rw q at e))) (λ q. absurd (none≢just (rw q at e)))
+    on-found (allOf xs) (λ us q. ap (λ (l : List (Maybe Record)). just r ∷ l) (all-are xs us q) ∙ ap (each just) (just-value (rw q at e)))
+    (λ q. absurd (none≢just (rw q at e)))
 
 -- the records, kinds rising, and within a kind as the tags say them
 pub ordered : (ts : List Tag) (ls : List Line) (rs : List Record) → recordsIn ts ls ≡ just rs

@@ -36,7 +36,9 @@ ofKind k xs = each (λ x. x .found) (keep (λ x. eqb (x .kind) k) xs)
 
 kind-append : (k : ℕ) (xs ys : List Saying) → ofKind k (xs ++ ys) ≡ ofKind k xs ++ ofKind k ys
 unfolding ofKind
-kind-append k xs ys = ap (each (λ x. x .found)) (keep-append (λ x. eqb (x .kind) k) xs ys) ∙ each-append (λ x. x .found) (keep (λ x. eqb (x .kind) k) xs) (keep (λ x. eqb (x .kind) k) ys)
+kind-append k xs ys =
+    ap (each (λ x. x .found)) (keep-append (λ x. eqb (x .kind) k) xs ys) ∙
+    each-append (λ x. x .found) (keep (λ x. eqb (x .kind) k) xs) (keep (λ x. eqb (x .kind) k) ys)
 
 -- what a tag says is of the kind, or is not
 abbrev said : Context → Tag → List Tag → List Saying
@@ -62,8 +64,10 @@ parts : (k : ℕ) (c : Context) (w : Text) (gs : List Given) (i b : Elements) (x
     → ofKind k (told c (node w gs i b)) ≡ x ++ y ++ z
 unfolding told
 parts k c w gs i b x y z p q r =
-    kind-append k (said c (record { name = w; given = gs }) (tagsOf i) ++ told (turn c (record { name = w; given = gs })) i) (told (turns (turn c (record { name = w; given = gs })) (tagsOf i)) b)
-    ∙ ap (λ (l : List Found). l ++ ofKind k (told (turns (turn c (record { name = w; given = gs })) (tagsOf i)) b)) (kind-append k (said c (record { name = w; given = gs }) (tagsOf i)) (told (turn c (record { name = w; given = gs })) i))
+    kind-append k (said c (record { name = w; given = gs }) (tagsOf i) ++ told (turn c (record { name = w; given = gs })) i)
+    (told (turns (turn c (record { name = w; given = gs })) (tagsOf i)) b)
+    ∙ ap (λ (l : List Found). l ++ ofKind k (told (turns (turn c (record { name = w; given = gs })) (tagsOf i)) b))
+    (kind-append k (said c (record { name = w; given = gs }) (tagsOf i)) (told (turn c (record { name = w; given = gs })) i))
     ∙ rw (p, q, r)
 
 -- ---- Contexts.
@@ -101,7 +105,8 @@ only-one e k (x ∷ xs) w z h s =
 -- the kind has this element and no other, and it is looked for everywhere
 unfoldable pub simpleTest : Text → ℕ → Bool
 simpleTest e k =
-    eqb (kindIn kinds e) k && (not (same e (text "critical_role_set")) && (not (same e (text "hdsodtp_partition")) && (not (eqb k 0) && (not (eqb 9 k) && (not (eqb 10 k) && every (only e k) kinds)))))
+    eqb (kindIn kinds e) k && (not (same e (text "critical_role_set")) &&
+    (not (same e (text "hdsodtp_partition")) && (not (eqb k 0) && (not (eqb 9 k) && (not (eqb 10 k) && every (only e k) kinds)))))
 
 -- the kind of another element is another
 module _ (k : ℕ) (c : Context) (t : Tag) (e : Text) where
@@ -129,14 +134,16 @@ module _ (e : Text) (k : ℕ) (test : simpleTest e k ≡ true) where
       let y : kindIn kinds w ≡ k = rw v (eqb-true _ _ (a .0)) in
       let z : same w (text "hdsodtp_partition") ≡ false = rw v (not-true _ (d .0)) in
       hit k c (record { name = w; given = gs }) i (not-true _ (f .0)) (rw (x, y)) ∙ rw (q, z))
-      (λ q. miss k c (record { name = w; given = gs }) i (other k c (record { name = w; given = gs }) e h (not-true _ (f .0)) (not-true _ (g .0)) (not-true _ (j .0)) (j .1) q) ∙ rw q)
+      (λ q. miss k c (record { name = w; given = gs }) i
+      (other k c (record { name = w; given = gs }) e h (not-true _ (f .0)) (not-true _ (g .0)) (not-true _ (j .0)) (j .1) q) ∙ rw q)
 
   pub simple : (c : Context) → Sets c → (es : Elements) → ofKind k (told c es) ≡ those e 0 es
   unfolding those
   simple c h nothing = nothing-told k c
   simple c h (node w gs i b) =
       parts k c w gs i b _ _ _ (own c w gs (tagsOf i) h) (simple (turn c (record { name = w; given = gs })) (turn-sets c (record { name = w; given = gs }) h) i)
-      (simple (turns (turn c (record { name = w; given = gs })) (tagsOf i)) (turns-sets (turn c (record { name = w; given = gs })) (tagsOf i) (turn-sets c (record { name = w; given = gs }) h)) b)
+      (simple (turns (turn c (record { name = w; given = gs })) (tagsOf i))
+      (turns-sets (turn c (record { name = w; given = gs })) (tagsOf i) (turn-sets c (record { name = w; given = gs }) h)) b)
 
 -- ---- Kind 12: partitions, numbered by the partitioning that they stand in.
 
@@ -167,7 +174,8 @@ unfolding readingOpen kinds kindIn
 partition-kind c w gs e = rw (same-true w partition e)
 
 own-partition : (c : Context) (w : Text) (gs : List Given) (i : List Tag) → Sets c
-    → ofKind 12 (said c (record { name = w; given = gs }) i) ≡ cond (same w partition) (record { number = c .partitionings - 1; given = gs; inside = i } ∷ []) []
+    → ofKind 12 (said c (record { name = w; given = gs }) i) ≡
+    cond (same w partition) (record { number = c .partitionings - 1; given = gs; inside = i } ∷ []) []
 own-partition c w gs i h =
     on-test (same w partition)
     (λ q. hit 12 c (record { name = w; given = gs }) i refl (partition-kind c w gs q) ∙ rw q)
@@ -186,12 +194,18 @@ in-partitioning cs h (node w gs i b) f c s =
     let n : inPartitioning w ≡ true = child-has inPartitioning cs w h (f .0) in
     let q : turning w ≡ false = not-true (turning w) (name-has (λ v. not (turning v)) (partition ∷ text "partition_task" ∷ []) w in-still n) in
     let m : turn c (record { name = w; given = gs }) ≡ c = still c (record { name = w; given = gs }) q in
-    let p : same w partitioning ≡ false = or-none (same w (text "dynamic_separation_of_duty")) (same w partitioning) (or-none (same w (text "static_separation_of_duty")) _ q .1) .1 in
+    let p : same w partitioning ≡ false =
+    or-none (same w (text "dynamic_separation_of_duty")) (same w partitioning) (or-none (same w (text "static_separation_of_duty")) _ q .1) .1 in
     let x = in-partitioning (rowIn elements w .children) (stands-in (λ w. same w partitioning) inPartitioning w partitionings-group (rw (p, n))) i (f .1) c s in
     let y = in-partitioning cs h b (f .2) c s in
     record {
-      found-are = parts 12 c w gs i b _ _ _ (own-partition c w gs (tagsOf i) s) (rw m (x .found-are)) (ap (λ (d : Context). ofKind 12 (told (turns d (tagsOf i)) b)) m ∙ ap (λ (d : Context). ofKind 12 (told d b)) (x .turns-not) ∙ y .found-are);
-      turns-not = ap (λ (d : Context). turns d (tagsOf i ++ tagsOf b)) m ∙ turns-append c (tagsOf i) (tagsOf b) ∙ ap (λ (d : Context). turns d (tagsOf b)) (x .turns-not) ∙ y .turns-not;
+      found-are =
+          parts 12 c w gs i b _ _ _ (own-partition c w gs (tagsOf i) s) (rw m (x .found-are))
+          (ap (λ (d : Context). ofKind 12 (told (turns d (tagsOf i)) b)) m ∙ ap (λ (d : Context). ofKind 12 (told d b)) (x .turns-not) ∙ y .found-are);
+      turns-not =
+          ap (λ (d : Context). turns d (tagsOf i ++ tagsOf b)) m ∙ turns-append c (tagsOf i) (tagsOf b) ∙
+          ap (λ (d : Context). turns d (tagsOf b)) (x .turns-not) ∙
+          y .turns-not;
       no-other = rw (p, x .no-other, y .no-other);
     }
 
@@ -218,21 +232,26 @@ partitions cs h nothing f c s = record { found-are = nothing-told 12 c; counted 
 partitions cs h (node w gs i b) f c s =
     on-test (same w partitioning)
     (λ q.
-    let x = in-partitioning (rowIn elements w .children) (stands-in (λ w. same w partitioning) inPartitioning w partitionings-group (rw q)) i (f .1) d (turn-sets c t s) in
+    let x =
+    in-partitioning (rowIn elements w .children) (stands-in (λ w. same w partitioning) inPartitioning w partitionings-group (rw q)) i (f .1) d
+    (turn-sets c t s) in
     let y = partitions cs h b (f .2) d (turn-sets c t s) in
     let p : d .partitionings ≡ suc (c .partitionings) = turned c t ∙ rw q in
     let k : suc (c .partitionings) - 1 ≡ c .partitionings = omega arith in
     let z = y .counted in
     record {
       found-are =
-          parts 12 c w gs i b [] (those partition (c .partitionings) i) (inEach (suc (c .partitionings)) partition (insides partitioning b)) not-own (x .found-are ∙ rw (p, k)) (ap (λ (e : Context). ofKind 12 (told e b)) (x .turns-not) ∙ y .found-are ∙ rw p)
+          parts 12 c w gs i b [] (those partition (c .partitionings) i) (inEach (suc (c .partitionings)) partition (insides partitioning b)) not-own
+          (x .found-are ∙ rw (p, k)) (ap (λ (e : Context). ofKind 12 (told e b)) (x .turns-not) ∙ y .found-are ∙ rw p)
           ∙ rw (q, x .no-other);
       counted =
           ap (λ (e : Context). e .partitionings) (turns-append d (tagsOf i) (tagsOf b) ∙ ap (λ (e : Context). turns e (tagsOf b)) (x .turns-not))
           ∙ rw (q, x .no-other) (omega arith);
     })
     (λ q.
-    let x = partitions (rowIn elements w .children) (stands-out (λ w. same w partitioning) inPartitioning w partitionings-group (rw (q, out))) i (f .1) d (turn-sets c t s) in
+    let x =
+    partitions (rowIn elements w .children) (stands-out (λ w. same w partitioning) inPartitioning w partitionings-group (rw (q, out))) i (f .1) d
+    (turn-sets c t s) in
     let y = partitions cs h b (f .2) (turns d (tagsOf i)) (turns-sets d (tagsOf i) (turn-sets c t s)) in
     let p : d .partitionings ≡ c .partitionings = turned c t ∙ rw q in
     let z = y .counted in
@@ -240,7 +259,9 @@ partitions cs h (node w gs i b) f c s =
     let o = many-append (insides partitioning i) (insides partitioning b) in
     record {
       found-are =
-          parts 12 c w gs i b [] (inEach (c .partitionings) partition (insides partitioning i)) (inEach (many (insides partitioning i) + c .partitionings) partition (insides partitioning b)) not-own (x .found-are ∙ rw p) (y .found-are ∙ rw (x .counted, p))
+          parts 12 c w gs i b [] (inEach (c .partitionings) partition (insides partitioning i))
+          (inEach (many (insides partitioning i) + c .partitionings) partition (insides partitioning b)) not-own (x .found-are ∙ rw p)
+          (y .found-are ∙ rw (x .counted, p))
           ∙ rw q (sym (each-numbered (c .partitionings) partition (insides partitioning i) (insides partitioning b)));
       counted = ap (λ (e : Context). e .partitionings) (turns-append d (tagsOf i) (tagsOf b)) ∙ rw q (omega arith);
     })
@@ -311,7 +332,8 @@ module _ (k : ℕ) (o : Text) (above : (eqb k 0 ≡ false) × (eqb 0 k ≡ false
     (is-one : (w : Text) → separation w ≡ false → same w o ≡ false)
   where
     own-set : (c : Context) (w : Text) (gs : List Given) (i : List Tag)
-        → ofKind k (said c (record { name = w; given = gs }) i) ≡ cond (eqb (c .sets) k) (cond (same w roleSet) (record { number = 0; given = gs; inside = i } ∷ []) []) []
+        → ofKind k (said c (record { name = w; given = gs }) i) ≡
+        cond (eqb (c .sets) k) (cond (same w roleSet) (record { number = 0; given = gs; inside = i } ∷ []) []) []
     own-set c w gs i =
         on-test (same w roleSet)
         (λ q. on-test (eqb (c .sets) k)
@@ -332,7 +354,8 @@ module _ (k : ℕ) (o : Text) (above : (eqb k 0 ≡ false) × (eqb 0 k ≡ false
 
     in-separation : (cs : List Child) → forNames inSeparation cs ≡ true → (es : Elements) → Fits cs es → (c : Context) → InSeparation c es
     unfolding Fits those insides tagsOf turns
-    in-separation cs h nothing f c = record { found-are = nothing-told k c ∙ on-test (eqb (c .sets) k) (λ p. rw p) (λ p. rw p); turns-not = refl; no-other = refl }
+    in-separation cs h nothing f c =
+        record { found-are = nothing-told k c ∙ on-test (eqb (c .sets) k) (λ p. rw p) (λ p. rw p); turns-not = refl; no-other = refl }
     in-separation cs h (node w gs i b) f c =
         let n : inSeparation w ≡ true = child-has inSeparation cs w h (f .0) in
         let q : turning w ≡ false = not-true (turning w) (name-has (λ v. not (turning v)) inSeparationNames w separation-still n) in
@@ -344,25 +367,33 @@ module _ (k : ℕ) (o : Text) (above : (eqb k 0 ≡ false) × (eqb 0 k ≡ false
         let y = in-separation cs h b (f .2) c in
         record {
           found-are =
-              parts k c w gs i b (cond (eqb (c .sets) k) (cond (same w roleSet) (record { number = 0; given = gs; inside = tagsOf i } ∷ []) []) []) (cond (eqb (c .sets) k) (those roleSet 0 i) []) (cond (eqb (c .sets) k) (those roleSet 0 b) [])
-              (own-set c w gs (tagsOf i)) (rw m (x .found-are)) (ap (λ (d : Context). ofKind k (told (turns d (tagsOf i)) b)) m ∙ ap (λ (d : Context). ofKind k (told d b)) (x .turns-not) ∙ y .found-are)
-              ∙ three (eqb (c .sets) k) (cond (same w roleSet) (record { number = 0; given = gs; inside = tagsOf i } ∷ []) []) (those roleSet 0 i) (those roleSet 0 b);
-          turns-not = ap (λ (d : Context). turns d (tagsOf i ++ tagsOf b)) m ∙ turns-append c (tagsOf i) (tagsOf b) ∙ ap (λ (d : Context). turns d (tagsOf b)) (x .turns-not) ∙ y .turns-not;
+              parts k c w gs i b (cond (eqb (c .sets) k) (cond (same w roleSet) (record { number = 0; given = gs; inside = tagsOf i } ∷ []) []) [])
+              (cond (eqb (c .sets) k) (those roleSet 0 i) []) (cond (eqb (c .sets) k) (those roleSet 0 b) [])
+              (own-set c w gs (tagsOf i)) (rw m (x .found-are))
+              (ap (λ (d : Context). ofKind k (told (turns d (tagsOf i)) b)) m ∙ ap (λ (d : Context). ofKind k (told d b)) (x .turns-not) ∙ y .found-are)
+              ∙ three (eqb (c .sets) k) (cond (same w roleSet) (record { number = 0; given = gs; inside = tagsOf i } ∷ []) []) (those roleSet 0 i)
+              (those roleSet 0 b);
+          turns-not =
+              ap (λ (d : Context). turns d (tagsOf i ++ tagsOf b)) m ∙ turns-append c (tagsOf i) (tagsOf b) ∙
+              ap (λ (d : Context). turns d (tagsOf b)) (x .turns-not) ∙ y .turns-not;
           no-other = rw (is-one w p, x .no-other, y .no-other);
         }
 
-    pub role-sets : (cs : List Child) → forNames (λ v. not (inSeparation v)) cs ≡ true → (es : Elements) → Fits cs es → (c : Context) → ofKind k (told c es) ≡ inAll roleSet (insides o es)
+    pub role-sets : (cs : List Child) → forNames (λ v. not (inSeparation v)) cs ≡ true → (es : Elements) → Fits cs es → (c : Context) →
+        ofKind k (told c es) ≡ inAll roleSet (insides o es)
     unfolding Fits insides inAll
     role-sets cs h nothing f c = nothing-told k c
     role-sets cs h (node w gs i b) f c =
         on-test (separation w)
         (λ q.
         let x = in-separation (rowIn elements w .children) (stands-in separation inSeparation w separations-group (rw q)) i (f .1) d in
-        parts k c w gs i b [] (cond (same w o) (those roleSet 0 i) []) (inAll roleSet (insides o b)) not-own (x .found-are ∙ rw (told-apart c w gs q)) (role-sets cs h b (f .2) (turns d (tagsOf i)))
+        parts k c w gs i b [] (cond (same w o) (those roleSet 0 i) []) (inAll roleSet (insides o b)) not-own (x .found-are ∙ rw (told-apart c w gs q))
+        (role-sets cs h b (f .2) (turns d (tagsOf i)))
         ∙ on-test (same w o) (λ p. rw (p, x .no-other)) (λ p. rw (p, x .no-other)))
         (λ q.
         parts k c w gs i b [] (inAll roleSet (insides o i)) (inAll roleSet (insides o b)) not-own
-        (role-sets (rowIn elements w .children) (stands-out separation inSeparation w separations-group (rw (q, out))) i (f .1) d) (role-sets cs h b (f .2) (turns d (tagsOf i)))
+        (role-sets (rowIn elements w .children) (stands-out separation inSeparation w separations-group (rw (q, out))) i (f .1) d)
+        (role-sets cs h b (f .2) (turns d (tagsOf i)))
         ∙ rw (is-one w q) (sym (all-append roleSet (insides o i) (insides o b))))
       where
         d : Context

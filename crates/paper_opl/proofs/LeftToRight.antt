@@ -100,7 +100,8 @@ unfolding ofKind keep each recordSaid
 by-row ns r e [] = refl
 by-row ns r e (x ∷ xs) =
     on-test (eqb (x .kind) (r .kind))
-    (λ q. rw q (rw (ap (λ (k : ℕ). rowOf (firstRows ++ lastRows) k) (eqb-true (x .kind) (r .kind) q) ∙ e) (ap (λ (l : List (Maybe Record)). recordBy ns r (x .found) ∷ l) (by-row ns r e xs))))
+    (λ q. rw q (rw (ap (λ (k : ℕ). rowOf (firstRows ++ lastRows) k) (eqb-true (x .kind) (r .kind) q) ∙ e)
+    (ap (λ (l : List (Maybe Record)). recordBy ns r (x .found) ∷ l) (by-row ns r e xs))))
     (λ q. rw q (by-row ns r e xs))
 
 -- the rows of kinds from k on, each with its own elements
@@ -119,7 +120,8 @@ rows-rise ns es [] k h = refl
 rows-rise ns es (r ∷ rs) k h =
     let l = h .0 in
     ap (λ (x : List (Maybe Record)). x ++ recordsBy ns rs es)
-    (ap (each (recordBy ns r)) (sym (l .elements-are)) ∙ by-row ns r (l .row-is) (told start es) ∙ ap (λ (n : ℕ). each (recordSaid ns) (keep (λ x. eqb (x .kind) n) (told start es))) (l .kind-is))
+    (ap (each (recordBy ns r)) (sym (l .elements-are)) ∙ by-row ns r (l .row-is) (told start es) ∙
+    ap (λ (n : ℕ). each (recordSaid ns) (keep (λ x. eqb (x .kind) n) (told start es))) (l .kind-is))
     ∙ ap (λ (x : List (Maybe Record)). each (recordSaid ns) (keep (λ x. eqb (x .kind) k) (told start es)) ++ x) (rows-rise ns es rs (suc k) (h .1))
 
 module _ (es : Elements) (f : Fits root es) where
@@ -210,10 +212,12 @@ module _ (s r : Text) where
     unfolding leading
     lead-step = ap leading (step s r (t ∷ []) e)
 
-    pub declare-step : (f w : String) → declaredIn f w (walk s) ≡ cond (called f t) (valueOf (text w) (t .given) ∷ declaredIn f w (walk r)) (declaredIn f w (walk r))
+    pub declare-step : (f w : String) →
+        declaredIn f w (walk s) ≡ cond (called f t) (valueOf (text w) (t .given) ∷ declaredIn f w (walk r)) (declaredIn f w (walk r))
     unfolding keep each
     declare-step f w = ap (declaredIn f w) (step s r (t ∷ []) e) ∙ on-test (called f t) (λ q. rw q) (λ q. rw q)
 
-    pub count-step : (f : String) → many (keep (called f) (walk s)) ≡ cond (called f t) (suc (many (keep (called f) (walk r)))) (many (keep (called f) (walk r)))
+    pub count-step : (f : String) →
+        many (keep (called f) (walk s)) ≡ cond (called f t) (suc (many (keep (called f) (walk r)))) (many (keep (called f) (walk r)))
     unfolding keep many
     count-step f = ap (λ (ts : List Tag). many (keep (called f) ts)) (step s r (t ∷ []) e) ∙ on-test (called f t) (λ q. rw q) (λ q. rw q)

@@ -36,7 +36,8 @@ space-stops : (rest : Text) → stops inLine (text " " ++ rest) ≡ true
 unfolding text
 space-stops rest = refl
 
-feed-read : (feed : Bool) (ls : List Line) → cond (same (linesText feed ls) []) (got tt (linesText feed ls)) (expect (10 ∷ []) (linesText feed ls)) ≡ got tt (tasksText feed ls)
+feed-read : (feed : Bool) (ls : List Line) →
+    cond (same (linesText feed ls) []) (got tt (linesText feed ls)) (expect (10 ∷ []) (linesText feed ls)) ≡ got tt (tasksText feed ls)
 unfolding linesText tasksText text same expect
 feed-read true [] = refl
 feed-read false [] = refl
@@ -81,7 +82,8 @@ one-space : (z : Text) → 32 ∷ z ≡ text " " ++ z
 unfolding text
 one-space z = refl
 
-fed : (z y : Text) (ls : List Line) (feed : Bool) → cond (same z []) (got tt z) (expect (10 ∷ []) z) ≡ got tt y → y ≡ tasksText feed ls → (f : Bool) × (z ≡ linesText f ls)
+fed : (z y : Text) (ls : List Line) (feed : Bool) → cond (same z []) (got tt z) (expect (10 ∷ []) z) ≡ got tt y → y ≡ tasksText feed ls →
+    (f : Bool) × (z ≡ linesText f ls)
 unfolding linesText tasksText text
 fed z y [] feed e t =
     on-test (same z []) (λ q. (false, same-end z q)) (λ q. (true, expect-laid (10 ∷ []) z y (rw q at e) ∙ ap (λ (x : Text). 10 ∷ x) t))
@@ -92,10 +94,13 @@ fed z y (l ∷ ls) feed e t =
 
 lines-laid : (n : ℕ) (t : Text) (ls : List Line) (r : Text) → lines n t ≡ got ls r → LinesFrom ls t
 unfolding lines tasksText every
-lines-laid zero t ls r e = on-test (same t []) (λ q. rw (sym (got-value (rw q at e))) (record { feed = false; fit = refl; text-is = same-end t q })) (λ q. absurd (bad≢got (rw q at e)))
+lines-laid zero t ls r e =
+    on-test (same t []) (λ q. rw (sym (got-value (rw q at e))) (record { feed = false; fit = refl; text-is = same-end t q }))
+    (λ q. absurd (bad≢got (rw q at e)))
 lines-laid (suc n) t ls r e =
     on-test (same t []) (λ q. rw (sym (got-value (rw q at e))) (record { feed = false; fit = refl; text-is = same-end t q }))
-    (λ q. on (word inLine t) (λ v u a. on (expect (32 ∷ []) u) (λ _ z b. on (word inLine z) (λ w y c. on (cond (same y []) (got tt y) (expect (10 ∷ []) y)) (λ _ x d. on (lines n x)
+    (λ q. on (word inLine t) (λ v u a. on (expect (32 ∷ []) u) (λ _ z b. on (word inLine z) (λ w y c. on (cond (same y []) (got tt y) (expect (10 ∷ []) y)) (λ _
+    x d. on (lines n x)
     (λ ms i f.
     let p = word-laid inLine t v u a in
     let o = expect-laid (32 ∷ []) u z b in
@@ -108,8 +113,12 @@ lines-laid (suc n) t ls r e =
       fit = rw (p .has, p .some, s .has, s .some) (m .fit);
       text-is = p .text-is ∙ ap (λ (k : Text). v ++ k) (o ∙ one-space z ∙ ap (λ (k : Text). text " " ++ k) (s .text-is ∙ ap (λ (k : Text). w ++ k) (g .1)));
     }))
-    (λ i f. absurd (bad≢got (rw (q, a, b, c, d, f) at e)))) (λ x d. absurd (bad≢got (rw (q, a, b, c, d) at e)))) (λ y c. absurd (bad≢got (rw (q, a, b, c) at e))))
+    (λ i f. absurd (bad≢got (rw (q, a, b, c, d, f) at e)))) (λ x d. absurd (bad≢got (rw (q, a, b, c, d) at e))))
+    (λ y c. absurd (bad≢got (rw (q, a, b, c) at e))))
     (λ z b. absurd (bad≢got (rw (q, a, b) at e)))) (λ u a. absurd (bad≢got (rw (q, a) at e))))
 
 pub lines-exactly : (t : Text) (ls : List Line) → lines (length t) t ≡ got ls [] ↔ LinesFrom ls t
-lines-exactly t ls = (lines-laid (length t) t ls [], λ w. ap (λ (x : Text). lines (length x) x) (w .text-is) ∙ lines-back ls (w .feed) (length (tasksText (w .feed) ls)) (w .fit) (omega arith))
+lines-exactly t ls = (
+  lines-laid (length t) t ls [],
+  λ w. ap (λ (x : Text). lines (length x) x) (w .text-is) ∙ lines-back ls (w .feed) (length (tasksText (w .feed) ls)) (w .fit) (omega arith),
+)

@@ -24,7 +24,8 @@ use Rattle.paper_opl.proofs.TreeBack.{same-self}
 place-from : (k n : ℕ) (w : Text) (ws : List Text) → placeOf k w ws ≡ just n → k ≤ n
 unfolding placeOf
 place-from k n w [] e = absurd (none≢just e)
-place-from k n w (v ∷ ws) e = on-test (same v w) (λ q. let x = just-value (rw q at e) in omega arith) (λ q. let x = place-from (suc k) n w ws (rw q at e) in omega arith)
+place-from k n w (v ∷ ws) e =
+    on-test (same v w) (λ q. let x = just-value (rw q at e) in omega arith) (λ q. let x = place-from (suc k) n w ws (rw q at e) in omega arith)
 
 place-one : (k n : ℕ) (v w : Text) (ws : List Text) → placeOf k v ws ≡ just n → placeOf k w ws ≡ just n → v ≡ w
 unfolding placeOf
@@ -102,7 +103,8 @@ place-add w k n (v ∷ seen) u e = on-test (same v w) (λ q. rw q (rw q at e)) (
 place-stays : (w : Text) (k n : ℕ) (seen us : List Text) → placeOf k w seen ≡ just n → placeOf k w (distinct seen us) ≡ just n
 unfolding distinct
 place-stays w k n seen [] e = e
-place-stays w k n seen (u ∷ us) e = on-test (some (same u) seen) (λ q. rw q (place-stays w k n seen us e)) (λ q. rw q (place-stays w k n (add seen u) us (place-add w k n seen u e)))
+place-stays w k n seen (u ∷ us) e =
+    on-test (some (same u) seen) (λ q. rw q (place-stays w k n seen us e)) (λ q. rw q (place-stays w k n (add seen u) us (place-add w k n seen u e)))
 
 -- a new name's number is how many there are
 place-new : (w : Text) (k : ℕ) (seen : List Text) → some (same w) seen ≡ false → placeOf k w (add seen w) ≡ just (k + many seen)
@@ -111,7 +113,8 @@ place-new w k [] a = let z : k + 0 ≡ k = omega arith in rw (same-self w, z)
 place-new w k (v ∷ seen) a =
     let o = or-none (same w v) (some (same w) seen) a in
     let z : k + suc (many seen) ≡ suc k + many seen = omega arith in
-    on-test (same v w) (λ q. absurd (true≢false (sym (same-self w) ∙ ap (same w) (sym (same-true v w q)) ∙ o .0))) (λ q. rw (q, z) (place-new w (suc k) seen (o .1)))
+    on-test (same v w) (λ q. absurd (true≢false (sym (same-self w) ∙ ap (same w) (sym (same-true v w q)) ∙ o .0)))
+    (λ q. rw (q, z) (place-new w (suc k) seen (o .1)))
 
 -- of names declared before it `us`, and behind it `vs`
 pub first-declared : (w : Text) (us vs : List Text) → some (same w) us ≡ false → placeOf 0 w (distinct [] (us ++ (w ∷ vs))) ≡ just (many (distinct [] us))
@@ -119,4 +122,5 @@ unfolding distinct some
 first-declared w us vs h =
     let a = not-there w [] us refl h in
     let z : 0 + many (distinct [] us) ≡ many (distinct [] us) = omega arith in
-    ap (placeOf 0 w) (distinct-append [] us (w ∷ vs)) ∙ rw a (place-stays w 0 (many (distinct [] us)) (add (distinct [] us) w) vs (place-new w 0 (distinct [] us) a ∙ rw z))
+    ap (placeOf 0 w) (distinct-append [] us (w ∷ vs)) ∙
+    rw a (place-stays w 0 (many (distinct [] us)) (add (distinct [] us) w) vs (place-new w 0 (distinct [] us) a ∙ rw z))

@@ -40,50 +40,61 @@ module _ (ns : Names) (x : Found) where
   unfolding recordSaid rowOf firstRows lastRows
   said-13 = refl
 
-  pub said-4 : recordSaid ns (record { kind = 4; found = x }) ≡ if-found (named (ns .users) "user_id" x) none (λ a. if-found (named (ns .roles) "role_id" x) none (λ b. fields 4 0 a b 0 0))
+  pub said-4 : recordSaid ns (record { kind = 4; found = x }) ≡
+      if-found (named (ns .users) "user_id" x) none (λ a. if-found (named (ns .roles) "role_id" x) none (λ b. fields 4 0 a b 0 0))
   unfolding recordSaid rowOf firstRows lastRows
   said-4 = refl
 
-  pub said-5 : recordSaid ns (record { kind = 5; found = x }) ≡ if-found (named (ns .roles) "role_id" x) none (λ a. if-found (named (ns .permissions) "permission_id" x) none (λ b. fields 5 0 a b 0 0))
+  pub said-5 : recordSaid ns (record { kind = 5; found = x }) ≡
+      if-found (named (ns .roles) "role_id" x) none (λ a. if-found (named (ns .permissions) "permission_id" x) none (λ b. fields 5 0 a b 0 0))
   unfolding recordSaid rowOf firstRows lastRows
   said-5 = refl
 
-  pub said-7 : recordSaid ns (record { kind = 7; found = x }) ≡ if-found (named (ns .tasks) "task_id" x) none (λ a. if-found (named (ns .roles) "role_id" x) none (λ b. fields 7 0 a b 0 0))
+  pub said-7 : recordSaid ns (record { kind = 7; found = x }) ≡
+      if-found (named (ns .tasks) "task_id" x) none (λ a. if-found (named (ns .roles) "role_id" x) none (λ b. fields 7 0 a b 0 0))
   unfolding recordSaid rowOf firstRows lastRows
   said-7 = refl
 
-  pub said-8 : recordSaid ns (record { kind = 8; found = x }) ≡ if-found (named (ns .tasks) "task_id" x) none (λ a. if-found (named (ns .permissions) "permission_id" x) none (λ b. fields 8 0 a b 0 0))
+  pub said-8 : recordSaid ns (record { kind = 8; found = x }) ≡
+      if-found (named (ns .tasks) "task_id" x) none (λ a. if-found (named (ns .permissions) "permission_id" x) none (λ b. fields 8 0 a b 0 0))
   unfolding recordSaid rowOf firstRows lastRows
   said-8 = refl
 
-  pub said-15 : recordSaid ns (record { kind = 15; found = x }) ≡ if-found (named (ns .tasks) "task_id" x) none (λ a. if-found (named (ns .tasks) "bound_task_id" x) none (λ b. fields 15 0 a b 0 0))
+  pub said-15 : recordSaid ns (record { kind = 15; found = x }) ≡
+      if-found (named (ns .tasks) "task_id" x) none (λ a. if-found (named (ns .tasks) "bound_task_id" x) none (λ b. fields 15 0 a b 0 0))
   unfolding recordSaid rowOf firstRows lastRows
   said-15 = refl
 
-  pub said-16 : recordSaid ns (record { kind = 16; found = x }) ≡ if-found (named (ns .tasks) "prereq_task_id" x) none (λ a. if-found (named (ns .tasks) "task_id" x) none (λ b. fields 16 0 a b 0 0))
+  pub said-16 : recordSaid ns (record { kind = 16; found = x }) ≡
+      if-found (named (ns .tasks) "prereq_task_id" x) none (λ a. if-found (named (ns .tasks) "task_id" x) none (λ b. fields 16 0 a b 0 0))
   unfolding recordSaid rowOf firstRows lastRows
   said-16 = refl
 
   pub said-3 : recordSaid ns (record { kind = 3; found = x })
-      ≡ if-found (named (ns .permissions) "permission_id" x) none (λ a. if-found (ofFirst (the (λ ns. ns .operations) "operation_id" ns) (members "operation" x)) none (λ b.
+      ≡ if-found (named (ns .permissions) "permission_id" x) none (λ a. if-found
+      (ofFirst (the (λ ns. ns .operations) "operation_id" ns) (members "operation" x)) none (λ b.
       if-found (ofFirst (the (λ ns. ns .objects) "object_id" ns) (members "object" x)) none (λ c. fields 3 0 a b c 0)))
   unfolding recordSaid rowOf firstRows lastRows
   said-3 = refl
 
-  pub said-9 : recordSaid ns (record { kind = 9; found = x }) ≡ if-found (setIn (λ ns. ns .roles) "critical_role" "role_id" ns x) none (λ m. fields 9 (cardinalityOf x) 0 0 0 m)
+  pub said-9 : recordSaid ns (record { kind = 9; found = x }) ≡
+      if-found (setIn (λ ns. ns .roles) "critical_role" "role_id" ns x) none (λ m. fields 9 (cardinalityOf x) 0 0 0 m)
   unfolding recordSaid rowOf firstRows lastRows
   said-9 = refl
 
-  pub said-10 : recordSaid ns (record { kind = 10; found = x }) ≡ if-found (setIn (λ ns. ns .roles) "critical_role" "role_id" ns x) none (λ m. fields 10 (cardinalityOf x) 0 0 0 m)
+  pub said-10 : recordSaid ns (record { kind = 10; found = x }) ≡
+      if-found (setIn (λ ns. ns .roles) "critical_role" "role_id" ns x) none (λ m. fields 10 (cardinalityOf x) 0 0 0 m)
   unfolding recordSaid rowOf firstRows lastRows
   said-10 = refl
 
-  pub said-11 : recordSaid ns (record { kind = 11; found = x }) ≡ if-found (setIn (λ ns. ns .tasks) "critical_task" "task_id" ns x) none (λ m. fields 11 (cardinalityOf x) 0 0 0 m)
+  pub said-11 : recordSaid ns (record { kind = 11; found = x }) ≡
+      if-found (setIn (λ ns. ns .tasks) "critical_task" "task_id" ns x) none (λ m. fields 11 (cardinalityOf x) 0 0 0 m)
   unfolding recordSaid rowOf firstRows lastRows
   said-11 = refl
 
   pub said-12 : recordSaid ns (record { kind = 12; found = x })
-      ≡ if-found (cond (ltb (x .number) 16) (just (x .number)) none) none (λ a. if-found (setIn (λ ns. ns .tasks) "partition_task" "task_id" ns x) none (λ m. fields 12 0 a 0 0 m))
+      ≡ if-found (cond (ltb (x .number) 16) (just (x .number)) none) none
+      (λ a. if-found (setIn (λ ns. ns .tasks) "partition_task" "task_id" ns x) none (λ m. fields 12 0 a 0 0 m))
   unfolding recordSaid rowOf firstRows lastRows
   said-12 = refl
 

@@ -34,15 +34,18 @@ pub number-short : (sp : Space) (w : Text) → there (numberIn sp w) ≡ true �
 unfolding numberIn holds
 number-short sp w e =
     on-found (placeOf 0 w (sp .declared))
-    (λ k q. on-test (leb (length w) 64 && ltb k (sp .limit)) (λ c. both (leb (length w) 64) (ltb k (sp .limit)) c .0) (λ c. absurd (false≢true (rw (q, c) at e))))
+    (λ k q. on-test (leb (length w) 64 && ltb k (sp .limit)) (λ c. both (leb (length w) 64) (ltb k (sp .limit)) c .0)
+    (λ c. absurd (false≢true (rw (q, c) at e))))
     (λ q. absurd (false≢true (rw q at e)))
 
 -- a record is there with each of its fields
-pub fields-there : (ns : Names) (r : Row) (x : Found) → there (recordBy ns r x) ≡ true → (there (r .a ns x) ≡ true) × (there (r .b ns x) ≡ true) × (there (r .c ns x) ≡ true)
+pub fields-there : (ns : Names) (r : Row) (x : Found) → there (recordBy ns r x) ≡ true →
+    (there (r .a ns x) ≡ true) × (there (r .b ns x) ≡ true) × (there (r .c ns x) ≡ true)
 unfolding holds
 fields-there ns r x e =
     on-found (r .n ns x) (λ n qn. on-found (r .a ns x) (λ a qa. on-found (r .b ns x) (λ b qb. on-found (r .c ns x) (λ c qc. rw (qa, qb, qc) (refl, refl, refl))
-    (λ q. absurd (false≢true (rw (qn, qa, qb, q) at e)))) (λ q. absurd (false≢true (rw (qn, qa, q) at e)))) (λ q. absurd (false≢true (rw (qn, q) at e)))) (λ q. absurd (false≢true (rw q at e)))
+    (λ q. absurd (false≢true (rw (qn, qa, qb, q) at e)))) (λ q. absurd (false≢true (rw (qn, qa, q) at e)))) (λ q. absurd (false≢true (rw (qn, q) at e))))
+    (λ q. absurd (false≢true (rw q at e)))
 
 every-more : {A : Type 0} (p q : A → Bool) (xs : List A) → ((x : A) → p x ≡ true → q x ≡ true) → every p xs ≡ true → every q xs ≡ true
 unfolding every
@@ -79,7 +82,9 @@ nothing-inside w (node v gs i b) r h = absurd (false≢true (rw r at h))
 one-next : (c : String) (cs ds : List Child) (w : Text) → next (one c ∷ cs) w ≡ just ds → (w ≡ text c) × (ds ≡ cs)
 unfolding next some
 one-next c cs ds w e =
-    on-test (same w (text c) || false) (λ q. on-test (same w (text c)) (λ p. (same-true w (text c) p, sym (just-value (rw q at e)))) (λ p. absurd (false≢true (rw p at q)))) (λ q. absurd (none≢just (rw q at e)))
+    on-test (same w (text c) || false)
+    (λ q. on-test (same w (text c)) (λ p. (same-true w (text c) p, sym (just-value (rw q at e)))) (λ p. absurd (false≢true (rw p at q))))
+    (λ q. absurd (none≢just (rw q at e)))
 
 empty-rows : (rowIn elements (text "operation") .children ≡ []) × (rowIn elements (text "object") .children ≡ [])
 unfolding readingOpen elementsOpen
@@ -95,7 +100,8 @@ record Pair (es : Elements) : Type 0 where
   object : List Given
   are : es ≡ node (text "operation") operation nothing (node (text "object") object nothing nothing)
 
-one-fits : (c : String) (cs : List Child) (es : Elements) → rowIn elements (text c) .children ≡ [] → elementsFit (one c ∷ cs) es ≡ true → (gs : List Given) × (b : Elements) × (es ≡ node (text c) gs nothing b) × (elementsFit cs b ≡ true)
+one-fits : (c : String) (cs : List Child) (es : Elements) → rowIn elements (text c) .children ≡ [] → elementsFit (one c ∷ cs) es ≡ true →
+    (gs : List Given) × (b : Elements) × (es ≡ node (text c) gs nothing b) × (elementsFit cs b ≡ true)
 unfolding elementsFit every
 one-fits c cs nothing r h = absurd (false≢true h)
 one-fits c cs (node w gs i b) r h =
@@ -118,7 +124,11 @@ pair es h =
     let x = one-fits "operation" (one "object" ∷ []) es (empty-rows .0) (rw permission-row at h) in
     let y = one-fits "object" [] (x .1) (empty-rows .1) (x .3) in
     let z = last-one (y .1) (y .3) in
-    record { operation = x .0; object = y .0; are = x .2 ∙ ap (λ (b : Elements). node (text "operation") (x .0) nothing b) (y .2 ∙ ap (λ (b : Elements). node (text "object") (y .0) nothing b) z) }
+    record {
+      operation = x .0;
+      object = y .0;
+      are = x .2 ∙ ap (λ (b : Elements). node (text "operation") (x .0) nothing b) (y .2 ∙ ap (λ (b : Elements). node (text "object") (y .0) nothing b) z);
+    }
 
 -- all in a list
 each-short : (f : Found → Text) (xs ys : List Found) → every short (each f xs) ≡ true → every short (each f ys) ≡ true → every short (each f (xs ++ ys)) ≡ true
@@ -138,7 +148,8 @@ module _ (ns : Names) (r : Row) (e w : String) (space : Names → Space) (inner 
     abbrev valueIn : Found → Text
     valueIn x = valueOf (text w) (x .given)
 
-    pair-short : (i : Elements) → Alone (text e) i → (gs : List Given) → there (recordBy ns r (record { number = 0; given = gs; inside = tagsOf i })) ≡ true → every short (each valueIn (those (text e) 0 i)) ≡ true
+    pair-short : (i : Elements) → Alone (text e) i → (gs : List Given) → there (recordBy ns r (record { number = 0; given = gs; inside = tagsOf i })) ≡ true →
+        every short (each valueIn (those (text e) 0 i)) ≡ true
     unfolding every each
     pair-short i a gs h =
         let t = told (record { number = 0; given = gs; inside = tagsOf i }) h in
@@ -156,7 +167,8 @@ module _ (ns : Names) (r : Row) (e w : String) (space : Names → Space) (inner 
         let m = both (attributesFit (rowIn elements v .attributes) gs && elementsFit (rowIn elements v .children) i) (elementsFit cs b) (rw q at f) in
         let k = both (attributesFit (rowIn elements v .attributes) gs) (elementsFit (rowIn elements v .children) i) (m .0) in
         let o = out v (t .0) in
-        let z : same v (text e) ≡ false = on-test (same v (text e)) (λ s. absurd (true≢false (sym inner ∙ ap inPermission (sym (same-true v (text e) s)) ∙ o))) (λ s. s) in
+        let z : same v (text e) ≡ false =
+        on-test (same v (text e)) (λ s. absurd (true≢false (sym inner ∙ ap inPermission (sym (same-true v (text e) s)) ∙ o))) (λ s. s) in
         rw z (on-test (same v permission)
         (λ s.
         let d = both (there (recordBy ns r (record { number = 0; given = gs; inside = tagsOf i }))) _ (rw s at h) in
@@ -168,7 +180,8 @@ module _ (ns : Names) (r : Row) (e w : String) (space : Names → Space) (inner 
         let c = every-append (λ x. there (recordBy ns r x)) (those permission 0 i) (those permission 0 b) in
         let d = both (every (λ x. there (recordBy ns r x)) (those permission 0 i)) _ (sym c ∙ (rw s at h)) in
         each-short valueIn (those (text e) 0 i) (those (text e) 0 b)
-        (inner-short (rowIn elements v .children) (λ u x. not-true (inPermission u) (child-has (λ u. not (inPermission u)) (rowIn elements v .children) u (stands-out (λ w. same w permission) inPermission v permissions-group (rw (s, o))) x)) i (k .1) (d .0))
+        (inner-short (rowIn elements v .children) (λ u x. not-true (inPermission u) (child-has (λ u. not (inPermission u)) (rowIn elements v .children) u
+        (stands-out (λ w. same w permission) inPermission v permissions-group (rw (s, o))) x)) i (k .1) (d .0))
         (inner-short cs (λ u x. out u (t .1 u x)) b (m .1) (d .1)))))
         (λ q. absurd (false≢true (rw q at f)))
 
@@ -189,10 +202,14 @@ unfolding recordsOf holds
 all-said es ls rs e =
     on-test (leb (many (those (text "hdsodtp_partitioning") 0 es)) 16)
     (λ q.
-    let f : allOf (recordsBy (namesOf es ls) firstRows es ++ each (taskRecord (namesOf es ls)) ls ++ recordsBy (namesOf es ls) lastRows es) ≡ just rs = rw q at e in
+    let f : allOf (recordsBy (namesOf es ls) firstRows es ++ each (taskRecord (namesOf es ls)) ls ++ recordsBy (namesOf es ls) lastRows es) ≡ just rs =
+    rw q at e in
     let a = sym (all-there (recordsBy (namesOf es ls) firstRows es ++ each (taskRecord (namesOf es ls)) ls ++ recordsBy (namesOf es ls) lastRows es)) ∙ rw f in
-    let b = both _ (every there (recordsBy (namesOf es ls) lastRows es)) (sym (every-append there (recordsBy (namesOf es ls) firstRows es ++ each (taskRecord (namesOf es ls)) ls) (recordsBy (namesOf es ls) lastRows es)) ∙ a) in
-    both (every there (recordsBy (namesOf es ls) firstRows es)) (every there (each (taskRecord (namesOf es ls)) ls)) (sym (every-append there (recordsBy (namesOf es ls) firstRows es) (each (taskRecord (namesOf es ls)) ls)) ∙ b .0))
+    let b =
+    both _ (every there (recordsBy (namesOf es ls) lastRows es))
+    (sym (every-append there (recordsBy (namesOf es ls) firstRows es ++ each (taskRecord (namesOf es ls)) ls) (recordsBy (namesOf es ls) lastRows es)) ∙ a) in
+    both (every there (recordsBy (namesOf es ls) firstRows es)) (every there (each (taskRecord (namesOf es ls)) ls))
+    (sym (every-append there (recordsBy (namesOf es ls) firstRows es) (each (taskRecord (namesOf es ls)) ls)) ∙ b .0))
     (λ q. absurd (none≢just (rw q at e)))
 
 -- the records of a row, and those of the rows behind it
@@ -200,14 +217,17 @@ row-said : (ns : Names) (r : Row) (rs : List Row) (es : Elements) → every ther
     → (every (λ x. there (recordBy ns r x)) (r .elements es) ≡ true) × (every there (recordsBy ns rs es) ≡ true)
 unfolding recordsBy
 row-said ns r rs es h =
-    let b = both (every there (each (recordBy ns r) (r .elements es))) (every there (recordsBy ns rs es)) (sym (every-append there (each (recordBy ns r) (r .elements es)) (recordsBy ns rs es)) ∙ h) in
+    let b =
+    both (every there (each (recordBy ns r) (r .elements es))) (every there (recordsBy ns rs es))
+    (sym (every-append there (each (recordBy ns r) (r .elements es)) (recordsBy ns rs es)) ∙ h) in
     (sym (every-of there (recordBy ns r) (r .elements es)) ∙ b .0, b .1)
 
 line-short : (ns : Names) (l : Line) → there (taskRecord ns l) ≡ true → (short (l .task) ≡ true) × (short (l .template) ≡ true)
 unfolding holds
 line-short ns l e =
     on-found (numberIn (ns .tasks) (l .task))
-    (λ a p. on-found (numberIn (ns .templates) (l .template)) (λ b q. (number-short (ns .tasks) (l .task) (rw p), number-short (ns .templates) (l .template) (rw q))) (λ q. absurd (false≢true (rw (p, q) at e))))
+    (λ a p. on-found (numberIn (ns .templates) (l .template))
+    (λ b q. (number-short (ns .tasks) (l .task) (rw p), number-short (ns .templates) (l .template) (rw q))) (λ q. absurd (false≢true (rw (p, q) at e))))
     (λ p. absurd (false≢true (rw p at e)))
 
 operation-alone : (gs hs : List Given) → Alone (text "operation") (node (text "operation") gs nothing (node (text "object") hs nothing nothing))
@@ -229,7 +249,8 @@ abbrev roleRow : Row
 roleRow = row 2 (all "role") · (role "role_id") · · ·
 
 abbrev permissionRow : Row
-permissionRow = row 3 (all "permission") · (permission-field "permission_id") (its "operation" (operation-field "operation_id")) (its "object" (object-field "object_id")) ·
+permissionRow =
+    row 3 (all "permission") · (permission-field "permission_id") (its "operation" (operation-field "operation_id")) (its "object" (object-field "object_id")) ·
 
 tree-short : (es : Elements) (ls : List Line) (rs : List Record) → inGrammar es ≡ true → recordsOf es ls ≡ just rs → ShortNames (tagsOf es) ls
 unfolding firstRows readingOpen listsOpen
@@ -239,14 +260,33 @@ tree-short es ls rs g e =
     let o = row-said (namesOf es ls) _ _ es (u .1) in
     let p = row-said (namesOf es ls) _ _ es (o .1) in
     record {
-      users = ap (every short) (sym (declared-are "user" "user_id" es)) ∙ own-short (namesOf es ls) userRow (λ ns. ns .users) "user_id" (those (text "user") 0 es) refl (u .0);
-      roles = ap (every short) (sym (declared-are "role" "role_id" es)) ∙ own-short (namesOf es ls) roleRow (λ ns. ns .roles) "role_id" (those (text "role") 0 es) refl (o .0);
-      permissions = ap (every short) (sym (declared-are "permission" "permission_id" es)) ∙ own-short (namesOf es ls) permissionRow (λ ns. ns .permissions) "permission_id" (those (text "permission") 0 es) refl (p .0);
-      operations = ap (every short) (sym (declared-are "operation" "operation_id" es)) ∙ inner-short (namesOf es ls) permissionRow "operation" "operation_id" (λ ns. ns .operations) refl (λ x h. fields-there (namesOf es ls) permissionRow x h .1) operation-alone root root-out es g (p .0);
-      objects = ap (every short) (sym (declared-are "object" "object_id" es)) ∙ inner-short (namesOf es ls) permissionRow "object" "object_id" (λ ns. ns .objects) refl (λ x h. fields-there (namesOf es ls) permissionRow x h .2) object-alone root root-out es g (p .0);
-      tasks = every-of short (λ l. l .task) ls ∙ every-more (λ l. there (taskRecord (namesOf es ls) l)) (λ l. short (l .task)) ls (λ l h. line-short (namesOf es ls) l h .0) (sym (every-of there (taskRecord (namesOf es ls)) ls) ∙ a .1);
-      templates = every-of short (λ l. l .template) ls ∙ every-more (λ l. there (taskRecord (namesOf es ls) l)) (λ l. short (l .template)) ls (λ l h. line-short (namesOf es ls) l h .1) (sym (every-of there (taskRecord (namesOf es ls)) ls) ∙ a .1);
+      users =
+          ap (every short) (sym (declared-are "user" "user_id" es)) ∙
+          own-short (namesOf es ls) userRow (λ ns. ns .users) "user_id" (those (text "user") 0 es) refl (u .0);
+      roles =
+          ap (every short) (sym (declared-are "role" "role_id" es)) ∙
+          own-short (namesOf es ls) roleRow (λ ns. ns .roles) "role_id" (those (text "role") 0 es) refl (o .0);
+      permissions =
+          ap (every short) (sym (declared-are "permission" "permission_id" es)) ∙
+          own-short (namesOf es ls) permissionRow (λ ns. ns .permissions) "permission_id" (those (text "permission") 0 es) refl (p .0);
+      operations =
+          ap (every short) (sym (declared-are "operation" "operation_id" es)) ∙
+          inner-short (namesOf es ls) permissionRow "operation" "operation_id" (λ ns. ns .operations) refl
+          (λ x h. fields-there (namesOf es ls) permissionRow x h .1) operation-alone root root-out es g (p .0);
+      objects =
+          ap (every short) (sym (declared-are "object" "object_id" es)) ∙
+          inner-short (namesOf es ls) permissionRow "object" "object_id" (λ ns. ns .objects) refl (λ x h. fields-there (namesOf es ls) permissionRow x h .2)
+          object-alone root root-out es g (p .0);
+      tasks =
+          every-of short (λ l. l .task) ls ∙
+          every-more (λ l. there (taskRecord (namesOf es ls) l)) (λ l. short (l .task)) ls (λ l h. line-short (namesOf es ls) l h .0)
+          (sym (every-of there (taskRecord (namesOf es ls)) ls) ∙ a .1);
+      templates =
+          every-of short (λ l. l .template) ls ∙
+          every-more (λ l. there (taskRecord (namesOf es ls) l)) (λ l. short (l .template)) ls (λ l h. line-short (namesOf es ls) l h .1)
+          (sym (every-of there (taskRecord (namesOf es ls)) ls) ∙ a .1);
     }
 
-pub short-names : (s : Text) (es : Elements) (r : Text) (ls : List Line) (rs : List Record) → document s ≡ got es r → recordsIn (tags s) ls ≡ just rs → ShortNames (tags s) ls
+pub short-names : (s : Text) (es : Elements) (r : Text) (ls : List Line) (rs : List Record) → document s ≡ got es r → recordsIn (tags s) ls ≡ just rs →
+    ShortNames (tags s) ls
 short-names s es r ls rs d e = rw (tags-are s es r d) (tree-short es ls rs (document-in-grammar s es r d) (walk-gives s es r ls d ∙ e))

@@ -99,7 +99,8 @@ tags-enough zero (suc m) [] h l = rw none-at-end
 tags-enough zero (suc m) (b ∷ s) h l = absurd (omega arith)
 tags-enough (suc n) zero [] h l = rw none-at-end
 tags-enough (suc n) zero (b ∷ s) h l = absurd (omega arith)
-tags-enough (suc n) (suc m) s h l = on (tag s) (λ ts r e. let b = below-of e (tag-below s) in rw (e, tags-enough n m r (omega arith) (omega arith))) (λ r e. rw e)
+tags-enough (suc n) (suc m) s h l =
+    on (tag s) (λ ts r e. let b = below-of e (tag-below s) in rw (e, tags-enough n m r (omega arith) (omega arith))) (λ r e. rw e)
 
 -- the tags of a text behind its prolog
 abbrev pub walk : Text → List Tag
@@ -130,7 +131,8 @@ unfolding attribute plain
 plain-of left s g r e =
     on (name s) (λ w x p. on (equals x) (λ _ u q. on (value u) (λ v z t. on-found (find left w) (λ a o. on-test (fits (a .class) v)
     (λ c. rw (p, q, t) (rw (p, q, t, o, c) at e)) (λ c. absurd (bad≢got (rw (p, q, t, o, c) at e))))
-    (λ o. absurd (bad≢got (rw (p, q, t, o) at e)))) (λ z t. absurd (bad≢got (rw (p, q, t) at e)))) (λ u q. absurd (bad≢got (rw (p, q) at e)))) (λ x p. absurd (bad≢got (rw p at e)))
+    (λ o. absurd (bad≢got (rw (p, q, t, o) at e)))) (λ z t. absurd (bad≢got (rw (p, q, t) at e)))) (λ u q. absurd (bad≢got (rw (p, q) at e))))
+    (λ x p. absurd (bad≢got (rw p at e)))
 
 pub givens-of : (n : ℕ) (left : List Attribute) (s : Text) (gs : List Given) (r : Text) → attributes n left s ≡ got gs r → givens n s ≡ got gs r
 unfolding attributes givens
@@ -182,7 +184,8 @@ entered s r w u e z m n b t =
     step s (t .inside) (record { name = w; given = e .given } ∷ []) (rw (m, n, b .sign, b .named, t .given-is, t .closed-is)) ∙ rw (t .walked)
 
 -- an end tag
-ended : (s u v z y : Text) → misc (length s) s ≡ got tt u → starts (text "</") u ≡ true → name (drop 2 u) ≡ got v z → expect (text ">") (skip z) ≡ got tt y → walk s ≡ walk y
+ended : (s u v z y : Text) → misc (length s) s ≡ got tt u → starts (text "</") u ≡ true → name (drop 2 u) ≡ got v z → expect (text ">") (skip z) ≡ got tt y →
+    walk s ≡ walk y
 unfolding tag endTag
 ended s u v z y m c o p = step s y [] (rw (m, c, o, p))
 
@@ -204,12 +207,18 @@ content-walk inner keeps (suc n) w left s es r e =
     (λ c. on (opening left u) (λ k z o. on (inner (k .name) z) (λ i y p. on (content inner n w (k .left) y)
     (λ fs x q.
     let j = rw (m, c, o, p, q) at e in
-    rw (sym (got-value j), sym (got-rest j), entered s u (k .name) z i y m c (begun left u k z o) (keeps (k .name) z i y p), content-walk inner keeps n w (k .left) y fs x q)
+    rw (
+      sym (got-value j),
+      sym (got-rest j),
+      entered s u (k .name) z i y m c (begun left u k z o) (keeps (k .name) z i y p),
+      content-walk inner keeps n w (k .left) y fs x q,
+    )
     (sym (ap (λ (l : List Tag). record { name = k .name; given = i .given } ∷ l) (append-assoc (tagsOf (i .elements)) (tagsOf fs) (walk x)))))
     (λ x q. absurd (bad≢got (rw (m, c, o, p, q) at e)))) (λ y p. absurd (bad≢got (rw (m, c, o, p) at e)))) (λ z o. absurd (bad≢got (rw (m, c, o) at e)))))
     (λ u m. absurd (bad≢got (rw m at e)))
 
-empty : (s : Text) (left : List Attribute) (gs : List Given) (z u : Text) → attributes (length s) left s ≡ got gs z → starts (text ">") z ≡ false → expect (text ">") (drop 1 z) ≡ got tt u
+empty : (s : Text) (left : List Attribute) (gs : List Given) (z u : Text) → attributes (length s) left s ≡ got gs z → starts (text ">") z ≡ false →
+    expect (text ">") (drop 1 z) ≡ got tt u
     → Met s (record { given = gs; elements = nothing }) u
 unfolding tagsOf
 empty s left gs z u a c q = record {
@@ -267,7 +276,8 @@ unfolding expect starts text word
 no-end-tag [] r w u e n = refl
 no-end-tag (b ∷ []) r w u e n = on-test (eqb 60 b) (λ q. rw q) (λ q. rw q)
 no-end-tag (b ∷ c ∷ s) r w u e n =
-    on-test (eqb 60 b) (λ q. on-test (eqb 47 c) (λ o. absurd (bad≢got (rw (sym (eqb-true 47 c o)) at (rw (sym (got-rest (rw q at e))) at n)))) (λ o. rw (q, o))) (λ q. rw q)
+    on-test (eqb 60 b) (λ q. on-test (eqb 47 c) (λ o. absurd (bad≢got (rw (sym (eqb-true 47 c o)) at (rw (sym (got-rest (rw q at e))) at n)))) (λ o. rw (q, o)))
+    (λ q. rw q)
 
 nothing-left : (s : Text) → misc (length s) s ≡ got tt [] → walk s ≡ []
 unfolding tag starts text startTag expect
@@ -282,10 +292,18 @@ same-end (b ∷ y) e = absurd (false≢true e)
 pub tags-are : (s : Text) (es : Elements) (r : Text) → document s ≡ got es r → tags s ≡ tagsOf es
 unfolding document tags tagsOf
 tags-are s es r e =
-    on (prolog s) (λ _ u p. on (opening (one "policy_object" ∷ []) u) (λ c z o. on (element elements DEPTH (c .name) z) (λ i y h. on (misc (length y) y) (λ _ x m. on-test (same x [])
+    on (prolog s) (λ _ u p. on (opening (one "policy_object" ∷ []) u) (λ c z o. on (element elements DEPTH (c .name) z) (λ i y h. on (misc (length y) y) (λ _ x
+    m. on-test (same x [])
     (λ f.
     let k = rw (p, o, h, m, f) at e in
     let b = begun (one "policy_object" ∷ []) u c z o in
-    rw (p, sym (got-value k), entered u u (c .name) z i y (misc-here (length u) u (b .behind) (b .sign) (b .no-comment)) (no-end-tag u (b .behind) (c .name) z (b .sign) (b .named)) b (element-walk elements DEPTH (c .name) z i y h), nothing-left y (m ∙ ap (got tt) (same-end x f)))
+    rw (
+      p,
+      sym (got-value k),
+      entered u u (c .name) z i y (misc-here (length u) u (b .behind) (b .sign) (b .no-comment)) (no-end-tag u (b .behind) (c .name) z (b .sign) (b .named)) b
+          (element-walk elements DEPTH (c .name) z i y h),
+      nothing-left y (m ∙ ap (got tt) (same-end x f)),
     )
-    (λ f. absurd (bad≢got (rw (p, o, h, m, f) at e)))) (λ x m. absurd (bad≢got (rw (p, o, h, m) at e)))) (λ y h. absurd (bad≢got (rw (p, o, h) at e)))) (λ z o. absurd (bad≢got (rw (p, o) at e)))) (λ u p. absurd (bad≢got (rw p at e)))
+    )
+    (λ f. absurd (bad≢got (rw (p, o, h, m, f) at e)))) (λ x m. absurd (bad≢got (rw (p, o, h, m) at e)))) (λ y h. absurd (bad≢got (rw (p, o, h) at e))))
+    (λ z o. absurd (bad≢got (rw (p, o) at e)))) (λ u p. absurd (bad≢got (rw p at e)))

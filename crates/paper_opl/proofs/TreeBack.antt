@@ -32,7 +32,8 @@ aName w = every inName w && not (same w [])
 
 white-no-name : (b : ℕ) → white b ≡ true → inName b ≡ false
 white-no-name b h =
-    on-test (eqb b 32) (λ e. rw (eqb-true b 32 e)) (λ e. on-test (eqb b 9) (λ f. rw (eqb-true b 9 f)) (λ f. on-test (eqb b 10) (λ g. rw (eqb-true b 10 g)) (λ g. rw (eqb-true b 13 (rw (e, f, g) at h)))))
+    on-test (eqb b 32) (λ e. rw (eqb-true b 32 e))
+    (λ e. on-test (eqb b 9) (λ f. rw (eqb-true b 9 f)) (λ f. on-test (eqb b 10) (λ g. rw (eqb-true b 10 g)) (λ g. rw (eqb-true b 13 (rw (e, f, g) at h)))))
 
 -- white space ends a name
 pub blank-stops : (s rest : Text) → blank s ≡ true → stops inName rest ≡ true → stops inName (s ++ rest) ≡ true
@@ -68,7 +69,8 @@ value-stops v rest h =
     let p = both (blank (v .left) && blank (v .right)) (quoteFits (v .quote) (v .value)) h in
     blank-stops (v .left) _ (both (blank (v .left)) (blank (v .right)) (p .0) .0) refl
 
-attribute-back : (left : List Attribute) (w : Text) (v : Value) (rest : Text) (a : Attribute) → aName w ≡ true → find left w ≡ just a → fits (a .class) (v .value) ≡ true → valueFits v ≡ true
+attribute-back : (left : List Attribute) (w : Text) (v : Value) (rest : Text) (a : Attribute) → aName w ≡ true → find left w ≡ just a →
+    fits (a .class) (v .value) ≡ true → valueFits v ≡ true
     → attribute left (w ++ valueText v rest) ≡ got (record { name = w; value = v .value }) rest
 unfolding attribute
 attribute-back left w v rest a n f c h =
@@ -90,10 +92,13 @@ tagEnds rest = starts (text ">") rest || starts (text "/") rest
 ends-clear : (rest : Text) → tagEnds rest ≡ true → stops white rest ≡ true
 unfolding starts text
 ends-clear [] h = refl
-ends-clear (b ∷ rest) h = on-test (eqb 62 b) (λ e. rw (sym (eqb-true 62 b e))) (λ e. on-test (eqb 47 b) (λ f. rw (sym (eqb-true 47 b f))) (λ f. absurd (false≢true (rw (e, f) at h))))
+ends-clear (b ∷ rest) h =
+    on-test (eqb 62 b) (λ e. rw (sym (eqb-true 62 b e))) (λ e. on-test (eqb 47 b) (λ f. rw (sym (eqb-true 47 b f))) (λ f. absurd (false≢true (rw (e, f) at h))))
 
-pub attributes-back : (n : ℕ) (xs : List Attributed) (left : List Attribute) (s rest : Text) → every (λ a. aName (a .name)) left ≡ true → attributesFit left (givenBy xs) ≡ true → attributesLaid xs ≡ true
-    → blank s ≡ true → tagEnds rest ≡ true → length (attributesText xs (s ++ rest)) ≤ n → attributes n left (attributesText xs (s ++ rest)) ≡ got (givenBy xs) rest
+pub attributes-back : (n : ℕ) (xs : List Attributed) (left : List Attribute) (s rest : Text) → every (λ a. aName (a .name)) left ≡ true →
+    attributesFit left (givenBy xs) ≡ true → attributesLaid xs ≡ true
+    → blank s ≡ true → tagEnds rest ≡ true → length (attributesText xs (s ++ rest)) ≤ n →
+    attributes n left (attributesText xs (s ++ rest)) ≡ got (givenBy xs) rest
 unfolding attributes attributesFit attributesText every each text
 attributes-back n [] left s rest m f h b t l =
     attributes-enough n (suc n) left (s ++ rest) l (omega arith)
@@ -118,7 +123,8 @@ attributes-back n (x ∷ xs) left s rest m f h b t l =
       not-first 47 (x .name) behind refl w,
       sp,
       at,
-      attributes-back n xs (without (x .name) left) s rest (kept-passes (λ a. aName (a .name)) (λ a. not (same (a .name) (x .name))) left m) (k .1) (p .1) b t (omega arith),
+      attributes-back n xs (without (x .name) left) s rest (kept-passes (λ a. aName (a .name)) (λ a. not (same (a .name) (x .name))) left m) (k .1) (p .1) b t
+          (omega arith),
     ))
     (λ o. absurd (false≢true (rw o at f)))
   where
@@ -158,35 +164,52 @@ unfolding every same
 some-blank-stops [] rest h = absurd (false≢true h)
 some-blank-stops (b ∷ s) rest h = rw (white-no-name b (both (white b) (every white s) (both (every white (b ∷ s)) _ h .0) .0))
 
-pub attributes-stop : (xs : List Attributed) (s rest : Text) → attributesLaid xs ≡ true → blank s ≡ true → stops inName rest ≡ true → stops inName (attributesText xs (s ++ rest)) ≡ true
+pub attributes-stop : (xs : List Attributed) (s rest : Text) → attributesLaid xs ≡ true → blank s ≡ true → stops inName rest ≡ true →
+    stops inName (attributesText xs (s ++ rest)) ≡ true
 unfolding every attributesText
 attributes-stop [] s rest h b k = blank-stops s rest b k
-attributes-stop (x ∷ xs) s rest h b k = some-blank-stops (x .before) _ (both (someBlank (x .before)) (valueFits (x .value)) (both (someBlank (x .before) && valueFits (x .value)) (attributesLaid xs) h .0) .0)
+attributes-stop (x ∷ xs) s rest h b k =
+    some-blank-stops (x .before) _
+    (both (someBlank (x .before)) (valueFits (x .value)) (both (someBlank (x .before) && valueFits (x .value)) (attributesLaid xs) h .0) .0)
 
-pub opening-back : (left cs : List Child) (w rest : Text) → aName w ≡ true → stops inName rest ≡ true → next left w ≡ just cs → opening left (text "<" ++ (w ++ rest)) ≡ got (record { name = w; left = cs }) rest
+pub opening-back : (left cs : List Child) (w rest : Text) → aName w ≡ true → stops inName rest ≡ true → next left w ≡ just cs →
+    opening left (text "<" ++ (w ++ rest)) ≡ got (record { name = w; left = cs }) rest
 unfolding opening starts expect text
 opening-back left cs w rest n k h = rw (not-first 33 w rest refl n, not-first 63 w rest refl n, name-back w rest n k, h)
 
 module _ (d : ℕ) (v : Text) (xs : List Attributed) (s : Text) (fit : attributesFit (rowIn elements v .attributes) (givenBy xs) ≡ true) (laid : attributesLaid xs ≡ true) (b : blank s ≡ true) where
-  pub element-short : (rest : Text) → mayEnd (rowIn elements v .children) ≡ true → element elements (suc d) v (attributesText xs (s ++ (text "/>" ++ rest))) ≡ got (record { given = givenBy xs; elements = nothing }) rest
+  pub element-short : (rest : Text) → mayEnd (rowIn elements v .children) ≡ true →
+      element elements (suc d) v (attributesText xs (s ++ (text "/>" ++ rest))) ≡ got (record { given = givenBy xs; elements = nothing }) rest
   unfolding element starts expect text
   element-short rest m =
-      rw (attributes-back (length (attributesText xs (s ++ (text "/>" ++ rest)))) xs (rowIn elements v .attributes) s (text "/>" ++ rest) (attributes-named v) fit laid b refl (omega arith), m)
+      rw (
+        attributes-back (length (attributesText xs (s ++ (text "/>" ++ rest)))) xs (rowIn elements v .attributes) s (text "/>" ++ rest) (attributes-named v) fit
+            laid b refl (omega arith),
+        m,
+      )
 
   pub element-long : (inner rest : Text) (es : Elements) → content (element elements d) (suc (length inner)) v (rowIn elements v .children) inner ≡ got es rest
       → element elements (suc d) v (attributesText xs (s ++ (text ">" ++ inner))) ≡ got (record { given = givenBy xs; elements = es }) rest
   unfolding element starts text
   element-long inner rest es h =
-      rw (attributes-back (length (attributesText xs (s ++ (text ">" ++ inner)))) xs (rowIn elements v .attributes) s (text ">" ++ inner) (attributes-named v) fit laid b refl (omega arith), row-name elements v, h)
+      rw (
+        attributes-back (length (attributesText xs (s ++ (text ">" ++ inner)))) xs (rowIn elements v .attributes) s (text ">" ++ inner) (attributes-named v) fit
+            laid b refl (omega arith),
+        row-name elements v,
+        h,
+      )
 
 -- an element and those behind it
-step-back : (d n : ℕ) (g : Gap) (left cs : List Child) (w v u z r : Text) (e : Inside) (es : Elements) → gapFits g ≡ true → aName v ≡ true → stops inName u ≡ true → next left v ≡ just cs
+step-back : (d n : ℕ) (g : Gap) (left cs : List Child) (w v u z r : Text) (e : Inside) (es : Elements) → gapFits g ≡ true → aName v ≡ true →
+    stops inName u ≡ true → next left v ≡ just cs
     → element elements d v u ≡ got e z → ((m : ℕ) → length z < m → content (element elements d) m w cs z ≡ got es r) → length (gap g (text "<" ++ (v ++ u))) < n
     → content (element elements d) n w left (gap g (text "<" ++ (v ++ u))) ≡ got (node v (e .given) (e .elements) es) r
 unfolding content starts text
 step-back d zero g left cs w v u z r e es f a k h i c l = absurd (omega arith)
 step-back d (suc n) g left cs w v u z r e es f a k h i c l =
-    let m = gap-back (length (gap g (text "<" ++ (v ++ u)))) g (text "<" ++ (v ++ u)) f refl (starts-more 33 (45 ∷ 45 ∷ []) (v ++ u) (not-first 33 v u refl a)) (omega arith) in
+    let m =
+    gap-back (length (gap g (text "<" ++ (v ++ u)))) g (text "<" ++ (v ++ u)) f refl (starts-more 33 (45 ∷ 45 ∷ []) (v ++ u) (not-first 33 v u refl a))
+    (omega arith) in
     let o = opening-back left cs v u a k h in
     let x = below-of m (misc-below (length (gap g (text "<" ++ (v ++ u)))) (gap g (text "<" ++ (v ++ u)))) in
     let y = below-of o (opening-below left (text "<" ++ (v ++ u))) in
@@ -194,7 +217,8 @@ step-back d (suc n) g left cs w v u z r e es f a k h i c l =
     rw (m, not-first 47 v u refl a, o, i, c n (omega arith))
 
 -- the end tag
-end-back : (d n : ℕ) (g : Gap) (left : List Child) (w e rest : Text) → gapFits g ≡ true → aName w ≡ true → blank e ≡ true → mayEnd left ≡ true → length (gap g (text "</" ++ (w ++ (e ++ (text ">" ++ rest))))) < n
+end-back : (d n : ℕ) (g : Gap) (left : List Child) (w e rest : Text) → gapFits g ≡ true → aName w ≡ true → blank e ≡ true → mayEnd left ≡ true →
+    length (gap g (text "</" ++ (w ++ (e ++ (text ">" ++ rest))))) < n
     → content (element elements d) n w left (gap g (text "</" ++ (w ++ (e ++ (text ">" ++ rest))))) ≡ got nothing rest
 unfolding content ending starts expect text
 end-back d zero g left w e rest f a b m l = absurd (omega arith)
@@ -219,13 +243,15 @@ angle-stops rest = refl
 abbrev pub Deep : ℕ → List Child → Type 0
 Deep d cs = (v : Text) → among cs v ≡ true → rank v ≤ d
 
-pub content-back : (d : ℕ) (x : Layout) (left : List Child) (w e rest : Text) → Named left → Deep d left → elementsFit left (treeOf x) ≡ true → layoutFits x ≡ true → aName w ≡ true → blank e ≡ true
+pub content-back : (d : ℕ) (x : Layout) (left : List Child) (w e rest : Text) → Named left → Deep d left → elementsFit left (treeOf x) ≡ true →
+    layoutFits x ≡ true → aName w ≡ true → blank e ≡ true
     → (n : ℕ) → length (layoutText x (text "</" ++ (w ++ (e ++ (text ">" ++ rest))))) < n
     → content (element elements d) n w left (layoutText x (text "</" ++ (w ++ (e ++ (text ">" ++ rest))))) ≡ got (treeOf x) rest
 unfolding elementsFit layoutFits layoutText treeOf
 content-back d (last g) left w e rest k p f h a b n l = end-back d n g left w e rest h a b f l
 content-back zero (short g v xs s y) left w e rest k p f h a b n l =
-    on-found (next left v) (λ cs q. let i = p v (next-among left cs v q .0) in let j = some-height v in absurd (omega arith)) (λ q. absurd (false≢true (rw q at f)))
+    on-found (next left v) (λ cs q. let i = p v (next-among left cs v q .0) in let j = some-height v in absurd (omega arith))
+    (λ q. absurd (false≢true (rw q at f)))
 content-back (suc d) (short g v xs s y) left w e rest k p f h a b n l =
     on-found (next left v)
     (λ cs q.
@@ -235,17 +261,21 @@ content-back (suc d) (short g v xs s y) left w e rest k p f h a b n l =
     let o = both (gapFits g && attributesLaid xs && blank s) (layoutFits y) h in
     let j = both (gapFits g && attributesLaid xs) (blank s) (o .0) in
     let r = both (gapFits g) (attributesLaid xs) (j .0) in
-    step-back (suc d) n g left cs w v _ _ rest _ (treeOf y) (r .0) (k v (t .0)) (attributes-stop xs s _ (r .1) (j .1) (slash-stops (layoutText y (text "</" ++ (w ++ (e ++ (text ">" ++ rest))))))) q
+    step-back (suc d) n g left cs w v _ _ rest _ (treeOf y) (r .0) (k v (t .0))
+    (attributes-stop xs s _ (r .1) (j .1) (slash-stops (layoutText y (text "</" ++ (w ++ (e ++ (text ">" ++ rest))))))) q
     (element-short d v xs s (i .0) (r .1) (j .1) (layoutText y (text "</" ++ (w ++ (e ++ (text ">" ++ rest))))) (i .1))
     (content-back (suc d) y cs w e rest (λ u z. k u (t .1 u z)) (λ u z. p u (t .1 u z)) (m .1) (o .1) a b) l)
     (λ q. absurd (false≢true (rw q at f)))
 content-back zero (long g v xs s i c y) left w e rest k p f h a b n l =
-    on-found (next left v) (λ cs q. let i = p v (next-among left cs v q .0) in let j = some-height v in absurd (omega arith)) (λ q. absurd (false≢true (rw q at f)))
+    on-found (next left v) (λ cs q. let i = p v (next-among left cs v q .0) in let j = some-height v in absurd (omega arith))
+    (λ q. absurd (false≢true (rw q at f)))
 content-back (suc d) (long g v xs s i c y) left w e rest k p f h a b n l =
     on-found (next left v)
     (λ cs q.
     let t = next-among left cs v q in
-    let m = both (attributesFit (rowIn elements v .attributes) (givenBy xs) && elementsFit (rowIn elements v .children) (treeOf i)) (elementsFit cs (treeOf y)) (rw q at f) in
+    let m =
+    both (attributesFit (rowIn elements v .attributes) (givenBy xs) && elementsFit (rowIn elements v .children) (treeOf i)) (elementsFit cs (treeOf y))
+    (rw q at f) in
     let z = both (attributesFit (rowIn elements v .attributes) (givenBy xs)) (elementsFit (rowIn elements v .children) (treeOf i)) (m .0) in
     let o = both (gapFits g && attributesLaid xs && blank s && layoutFits i && blank c) (layoutFits y) h in
     let o2 = both (gapFits g && attributesLaid xs && blank s && layoutFits i) (blank c) (o .0) in
@@ -253,8 +283,10 @@ content-back (suc d) (long g v xs s i c y) left w e rest k p f h a b n l =
     let j = both (gapFits g && attributesLaid xs) (blank s) (o3 .0) in
     let r = both (gapFits g) (attributesLaid xs) (j .0) in
     let deep : rank v ≤ suc d = p v (t .0) in
-    step-back (suc d) n g left cs w v _ _ rest _ (treeOf y) (r .0) (k v (t .0)) (attributes-stop xs s _ (r .1) (j .1) (angle-stops (layoutText i (text "</" ++ (v ++ (c ++ (text ">" ++ layoutText y (text "</" ++ (w ++ (e ++ (text ">" ++ rest))))))))))) q
+    step-back (suc d) n g left cs w v _ _ rest _ (treeOf y) (r .0) (k v (t .0)) (attributes-stop xs s _ (r .1) (j .1)
+    (angle-stops (layoutText i (text "</" ++ (v ++ (c ++ (text ">" ++ layoutText y (text "</" ++ (w ++ (e ++ (text ">" ++ rest))))))))))) q
     (element-long d v xs s (z .0) (r .1) (j .1) _ (layoutText y (text "</" ++ (w ++ (e ++ (text ">" ++ rest))))) (treeOf i)
-    (content-back d i (rowIn elements v .children) v c (layoutText y (text "</" ++ (w ++ (e ++ (text ">" ++ rest))))) (children-named v) (λ u x. let y = child-lower v u x in omega arith) (z .1) (o3 .1) (k v (t .0)) (o2 .1) _ (omega arith)))
+    (content-back d i (rowIn elements v .children) v c (layoutText y (text "</" ++ (w ++ (e ++ (text ">" ++ rest))))) (children-named v)
+    (λ u x. let y = child-lower v u x in omega arith) (z .1) (o3 .1) (k v (t .0)) (o2 .1) _ (omega arith)))
     (content-back (suc d) y cs w e rest (λ u z. k u (t .1 u z)) (λ u z. p u (t .1 u z)) (m .1) (o .1) a b) l)
     (λ q. absurd (false≢true (rw q at f)))

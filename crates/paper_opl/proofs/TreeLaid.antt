@@ -20,7 +20,8 @@ use Rattle.paper_opl.proofs.BytesLaid.{word-laid, expect-laid, starts-l
 
 -- ---- Attributes.
 
-attribute-laid : (left : List Attribute) (s : Text) (g : Given) (r : Text) → attribute left s ≡ got g r → (v : Value) × (v .value ≡ g .value) × (valueFits v ≡ true) × (s ≡ g .name ++ valueText v r)
+attribute-laid : (left : List Attribute) (s : Text) (g : Given) (r : Text) → attribute left s ≡ got g r →
+    (v : Value) × (v .value ≡ g .value) × (valueFits v ≡ true) × (s ≡ g .name ++ valueText v r)
 unfolding attribute
 attribute-laid left s g r e =
     on (name s) (λ w x p. on (equals x) (λ _ u q. on (value u) (λ v z t. on-found (find left w) (λ a o. on-test (fits (a .class) v)
@@ -30,7 +31,8 @@ attribute-laid left s g r e =
     let l = equals-laid x u v z q t in
     rw (sym (got-value k), sym (got-rest k)) (l .value, l .value-is, l .fits, n .text-is ∙ ap (λ (y : Text). w ++ y) (l .text-is)))
     (λ c. absurd (bad≢got (rw (p, q, t, o, c) at e))))
-    (λ o. absurd (bad≢got (rw (p, q, t, o) at e)))) (λ z t. absurd (bad≢got (rw (p, q, t) at e)))) (λ u q. absurd (bad≢got (rw (p, q) at e)))) (λ x p. absurd (bad≢got (rw p at e)))
+    (λ o. absurd (bad≢got (rw (p, q, t, o) at e)))) (λ z t. absurd (bad≢got (rw (p, q, t) at e)))) (λ u q. absurd (bad≢got (rw (p, q) at e))))
+    (λ x p. absurd (bad≢got (rw p at e)))
 
 pub record Attributes (s : Text) (gs : List Given) (r : Text) : Type 0 where
   pub layout : List Attributed
@@ -50,7 +52,8 @@ attributes-are-laid (suc n) left s gs r e =
     (λ d.
     let k = rw (c, d) at e in
     let w = skip-laid s in
-    rw (sym (got-value k), sym (got-rest k)) (record { layout = []; last = run white s; given-are = refl; laid = refl; blank-is = w .0; text-is = w .1; ends = c })))
+    rw (sym (got-value k), sym (got-rest k))
+    (record { layout = []; last = run white s; given-are = refl; laid = refl; blank-is = w .0; text-is = w .1; ends = c })))
     (λ c. on (space s) (λ _ u p. on (attribute left u) (λ g z q. on (attributes n (without (g .name) left) z)
     (λ hs y o.
     let k = rw (c, p, q, o) at e in
@@ -69,7 +72,8 @@ attributes-are-laid (suc n) left s gs r e =
     }))
     (λ y o. absurd (bad≢got (rw (c, p, q, o) at e)))) (λ z q. absurd (bad≢got (rw (c, p, q) at e)))) (λ u p. absurd (bad≢got (rw (c, p) at e))))
   where
-    given-one : (g : Given) (v : Value) → v .value ≡ g .value → (xs hs : List Given) → xs ≡ hs → _≡_ {A = List Given} (record { name = g .name; value = v .value } ∷ xs) (g ∷ hs)
+    given-one : (g : Given) (v : Value) → v .value ≡ g .value → (xs hs : List Given) → xs ≡ hs →
+        _≡_ {A = List Given} (record { name = g .name; value = v .value } ∷ xs) (g ∷ hs)
     given-one g v e xs hs h = λ i. record { name = g .name; value = e i } ∷ h i
 
 -- ---- Elements.
@@ -93,7 +97,8 @@ pub node-same : {v : Text} {gs hs : List Given} {a b c d : Elements} → gs ≡ 
 node-same {v} p q r = λ i. node v (p i) (q i) (r i)
 
 -- one element more
-with-element : (w s u v z x : Text) (g : Gap) (i : Inside) (fs : Elements) (r : Text) → gapFits g ≡ true → s ≡ gap g u → u ≡ text "<" ++ (v ++ x) → ElementLaid v x i z → Content w z fs r
+with-element : (w s u v z x : Text) (g : Gap) (i : Inside) (fs : Elements) (r : Text) → gapFits g ≡ true → s ≡ gap g u → u ≡ text "<" ++ (v ++ x) →
+    ElementLaid v x i z → Content w z fs r
     → Content w s (node v (i .given) (i .elements) fs) r
 unfolding layoutText layoutFits treeOf
 with-element w s u v z x g i fs r f p q (one-tag xs b gs l k n t) c = record {
@@ -110,11 +115,16 @@ with-element w s u v z x g i fs r f p q (two-tags xs b y e gs l k h n m t) c = r
   tree-is = node-same gs n (c .tree-is);
   fits = rw (f, l, k, h, m) (c .fits);
   blank-is = c .blank-is;
-  text-is = p ∙ ap (gap g) (q ∙ ap (λ (y : Text). text "<" ++ (v ++ y)) (t ∙ ap (λ (o : Text). attributesText xs (b ++ (text ">" ++ layoutText y (text "</" ++ (v ++ (e ++ (text ">" ++ o))))))) (c .text-is)));
+  text-is =
+      p ∙
+      ap (gap g) (q ∙
+      ap (λ (y : Text). text "<" ++ (v ++ y))
+      (t ∙ ap (λ (o : Text). attributesText xs (b ++ (text ">" ++ layoutText y (text "</" ++ (v ++ (e ++ (text ">" ++ o))))))) (c .text-is)));
 }
 
 -- the end tag alone
-the-end : (w s u v z y : Text) (g : Gap) → gapFits g ≡ true → s ≡ gap g u → starts (text "</") u ≡ true → name (drop 2 u) ≡ got v z → v ≡ w → expect (text ">") (skip z) ≡ got tt y → Content w s nothing y
+the-end : (w s u v z y : Text) (g : Gap) → gapFits g ≡ true → s ≡ gap g u → starts (text "</") u ≡ true → name (drop 2 u) ≡ got v z → v ≡ w →
+    expect (text ">") (skip z) ≡ got tt y → Content w s nothing y
 unfolding layoutText layoutFits treeOf text
 the-end w s u v z y g f p c n k x =
     let a = starts-laid (text "</") u c in
@@ -127,7 +137,11 @@ the-end w s u v z y g f p c n k x =
       tree-is = refl;
       fits = f;
       blank-is = d .0;
-      text-is = p ∙ ap (gap g) (a ∙ ap (λ (t : Text). text "</" ++ t) (b .text-is ∙ ap (λ (t : Text). t ++ z) k ∙ ap (λ (t : Text). w ++ t) (d .1 ∙ ap (λ (t : Text). run white z ++ t) e)));
+      text-is =
+          p ∙
+          ap (gap g) (a ∙
+          ap (λ (t : Text). text "</" ++ t)
+          (b .text-is ∙ ap (λ (t : Text). t ++ z) k ∙ ap (λ (t : Text). w ++ t) (d .1 ∙ ap (λ (t : Text). run white z ++ t) e)));
     }
 
 abbrev LaidBy : (Text → Text → Read Inside) → Type 0
@@ -136,7 +150,8 @@ LaidBy inner = (v u : Text) (i : Inside) (z : Text) → inner v u ≡ got i z �
 pub started : (u : Text) (left : List Child) (v z : Text) → Begun u v z → u ≡ text "<" ++ (v ++ z)
 started u left v z b = expect-laid (text "<") u (b .behind) (b .sign) ∙ ap (λ (t : Text). text "<" ++ t) (word-laid inName (b .behind) v z (b .named) .text-is)
 
-content-laid : (inner : Text → Text → Read Inside) → LaidBy inner → (n : ℕ) (w : Text) (left : List Child) (s : Text) (es : Elements) (r : Text) → content inner n w left s ≡ got es r → Content w s es r
+content-laid : (inner : Text → Text → Read Inside) → LaidBy inner → (n : ℕ) (w : Text) (left : List Child) (s : Text) (es : Elements) (r : Text) →
+    content inner n w left s ≡ got es r → Content w s es r
 unfolding content ending
 content-laid inner laid zero w left s es r e = absurd (bad≢got e)
 content-laid inner laid (suc n) w left s es r e =
@@ -152,7 +167,8 @@ content-laid inner laid (suc n) w left s es r e =
     (λ fs x q.
     let j = rw (m, c, o, p, q) at e in
     rw (sym (got-value j), sym (got-rest j))
-    (with-element w s u (k .name) y z (g .0) i fs x (g .1) (g .2) (started u left (k .name) z (begun left u k z o)) (laid (k .name) z i y p) (content-laid inner laid n w (k .left) y fs x q)))
+    (with-element w s u (k .name) y z (g .0) i fs x (g .1) (g .2) (started u left (k .name) z (begun left u k z o)) (laid (k .name) z i y p)
+    (content-laid inner laid n w (k .left) y fs x q)))
     (λ x q. absurd (bad≢got (rw (m, c, o, p, q) at e)))) (λ y p. absurd (bad≢got (rw (m, c, o, p) at e)))) (λ z o. absurd (bad≢got (rw (m, c, o) at e)))))
     (λ u m. absurd (bad≢got (rw m at e)))
 
@@ -161,7 +177,8 @@ closes : (z : Text) → starts (text ">") z ≡ true → z ≡ text ">" ++ drop 
 unfolding text
 closes z c = starts-laid (text ">") z c
 
-slash : (z u : Text) → starts (text ">") z || starts (text "/") z ≡ true → starts (text ">") z ≡ false → expect (text ">") (drop 1 z) ≡ got tt u → z ≡ text "/>" ++ u
+slash : (z u : Text) → starts (text ">") z || starts (text "/") z ≡ true → starts (text ">") z ≡ false → expect (text ">") (drop 1 z) ≡ got tt u →
+    z ≡ text "/>" ++ u
 unfolding text
 slash z u h c e = starts-laid (text "/") z (rw c at h) ∙ ap (λ (t : Text). 47 ∷ t) (expect-laid (text ">") (drop 1 z) u e)
 
@@ -185,6 +202,7 @@ element-laid table (suc d) v u i z e =
     (λ f.
     let k = rw (a, c, q, f) at e in
     rw (sym (got-value k), sym (got-rest k))
-    (one-tag (x .layout) (x .last) (x .given-are) (x .laid) (x .blank-is) refl (x .text-is ∙ ap (λ (t : Text). attributesText (x .layout) (x .last ++ t)) (slash r y (x .ends) c q))))
+    (one-tag (x .layout) (x .last) (x .given-are) (x .laid) (x .blank-is) refl
+    (x .text-is ∙ ap (λ (t : Text). attributesText (x .layout) (x .last ++ t)) (slash r y (x .ends) c q))))
     (λ f. absurd (bad≢got (rw (a, c, q, f) at e)))) (λ y q. absurd (bad≢got (rw (a, c, q) at e)))))
     (λ r a. absurd (bad≢got (rw a at e)))

@@ -73,7 +73,8 @@ unfolding setOf
 set-below [] h m e = subst (λ (n : ℕ). n < 2 ^ 64) (just-value e) (omega arith)
 set-below (none ∷ ks) h m e = absurd (none≢just e)
 set-below (just i ∷ ks) h m e =
-    on-found (setOf ks) (λ n q. subst (λ (x : ℕ). x < 2 ^ 64) (just-value (rw q at e)) (plus-lt 64 n i (set-below ks (h .1) n q) (h .0 i refl))) (λ q. absurd (none≢just (rw q at e)))
+    on-found (setOf ks) (λ n q. subst (λ (x : ℕ). x < 2 ^ 64) (just-value (rw q at e)) (plus-lt 64 n i (set-below ks (h .1) n q) (h .0 i refl)))
+    (λ q. absurd (none≢just (rw q at e)))
 
 set-holds : (ns : Names) (space : Names → Space) (e w : String) → space ns .limit ≡ 64 → Holds any (2 ^ 64) ns (set e (the space w))
 unfolding misplaced above
@@ -81,7 +82,8 @@ set-holds ns space e w s x p v q = (
   refl,
   refl,
   set-below (each (the space w ns) (members e x))
-      (every-each (λ k. (i : ℕ) → k ≡ just i → i < 64) (the space w ns) (members e x) (every-all (members e x) (λ m i o. let k = number-below (space ns) (valueOf (text w) (m .given)) i o in omega arith))) v q,
+      (every-each (λ k. (i : ℕ) → k ≡ just i → i < 64) (the space w ns) (members e x)
+      (every-all (members e x) (λ m i o. let k = number-below (space ns) (valueOf (text w) (m .given)) i o in omega arith))) v q,
 )
 
 partitioning-holds : (ns : Names) → Holds (to 15) 65536 ns partitioning
@@ -98,7 +100,8 @@ unfolding bytes
 bytes-small zero x = tt
 bytes-small (suc k) x = (omega arith, bytes-small k (x / 256))
 
-shaped : (r : Record) (f : Form) → formOf policyForms (r .kind) ≡ just f → r .kind < 256 → Within (f .n) 256 (r .n) → Within (f .a) 65536 (r .a) → Within (f .b) 65536 (r .b) → Within (f .c) 65536 (r .c)
+shaped : (r : Record) (f : Form) → formOf policyForms (r .kind) ≡ just f → r .kind < 256 → Within (f .n) 256 (r .n) → Within (f .a) 65536 (r .a) →
+    Within (f .b) 65536 (r .b) → Within (f .c) 65536 (r .c)
     → Within (f .m) (2 ^ 64) (r .m) → WellShaped r
 unfolding encode bytes formChecks misshapen outOfRange
 shaped r f k s n a b c m = record {
@@ -108,7 +111,8 @@ shaped r f k s n a b c m = record {
     (
       n .2,
       every-append (λ b. b < 256) (bytes 2 (r .a) ++ bytes 2 (r .b) ++ bytes 2 (r .c)) (bytes 8 (r .m))
-          (every-append (λ b. b < 256) (bytes 2 (r .a) ++ bytes 2 (r .b)) (bytes 2 (r .c)) (every-append (λ b. b < 256) (bytes 2 (r .a)) (bytes 2 (r .b)) (bytes-small 2 (r .a)) (bytes-small 2 (r .b))) (bytes-small 2 (r .c)))
+          (every-append (λ b. b < 256) (bytes 2 (r .a) ++ bytes 2 (r .b)) (bytes 2 (r .c))
+          (every-append (λ b. b < 256) (bytes 2 (r .a)) (bytes 2 (r .b)) (bytes-small 2 (r .a)) (bytes-small 2 (r .b))) (bytes-small 2 (r .c)))
           (bytes-small 8 (r .m)),
     ),
   );
@@ -130,9 +134,13 @@ by-row : (ns : Names) (r : Row) → Kept ns r → (x : Found) → Proper x → (
 by-row ns r h x p t e =
     on-found (r .n ns x) (λ n qn. on-found (r .a ns x) (λ a qa. on-found (r .b ns x) (λ b qb. on-found (r .c ns x) (λ c qc. on-found (r .m ns x)
     (λ m qm.
-    rw (sym (just-value (rw (qn, qa, qb, qc, qm) at e)))
-    (refl, shaped (record { kind = r .kind; n = n; a = a; b = b; c = c; m = m }) (h .form) (h .form-is) (h .kind-small) (h .n-holds x p n qn) (h .a-holds x p a qa) (h .b-holds x p b qb) (h .c-holds x p c qc) (h .m-holds x p m qm)))
-    (λ q. absurd (none≢just (rw (qn, qa, qb, qc, q) at e)))) (λ q. absurd (none≢just (rw (qn, qa, qb, q) at e)))) (λ q. absurd (none≢just (rw (qn, qa, q) at e)))) (λ q. absurd (none≢just (rw (qn, q) at e)))) (λ q. absurd (none≢just (rw q at e)))
+    rw (sym (just-value (rw (qn, qa, qb, qc, qm) at e))) (
+      refl,
+      shaped (record { kind = r .kind; n = n; a = a; b = b; c = c; m = m }) (h .form) (h .form-is) (h .kind-small) (h .n-holds x p n qn) (h .a-holds x p a qa)
+          (h .b-holds x p b qb) (h .c-holds x p c qc) (h .m-holds x p m qm),
+    ))
+    (λ q. absurd (none≢just (rw (qn, qa, qb, qc, q) at e)))) (λ q. absurd (none≢just (rw (qn, qa, qb, q) at e))))
+    (λ q. absurd (none≢just (rw (qn, qa, q) at e)))) (λ q. absurd (none≢just (rw (qn, q) at e)))) (λ q. absurd (none≢just (rw q at e)))
 
 -- ---- All rows.
 
@@ -150,7 +158,8 @@ limits : (es : Elements) (ls : List Line) → Limits (namesOf es ls)
 unfolding namesOf
 limits es ls = record { users = refl; roles = refl; permissions = refl; operations = refl; objects = refl; tasks = refl; templates = refl }
 
-kept : (ns : Names) (r : Row) (f : Form) → formOf policyForms (r .kind) ≡ just f → r .kind < 256 → Holds (f .n) 256 ns (r .n) → Holds (f .a) 65536 ns (r .a) → Holds (f .b) 65536 ns (r .b)
+kept : (ns : Names) (r : Row) (f : Form) → formOf policyForms (r .kind) ≡ just f → r .kind < 256 → Holds (f .n) 256 ns (r .n) → Holds (f .a) 65536 ns (r .a) →
+    Holds (f .b) 65536 ns (r .b)
     → Holds (f .c) 65536 ns (r .c) → Holds (f .m) (2 ^ 64) ns (r .m) → Kept ns r
 kept ns r f k s n a b c m = record { form = f; form-is = k; kind-small = s; n-holds = n; a-holds = a; b-holds = b; c-holds = c; m-holds = m }
 
@@ -184,7 +193,8 @@ module _ (ns : Names) (l : Limits ns) where
   first-kept =
       kept ns _ _ refl (omega arith) no-n (user "user_id") no-field no-field no-set
       ⨾ kept ns _ _ refl (omega arith) no-n (role "role_id") no-field no-field no-set
-      ⨾ kept ns _ _ refl (omega arith) no-n (permission "permission_id") (its-holds ns (λ ns. ns .operations) "operation" "operation_id" (l .operations)) (its-holds ns (λ ns. ns .objects) "object" "object_id" (l .objects)) no-set
+      ⨾ kept ns _ _ refl (omega arith) no-n (permission "permission_id") (its-holds ns (λ ns. ns .operations) "operation" "operation_id" (l .operations))
+      (its-holds ns (λ ns. ns .objects) "object" "object_id" (l .objects)) no-set
       ⨾ kept ns _ _ refl (omega arith) no-n (user "user_id") (role "role_id") no-field no-set
       ⨾ kept ns _ _ refl (omega arith) no-n (role "role_id") (permission "permission_id") no-field no-set
       ⨾ tt
@@ -212,8 +222,10 @@ module _ (ns : Names) (l : Limits ns) where
       (λ b qb.
       rw (sym (just-value (rw (qa, qb) at e))) (
         refl,
-        shaped (record { kind = 6; n = 0; a = a; b = b; c = 0; m = 0 }) _ refl (omega arith) (none-within 256 (omega arith)) (number-within 63 65536 (ns .tasks) (i .task) a (l .tasks) (omega arith) qa)
-            (number-within 15 65536 (ns .templates) (i .template) b (l .templates) (omega arith) qb) (none-within 65536 (omega arith)) (none-within (2 ^ 64) (omega arith)),
+        shaped (record { kind = 6; n = 0; a = a; b = b; c = 0; m = 0 }) _ refl (omega arith) (none-within 256 (omega arith))
+            (number-within 63 65536 (ns .tasks) (i .task) a (l .tasks) (omega arith) qa)
+            (number-within 15 65536 (ns .templates) (i .template) b (l .templates) (omega arith) qb) (none-within 65536 (omega arith))
+            (none-within (2 ^ 64) (omega arith)),
       ))
       (λ q. absurd (none≢just (rw (qa, q) at e))))
       (λ q. absurd (none≢just (rw q at e)))
@@ -259,7 +271,8 @@ unfolding each
 found-block ns r h [] p = tt
 found-block ns r h (x ∷ xs) p = (λ t e. by-row ns r h x (p .0) t e, found-block ns r h xs (p .1))
 
-rows-rise : (ns : Names) (es : Elements) (rs : List Row) (k : ℕ) → Every (Kept ns) rs → RowsKept ns es k rs → (ys : List (Maybe Record)) → ((j : ℕ) → j ≤ k + many rs → Rise j ys) → Rise k (recordsBy ns rs es ++ ys)
+rows-rise : (ns : Names) (es : Elements) (rs : List Row) (k : ℕ) → Every (Kept ns) rs → RowsKept ns es k rs → (ys : List (Maybe Record)) →
+    ((j : ℕ) → j ≤ k + many rs → Rise j ys) → Rise k (recordsBy ns rs es ++ ys)
 unfolding RowsKept recordsBy many
 rows-rise ns es [] k h q ys r = r k (omega arith)
 rows-rise ns es (r ∷ rs) k h q ys s =
@@ -338,14 +351,17 @@ module _ (es : Elements) (small : AllSmall es) where
     ),
   )
 
-  pub all-rise : (ls : List Line) → Rise 1 (recordsBy (namesOf es ls) firstRows es ++ each (taskRecord (namesOf es ls)) ls ++ recordsBy (namesOf es ls) lastRows es)
+  pub all-rise : (ls : List Line) →
+      Rise 1 (recordsBy (namesOf es ls) firstRows es ++ each (taskRecord (namesOf es ls)) ls ++ recordsBy (namesOf es ls) lastRows es)
   unfolding Rise
   all-rise ls =
       let ns = namesOf es ls in
       let l = limits es ls in
       rw (append-assoc (recordsBy (namesOf es ls) firstRows es) (each (taskRecord (namesOf es ls)) ls) (recordsBy (namesOf es ls) lastRows es))
-      (rows-rise (namesOf es ls) es firstRows 1 (first-kept (namesOf es ls) l) (first-proper (namesOf es ls)) (each (taskRecord (namesOf es ls)) ls ++ recordsBy (namesOf es ls) lastRows es) (λ j i.
+      (rows-rise (namesOf es ls) es firstRows 1 (first-kept (namesOf es ls) l) (first-proper (namesOf es ls))
+      (each (taskRecord (namesOf es ls)) ls ++ recordsBy (namesOf es ls) lastRows es) (λ j i.
       let five : many firstRows ≡ 5 = count in
       rise-block j 6 (each (taskRecord (namesOf es ls)) ls) (recordsBy (namesOf es ls) lastRows es) (omega arith) (lines-block (namesOf es ls) l ls)
-      (rise-less 6 7 (recordsBy (namesOf es ls) lastRows es) (omega arith) (subst (λ (x : List (Maybe Record)). Rise 7 x) (append-nil (recordsBy (namesOf es ls) lastRows es))
+      (rise-less 6 7 (recordsBy (namesOf es ls) lastRows es) (omega arith) (subst (λ (x : List (Maybe Record)). Rise 7 x)
+      (append-nil (recordsBy (namesOf es ls) lastRows es))
       (rows-rise (namesOf es ls) es lastRows 7 (last-kept (namesOf es ls) l) (last-proper (namesOf es ls)) [] (λ j i. tt))))))

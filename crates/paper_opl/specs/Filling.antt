@@ -3,18 +3,13 @@ use Prim.Native.Nat.{ℕ, zero, suc, _+_, _*_}
 use mathlib.Core.Bool.{cond}
 use mathlib.Core.List.{List, [], _∷_, _++_}
 use lib.Dec.{eqb}
-use lib.ListN.{take, drop}
 use Rattle.paper_lower.specs.Sets.{Set, plus}
 use Rattle.paper_lower.specs.Lists.{Maybe, upd, many, keep}
 use Rattle.paper_lower.specs.Lists.Maybe.{none, just}
-use Rattle.paper_lower.specs.Records.{Bytes, Record, encode}
+use Rattle.paper_lower.specs.Records.{Bytes, Record, putAt}
 use Rattle.paper_opl.specs.Tree.{Tag, if-found}
 use Rattle.paper_opl.specs.Naming.{Line, Names, taskRecord}
 use Rattle.paper_opl.specs.Walk.{Context, turn, kindAt, leading, Saying, saying, recordSaid}
-
--- the record of sixteen bytes at place p anew
-unfoldable pub putAt : Bytes → ℕ → Record → Bytes
-putAt out p r = take (16 * p) out ++ (encode r ++ drop (16 * p + 16) out)
 
 -- a record that is there
 abbrev pub valued : Maybe Record → Record

@@ -60,18 +60,21 @@ module _ (rows : ℕ → Maybe Permission) (buckets : ℕ → Set) (b : ℕ) whe
             let are = both (eqb (x .operation) operation) (eqb (x .object) object) e in
             λ z. lists buckets (bucketOf (eqb-true (x .operation) operation (are .0) z) (eqb-true (x .object) object (are .1) z)) b
 
-        at : (x : Permission) (q : Bool) → isFor operation object x ≡ q → (t : Bool) → lists buckets (its x) b ≡ t → holds (isFor operation object) (cond t (just x) none) ≡ lists buckets (bucketOf operation object) b && q
+        at : (x : Permission) (q : Bool) → isFor operation object x ≡ q → (t : Bool) → lists buckets (its x) b ≡ t →
+            holds (isFor operation object) (cond t (just x) none) ≡ lists buckets (bucketOf operation object) b && q
         at x true e true f = e ∙ sym (ap (λ u. u && true) (sym (same x e) ∙ f))
         at x true e false f = sym (ap (λ u. u && true) (sym (same x e) ∙ f))
         at x false e true f = e ∙ sym (and-false (lists buckets (bucketOf operation object) b))
         at x false e false f = sym (and-false (lists buckets (bucketOf operation object) b))
 
-        go : (r : Maybe Permission) → holds (isFor operation object) (counted buckets b r) ≡ lists buckets (bucketOf operation object) b && holds (isFor operation object) r
+        go : (r : Maybe Permission) →
+            holds (isFor operation object) (counted buckets b r) ≡ lists buckets (bucketOf operation object) b && holds (isFor operation object) r
         go none = sym (and-false (lists buckets (bucketOf operation object) b))
         go (just x) = at x (isFor operation object x) refl (lists buckets (its x) b) refl
 
 -- A permission for the pair: its four is one of the pair's, and its row is for the pair.
-pub declared-for : (l : List ℕ) (operation object b : ℕ) → holds (isFor operation object) (policyOf l .permissions .declared b) ≡ has (foursFor l operation object) (b / 4) && rowIs l operation object b
+pub declared-for : (l : List ℕ) (operation object b : ℕ) →
+    holds (isFor operation object) (policyOf l .permissions .declared b) ≡ has (foursFor l operation object) (b / 4) && rowIs l operation object b
 unfolding policyOf permissionsIn foursFor rowIs lists
 declared-for l operation object b = listed-for (tableIn permissionTable l) (tableIn bucketTable l) b operation object
 
@@ -81,26 +84,32 @@ unfolding lists
 lists-bit buckets h b p q r = r ∙ (λ z. has (q z) (b / 4)) ∙ (λ z. has (buckets (p z)) (b / 4))
 
 module _ (l : List ℕ) (b : ℕ) (room : b < 256) where
-  pub declared-there : {t : Bool} → t ≡ lists (tableIn bucketTable l) (bucketOf (getD l (permissionTable .first + b) 0 % 65536) (getD l (permissionTable .first + b) 0 / 65536 % 65536)) b
+  pub declared-there : {t : Bool} →
+      t ≡ lists (tableIn bucketTable l) (bucketOf (getD l (permissionTable .first + b) 0 % 65536) (getD l (permissionTable .first + b) 0 / 65536 % 65536)) b
       → eqb (getD l (permissionTable .first + b) 0 / 4294967296 % 2) 1 && t ≡ there (permissionsIn l .declared b)
   unfolding permissionsIn
   declared-there e =
       ap (_&&_ (eqb (getD l (permissionTable .first + b) 0 / 4294967296 % 2) 1)) e
       ∙ permission-holds (getD l (permissionTable .first + b) 0) (λ x. lists (tableIn bucketTable l) (its x) b)
-      ∙ sym (listed-there (tableIn permissionTable l) (tableIn bucketTable l) b ∙ ap (holds (λ x. lists (tableIn bucketTable l) (its x) b)) (column-at permissionOf none (permissionTable .first) 256 l b room))
+      ∙ sym (listed-there (tableIn permissionTable l) (tableIn bucketTable l) b ∙
+      ap (holds (λ x. lists (tableIn bucketTable l) (its x) b)) (column-at permissionOf none (permissionTable .first) 256 l b room))
 
   -- and its numbers are those of its word
   pub declared-value : (f : Permission → ℕ) → there (permissionsIn l .declared b) ≡ true
-      → f (record { operation = getD l (permissionTable .first + b) 0 % 65536; object = getD l (permissionTable .first + b) 0 / 65536 % 65536 }) ≡ valueOf f (permissionsIn l .declared b)
+      → f (record { operation = getD l (permissionTable .first + b) 0 % 65536; object = getD l (permissionTable .first + b) 0 / 65536 % 65536 }) ≡
+      valueOf f (permissionsIn l .declared b)
   unfolding permissionsIn
   declared-value f h =
       let row : permissionsIn l .declared b ≡ permissionOf (getD l (permissionTable .first + b) 0)
       = listed-row (tableIn permissionTable l) (tableIn bucketTable l) b h ∙ column-at permissionOf none (permissionTable .first) 256 l b room in
       permission-value (getD l (permissionTable .first + b) 0) f (sym (ap there row) ∙ h) ∙ sym (ap (valueOf f) row)
 
-  pub row-word : (operation object : ℕ) → operation < 65536 → object < 65536 → eqb (getD l (permissionTable .first + b) 0 % 8589934592) (4294967296 + operation + 65536 * object) ≡ rowIs l operation object b
+  pub row-word : (operation object : ℕ) → operation < 65536 → object < 65536 →
+      eqb (getD l (permissionTable .first + b) 0 % 8589934592) (4294967296 + operation + 65536 * object) ≡ rowIs l operation object b
   unfolding rowIs
-  row-word operation object h k = permission-is (getD l (permissionTable .first + b) 0) operation object h k ∙ sym (ap (holds (isFor operation object)) (column-at permissionOf none (permissionTable .first) 256 l b room))
+  row-word operation object h k =
+      permission-is (getD l (permissionTable .first + b) 0) operation object h k ∙
+      sym (ap (holds (isFor operation object)) (column-at permissionOf none (permissionTable .first) 256 l b room))
 
 -- ---- A row emptied.
 module _ (h : ℕ) where
@@ -126,12 +135,15 @@ module _ (h : ℕ) where
     unfolding permissionOf inBucket unlessIn holds
     word-out n = at (eqb (w / 4294967296 % 2) 1)
       where
-        at : (t : Bool) → unlessIn h (cond t (just (record { operation = w % 65536; object = w / 65536 % 65536 })) none) ≡ cond t (just (record { operation = w % 65536; object = w / 65536 % 65536 })) none
+        at : (t : Bool) →
+            unlessIn h (cond t (just (record { operation = w % 65536; object = w / 65536 % 65536 })) none) ≡
+            cond t (just (record { operation = w % 65536; object = w / 65536 % 65536 })) none
         at true = rw (ne-eqb _ _ n)
         at false = refl
 
   -- it did not count
-  pub listed-emptied : (rows : ℕ → Maybe Permission) (buckets : ℕ → Set) (b : ℕ) → has (buckets h) (b / 4) ≡ false → listed (upd rows b (unlessIn h (rows b))) buckets ≡ listed rows buckets
+  pub listed-emptied : (rows : ℕ → Maybe Permission) (buckets : ℕ → Set) (b : ℕ) → has (buckets h) (b / 4) ≡ false →
+      listed (upd rows b (unlessIn h (rows b))) buckets ≡ listed rows buckets
   unfolding listed lists holds inBucket unlessIn
   listed-emptied rows buckets b out = fun-ext (λ k. at k (eqb k b) refl)
     where
@@ -163,7 +175,8 @@ module _ (rows : ℕ → Maybe Permission) (buckets : ℕ → Set) (x : Permissi
   unfolding lists inBucket holds
   old-listed y k is = at (eqb (its y) (its x)) refl (eqb (k / 4) (a / 4)) refl (has (buckets (its x)) (a / 4)) refl
     where
-      at : (t : Bool) → eqb (its y) (its x) ≡ t → (u : Bool) → eqb (k / 4) (a / 4) ≡ u → (v : Bool) → has (buckets (its x)) (a / 4) ≡ v → has (listing buckets x a (its y)) (k / 4) ≡ has (buckets (its y)) (k / 4)
+      at : (t : Bool) → eqb (its y) (its x) ≡ t → (u : Bool) → eqb (k / 4) (a / 4) ≡ u → (v : Bool) → has (buckets (its x)) (a / 4) ≡ v →
+          has (listing buckets x a (its y)) (k / 4) ≡ has (buckets (its y)) (k / 4)
       at true e true f true g =
           ap (λ m. has m (k / 4)) (upd-same buckets (its x) (its y) (plus (buckets (its x)) (a / 4)) (eqb-true (its y) (its x) e))
           ∙ ap (has (plus (buckets (its x)) (a / 4))) (eqb-true (k / 4) (a / 4) f)

@@ -147,13 +147,15 @@ module _ (l : List ℕ) (room : length l ≡ policyWords) where
     pub most-set : (n : ℕ) → i < 64 → 0 < n → n < 256 → policyOf (set l (mostTable .first + i) n) ≡ mostAnew (policyOf l) i n
     most-set n h p q = row-set (mostTable .first) i n (omega arith) ∙ rw (most-word n p q)
 
-pub user-set : (l : List ℕ) → length l ≡ policyWords → (i v m : ℕ) → i < 1024 → policyOf (set (set l (userTable .first + i) v) (assignedTable .first + i) m) ≡ userAnew (policyOf l) i (flagOf v) m
+pub user-set : (l : List ℕ) → length l ≡ policyWords → (i v m : ℕ) → i < 1024 →
+    policyOf (set (set l (userTable .first + i) v) (assignedTable .first + i) m) ≡ userAnew (policyOf l) i (flagOf v) m
 user-set l room i v m h =
     let next : length (set l (userTable .first + i) v) ≡ policyWords = rw length-set room in
     assigned-set (set l (userTable .first + i) v) next i m h ∙ ap (λ t. assignedAnew t i m) (row-set l room (userTable .first) i v (omega arith))
 
 -- ---- Senior roles: a store in one of their tables, or among the roles with some role below them.
-in-seniority : (l : List ℕ) (j v : ℕ) → Outside (seniorsWord + 1) (juniorTable .first) j × ((seniorsWord ≤ j) × (j < behind belowTable)) → policyOf (set l j v) ≡ withSeniority (policyOf l) (seniorityIn (set l j v))
+in-seniority : (l : List ℕ) (j v : ℕ) → Outside (seniorsWord + 1) (juniorTable .first) j × ((seniorsWord ≤ j) × (j < behind belowTable)) →
+    policyOf (set l j v) ≡ withSeniority (policyOf l) (seniorityIn (set l j v))
 unfolding policyOf
 in-seniority l j v h = λ x.
     record {
@@ -189,13 +191,24 @@ module _ (l : List ℕ) (room : length l ≡ policyWords) (i m : ℕ) (h : i < 6
       (λ x r. cond (has (word x) r) (rows x r) empty)
       ∙ fun-ext (λ r. at r (eqb r i) refl)
     where
-      at : (r : ℕ) (here : Bool) → eqb r i ≡ here → cond (has (plus (getD l seniorsWord 0) i) r) (upd (tableIn belowTable l) i m r) empty ≡ upd (λ r. cond (has (getD l seniorsWord 0) r) (tableIn belowTable l r) empty) i m r
+      at : (r : ℕ) (here : Bool) → eqb r i ≡ here →
+          cond (has (plus (getD l seniorsWord 0) i) r) (upd (tableIn belowTable l) i m r) empty ≡
+          upd (λ r. cond (has (getD l seniorsWord 0) r) (tableIn belowTable l r) empty) i m r
       at r true e =
           let q = eqb-true r i e in
-          rw (upd-same (tableIn belowTable l) i r m q, upd-same (λ r. cond (has (getD l seniorsWord 0) r) (tableIn belowTable l r) empty) i r m q, q, has-new (getD l seniorsWord 0) i)
+          rw (
+            upd-same (tableIn belowTable l) i r m q,
+            upd-same (λ r. cond (has (getD l seniorsWord 0) r) (tableIn belowTable l r) empty) i r m q,
+            q,
+            has-new (getD l seniorsWord 0) i,
+          )
       at r false e =
           let q = eqb-false r i e in
-          rw (upd-other (tableIn belowTable l) i r m q, upd-other (λ r. cond (has (getD l seniorsWord 0) r) (tableIn belowTable l r) empty) i r m q, has-other (getD l seniorsWord 0) i r q)
+          rw (
+            upd-other (tableIn belowTable l) i r m q,
+            upd-other (λ r. cond (has (getD l seniorsWord 0) r) (tableIn belowTable l r) empty) i r m q,
+            has-other (getD l seniorsWord 0) i r q,
+          )
 
   pub below-set : (v : ℕ) → v ≡ plus (seniorsIn l) i → policyOf (set (set l (belowTable .first + i) m) seniorsWord v) ≡ belowAnew (policyOf l) i m
   unfolding policyOf seniorityIn
@@ -214,7 +227,8 @@ module _ (l : List ℕ) (room : length l ≡ policyWords) (i m : ℕ) (h : i < 6
 abbrev declaredAnew : Policy → (ℕ → Maybe Permission) → Policy
 declaredAnew t f = withPermissions t (record { declared = f; holders = t .permissions .holders; carriers = t .permissions .carriers })
 
-in-declared : (l : List ℕ) (j v : ℕ) → (permissionTable .first ≤ j) × (Outside (behind permissionTable) (bucketTable .first) j × (j < behind bucketTable)) → policyOf (set l j v) ≡ declaredAnew (policyOf l) (permissionsIn (set l j v) .declared)
+in-declared : (l : List ℕ) (j v : ℕ) → (permissionTable .first ≤ j) × (Outside (behind permissionTable) (bucketTable .first) j × (j < behind bucketTable)) →
+    policyOf (set l j v) ≡ declaredAnew (policyOf l) (permissionsIn (set l j v) .declared)
 unfolding policyOf permissionsIn
 in-declared l j v h = λ x.
     record {
@@ -260,18 +274,23 @@ module _ (l : List ℕ) (t h : ℕ) where
       kept out =
           in-declared p (permissionTable .first + b) v (omega arith)
           ∙ ap (declaredAnew (policyOf p))
-          ((λ x. listed (emptied x) (table-off bucketTable p (permissionTable .first + b) v (omega arith) x)) ∙ listed-emptied h (tableIn permissionTable p) (tableIn bucketTable p) b out)
+          ((λ x. listed (emptied x) (table-off bucketTable p (permissionTable .first + b) v (omega arith) x)) ∙
+          listed-emptied h (tableIn permissionTable p) (tableIn bucketTable p) b out)
 
-      stray : (k : ℕ) → 4 * t ≤ k → k < b + 1 → ((k : ℕ) → 4 * t ≤ k → k < b → inBucket h (tableIn permissionTable p k) ≡ false) → inBucket h (tableIn permissionTable (set p (permissionTable .first + b) v) k) ≡ false
+      stray : (k : ℕ) → 4 * t ≤ k → k < b + 1 → ((k : ℕ) → 4 * t ≤ k → k < b → inBucket h (tableIn permissionTable p k) ≡ false) →
+          inBucket h (tableIn permissionTable (set p (permissionTable .first + b) v) k) ≡ false
       stray k a z below = ap (λ f. inBucket h (f k)) emptied ∙ at (eqb k b) refl
         where
           at : (here : Bool) → eqb k b ≡ here → inBucket h (upd (tableIn permissionTable p) b (unlessIn h (tableIn permissionTable p b)) k) ≡ false
-          at true e = ap (inBucket h) (upd-same (tableIn permissionTable p) b k (unlessIn h (tableIn permissionTable p b)) (eqb-true k b e)) ∙ emptied-out h (tableIn permissionTable p b)
+          at true e =
+              ap (inBucket h) (upd-same (tableIn permissionTable p) b k (unlessIn h (tableIn permissionTable p b)) (eqb-true k b e)) ∙
+              emptied-out h (tableIn permissionTable p b)
           at false e =
               let other = eqb-false k b e in
               ap (inBucket h) (upd-other (tableIn permissionTable p) b k (unlessIn h (tableIn permissionTable p b)) other) ∙ below k a (omega arith)
 
-    pub ready-more : (v : ℕ) → ReadyTo l t h b p → has (tableIn bucketTable l h) t ≡ false → t < 64 → 4 * t ≤ b → b < 4 * t + 4 → permissionOf v ≡ unlessIn h (permissionOf (getD p (permissionTable .first + b) 0)) → ReadyTo l t h (b + 1) (set p (permissionTable .first + b) v)
+    pub ready-more : (v : ℕ) → ReadyTo l t h b p → has (tableIn bucketTable l h) t ≡ false → t < 64 → 4 * t ≤ b → b < 4 * t + 4 →
+        permissionOf v ≡ unlessIn h (permissionOf (getD p (permissionTable .first + b) 0)) → ReadyTo l t h (b + 1) (set p (permissionTable .first + b) v)
     ready-more v r out room low high is =
         let four : b / 4 ≡ t = omega arith in
         record {
@@ -283,24 +302,31 @@ module _ (l : List ℕ) (t h : ℕ) where
 
 -- A permission: its row, and its four in the bucket of its pair.
 module _ (l after : List ℕ) (room : length after ≡ policyWords) (i operation object v : ℕ) (h : i < 256) (small : operation < 65536) (too : object < 65536) (ready : Ready l (i / 4) (bucketOf operation object) after) (more : v ≡ plus (tableIn bucketTable after (bucketOf operation object)) (i / 4)) where
-  declared-set : permissionsIn (set (set after (permissionTable .first + i) (4294967296 + operation + 65536 * object)) (bucketTable .first + bucketOf operation object) v) .declared ≡ upd (permissionsIn after .declared) i (just (record { operation = operation; object = object }))
+  declared-set : permissionsIn
+      (set (set after (permissionTable .first + i) (4294967296 + operation + 65536 * object)) (bucketTable .first + bucketOf operation object) v) .declared ≡
+      upd (permissionsIn after .declared) i (just (record { operation = operation; object = object }))
   unfolding permissionsIn
   declared-set =
       let bucket = bucketOf operation object in
       let w = 4294967296 + operation + 65536 * object in
       let low = bucket-small operation object in
       let room₁ : length (set after (permissionTable .first + i) w) ≡ policyWords = rw length-set room in
-      let rows : tableIn permissionTable (set (set after (permissionTable .first + i) w) (bucketTable .first + bucket) v) ≡ upd (tableIn permissionTable after) i (just (record { operation = operation; object = object })) =
+      let rows : tableIn permissionTable (set (set after (permissionTable .first + i) w) (bucketTable .first + bucket) v) ≡
+      upd (tableIn permissionTable after) i (just (record { operation = operation; object = object })) =
       table-off permissionTable (set after (permissionTable .first + i) w) (bucketTable .first + bucket) v (omega arith)
       ∙ table-same permissionTable after i w h (omega arith)
       ∙ ap (upd (tableIn permissionTable after) i) (permission-word operation object small too) in
-      let buckets : tableIn bucketTable (set (set after (permissionTable .first + i) w) (bucketTable .first + bucket) v) ≡ listing (tableIn bucketTable after) (record { operation = operation; object = object }) i =
+      let buckets : tableIn bucketTable (set (set after (permissionTable .first + i) w) (bucketTable .first + bucket) v) ≡
+      listing (tableIn bucketTable after) (record { operation = operation; object = object }) i =
       table-same bucketTable (set after (permissionTable .first + i) w) bucket v (omega arith) (omega arith)
       ∙ (λ x. upd (table-off bucketTable after (permissionTable .first + i) w (omega arith) x) bucket (more x)) in
       (λ x. listed (rows x) (buckets x))
-      ∙ listed-set (tableIn permissionTable after) (tableIn bucketTable after) (record { operation = operation; object = object }) i (λ out. ready .strays (ap (λ f. has (f bucket) (i / 4)) (sym (ready .buckets)) ∙ out))
+      ∙ listed-set (tableIn permissionTable after) (tableIn bucketTable after) (record { operation = operation; object = object }) i
+      (λ out. ready .strays (ap (λ f. has (f bucket) (i / 4)) (sym (ready .buckets)) ∙ out))
 
-  pub permission-set : policyOf (set (set after (permissionTable .first + i) (4294967296 + operation + 65536 * object)) (bucketTable .first + bucketOf operation object) v) ≡ permissionAnew (policyOf l) i operation object
+  pub permission-set : policyOf
+      (set (set after (permissionTable .first + i) (4294967296 + operation + 65536 * object)) (bucketTable .first + bucketOf operation object) v) ≡
+      permissionAnew (policyOf l) i operation object
   unfolding policyOf
   permission-set =
       let w = 4294967296 + operation + 65536 * object in

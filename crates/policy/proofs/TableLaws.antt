@@ -23,7 +23,8 @@ Outside first last j = first ≤ j → last ≤ j
 pub narrow : {first last b e j : ℕ} → Outside first last j → (first ≤ b) × (e ≤ last) → Outside b e j
 narrow far h k = omega (arith, far (omega arith))
 
-pub table-same : {A : Type 0} (t : Table A) (l : List ℕ) (k v : ℕ) → k < t .height → t .first + t .height ≤ length l → tableIn t (set l (t .first + k) v) ≡ upd (tableIn t l) k (t .read v)
+pub table-same : {A : Type 0} (t : Table A) (l : List ℕ) (k v : ℕ) → k < t .height → t .first + t .height ≤ length l →
+    tableIn t (set l (t .first + k) v) ≡ upd (tableIn t l) k (t .read v)
 table-same t = column-same (t .read) (t .past) (t .first) (t .height)
 
 pub table-off : {A : Type 0} (t : Table A) (l : List ℕ) (j v : ℕ) → Outside (t .first) (t .first + t .height) j → tableIn t (set l j v) ≡ tableIn t l
@@ -34,7 +35,9 @@ table-off t l j v far = at (leb (t .first) j) refl
     at false e = column-below (t .read) (t .past) (t .first) (t .height) l j v (leb-false (t .first) j e)
 
 -- ---- The kinds of rules.
-pub limits-off : (which : ℕ) (l : List ℕ) (j v : ℕ) → Outside (limitsKept which) (limitsKept which + 1) j × Outside (limitTable which .first) (behind (memberTable which)) j → limitsIn which (set l j v) ≡ limitsIn which l
+pub limits-off : (which : ℕ) (l : List ℕ) (j v : ℕ) →
+    Outside (limitsKept which) (limitsKept which + 1) j × Outside (limitTable which .first) (behind (memberTable which)) j →
+    limitsIn which (set l j v) ≡ limitsIn which l
 unfolding limitAt limitCount
 limits-off which l j v h = λ x.
     rows
@@ -45,7 +48,8 @@ limits-off which l j v h = λ x.
     })
     (min (getD-set-other l j (limitsKept which) v 0 (λ e. omega (arith, h .0 (omega arith))) x) 32)
 
-pub blocks-off : (l : List ℕ) (j v : ℕ) → Outside blocksKept (blocksKept + 1) j × Outside (partitioningTable .first) (behind blockTable) j → blocksIn (set l j v) ≡ blocksIn l
+pub blocks-off : (l : List ℕ) (j v : ℕ) → Outside blocksKept (blocksKept + 1) j × Outside (partitioningTable .first) (behind blockTable) j →
+    blocksIn (set l j v) ≡ blocksIn l
 unfolding blockAt blockCount
 blocks-off l j v h = λ x.
     rows
@@ -56,7 +60,9 @@ blocks-off l j v h = λ x.
     })
     (min (getD-set-other l j blocksKept v 0 (λ e. omega (arith, h .0 (omega arith))) x) 64)
 
-pub pairs-off : (which : ℕ) (l : List ℕ) (j v : ℕ) → Outside (pairsKept which) (pairsKept which + 1) j × Outside (pairTable which same .first) (behind (pairTable which same)) j → pairsIn which (set l j v) ≡ pairsIn which l
+pub pairs-off : (which : ℕ) (l : List ℕ) (j v : ℕ) →
+    Outside (pairsKept which) (pairsKept which + 1) j × Outside (pairTable which same .first) (behind (pairTable which same)) j →
+    pairsIn which (set l j v) ≡ pairsIn which l
 unfolding pairAt pairCount
 pairs-off which l j v h = λ x.
     rows
@@ -91,7 +97,8 @@ module _ (l : List ℕ) (j v : ℕ) where
 
   pub below-off : Outside seniorsWord (seniorsWord + 1) j × Outside (belowTable .first) (behind belowTable) j → belowIn (set l j v) ≡ belowIn l
   unfolding belowIn seniorsIn
-  below-off h = λ x r. cond (has (getD-set-other l j seniorsWord v 0 (λ e. omega (arith, h .0 (omega arith))) x) r) (table-off belowTable l j v (h .1) x r) empty
+  below-off h =
+      λ x r. cond (has (getD-set-other l j seniorsWord v 0 (λ e. omega (arith, h .0 (omega arith))) x) r) (table-off belowTable l j v (h .1) x r) empty
 
   pub seniority-off : Outside seniorsWord (seniorsWord + 1) j × Outside (juniorTable .first) (behind belowTable) j → seniorityIn (set l j v) ≡ seniorityIn l
   unfolding seniorityIn
@@ -101,11 +108,13 @@ module _ (l : List ℕ) (j v : ℕ) where
         below = below-off (h .0, narrow (h .1) (omega arith)) x;
       }
 
-  pub declared-off : Outside (permissionTable .first) (behind permissionTable) j × Outside (bucketTable .first) (behind bucketTable) j → permissionsIn (set l j v) .declared ≡ permissionsIn l .declared
+  pub declared-off : Outside (permissionTable .first) (behind permissionTable) j × Outside (bucketTable .first) (behind bucketTable) j →
+      permissionsIn (set l j v) .declared ≡ permissionsIn l .declared
   unfolding permissionsIn
   declared-off h = λ x. listed (table-off permissionTable l j v (h .0) x) (table-off bucketTable l j v (h .1) x)
 
-  pub permissions-off : Outside (permissionTable .first) (behind carrierTable) j × Outside (bucketTable .first) (behind bucketTable) j → permissionsIn (set l j v) ≡ permissionsIn l
+  pub permissions-off : Outside (permissionTable .first) (behind carrierTable) j × Outside (bucketTable .first) (behind bucketTable) j →
+      permissionsIn (set l j v) ≡ permissionsIn l
   unfolding permissionsIn
   permissions-off h = λ x.
       record {

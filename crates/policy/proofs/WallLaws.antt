@@ -22,7 +22,8 @@ and-true true = refl
 and-true false = refl
 
 -- ---- A row's word.
-pub walled-word : (wall block object : ℕ) → wall < 16 → block < 16 → object < 65536 → walledOf (wall + 16 * block + 256 * object) ≡ record { wall = wall; block = block; object = object }
+pub walled-word : (wall block object : ℕ) → wall < 16 → block < 16 → object < 65536 →
+    walledOf (wall + 16 * block + 256 * object) ≡ record { wall = wall; block = block; object = object }
 unfolding walledOf
 walled-word wall block object h k m =
     let w = wall + 16 * block + 256 * object in
@@ -48,13 +49,17 @@ module _ (rows₀ : ℕ → Walled) (buckets : ℕ → Set) (x : Walled) (k : �
   unfolding listsRow
   lists-old object i low high = at (eqb (wallWord object (i / 64)) (wallWord (x .object) (k / 64))) refl
     where
-      at : (t : Bool) → eqb (wallWord object (i / 64)) (wallWord (x .object) (k / 64)) ≡ t → has (more (wallWord object (i / 64))) (i % 64) ≡ has (buckets (wallWord object (i / 64))) (i % 64)
+      at : (t : Bool) → eqb (wallWord object (i / 64)) (wallWord (x .object) (k / 64)) ≡ t →
+          has (more (wallWord object (i / 64))) (i % 64) ≡ has (buckets (wallWord object (i / 64))) (i % 64)
       at true e =
           let one = eqb-true (wallWord object (i / 64)) (wallWord (x .object) (k / 64)) e in
-          ap (λ m. has m (i % 64)) (upd-same buckets (wallWord (x .object) (k / 64)) (wallWord object (i / 64)) (plus (buckets (wallWord (x .object) (k / 64))) (k % 64)) one)
+          ap (λ m. has m (i % 64))
+          (upd-same buckets (wallWord (x .object) (k / 64)) (wallWord object (i / 64)) (plus (buckets (wallWord (x .object) (k / 64))) (k % 64)) one)
           ∙ has-other (buckets (wallWord (x .object) (k / 64))) (k % 64) (i % 64) (λ same. omega arith)
           ∙ ap (λ j. has (buckets j) (i % 64)) (sym one)
-      at false e = ap (λ m. has m (i % 64)) (upd-other buckets (wallWord (x .object) (k / 64)) (wallWord object (i / 64)) (plus (buckets (wallWord (x .object) (k / 64))) (k % 64)) (eqb-false _ _ e))
+      at false e =
+          ap (λ m. has m (i % 64)) (upd-other buckets (wallWord (x .object) (k / 64)) (wallWord object (i / 64))
+          (plus (buckets (wallWord (x .object) (k / 64))) (k % 64)) (eqb-false _ _ e))
 
   pub walled-added : k < 256 → rows (λ i. listedRow more i (upd rows₀ k x i)) (k + 1) ≡ add (rows (λ i. listedRow buckets i (rows₀ i)) k) x
   unfolding listedRow
@@ -65,7 +70,8 @@ module _ (rows₀ : ℕ → Walled) (buckets : ℕ → Set) (x : Walled) (k : �
       before : (i : ℕ) → i < k → listedRow more i (upd rows₀ k x i) ≡ listedRow buckets i (rows₀ i)
       before i low =
           ap (listedRow more i) (upd-other rows₀ k i x (omega arith))
-          ∙ ap (λ t. record { wall = rows₀ i .wall; block = rows₀ i .block; object = cond t (rows₀ i .object) noObject }) (lists-old (rows₀ i .object) i low high)
+          ∙ ap (λ t. record { wall = rows₀ i .wall; block = rows₀ i .block; object = cond t (rows₀ i .object) noObject })
+          (lists-old (rows₀ i .object) i low high)
 
       here : listedRow more k (upd rows₀ k x k) ≡ x
       here =
@@ -73,7 +79,8 @@ module _ (rows₀ : ℕ → Walled) (buckets : ℕ → Set) (x : Walled) (k : �
           ∙ ap (λ t. record { wall = x .wall; block = x .block; object = cond t (x .object) noObject }) lists-new
 
 -- ---- A search by object: a row is about the object if the object's bucket has it, and its word is about the object.
-pub walled-for : (l : List ℕ) (object k : ℕ) → object < 65536 → eqb (walledAt l k .object) object ≡ has (wallRows l object (k / 64)) (k % 64) && walledIs l object k
+pub walled-for : (l : List ℕ) (object k : ℕ) → object < 65536 →
+    eqb (walledAt l k .object) object ≡ has (wallRows l object (k / 64)) (k % 64) && walledIs l object k
 unfolding walledAt listedRow listsRow wallRows walledIs
 walled-for l object k small = at (eqb (tableIn walledTable l k .object) object) refl
   where
@@ -91,7 +98,8 @@ walled-for l object k small = at (eqb (tableIn walledTable l k .object) object) 
     same true e = e
     same false e = ne-eqb noObject object (omega arith)
 
-    at : (t : Bool) → eqb its object ≡ t → eqb (cond (has (buckets (wallWord its (k / 64))) (k % 64)) its noObject) object ≡ has (buckets (wallWord object (k / 64))) (k % 64) && t
+    at : (t : Bool) → eqb its object ≡ t →
+        eqb (cond (has (buckets (wallWord its (k / 64))) (k % 64)) its noObject) object ≡ has (buckets (wallWord object (k / 64))) (k % 64) && t
     at true e =
         let one = eqb-true its object e in
         same (has (buckets (wallWord its (k / 64))) (k % 64)) e
@@ -106,7 +114,8 @@ module _ (l : List ℕ) (k : ℕ) (room : k < 256) {m : Set} {t : Bool} (rows-ar
   object-is : walledAt l k .object ≡ cond t (getD l (walledTable .first + k) 0 / 256 % 65536) noObject
   unfolding walledAt listedRow listsRow wallRows walledOf
   object-is =
-      ap (λ (x : Walled). cond (has (tableIn wallBucketTable l (wallWord (x .object) (k / 64))) (k % 64)) (x .object) noObject) (column-at walledOf (walledOf 0) (walledTable .first) 256 l k room)
+      ap (λ (x : Walled). cond (has (tableIn wallBucketTable l (wallWord (x .object) (k / 64))) (k % 64)) (x .object) noObject)
+      (column-at walledOf (walledOf 0) (walledTable .first) 256 l k room)
       ∙ sym (ap (λ u. cond u (getD l (walledTable .first + k) 0 / 256 % 65536) noObject) (test ∙ ap (λ m. has m (k % 64)) rows-are))
 
   pub object-listed : not t ≡ false → getD l (walledTable .first + k) 0 / 256 % 65536 ≡ walledAt l k .object

@@ -53,19 +53,24 @@ module _ (w : ℕ) where
       at true e = eqb-true (w % 256) 0 e
       at false e = refl
 
-  pub permission-value : (f : Permission → ℕ) → there (permissionOf w) ≡ true → f (record { operation = w % 65536; object = w / 65536 % 65536 }) ≡ valueOf f (permissionOf w)
+  pub permission-value : (f : Permission → ℕ) → there (permissionOf w) ≡ true →
+      f (record { operation = w % 65536; object = w / 65536 % 65536 }) ≡ valueOf f (permissionOf w)
   unfolding permissionOf
   permission-value f h = sym (value-there f (eqb (w / 4294967296 % 2) 1) (record { operation = w % 65536; object = w / 65536 % 65536 }) h)
 
-  pub permission-holds : (p : Permission → Bool) → eqb (w / 4294967296 % 2) 1 && p (record { operation = w % 65536; object = w / 65536 % 65536 }) ≡ holds p (permissionOf w)
+  pub permission-holds : (p : Permission → Bool) →
+      eqb (w / 4294967296 % 2) 1 && p (record { operation = w % 65536; object = w / 65536 % 65536 }) ≡ holds p (permissionOf w)
   unfolding permissionOf
   permission-holds p = holds-if p (eqb (w / 4294967296 % 2) 1) (record { operation = w % 65536; object = w / 65536 % 65536 })
 
-  pub permission-is : (operation object : ℕ) → operation < 65536 → object < 65536 → eqb (w % 8589934592) (4294967296 + operation + 65536 * object) ≡ holds (isFor operation object) (permissionOf w)
+  pub permission-is : (operation object : ℕ) → operation < 65536 → object < 65536 →
+      eqb (w % 8589934592) (4294967296 + operation + 65536 * object) ≡ holds (isFor operation object) (permissionOf w)
   unfolding permissionOf isFor
   permission-is operation object h k =
-      two-parts (w % 8589934592) (4294967296 + operation + 65536 * object) (w / 4294967296 % 2) 1 (w % 4294967296) (operation + 65536 * object) (omega arith) (omega arith)
-      ∙ ap (_&&_ (eqb (w / 4294967296 % 2) 1)) (two-parts (w % 4294967296) (operation + 65536 * object) (w % 65536) operation (w / 65536 % 65536) object (omega arith) (omega arith))
+      two-parts (w % 8589934592) (4294967296 + operation + 65536 * object) (w / 4294967296 % 2) 1 (w % 4294967296) (operation + 65536 * object) (omega arith)
+      (omega arith)
+      ∙ ap (_&&_ (eqb (w / 4294967296 % 2) 1))
+      (two-parts (w % 4294967296) (operation + 65536 * object) (w % 65536) operation (w / 65536 % 65536) object (omega arith) (omega arith))
       ∙ permission-holds (isFor operation object)
 
   pub template-there : eqb (w / 16 % 2) 1 ≡ there (templateOf w)
@@ -97,7 +102,8 @@ template-same w v = at (eqb (w / 16 % 2) 1) refl
     at false e = refl
 
 -- ---- What a setter's word reads as.
-pub permission-word : (operation object : ℕ) → operation < 65536 → object < 65536 → permissionOf (4294967296 + operation + 65536 * object) ≡ just (record { operation = operation; object = object })
+pub permission-word : (operation object : ℕ) → operation < 65536 → object < 65536 →
+    permissionOf (4294967296 + operation + 65536 * object) ≡ just (record { operation = operation; object = object })
 unfolding permissionOf
 permission-word operation object h k =
     let w = 4294967296 + operation + 65536 * object in

@@ -51,7 +51,8 @@ module _ (call : Call) (p : PaperRecord) (h : Small (ofPaper p)) (l : Form) wher
   unfolding misshapen outOfRange
   range-is none t e = absurd (true≢false e)
   range-is (just f) t e =
-      let placed = none-of (misplaced (f .n) (p .n)) (misplaced (f .a) (p .a)) (misplaced (f .b) (p .b)) (misplaced (f .c) (p .c)) (misplaced (f .m) (p .m)) e in
+      let placed =
+      none-of (misplaced (f .n) (p .n)) (misplaced (f .a) (p .a)) (misplaced (f .b) (p .b)) (misplaced (f .c) (p .c)) (misplaced (f .m) (p .m)) e in
       rw (
         above-free (f .n) (p .n) (n-free call f l t),
         above-free (f .m) (p .m) (m-free call f l t),

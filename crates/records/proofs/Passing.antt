@@ -48,13 +48,15 @@ goes-on false false more e = refl
 module _ (fs : List Form) (s : Bytes) {T : Type 0} (ks : List (Kind T)) (t : T) (r : Reply) {b : Bool} (judged : numberOf r ≡ first (formChecks fs s)) (accepts : b ≡ eqb (numberOf r) 0) (n : not b ≡ true) where
   refused-reply : replyTo fs ks t s ≡ numberOf r
   unfolding replyTo formChecks
-  refused-reply = stops (shapeFails fs s) (rangeFails fs s) (first (chosen ks (decode s .kind) .checks t (decode s))) (sym judged) (not-zero r accepts (not-true b n))
+  refused-reply =
+      stops (shapeFails fs s) (rangeFails fs s) (first (chosen ks (decode s .kind) .checks t (decode s))) (sym judged) (not-zero r accepts (not-true b n))
 
   pub refused-answer : answer fs ks t s ≡ record { reply = numberOf r; tables = granted (numberOf r) t t }
   unfolding answer
   refused-answer =
       let refused = not-zero r accepts (not-true b n) in
-      rw refused-reply (ap (λ (x : T). record { reply = numberOf r; tables = x }) (sym (granted-old _ t (numberOf r) refused) ∙ granted-old t t (numberOf r) refused))
+      rw refused-reply
+      (ap (λ (x : T). record { reply = numberOf r; tables = x }) (sym (granted-old _ t (numberOf r) refused) ∙ granted-old t t (numberOf r) refused))
 
 -- ---- The record that passed.
 

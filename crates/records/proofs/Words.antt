@@ -31,7 +31,9 @@ module _ (s : Bytes) (byte : (i : ℕ) → getD s i 0 < 256) where
   fields {x} {m} e f =
       record {
         reads = rw (e, f) (λ i. record { kind = kind i; n = n i; a = a i; b = b i; c = c i; m = number 8 8 s });
-        small = record { kind = omega arith; n = omega arith; a = omega arith; b = omega arith; c = omega (arith, eight-small 0); m = omega (arith, eight-small 8) };
+        small =
+            record
+            { kind = omega arith; n = omega arith; a = omega arith; b = omega arith; c = omega (arith, eight-small 0); m = omega (arith, eight-small 8) };
       }
     where
       kind : number 0 8 s % 256 ≡ decode s .kind

@@ -46,14 +46,21 @@ row-kept f a = λ i k. go k (eqb k a) refl i
 
 -- a store below the users' words leaves them
 bound-kept : (l : List ℕ) (j v : ℕ) → j < 384
-    → paired blocksIn (column same 0 384 1024 (set l j v)) (column same 0 1408 1024 (set l j v)) ≡ paired blocksIn (column same 0 384 1024 l) (column same 0 1408 1024 l)
+    → paired blocksIn (column same 0 384 1024 (set l j v)) (column same 0 1408 1024 (set l j v)) ≡
+    paired blocksIn (column same 0 384 1024 l) (column same 0 1408 1024 l)
 bound-kept l j v h = ap₂ (paired blocksIn) (column-below same 0 384 1024 l j v h) (column-below same 0 1408 1024 l j v (omega arith))
 
 -- ---- stores
 -- the sessions with subject a's row anew
 abbrev rowAnew : Sessions → ℕ → ℕ → ℕ → ℕ → Sessions
 rowAnew s a w m h =
-    record { live = upd (s .live) a (liveIn w); user = upd (s .user) a (userIn w); active = upd (s .active) a m; had = upd (s .had) a (union h m); boundTo = s .boundTo }
+    record {
+      live = upd (s .live) a (liveIn w);
+      user = upd (s .user) a (userIn w);
+      active = upd (s .active) a m;
+      had = upd (s .had) a (union h m);
+      boundTo = s .boundTo;
+    }
 
 module _ (l : List ℕ) (room : length l ≡ sessionsWords) (a : ℕ) (b : a < 128) where
   pub roles-set : (m h : ℕ) → sessionsOf (set (set l (128 + a) m) (256 + a) h) ≡ rolesAnew (sessionsOf l) a m h
@@ -74,7 +81,13 @@ module _ (l : List ℕ) (room : length l ≡ sessionsWords) (a : ℕ) (b : a < 1
       }
 
   subject-set : (w : ℕ) → sessionsOf (set l (0 + a) w)
-      ≡ record { live = upd (sessionsOf l .live) a (liveIn w); user = upd (sessionsOf l .user) a (userIn w); active = sessionsOf l .active; had = sessionsOf l .had; boundTo = sessionsOf l .boundTo }
+      ≡ record {
+        live = upd (sessionsOf l .live) a (liveIn w);
+        user = upd (sessionsOf l .user) a (userIn w);
+        active = sessionsOf l .active;
+        had = sessionsOf l .had;
+        boundTo = sessionsOf l .boundTo;
+      }
   unfolding sessionsOf
   subject-set w =
       let active = column-below same 0 128 128 l (0 + a) w (omega arith) in

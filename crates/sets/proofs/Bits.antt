@@ -83,7 +83,8 @@ unfolding bit trailingZeros
 lowest-bit zero m h n = let z : ⊥ = omega arith in absurd z
 lowest-bit (suc k) m h n = go (m % 2) refl (lowest-bit k (m / 2) (let p = pow-suc 2 k in omega arith))
   where
-    go : (d : ℕ) → m % 2 ≡ d → (0 < m / 2 → (bit (trailingZeros k (m / 2)) (m / 2) ≡ 1) × (trailingZeros k (m / 2) < k)) → (bit (under d (trailingZeros k (m / 2))) m ≡ 1) × (under d (trailingZeros k (m / 2)) < suc k)
+    go : (d : ℕ) → m % 2 ≡ d → (0 < m / 2 → (bit (trailingZeros k (m / 2)) (m / 2) ≡ 1) × (trailingZeros k (m / 2) < k)) →
+        (bit (under d (trailingZeros k (m / 2))) m ≡ 1) × (under d (trailingZeros k (m / 2)) < suc k)
     go zero q rest = let r = rest (omega arith) in (r .0, omega arith)
     go (suc d) q rest = (omega arith, omega arith)
 

@@ -69,7 +69,9 @@ module _ (s : Seniority) where
 
   -- roles that have none below them
   pub down-alone : (m : Set) → ((r : ℕ) → r < 64 → has m r ≡ true → s .below r ≡ empty) → down s m ≡ m
-  down-alone m alone = same-members (down s m) m (λ x. has-down m x ∙ ap (_||_ (has m x)) (below-none 64 (λ r. has m r && has (s .below r) x) (λ r h. at x r h (has m r) refl)) ∙ or-false (has m x))
+  down-alone m alone =
+      same-members (down s m) m
+      (λ x. has-down m x ∙ ap (_||_ (has m x)) (below-none 64 (λ r. has m r && has (s .below r) x) (λ r h. at x r h (has m r) refl)) ∙ or-false (has m x))
     where
       at : (x r : ℕ) → r < 64 → (t : Bool) → has m r ≡ t → t && has (s .below r) x ≡ false
       at x r h true e = ap (λ k. has k x) (alone r h e) ∙ has-empty x
@@ -80,7 +82,8 @@ module _ (s : Seniority) where
   unfolding down
   walk-start m = refl
 
-  pub walk-more : (all left : Set) (r : ℕ) → r < 64 → has left r ≡ true → union all (belowAll s left) ≡ union (union all (s .below r)) (belowAll s (minus left r))
+  pub walk-more : (all left : Set) (r : ℕ) → r < 64 → has left r ≡ true →
+      union all (belowAll s left) ≡ union (union all (s .below r)) (belowAll s (minus left r))
   walk-more all left r h e =
       same-members _ _ (λ x.
       has-union all (belowAll s left) x
@@ -88,7 +91,8 @@ module _ (s : Seniority) where
       ∙ go x (has (s .below r) x) refl
       ∙ sym (has-union (union all (s .below r)) (belowAll s (minus left r)) x ∙ (λ z. has-union all (s .below r) x z || has-below (minus left r) x z)))
     where
-      pass : (x : ℕ) → has (s .below r) x ≡ false → (k : ℕ) (here : Bool) → eqb k r ≡ here → has left k && has (s .below k) x ≡ has (minus left r) k && has (s .below k) x
+      pass : (x : ℕ) → has (s .below r) x ≡ false → (k : ℕ) (here : Bool) → eqb k r ≡ here →
+          has left k && has (s .below k) x ≡ has (minus left r) k && has (s .below k) x
       pass x f k true is =
           let none : has (s .below k) x ≡ false = ap (λ i. has (s .below i) x) (eqb-true k r is) ∙ f in
           rw none (and-false (has left k) ∙ sym (and-false (has (minus left r) k)))

@@ -509,7 +509,8 @@ unionBelow-lt b (suc n) f h = union-lt b _ _ (unionBelow-lt b n f (λ k l. h k (
 pub has-unionBelow : (n : ℕ) (f : ℕ → Set) (x : ℕ) → has (unionBelow n f) x ≡ someBelow n (λ k. has (f k) x)
 unfolding unionBelow someBelow
 has-unionBelow zero f x = has-empty x
-has-unionBelow (suc n) f x = has-union (unionBelow n f) (f n) x ∙ ap (λ b. b || has (f n) x) (has-unionBelow n f x) ∙ swap (someBelow n (λ k. has (f k) x)) (has (f n) x)
+has-unionBelow (suc n) f x =
+    has-union (unionBelow n f) (f n) x ∙ ap (λ b. b || has (f n) x) (has-unionBelow n f x) ∙ swap (someBelow n (λ k. has (f k) x)) (has (f n) x)
   where
     swap : (a b : Bool) → (a || b) ≡ (b || a)
     swap true true = refl

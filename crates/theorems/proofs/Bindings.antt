@@ -87,7 +87,8 @@ module _ (policy : List Record) (o : Orders) (h : Bindings policy o) where
       one : (r : Record) (e f : Entry) → OneUser r e f → OneUser r (turned b c a e) (turned b c a f)
       one r e f g i p q =
           same (λ e. e .user) e refl
-          ∙ g (sym (same (λ e. e .instance) e refl) ∙ i ∙ same (λ e. e .instance) f refl) (sym (same (λ e. e .task) e refl) ∙ p) (sym (same (λ e. e .task) f refl) ∙ q)
+          ∙ g (sym (same (λ e. e .instance) e refl) ∙ i ∙ same (λ e. e .instance) f refl) (sym (same (λ e. e .task) e refl) ∙ p)
+          (sym (same (λ e. e .task) f refl) ∙ q)
           ∙ sym (same (λ e. e .user) f refl)
 
   pub bindings-claim : (k : Tasks) (ru : Rules) → Made policy k ru → (a b u c : ℕ)

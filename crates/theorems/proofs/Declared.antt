@@ -88,7 +88,8 @@ role-more : (a : ℕ) (p : Policy) (r : Record) → Fits p r
     → has (step p r .people .roles) a ≡ cond (eqb (r .kind) 2) (has (p .people .roles) a || eqb a (r .a)) (has (p .people .roles) a)
 role-more a p r f = ap (λ (m : Set). has m a) (declares p r f .0) ∙ go (eqb (r .kind) 2)
   where
-    go : (b : Bool) → has (cond b (plus (p .people .roles) (r .a)) (p .people .roles)) a ≡ cond b (has (p .people .roles) a || eqb a (r .a)) (has (p .people .roles) a)
+    go : (b : Bool) →
+        has (cond b (plus (p .people .roles) (r .a)) (p .people .roles)) a ≡ cond b (has (p .people .roles) a || eqb a (r .a)) (has (p .people .roles) a)
     go true = has-plus (p .people .roles) (r .a) a
     go false = refl
 

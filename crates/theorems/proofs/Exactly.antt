@@ -83,7 +83,8 @@ module _ (f : Form) (s : Bytes) where
   unfolding outOfRange
   too-large =
       let r = decode s in
-      not-passed _ (five _ _ _ _ _ (within-limit (f .n) (r .n)) (within-limit (f .a) (r .a)) (within-limit (f .b) (r .b)) (within-limit (f .c) (r .c)) (within-limit (f .m) (r .m)))
+      not-passed _ (five _ _ _ _ _ (within-limit (f .n) (r .n)) (within-limit (f .a) (r .a)) (within-limit (f .b) (r .b)) (within-limit (f .c) (r .c))
+      (within-limit (f .m) (r .m)))
 
 -- ---- one kind: its fields are the table's, and its checks say what the table says
 module _ {T : Type 0} (fs : List Form) (ks : List (Kind T)) (t : T) (k : Known) (s : Bytes) where
@@ -106,7 +107,8 @@ module _ {T : Type 0} (fs : List Form) (ks : List (Kind T)) (t : T) (k : Known) 
       (check (omega arith) (omega arith, every-map (a .refusals k (decode s)) (λ j l. omega arith) (h .low)) _ (misshaped (a .fields) s) (λ _.
       check (omega arith) (h .low) _ (too-large (a .fields) s) (λ _. h .replies))))
 
-  of-kinds : (table : List Asked) → Every Agrees table → Every (λ a. decode s .kind ≡ a .fields .kind → GivenExactly (refusalsOf a k s) (replyTo fs ks t s)) table
+  of-kinds : (table : List Asked) → Every Agrees table →
+      Every (λ a. decode s .kind ≡ a .fields .kind → GivenExactly (refusalsOf a k s) (replyTo fs ks t s)) table
   of-kinds [] h = tt
   of-kinds (a ∷ table) h = (of-kind a (h .0), of-kinds table (h .1))
 
@@ -116,7 +118,8 @@ unfolding formOf
 no-form [] n h = refl
 no-form (f ∷ fs) n h = rw (ne-eqb (f .kind) n (λ e. h .0 (sym e))) (no-form fs n (h .1))
 
-pub unlisted : {T : Type 0} (fs : List Form) (ks : List (Kind T)) (t : T) (s : Bytes) → Every (λ f. Not (decode s .kind ≡ f .kind)) fs → replyTo fs ks t s ≡ SHAPE
+pub unlisted : {T : Type 0} (fs : List Form) (ks : List (Kind T)) (t : T) (s : Bytes) → Every (λ f. Not (decode s .kind ≡ f .kind)) fs →
+    replyTo fs ks t s ≡ SHAPE
 unfolding replyTo formChecks misshapen
 unlisted fs ks t s h = rw (no-form fs (decode s .kind) h) (go (not (eqb (length s) 16)) _)
   where

@@ -129,7 +129,9 @@ module _ (policy : List Record) (t : Engine) (kept : Kept policy t) (d : Declare
 
   finished : (a : ℕ) → In (tasksDone (r .b) es) a ↔ AnEntry (all policy t kept d y) (λ e. (e .instance ≡ r .b) × ((e .standing ≡ done) × (e .task ≡ a)))
   unfolding tasksDone inOrder
-  finished a = tasks-where (λ e. eqb (e .instance) (r .b) && isDone (e .standing)) (λ e. e .standing ≡ done) (λ e. together _ _ (is-same (e .instance) (r .b)) (is-done (e .standing))) a
+  finished a =
+      tasks-where (λ e. eqb (e .instance) (r .b) && isDone (e .standing)) (λ e. e .standing ≡ done)
+      (λ e. together _ _ (is-same (e .instance) (r .b)) (is-done (e .standing))) a
 
   others : (a : ℕ) → In (tasksOthers (r .b) u es) a ↔ Others (all policy t kept d y) r a
   unfolding tasksOthers inOrder
@@ -166,7 +168,9 @@ module _ (policy : List Record) (t : Engine) (kept : Kept policy t) (d : Declare
       (together _ _ (is-same (p .a) k) (negated _ same))
       (Iff·trans (common (p .m) mine) (λ x. (x .0, x .1, in-d (x .0) .0 (x .2)), λ x. (x .0, x .1, in-d (x .0) .1 (x .2)))))))
     where
-      go : (b : Bool) → found (cond b (place (strange k mine (r .c)) (t .lower .policy .rules .blocks)) 0) ≡ b && found (place (strange k mine (r .c)) (t .lower .policy .rules .blocks))
+      go : (b : Bool) →
+          found (cond b (place (strange k mine (r .c)) (t .lower .policy .rules .blocks)) 0) ≡
+          b && found (place (strange k mine (r .c)) (t .lower .policy .rules .blocks))
       go true = refl
       go false = refl
 
@@ -210,7 +214,9 @@ module _ (policy : List Record) (t : Engine) (kept : Kept policy t) (d : Declare
         λ f. has-within _ mine (λ a h. let z = minus-parts _ (r .c) a .0 h in in-d a .1 (f a (in-template j a .0 (z .0)) (z .1))),
       )
 
-      at : (j : ℕ) → (t .lower .policy .tasks .banned j && within (minus (tasksOf (t .lower .policy .tasks) j) (r .c)) mine && leb 2 (size (tasksOf (t .lower .policy .tasks) j)) ≡ true)
+      at : (j : ℕ) →
+          (t .lower .policy .tasks .banned j && within (minus (tasksOf (t .lower .policy .tasks) j) (r .c)) mine && leb 2
+          (size (tasksOf (t .lower .policy .tasks) j)) ≡ true)
           ↔ (Any (λ q. q .a ≡ j) (ofKind 13 policy)
           × ((a : ℕ) → TaskOf (all policy t kept d y) a j → Not (a ≡ r .c) → InD (all policy t kept d y) r a)
           × ((a p : ℕ) × TaskOf (all policy t kept d y) a j × TaskOf (all policy t kept d y) p j × Not (a ≡ p)))
@@ -244,7 +250,8 @@ module _ (policy : List Record) (t : Engine) (kept : Kept policy t) (d : Declare
   open-to : (a b : ℕ) → (has (t .lower .policy .tasks .openTo a) b ≡ true) ↔ OpenTo (all policy t kept d y) a b
   open-to a b =
       as-test (d .openTo a b)
-      (some-any (λ q. eqb a (q .a) && eqb b (q .b)) (λ q. (q .a ≡ a) × (q .b ≡ b)) (λ q. together _ _ (turned-same a (q .a)) (turned-same b (q .b))) (ofKind 7 policy))
+      (some-any (λ q. eqb a (q .a) && eqb b (q .b)) (λ q. (q .a ≡ a) × (q .b ≡ b)) (λ q. together _ _ (turned-same a (q .a)) (turned-same b (q .b)))
+      (ofKind 7 policy))
 
   pub claimed : GivenExactly (claiming (all policy t kept d y) r) (first (claimChecks t (r .a) (r .b) (r .c)))
   unfolding claimChecks ruleChecks ofTask inOrder

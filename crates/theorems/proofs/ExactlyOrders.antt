@@ -61,7 +61,8 @@ module _ (policy : List Record) (t : Engine) (kept : Kept policy t) (d : Declare
   pub task-of : (a j : ℕ) → (is j (t .lower .policy .tasks .template a) ≡ true) ↔ TaskOf all a j
   task-of a j =
       as-test (kept .0 .made .template (λ n. eqb n j) a)
-      (some-any (λ q. eqb a (q .a) && eqb (q .b) j) (λ q. (q .a ≡ a) × (q .b ≡ j)) (λ q. together _ _ (turned-same a (q .a)) (is-same (q .b) j)) (ofKind 6 policy))
+      (some-any (λ q. eqb a (q .a) && eqb (q .b) j) (λ q. (q .a ≡ a) × (q .b ≡ j)) (λ q. together _ _ (turned-same a (q .a)) (is-same (q .b) j))
+      (ofKind 6 policy))
 
   pub small-task : (a j : ℕ) → TaskOf all a j → a < 64
   small-task a j h = let x = is-there (λ n. eqb n j) (t .lower .policy .tasks .template a) .0 (task-of a j .1 h) in kept .0 .well .tasks a (x .0) (x .1)
@@ -82,7 +83,8 @@ module _ (policy : List Record) (t : Engine) (kept : Kept policy t) (d : Declare
       check (omega arith) (omega arith) _ (negated _ same) (λ _.
       subst (GivenExactly _) (merged (someBelow 128 (subjectOf (t .lower .sessions) (r .a))) _ 6)
       (check (omega arith) tt _ (either _ _ (live-subject policy (t .lower) below d (t .orders) y (r .a))
-      (some-any _ (λ e. (e .user ≡ r .a) × Open all (e .instance)) (λ e. together _ _ (is-same (e .user) (r .a)) (open-at (t .orders .opened (e .instance)))) (t .orders .entries)))
+      (some-any _ (λ e. (e .user ≡ r .a) × Open all (e .instance)) (λ e. together _ _ (is-same (e .user) (r .a)) (open-at (t .orders .opened (e .instance))))
+      (t .orders .entries)))
       (λ _. none-left)))
 
   pub destroyed : (r : Record) → GivenExactly (destroying all r) (first (destroyChecks (t .lower) (r .a) ++ destroyAbove t (r .a)))
@@ -102,7 +104,8 @@ module _ (policy : List Record) (t : Engine) (kept : Kept policy t) (d : Declare
   unfolding endChecks inOrder
   ended r =
       check (omega arith) (omega arith) _ (negated _ (open-at (t .orders .opened (r .a)))) (λ _.
-      check (omega arith) tt _ (some-any _ (λ e. (e .instance ≡ r .a) × Held all e) (λ e. together _ _ (is-same (e .instance) (r .a)) (is-held (e .standing))) (t .orders .entries))
+      check (omega arith) tt _
+      (some-any _ (λ e. (e .instance ≡ r .a) × Held all e) (λ e. together _ _ (is-same (e .instance) (r .a)) (is-held (e .standing))) (t .orders .entries))
       (λ _. none-left))
 
   pub unknown-task : (r : Record) → (unknown t (r .a) (r .b) (r .c) ≡ true) ↔ UnknownTask all r

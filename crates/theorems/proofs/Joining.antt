@@ -57,7 +57,8 @@ none-broken ls m h = none-some (breaks m) ls (every-map ls (λ l x. le-ltb (l .n
 
 pub joined-without-roles : JoinedWithoutRoles
 unfolding joinChecks joinNext userChecks userNext
-joined-without-roles p a = (rw (within-empty (p .people .roles)) (rw (none-broken (p .rules .statics) _ (nothing-down (p .rules .statics) (p .seniority))) refl), refl)
+joined-without-roles p a =
+    (rw (within-empty (p .people .roles)) (rw (none-broken (p .rules .statics) _ (nothing-down (p .rules .statics) (p .seniority))) refl), refl)
 
 added-above : (t : Engine) (a : ℕ) → a < 1024
     → let p = t .lower .policy in
@@ -103,7 +104,8 @@ module _ (t : Engine) (a : ℕ) (small : a < 1024) where
   unfolding assignNext joinNext
   assigned-next m r =
       ap (λ (f : ℕ → Set). with-policy t (withPeople p (record { users = upd (p .people .users) a true; roles = p .people .roles; assigned = f })))
-      (ap (λ (x : Set). upd (upd (p .people .assigned) a m) a (plus x r)) (upd-same (p .people .assigned) a a m refl) ∙ upd-twice (p .people .assigned) a m (plus m r))
+      (ap (λ (x : Set). upd (upd (p .people .assigned) a m) a (plus x r)) (upd-same (p .people .assigned) a a m refl) ∙
+      upd-twice (p .people .assigned) a m (plus m r))
 
   assign-checks : (m : Set) (r : ℕ) → first (assignChecks (joinNext p a m) a r)
       ≡ first ((not (has (p .people .roles) r), UNKNOWN) ∷ (has m r, TAKEN) ∷ (some (breaks (down (p .seniority) (plus m r))) (p .rules .statics), STATIC) ∷ [])
@@ -123,7 +125,8 @@ module _ (t : Engine) (a : ℕ) (small : a < 1024) where
   forward m (r ∷ rs) o known fits =
       let more = gathered-more (plus m r) rs in
       let declared = within-has _ (p .people .roles) r known (within-has (plus m r) _ r more (has-new m r)) in
-      let unbroken = none-broken (p .rules .statics) _ (within-less (p .rules .statics) _ _ (down-part (p .seniority) (plus m r) _ (within-part _ _ more)) fits) in
+      let unbroken =
+      none-broken (p .rules .statics) _ (within-less (p .rules .statics) _ _ (down-part (p .seniority) (plus m r) _ (within-part _ _ more)) fits) in
       let e = assign-answer m r (o .0) (assign-checks m r ∙ rw declared (rw (o .1) (rw unbroken refl))) in
       let rest = forward (plus m r) rs (o .2) known fits in
       ((e .0, rw (e .1) (rest .0)), ap (λ x. after request x (each (assign a) rs)) (e .1) ∙ rest .1)
@@ -135,7 +138,9 @@ module _ (t : Engine) (a : ℕ) (small : a < 1024) where
   backward m [] o all known fits = (known, fits)
   backward m (r ∷ rs) o all known fits =
       let q = sym (assign-checks m r) ∙ sym (ap (λ x. x .reply) (asked-assign (having m) a r small (o .0))) ∙ all .0 in
-      let c = passed ((not (has (p .people .roles) r), UNKNOWN) ∷ (has m r, TAKEN) ∷ (some (breaks (down (p .seniority) (plus m r))) (p .rules .statics), STATIC) ∷ []) (tt, (tt, (tt, tt))) q in
+      let c =
+      passed ((not (has (p .people .roles) r), UNKNOWN) ∷ (has m r, TAKEN) ∷ (some (breaks (down (p .seniority) (plus m r))) (p .rules .statics), STATIC) ∷ [])
+      (tt, (tt, (tt, tt))) q in
       let e = assign-answer m r (o .0) (assign-checks m r ∙ q) in
       backward (plus m r) rs (o .2) (rw (e .1) at (all .1)) (declares (not-false _ (c .0))) (not-broken (p .rules .statics) _ (c .1 .1 .0))
     where

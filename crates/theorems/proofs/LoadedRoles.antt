@@ -61,7 +61,8 @@ module _ (se : Seniority) (users : ℕ → Bool) (assigned : ℕ → Set) (stati
   raises z c = record { bare = i .bare; small = i .small; hold = λ u. go u (users u) refl }
     where
       go : (u : ℕ) (b : Bool) → users u ≡ b → Within statics (down z (assigned u))
-      go u true e = not-broken statics _ (not-both (users u) _ (none-below 1024 (λ u. users u && some (breaks (down z (assigned u))) statics) c u (i .small u e)) e)
+      go u true e =
+          not-broken statics _ (not-both (users u) _ (none-below 1024 (λ u. users u && some (breaks (down z (assigned u))) statics) c u (i .small u e)) e)
       go u false e = rw (i .bare u e) (nothing-down statics z)
 
 abbrev pub InOrder : Policy → Type 0
@@ -85,7 +86,8 @@ pub in-order-start : InOrder noPolicy
 unfolding noPolicy
 in-order-start = record { bare = λ u e. refl; small = λ u e. absurd (false≢true e); hold = λ u. tt }
 
-pub loaded-limited : (policy : Bytes) → load policy .reply ≡ 0 → Limited (load policy .tables .people) (load policy .tables .seniority) noSessions (load policy .tables .rules)
+pub loaded-limited : (policy : Bytes) → load policy .reply ≡ 0 →
+    Limited (load policy .tables .people) (load policy .tables .seniority) noSessions (load policy .tables .rules)
 unfolding noPolicy noSessions
 loaded-limited policy h =
     let x = load-accepted policy h in

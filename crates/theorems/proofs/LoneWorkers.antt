@@ -74,7 +74,8 @@ module _ (policy : List Record) where
     -- the same tasks, as a set
     tasks-in : (j : ℕ) → tasksIn (ofKind 6 policy) j ≡ tasksOf k j
     unfolding tasksOf
-    tasks-in j = same-members _ _ (λ t. has-tasks j (ofKind 6 policy) t ∙ sym (made .template (λ n. eqb n j) t) ∙ go t (ltb t 64) refl (is j (k .template t)) refl)
+    tasks-in j =
+        same-members _ _ (λ t. has-tasks j (ofKind 6 policy) t ∙ sym (made .template (λ n. eqb n j) t) ∙ go t (ltb t 64) refl (is j (k .template t)) refl)
       where
         go : (t : ℕ) (b : Bool) → ltb t 64 ≡ b → (x : Bool) → is j (k .template t) ≡ x → is j (k .template t) ≡ has (collect 64 (λ t. is j (k .template t))) t
         go t true e x f = sym (collect-below 64 (λ t. is j (k .template t)) t (ltb-true t 64 e))

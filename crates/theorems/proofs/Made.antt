@@ -71,9 +71,12 @@ Makes n p r x =
 rows : Rows policyForms Makes policyKinds
 unfolding policyKinds userNext roleNext permissionNext assignNext giveNext taskNext openToNext carriesNext staticNext dynamicNext taskSetNext blockNext banNext mostNext bindNext beforeNext raiseNext wallNext
 rows =
-    (λ p r g c. (refl, refl, refl)) ⨾ (λ p r g c. (refl, refl, refl)) ⨾ (λ p r g c. (refl, refl, refl)) ⨾ (λ p r g c. (refl, refl, refl)) ⨾ (λ p r g c. (refl, refl, refl))
-    ⨾ (λ p r g c. (refl, refl, refl)) ⨾ (λ p r g c. (refl, refl, refl)) ⨾ (λ p r g c. (refl, refl, refl)) ⨾ (λ p r g c. (refl, refl, refl)) ⨾ (λ p r g c. (refl, refl, refl))
-    ⨾ (λ p r g c. (refl, refl, refl)) ⨾ (λ p r g c. (refl, refl, refl)) ⨾ (λ p r g c. (refl, refl, refl)) ⨾ (λ p r g c. (refl, refl, refl)) ⨾ (λ p r g c. (refl, refl, refl))
+    (λ p r g c. (refl, refl, refl)) ⨾ (λ p r g c. (refl, refl, refl)) ⨾ (λ p r g c. (refl, refl, refl)) ⨾ (λ p r g c. (refl, refl, refl)) ⨾
+    (λ p r g c. (refl, refl, refl))
+    ⨾ (λ p r g c. (refl, refl, refl)) ⨾ (λ p r g c. (refl, refl, refl)) ⨾ (λ p r g c. (refl, refl, refl)) ⨾ (λ p r g c. (refl, refl, refl)) ⨾
+    (λ p r g c. (refl, refl, refl))
+    ⨾ (λ p r g c. (refl, refl, refl)) ⨾ (λ p r g c. (refl, refl, refl)) ⨾ (λ p r g c. (refl, refl, refl)) ⨾ (λ p r g c. (refl, refl, refl)) ⨾
+    (λ p r g c. (refl, refl, refl))
     ⨾ (λ p r g c. (refl, refl, refl)) ⨾ (λ p r g c. (refl, refl, refl)) ⨾ (λ p r g c. (refl, refl, refl)) ⨾ tt
 
 made-step : (p : Policy) (r : Record) → Fits p r → Makes (r .kind) p r (step p r)

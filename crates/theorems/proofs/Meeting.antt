@@ -80,14 +80,16 @@ claimed t s = claimNext t (decode s .a) (decode s .b) (decode s .c)
 
 module _ (t : Engine) (s d : Bytes) (k : decode s .kind ≡ 50) (l : decode d .kind ≡ 50) (n : decode d .b ≡ decode s .b → ⊥) where
   -- the checks before FULL are as they were
-  reply-after : request (claimed t d) s .reply ≡ first (formChecks requestForms s ++ (early t (decode s .a) (decode s .b) (decode s .c) ++ full (suc (many (t .orders .entries)))))
+  reply-after : request (claimed t d) s .reply ≡
+      first (formChecks requestForms s ++ (early t (decode s .a) (decode s .b) (decode s .c) ++ full (suc (many (t .orders .entries)))))
   unfolding claimNext many
   reply-after =
       reply-is (claimed t d) s k
       ∙ ap (λ (cs : List Check). first (formChecks requestForms s ++ (cs ++ full (suc (many (t .orders .entries))))))
       (early-same t (decode s .a) (decode s .b) (decode s .c) (entered t (decode d)) (ne-eqb (decode d .b) (decode s .b) n))
 
-  place-after : {q p : ℕ} → q ≡ p → claimPlace (claimed t d) (decode s .a) (decode s .b) (decode s .c) q ≡ claimPlace t (decode s .a) (decode s .b) (decode s .c) p
+  place-after : {q p : ℕ} → q ≡ p →
+      claimPlace (claimed t d) (decode s .a) (decode s .b) (decode s .c) q ≡ claimPlace t (decode s .a) (decode s .b) (decode s .c) p
   unfolding claimNext
   place-after {q} e =
       place-same t (decode s .a) (decode s .b) (decode s .c) (entered t (decode d)) (ne-eqb (decode d .b) (decode s .b) n) q
@@ -101,7 +103,8 @@ module _ (t : Engine) (s d : Bytes) (k : decode s .kind ≡ 50) (l : decode d .k
       (e, place-is (claimed t d) s k ∙ place-after e ∙ sym (place-is t s k))
 
   -- granted or refused
-  same-after : many (t .orders .entries) + 2 ≤ 2048 → (request (request t d .tables) s .reply ≡ request t s .reply) × (placeTo (request t d .tables) s ≡ placeTo t s)
+  same-after : many (t .orders .entries) + 2 ≤ 2048 →
+      (request (request t d .tables) s .reply ≡ request t s .reply) × (placeTo (request t d .tables) s ≡ placeTo t s)
   same-after room = rw (tables-are t d l) (go (request t d .reply))
     where
       go : (q : ℕ) → (request (granted q (claimed t d) t) s .reply ≡ request t s .reply) × (placeTo (granted q (claimed t d) t) s ≡ placeTo t s)
@@ -119,7 +122,9 @@ module _ (t : Engine) (s d : Bytes) (k : decode s .kind ≡ 50) (l : decode d .k
   last-entry : many (t .orders .entries) ≡ 2047 → request t s .reply ≡ 0 → request t d .reply ≡ 0 → request (request t d .tables) s .reply ≡ FULL
   unfolding formChecks ruleChecks
   last-entry m g h =
-      let p = passed (formChecks requestForms s ++ (early t (decode s .a) (decode s .b) (decode s .c) ++ full (many (t .orders .entries)))) (omega arith) (sym (reply-is t s k) ∙ g) in
+      let p =
+      passed (formChecks requestForms s ++ (early t (decode s .a) (decode s .b) (decode s .c) ++ full (many (t .orders .entries)))) (omega arith)
+      (sym (reply-is t s k) ∙ g) in
       let x = formChecks requestForms s ++ early t (decode s .a) (decode s .b) (decode s .c) in
       ap (λ (y : Engine). request y s .reply) (tables-are t d l ∙ rw h)
       ∙ reply-after
@@ -168,7 +173,8 @@ either-first t c d a room =
       places = (x .1, y .1);
       tables =
           subst (λ (z : Engine). SameTables z (request (request t d .tables) c .tables)) (sym (tables-after t d c (a .other) (a .one) (a .differ) room))
-          (subst (λ (z : Engine). SameTables (granted (request t d .reply) (claimed (granted (request t c .reply) (claimed t c) t) d) (granted (request t c .reply) (claimed t c) t)) z)
+          (subst (λ (z : Engine). SameTables
+          (granted (request t d .reply) (claimed (granted (request t c .reply) (claimed t c) t) d) (granted (request t c .reply) (claimed t c) t)) z)
           (sym (tables-after t c d (a .one) (a .other) (λ e. a .differ (sym e)) room))
           (both-ways t c d (request t c .reply) (request t d .reply)));
       orders = λ i.

@@ -157,7 +157,9 @@ places (suc n) before last s p h e =
         record {
           others =
               ap (λ (w : Bytes). take 16 s ++ w) (u .others)
-              ∙ sym (ap (λ b. cond b (unreported n (suc (suc before)) (drop 16 s) (x .report)) (take 16 s ++ unreported n (suc (suc before)) (drop 16 s) (x .report))) (not-yet (suc before) (x .report) (u .rising)));
+              ∙ sym (ap
+              (λ b. cond b (unreported n (suc (suc before)) (drop 16 s) (x .report)) (take 16 s ++ unreported n (suc (suc before)) (drop 16 s) (x .report)))
+              (not-yet (suc before) (x .report) (u .rising)));
           rising = lower (suc before) before (x .report) (omega arith) (u .rising);
           within = u .within;
           refusals = u .refusals;
@@ -168,7 +170,9 @@ places (suc n) before last s p h e =
         record {
           others =
               v .others
-              ∙ sym (ap (λ b. cond (b || reported (suc before) (y .report)) (unreported n (suc (suc before)) (drop 16 s) (dropped (suc before) (suc q) ∷ y .report)) (take 16 s ++ unreported n (suc (suc before)) (drop 16 s) (dropped (suc before) (suc q) ∷ y .report))) (eq-eqb (suc before) (suc before) refl)
+              ∙ sym (ap (λ b. cond (b || reported (suc before) (y .report))
+              (unreported n (suc (suc before)) (drop 16 s) (dropped (suc before) (suc q) ∷ y .report))
+              (take 16 s ++ unreported n (suc (suc before)) (drop 16 s) (dropped (suc before) (suc q) ∷ y .report))) (eq-eqb (suc before) (suc before) refl)
               ∙ passed-by n (suc (suc before)) (drop 16 s) (dropped (suc before) (suc q)) (y .report) (omega arith));
           rising = (omega arith, v .rising);
           within = (omega arith, v .within);

@@ -80,7 +80,8 @@ module _ (policy : List Record) (t : Engine) (kp : Kept policy t) (u : NoneStuck
   unfolding ready
   claimed =
       sym (member m rs small c)
-      ∙ is-had m rs small c in-template (ap not (none-some _ rs (every-map rs (one-had m rs small (tasksDone b (t .orders .entries)) (had-all m rs small) c done-had) passes)))
+      ∙ is-had m rs small c in-template
+      (ap not (none-some _ rs (every-map rs (one-had m rs small (tasksDone b (t .orders .entries)) (had-all m rs small) c done-had) passes)))
 
 -- ---- every request
 abbrev Unstuck : List Record → Engine → Type 0
@@ -121,7 +122,8 @@ fixed-after t (s ∷ ss) = fixed-after (request t s .tables) ss ∙ requests-cha
 unstuck-after : (policy : Bytes) → load policy .reply ≡ 0 → (ss : List Bytes) → Unstuck (recordsOf policy) (tablesAfter policy ss)
 unfolding request engineOf noOrders
 unstuck-after policy accepted ss =
-    run-keeps requestForms requestKinds engine-order (Unstuck (recordsOf policy)) (rows (recordsOf policy)) (engineOf (load policy .tables)) ss (kept-load policy accepted, tt)
+    run-keeps requestForms requestKinds engine-order (Unstuck (recordsOf policy)) (rows (recordsOf policy)) (engineOf (load policy .tables)) ss
+    (kept-load policy accepted, tt)
 
 pub stuck-are-never-entered : StuckAreNeverEntered
 unfolding engineOf lowerOf

@@ -37,7 +37,8 @@ Heard k = (t : Engine) (r : Record) → chosen telling (k .kind) .next (shown t)
 upper-rows : Every Heard upperKinds
 unfolding upperKinds telling chosen deleteNext forgetNext userGone destroyNext openNext endNext claimNext releaseNext doneNext turned inOrder ofTask heldBy isHeldBy ofInstance inHand theirs nowDone
 upper-rows =
-    (λ t r. refl) ⨾ (λ t r. refl) ⨾ (λ t r. refl) ⨾ (λ t r. refl) ⨾ (λ t r. refl) ⨾ (λ t r. refl) ⨾ (λ t r. refl) ⨾ (λ t r. refl) ⨾ (λ t r. refl) ⨾ (λ t r. refl) ⨾ tt
+    (λ t r. refl) ⨾ (λ t r. refl) ⨾ (λ t r. refl) ⨾ (λ t r. refl) ⨾ (λ t r. refl) ⨾ (λ t r. refl) ⨾ (λ t r. refl) ⨾ (λ t r. refl) ⨾ (λ t r. refl) ⨾
+    (λ t r. refl) ⨾ tt
 
 request-rows : Every Heard requestKinds
 unfolding widened
@@ -48,7 +49,8 @@ load-rows : Every (λ k. (p : Policy) (r : Record) → chosen telling (k .kind) 
 unfolding policyKinds engineOf lowerOf telling chosen userNext roleNext permissionNext assignNext giveNext taskNext openToNext carriesNext staticNext dynamicNext taskSetNext blockNext banNext mostNext bindNext beforeNext raiseNext wallNext
 load-rows =
     (λ p r. refl) ⨾ (λ p r. refl) ⨾ (λ p r. refl) ⨾ (λ p r. refl) ⨾ (λ p r. refl) ⨾ (λ p r. refl) ⨾ (λ p r. refl) ⨾ (λ p r. refl)
-    ⨾ (λ p r. refl) ⨾ (λ p r. refl) ⨾ (λ p r. refl) ⨾ (λ p r. refl) ⨾ (λ p r. refl) ⨾ (λ p r. refl) ⨾ (λ p r. refl) ⨾ (λ p r. refl) ⨾ (λ p r. refl) ⨾ (λ p r. refl) ⨾ tt
+    ⨾ (λ p r. refl) ⨾ (λ p r. refl) ⨾ (λ p r. refl) ⨾ (λ p r. refl) ⨾ (λ p r. refl) ⨾ (λ p r. refl) ⨾ (λ p r. refl) ⨾ (λ p r. refl) ⨾ (λ p r. refl) ⨾
+    (λ p r. refl) ⨾ tt
 
 heard-records : (p : Policy) (rs : List Record) → Accepted p rs → hearAll (shown (engineOf p)) rs ≡ shown (engineOf (filled p rs))
 unfolding hearAll hear filled

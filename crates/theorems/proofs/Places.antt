@@ -182,12 +182,15 @@ module _ (blocks : List Record) (d : Set) (c : ℕ) where
       record {
         at = v;
         strange = (subst (λ (q : ℕ). some (owner q) blocks ≡ true) (sym e) (s .0), not-true _ (y .1), x .1);
-        front = every-both (v .front) (λ r h g l z. ⊎-elim (λ (i : r .a ≡ f .q). true≢false (sym (is-other r (f .q) i z) ∙ h)) (λ n. g (omega arith) z) (same-or-other (r .a) (f .q)))
+        front =
+            every-both (v .front)
+            (λ r h g l z. ⊎-elim (λ (i : r .a ≡ f .q). true≢false (sym (is-other r (f .q) i z) ∙ h)) (λ n. g (omega arith) z) (same-or-other (r .a) (f .q)))
             (w .earlier) (every-left Passed (v .front) (v .it ∷ v .back) passed);
         back = every-map (v .back) (λ r g l z. g (omega arith) z) (every-right Passed (v .front) (v .it ∷ v .back) passed .1);
       }
 
-block-at : (ru : Rules) (blocks : List Record) → ru .blocks ≡ each aBlock blocks → (d : Set) (c k : ℕ) → block ru d c ≡ k → (k ≡ 0 → ⊥) → SearchEndsAt blocks d c k
+block-at : (ru : Rules) (blocks : List Record) → ru .blocks ≡ each aBlock blocks → (d : Set) (c k : ℕ) → block ru d c ≡ k → (k ≡ 0 → ⊥) →
+    SearchEndsAt blocks d c k
 unfolding block blockIn own strange
 block-at ru blocks e d c k h ne =
     let f = first-is (blockIn ru d c) k 0 16 (λ j l. absurd (not-suc-le-zero l)) h ne in
@@ -236,7 +239,9 @@ module _ (t : Engine) (s : Bytes) (e : decode s .kind ≡ 50) where
     rule-at : RuleAt policy (shown t) r (request t s .reply) (placeTo t s)
     unfolding claimPlace ruleChecks rulePlace before separation bound
     rule-at = record {
-      befores = λ q. rw (entered t s e, place-is q) (first-at _ (Prerequisite (t .orders)) _ (λ x old. one-before es (r .a) (r .b) u (r .c) x old) (ofKind 16 policy) (k .1 .befores) _
+      befores =
+          λ q. rw (entered t s e, place-is q) (first-at _ (Prerequisite (t .orders)) _ (λ x old. one-before es (r .a) (r .b) u (r .c) x old) (ofKind 16 policy)
+          (k .1 .befores) _
           (place-of (missing (tasksDone (r .b) es) (r .c)) aPair (ofKind 16 policy) (k .0 .made .befores))
           (nonzero _ (rules-say t s e (reaches q (omega arith)) .0 .1 q)));
       sets = λ q. rw (entered t s e, place-is q) (first-at _ (TaskSet (t .orders)) _ one-task-set (ofKind 11 policy) sets-kept _
@@ -244,7 +249,9 @@ module _ (t : Engine) (s : Bytes) (e : decode s .kind ≡ 50) where
           (nonzero _ (rules-say t s e (reaches q (omega arith)) .1 .0 .1 q)));
       blocks = λ q. rw (place-is q) (block-at ru (ofKind 12 policy) (k .0 .made .blocks) (tasksBy (r .b) u es) (r .c) _ refl
           (nonzero _ (rules-say t s e (reaches q (omega arith)) .1 .1 .0 .1 q)));
-      bindings = λ q. rw (entered t s e, place-is q) (first-at _ (Binding (t .orders)) _ (λ x old. one-binding es (r .a) (r .b) u (r .c) x old) (ofKind 15 policy) (k .1 .bindings) _
+      bindings =
+          λ q. rw (entered t s e, place-is q) (first-at _ (Binding (t .orders)) _ (λ x old. one-binding es (r .a) (r .b) u (r .c) x old) (ofKind 15 policy)
+          (k .1 .bindings) _
           (place-of (tied (tasksOthers (r .b) u es) (r .c)) aPair (ofKind 15 policy) (k .0 .made .bindings))
           (nonzero _ (rules-say t s e (reaches q (omega arith)) .1 .1 .1 .1 .0 .1 q)));
     }

@@ -195,8 +195,10 @@ start = record {
 pub step-rows : Rows policyForms (λ n p r x. x .seniority ≡ cond (eqb n 17) (raised (p .seniority) (r .a) (r .b)) (p .seniority)) policyKinds
 unfolding policyKinds userNext roleNext permissionNext assignNext giveNext taskNext openToNext carriesNext staticNext dynamicNext taskSetNext blockNext banNext mostNext bindNext beforeNext raiseNext wallNext
 step-rows =
-    (λ p r g c. refl) ⨾ (λ p r g c. refl) ⨾ (λ p r g c. refl) ⨾ (λ p r g c. refl) ⨾ (λ p r g c. refl) ⨾ (λ p r g c. refl) ⨾ (λ p r g c. refl) ⨾ (λ p r g c. refl)
-    ⨾ (λ p r g c. refl) ⨾ (λ p r g c. refl) ⨾ (λ p r g c. refl) ⨾ (λ p r g c. refl) ⨾ (λ p r g c. refl) ⨾ (λ p r g c. refl) ⨾ (λ p r g c. refl) ⨾ (λ p r g c. refl)
+    (λ p r g c. refl) ⨾ (λ p r g c. refl) ⨾ (λ p r g c. refl) ⨾ (λ p r g c. refl) ⨾ (λ p r g c. refl) ⨾ (λ p r g c. refl) ⨾ (λ p r g c. refl) ⨾
+    (λ p r g c. refl)
+    ⨾ (λ p r g c. refl) ⨾ (λ p r g c. refl) ⨾ (λ p r g c. refl) ⨾ (λ p r g c. refl) ⨾ (λ p r g c. refl) ⨾ (λ p r g c. refl) ⨾ (λ p r g c. refl) ⨾
+    (λ p r g c. refl)
     ⨾ (λ p r g c. refl) ⨾ (λ p r g c. refl) ⨾ tt
 
 eqb-turned : (x y : ℕ) → eqb x y ≡ eqb y x
@@ -210,7 +212,8 @@ pub put : (s : Seniority) (x y a b : ℕ) → named (raised s x y) a b ≡ named
 unfolding raised
 put s x y a b = ⊎-elim
     (λ (q : a ≡ x). rw q
-    (rw (upd-same (s .juniors) x x (plus (s .juniors x) y) refl, eq-eqb x x refl) (has-plus (s .juniors x) y b ∙ ap (λ c. has (s .juniors x) b || c) (eqb-turned b y))))
+    (rw (upd-same (s .juniors) x x (plus (s .juniors x) y) refl, eq-eqb x x refl)
+    (has-plus (s .juniors x) y b ∙ ap (λ c. has (s .juniors x) b || c) (eqb-turned b y))))
     (λ n. rw (upd-other (s .juniors) x a (plus (s .juniors x) y) n, ne-eqb x a (λ e. n (sym e))) (sym (or-false (has (s .juniors a) b)))) (same-or-other a x)
 
 put-once : (s : Seniority) (x y a b : ℕ) (rest : Bool) → named (raised s x y) a b || rest ≡ named s a b || (eqb x a && eqb y b || rest)
@@ -247,7 +250,8 @@ loaded-named policy h a b = let x = load-accepted policy h in rw (x .1) (named-o
 pub as-recorded : (policy : List Record) (s : Seniority) → Ranked s → ((a b : ℕ) → named s a b ≡ puts policy a b) → AsRecorded policy s
 as-recorded policy s r e =
     let pairs : named s ≡ puts policy = λ i a b. e a b i in
-    let below : (a b : ℕ) → (has (s .below a) b ≡ true) ↔ Chain (puts policy) a b = λ a b. subst (λ (f : ℕ → ℕ → Bool). (has (s .below a) b ≡ true) ↔ Chain f a b) pairs (r .chains a b) in
+    let below : (a b : ℕ) → (has (s .below a) b ≡ true) ↔ Chain (puts policy) a b =
+    λ a b. subst (λ (f : ℕ → ℕ → Bool). (has (s .below a) b ≡ true) ↔ Chain f a b) pairs (r .chains a b) in
     record {
       by-name = e;
       below = below;

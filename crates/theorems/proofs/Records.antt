@@ -178,7 +178,8 @@ walked (suc n) place s rs a low high =
 
     go : (q : ℕ) → policyAnswer p (take 16 s) .reply ≡ q
         → (Accepted noPolicy (rs ++ (decode (take 16 s) ∷ [])) → n * 16 ≤ length (drop 16 s) → length (drop 16 s) < n * 16 + 16
-        → Walked (rs ++ (decode (take 16 s) ∷ [])) (drop 16 s) (suc place) (loadFrom n (suc place) (drop 16 s) (filled noPolicy (rs ++ (decode (take 16 s) ∷ [])))))
+        → Walked (rs ++ (decode (take 16 s) ∷ [])) (drop 16 s) (suc place)
+        (loadFrom n (suc place) (drop 16 s) (filled noPolicy (rs ++ (decode (take 16 s) ∷ [])))))
         → Walked rs s place (granted q (loadFrom n (suc place) (drop 16 s) (policyAnswer p (take 16 s) .tables)) (refused q place))
     go (suc q) e ih = stopped rs s place q (omega arith) (subst (Judged rs (take 16 s)) e (judged rs a (take 16 s)))
     go zero e ih =

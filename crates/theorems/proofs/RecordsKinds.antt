@@ -177,7 +177,8 @@ module _ (rs : List Record) (a : Accepted noPolicy rs) where
   has-role : (u b : ℕ) → (has (p .people .assigned u) b ≡ true) ↔ HasRole rs u b
   has-role u b =
       as-test (assigned-of rs a u b)
-      (some-any (λ q. eqb u (q .a) && eqb b (q .b)) (λ q. (q .a ≡ u) × (q .b ≡ b)) (λ q. together _ _ (turned-same u (q .a)) (turned-same b (q .b))) (ofKind 4 rs))
+      (some-any (λ q. eqb u (q .a) && eqb b (q .b)) (λ q. (q .a ≡ u) × (q .b ≡ b)) (λ q. together _ _ (turned-same u (q .a)) (turned-same b (q .b)))
+      (ofKind 4 rs))
 
   -- ---- the numbers of tasks and templates
   small-tasks : Every (λ q. q .a ≤ 63) (ofKind 6 rs)
@@ -264,7 +265,8 @@ module _ (rs : List Record) (a : Accepted noPolicy rs) where
       Iff·trans (as-test (made .template (λ j. is j (p .tasks .template y)) x)
       (some-any (λ q. eqb x (q .a) && is (q .b) (p .tasks .template y)) (λ q. (q .a ≡ x) × OfTemplate rs (q .b) y)
       (λ q. together _ _ (turned-same x (q .a)) (of-template (q .b) y)) (ofKind 6 rs))) (
-        λ h. let c = any-choose (λ (j : (j : ℕ) × OfTemplate rs j y) q. (q .a ≡ x) × (q .b ≡ j .0)) (ofKind 6 rs) (λ q e. ((q .b, e .1), (e .0, refl))) h in (c .0 .0, c .1, c .0 .1),
+        λ h. let c = any-choose (λ (j : (j : ℕ) × OfTemplate rs j y) q. (q .a ≡ x) × (q .b ≡ j .0)) (ofKind 6 rs) (λ q e. ((q .b, e .1), (e .0, refl))) h in
+            (c .0 .0, c .1, c .0 .1),
         λ z. any-map (ofKind 6 rs) (λ q e. (e .0, subst (λ (i : ℕ). OfTemplate rs i y) (sym (e .1)) (z .2))) (z .1),
       )
 
@@ -312,7 +314,8 @@ module _ (rs : List Record) (a : Accepted noPolicy rs) where
       check (omega arith) (omega arith) _ (either _ _ (negated _ (is-user (r .a))) (negated _ (is-role (r .b)))) (λ _.
       check (omega arith) (omega arith) _ (has-role (r .a) (r .b)) (λ _.
       check (omega arith) tt _
-      (broken rs se ranked recorded _ (plus m (r .b)) (λ q. Iff·trans (plus-parts m (r .b) q) (either-same (has-role (r .a) q))) 9 (p .rules .statics) (made .statics))
+      (broken rs se ranked recorded _ (plus m (r .b)) (λ q. Iff·trans (plus-parts m (r .b) q) (either-same (has-role (r .a) q))) 9 (p .rules .statics)
+      (made .statics))
       (λ _. none-left)))
 
   pub role-has : (r : Record) → JudgedExactly (rolesHave rs r) (first (giveChecks p (r .a) (r .b)))
@@ -321,7 +324,8 @@ module _ (rs : List Record) (a : Accepted noPolicy rs) where
       check (omega arith) (omega arith) _ (either _ _ (negated _ (is-role (r .a))) (negated _ (is-permission (r .b)))) (λ _.
       check (omega arith) tt _ (as-test (holders-of rs a (r .a) (r .b))
       (some-any (λ q. eqb (r .b) (q .b) && eqb (r .a) (q .a)) (λ q. (q .a ≡ r .a) × (q .b ≡ r .b))
-      (λ q. Iff·trans (together _ _ (turned-same (r .b) (q .b)) (turned-same (r .a) (q .a))) (λ x. (x .1, x .0), λ x. (x .1, x .0))) (ofKind 5 rs))) (λ _. none-left))
+      (λ q. Iff·trans (together _ _ (turned-same (r .b) (q .b)) (turned-same (r .a) (q .a))) (λ x. (x .1, x .0), λ x. (x .1, x .0))) (ofKind 5 rs)))
+      (λ _. none-left))
 
   pub opening : (r : Record) → JudgedExactly (openings rs r) (first (openToChecks p (r .a) (r .b)))
   unfolding openToChecks rank
@@ -337,7 +341,8 @@ module _ (rs : List Record) (a : Accepted noPolicy rs) where
       check (omega arith) (omega arith) _ (either _ _ (negated _ (is-task (r .a))) (negated _ (is-permission (r .b)))) (λ _.
       check (omega arith) tt _ (as-test (declared .carriers (r .a) (r .b))
       (some-any (λ q. eqb (r .b) (q .b) && eqb (r .a) (q .a)) (λ q. (q .a ≡ r .a) × (q .b ≡ r .b))
-      (λ q. Iff·trans (together _ _ (turned-same (r .b) (q .b)) (turned-same (r .a) (q .a))) (λ x. (x .1, x .0), λ x. (x .1, x .0))) (ofKind 8 rs))) (λ _. none-left))
+      (λ q. Iff·trans (together _ _ (turned-same (r .b) (q .b)) (turned-same (r .a) (q .a))) (λ x. (x .1, x .0), λ x. (x .1, x .0))) (ofKind 8 rs)))
+      (λ _. none-left))
 
   -- ---- a user has more roles of a set than it allows, with those below: who has a role is a user
   roled : (u q : ℕ) → HasRole rs u q → p .people .users u ≡ true
@@ -366,7 +371,8 @@ module _ (rs : List Record) (a : Accepted noPolicy rs) where
   unfolding staticChecks rank
   static r =
       check (omega arith) (omega arith) _ (without-roles (r .m)) (λ _.
-      check (omega arith) (omega arith) _ (some-of-each (sameLimit (r .n) (r .m)) aLimit _ (same-limit (r .n) (r .m)) (p .rules .statics) (ofKind 9 rs) (made .statics)) (λ _.
+      check (omega arith) (omega arith) _
+      (some-of-each (sameLimit (r .n) (r .m)) aLimit _ (same-limit (r .n) (r .m)) (p .rules .statics) (ofKind 9 rs) (made .statics)) (λ _.
       check (omega arith) (omega arith) _ (ill-made r) (λ _.
       check (omega arith) (omega arith) _
       (of-users (λ u. breaks (down se (p .people .assigned u)) (aLimit r)) (λ u. Exceeded (Reached rs (HasRole rs u)) r)
@@ -379,7 +385,8 @@ module _ (rs : List Record) (a : Accepted noPolicy rs) where
   unfolding dynamicChecks rank
   dynamic r =
       check (omega arith) (omega arith) _ (without-roles (r .m)) (λ _.
-      check (omega arith) (omega arith) _ (some-of-each (sameLimit (r .n) (r .m)) aLimit _ (same-limit (r .n) (r .m)) (p .rules .dynamics) (ofKind 10 rs) (made .dynamics)) (λ _.
+      check (omega arith) (omega arith) _
+      (some-of-each (sameLimit (r .n) (r .m)) aLimit _ (same-limit (r .n) (r .m)) (p .rules .dynamics) (ofKind 10 rs) (made .dynamics)) (λ _.
       check (omega arith) (omega arith) _ (ill-made r) (λ _.
       check (omega arith) tt _ (full 32 aLimit (p .rules .dynamics) (ofKind 10 rs) (made .dynamics)) (λ _. none-left))))
 
@@ -387,7 +394,8 @@ module _ (rs : List Record) (a : Accepted noPolicy rs) where
   unfolding taskSetChecks rank
   task-set r =
       check (omega arith) (omega arith) _ (without-tasks (r .m)) (λ _.
-      check (omega arith) (omega arith) _ (some-of-each (sameLimit (r .n) (r .m)) aLimit _ (same-limit (r .n) (r .m)) (p .rules .taskSets) (ofKind 11 rs) (made .taskSets)) (λ _.
+      check (omega arith) (omega arith) _
+      (some-of-each (sameLimit (r .n) (r .m)) aLimit _ (same-limit (r .n) (r .m)) (p .rules .taskSets) (ofKind 11 rs) (made .taskSets)) (λ _.
       check (omega arith) (omega arith) _ (either _ _ (ill-made r) (negated _ (one-template (r .m)))) (λ _.
       check (omega arith) tt _ (full 32 aLimit (p .rules .taskSets) (ofKind 11 rs) (made .taskSets)) (λ _. none-left))))
 
@@ -396,13 +404,15 @@ module _ (rs : List Record) (a : Accepted noPolicy rs) where
   unfolding banChecks rank
   ban r =
       check (omega arith) (omega arith) _ (negated _ (has-task (r .a))) (λ _.
-      check (omega arith) tt _ (as-test (made .banned (r .a)) (some-any (λ q. eqb (r .a) (q .a)) (λ q. q .a ≡ r .a) (λ q. turned-same (r .a) (q .a)) (ofKind 13 rs))) (λ _. none-left))
+      check (omega arith) tt _
+      (as-test (made .banned (r .a)) (some-any (λ q. eqb (r .a) (q .a)) (λ q. q .a ≡ r .a) (λ q. turned-same (r .a) (q .a)) (ofKind 13 rs))) (λ _. none-left))
 
   pub count : (r : Record) → JudgedExactly (counts rs r) (first (mostChecks p (r .n) (r .a)))
   unfolding mostChecks rank
   count r =
       check (omega arith) (omega arith) _ (negated _ (is-task (r .a))) (λ _.
-      check (omega arith) (omega arith) _ (as-test (made .most (λ _. true) (r .a)) (some-any (λ q. eqb (r .a) (q .a) && true) (λ q. q .a ≡ r .a) (just-number (r .a)) (ofKind 14 rs))) (λ _.
+      check (omega arith) (omega arith) _
+      (as-test (made .most (λ _. true) (r .a)) (some-any (λ q. eqb (r .a) (q .a) && true) (λ q. q .a ≡ r .a) (just-number (r .a)) (ofKind 14 rs))) (λ _.
       check (omega arith) tt _ (is-same (r .n) 0) (λ _. none-left)))
 
   pub binding : (r : Record) → JudgedExactly (bindings rs r) (first (bindChecks p (r .a) (r .b)))
@@ -419,7 +429,8 @@ module _ (rs : List Record) (a : Accepted noPolicy rs) where
   unfolding beforeChecks rank
   before r =
       check (omega arith) (omega arith) _ (either _ _ (negated _ (is-task (r .a))) (negated _ (is-task (r .b)))) (λ _.
-      check (omega arith) (omega arith) _ (some-of-each (samePair (r .a) (r .b)) aPair _ (same-pair (r .a) (r .b)) (p .rules .befores) (ofKind 16 rs) (made .befores)) (λ _.
+      check (omega arith) (omega arith) _
+      (some-of-each (samePair (r .a) (r .b)) aPair _ (same-pair (r .a) (r .b)) (p .rules .befores) (ofKind 16 rs) (made .befores)) (λ _.
       check (omega arith) (omega arith) _ (ill-paired r) (λ _.
       check (omega arith) tt _ (full 64 aPair (p .rules .befores) (ofKind 16 rs) (made .befores)) (λ _. none-left))))
 
@@ -473,7 +484,8 @@ module _ (rs : List Record) (a : Accepted noPolicy rs) where
     sharing = Iff·trans (common (r .m) others) (
       λ x. any-map (ofKind 12 rs) (λ q e. (e .0, (x .0, x .1, e .1))) (in-others (x .0) .0 (x .2)),
       λ h.
-          let c = any-choose (λ (t : (t : ℕ) × In (r .m) t) q. (q .a ≡ r .a) × In (q .m) (t .0)) (ofKind 12 rs) (λ q e. ((e .1 .0, e .1 .1), (e .0, e .1 .2))) h in
+          let c =
+          any-choose (λ (t : (t : ℕ) × In (r .m) t) q. (q .a ≡ r .a) × In (q .m) (t .0)) (ofKind 12 rs) (λ q e. ((e .1 .0, e .1 .1), (e .0, e .1 .2))) h in
           (c .0 .0, c .0 .1, in-others (c .0 .0) .1 (c .1)),
     )
 
@@ -481,7 +493,8 @@ module _ (rs : List Record) (a : Accepted noPolicy rs) where
     unfolding blockChecks rank
     block =
         check (omega arith) (omega arith) _ (without-tasks (r .m)) (λ _.
-        check (omega arith) (omega arith) _ (some-of-each (sameBlock (r .a) (r .m)) aBlock _ (same-block (r .a) (r .m)) (p .rules .blocks) (ofKind 12 rs) (made .blocks)) (λ _.
+        check (omega arith) (omega arith) _
+        (some-of-each (sameBlock (r .a) (r .m)) aBlock _ (same-block (r .a) (r .m)) (p .rules .blocks) (ofKind 12 rs) (made .blocks)) (λ _.
         check (omega arith) (omega arith) _ (one-of-three _ _ _ (no-member (r .m)) (negated _ alike-blocks) sharing) (λ _.
         check (omega arith) tt _ (full 64 aBlock (p .rules .blocks) (ofKind 12 rs) (made .blocks)) (λ _. none-left))))
 
@@ -534,12 +547,14 @@ module _ (rs : List Record) (a : Accepted noPolicy rs) where
       raised-se : Ranked (raised se (r .a) (r .b))
       raised-se =
           raised-ranked se ranked (r .a) (r .b)
-          (role-small (r .a) (is-role (r .a) .0 (not-false _ (or-none (not (has (p .people .roles) (r .a))) (not (has (p .people .roles) (r .b))) known .0)))) differ free
+          (role-small (r .a) (is-role (r .a) .0 (not-false _ (or-none (not (has (p .people .roles) (r .a))) (not (has (p .people .roles) (r .b))) known .0))))
+          differ free
 
       raised-recorded : AsRecorded more (raised se (r .a) (r .b))
       raised-recorded = as-recorded more (raised se (r .a) (r .b)) raised-se put-more
 
-      breaks-with : (someBelow 1024 (λ u. p .people .users u && some (breaks (down (raised se (r .a) (r .b)) (p .people .assigned u))) (p .rules .statics)) ≡ true)
+      breaks-with :
+          (someBelow 1024 (λ u. p .people .users u && some (breaks (down (raised se (r .a) (r .b)) (p .people .assigned u))) (p .rules .statics)) ≡ true)
           ↔ ((u : ℕ) × Broken more 9 (HasRole rs u))
       breaks-with =
           of-users (λ u. some (breaks (down (raised se (r .a) (r .b)) (p .people .assigned u))) (p .rules .statics)) (λ u. Broken more 9 (HasRole rs u))
@@ -552,7 +567,8 @@ module _ (rs : List Record) (a : Accepted noPolicy rs) where
     senior =
         check (omega arith) (omega arith) _ (either _ _ (negated _ (is-role (r .a))) (negated _ (is-role (r .b)))) (λ known.
         check (omega arith) (omega arith) _ (as-test (named-of rs a (r .a) (r .b))
-        (some-any (λ q. eqb (q .a) (r .a) && eqb (q .b) (r .b)) (λ q. (q .a ≡ r .a) × (q .b ≡ r .b)) (λ q. together _ _ (is-same (q .a) (r .a)) (is-same (q .b) (r .b))) (ofKind 17 rs))) (λ _.
+        (some-any (λ q. eqb (q .a) (r .a) && eqb (q .b) (r .b)) (λ q. (q .a ≡ r .a) × (q .b ≡ r .b))
+        (λ q. together _ _ (is-same (q .a) (r .a)) (is-same (q .b) (r .b))) (ofKind 17 rs))) (λ _.
         check (omega arith) (omega arith) _ (is-same (r .a) (r .b)) (λ differ.
         check (omega arith) (omega arith) _ (recorded .below (r .b) (r .a)) (λ free.
         check (omega arith) (omega arith) _ (breaks-with known differ free) (λ _.
@@ -572,7 +588,8 @@ module _ (rs : List Record) (a : Accepted noPolicy rs) where
     where
       go : (b c : Bool) → eqb (q .c) z ≡ b → eqb (q .a) x ≡ c → c && eqb (q .b) y && b ≡ false
           → (another y (blockOf (each aWalled qs) z x) ≡ true) ↔ Any (λ q. (q .a ≡ x) × (q .c ≡ z)) qs
-          → (another y (cond (b && c) (just (q .b)) (blockOf (each aWalled qs) z x)) ≡ true) ↔ (((q .a ≡ x) × (q .c ≡ z)) ⊎ Any (λ q. (q .a ≡ x) × (q .c ≡ z)) qs)
+          → (another y (cond (b && c) (just (q .b)) (blockOf (each aWalled qs) z x)) ≡ true) ↔
+          (((q .a ≡ x) × (q .c ≡ z)) ⊎ Any (λ q. (q .a ≡ x) × (q .c ≡ z)) qs)
       go true true e f new ih = (λ _. inl (eqb-true _ _ f, eqb-true _ _ e), λ _. ap not (and-last (eqb (q .b) y) new))
         where
           and-last : (d : Bool) → d && true ≡ false → d ≡ false
@@ -589,7 +606,8 @@ module _ (rs : List Record) (a : Accepted noPolicy rs) where
   pub wall : (r : Record) → JudgedExactly (walls rs r) (first (wallChecks p (r .a) (r .b) (r .c)))
   unfolding wallChecks rank
   wall r =
-      check (omega arith) (omega arith) _ (some-of-each (sameWalled (r .a) (r .b) (r .c)) aWalled _ (same-walled (r .a) (r .b) (r .c)) (p .walls) (ofKind 18 rs) (walls-of rs a)) (λ new.
+      check (omega arith) (omega arith) _
+      (some-of-each (sameWalled (r .a) (r .b) (r .c)) aWalled _ (same-walled (r .a) (r .b) (r .c)) (p .walls) (ofKind 18 rs) (walls-of rs a)) (λ new.
       check (omega arith) (omega arith) _
       (as-test (ap (λ (ws : List Walled). another (r .b) (blockOf ws (r .c) (r .a))) (walls-of rs a))
       (twice (r .a) (r .b) (r .c) (ofKind 18 rs) (sym (ap (some (sameWalled (r .a) (r .b) (r .c))) (walls-of rs a)) ∙ new))) (λ _.

@@ -55,9 +55,12 @@ Adds n p r x =
 rows : Rows policyForms Adds policyKinds
 unfolding policyKinds userNext roleNext permissionNext assignNext giveNext taskNext openToNext carriesNext staticNext dynamicNext taskSetNext blockNext banNext mostNext bindNext beforeNext raiseNext wallNext
 rows =
-    (λ p r g c. (refl, refl, refl)) ⨾ (λ p r g c. (refl, refl, refl)) ⨾ (λ p r g c. (refl, refl, refl)) ⨾ (λ p r g c. (refl, refl, refl)) ⨾ (λ p r g c. (refl, refl, refl))
-    ⨾ (λ p r g c. (refl, refl, refl)) ⨾ (λ p r g c. (refl, refl, refl)) ⨾ (λ p r g c. (refl, refl, refl)) ⨾ (λ p r g c. (refl, refl, refl)) ⨾ (λ p r g c. (refl, refl, refl))
-    ⨾ (λ p r g c. (refl, refl, refl)) ⨾ (λ p r g c. (refl, refl, refl)) ⨾ (λ p r g c. (refl, refl, refl)) ⨾ (λ p r g c. (refl, refl, refl)) ⨾ (λ p r g c. (refl, refl, refl))
+    (λ p r g c. (refl, refl, refl)) ⨾ (λ p r g c. (refl, refl, refl)) ⨾ (λ p r g c. (refl, refl, refl)) ⨾ (λ p r g c. (refl, refl, refl)) ⨾
+    (λ p r g c. (refl, refl, refl))
+    ⨾ (λ p r g c. (refl, refl, refl)) ⨾ (λ p r g c. (refl, refl, refl)) ⨾ (λ p r g c. (refl, refl, refl)) ⨾ (λ p r g c. (refl, refl, refl)) ⨾
+    (λ p r g c. (refl, refl, refl))
+    ⨾ (λ p r g c. (refl, refl, refl)) ⨾ (λ p r g c. (refl, refl, refl)) ⨾ (λ p r g c. (refl, refl, refl)) ⨾ (λ p r g c. (refl, refl, refl)) ⨾
+    (λ p r g c. (refl, refl, refl))
     ⨾ (λ p r g c. (refl, refl, refl)) ⨾ (λ p r g c. (refl, refl, refl)) ⨾ (λ p r g c. (refl, refl, refl)) ⨾ tt
 
 adds : (p : Policy) (r : Record) → Fits p r → Adds (r .kind) p r (step p r)
@@ -97,7 +100,8 @@ user-new p r f e =
     let c : Passed (chosen policyKinds 1 .checks p r) = subst (λ (k : ℕ). Passed (chosen policyKinds k .checks p r)) e (f .checks) in c .0
 
 role-more : (u b : ℕ) (p : Policy) (r : Record) → InOrder p → Fits p r
-    → has (step p r .people .assigned u) b ≡ cond (eqb (r .kind) 4) (has (p .people .assigned u) b || (eqb u (r .a) && eqb b (r .b))) (has (p .people .assigned u) b)
+    → has (step p r .people .assigned u) b ≡
+    cond (eqb (r .kind) 4) (has (p .people .assigned u) b || (eqb u (r .a) && eqb b (r .b))) (has (p .people .assigned u) b)
 role-more u b p r i f = ap (λ (g : ℕ → Set). has (g u) b) (adds p r f .1) ∙ go (eqb (r .kind) 1) (eqb (r .kind) 4) refl refl
   where
     m : ℕ → Set
@@ -128,7 +132,9 @@ gathered u b p (r ∷ rs) i a =
     ∙ ap (λ (c : Bool). c || some (λ q. eqb u (q .a) && eqb b (q .b)) (ofKind 4 rs)) (role-more u b p r i (a .0))
     ∙ go (eqb (r .kind) 4)
   where
-    go : (c : Bool) → cond c (has (p .people .assigned u) b || (eqb u (r .a) && eqb b (r .b))) (has (p .people .assigned u) b) || some (λ q. eqb u (q .a) && eqb b (q .b)) (ofKind 4 rs)
+    go : (c : Bool) →
+        cond c (has (p .people .assigned u) b || (eqb u (r .a) && eqb b (r .b))) (has (p .people .assigned u) b) || some (λ q. eqb u (q .a) && eqb b (q .b))
+        (ofKind 4 rs)
         ≡ has (p .people .assigned u) b || some (λ q. eqb u (q .a) && eqb b (q .b)) (cond c (r ∷ ofKind 4 rs) (ofKind 4 rs))
     go true = or-or (has (p .people .assigned u) b) (eqb u (r .a) && eqb b (r .b)) _
     go false = refl

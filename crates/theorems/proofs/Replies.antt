@@ -39,7 +39,8 @@ pub policy-order : InOrder policyKinds
 unfolding rising rank inTable policyKinds userChecks roleChecks permissionChecks assignChecks giveChecks taskChecks openToChecks carriesChecks staticChecks dynamicChecks taskSetChecks blockChecks banChecks mostChecks bindChecks beforeChecks raiseChecks wallChecks
 policy-order =
     (λ t r. refl) ⨾ (λ t r. refl) ⨾ (λ t r. refl) ⨾ (λ t r. refl) ⨾ (λ t r. refl) ⨾ (λ t r. refl) ⨾ (λ t r. refl) ⨾ (λ t r. refl)
-    ⨾ (λ t r. refl) ⨾ (λ t r. refl) ⨾ (λ t r. refl) ⨾ (λ t r. refl) ⨾ (λ t r. refl) ⨾ (λ t r. refl) ⨾ (λ t r. refl) ⨾ (λ t r. refl) ⨾ (λ t r. refl) ⨾ (λ t r. refl) ⨾ tt
+    ⨾ (λ t r. refl) ⨾ (λ t r. refl) ⨾ (λ t r. refl) ⨾ (λ t r. refl) ⨾ (λ t r. refl) ⨾ (λ t r. refl) ⨾ (λ t r. refl) ⨾ (λ t r. refl) ⨾ (λ t r. refl) ⨾
+    (λ t r. refl) ⨾ tt
 
 pub lower-order : InOrder lowerKinds
 unfolding rising rank inTable lowerKinds roleKinds sessionKinds joinChecks assignChecks giveChecks deleteChecks takeBackChecks withdrawChecks createChecks destroyChecks activateChecks deactivateChecks checkChecks
@@ -50,7 +51,8 @@ lower-order =
 upper-order : InOrder upperKinds
 unfolding rising rank inTable upperKinds deleteChecks deleteAbove destroyChecks destroyAbove openChecks endChecks claimChecks ruleChecks holdChecks taskCheckChecks figuresChecks stuckChecks
 upper-order =
-    (λ t r. refl) ⨾ (λ t r. refl) ⨾ (λ t r. refl) ⨾ (λ t r. refl) ⨾ (λ t r. refl) ⨾ (λ t r. refl) ⨾ (λ t r. refl) ⨾ (λ t r. refl) ⨾ (λ t r. refl) ⨾ (λ t r. refl) ⨾ tt
+    (λ t r. refl) ⨾ (λ t r. refl) ⨾ (λ t r. refl) ⨾ (λ t r. refl) ⨾ (λ t r. refl) ⨾ (λ t r. refl) ⨾ (λ t r. refl) ⨾ (λ t r. refl) ⨾ (λ t r. refl) ⨾
+    (λ t r. refl) ⨾ tt
 
 pub engine-order : InOrder requestKinds
 unfolding requestKinds widened
@@ -103,7 +105,8 @@ pub numbered : {A : Type 0} (ks : List (Kind A)) → InOrder ks → AllNumbered 
 unfolding Within
 numbered ks order =
     every-map ks (λ k h t r.
-    every-map (k .checks t r) (λ x w. let u = unknown-behind in let l = u .0 in let m = u .2 in let q = w .0 in rw (ne-eqb (x .1) 0 (not-granted (x .1) (omega arith))) tt)
+    every-map (k .checks t r)
+    (λ x w. let u = unknown-behind in let l = u .0 in let m = u .2 in let q = w .0 in rw (ne-eqb (x .1) 0 (not-granted (x .1) (omega arith))) tt)
     (all-within UNKNOWN UNKNOWN (k .checks t r) (omega arith) (h t r))) order
 
 -- every check that a record meets has a number of the table
@@ -176,7 +179,9 @@ no-form ks (f ∷ fs) n h e = go (eqb (f .kind) n) refl (no-form ks fs n (h .1) 
 module _ {A : Type 0} (fs : List Form) (ks : List (Kind A)) (order : InOrder ks) (forms : Every (λ f. takes ks (f .kind) ≡ true) fs) (t : A) (s : Bytes) where
   rises : takes ks (decode s .kind) ≡ true → rising SHAPE (checksOf fs ks t s) ≡ true
   unfolding formChecks rising rank inTable
-  rises e = from-range (chosen ks (decode s .kind) .checks t (decode s)) (taken (λ k. (t : A) (r : Record) → rising UNKNOWN (k .checks t r) ≡ true) ks (decode s .kind) order e t (decode s))
+  rises e =
+      from-range (chosen ks (decode s .kind) .checks t (decode s))
+      (taken (λ k. (t : A) (r : Record) → rising UNKNOWN (k .checks t r) ≡ true) ks (decode s .kind) order e t (decode s))
 
   misshapes : takes ks (decode s .kind) ≡ false → first (checksOf fs ks t s) ≡ SHAPE
   unfolding formChecks misshapen

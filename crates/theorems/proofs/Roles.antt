@@ -71,7 +71,8 @@ nothing-down ls se = within-less ls _ empty (down-nothing se) (within-none ls)
 
 pub none-counted : (ls : List Limit) (se : Seniority) (u : ℕ) → Within ls (down se (countedOf noSessions u))
 unfolding noSessions
-none-counted ls se u = within-less ls _ (down se empty) (down-part se _ empty (counted-le noSessions u empty (λ k b l e. absurd (false≢true l)))) (nothing-down ls se)
+none-counted ls se u =
+    within-less ls _ (down se empty) (down-part se _ empty (counted-le noSessions u empty (λ k b l e. absurd (false≢true l)))) (nothing-down ls se)
 
 -- ---- people: one user's roles anew
 module _ (p : People) (se : Seniority) (s : Sessions) (ru : Rules) (h : Limited p se s ru) where
@@ -206,7 +207,12 @@ module _ (p : People) (se : Seniority) (s : Sessions) (ru : Rules) (h : Limited 
   unfolding activateNext
   activates b live mine c =
       seated _
-      (record { live = λ k n. refl; user = λ k n. refl; active = λ k. upd-other (s .active) a k (plus (s .active a) b); had = λ k. upd-other (s .had) a k (plus (s .had a) b) })
+      (record {
+        live = λ k n. refl;
+        user = λ k n. refl;
+        active = λ k. upd-other (s .active) a k (plus (s .active a) b);
+        had = λ k. upd-other (s .had) a k (plus (s .had a) b);
+      })
       (λ l. (
         h .small a live,
         h .known a live,

@@ -91,5 +91,6 @@ pub engine-rows : (P : ℕ → Engine → Record → Engine → Type 0) → Rows
     → Rows requestForms P requestKinds
 unfolding widened
 engine-rows P upper lower =
-    of-both (λ k. (t : Engine) (r : Record) → outOfRange (formOf requestForms (k .kind)) r ≡ false → Passed (k .checks t r) → P (k .kind) t r (k .next t r)) upper
+    of-both (λ k. (t : Engine) (r : Record) → outOfRange (formOf requestForms (k .kind)) r ≡ false → Passed (k .checks t r) → P (k .kind) t r (k .next t r))
+    upper
     (every-both lowerKinds (λ k e h t r g p. h t r (rw e at g) p) same-forms lower)

@@ -48,7 +48,8 @@ first-behind (x ∷ xs) ys zs e = ap (λ (k : ℕ). cond (x .0) (x .1) k) (first
 abbrev pub Alike : {T : Type 0} → T → Record → Kind T → Kind T → Type 0
 Alike t r k j = (first (k .checks t r) ≡ first (j .checks t r)) × (k .next t r ≡ j .next t r)
 
-pub chosen-front : {T : Type 0} (P : Kind T → Type 0) (new ks : List (Kind T)) (n : ℕ) → P (chosen ks n) → Every (λ k. k .kind ≡ n → P k) new → P (chosen (new ++ ks) n)
+pub chosen-front : {T : Type 0} (P : Kind T → Type 0) (new ks : List (Kind T)) (n : ℕ) → P (chosen ks n) → Every (λ k. k .kind ≡ n → P k) new →
+    P (chosen (new ++ ks) n)
 unfolding chosen
 chosen-front P [] ks n h a = h
 chosen-front P (k ∷ new) ks n h a = go (eqb (k .kind) n) refl (chosen-front P new ks n h (a .1))
@@ -203,7 +204,8 @@ still-none t none s r = ap (λ (x : Fixed). x .seniority .below r) (theorems.req
 lower-still : (t : Lower) → NoneBelow (t .policy) → (s : Bytes) → NoneBelow (lowerRequest t s .tables .policy)
 unfolding lowerRequest
 lower-still t none s =
-    answer-rows lowerForms (λ n t r x. fixed (x .policy) ≡ fixed (t .policy)) lowerKinds lower-order (every-map lowerKinds (λ k h t r g p. h t r) theorems.lower-rows)
+    answer-rows lowerForms (λ n t r x. fixed (x .policy) ≡ fixed (t .policy)) lowerKinds lower-order
+    (every-map lowerKinds (λ k h t r g p. h t r) theorems.lower-rows)
     t s (λ q x. NoneBelow (x .policy)) (λ x e r. ap (λ (y : Fixed). y .seniority .below r) e ∙ none r) (λ q. none)
 
 record-still : (p : Policy) → NoneBelow p → (s : Bytes) → (decode s .kind ≡ 17 → ⊥) → NoneBelow (policyAnswer p s .tables)
@@ -239,7 +241,8 @@ same-load (suc n) place s p none h =
     let a = policyAnswer p (take 16 s) in
     let rest = same-load n (suc place) (drop 16 s) (a .tables) (record-still p none (take 16 s) (k .0)) (k .1) in (
       ap (λ (x : Loaded). granted (a .reply) x (refused (a .reply) place)) (rest .0)
-          ∙ ap (λ (x : Answer Policy). granted (x .reply) (loadFromBefore n (suc place) (drop 16 s) (x .tables)) (refused (x .reply) place)) (same-record p none (take 16 s)),
+          ∙ ap (λ (x : Answer Policy). granted (x .reply) (loadFromBefore n (suc place) (drop 16 s) (x .tables)) (refused (x .reply) place))
+          (same-record p none (take 16 s)),
       go (a .reply) _ (rest .1),
     )
   where
@@ -255,5 +258,6 @@ as-before = record {
   requests = λ t none s. (same-request t none s, still-none t none s);
   lowerRequests = λ t none s. (same-lower t none s, lower-still t none s);
   runs = λ t none ss. alike-runs request requestBefore (λ t. NoneBelow (t .lower .policy)) (λ t none s. (same-request t none s, still-none t none s)) t none ss;
-  lowerRuns = λ t none ss. alike-runs lowerRequest lowerRequestBefore (λ t. NoneBelow (t .policy)) (λ t none s. (same-lower t none s, lower-still t none s)) t none ss;
+  lowerRuns =
+      λ t none ss. alike-runs lowerRequest lowerRequestBefore (λ t. NoneBelow (t .policy)) (λ t none s. (same-lower t none s, lower-still t none s)) t none ss;
 }

@@ -45,7 +45,8 @@ has-gathered d [] t = sym (or-none-right (has d t))
     or-none-right : (b : Bool) → b || false ≡ b
     or-none-right true = refl
     or-none-right false = refl
-has-gathered d (s ∷ ts) t = has-gathered (plus d s) ts t ∙ ap (λ (b : Bool). b || some (eqb t) ts) (has-plus d s t) ∙ assoc (has d t) (eqb t s) (some (eqb t) ts)
+has-gathered d (s ∷ ts) t =
+    has-gathered (plus d s) ts t ∙ ap (λ (b : Bool). b || some (eqb t) ts) (has-plus d s t) ∙ assoc (has d t) (eqb t s) (some (eqb t) ts)
   where
     assoc : (a b c : Bool) → (a || b) || c ≡ a || (b || c)
     assoc true b c = refl
@@ -144,7 +145,8 @@ module _ (m : Set) (rs : List Pair) (small : m < 2 ^ 64) where
 
   pub is-had : (t : ℕ) → has m t ≡ true → ready rs had-all t ≡ true → has had-all t ≡ true
   unfolding may
-  is-had t h r = not-false _ (not-both (ready rs had-all t) (not (has had-all t)) (turned (has m t) (not (has had-all t)) (ready rs had-all t) h (none-follows t)) r)
+  is-had t h r =
+      not-false _ (not-both (ready rs had-all t) (not (has had-all t)) (turned (has m t) (not (has had-all t)) (ready rs had-all t) h (none-follows t)) r)
     where
       turned : (a b c : Bool) → a ≡ true → a && b && c ≡ false → c && b ≡ false
       turned true true true e h = h
@@ -157,7 +159,8 @@ module _ (m : Set) (rs : List Pair) (small : m < 2 ^ 64) where
   last-had [] t had p o = is-had t (o .0) (ready-more had had-all t p (o .2))
   last-had (s ∷ ts) t had p o =
       let h = is-had s (o .0) (ready-more had had-all s p (o .2)) in
-      last-had ts t (plus had s) (part-has (plus had s) had-all (λ i e. ⊎-elim (λ (q : i ≡ s). ap (has had-all) q ∙ h) (λ x. has-part had had-all i p x) (plus-member had s i e))) (o .3)
+      last-had ts t (plus had s)
+      (part-has (plus had s) had-all (λ i e. ⊎-elim (λ (q : i ≡ s). ap (has had-all) q ∙ h) (λ x. has-part had had-all i p x) (plus-member had s i e))) (o .3)
 
   -- ---- and each of the list ends a part of it
   ends-in : (us : List ℕ) (t : ℕ) (had : Set) → Orderly m rs had us → some (eqb t) us ≡ true → (ts : List ℕ) × Orderly m rs had (ts ++ (t ∷ []))

@@ -46,8 +46,11 @@ orders-keep-the-rules policy accepted ss =
 role-limits : (policy : List Record) (o : Orders) (t : Lower) → LowerKept policy t → RoleLimits policy (shown (over o t))
 role-limits policy o t k =
     record {
-      statics = λ u. none-broken policy se ranked recorded _ (t .policy .people .assigned u) (λ q. same) 9 (t .policy .rules .statics) (k .0 .made .statics) (k .1 .statics u);
-      dynamics = λ u. none-broken policy se ranked recorded (HasHad (shown (over o t)) u) (countedOf (t .sessions) u) (counted-had (t .sessions) (k .1 .small) u) 10
+      statics =
+          λ u. none-broken policy se ranked recorded _ (t .policy .people .assigned u) (λ q. same) 9 (t .policy .rules .statics) (k .0 .made .statics)
+          (k .1 .statics u);
+      dynamics =
+          λ u. none-broken policy se ranked recorded (HasHad (shown (over o t)) u) (countedOf (t .sessions) u) (counted-had (t .sessions) (k .1 .small) u) 10
           (t .policy .rules .dynamics) (k .0 .made .dynamics) (k .1 .dynamics u);
       active = λ s l r e. reached policy se ranked recorded _ (t .policy .people .assigned (t .sessions .user s)) (λ q. same) r .0
           (within-has (t .sessions .active s) _ r (k .1 .active s l) e);

@@ -127,7 +127,8 @@ same-check t none-there a b c =
     ∷ [])) (no-wall t c (empty-free t none-there c) (t .sessions .user a)))
 
 same-reply : {T : Type 0} (fs : List Form) (new ks : List (Kind T)) (t : T) (s : Bytes)
-    → Every (λ k. (r : Record) → first (k .checks t r) ≡ first (chosen ks (k .kind) .checks t r)) new → answer fs (new ++ ks) t s .reply ≡ answer fs ks t s .reply
+    → Every (λ k. (r : Record) → first (k .checks t r) ≡ first (chosen ks (k .kind) .checks t r)) new →
+    answer fs (new ++ ks) t s .reply ≡ answer fs ks t s .reply
 unfolding answer replyTo
 same-reply fs new ks t s rows =
     let r = decode s in

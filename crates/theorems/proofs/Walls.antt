@@ -54,13 +54,15 @@ unfolding blockOf each some on-record
 stood [] w b c h = absurd (nothing-just b h)
 stood (r ∷ rs) w b c h = go (eqb (r .c) c) (eqb (r .a) w) h (stood rs w b c)
   where
-    go : (x y : Bool) → cond (x && y) (just (r .b)) (blockOf (each aWalled rs) c w) ≡ just b → (blockOf (each aWalled rs) c w ≡ just b → some (on-record w b c) rs ≡ true)
+    go : (x y : Bool) → cond (x && y) (just (r .b)) (blockOf (each aWalled rs) c w) ≡ just b →
+        (blockOf (each aWalled rs) c w ≡ just b → some (on-record w b c) rs ≡ true)
         → (y && eqb (r .b) b && x) || some (on-record w b c) rs ≡ true
     go true true h rest = rw (eq-eqb (r .b) b (ap back h)) refl
     go true false h rest = rest h
     go false y h rest = rw (rest h) (or-true (y && eqb (r .b) b && false))
 
-found : (rs : List Record) → EveryTwo (λ (x y : Walled). x .wall ≡ y .wall → x .object ≡ y .object → ⊥) (each aWalled rs) → (w b c : ℕ) → some (on-record w b c) rs ≡ true
+found : (rs : List Record) → EveryTwo (λ (x y : Walled). x .wall ≡ y .wall → x .object ≡ y .object → ⊥) (each aWalled rs) → (w b c : ℕ) →
+    some (on-record w b c) rs ≡ true
     → blockOf (each aWalled rs) c w ≡ just b
 unfolding blockOf each some on-record
 found [] two w b c h = absurd (false≢true h)
@@ -97,7 +99,8 @@ unfolding blockOf
 small-wall [] c w b n h = absurd (nothing-just b h)
 small-wall (x ∷ xs) c w b n h = go (eqb (x .object) c && eqb (x .wall) w) refl h (small-wall xs c w b (n .1))
   where
-    go : (y : Bool) → eqb (x .object) c && eqb (x .wall) w ≡ y → cond y (just (x .block)) (blockOf xs c w) ≡ just b → (blockOf xs c w ≡ just b → w < 16) → w < 16
+    go : (y : Bool) → eqb (x .object) c && eqb (x .wall) w ≡ y → cond y (just (x .block)) (blockOf xs c w) ≡ just b → (blockOf xs c w ≡ just b → w < 16) →
+        w < 16
     go true e h rest = let q = eqb-true (x .wall) w (both (eqb (x .object) c) (eqb (x .wall) w) e .1) in let l = n .0 .0 in omega arith
     go false e h rest = rest h
 
@@ -110,7 +113,8 @@ boundBy ws (c ∷ cs) w = orElse (blockOf ws c w) (boundBy ws cs w)
 Agree : List Walled → List ℕ → Type 0
 Agree ws cs = (w : ℕ) → Every (λ c. (b : ℕ) → blockOf ws c w ≡ just b → boundBy ws cs w ≡ just b) cs
 
-agree-more : (ws : List Walled) (c : ℕ) (cs : List ℕ) → Agree ws cs → ((w b k : ℕ) → blockOf ws c w ≡ just b → boundBy ws cs w ≡ just k → k ≡ b) → Agree ws (c ∷ cs)
+agree-more : (ws : List Walled) (c : ℕ) (cs : List ℕ) → Agree ws cs → ((w b k : ℕ) → blockOf ws c w ≡ just b → boundBy ws cs w ≡ just k → k ≡ b) →
+    Agree ws (c ∷ cs)
 unfolding Agree boundBy orElse
 agree-more ws c cs h same w = (λ b e. rw e refl, every-map cs (λ d f b e. go b (blockOf ws c w) refl (f b e)) (h w))
   where
@@ -165,7 +169,8 @@ module _ (users live : ℕ → Bool) (user : ℕ → ℕ) (boundTo : ℕ → ℕ
         (λ n. rw (upd-other (y .objects) a u [] n) (h .bound u (sym (upd-other users a u true n) ∙ k) w)) (same-or-other u a);
     free = λ u k w. ⊎-elim (λ (e : u ≡ a). absurd (true≢false (sym (upd-same users a u true e) ∙ k)))
         (λ n. h .free u (sym (upd-other users a u true n) ∙ k) w) (same-or-other u a);
-    agree = λ u. ⊎-elim (λ (e : u ≡ a). rw (upd-same (y .objects) a u [] e) (λ w. tt)) (λ n. rw (upd-other (y .objects) a u [] n) (h .agree u)) (same-or-other u a);
+    agree =
+        λ u. ⊎-elim (λ (e : u ≡ a). rw (upd-same (y .objects) a u [] e) (λ w. tt)) (λ n. rw (upd-other (y .objects) a u [] n) (h .agree u)) (same-or-other u a);
   }
 
   leaves : (a : ℕ) → Follows (upd users a false) live user (upd boundTo a (λ _. none)) ws y
@@ -201,14 +206,16 @@ module _ (users live : ℕ → Bool) (user : ℕ → ℕ) (boundTo : ℕ → ℕ
       agree-more ws c (y .objects u) (h .agree u) (λ w b k e q. not-between ws (boundTo u) c well passes w b k e (h .bound u known w ∙ q))
 
   binds : (v c : ℕ) → users v ≡ true → WellWalled ws → between ws (boundTo v) c ≡ false
-      → Follows users live user (upd boundTo v (λ w. orElse (blockOf ws c w) (boundTo v w))) ws (record { user = y .user; objects = upd (y .objects) v (c ∷ y .objects v) })
+      → Follows users live user (upd boundTo v (λ w. orElse (blockOf ws c w) (boundTo v w))) ws
+      (record { user = y .user; objects = upd (y .objects) v (c ∷ y .objects v) })
   unfolding boundBy
   binds v c known well passes = record {
     subjects = h .subjects;
     bound = λ u k w. ⊎-elim
         (λ (e : u ≡ v). ap (λ (f : ℕ → Maybe ℕ). f w) (upd-same boundTo v u more e) ∙ ap (λ (x : Maybe ℕ). orElse (blockOf ws c w) x) (h .bound v known w)
         ∙ sym (ap (λ (cs : List ℕ). boundBy ws cs w) (upd-same (y .objects) v u (c ∷ y .objects v) e)))
-        (λ n. ap (λ (f : ℕ → Maybe ℕ). f w) (upd-other boundTo v u more n) ∙ h .bound u k w ∙ sym (ap (λ (cs : List ℕ). boundBy ws cs w) (upd-other (y .objects) v u (c ∷ y .objects v) n)))
+        (λ n. ap (λ (f : ℕ → Maybe ℕ). f w) (upd-other boundTo v u more n) ∙ h .bound u k w ∙
+        sym (ap (λ (cs : List ℕ). boundBy ws cs w) (upd-other (y .objects) v u (c ∷ y .objects v) n)))
         (same-or-other u v);
     free = λ u k w. ⊎-elim (λ (e : u ≡ v). absurd (true≢false (sym known ∙ ap users (sym e) ∙ k)))
         (λ n. ap (λ (f : ℕ → Maybe ℕ). f w) (upd-other boundTo v u more n) ∙ h .free u k w) (same-or-other u v);
@@ -231,7 +238,8 @@ module _ (users live : ℕ → Bool) (user : ℕ → ℕ) (boundTo : ℕ → ℕ
 abbrev pub Told : Lower → Commits → Type 0
 Told t y = Follows (t .policy .people .users) (t .sessions .live) (t .sessions .user) (t .sessions .boundTo) (t .policy .walls) y
 
-told-lower : (policy : List Record) → Rows lowerForms (λ n t r x. LowerKept policy t → (y : Commits) → Told t y → Told x (chosen committing n .next y r)) lowerKinds
+told-lower : (policy : List Record) →
+    Rows lowerForms (λ n t r x. LowerKept policy t → (y : Commits) → Told t y → Told x (chosen committing n .next y r)) lowerKinds
 unfolding lowerKinds roleKinds sessionKinds committing chosen joinChecks joinNext assignNext giveNext deleteNext forgetNext userGone takeBackNext withdrawNext createNext destroyNext activateNext deactivateNext checkChecks wallBetween commitNext
 told-lower policy =
     (λ t r g p i y h. joins _ _ _ _ _ y h (r .a) (p .1 .0))
@@ -245,7 +253,8 @@ told-lower policy =
     commits _ _ _ _ _ y h (r .a) (r .c) l (i .1 .known (r .a) l) (i .0 .walled) (p .1 .1 .0))
     ⨾ tt
 
-told-upper : (policy : List Record) → Rows requestForms (λ n t r x. Kept policy t → (y : Commits) → Told (t .lower) y → Told (x .lower) (chosen committing n .next y r)) upperKinds
+told-upper : (policy : List Record) →
+    Rows requestForms (λ n t r x. Kept policy t → (y : Commits) → Told (t .lower) y → Told (x .lower) (chosen committing n .next y r)) upperKinds
 unfolding upperKinds committing chosen deleteNext forgetNext userGone destroyNext openNext endNext claimNext releaseNext doneNext
 told-upper policy =
     (λ t r g p i y h. leaves _ _ _ _ _ y h (r .a))
@@ -254,7 +263,8 @@ told-upper policy =
     ⨾ (λ t r g p i y h. h) ⨾ (λ t r g p i y h. h) ⨾ (λ t r g p i y h. h) ⨾ (λ t r g p i y h. h)
     ⨾ tt
 
-told-rows : (policy : List Record) → Rows requestForms (λ n t r x. Kept policy t → (y : Commits) → Told (t .lower) y → Told (x .lower) (chosen committing n .next y r)) requestKinds
+told-rows : (policy : List Record) →
+    Rows requestForms (λ n t r x. Kept policy t → (y : Commits) → Told (t .lower) y → Told (x .lower) (chosen committing n .next y r)) requestKinds
 told-rows policy =
     engine-rows (λ n t r x. Kept policy t → (y : Commits) → Told (t .lower) y → Told (x .lower) (chosen committing n .next y r)) (told-upper policy)
     (every-map lowerKinds (λ k h t r g p i. h (t .lower) r g p (i .0, i .2)) (told-lower policy))
@@ -267,7 +277,8 @@ pub told-after : AfterEvery (λ policy requests. Told (tablesAfter policy reques
 unfolding request commit engineOf
 told-after policy accepted ss =
     run-follows requestForms requestKinds engine-order (Kept (recordsOf policy)) (λ t y. Told (t .lower) y) (λ n y r. chosen committing n .next y r)
-    (kept-rows (recordsOf policy)) (told-rows (recordsOf policy)) (engineOf (load policy .tables)) noCommits ss (kept-load policy accepted) (told-start (load policy .tables))
+    (kept-rows (recordsOf policy)) (told-rows (recordsOf policy)) (engineOf (load policy .tables)) noCommits ss (kept-load policy accepted)
+    (told-start (load policy .tables))
 
 pub lower-told-after : AfterEvery (λ policy requests. Told (lowerAfter policy requests) (lowerCommitsAfter policy requests))
 unfolding lowerRequest commit
@@ -361,7 +372,8 @@ module _ (policy : List Record) (t : Lower) (kept : LowerKept policy t) (y : Com
       go false e n = absurd (n e)
 
   -- a check or a commit that every check before WALL lets pass
-  wall-reply : (fs : List Form) (s : Bytes) (reply : ℕ) → reply ≡ first (formChecks fs s ++ checkChecks t (decode s .a) (decode s .b) (decode s .c)) → Reaches WALL reply
+  wall-reply : (fs : List Form) (s : Bytes) (reply : ℕ) → reply ≡ first (formChecks fs s ++ checkChecks t (decode s .a) (decode s .b) (decode s .c)) →
+      Reaches WALL reply
       → Decided policy (committedBy y (decode s)) (decode s .c) reply
   unfolding formChecks checkChecks
   wall-reply fs s reply e reaches =
@@ -382,7 +394,8 @@ clerks-keep-to-one-block = record {
       let k = kept-after policy accepted ss in
       keeps-to-one (recordsOf policy) (tablesAfter policy ss .lower) (k .0, k .2) (commitsAfter policy ss) (told-after policy accepted ss) u;
   dealers = λ policy accepted ss u.
-      keeps-to-one (recordsOf policy) (lowerAfter policy ss) (lower-kept-after policy accepted ss) (lowerCommitsAfter policy ss) (lower-told-after policy accepted ss) u;
+      keeps-to-one (recordsOf policy) (lowerAfter policy ss) (lower-kept-after policy accepted ss) (lowerCommitsAfter policy ss)
+      (lower-told-after policy accepted ss) u;
 }
 
 -- the checks of both kinds

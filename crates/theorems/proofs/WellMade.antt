@@ -135,7 +135,8 @@ module _ (k : Tasks) (bs : List Block) (a : ℕ) (m : Set) where
   apart : meets m (partitioned a bs) ≡ false → Every (λ b. b .partitioning ≡ a → meets (b .tasks) m ≡ false) bs
   apart h = every-map bs (λ b p e. meets-none (b .tasks) m (λ t x y. none-common m _ t h y (has-part _ _ t (p e) x))) (in-partitioned a bs)
 
-  block-more : a < 16 → eqb m empty ≡ false → not (oneTemplate k (union m (partitioned a bs))) ≡ false → meets m (partitioned a bs) ≡ false → WellCut (k .template) bs
+  block-more : a < 16 → eqb m empty ≡ false → not (oneTemplate k (union m (partitioned a bs))) ≡ false → meets m (partitioned a bs) ≡ false →
+      WellCut (k .template) bs
       → WellCut (k .template) (add bs new)
   block-more l some one free i = record {
     partitionings = every-added (λ b. b .partitioning < 16) bs new (i .partitionings) l;
@@ -149,27 +150,81 @@ module _ (k : Tasks) (bs : List Block) (a : ℕ) (m : Set) where
 module _ (f g : ℕ → Maybe ℕ) (ru : Rules) (i : WellMade f g ru) where
   with-statics : (ls : List Limit) → Every Limits ls → WellMade f g (withStatics ru ls)
   with-statics ls h =
-      record { tasks = i .tasks; counts = i .counts; statics = h; dynamics = i .dynamics; taskSets = i .taskSets; blocks = i .blocks; bindings = i .bindings; befores = i .befores }
+      record {
+        tasks = i .tasks;
+        counts = i .counts;
+        statics = h;
+        dynamics = i .dynamics;
+        taskSets = i .taskSets;
+        blocks = i .blocks;
+        bindings = i .bindings;
+        befores = i .befores;
+      }
 
   with-dynamics : (ls : List Limit) → Every Limits ls → WellMade f g (withDynamics ru ls)
   with-dynamics ls h =
-      record { tasks = i .tasks; counts = i .counts; statics = i .statics; dynamics = h; taskSets = i .taskSets; blocks = i .blocks; bindings = i .bindings; befores = i .befores }
+      record {
+        tasks = i .tasks;
+        counts = i .counts;
+        statics = i .statics;
+        dynamics = h;
+        taskSets = i .taskSets;
+        blocks = i .blocks;
+        bindings = i .bindings;
+        befores = i .befores;
+      }
 
   with-task-sets : (ls : List Limit) → Every (λ l. Limits l × ((j : ℕ) × AllOf f j (l .members))) ls → WellMade f g (withTaskSets ru ls)
   with-task-sets ls h =
-      record { tasks = i .tasks; counts = i .counts; statics = i .statics; dynamics = i .dynamics; taskSets = h; blocks = i .blocks; bindings = i .bindings; befores = i .befores }
+      record {
+        tasks = i .tasks;
+        counts = i .counts;
+        statics = i .statics;
+        dynamics = i .dynamics;
+        taskSets = h;
+        blocks = i .blocks;
+        bindings = i .bindings;
+        befores = i .befores;
+      }
 
   with-blocks : (bs : List Block) → WellCut f bs → WellMade f g (withBlocks ru bs)
   with-blocks bs h =
-      record { tasks = i .tasks; counts = i .counts; statics = i .statics; dynamics = i .dynamics; taskSets = i .taskSets; blocks = h; bindings = i .bindings; befores = i .befores }
+      record {
+        tasks = i .tasks;
+        counts = i .counts;
+        statics = i .statics;
+        dynamics = i .dynamics;
+        taskSets = i .taskSets;
+        blocks = h;
+        bindings = i .bindings;
+        befores = i .befores;
+      }
 
   with-bindings : (ps : List Pair) → Every (Linked f) ps → WellMade f g (withBindings ru ps)
   with-bindings ps h =
-      record { tasks = i .tasks; counts = i .counts; statics = i .statics; dynamics = i .dynamics; taskSets = i .taskSets; blocks = i .blocks; bindings = h; befores = i .befores }
+      record {
+        tasks = i .tasks;
+        counts = i .counts;
+        statics = i .statics;
+        dynamics = i .dynamics;
+        taskSets = i .taskSets;
+        blocks = i .blocks;
+        bindings = h;
+        befores = i .befores;
+      }
 
   with-befores : (ps : List Pair) → Every (Linked f) ps → WellMade f g (withBefores ru ps)
   with-befores ps h =
-      record { tasks = i .tasks; counts = i .counts; statics = i .statics; dynamics = i .dynamics; taskSets = i .taskSets; blocks = i .blocks; bindings = i .bindings; befores = h }
+      record {
+        tasks = i .tasks;
+        counts = i .counts;
+        statics = i .statics;
+        dynamics = i .dynamics;
+        taskSets = i .taskSets;
+        blocks = i .blocks;
+        bindings = i .bindings;
+        befores = h;
+      }
 
 -- ---- one count more
 count-more : (f g : ℕ → Maybe ℕ) (ru : Rules) (a n : ℕ) → eqb n 0 ≡ false → WellMade f g ru → WellMade f (upd g a (just n)) ru
@@ -204,7 +259,8 @@ a-within k a b g = ltb-false k a (or-none (ltb k a) b (or-none _ _ (or-none _ _ 
 pub b-within : (n m a b : ℕ) → false || ltb n a || ltb m b || false || false ≡ false → (a ≤ n) × (b ≤ m)
 b-within n m a b h = let s = or-none (ltb n a) (ltb m b) (or-none _ _ (or-none _ _ h .0) .0) in (ltb-false n a (s .0), ltb-false m b (s .1))
 
-rows : Rows policyForms (λ n p r x. WellMade (p .tasks .template) (p .tasks .most) (p .rules) → WellMade (x .tasks .template) (x .tasks .most) (x .rules)) policyKinds
+rows : Rows policyForms (λ n p r x. WellMade (p .tasks .template) (p .tasks .most) (p .rules) → WellMade (x .tasks .template) (x .tasks .most) (x .rules))
+    policyKinds
 unfolding policyKinds policyForms formOf outOfRange above userNext roleNext permissionNext assignNext giveNext taskChecks taskNext openToNext carriesNext staticChecks staticNext dynamicChecks dynamicNext taskSetChecks taskSetNext blockChecks blockNext banNext mostChecks mostNext bindChecks bindNext beforeChecks beforeNext raiseNext wallNext
 rows =
     (λ p r g c i. i) ⨾ (λ p r g c i. i) ⨾ (λ p r g c i. i) ⨾ (λ p r g c i. i) ⨾ (λ p r g c i. i)
@@ -240,7 +296,8 @@ start = record {
   befores = tt;
 }
 
-pub load-well-made : (policy : Bytes) → load policy .reply ≡ 0 → WellMade (load policy .tables .tasks .template) (load policy .tables .tasks .most) (load policy .tables .rules)
+pub load-well-made : (policy : Bytes) → load policy .reply ≡ 0 →
+    WellMade (load policy .tables .tasks .template) (load policy .tables .tasks .most) (load policy .tables .rules)
 load-well-made policy h =
     let x = load-accepted policy h in
     rw (x .1) (load-keeps (λ p. WellMade (p .tasks .template) (p .tasks .most) (p .rules)) rows noPolicy (recordsOf policy) (x .0) start)
@@ -253,7 +310,8 @@ unfolding some sameWalled another blockOf holds
 not-walled [] a b c h k = tt
 not-walled (x ∷ xs) a b c h k = go (eqb (x .wall) a) refl (eqb (x .object) c) refl (eqb (x .block) b) refl h k (not-walled xs a b c)
   where
-    go : (e : Bool) → eqb (x .wall) a ≡ e → (f : Bool) → eqb (x .object) c ≡ f → (d : Bool) → eqb (x .block) b ≡ d → (e && d && f) || some (sameWalled a b c) xs ≡ false
+    go : (e : Bool) → eqb (x .wall) a ≡ e → (f : Bool) → eqb (x .object) c ≡ f → (d : Bool) → eqb (x .block) b ≡ d →
+        (e && d && f) || some (sameWalled a b c) xs ≡ false
         → holds (λ j. not (eqb j b)) (cond (f && e) (just (x .block)) (blockOf xs c a)) ≡ false
         → (some (sameWalled a b c) xs ≡ false → another b (blockOf xs c a) ≡ false → Every (λ x. x .wall ≡ a → x .object ≡ c → ⊥) xs)
         → Every (λ x. x .wall ≡ a → x .object ≡ c → ⊥) (x ∷ xs)
@@ -268,7 +326,8 @@ unfolding add many
 one-more [] y = refl
 one-more (x ∷ xs) y = ap suc (one-more xs y)
 
-wall-more : (xs : List Walled) (a b c : ℕ) → a < 16 → b < 16 → some (sameWalled a b c) xs ≡ false → another b (blockOf xs c a) ≡ false → leb 256 (many xs) ≡ false
+wall-more : (xs : List Walled) (a b c : ℕ) → a < 16 → b < 16 → some (sameWalled a b c) xs ≡ false → another b (blockOf xs c a) ≡ false →
+    leb 256 (many xs) ≡ false
     → WellWalled xs → WellWalled (add xs (record { wall = a; block = b; object = c }))
 wall-more xs a b c la lb new one free i = record {
   numbers = every-added _ xs _ (i .numbers) (la, lb);

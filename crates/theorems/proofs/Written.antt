@@ -51,7 +51,8 @@ rows : Rows policyForms (λ n p r x. Bounded r → Ready p → Ready x) policyKi
 unfolding policyKinds policyForms formOf outOfRange above userNext roleNext permissionChecks permissionNext assignChecks assignNext giveChecks giveNext taskChecks taskNext openToChecks openToNext carriesChecks carriesNext staticChecks staticNext dynamicChecks dynamicNext taskSetChecks taskSetNext blockChecks blockNext banChecks banNext mostChecks mostNext bindChecks bindNext beforeChecks beforeNext raiseChecks raiseNext wallChecks wallNext
 rows =
     (λ p r g c w i. record {
-      people = joins (p .people) (i .people) (r .a) empty (let l = a-within 1023 (r .a) false g in omega arith) (λ q e. absurd (false≢true (sym (has-empty q) ∙ e)));
+      people =
+          joins (p .people) (i .people) (r .a) empty (let l = a-within 1023 (r .a) false g in omega arith) (λ q e. absurd (false≢true (sym (has-empty q) ∙ e)));
       ranks = i .ranks;
       permissions = i .permissions;
       tasks = i .tasks;
@@ -273,8 +274,10 @@ unfolding recordsFrom
 all-bounded zero s h = tt
 all-bounded (suc n) s h =
     let e = sym (take-append-drop 16 s) in
-    let k = subst (Every (λ x. x < 256)) e h in
-    (bounded (take 16 s) (every-left (λ x. x < 256) (take 16 s) (drop 16 s) k), all-bounded n (drop 16 s) (every-right (λ x. x < 256) (take 16 s) (drop 16 s) k))
+    let k = subst (Every (λ x. x < 256)) e h in (
+      bounded (take 16 s) (every-left (λ x. x < 256) (take 16 s) (drop 16 s) k),
+      all-bounded n (drop 16 s) (every-right (λ x. x < 256) (take 16 s) (drop 16 s) k),
+    )
 
 -- ---- requests
 lower-rows : Rows lowerForms (λ n t r x. Ready (t .policy) → Ready (x .policy)) lowerKinds
@@ -286,7 +289,9 @@ lower-rows =
     ⨾ (λ t r g c i. let k = two-known (t .policy .people .users (r .a)) (has (t .policy .people .roles) (r .b)) (c .0) in
     with-people _ i _ _ (gains _ (i .people) (r .a) (r .b) (k .0) (k .1)))
     ⨾ (λ t r g c i.
-    let k = two-known (t .policy .people .users (r .a)) (has (t .policy .people .roles) (r .b)) (or-none _ (not (has (t .policy .people .assigned (r .a)) (r .b))) (c .0) .0) in
+    let k =
+    two-known (t .policy .people .users (r .a)) (has (t .policy .people .roles) (r .b))
+    (or-none _ (not (has (t .policy .people .assigned (r .a)) (r .b))) (c .0) .0) in
     with-people _ i _ _ (loses _ (i .people) (r .a) (r .b) (k .0)))
     ⨾ (λ t r g c i. let k = two-known (has (t .policy .people .roles) (r .a)) (there (t .policy .permissions .declared (r .b))) (c .0) in
     with-permissions _ i _ (gives _ _ _ (i .permissions) (r .a) (r .b) (k .0) (k .1)))
@@ -298,7 +303,8 @@ upper-rows : Rows requestForms (λ n t r x. Ready (t .lower .policy) → Ready (
 unfolding upperKinds deleteNext userGone openNext endNext claimNext releaseNext doneNext
 upper-rows =
     (λ t r g c i. with-people _ i _ _ (leaves _ (i .people) (r .a)))
-    ⨾ (λ t r g c i. i) ⨾ (λ t r g c i. i) ⨾ (λ t r g c i. i) ⨾ (λ t r g c i. i) ⨾ (λ t r g c i. i) ⨾ (λ t r g c i. i) ⨾ (λ t r g c i. i) ⨾ (λ t r g c i. i) ⨾ (λ t r g c i. i)
+    ⨾ (λ t r g c i. i) ⨾ (λ t r g c i. i) ⨾ (λ t r g c i. i) ⨾ (λ t r g c i. i) ⨾ (λ t r g c i. i) ⨾ (λ t r g c i. i) ⨾ (λ t r g c i. i) ⨾ (λ t r g c i. i) ⨾
+    (λ t r g c i. i)
     ⨾ tt
 
 pub ready : (x : Running) → Ready (policyOf x)
@@ -306,7 +312,8 @@ unfolding request engineOf lowerOf recordsOf
 ready x =
     let a = load-accepted (x .policy) (x .loads) in
     run-keeps requestForms requestKinds engine-order (λ t. Ready (t .lower .policy))
-    (engine-rows (λ n t r z. Ready (t .lower .policy) → Ready (z .lower .policy)) upper-rows (every-map lowerKinds (λ k h t r g c i. h (t .lower) r g c i) lower-rows))
+    (engine-rows (λ n t r z. Ready (t .lower .policy) → Ready (z .lower .policy)) upper-rows
+    (every-map lowerKinds (λ k h t r g c i. h (t .lower) r g c i) lower-rows))
     (engineOf (load (x .policy) .tables)) (x .requests)
     (rw (a .1) (ready-filled noPolicy (recordsOf (x .policy)) (a .0) (all-bounded (length (x .policy) / 16) (x .policy) (x .bytes)) ready-start))
 
@@ -314,7 +321,8 @@ ready x =
 all-runs : (p : Policy) → Ready p → ((u : ℕ) → Within (p .rules .statics) (down (p .seniority) (p .people .assigned u))) → Run noPolicy (recordsWritten p) p
 unfolding noPolicy recordsWritten peopleRows taskRows ruleRows behind
 all-runs p h hold =
-    let bare-hold : (u : ℕ) → Within (p .rules .statics) (p .people .assigned u) = λ u. within-less (p .rules .statics) _ _ (down-has (p .seniority) (p .people .assigned u)) (hold u) in
+    let bare-hold : (u : ℕ) → Within (p .rules .statics) (p .people .assigned u) =
+    λ u. within-less (p .rules .statics) _ _ (down-has (p .seniority) (p .people .assigned u)) (hold u) in
     run-then _ _ p _ _ (run-1 p h)
     (run-then _ _ p _ _ (run-2 p h)
     (run-then _ _ p _ _ (run-3 p h)

@@ -24,7 +24,8 @@ use Rattle.theorems.proofs.WrittenReady.{PeopleReady, RanksReady, Permi
 use Rattle.theorems.proofs.WrittenStages.{folk, may, work, is-there}
 
 -- ---- lists with those before each
-pub prefixed-map : {A : Type 0} (P Q : List A → A → Type 0) → ((acc : List A) (x : A) → P acc x → Q acc x) → (acc xs : List A) → Prefixed P acc xs → Prefixed Q acc xs
+pub prefixed-map : {A : Type 0} (P Q : List A → A → Type 0) → ((acc : List A) (x : A) → P acc x → Q acc x) → (acc xs : List A) → Prefixed P acc xs →
+    Prefixed Q acc xs
 prefixed-map P Q f acc [] h = tt
 prefixed-map P Q f acc (x ∷ xs) h = (f acc x (h .0), prefixed-map P Q f (add acc x) xs (h .1))
 
@@ -178,8 +179,13 @@ module _ (k z : Tasks) (grows : Grows (k .template) (z .template)) where
   rules-grow roles ru h = record {
     statics = h .statics;
     dynamics = h .dynamics;
-    taskSets = prefixed-map (TaskSetOk k) (TaskSetOk z) (λ acc l q. (declared-grows (l .members) (q .0), q .1, q .2, template-grows (l .members) (q .3), q .4, q .5)) [] (ru .taskSets) (h .taskSets);
-    blocks = prefixed-map (BlockOk k) (BlockOk z) (λ acc x q. (q .0, declared-grows (x .tasks) (q .1), q .2, q .3, template-grows _ (q .4), q .5, q .6)) [] (ru .blocks) (h .blocks);
+    taskSets =
+        prefixed-map (TaskSetOk k) (TaskSetOk z) (λ acc l q. (declared-grows (l .members) (q .0), q .1, q .2, template-grows (l .members) (q .3), q .4, q .5))
+        []
+        (ru .taskSets) (h .taskSets);
+    blocks =
+        prefixed-map (BlockOk k) (BlockOk z) (λ acc x q. (q .0, declared-grows (x .tasks) (q .1), q .2, q .3, template-grows _ (q .4), q .5, q .6)) []
+        (ru .blocks) (h .blocks);
     bindings = prefixed-map (BindingOk k) (BindingOk z) (λ acc x q. (pair-grows x (q .0), q .1, q .2)) [] (ru .bindings) (h .bindings);
     befores = prefixed-map (BeforeOk k) (BeforeOk z) (λ acc x q. (pair-grows x (q .0), q .1, q .2)) [] (ru .befores) (h .befores);
   }
@@ -206,7 +212,8 @@ rules-more roles k ru a h = record {
     known : (m : Set) → within m roles ≡ true → within m (plus roles a) ≡ true
     known m e = has-within m (plus roles a) (λ i q. has-old roles a i (within-has m roles i e q))
 
-pub permissions-more : (roles : Set) (template : ℕ → Maybe ℕ) (x : Permissions) (a : ℕ) → PermissionsReady roles template x → PermissionsReady (plus roles a) template x
+pub permissions-more : (roles : Set) (template : ℕ → Maybe ℕ) (x : Permissions) (a : ℕ) → PermissionsReady roles template x →
+    PermissionsReady (plus roles a) template x
 permissions-more roles template x a h = record {
   declared = h .declared;
   pairs = h .pairs;
@@ -236,7 +243,8 @@ module _ (roles : Set) (template : ℕ → Maybe ℕ) (x : Permissions) (h : Per
     pairs = λ i j y z e f o p. ⊎-elim
         (λ (q : i ≡ a). ⊎-elim (λ (w : j ≡ a). q ∙ sym w)
         (λ n. absurd (clash j z (sym (upd-other (x .declared) a j it n) ∙ f) (sym (own-first i y q e) ∙ o) (sym (own-second i y q e) ∙ p))) (same-or-other j a))
-        (λ m. ⊎-elim (λ (w : j ≡ a). absurd (clash i y (sym (upd-other (x .declared) a i it m) ∙ e) (sym (own-first j z w f) ∙ sym o) (sym (own-second j z w f) ∙ sym p)))
+        (λ m. ⊎-elim
+        (λ (w : j ≡ a). absurd (clash i y (sym (upd-other (x .declared) a i it m) ∙ e) (sym (own-first j z w f) ∙ sym o) (sym (own-second j z w f) ∙ sym p)))
         (λ n. h .pairs i j y z (sym (upd-other (x .declared) a i it m) ∙ e) (sym (upd-other (x .declared) a j it n) ∙ f) o p) (same-or-other j a))
         (same-or-other i a);
     holders = λ i r e. let q = h .holders i r e in (q .0, still i (q .1));
@@ -350,11 +358,14 @@ module _ (roles : Set) (k : Tasks) (h : TasksReady roles k) where
   bans a l some-task = record {
     template = h .template;
     openTo = h .openTo;
-    banned = λ j e. ⊎-elim (λ (q : j ≡ a). (let u = q in omega arith, rw q some-task)) (λ n. h .banned j (rw (upd-other (k .banned) a j true n) at e)) (same-or-other j a);
+    banned =
+        λ j e. ⊎-elim (λ (q : j ≡ a). (let u = q in omega arith, rw q some-task)) (λ n. h .banned j (rw (upd-other (k .banned) a j true n) at e))
+        (same-or-other j a);
     most = h .most;
   }
 
-  pub limits : (a n : ℕ) → there (k .template a) ≡ true → eqb n 0 ≡ false → TasksReady roles (work (k .template) (k .openTo) (k .banned) (upd (k .most) a (just n)))
+  pub limits : (a n : ℕ) → there (k .template a) ≡ true → eqb n 0 ≡ false →
+      TasksReady roles (work (k .template) (k .openTo) (k .banned) (upd (k .most) a (just n)))
   unfolding hasTask tasksOf
   limits a n there-a some-n = record {
     template = h .template;
@@ -373,22 +384,70 @@ module _ (roles : Set) (k : Tasks) (h : TasksReady roles k) where
 -- ---- one rule more
 module _ (roles : Set) (k : Tasks) (ru : Rules) (h : RulesReady roles k ru) where
   pub with-statics : (l : Limit) → SetOk roles (ru .statics) l → RulesReady roles k (withStatics ru (add (ru .statics) l))
-  with-statics l q = record { statics = prefixed-add (SetOk roles) (ru .statics) l (h .statics) q; dynamics = h .dynamics; taskSets = h .taskSets; blocks = h .blocks; bindings = h .bindings; befores = h .befores }
+  with-statics l q =
+      record {
+        statics = prefixed-add (SetOk roles) (ru .statics) l (h .statics) q;
+        dynamics = h .dynamics;
+        taskSets = h .taskSets;
+        blocks = h .blocks;
+        bindings = h .bindings;
+        befores = h .befores;
+      }
 
   pub with-dynamics : (l : Limit) → SetOk roles (ru .dynamics) l → RulesReady roles k (withDynamics ru (add (ru .dynamics) l))
-  with-dynamics l q = record { statics = h .statics; dynamics = prefixed-add (SetOk roles) (ru .dynamics) l (h .dynamics) q; taskSets = h .taskSets; blocks = h .blocks; bindings = h .bindings; befores = h .befores }
+  with-dynamics l q =
+      record {
+        statics = h .statics;
+        dynamics = prefixed-add (SetOk roles) (ru .dynamics) l (h .dynamics) q;
+        taskSets = h .taskSets;
+        blocks = h .blocks;
+        bindings = h .bindings;
+        befores = h .befores;
+      }
 
   pub with-task-sets : (l : Limit) → TaskSetOk k (ru .taskSets) l → RulesReady roles k (withTaskSets ru (add (ru .taskSets) l))
-  with-task-sets l q = record { statics = h .statics; dynamics = h .dynamics; taskSets = prefixed-add (TaskSetOk k) (ru .taskSets) l (h .taskSets) q; blocks = h .blocks; bindings = h .bindings; befores = h .befores }
+  with-task-sets l q =
+      record {
+        statics = h .statics;
+        dynamics = h .dynamics;
+        taskSets = prefixed-add (TaskSetOk k) (ru .taskSets) l (h .taskSets) q;
+        blocks = h .blocks;
+        bindings = h .bindings;
+        befores = h .befores;
+      }
 
   pub with-blocks : (x : Block) → BlockOk k (ru .blocks) x → RulesReady roles k (withBlocks ru (add (ru .blocks) x))
-  with-blocks x q = record { statics = h .statics; dynamics = h .dynamics; taskSets = h .taskSets; blocks = prefixed-add (BlockOk k) (ru .blocks) x (h .blocks) q; bindings = h .bindings; befores = h .befores }
+  with-blocks x q =
+      record {
+        statics = h .statics;
+        dynamics = h .dynamics;
+        taskSets = h .taskSets;
+        blocks = prefixed-add (BlockOk k) (ru .blocks) x (h .blocks) q;
+        bindings = h .bindings;
+        befores = h .befores;
+      }
 
   pub with-bindings : (x : Pair) → BindingOk k (ru .bindings) x → RulesReady roles k (withBindings ru (add (ru .bindings) x))
-  with-bindings x q = record { statics = h .statics; dynamics = h .dynamics; taskSets = h .taskSets; blocks = h .blocks; bindings = prefixed-add (BindingOk k) (ru .bindings) x (h .bindings) q; befores = h .befores }
+  with-bindings x q =
+      record {
+        statics = h .statics;
+        dynamics = h .dynamics;
+        taskSets = h .taskSets;
+        blocks = h .blocks;
+        bindings = prefixed-add (BindingOk k) (ru .bindings) x (h .bindings) q;
+        befores = h .befores;
+      }
 
   pub with-befores : (x : Pair) → BeforeOk k (ru .befores) x → RulesReady roles k (withBefores ru (add (ru .befores) x))
-  with-befores x q = record { statics = h .statics; dynamics = h .dynamics; taskSets = h .taskSets; blocks = h .blocks; bindings = h .bindings; befores = prefixed-add (BeforeOk k) (ru .befores) x (h .befores) q }
+  with-befores x q =
+      record {
+        statics = h .statics;
+        dynamics = h .dynamics;
+        taskSets = h .taskSets;
+        blocks = h .blocks;
+        bindings = h .bindings;
+        befores = prefixed-add (BeforeOk k) (ru .befores) x (h .befores) q;
+      }
 
 pub a-pair : (k : Tasks) (a b : ℕ) → not (there (k .template a)) || not (there (k .template b)) ≡ false → eqb a b || not (together k a b) ≡ false
     → PairOk k (record { a = a; b = b })

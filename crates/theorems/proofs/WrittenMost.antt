@@ -53,7 +53,8 @@ few P n h acc (x ∷ xs) p l =
     let rest = few P n h (add acc x) xs (p .1) (omega arith) in
     omega arith
 
-few-rules : {A : Type 0} (P : List A → A → Type 0) (n : ℕ) → ((acc : List A) (x : A) → P acc x → many acc < n) → (f : A → Record) (xs : List A) → Prefixed P [] xs
+few-rules : {A : Type 0} (P : List A → A → Type 0) (n : ℕ) → ((acc : List A) (x : A) → P acc x → many acc < n) → (f : A → Record) (xs : List A) →
+    Prefixed P [] xs
     → many (each f xs) ≤ n
 unfolding many
 few-rules P n h f xs p = let l = few P n h [] xs p (omega arith) in let e = many-each f xs in omega arith

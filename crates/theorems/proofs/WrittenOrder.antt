@@ -25,7 +25,8 @@ joined-two R [] ys p q h = q
 joined-two R (x ∷ xs) ys p q h = (every-append (R x) xs ys (p .0) (h .0), joined-two R xs ys (p .1) q (h .1))
 
 -- every one of xs stands before every one of ys
-across : {A : Type 0} {P Q : A → Type 0} (R : A → A → Type 0) (xs ys : List A) → Every P xs → Every Q ys → ((x y : A) → P x → Q y → R x y) → Every (λ x. Every (R x) ys) xs
+across : {A : Type 0} {P Q : A → Type 0} (R : A → A → Type 0) (xs ys : List A) → Every P xs → Every Q ys → ((x y : A) → P x → Q y → R x y) →
+    Every (λ x. Every (R x) ys) xs
 across R xs ys p q h = every-map xs (λ x px. every-map ys (λ y qy. h x y px qy) q) p
 
 -- ---- what is written for 0, 1, .. in turn
@@ -51,7 +52,8 @@ unfolding when
 alone true r P h = ((tt, tt), (h, tt))
 alone false r P h = (tt, tt)
 
-alone-there : {A : Type 0} (f : A → Record) (x : Maybe A) (P : Record → Type 0) → ((y : A) → P (f y)) → EveryTwo ComesBefore (ofThere f x) × Every P (ofThere f x)
+alone-there : {A : Type 0} (f : A → Record) (x : Maybe A) (P : Record → Type 0) → ((y : A) → P (f y)) →
+    EveryTwo ComesBefore (ofThere f x) × Every P (ofThere f x)
 unfolding ofThere
 alone-there f none P h = (tt, tt)
 alone-there f (just x) P h = ((tt, tt), (h x, tt))

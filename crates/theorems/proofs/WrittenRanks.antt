@@ -138,7 +138,8 @@ module _ (p : Policy) (h : Ready p) (hold : (u : ℕ) → Within (p .rules .stat
     unbroken : someBelow 1024 (λ u. p .people .users u && some (breaks (down next (p .people .assigned u))) (p .rules .statics)) ≡ false
     unfolding breaks
     unbroken = below-none 1024 (λ u. p .people .users u && some (breaks (down next (p .people .assigned u))) (p .rules .statics)) (λ u l.
-        let w = within-less (p .rules .statics) _ _ (down-more next s (below-part next s next-ranked (h .ranks .ranked) next-part) (p .people .assigned u)) (hold u) in
+        let w =
+        within-less (p .rules .statics) _ _ (down-more next s (below-part next s next-ranked (h .ranks .ranked) next-part) (p .people .assigned u)) (hold u) in
         ap (λ (c : Bool). p .people .users u && c)
         (none-some (breaks (down next (p .people .assigned u))) (p .rules .statics)
         (every-map (p .rules .statics) (λ l x. le-ltb (l .n) (overlap (l .members) (down next (p .people .assigned u))) x) w))
@@ -147,7 +148,8 @@ module _ (p : Policy) (h : Ready p) (hold : (u : ℕ) → Within (p .rules .stat
     room : leb 64 (raisings z) ≡ false
     unfolding raisings
     room =
-        let l = sum-less 64 (λ i. size (z .juniors i)) (λ i. size (s .juniors i)) (λ i. size-part (z .juniors i) (s .juniors i) (part-has _ _ (part i))) a small-a
+        let l =
+        sum-less 64 (λ i. size (z .juniors i)) (λ i. size (s .juniors i)) (λ i. size-part (z .juniors i) (s .juniors i) (part-has _ _ (part i))) a small-a
         (size-more (z .juniors a) (s .juniors a) b (part-has _ _ (part a)) new mine) in
         let m = h .ranks .room in
         lt-leb 64 (sumBelow 64 (λ i. size (z .juniors i))) (omega arith)
@@ -220,7 +222,8 @@ module _ (p : Policy) (h : Ready p) (hold : (u : ℕ) → Within (p .rules .stat
   small-pair : (a b : ℕ) → has (f a) b ≡ true → b < 64
   small-pair a b e = role-small p h b (h .ranks .known a b e .1)
 
-  one-row : (a : ℕ) (z : Seniority) → Ranked z → z .juniors ≡ mix f bare a → Reach z (inTurn 64 (λ b. when (has (f a) b) (row 17 0 a b 0 0))) (mix f bare (suc a))
+  one-row : (a : ℕ) (z : Seniority) → Ranked z → z .juniors ≡ mix f bare a →
+      Reach z (inTurn 64 (λ b. when (has (f a) b) (row 17 0 a b 0 0))) (mix f bare (suc a))
   unfolding collect
   one-row a z r e =
       let x = reach-turns (at a) (λ b. when (has (f a) b) (row 17 0 a b 0 0)) 64 (λ b l. one-pair a b) z r
@@ -234,7 +237,8 @@ module _ (p : Policy) (h : Ready p) (hold : (u : ℕ) → Within (p .rules .stat
 
   pub run-17 : Ranked unranked → Run (P17 unranked) (inTurn 64 (λ a. inTurn 64 (λ b. when (has (f a) b) (row 17 0 a b 0 0)))) (P17 s)
   run-17 start =
-      let x = reach-turns (mix f bare) (λ a. inTurn 64 (λ b. when (has (f a) b) (row 17 0 a b 0 0))) 64 (λ a l. one-row a) unranked start (sym (mix-none f bare)) in
+      let x =
+      reach-turns (mix f bare) (λ a. inTurn 64 (λ b. when (has (f a) b) (row 17 0 a b 0 0))) 64 (λ a l. one-row a) unranked start (sym (mix-none f bare)) in
       let e = same-ranks (x .to) s (x .ranked) (h .ranks .ranked)
       (x .pairs ∙ mix-all f bare 64 (no-set f 64 (λ i b q. role-small p h i (h .ranks .known i b q .0)))) in
       subst (λ (z : Seniority). Run (P17 unranked) (inTurn 64 (λ a. inTurn 64 (λ b. when (has (f a) b) (row 17 0 a b 0 0)))) (P17 z)) e (x .run)

@@ -39,7 +39,8 @@ pub record TasksReady (roles : Set) (k : Tasks) : Type 0 where
 -- ---- rules: what each record's checks asked, STATIC apart
 abbrev pub SetOk : Set → List Limit → Limit → Type 0
 SetOk roles acc l =
-    (within (l .members) roles ≡ true) × (some (sameLimit (l .n) (l .members)) acc ≡ false) × (illMade (l .n) (l .members) ≡ false) × (leb 32 (many acc) ≡ false) × (l .n < 256)
+    (within (l .members) roles ≡ true) × (some (sameLimit (l .n) (l .members)) acc ≡ false) × (illMade (l .n) (l .members) ≡ false) ×
+    (leb 32 (many acc) ≡ false) × (l .n < 256)
 
 abbrev pub TaskSetOk : Tasks → List Limit → Limit → Type 0
 TaskSetOk k acc l =

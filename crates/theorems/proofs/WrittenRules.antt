@@ -23,7 +23,8 @@ use Rattle.theorems.proofs.WrittenReady.{SetOk, TaskSetOk, BlockOk, Bin
 use Rattle.theorems.proofs.WrittenStages.{whole, work, no, unranked, no-mark, no-there, role-small, task-small}
 
 -- something more of every one
-pub prefixed-with : {A : Type 0} (P : List A → A → Type 0) (Q : A → Type 0) (acc xs : List A) → Prefixed P acc xs → Every Q xs → Prefixed (λ acc x. P acc x × Q x) acc xs
+pub prefixed-with : {A : Type 0} (P : List A → A → Type 0) (Q : A → Type 0) (acc xs : List A) → Prefixed P acc xs → Every Q xs →
+    Prefixed (λ acc x. P acc x × Q x) acc xs
 prefixed-with P Q acc [] h k = tt
 prefixed-with P Q acc (x ∷ xs) h k = ((h .0, k .0), prefixed-with P Q (add acc x) xs (h .1) (k .1))
 
@@ -59,7 +60,9 @@ module _ (p : Policy) (h : Ready p) (hold : (u : ℕ) → Within (p .rules .stat
 
   tasks-lt : (m : Set) → within m (declaredTasks t) ≡ true → m < 2 ^ 64
   unfolding declaredTasks
-  tasks-lt m e = below-members 64 m (no-mark (has m) 64 (λ i q. member-below 64 (declaredTasks t) i (collect-lt 64 (λ i. there (t .template i))) (within-has m (declaredTasks t) i e q)))
+  tasks-lt m e =
+      below-members 64 m
+      (no-mark (has m) 64 (λ i q. member-below 64 (declaredTasks t) i (collect-lt 64 (λ i. there (t .template i))) (within-has m (declaredTasks t) i e q)))
 
   -- ---- 9: static sets, before any role stands above another
   abbrev pub P9 : List Limit → Policy

@@ -235,7 +235,8 @@ run-marks P f n rec far one =
 
 -- what is there
 pub run-theres : {A : Type 0} (P : (ℕ → Maybe A) → Policy) (f : ℕ → Maybe A) (n : ℕ) (rec : ℕ → A → Record) → ((i : ℕ) → n ≤ i → f i ≡ none)
-    → ((k : ℕ) (x : A) → k < n → f k ≡ just x → Clean (P (mix f nowhere k)) (rec k x) × (step (P (mix f nowhere k)) (rec k x) ≡ P (upd (mix f nowhere k) k (just x))))
+    → ((k : ℕ) (x : A) → k < n → f k ≡ just x →
+    Clean (P (mix f nowhere k)) (rec k x) × (step (P (mix f nowhere k)) (rec k x) ≡ P (upd (mix f nowhere k) k (just x))))
     → Run (P nowhere) (inTurn n (λ a. ofThere (rec a) (f a))) (P f)
 run-theres P f n rec far one =
     run-as (P (mix f nowhere 0)) (P nowhere) (P (mix f nowhere n)) (P f) _ (ap P (mix-none f nowhere)) (ap P (mix-all f nowhere n far))
@@ -244,7 +245,8 @@ run-theres P f n rec far one =
     (λ e. ap P (mix-skip f nowhere k e))))
 
 -- sets, row by row and in each by its members
-pub run-rows : (P : (ℕ → Set) → Policy) (f : ℕ → Set) (n m : ℕ) (rec : ℕ → ℕ → Record) → ((a : ℕ) → n ≤ a → f a ≡ empty) → ((a b : ℕ) → has (f a) b ≡ true → b < m)
+pub run-rows : (P : (ℕ → Set) → Policy) (f : ℕ → Set) (n m : ℕ) (rec : ℕ → ℕ → Record) → ((a : ℕ) → n ≤ a → f a ≡ empty) →
+    ((a b : ℕ) → has (f a) b ≡ true → b < m)
     → ((g : ℕ → Set) (a b : ℕ) → a < n → b < m → has (f a) b ≡ true → has (g a) b ≡ false
     → Clean (P g) (rec a b) × (step (P g) (rec a b) ≡ P (upd g a (plus (g a) b))))
     → Run (P bare) (inTurn n (λ a. inTurn m (λ b. when (has (f a) b) (rec a b)))) (P f)
@@ -272,7 +274,8 @@ run-rows P f n m rec far small one =
         ∙ ap (λ (z : Set). upd (mix f bare k) k z) (collect-next (f k) b e)
 
 -- sets, member by member and for each in every row
-pub run-columns : (P : (ℕ → Set) → Policy) (f : ℕ → Set) (n m : ℕ) (rec : ℕ → ℕ → Record) → ((b : ℕ) → m ≤ b → f b ≡ empty) → ((b a : ℕ) → has (f b) a ≡ true → a < n)
+pub run-columns : (P : (ℕ → Set) → Policy) (f : ℕ → Set) (n m : ℕ) (rec : ℕ → ℕ → Record) → ((b : ℕ) → m ≤ b → f b ≡ empty) →
+    ((b a : ℕ) → has (f b) a ≡ true → a < n)
     → ((g : ℕ → Set) (a b : ℕ) → a < n → b < m → has (f b) a ≡ true → has (g b) a ≡ false
     → Clean (P g) (rec a b) × (step (P g) (rec a b) ≡ P (upd g b (plus (g b) a))))
     → Run (P bare) (inTurn n (λ a. inTurn m (λ b. when (has (f b) a) (rec a b)))) (P f)

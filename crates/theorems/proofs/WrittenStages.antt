@@ -116,7 +116,8 @@ module _ (p : Policy) (h : Ready p) where
   pub run-2 : Run (P2 empty) (inTurn 64 (λ a. when (has (x .roles) a) (row 2 0 a 0 0 0))) (P2 (x .roles))
   unfolding chosen policyKinds roleChecks roleNext policyForms formOf misshapen misplaced outOfRange above collect
   run-2 =
-      run-as (P2 (collect 0 (has (x .roles)))) (P2 empty) (P2 (collect 64 (has (x .roles)))) (P2 (x .roles)) _ refl (ap P2 (collect-all 64 (x .roles) role-small))
+      run-as (P2 (collect 0 (has (x .roles)))) (P2 empty) (P2 (collect 64 (has (x .roles)))) (P2 (x .roles)) _ refl
+      (ap P2 (collect-all 64 (x .roles) role-small))
       (run-turns (λ a. P2 (collect a (has (x .roles)))) (λ a. when (has (x .roles) a) (row 2 0 a 0 0 0)) 64 (λ a l.
       run-when (P2 (collect a (has (x .roles)))) (P2 (collect (suc a) (has (x .roles)))) (has (x .roles) a) (row 2 0 a 0 0 0)
       (λ e. (
@@ -158,7 +159,8 @@ module _ (p : Policy) (h : Ready p) where
 
   pub run-3 : Run (P3 nowhere) (inTurn 256 (λ a. ofThere (λ y. row 3 0 a (y .operation) (y .object) 0) (k .declared a))) (P3 (k .declared))
   unfolding chosen policyKinds permissionChecks permissionNext policyForms formOf misshapen misplaced outOfRange above holds
-  run-3 = run-theres P3 (k .declared) 256 (λ a y. row 3 0 a (y .operation) (y .object) 0) (no-there (k .declared) 256 (λ i y e. h .permissions .declared i y e .0))
+  run-3 =
+      run-theres P3 (k .declared) 256 (λ a y. row 3 0 a (y .operation) (y .object) 0) (no-there (k .declared) 256 (λ i y e. h .permissions .declared i y e .0))
       (λ a y l e. let d = h .permissions .declared a y e in (
         record {
           a = omega arith;
@@ -168,7 +170,10 @@ module _ (p : Policy) (h : Ready p) where
           shape = refl;
           range = rw (le-ltb 255 a (omega arith)) refl;
           checks = (
-            rw (mix-from (k .declared) nowhere a a (omega arith), below-none 256 (λ i. holds (isFor (y .operation) (y .object)) (mix (k .declared) nowhere a i)) (λ i q. other-pair a y e i)) refl,
+            rw (
+              mix-from (k .declared) nowhere a a (omega arith),
+              below-none 256 (λ i. holds (isFor (y .operation) (y .object)) (mix (k .declared) nowhere a i)) (λ i q. other-pair a y e i),
+            ) refl,
             tt,
           );
         },
@@ -264,7 +269,8 @@ module _ (p : Policy) (h : Ready p) where
 
   pub run-8 : Run (P8 bare) (inTurn 64 (λ a. inTurn 256 (λ b. when (has (k .carriers b) a) (row 8 0 a b 0 0)))) (P8 (k .carriers))
   unfolding chosen policyKinds carriesChecks carriesNext policyForms formOf misshapen misplaced outOfRange above
-  run-8 = run-columns P8 (k .carriers) 64 256 (λ a b. row 8 0 a b 0 0) (no-set (k .carriers) 256 (λ i r e. permission-small i (h .permissions .carriers i r e .1)))
+  run-8 =
+      run-columns P8 (k .carriers) 64 256 (λ a b. row 8 0 a b 0 0) (no-set (k .carriers) 256 (λ i r e. permission-small i (h .permissions .carriers i r e .1)))
       (λ b a e. task-small a (h .permissions .carriers b a e .0))
       (λ g a b l lb e f. let d = h .permissions .carriers b a e in (
         record {

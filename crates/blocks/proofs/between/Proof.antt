@@ -4,7 +4,9 @@ use Rattle.blocks.proofs.between.Statement.{statement}
 use Rattle.blocks.proofs.between.Tie as tie
 
 returns : tie.Need-returns
-returns c = between-words (c .before .before .before .before .before .before .before .before .before .before .args .a .walls) (c .before .before .before .before .before .before .before .before .before .before .args .a .blocks) (c .before .before .before .before .before .before .before .before .before .before .args .b .walls) (c .before .before .before .before .before .before .before .before .before .before .args .b .blocks)
+returns c =
+    let args = c .before .before .before .before .before .before .before .before .before .before .args in
+    between-words (args .a .walls) (args .a .blocks) (args .b .walls) (args .b .blocks)
 
 pub between-spec : {M : Type 1} → statement M
 between-spec = tie.close (tie.spec returns)

@@ -7,7 +7,8 @@ use Rattle.cases.proofs.filled.Statement.{statement}
 use Rattle.cases.proofs.filled.Tie as tie
 
 abbrev Inv-loop : tie.InvT-loop
-Inv-loop line p₀ s₀ o₀ turns granted₀ turn₀ p s o granted turn = (turn ≤ turns) × (granted ≤ turn) × (length p ≡ length p₀) × (length s ≡ length s₀) × (length o ≡ length o₀)
+Inv-loop line p₀ s₀ o₀ turns granted₀ turn₀ p s o granted turn =
+    (turn ≤ turns) × (granted ≤ turn) × (length p ≡ length p₀) × (length s ≡ length s₀) × (length o ≡ length o₀)
 
 abbrev μ-loop : tie.MeasureT-loop
 μ-loop line p₀ s₀ o₀ turns granted₀ turn₀ p s o granted turn = turns - turn

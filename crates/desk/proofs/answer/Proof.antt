@@ -10,7 +10,8 @@ use Rattle.desk.proofs.answer.Statement.{statement}
 use Rattle.desk.proofs.answer.Tie as tie
 
 abbrev Inv-loop : tie.InvT-loop
-Inv-loop block first policy₀ sessions₀ orders₀ out₀ i₀ to₀ policy sessions orders out i to = (i ≤ 256) × ((to ≤ i * 63) × Settling (buffers policy sessions orders))
+Inv-loop block first policy₀ sessions₀ orders₀ out₀ i₀ to₀ policy sessions orders out i to =
+    (i ≤ 256) × ((to ≤ i * 63) × Settling (buffers policy sessions orders))
 
 abbrev μ-loop : tie.MeasureT-loop
 μ-loop block first policy₀ sessions₀ orders₀ out₀ i₀ to₀ policy sessions orders out i to = 256 - i
@@ -55,16 +56,23 @@ loop-less : tie.Need-loop-less Inv-loop μ-loop
 loop-less c = search needs
 
 loop-again : tie.Need-loop-again Inv-loop μ-loop
-loop-again c = (search needs, (search needs, settled-on (c .before .before .before .before .before .before .before .before .before .before .before .before .before .before .before .before .loop .inv .1 .1) (c .before .before .before .before .before .before .before .before .before .settled-request .ensures) .1))
+loop-again c =
+    let loop = c .before .before .before .before .before .before .before .before .before .before .before .before .before .before .before .before .loop in
+    let settled-request = c .before .before .before .before .before .before .before .before .before .settled-request in
+    (search needs, (search needs, settled-on (loop .inv .1 .1) (settled-request .ensures) .1))
 
 same-length : tie.Need-same-length Inv-loop μ-loop
 same-length c = c .before .loop .inv .1 .1 .0 ∙ sym (c .before .before .before .before .before .before .pre .1 .1 .0)
 
 same-length-2 : tie.Need-same-length-2 Inv-loop μ-loop
-same-length-2 c = c .before .loop .inv .1 .1 .1 .0 ∙ sym (c .before .before .before .before .before .before .pre .1 .1 .1 .0)
+same-length-2 c =
+    let pre = c .before .before .before .before .before .before .pre in
+    c .before .loop .inv .1 .1 .1 .0 ∙ sym (pre .1 .1 .1 .0)
 
 same-length-3 : tie.Need-same-length-3 Inv-loop μ-loop
-same-length-3 c = c .before .loop .inv .1 .1 .1 .1 .0 ∙ sym (c .before .before .before .before .before .before .pre .1 .1 .1 .1 .0)
+same-length-3 c =
+    let pre = c .before .before .before .before .before .before .pre in
+    c .before .loop .inv .1 .1 .1 .1 .0 ∙ sym (pre .1 .1 .1 .1 .0)
 
 returns : tie.Need-returns Inv-loop μ-loop
 returns c = (search needs, c .before .loop .inv .1 .1)

@@ -23,7 +23,9 @@ settles : (x x′ : Buffers) (r : Reply) (b : Bool) → Settled x x′ r → b �
 settles x x′ r b s e n = s .settles (fits-where (fit x) (sym (s .replies) ∙ eqb-true (numberOf r) 0 (sym e ∙ not-false b n)))
 
 abbrev Inv-loop : tie.InvT-loop
-Inv-loop policy₀ sessions₀ orders₀ buffer₀ seen₀ policy sessions orders buffer seen = (seen ≤ 1152921504606851072) × ((length policy ≡ length policy₀) × ((length sessions ≡ length sessions₀) × ((length orders ≡ length orders₀) × Settling (buffers policy sessions orders))))
+Inv-loop policy₀ sessions₀ orders₀ buffer₀ seen₀ policy sessions orders buffer seen =
+    (seen ≤ 1152921504606851072) ×
+    ((length policy ≡ length policy₀) × ((length sessions ≡ length sessions₀) × ((length orders ≡ length orders₀) × Settling (buffers policy sessions orders))))
 
 abbrev μ-loop : tie.MeasureT-loop
 μ-loop policy₀ sessions₀ orders₀ buffer₀ seen₀ policy sessions orders buffer seen = 1152921504606851072 - seen
@@ -47,7 +49,17 @@ returns : tie.Need-returns Inv-loop μ-loop
 returns c = search needs
 
 loop-holds : tie.Need-loop-holds Inv-loop μ-loop
-loop-holds c = (search needs, (search needs, (search needs, (search needs, settles _ _ (c .before .before .before .before .before .before .before .before .settle .result) (c .before .accepted .result) (c .before .before .before .before .before .before .before .before .settle .ensures) (c .before .accepted .ensures) (c .if1 .left)))))
+loop-holds c =
+    let settle = c .before .before .before .before .before .before .before .before .settle in (
+      search needs,
+      (
+        search needs,
+        (
+          search needs,
+          (search needs, settles _ _ (settle .result) (c .before .accepted .result) (settle .ensures) (c .before .accepted .ensures) (c .if1 .left)),
+        ),
+      ),
+    )
 
 serve-some-requires : tie.Need-serve-some-requires Inv-loop μ-loop
 serve-some-requires c κs = (search needs, c .before .before .before .before .before .loop .inv .1 .1 .1 .1)
@@ -68,7 +80,18 @@ loop-less : tie.Need-loop-less Inv-loop μ-loop
 loop-less c = search needs
 
 loop-again : tie.Need-loop-again Inv-loop μ-loop
-loop-again c = (search needs, (c .before .before .before .before .before .before .before .serve-some .ensures .1 .0 ∙ sym (c .before .before .before .before .before .before .before .before .before .before .before .before .before .loop .inv .1 .1 .1 .1 .0) ∙ c .before .before .before .before .before .before .before .before .before .before .before .before .before .loop .inv .1 .0, (c .before .before .before .before .before .before .before .serve-some .ensures .1 .1 .0 ∙ sym (c .before .before .before .before .before .before .before .before .before .before .before .before .before .loop .inv .1 .1 .1 .1 .1 .0) ∙ c .before .before .before .before .before .before .before .before .before .before .before .before .before .loop .inv .1 .1 .0, (c .before .before .before .before .before .before .before .serve-some .ensures .1 .1 .1 .0 ∙ sym (c .before .before .before .before .before .before .before .before .before .before .before .before .before .loop .inv .1 .1 .1 .1 .1 .1 .0) ∙ c .before .before .before .before .before .before .before .before .before .before .before .before .before .loop .inv .1 .1 .1 .0, c .before .before .before .before .before .before .before .serve-some .ensures .1))))
+loop-again c =
+    let loop = c .before .before .before .before .before .before .before .before .before .before .before .before .before .loop in
+    let serve-some = c .before .before .before .before .before .before .before .serve-some in (
+      search needs,
+      (
+        serve-some .ensures .1 .0 ∙ sym (loop .inv .1 .1 .1 .1 .0) ∙ loop .inv .1 .0,
+        (
+          serve-some .ensures .1 .1 .0 ∙ sym (loop .inv .1 .1 .1 .1 .1 .0) ∙ loop .inv .1 .1 .0,
+          (serve-some .ensures .1 .1 .1 .0 ∙ sym (loop .inv .1 .1 .1 .1 .1 .1 .0) ∙ loop .inv .1 .1 .1 .0, serve-some .ensures .1),
+        ),
+      ),
+    )
 
 same-length-7 : tie.Need-same-length-7 Inv-loop μ-loop
 same-length-7 c = search needs

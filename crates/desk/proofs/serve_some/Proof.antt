@@ -31,7 +31,9 @@ add-serve-front : tie.Need-add-serve-front
 add-serve-front c = search needs
 
 serve-front-requires : tie.Need-serve-front-requires
-serve-front-requires c κs = (search needs, (search needs, c .before .before .before .before .before .before .before .before .before .before .before .before .before .before .before .pre .1))
+serve-front-requires c κs =
+    let pre = c .before .before .before .before .before .before .before .before .before .before .before .before .before .before .before .pre in
+    (search needs, (search needs, pre .1))
 
 same-length : tie.Need-same-length
 same-length c = search needs

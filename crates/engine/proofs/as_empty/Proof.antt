@@ -14,9 +14,10 @@ plain-requires c κs = search needs
 
 returns : tie.Need-returns
 returns c =
+    let pre = c .before .before .before .before .before .before .before .pre in
     let z = c .before .before .before .before .before .before .before .args in
-    unknown-step (z .r) (buffers (z .p .now) (z .s .now) (z .o .now)) (c .plain .ensures) (c .before .before .before .before .before .before .before .pre .1 .1)
-    (all-unknown (paperOf (z .r)) (c .before .before .before .before .before .before .before .pre .1 .0 .known) (other-kind (z .r .kind) (z .r .m) (c .before .if1 .taken)))
+    unknown-step (z .r) (buffers (z .p .now) (z .s .now) (z .o .now)) (c .plain .ensures) (pre .1 .1)
+    (all-unknown (paperOf (z .r)) (pre .1 .0 .known) (other-kind (z .r .kind) (z .r .m) (c .before .if1 .taken)))
 
 clear-requires : tie.Need-clear-requires
 clear-requires c κs = search needs
@@ -41,10 +42,19 @@ same-length-3 c = search needs
 
 returns-2 : tie.Need-returns-2
 returns-2 c =
-    let z = c .before .before .before .before .before .before .before .before .before .before .before .before .before .before .before .before .before .before .before .before .before .before .before .before .before .before .before .before .args in
-    let e = that-kind (z .r .kind) (z .r .m) (c .before .before .before .before .before .before .before .before .before .before .before .before .before .before .before .before .before .before .before .before .before .before .if1 .left) in
-    let d = c .before .before .before .before .before .before .step .ensures .sound (c .before .before .before .before .before .before .before .before .before .before .before .before .clear3 .ensures .sound) in
-    joined-step (z .r) (buffers (z .p .now) (z .s .now) (z .o .now)) _ _ (emptied _ _ _ (c .before .before .before .before .before .before .before .before .before .before .before .before .before .before .before .before .before .before .before .before .clear .ensures .tables) (c .before .before .before .before .before .before .before .before .before .before .before .before .before .before .before .before .clear2 .ensures .tables) (c .before .before .before .before .before .before .before .before .before .before .before .before .clear3 .ensures .tables)) (d .1)
+    let if1 = c .before .before .before .before .before .before .before .before .before .before .before .before .before .before .before .before .before .before
+    .before .before .before .before .if1 in
+    let clear = c .before .before .before .before .before .before .before .before .before .before .before .before .before .before .before .before .before
+    .before .before .before .clear in
+    let clear2 = c .before .before .before .before .before .before .before .before .before .before .before .before .before .before .before .before .clear2 in
+    let clear3 = c .before .before .before .before .before .before .before .before .before .before .before .before .clear3 in
+    let step = c .before .before .before .before .before .before .step in
+    let z = c .before .before .before .before .before .before .before .before .before .before .before .before .before .before .before .before .before .before
+    .before .before .before .before .before .before .before .before .before .before .args in
+    let e = that-kind (z .r .kind) (z .r .m) (if1 .left) in
+    let d = step .ensures .sound (clear3 .ensures .sound) in
+    joined-step (z .r) (buffers (z .p .now) (z .s .now) (z .o .now)) _ _
+    (emptied _ _ _ (clear .ensures .tables) (clear2 .ensures .tables) (clear3 .ensures .tables)) (d .1)
     (that-step (z .r) (e .0) (e .1)) (d .0)
 
 pub as-empty-spec : {M : Type 1} → statement M

@@ -6,10 +6,14 @@ use Rattle.engine.proofs.load.Statement.{statement}
 use Rattle.engine.proofs.load.Tie as tie
 
 returns : tie.Need-returns
-returns c = no-load (c .before .before .before .before .before .args .bytes .now) (buffers (c .before .before .before .before .before .args .policy .now) (c .before .before .before .before .before .args .sessions .now) (c .before .before .before .before .before .args .orders .now)) (c .if1 .taken)
+returns c =
+    let args = c .before .before .before .before .before .args in
+    no-load (args .bytes .now) (buffers (args .policy .now) (args .sessions .now) (args .orders .now)) (c .if1 .taken)
 
 clear-requires : tie.Need-clear-requires
-clear-requires c κs = lengths (buffers (c .before .before .before .before .before .before .args .policy .now) (c .before .before .before .before .before .before .args .sessions .now) (c .before .before .before .before .before .before .args .orders .now)) (c .before .if1 .left) .1 .1
+clear-requires c κs =
+    let args = c .before .before .before .before .before .before .args in
+    lengths (buffers (args .policy .now) (args .sessions .now) (args .orders .now)) (c .before .if1 .left) .1 .1
 
 load-requires : tie.Need-load-requires
 load-requires c κs = search needs
@@ -24,7 +28,11 @@ same-length-3 : tie.Need-same-length-3
 same-length-3 c = search needs
 
 returns-2 : tie.Need-returns-2
-returns-2 c = loaded (c .before .before .before .before .before .before .before .before .before .before .before .if1 .left) (c .before .before .before .before .before .before .before .before .before .clear .ensures) (c .before .before .before .before .load .ensures) (same-lengths (same-length c) (same-length-2 c) (same-length-3 c))
+returns-2 c =
+    let if1 = c .before .before .before .before .before .before .before .before .before .before .before .if1 in
+    let clear = c .before .before .before .before .before .before .before .before .before .clear in
+    let load = c .before .before .before .before .load in
+    loaded (if1 .left) (clear .ensures) (load .ensures) (same-lengths (same-length c) (same-length-2 c) (same-length-3 c))
 
 pub load-spec : {M : Type 1} → statement M
 load-spec = tie.close (tie.spec returns clear-requires load-requires same-length same-length-2 same-length-3 returns-2)

@@ -16,7 +16,9 @@ mul-result : tie.Need-mul-result
 mul-result c = search needs
 
 add-result : tie.Need-add-result
-add-result c = omega (arith, number-small (c .before .before .before .before .before .before .before .before .load .result .reply), c .before .number .ensures)
+add-result c =
+    let load = c .before .before .before .before .before .before .before .before .load in
+    omega (arith, number-small (load .result .reply), c .before .number .ensures)
 
 same-length : tie.Need-same-length
 same-length c = search needs
@@ -28,7 +30,9 @@ same-length-3 : tie.Need-same-length-3
 same-length-3 c = search needs
 
 returns : tie.Need-returns
-returns c = load-exported (c .before .before .before .before .before .before .before .before .load .ensures) (c .before .number .ensures)
+returns c =
+    let load = c .before .before .before .before .before .before .before .before .load in
+    load-exported (load .ensures) (c .before .number .ensures)
 
 pub mishantral-load-spec : {M : Type 1} → statement M
 mishantral-load-spec = tie.close (tie.spec load-requires number-requires mul-result add-result same-length same-length-2 same-length-3 returns)

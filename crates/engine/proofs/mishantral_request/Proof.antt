@@ -17,7 +17,9 @@ mul-result : tie.Need-mul-result
 mul-result c = omega (arith, requested-small (c .before .before .before .before .before .before .before .before .request .ensures))
 
 add-result : tie.Need-add-result
-add-result c = omega (arith, requested-small (c .before .before .before .before .before .before .before .before .request .ensures), number-small (c .before .before .before .before .before .before .before .before .request .result .reply), c .before .number .ensures)
+add-result c =
+    let request = c .before .before .before .before .before .before .before .before .request in
+    omega (arith, requested-small (request .ensures), number-small (request .result .reply), c .before .number .ensures)
 
 same-length : tie.Need-same-length
 same-length c = search needs
@@ -29,7 +31,9 @@ same-length-3 : tie.Need-same-length-3
 same-length-3 c = search needs
 
 returns : tie.Need-returns
-returns c = request-exported (c .before .before .before .before .before .before .before .before .request .ensures) (c .before .number .ensures)
+returns c =
+    let request = c .before .before .before .before .before .before .before .before .request in
+    request-exported (request .ensures) (c .before .number .ensures)
 
 pub mishantral-request-spec : {M : Type 1} → statement M
 mishantral-request-spec =

@@ -14,7 +14,8 @@ returns-3 c = simp (ne-eqb _ 0 (c .before .before .if1 .left), ne-eqb _ 1 (c .be
 
 returns-4 : tie.Need-returns-4
 returns-4 c =
-    simp (ne-eqb _ 0 (c .before .before .before .if1 .left), ne-eqb _ 1 (c .before .before .if2 .left), ne-eqb _ 2 (c .before .if3 .left), eq-eqb _ 3 (c .if4 .taken))
+    let if1 = c .before .before .before .if1 in
+    simp (ne-eqb _ 0 (if1 .left), ne-eqb _ 1 (c .before .before .if2 .left), ne-eqb _ 2 (c .before .if3 .left), eq-eqb _ 3 (c .if4 .taken))
 
 returns-5 : tie.Need-returns-5
 returns-5 c =

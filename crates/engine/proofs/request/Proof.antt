@@ -34,20 +34,33 @@ plain-requires-2 c κs = search needs
 returns-2 : tie.Need-returns-2
 unfolding request
 returns-2 c =
+    let if1 = c .before .before .before .before .if1 in
+    let judge = c .before .before .before .judge in
+    let accepted = c .before .before .accepted in
     let z = c .before .before .before .before .before .before .before .before .before .args in
     let bytes = z .bytes .now in
     let t = tablesOf (buffers (z .policy .now) (z .sessions .now) (z .orders .now)) in
-    answered (c .before .before .before .before .if1 .left) (refused-answer requestForms bytes requestKinds t (c .before .before .before .judge .result) (c .before .before .before .judge .ensures) (c .before .before .accepted .ensures) (c .before .if2 .taken)) refl
-    (of-none (c .plain2 .ensures) (no-form requestForms bytes t (decode bytes) (c .before .before .before .judge .ensures)) refl) (not-granted (c .plain2 .ensures) (c .before .before .accepted .ensures) (c .before .if2 .taken)) (same-lengths refl refl refl)
+    answered (if1 .left) (refused-answer requestForms bytes requestKinds t (judge .result) (judge .ensures) (accepted .ensures) (c .before .if2 .taken)) refl
+    (of-none (c .plain2 .ensures) (no-form requestForms bytes t (decode bytes) (judge .ensures)) refl)
+    (not-granted (c .plain2 .ensures) (accepted .ensures) (c .before .if2 .taken)) (same-lengths refl refl refl)
 
 decode-requires : tie.Need-decode-requires
-decode-requires c κs = sized requestForms (c .before .before .before .before .before .before .before .before .args .bytes .now) (c .before .before .judge .result) (c .before .before .judge .ensures) (c .before .accepted .ensures) (c .if2 .left)
+decode-requires c κs =
+    let args = c .before .before .before .before .before .before .before .before .args in
+    let judge = c .before .before .judge in
+    sized requestForms (args .bytes .now) (judge .result) (judge .ensures) (c .before .accepted .ensures) (c .if2 .left)
 
 act-requires : tie.Need-act-requires
-act-requires c κs = (
-  lengths (buffers (c .before .before .before .before .before .before .before .before .before .before .before .before .args .policy .now) (c .before .before .before .before .before .before .before .before .before .before .before .before .args .sessions .now) (c .before .before .before .before .before .before .before .before .before .before .before .before .args .orders .now)) (c .before .before .before .before .before .before .before .if1 .left),
-  passed requestForms (c .before .before .before .before .before .before .before .before .before .before .before .before .args .bytes .now) (c .before .before .before .before .before .before .judge .result) (c .before .before .before .before .before .before .judge .ensures) (c .before .before .before .before .before .accepted .ensures) (c .before .before .before .before .if2 .left) (c .before .before .before .decode .ensures),
-)
+act-requires c κs =
+    let args = c .before .before .before .before .before .before .before .before .before .before .before .before .args in
+    let if1 = c .before .before .before .before .before .before .before .if1 in
+    let judge = c .before .before .before .before .before .before .judge in
+    let accepted = c .before .before .before .before .before .accepted in
+    let if2 = c .before .before .before .before .if2 in
+    let decode = c .before .before .before .decode in (
+      lengths (buffers (args .policy .now) (args .sessions .now) (args .orders .now)) (if1 .left),
+      passed requestForms (args .bytes .now) (judge .result) (judge .ensures) (accepted .ensures) (if2 .left) (decode .ensures),
+    )
 
 same-length : tie.Need-same-length
 same-length c = search needs
@@ -61,10 +74,18 @@ same-length-3 c = search needs
 returns-3 : tie.Need-returns-3
 unfolding request settled
 returns-3 c =
-    let z = c .before .before .before .before .before .before .before .before .before .before .before .before .before .before .before .before .before .before .before .args in
+    let if1 = c .before .before .before .before .before .before .before .before .before .before .before .before .before .before .if1 in
+    let judge = c .before .before .before .before .before .before .before .before .before .before .before .before .before .judge in
+    let accepted = c .before .before .before .before .before .before .before .before .before .before .before .before .accepted in
+    let if2 = c .before .before .before .before .before .before .before .before .before .before .before .if2 in
+    let decode = c .before .before .before .before .before .before .before .before .before .before .decode in
+    let act = c .before .before .before .before .before .before .act in
+    let z = c .before .before .before .before .before .before .before .before .before .before .before .before .before .before .before .before .before .before
+    .before .args in
     let t = tablesOf (buffers (z .policy .now) (z .sessions .now) (z .orders .now)) in
-    answered (c .before .before .before .before .before .before .before .before .before .before .before .before .before .before .if1 .left) (passed-answer requestForms (z .bytes .now) (c .before .before .before .before .before .before .before .before .before .before .before .before .before .judge .result) (c .before .before .before .before .before .before .before .before .before .before .before .before .before .judge .ensures) (c .before .before .before .before .before .before .before .before .before .before .before .before .accepted .ensures) (c .before .before .before .before .before .before .before .before .before .before .before .if2 .left) (c .before .before .before .before .before .before .before .before .before .before .decode .ensures) requestKinds t)
-    (c .before .before .before .before .before .before .before .before .before .before .decode .ensures .reads) (c .before .before .before .before .before .before .act .ensures .0) (c .before .before .before .before .before .before .act .ensures .1) (same-lengths (same-length c) (same-length-2 c) (same-length-3 c))
+    answered (if1 .left)
+    (passed-answer requestForms (z .bytes .now) (judge .result) (judge .ensures) (accepted .ensures) (if2 .left) (decode .ensures) requestKinds t)
+    (decode .ensures .reads) (act .ensures .0) (act .ensures .1) (same-lengths (same-length c) (same-length-2 c) (same-length-3 c))
 
 pub request-spec : {M : Type 1} → statement M
 request-spec =

@@ -10,25 +10,41 @@ use Rattle.policy.proofs.clear.Reads as clear-reads′
 use Rattle.sessions.proofs.clear.Reads as clear-reads′′
 
 returns : tie.Need-returns
-returns c = no-settle (buffers (c .before .before .before .before .args .policy .now) (c .before .before .before .before .args .sessions .now) (c .before .before .before .before .args .orders .now)) (c .if1 .taken)
+returns c =
+    let args = c .before .before .before .before .args in
+    no-settle (buffers (args .policy .now) (args .sessions .now) (args .orders .now)) (c .if1 .taken)
 
 is-sound-requires : tie.Need-is-sound-requires
-is-sound-requires c κs = lengths (buffers (c .before .before .before .before .before .args .policy .now) (c .before .before .before .before .before .args .sessions .now) (c .before .before .before .before .before .args .orders .now)) (c .before .if1 .left) .1 .1
+is-sound-requires c κs =
+    let args = c .before .before .before .before .before .args in
+    lengths (buffers (args .policy .now) (args .sessions .now) (args .orders .now)) (c .before .if1 .left) .1 .1
 
 same-length : tie.Need-same-length
 same-length c = search needs
 
 returns-2 : tie.Need-returns-2
-returns-2 c = settled-sound (buffers (c .before .before .before .before .before .before .before .args .policy .now) (c .before .before .before .before .before .before .before .args .sessions .now) (c .before .before .before .before .before .before .before .args .orders .now)) (c .before .before .before .if1 .left) (sym (c .before .is-sound .ensures) ∙ c .if2 .taken)
+returns-2 c =
+    let args = c .before .before .before .before .before .before .before .args in
+    let if1 = c .before .before .before .if1 in
+    settled-sound (buffers (args .policy .now) (args .sessions .now) (args .orders .now)) (if1 .left) (sym (c .before .is-sound .ensures) ∙ c .if2 .taken)
 
 clear-requires : tie.Need-clear-requires
-clear-requires c κs = lengths (buffers (c .before .before .before .before .before .before .before .before .args .policy .now) (c .before .before .before .before .before .before .before .before .args .sessions .now) (c .before .before .before .before .before .before .before .before .args .orders .now)) (c .before .before .before .before .if1 .left) .0
+clear-requires c κs =
+    let args = c .before .before .before .before .before .before .before .before .args in
+    let if1 = c .before .before .before .before .if1 in
+    lengths (buffers (args .policy .now) (args .sessions .now) (args .orders .now)) (if1 .left) .0
 
 clear-requires-2 : tie.Need-clear-requires-2
-clear-requires-2 c κs = lengths (buffers (c .before .before .before .before .before .before .before .before .before .before .before .before .args .policy .now) (c .before .before .before .before .before .before .before .before .before .before .before .before .args .sessions .now) (c .before .before .before .before .before .before .before .before .before .before .before .before .args .orders .now)) (c .before .before .before .before .before .before .before .before .if1 .left) .1 .0
+clear-requires-2 c κs =
+    let args = c .before .before .before .before .before .before .before .before .before .before .before .before .args in
+    let if1 = c .before .before .before .before .before .before .before .before .if1 in
+    lengths (buffers (args .policy .now) (args .sessions .now) (args .orders .now)) (if1 .left) .1 .0
 
 clear-requires-3 : tie.Need-clear-requires-3
-clear-requires-3 c κs = lengths (buffers (c .before .before .before .before .before .before .before .before .before .before .before .before .before .before .before .before .args .policy .now) (c .before .before .before .before .before .before .before .before .before .before .before .before .before .before .before .before .args .sessions .now) (c .before .before .before .before .before .before .before .before .before .before .before .before .before .before .before .before .args .orders .now)) (c .before .before .before .before .before .before .before .before .before .before .before .before .if1 .left) .1 .1
+clear-requires-3 c κs =
+    let args = c .before .before .before .before .before .before .before .before .before .before .before .before .before .before .before .before .args in
+    let if1 = c .before .before .before .before .before .before .before .before .before .before .before .before .if1 in
+    lengths (buffers (args .policy .now) (args .sessions .now) (args .orders .now)) (if1 .left) .1 .1
 
 same-length-2 : tie.Need-same-length-2
 same-length-2 c = search needs
@@ -40,7 +56,16 @@ same-length-4 : tie.Need-same-length-4
 same-length-4 c = search needs
 
 returns-3 : tie.Need-returns-3
-returns-3 c = settled-broken (c .before .before .before .before .before .before .before .before .before .before .before .before .before .before .before .before .before .before .before .args .policy .now) (c .before .before .before .before .before .before .before .before .before .before .before .before .before .before .before .before .before .before .before .args .sessions .now) (c .before .before .before .before .before .before .before .before .before .before .before .before .before .before .before .before .before .before .before .args .orders .now) _ _ _ (c .before .before .before .before .before .before .before .before .before .before .before .before .before .before .before .if1 .left) (sym (c .before .before .before .before .before .before .before .before .before .before .before .before .before .is-sound .ensures) ∙ c .before .before .before .before .before .before .before .before .before .before .before .before .if2 .left) (c .before .before .before .before .before .before .before .before .before .before .clear .ensures) (c .before .before .before .before .before .before .clear2 .ensures) (c .before .before .clear3 .ensures)
+returns-3 c =
+    let args = c .before .before .before .before .before .before .before .before .before .before .before .before .before .before .before .before .before .before
+    .before .args in
+    let if1 = c .before .before .before .before .before .before .before .before .before .before .before .before .before .before .before .if1 in
+    let is-sound = c .before .before .before .before .before .before .before .before .before .before .before .before .before .is-sound in
+    let if2 = c .before .before .before .before .before .before .before .before .before .before .before .before .if2 in
+    let clear = c .before .before .before .before .before .before .before .before .before .before .clear in
+    let clear2 = c .before .before .before .before .before .before .clear2 in
+    settled-broken (args .policy .now) (args .sessions .now) (args .orders .now) _ _ _ (if1 .left) (sym (is-sound .ensures) ∙ if2 .left) (clear .ensures)
+    (clear2 .ensures) (c .before .before .clear3 .ensures)
 
 pub settle-spec : {M : Type 1} → statement M
 settle-spec =

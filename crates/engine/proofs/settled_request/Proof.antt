@@ -7,7 +7,7 @@ use Rattle.paper_lower.specs.Forms.{requestForms}
 use Rattle.paper_upper.specs.Engine.{requestKinds, request}
 use Rattle.records.specs.Calls.{settled}
 use Rattle.records.proofs.Passing.{refused-answer, sized, passed, passed-answer}
-use Rattle.rules.proofs.PlaceLaws.{plain-place}
+use Rattle.order_rules.proofs.PlaceLaws.{plain-place}
 use Rattle.engine.specs.Buffers.{buffers, tablesOf}
 use Rattle.engine.proofs.Lifts.{of-none}
 use Rattle.engine.proofs.PlaceLaws.{no-form}
@@ -37,21 +37,35 @@ plain-requires-2 c κs = search needs
 returns-2 : tie.Need-returns-2
 unfolding request
 returns-2 c =
+    let if1 = c .before .before .before .before .if1 in
+    let judge = c .before .before .before .judge in
+    let accepted = c .before .before .accepted in
     let z = c .before .before .before .before .before .before .before .before .before .args in
     let bytes = z .bytes .now in
     let x = buffers (z .policy .now) (z .sessions .now) (z .orders .now) in
-    settled-refused bytes x (c .before .before .before .before .if1 .left) (plain-place (c .plain2 .ensures))
-    (answered (c .before .before .before .before .if1 .left) (refused-answer requestForms bytes requestKinds (tablesOf x) (c .before .before .before .judge .result) (c .before .before .before .judge .ensures) (c .before .before .accepted .ensures) (c .before .if2 .taken)) refl
-    (of-none (c .plain2 .ensures) (no-form requestForms bytes (tablesOf x) (decode bytes) (c .before .before .before .judge .ensures)) refl) (not-granted (c .plain2 .ensures) (c .before .before .accepted .ensures) (c .before .if2 .taken)) (same-lengths refl refl refl))
+    settled-refused bytes x (if1 .left) (plain-place (c .plain2 .ensures))
+    (answered (if1 .left)
+    (refused-answer requestForms bytes requestKinds (tablesOf x) (judge .result) (judge .ensures) (accepted .ensures) (c .before .if2 .taken)) refl
+    (of-none (c .plain2 .ensures) (no-form requestForms bytes (tablesOf x) (decode bytes) (judge .ensures)) refl)
+    (not-granted (c .plain2 .ensures) (accepted .ensures) (c .before .if2 .taken)) (same-lengths refl refl refl))
 
 decode-requires : tie.Need-decode-requires
-decode-requires c κs = sized requestForms (c .before .before .before .before .before .before .before .before .args .bytes .now) (c .before .before .judge .result) (c .before .before .judge .ensures) (c .before .accepted .ensures) (c .if2 .left)
+decode-requires c κs =
+    let args = c .before .before .before .before .before .before .before .before .args in
+    let judge = c .before .before .judge in
+    sized requestForms (args .bytes .now) (judge .result) (judge .ensures) (c .before .accepted .ensures) (c .if2 .left)
 
 step-requires : tie.Need-step-requires
-step-requires c κs = (
-  lengths (buffers (c .before .before .before .before .before .before .before .before .before .before .before .before .args .policy .now) (c .before .before .before .before .before .before .before .before .before .before .before .before .args .sessions .now) (c .before .before .before .before .before .before .before .before .before .before .before .before .args .orders .now)) (c .before .before .before .before .before .before .before .if1 .left),
-  passed requestForms (c .before .before .before .before .before .before .before .before .before .before .before .before .args .bytes .now) (c .before .before .before .before .before .before .judge .result) (c .before .before .before .before .before .before .judge .ensures) (c .before .before .before .before .before .accepted .ensures) (c .before .before .before .before .if2 .left) (c .before .before .before .decode .ensures),
-)
+step-requires c κs =
+    let args = c .before .before .before .before .before .before .before .before .before .before .before .before .args in
+    let if1 = c .before .before .before .before .before .before .before .if1 in
+    let judge = c .before .before .before .before .before .before .judge in
+    let accepted = c .before .before .before .before .before .accepted in
+    let if2 = c .before .before .before .before .if2 in
+    let decode = c .before .before .before .decode in (
+      lengths (buffers (args .policy .now) (args .sessions .now) (args .orders .now)) (if1 .left),
+      passed requestForms (args .bytes .now) (judge .result) (judge .ensures) (accepted .ensures) (if2 .left) (decode .ensures),
+    )
 
 same-length : tie.Need-same-length
 same-length c = search needs
@@ -65,14 +79,22 @@ same-length-3 c = search needs
 returns-3 : tie.Need-returns-3
 unfolding request settled
 returns-3 c =
-    let z = c .before .before .before .before .before .before .before .before .before .before .before .before .before .before .before .before .before .before .before .args in
+    let if1 = c .before .before .before .before .before .before .before .before .before .before .before .before .before .before .if1 in
+    let judge = c .before .before .before .before .before .before .before .before .before .before .before .before .before .judge in
+    let accepted = c .before .before .before .before .before .before .before .before .before .before .before .before .accepted in
+    let if2 = c .before .before .before .before .before .before .before .before .before .before .before .if2 in
+    let decode = c .before .before .before .before .before .before .before .before .before .before .decode in
+    let step = c .before .before .before .before .before .before .step in
+    let z = c .before .before .before .before .before .before .before .before .before .before .before .before .before .before .before .before .before .before
+    .before .args in
     let bytes = z .bytes .now in
     let x = buffers (z .policy .now) (z .sessions .now) (z .orders .now) in
     let l = same-lengths (same-length c) (same-length-2 c) (same-length-3 c) in
-    settled-step bytes x _ (c .before .before .before .before .before .before .before .before .before .before .decode .result) (c .before .before .before .before .before .before .before .before .before .before .before .before .before .before .if1 .left) l (c .before .before .before .before .before .before .step .ensures)
+    settled-step bytes x _ (decode .result) (if1 .left) l (step .ensures)
     (λ d s.
-    answered (c .before .before .before .before .before .before .before .before .before .before .before .before .before .before .if1 .left) (passed-answer requestForms bytes (c .before .before .before .before .before .before .before .before .before .before .before .before .before .judge .result) (c .before .before .before .before .before .before .before .before .before .before .before .before .before .judge .ensures) (c .before .before .before .before .before .before .before .before .before .before .before .before .accepted .ensures) (c .before .before .before .before .before .before .before .before .before .before .before .if2 .left) (c .before .before .before .before .before .before .before .before .before .before .decode .ensures) requestKinds (tablesOf x))
-    (c .before .before .before .before .before .before .before .before .before .before .decode .ensures .reads) (sound-step (c .before .before .before .before .before .before .before .before .before .before .decode .result) x _ s d) (λ _. d .1) l)
+    answered (if1 .left)
+    (passed-answer requestForms bytes (judge .result) (judge .ensures) (accepted .ensures) (if2 .left) (decode .ensures) requestKinds (tablesOf x))
+    (decode .ensures .reads) (sound-step (decode .result) x _ s d) (λ _. d .1) l)
 
 pub settled-request-spec : {M : Type 1} → statement M
 settled-request-spec =

@@ -12,7 +12,9 @@ use Rattle.lower.proofs.request.Statement.{statement}
 use Rattle.lower.proofs.request.Tie as tie
 
 returns : tie.Need-returns
-returns c = no-room (c .before .before .before .before .args .bytes .now) (c .before .before .before .before .args .p .now) (c .before .before .before .before .args .s .now) (c .if1 .taken)
+returns c =
+    let args = c .before .before .before .before .args in
+    no-room (args .bytes .now) (args .p .now) (args .s .now) (c .if1 .taken)
 
 judge-requires : tie.Need-judge-requires
 judge-requires c κs = search needs
@@ -23,17 +25,29 @@ accepted-requires c κs = search needs
 returns-2 : tie.Need-returns-2
 unfolding lowerRequest
 returns-2 c =
-    answered (c .before .before .before .if1 .left)
-    (refused-answer lowerForms (c .before .before .before .before .before .before .before .args .bytes .now) lowerKinds (lowerTables (c .before .before .before .before .before .before .before .args .p .now) (c .before .before .before .before .before .before .before .args .s .now)) (c .before .before .judge .result) (c .before .before .judge .ensures) (c .before .accepted .ensures) (c .if2 .taken))
+    let args = c .before .before .before .before .before .before .before .args in
+    let if1 = c .before .before .before .if1 in
+    let judge = c .before .before .judge in
+    answered (if1 .left)
+    (refused-answer lowerForms (args .bytes .now) lowerKinds (lowerTables (args .p .now) (args .s .now)) (judge .result) (judge .ensures)
+    (c .before .accepted .ensures) (c .if2 .taken))
     (of-neither refl) (refl, refl)
 
 decode-requires : tie.Need-decode-requires
-decode-requires c κs = sized lowerForms (c .before .before .before .before .before .before .before .args .bytes .now) (c .before .before .judge .result) (c .before .before .judge .ensures) (c .before .accepted .ensures) (c .if2 .left)
+decode-requires c κs =
+    let args = c .before .before .before .before .before .before .before .args in
+    let judge = c .before .before .judge in
+    sized lowerForms (args .bytes .now) (judge .result) (judge .ensures) (c .before .accepted .ensures) (c .if2 .left)
 
 step-requires : tie.Need-step-requires
 step-requires c κs =
-    let l = lengths (c .before .before .before .before .before .before .before .before .before .before .args .p .now) (c .before .before .before .before .before .before .before .before .before .before .args .s .now) (c .before .before .before .before .before .before .if1 .left) in
-    (l .0, (l .1, passed lowerForms (c .before .before .before .before .before .before .before .before .before .before .args .bytes .now) (c .before .before .before .before .before .judge .result) (c .before .before .before .before .before .judge .ensures) (c .before .before .before .before .accepted .ensures) (c .before .before .before .if2 .left) (c .before .before .decode .ensures)))
+    let args = c .before .before .before .before .before .before .before .before .before .before .args in
+    let if1 = c .before .before .before .before .before .before .if1 in
+    let judge = c .before .before .before .before .before .judge in
+    let accepted = c .before .before .before .before .accepted in
+    let if2 = c .before .before .before .if2 in
+    let l = lengths (args .p .now) (args .s .now) (if1 .left) in
+    (l .0, (l .1, passed lowerForms (args .bytes .now) (judge .result) (judge .ensures) (accepted .ensures) (if2 .left) (c .before .before .decode .ensures)))
 
 same-length : tie.Need-same-length
 same-length c = search needs
@@ -44,9 +58,17 @@ same-length-2 c = search needs
 returns-3 : tie.Need-returns-3
 unfolding lowerRequest settled
 returns-3 c =
-    answered (c .before .before .before .before .before .before .before .before .before .before .before .if1 .left)
-    (passed-answer lowerForms (c .before .before .before .before .before .before .before .before .before .before .before .before .before .before .before .args .bytes .now) (c .before .before .before .before .before .before .before .before .before .before .judge .result) (c .before .before .before .before .before .before .before .before .before .before .judge .ensures) (c .before .before .before .before .before .before .before .before .before .accepted .ensures) (c .before .before .before .before .before .before .before .before .if2 .left) (c .before .before .before .before .before .before .before .decode .ensures) lowerKinds (lowerTables (c .before .before .before .before .before .before .before .before .before .before .before .before .before .before .before .args .p .now) (c .before .before .before .before .before .before .before .before .before .before .before .before .before .before .before .args .s .now)))
-    (c .before .before .before .before .step .ensures) (same-length c, same-length-2 c)
+    let args = c .before .before .before .before .before .before .before .before .before .before .before .before .before .before .before .args in
+    let if1 = c .before .before .before .before .before .before .before .before .before .before .before .if1 in
+    let judge = c .before .before .before .before .before .before .before .before .before .before .judge in
+    let accepted = c .before .before .before .before .before .before .before .before .before .accepted in
+    let if2 = c .before .before .before .before .before .before .before .before .if2 in
+    let decode = c .before .before .before .before .before .before .before .decode in
+    let step = c .before .before .before .before .step in
+    answered (if1 .left)
+    (passed-answer lowerForms (args .bytes .now) (judge .result) (judge .ensures) (accepted .ensures) (if2 .left) (decode .ensures) lowerKinds
+    (lowerTables (args .p .now) (args .s .now)))
+    (step .ensures) (same-length c, same-length-2 c)
 
 pub request-spec : {M : Type 1} → statement M
 request-spec =

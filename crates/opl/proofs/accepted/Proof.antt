@@ -12,7 +12,9 @@ refused-requires : tie.Need-refused-requires
 refused-requires c κs = search needs
 
 returns : tie.Need-returns
-returns c = rw (c .refused .ensures) (no-scratch (now (c .before .before .before .before .before .before .args .s)) (now (c .before .before .before .before .before .before .args .t)) (length (now (c .before .before .before .before .before .before .args .w))) (now (c .before .before .before .before .before .before .args .out)) (c .before .if1 .taken))
+returns c =
+    let args = c .before .before .before .before .before .before .args in
+    rw (c .refused .ensures) (no-scratch (now (args .s)) (now (args .t)) (length (now (args .w))) (now (args .out)) (c .before .if1 .taken))
 
 prolog-requires : tie.Need-prolog-requires
 prolog-requires c κs = search needs
@@ -27,10 +29,25 @@ refused-requires-2 : tie.Need-refused-requires-2
 refused-requires-2 c κs = search needs
 
 returns-2 : tie.Need-returns-2
-returns-2 c = never-begun (now (c .before .before .before .before .before .before .before .before .before .args .s)) (now (c .before .before .before .before .before .before .before .before .before .args .t)) (c .before .before .before .before .before .before .before .before .before .pre) (c .before .before .before .prolog .result) (c .before .before .before .prolog .ensures) (c .before .enum-told .given .0 .0) (c .before .enum-told .given .1)
+returns-2 c =
+    let args = c .before .before .before .before .before .before .before .before .before .args in
+    let pre = c .before .before .before .before .before .before .before .before .before .pre in
+    let prolog = c .before .before .before .prolog in
+    never-begun (now (args .s)) (now (args .t)) pre (prolog .result) (prolog .ensures) (c .before .enum-told .given .0 .0) (c .before .enum-told .given .1)
 
 name-all-requires : tie.Need-name-all-requires
-name-all-requires c κs = (c .before .before .before .before .before .if1 .left, (begins-inside (now (c .before .before .before .before .before .before .before .before .before .before .args .s)) (now (c .before .before .before .before .before .before .before .before .before .before .args .t)) (c .before .before .before .before .before .before .before .before .before .before .pre) (c .before .before .before .before .prolog .result) (c .before .before .before .before .prolog .ensures) (c .before .before .p .given .0 .0) (c .before .before .p .given .1), (begins-there (now (c .before .before .before .before .before .before .before .before .before .before .args .s)) (now (c .before .before .before .before .before .before .before .before .before .before .args .t)) (c .before .before .before .before .before .before .before .before .before .before .pre) (c .before .before .before .before .prolog .result) (c .before .before .before .before .prolog .ensures) (c .before .before .p .given .0 .0) (c .before .before .p .given .1), c .before .before .before .before .before .before .before .before .before .before .pre .task-lines)))
+name-all-requires c κs =
+    let args = c .before .before .before .before .before .before .before .before .before .before .args in
+    let pre = c .before .before .before .before .before .before .before .before .before .before .pre in
+    let if1 = c .before .before .before .before .before .if1 in
+    let prolog = c .before .before .before .before .prolog in
+    let p = c .before .before .p in (
+      if1 .left,
+      (
+        begins-inside (now (args .s)) (now (args .t)) pre (prolog .result) (prolog .ensures) (p .given .0 .0) (p .given .1),
+        (begins-there (now (args .s)) (now (args .t)) pre (prolog .result) (prolog .ensures) (p .given .0 .0) (p .given .1), pre .task-lines),
+      ),
+    )
 
 refused-requires-3 : tie.Need-refused-requires-3
 refused-requires-3 c κs = search needs
@@ -39,10 +56,24 @@ same-length : tie.Need-same-length
 same-length c = search needs
 
 returns-3 : tie.Need-returns-3
-returns-3 c = rw (c .refused3 .ensures) (with-scratch (now (c .before .before .before .before .before .before .before .before .before .before .before .before .before .before .before .args .s)) (now (c .before .before .before .before .before .before .before .before .before .before .before .before .before .before .before .args .t)) (length (now (c .before .before .before .before .before .before .before .before .before .before .before .before .before .before .before .args .w))) (now (c .before .before .before .before .before .before .before .before .before .before .before .before .before .before .before .args .out)) (now (c .before .before .before .before .before .before .before .before .before .before .before .before .before .before .before .args .out)) (refusal 22) (c .before .before .before .before .before .before .before .before .before .before .if1 .left) (too-long (now (c .before .before .before .before .before .before .before .before .before .before .before .before .before .before .before .args .s)) (now (c .before .before .before .before .before .before .before .before .before .before .before .before .before .before .before .args .t)) (now (c .before .before .before .before .before .before .before .before .before .before .before .before .before .before .before .args .out)) (c .before .before .before .before .before .before .before .before .before .before .before .before .before .before .before .pre) (rw (not-true (c .before .before .before .before .name-all .result) (c .before .if2 .taken)) at (c .before .before .before .before .name-all .ensures))))
+returns-3 c =
+    let args = c .before .before .before .before .before .before .before .before .before .before .before .before .before .before .before .args in
+    let pre = c .before .before .before .before .before .before .before .before .before .before .before .before .before .before .before .pre in
+    let if1 = c .before .before .before .before .before .before .before .before .before .before .if1 in
+    let name-all = c .before .before .before .before .name-all in
+    rw (c .refused3 .ensures) (with-scratch (now (args .s)) (now (args .t)) (length (now (args .w))) (now (args .out)) (now (args .out)) (refusal 22)
+    (if1 .left)
+    (too-long (now (args .s)) (now (args .t)) (now (args .out)) pre (rw (not-true (name-all .result) (c .before .if2 .taken)) at (name-all .ensures))))
 
 records-requires : tie.Need-records-requires
-records-requires c κs = ready (now (c .before .before .before .before .before .before .before .before .before .before .before .before .before .before .before .before .args .s)) (now (c .before .before .before .before .before .before .before .before .before .before .before .before .before .before .before .before .args .t)) (c .before .before .before .before .before .before .before .before .before .before .before .before .before .before .before .before .pre) (c .before .before .before .before .before .before .before .before .before .before .prolog .result) (c .before .before .before .before .before .before .before .before .before .before .prolog .ensures) (c .before .before .before .before .before .before .before .before .p .given .0 .0) (c .before .before .before .before .before .before .before .before .p .given .1) (c .before .before .before .before .before .name-all .last .1 .1 .0) (rw (not-false (c .before .before .before .before .before .name-all .result) (c .before .before .if2 .left)) at (c .before .before .before .before .before .name-all .ensures))
+records-requires c κs =
+    let args = c .before .before .before .before .before .before .before .before .before .before .before .before .before .before .before .before .args in
+    let pre = c .before .before .before .before .before .before .before .before .before .before .before .before .before .before .before .before .pre in
+    let prolog = c .before .before .before .before .before .before .before .before .before .before .prolog in
+    let p = c .before .before .before .before .before .before .before .before .p in
+    let name-all = c .before .before .before .before .before .name-all in
+    ready (now (args .s)) (now (args .t)) pre (prolog .result) (prolog .ensures) (p .given .0 .0) (p .given .1) (name-all .last .1 .1 .0)
+    (rw (not-false (name-all .result) (c .before .before .if2 .left)) at (name-all .ensures))
 
 same-length-2 : tie.Need-same-length-2
 same-length-2 c = search needs
@@ -51,7 +82,13 @@ same-length-3 : tie.Need-same-length-3
 same-length-3 c = search needs
 
 returns-4 : tie.Need-returns-4
-returns-4 c = with-scratch (now (c .before .before .before .before .before .before .before .before .before .before .before .before .before .before .before .before .before .before .before .before .before .args .s)) (now (c .before .before .before .before .before .before .before .before .before .before .before .before .before .before .before .before .before .before .before .before .before .args .t)) (length (now (c .before .before .before .before .before .before .before .before .before .before .before .before .before .before .before .before .before .before .before .before .before .args .w))) (now (c .before .before .before .before .before .before .before .before .before .before .before .before .before .before .before .before .before .before .before .before .before .args .out)) (c .before .before .before .before .records .last .1 .1 .0) (c .before .before .before .before .records .result) (c .before .before .before .before .before .before .before .before .before .before .before .before .before .before .before .before .if1 .left) (c .before .before .before .before .records .ensures)
+returns-4 c =
+    let args = c .before .before .before .before .before .before .before .before .before .before .before .before .before .before .before .before .before .before
+    .before .before .before .args in
+    let if1 = c .before .before .before .before .before .before .before .before .before .before .before .before .before .before .before .before .if1 in
+    let records = c .before .before .before .before .records in
+    with-scratch (now (args .s)) (now (args .t)) (length (now (args .w))) (now (args .out)) (records .last .1 .1 .0) (records .result) (if1 .left)
+    (records .ensures)
 
 pub accepted-spec : {M : Type 1} → statement M
 accepted-spec =

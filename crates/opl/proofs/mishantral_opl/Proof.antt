@@ -17,13 +17,31 @@ mul-result : tie.Need-mul-result
 mul-result c = search needs
 
 add-result : tie.Need-add-result
-add-result c = let b = small-reply (now (c .before .before .before .before .before .before .before .before .before .before .before .before .before .args .policy)) (now (c .before .before .before .before .before .before .before .before .before .before .before .before .before .args .lines)) (length (now (c .before .before .before .before .before .before .before .before .before .before .before .before .before .args .scratch))) (now (c .before .before .before .before .before .before .before .before .before .before .before .before .before .args .output)) (c .before .before .before .before .before .before .translate .last .1 .1 .0) (c .before .before .before .before .before .before .translate .result) (c .before .before .before .before .before .before .translate .ensures) in omega (arith, b .0, b .1)
+add-result c =
+    let b =
+    let args = c .before .before .before .before .before .before .before .before .before .before .before .before .before .args in
+    let translate = c .before .before .before .before .before .before .translate in
+    small-reply (now (args .policy)) (now (args .lines)) (length (now (args .scratch))) (now (args .output)) (translate .last .1 .1 .0) (translate .result)
+    (translate .ensures) in
+    omega (arith, b .0, b .1)
 
 mul-result-2 : tie.Need-mul-result-2
-mul-result-2 c = let b = small-reply (now (c .before .before .before .before .before .before .before .before .before .before .before .before .before .args .policy)) (now (c .before .before .before .before .before .before .before .before .before .before .before .before .before .args .lines)) (length (now (c .before .before .before .before .before .before .before .before .before .before .before .before .before .args .scratch))) (now (c .before .before .before .before .before .before .before .before .before .before .before .before .before .args .output)) (c .before .before .before .before .before .before .translate .last .1 .1 .0) (c .before .before .before .before .before .before .translate .result) (c .before .before .before .before .before .before .translate .ensures) in omega (arith, b .0, b .1)
+mul-result-2 c =
+    let b =
+    let args = c .before .before .before .before .before .before .before .before .before .before .before .before .before .args in
+    let translate = c .before .before .before .before .before .before .translate in
+    small-reply (now (args .policy)) (now (args .lines)) (length (now (args .scratch))) (now (args .output)) (translate .last .1 .1 .0) (translate .result)
+    (translate .ensures) in
+    omega (arith, b .0, b .1)
 
 add-result-2 : tie.Need-add-result-2
-add-result-2 c = let b = small-reply (now (c .before .before .before .before .before .before .before .before .before .before .before .before .before .before .args .policy)) (now (c .before .before .before .before .before .before .before .before .before .before .before .before .before .before .args .lines)) (length (now (c .before .before .before .before .before .before .before .before .before .before .before .before .before .before .args .scratch))) (now (c .before .before .before .before .before .before .before .before .before .before .before .before .before .before .args .output)) (c .before .before .before .before .before .before .before .translate .last .1 .1 .0) (c .before .before .before .before .before .before .before .translate .result) (c .before .before .before .before .before .before .before .translate .ensures) in omega (arith, b .0, b .1)
+add-result-2 c =
+    let b =
+    let args = c .before .before .before .before .before .before .before .before .before .before .before .before .before .before .args in
+    let translate = c .before .before .before .before .before .before .before .translate in
+    small-reply (now (args .policy)) (now (args .lines)) (length (now (args .scratch))) (now (args .output)) (translate .last .1 .1 .0) (translate .result)
+    (translate .ensures) in
+    omega (arith, b .0, b .1)
 
 same-length : tie.Need-same-length
 same-length c = search needs
@@ -32,7 +50,11 @@ same-length-2 : tie.Need-same-length-2
 same-length-2 c = search needs
 
 returns : tie.Need-returns
-returns c = rw (c .before .before .shown .ensures) (exported (now (c .before .before .before .before .before .before .before .before .before .before .before .before .before .before .args .policy)) (now (c .before .before .before .before .before .before .before .before .before .before .before .before .before .before .args .lines)) (length (now (c .before .before .before .before .before .before .before .before .before .before .before .before .before .before .args .scratch))) (now (c .before .before .before .before .before .before .before .before .before .before .before .before .before .before .args .output)) (c .before .before .before .before .before .before .before .translate .last .1 .1 .0) (c .before .before .before .before .before .before .before .translate .result) (c .before .before .before .before .before .before .before .translate .ensures))
+returns c =
+    let args = c .before .before .before .before .before .before .before .before .before .before .before .before .before .before .args in
+    let translate = c .before .before .before .before .before .before .before .translate in
+    rw (c .before .before .shown .ensures) (exported (now (args .policy)) (now (args .lines)) (length (now (args .scratch))) (now (args .output))
+    (translate .last .1 .1 .0) (translate .result) (translate .ensures))
 
 pub mishantral-opl-spec : {M : Type 1} → statement M
 mishantral-opl-spec =

@@ -24,10 +24,15 @@ same-length : tie.Need-same-length
 same-length c = search needs
 
 returns : tie.Need-returns
-returns c = rw (c .refused .ensures) (no-line (now (c .before .before .before .before .before .before .before .before .before .args .s)) (now (c .before .before .before .before .before .before .before .before .before .args .t)) (now (c .before .before .before .before .before .before .before .before .before .args .out)) (rw (c .before .enum-told .given .1) at (c .before .before .before .check-lines .ensures)))
+returns c =
+    let args = c .before .before .before .before .before .before .before .before .before .args in
+    let check-lines = c .before .before .before .check-lines in
+    rw (c .refused .ensures) (no-line (now (args .s)) (now (args .t)) (now (args .out)) (rw (c .before .enum-told .given .1) at (check-lines .ensures)))
 
 check-tags-requires : tie.Need-check-tags-requires
-check-tags-requires c κs = (c .before .before .before .before .before .before .before .before .before .before .before .pre .held, ((c .before .before .before .before .before .before .before .before .before .before .before .pre .inside, c .before .before .before .before .before .before .before .before .before .before .before .pre .leads), (c .before .before .before .before .before .before .before .before .before .before .before .pre .small, (refl, zeros-at 17))))
+check-tags-requires c κs =
+    let pre = c .before .before .before .before .before .before .before .before .before .before .before .pre in
+    (pre .held, ((pre .inside, pre .leads), (pre .small, (refl, zeros-at 17))))
 
 enum-known-k : tie.Need-enum-known-k
 enum-known-k c = search needs
@@ -42,13 +47,29 @@ same-length-2 : tie.Need-same-length-2
 same-length-2 c = search needs
 
 returns-2 : tie.Need-returns-2
-returns-2 c = rw (c .refused2 .ensures) (no-tag (now (c .before .before .before .before .before .before .before .before .before .before .before .before .before .before .before .before .before .args .s)) (now (c .before .before .before .before .before .before .before .before .before .before .before .before .before .before .before .before .before .args .t)) (now (c .before .before .before .before .before .before .before .before .before .before .before .before .before .before .before .before .before .args .out)) (c .before .before .before .before .before .before .before .before .before .before .before .before .before .before .before .before .before .args .from) (c .before .before .before .before .before .before .before .before .before .before .before .before .before .before .before .before .before .pre .tags-are) (replicate 17 0) (c .before .before .before .before .before .check-tags .last .1 .1 .1 .0) (rw (c .before .enum-told2 .given .1) at (c .before .before .before .before .before .check-tags .ensures)))
+returns-2 c =
+    let args = c .before .before .before .before .before .before .before .before .before .before .before .before .before .before .before .before .before
+    .args in
+    let pre = c .before .before .before .before .before .before .before .before .before .before .before .before .before .before .before .before .before .pre in
+    let check-tags = c .before .before .before .before .before .check-tags in
+    rw (c .refused2 .ensures) (no-tag (now (args .s)) (now (args .t)) (now (args .out)) (args .from) (pre .tags-are) (replicate 17 0)
+    (check-tags .last .1 .1 .1 .0) (rw (c .before .enum-told2 .given .1) at (check-tags .ensures)))
 
 array-write-counts : tie.Need-array-write-counts
 array-write-counts c = search needs
 
 begin-requires : tie.Need-begin-requires
-begin-requires c κs = room₂ (now (c .before .before .before .before .before .before .before .before .before .before .before .before .before .before .before .before .before .before .args .s)) (now (c .before .before .before .before .before .before .before .before .before .before .before .before .before .before .before .before .before .before .args .t)) (now (c .before .before .before .before .before .before .before .before .before .before .before .before .before .before .before .before .before .before .args .out)) (c .before .before .before .before .before .before .before .before .before .before .before .before .before .before .before .before .before .before .args .from) (c .before .before .before .before .before .before .before .before .before .before .before .before .before .before .before .before .before .before .pre .tags-are) (replicate 17 0) (c .before .before .before .before .before .before .check-tags .last .1 .1 .1 .0) ((rw (c .before .before .before .before .before .before .before .before .before .before .l .given .1) at (c .before .before .before .before .before .before .before .before .before .before .before .before .check-lines .ensures)) .0) refl (zeros-at 17) ((rw (c .before .before .k .given .1) at (c .before .before .before .before .before .before .check-tags .ensures)) .0) (c .before .before .before .before .before .before .before .before .before .before .l .given .0 .0) ((rw (c .before .before .before .before .before .before .before .before .before .before .l .given .1) at (c .before .before .before .before .before .before .before .before .before .before .before .before .check-lines .ensures)) .1 .0)
+begin-requires c κs =
+    let args = c .before .before .before .before .before .before .before .before .before .before .before .before .before .before .before .before .before .before
+    .args in
+    let pre = c .before .before .before .before .before .before .before .before .before .before .before .before .before .before .before .before .before .before
+    .pre in
+    let check-lines = c .before .before .before .before .before .before .before .before .before .before .before .before .check-lines in
+    let l = c .before .before .before .before .before .before .before .before .before .before .l in
+    let check-tags = c .before .before .before .before .before .before .check-tags in
+    room₂ (now (args .s)) (now (args .t)) (now (args .out)) (args .from) (pre .tags-are) (replicate 17 0) (check-tags .last .1 .1 .1 .0)
+    ((rw (l .given .1) at (check-lines .ensures)) .0) refl (zeros-at 17) ((rw (c .before .before .k .given .1) at (check-tags .ensures)) .0) (l .given .0 .0)
+    ((rw (l .given .1) at (check-lines .ensures)) .1 .0)
 
 enum-known-b : tie.Need-enum-known-b
 enum-known-b c = search needs
@@ -63,16 +84,81 @@ same-length-3 : tie.Need-same-length-3
 same-length-3 c = search needs
 
 returns-3 : tie.Need-returns-3
-returns-3 c = rw (c .refused3 .ensures) (no-room (now (c .before .before .before .before .before .before .before .before .before .before .before .before .before .before .before .before .before .before .before .before .before .before .args .s)) (now (c .before .before .before .before .before .before .before .before .before .before .before .before .before .before .before .before .before .before .before .before .before .before .args .t)) (now (c .before .before .before .before .before .before .before .before .before .before .before .before .before .before .before .before .before .before .before .before .before .before .args .out)) (c .before .before .before .before .before .before .before .before .before .before .before .before .before .before .before .before .before .before .before .before .before .before .args .from) (c .before .before .before .before .before .before .before .before .before .before .before .before .before .before .before .before .before .before .before .before .before .before .pre .tags-are) (replicate 17 0) (c .before .before .before .before .before .before .before .before .before .before .check-tags .last .1 .1 .1 .0) ((rw (c .before .before .before .before .before .before .before .before .before .before .before .before .before .before .l .given .1) at (c .before .before .before .before .before .before .before .before .before .before .before .before .before .before .before .before .check-lines .ensures)) .0) refl (zeros-at 17) ((rw (c .before .before .before .before .before .before .k .given .1) at (c .before .before .before .before .before .before .before .before .before .before .check-tags .ensures)) .0) (c .before .before .before .before .before .before .before .before .before .before .before .before .before .before .l .given .0 .0) ((rw (c .before .before .before .before .before .before .before .before .before .before .before .before .before .before .l .given .1) at (c .before .before .before .before .before .before .before .before .before .before .before .before .before .before .before .before .check-lines .ensures)) .1 .0) (rw (c .before .enum-told3 .given .1) at (c .before .before .before .begin .ensures)))
+returns-3 c =
+    let args = c .before .before .before .before .before .before .before .before .before .before .before .before .before .before .before .before .before .before
+    .before .before .before .before .args in
+    let pre = c .before .before .before .before .before .before .before .before .before .before .before .before .before .before .before .before .before .before
+    .before .before .before .before .pre in
+    let check-lines = c .before .before .before .before .before .before .before .before .before .before .before .before .before .before .before .before
+    .check-lines in
+    let l = c .before .before .before .before .before .before .before .before .before .before .before .before .before .before .l in
+    let check-tags = c .before .before .before .before .before .before .before .before .before .before .check-tags in
+    let k = c .before .before .before .before .before .before .k in
+    let begin = c .before .before .before .begin in
+    rw (c .refused3 .ensures) (no-room (now (args .s)) (now (args .t)) (now (args .out)) (args .from) (pre .tags-are) (replicate 17 0)
+    (check-tags .last .1 .1 .1 .0) ((rw (l .given .1) at (check-lines .ensures)) .0) refl (zeros-at 17) ((rw (k .given .1) at (check-tags .ensures)) .0)
+    (l .given .0 .0) ((rw (l .given .1) at (check-lines .ensures)) .1 .0) (rw (c .before .enum-told3 .given .1) at (begin .ensures)))
 
 array-read-first : tie.Need-array-read-first
 array-read-first c = search needs
 
 write-lines-requires : tie.Need-write-lines-requires
-write-lines-requires c κs = (((rw (c .before .before .before .before .before .before .before .before .k .given .1) at (c .before .before .before .before .before .before .before .before .before .before .before .before .check-tags .ensures)) .1 .0 .0, c .before .before .before .before .before .before .before .before .before .before .before .before .before .before .before .before .before .before .before .before .before .before .before .before .pre .task-lines), ((rw (c .before .before .before .before .before .before .before .before .before .before .before .before .before .before .before .before .l .given .1) at (c .before .before .before .before .before .before .before .before .before .before .before .before .before .before .before .before .before .before .check-lines .ensures)) .0, lines-fit (now (c .before .before .before .before .before .before .before .before .before .before .before .before .before .before .before .before .before .before .before .before .before .before .before .before .args .s)) (now (c .before .before .before .before .before .before .before .before .before .before .before .before .before .before .before .before .before .before .before .before .before .before .before .before .args .t)) (now (c .before .before .before .before .before .before .before .before .before .before .before .before .before .before .before .before .before .before .before .before .before .before .before .before .args .out)) (c .before .before .before .before .before .before .before .before .before .before .before .before .before .before .before .before .before .before .before .before .before .before .before .before .args .from) (c .before .before .before .before .before .before .before .before .before .before .before .before .before .before .before .before .before .before .before .before .before .before .before .before .pre .tags-are) (replicate 17 0) (c .before .before .before .before .before .before .before .before .before .before .before .before .check-tags .last .1 .1 .1 .0) ((rw (c .before .before .before .before .before .before .before .before .before .before .before .before .before .before .before .before .l .given .1) at (c .before .before .before .before .before .before .before .before .before .before .before .before .before .before .before .before .before .before .check-lines .ensures)) .0) refl (zeros-at 17) ((rw (c .before .before .before .before .before .before .before .before .k .given .1) at (c .before .before .before .before .before .before .before .before .before .before .before .before .check-tags .ensures)) .0) (c .before .before .before .before .before .before .before .before .before .before .before .before .before .before .before .before .l .given .0 .0) ((rw (c .before .before .before .before .before .before .before .before .before .before .before .before .before .before .before .before .l .given .1) at (c .before .before .before .before .before .before .before .before .before .before .before .before .before .before .before .before .before .before .check-lines .ensures)) .1 .0) (c .before .before .before .before .before .begin .last .0) (c .before .before .before .b .given .0 .0) (rw (c .before .before .before .b .given .1) at (c .before .before .before .before .before .begin .ensures))))
+write-lines-requires c κs =
+    let pre = c .before .before .before .before .before .before .before .before .before .before .before .before .before .before .before .before .before .before
+    .before .before .before .before .before .before .pre in
+    let args = c .before .before .before .before .before .before .before .before .before .before .before .before .before .before .before .before .before .before
+    .before .before .before .before .before .before .args in
+    let check-lines = c .before .before .before .before .before .before .before .before .before .before .before .before .before .before .before .before .before
+    .before .check-lines in
+    let l = c .before .before .before .before .before .before .before .before .before .before .before .before .before .before .before .before .l in
+    let check-tags = c .before .before .before .before .before .before .before .before .before .before .before .before .check-tags in
+    let k = c .before .before .before .before .before .before .before .before .k in
+    let begin = c .before .before .before .before .before .begin in
+    let b = c .before .before .before .b in (
+      ((rw (k .given .1) at (check-tags .ensures)) .1 .0 .0, pre .task-lines),
+      (
+        (rw (l .given .1) at (check-lines .ensures)) .0,
+        lines-fit (now (args .s)) (now (args .t)) (now (args .out)) (args .from) (pre .tags-are) (replicate 17 0) (check-tags .last .1 .1 .1 .0)
+            ((rw (l .given .1) at (check-lines .ensures)) .0) refl (zeros-at 17) ((rw (k .given .1) at (check-tags .ensures)) .0) (l .given .0 .0)
+            ((rw (l .given .1) at (check-lines .ensures)) .1 .0) (begin .last .0) (b .given .0 .0) (rw (b .given .1) at (begin .ensures)),
+      ),
+    )
 
 write-all-requires : tie.Need-write-all-requires
-write-all-requires c κs = ((((rw (c .before .before .before .before .before .before .before .before .before .before .before .before .before .before .k .given .1) at (c .before .before .before .before .before .before .before .before .before .before .before .before .before .before .before .before .before .before .check-tags .ensures)) .1 .0 .0, ((c .before .before .before .before .before .before .before .before .before .before .before .before .before .before .before .before .before .before .before .before .before .before .before .before .before .before .before .before .before .before .pre .inside, rw ((rw (c .before .before .before .before .before .before .before .before .before .before .before .before .before .before .k .given .1) at (c .before .before .before .before .before .before .before .before .before .before .before .before .before .before .before .before .before .before .check-tags .ensures)) .1 .0 .1) (c .before .before .before .before .before .before .before .before .before .before .before .before .before .before .before .before .before .before .before .before .before .before .before .before .before .before .before .before .before .before .pre .leads)), c .before .before .before .before .before .before .before .before .before .before .before .before .before .before .before .before .before .before .before .before .before .before .before .before .before .before .before .before .before .before .pre .small)), (tags-there (now (c .before .before .before .before .before .before .before .before .before .before .before .before .before .before .before .before .before .before .before .before .before .before .before .before .before .before .before .before .before .before .args .s)) (now (c .before .before .before .before .before .before .before .before .before .before .before .before .before .before .before .before .before .before .before .before .before .before .before .before .before .before .before .before .before .before .args .t)) (walkAt (now (c .before .before .before .before .before .before .before .before .before .before .before .before .before .before .before .before .before .before .before .before .before .before .before .before .before .before .before .before .before .before .args .s)) (c .before .before .before .before .before .before .before .before .before .before .before .before .before .before .before .before .before .before .before .before .before .before .before .before .before .before .before .before .before .before .args .from)) (replicate 17 0) (c .before .before .before .before .before .before .before .before .before .before .before .before .before .before .before .before .before .before .check-tags .last .1 .1 .1 .0) ((rw (c .before .before .before .before .before .before .before .before .before .before .before .before .before .before .k .given .1) at (c .before .before .before .before .before .before .before .before .before .before .before .before .before .before .before .before .before .before .check-tags .ensures)) .0), ((rw (c .before .before .before .before .before .before .before .before .before .b .given .1) at (c .before .before .before .before .before .before .before .before .before .before .before .begin .ensures)) .kinds, tags-fit (now (c .before .before .before .before .before .before .before .before .before .before .before .before .before .before .before .before .before .before .before .before .before .before .before .before .before .before .before .before .before .before .args .s)) (now (c .before .before .before .before .before .before .before .before .before .before .before .before .before .before .before .before .before .before .before .before .before .before .before .before .before .before .before .before .before .before .args .t)) (now (c .before .before .before .before .before .before .before .before .before .before .before .before .before .before .before .before .before .before .before .before .before .before .before .before .before .before .before .before .before .before .args .out)) (c .before .before .before .before .before .before .before .before .before .before .before .before .before .before .before .before .before .before .before .before .before .before .before .before .before .before .before .before .before .before .args .from) (c .before .before .before .before .before .before .before .before .before .before .before .before .before .before .before .before .before .before .before .before .before .before .before .before .before .before .before .before .before .before .pre .tags-are) (replicate 17 0) (c .before .before .before .before .before .before .before .before .before .before .before .before .before .before .before .before .before .before .check-tags .last .1 .1 .1 .0) ((rw (c .before .before .before .before .before .before .before .before .before .before .before .before .before .before .before .before .before .before .before .before .before .before .l .given .1) at (c .before .before .before .before .before .before .before .before .before .before .before .before .before .before .before .before .before .before .before .before .before .before .before .before .check-lines .ensures)) .0) refl (zeros-at 17) ((rw (c .before .before .before .before .before .before .before .before .before .before .before .before .before .before .k .given .1) at (c .before .before .before .before .before .before .before .before .before .before .before .before .before .before .before .before .before .before .check-tags .ensures)) .0) (c .before .before .before .before .before .before .before .before .before .before .before .before .before .before .before .before .before .before .before .before .before .before .l .given .0 .0) ((rw (c .before .before .before .before .before .before .before .before .before .before .before .before .before .before .before .before .before .before .before .before .before .before .l .given .1) at (c .before .before .before .before .before .before .before .before .before .before .before .before .before .before .before .before .before .before .before .before .before .before .before .before .check-lines .ensures)) .1 .0) (c .before .before .before .before .before .before .before .before .before .before .before .begin .last .0) (c .before .before .before .before .before .before .before .before .before .b .given .0 .0) (rw (c .before .before .before .before .before .before .before .before .before .b .given .1) at (c .before .before .before .before .before .before .before .before .before .before .before .begin .ensures)) (c .before .before .before .before .before .write-lines .last .1 .1 .1 .0) (c .before .before .before .before .before .write-lines .kept .1 .1 .1 .0) (c .before .before .before .before .before .write-lines .ensures)))), (rw (c .before .before .before .before .before .before .before .before .before .before .before .before .before .before .k .given .1) at (c .before .before .before .before .before .before .before .before .before .before .before .before .before .before .before .before .before .before .check-tags .ensures)) .1 .1)
+write-all-requires c κs =
+    let pre = c .before .before .before .before .before .before .before .before .before .before .before .before .before .before .before .before .before .before
+    .before .before .before .before .before .before .before .before .before .before .before .before .pre in
+    let args = c .before .before .before .before .before .before .before .before .before .before .before .before .before .before .before .before .before .before
+    .before .before .before .before .before .before .before .before .before .before .before .before .args in
+    let check-lines = c .before .before .before .before .before .before .before .before .before .before .before .before .before .before .before .before .before
+    .before .before .before .before .before .before .before .check-lines in
+    let l = c .before .before .before .before .before .before .before .before .before .before .before .before .before .before .before .before .before .before
+    .before .before .before .before .l in
+    let check-tags = c .before .before .before .before .before .before .before .before .before .before .before .before .before .before .before .before .before
+    .before .check-tags in
+    let k = c .before .before .before .before .before .before .before .before .before .before .before .before .before .before .k in
+    let begin = c .before .before .before .before .before .before .before .before .before .before .before .begin in
+    let b = c .before .before .before .before .before .before .before .before .before .b in
+    let write-lines = c .before .before .before .before .before .write-lines in (
+      (
+        (
+          (rw (k .given .1) at (check-tags .ensures)) .1 .0 .0,
+          ((pre .inside, rw ((rw (k .given .1) at (check-tags .ensures)) .1 .0 .1) (pre .leads)), pre .small),
+        ),
+        (
+          tags-there (now (args .s)) (now (args .t)) (walkAt (now (args .s)) (args .from)) (replicate 17 0) (check-tags .last .1 .1 .1 .0)
+              ((rw (k .given .1) at (check-tags .ensures)) .0),
+          (
+            (rw (b .given .1) at (begin .ensures)) .kinds,
+            tags-fit (now (args .s)) (now (args .t)) (now (args .out)) (args .from) (pre .tags-are) (replicate 17 0) (check-tags .last .1 .1 .1 .0)
+                ((rw (l .given .1) at (check-lines .ensures)) .0) refl (zeros-at 17) ((rw (k .given .1) at (check-tags .ensures)) .0)
+                (l .given .0 .0) ((rw (l .given .1) at (check-lines .ensures)) .1 .0) (begin .last .0) (b .given .0 .0)
+                (rw (b .given .1) at (begin .ensures)) (write-lines .last .1 .1 .1 .0) (write-lines .kept .1 .1 .1 .0) (write-lines .ensures),
+          ),
+        ),
+      ),
+      (rw (k .given .1) at (check-tags .ensures)) .1 .1,
+    )
 
 same-length-4 : tie.Need-same-length-4
 same-length-4 c = search needs
@@ -81,7 +167,27 @@ same-length-5 : tie.Need-same-length-5
 same-length-5 c = search needs
 
 returns-4 : tie.Need-returns-4
-returns-4 c = all-written (now (c .before .before .before .before .before .before .before .before .before .before .before .before .before .before .before .before .before .before .before .before .before .before .before .before .before .before .before .before .before .before .before .before .before .args .s)) (now (c .before .before .before .before .before .before .before .before .before .before .before .before .before .before .before .before .before .before .before .before .before .before .before .before .before .before .before .before .before .before .before .before .before .args .t)) (now (c .before .before .before .before .before .before .before .before .before .before .before .before .before .before .before .before .before .before .before .before .before .before .before .before .before .before .before .before .before .before .before .before .before .args .out)) (c .before .before .before .before .before .before .before .before .before .before .before .before .before .before .before .before .before .before .before .before .before .before .before .before .before .before .before .before .before .before .before .before .before .args .from) (c .before .before .before .before .before .before .before .before .before .before .before .before .before .before .before .before .before .before .before .before .before .before .before .before .before .before .before .before .before .before .before .before .before .pre .tags-are) (replicate 17 0) (c .before .before .before .before .before .before .before .before .before .before .before .before .before .before .before .before .before .before .before .before .before .check-tags .last .1 .1 .1 .0) ((rw (c .before .before .before .before .before .before .before .before .before .before .before .before .before .before .before .before .before .before .before .before .before .before .before .before .before .l .given .1) at (c .before .before .before .before .before .before .before .before .before .before .before .before .before .before .before .before .before .before .before .before .before .before .before .before .before .before .before .check-lines .ensures)) .0) refl (zeros-at 17) ((rw (c .before .before .before .before .before .before .before .before .before .before .before .before .before .before .before .before .before .k .given .1) at (c .before .before .before .before .before .before .before .before .before .before .before .before .before .before .before .before .before .before .before .before .before .check-tags .ensures)) .0) (c .before .before .before .before .before .before .before .before .before .before .before .before .before .before .before .before .before .before .before .before .before .before .before .before .before .l .given .0 .0) ((rw (c .before .before .before .before .before .before .before .before .before .before .before .before .before .before .before .before .before .before .before .before .before .before .before .before .before .l .given .1) at (c .before .before .before .before .before .before .before .before .before .before .before .before .before .before .before .before .before .before .before .before .before .before .before .before .before .before .before .check-lines .ensures)) .1 .0) (c .before .before .before .before .before .before .before .before .before .before .before .before .before .before .begin .last .0) (c .before .before .before .before .before .before .before .before .before .before .before .before .b .given .0 .0) (rw (c .before .before .before .before .before .before .before .before .before .before .before .before .b .given .1) at (c .before .before .before .before .before .before .before .before .before .before .before .before .before .before .begin .ensures)) (c .before .before .before .before .before .before .before .before .write-lines .last .1 .1 .1 .0) (c .before .before .before .before .before .before .before .before .write-lines .kept .1 .1 .1 .0) (c .before .before .before .before .before .before .before .before .write-lines .ensures) (c .before .before .write-all .last .1 .1 .1 .1 .0) (c .before .before .write-all .kept .1 .1 .1 .1 .0) (c .before .before .write-all .ensures)
+returns-4 c =
+    let args = c .before .before .before .before .before .before .before .before .before .before .before .before .before .before .before .before .before .before
+    .before .before .before .before .before .before .before .before .before .before .before .before .before .before .before .args in
+    let pre = c .before .before .before .before .before .before .before .before .before .before .before .before .before .before .before .before .before .before
+    .before .before .before .before .before .before .before .before .before .before .before .before .before .before .before .pre in
+    let check-lines = c .before .before .before .before .before .before .before .before .before .before .before .before .before .before .before .before .before
+    .before .before .before .before .before .before .before .before .before .before .check-lines in
+    let l = c .before .before .before .before .before .before .before .before .before .before .before .before .before .before .before .before .before .before
+    .before .before .before .before .before .before .before .l in
+    let check-tags = c .before .before .before .before .before .before .before .before .before .before .before .before .before .before .before .before .before
+    .before .before .before .before .check-tags in
+    let k = c .before .before .before .before .before .before .before .before .before .before .before .before .before .before .before .before .before .k in
+    let begin = c .before .before .before .before .before .before .before .before .before .before .before .before .before .before .begin in
+    let b = c .before .before .before .before .before .before .before .before .before .before .before .before .b in
+    let write-lines = c .before .before .before .before .before .before .before .before .write-lines in
+    let write-all = c .before .before .write-all in
+    all-written (now (args .s)) (now (args .t)) (now (args .out)) (args .from) (pre .tags-are) (replicate 17 0) (check-tags .last .1 .1 .1 .0)
+    ((rw (l .given .1) at (check-lines .ensures)) .0) refl (zeros-at 17) ((rw (k .given .1) at (check-tags .ensures)) .0) (l .given .0 .0)
+    ((rw (l .given .1) at (check-lines .ensures)) .1 .0) (begin .last .0) (b .given .0 .0) (rw (b .given .1) at (begin .ensures))
+    (write-lines .last .1 .1 .1 .0) (write-lines .kept .1 .1 .1 .0) (write-lines .ensures) (write-all .last .1 .1 .1 .1 .0) (write-all .kept .1 .1 .1 .1 .0)
+    (write-all .ensures)
 
 pub records-spec : {M : Type 1} → statement M
 records-spec =

@@ -14,7 +14,16 @@ enum-known-d : tie.Need-enum-known-d
 enum-known-d c = search needs
 
 bad-text-requires : tie.Need-bad-text-requires
-bad-text-requires c κs = omega (arith, bad-inside (now (c .before .before .before .before .before .before .before .before .args .s)) (now (c .before .before .before .before .before .before .before .before .args .t)) (length (now (c .before .before .before .before .before .before .before .before .args .w))) (now (c .before .before .before .before .before .before .before .before .args .out)) (c .before .before .before .document .result) (c .before .before .before .document .ensures) (c .before .d .given .0 .0) (c .before .d .given .1), c .before .before .before .before .before .before .before .before .good .0 .1)
+bad-text-requires c κs =
+    let args = c .before .before .before .before .before .before .before .before .args in
+    let good = c .before .before .before .before .before .before .before .before .good in
+    let document = c .before .before .before .document in
+    omega (
+      arith,
+      bad-inside (now (args .s)) (now (args .t)) (length (now (args .w))) (now (args .out)) (document .result) (document .ensures) (c .before .d .given .0 .0)
+          (c .before .d .given .1),
+      good .0 .1,
+    )
 
 enum-told : tie.Need-enum-told
 enum-told c = search needs
@@ -26,19 +35,49 @@ enum-known-l : tie.Need-enum-known-l
 enum-known-l c = search needs
 
 bad-text-requires-2 : tie.Need-bad-text-requires-2
-bad-text-requires-2 c κs = omega (arith, line-inside (now (c .before .before .before .before .before .before .before .before .before .before .before .args .s)) (now (c .before .before .before .before .before .before .before .before .before .before .before .args .t)) (length (now (c .before .before .before .before .before .before .before .before .before .before .before .args .w))) (now (c .before .before .before .before .before .before .before .before .before .before .before .args .out)) (c .before .before .before .before .before .before .document .result) (c .before .before .before .before .before .before .document .ensures) (c .before .before .before .before .enum-told .given .0 .0) (c .before .before .before .before .enum-told .given .1) (c .before .before .before .judge .result) (c .before .before .before .judge .ensures) (c .before .l .given .0 .0) (c .before .l .given .1), c .before .before .before .before .before .before .before .before .before .before .before .good .1 .0 .1)
+bad-text-requires-2 c κs =
+    let args = c .before .before .before .before .before .before .before .before .before .before .before .args in
+    let good = c .before .before .before .before .before .before .before .before .before .before .before .good in
+    let document = c .before .before .before .before .before .before .document in
+    let enum-told = c .before .before .before .before .enum-told in
+    let judge = c .before .before .before .judge in
+    omega (
+      arith,
+      line-inside (now (args .s)) (now (args .t)) (length (now (args .w))) (now (args .out)) (document .result) (document .ensures) (enum-told .given .0 .0)
+          (enum-told .given .1) (judge .result) (judge .ensures) (c .before .l .given .0 .0) (c .before .l .given .1),
+      good .1 .0 .1,
+    )
 
 enum-told-2 : tie.Need-enum-told-2
 enum-told-2 c = search needs
 
 accepted-requires : tie.Need-accepted-requires
-accepted-requires c κs = both-accepted (now (c .before .before .before .before .before .before .before .before .before .before .before .before .args .s)) (now (c .before .before .before .before .before .before .before .before .before .before .before .before .args .t)) (length (now (c .before .before .before .before .before .before .before .before .before .before .before .before .args .w))) (now (c .before .before .before .before .before .before .before .before .before .before .before .before .args .out)) (c .before .before .before .before .before .before .before .document .result) (c .before .before .before .before .before .before .before .document .ensures) (c .before .before .before .before .before .enum-told .given .0 .0) (c .before .before .before .before .before .enum-told .given .1) (c .before .before .before .before .judge .result) (c .before .before .before .before .judge .ensures) (c .before .before .enum-told2 .given .0 .0) (c .before .before .enum-told2 .given .1)
+accepted-requires c κs =
+    let args = c .before .before .before .before .before .before .before .before .before .before .before .before .args in
+    let document = c .before .before .before .before .before .before .before .document in
+    let enum-told = c .before .before .before .before .before .enum-told in
+    let judge = c .before .before .before .before .judge in
+    let enum-told2 = c .before .before .enum-told2 in
+    both-accepted (now (args .s)) (now (args .t)) (length (now (args .w))) (now (args .out)) (document .result) (document .ensures) (enum-told .given .0 .0)
+    (enum-told .given .1) (judge .result) (judge .ensures) (enum-told2 .given .0 .0) (enum-told2 .given .1)
 
 returns : tie.Need-returns
-returns c = rw (c .bad-text .ensures) (bad-policy (now (c .before .before .before .before .before .before .before .before .before .args .s)) (now (c .before .before .before .before .before .before .before .before .before .args .t)) (length (now (c .before .before .before .before .before .before .before .before .before .args .w))) (now (c .before .before .before .before .before .before .before .before .before .args .out)) (c .before .before .before .before .document .result) (c .before .before .before .before .document .ensures) (c .before .before .d .given .0 .0) (c .before .before .d .given .1))
+returns c =
+    let args = c .before .before .before .before .before .before .before .before .before .args in
+    let document = c .before .before .before .before .document in
+    let d = c .before .before .d in
+    rw (c .bad-text .ensures) (bad-policy (now (args .s)) (now (args .t)) (length (now (args .w))) (now (args .out)) (document .result) (document .ensures)
+    (d .given .0 .0) (d .given .1))
 
 returns-2 : tie.Need-returns-2
-returns-2 c = rw (c .bad-text2 .ensures) (bad-lines (now (c .before .before .before .before .before .before .before .before .before .before .before .before .args .s)) (now (c .before .before .before .before .before .before .before .before .before .before .before .before .args .t)) (length (now (c .before .before .before .before .before .before .before .before .before .before .before .before .args .w))) (now (c .before .before .before .before .before .before .before .before .before .before .before .before .args .out)) (c .before .before .before .before .before .before .before .document .result) (c .before .before .before .before .before .before .before .document .ensures) (c .before .before .before .before .before .enum-told .given .0 .0) (c .before .before .before .before .before .enum-told .given .1) (c .before .before .before .before .judge .result) (c .before .before .before .before .judge .ensures) (c .before .before .l .given .0 .0) (c .before .before .l .given .1))
+returns-2 c =
+    let args = c .before .before .before .before .before .before .before .before .before .before .before .before .args in
+    let document = c .before .before .before .before .before .before .before .document in
+    let enum-told = c .before .before .before .before .before .enum-told in
+    let judge = c .before .before .before .before .judge in
+    let l = c .before .before .l in
+    rw (c .bad-text2 .ensures) (bad-lines (now (args .s)) (now (args .t)) (length (now (args .w))) (now (args .out)) (document .result) (document .ensures)
+    (enum-told .given .0 .0) (enum-told .given .1) (judge .result) (judge .ensures) (l .given .0 .0) (l .given .1))
 
 same-length : tie.Need-same-length
 same-length c = search needs
@@ -47,7 +86,17 @@ same-length-2 : tie.Need-same-length-2
 same-length-2 c = search needs
 
 returns-3 : tie.Need-returns-3
-returns-3 c = accepted-is (now (c .before .before .before .before .before .before .before .before .before .before .before .before .before .before .before .before .before .args .s)) (now (c .before .before .before .before .before .before .before .before .before .before .before .before .before .before .before .before .before .args .t)) (length (now (c .before .before .before .before .before .before .before .before .before .before .before .before .before .before .before .before .before .args .w))) (now (c .before .before .before .before .before .before .before .before .before .before .before .before .before .before .before .before .before .args .out)) (c .before .before .before .before .accepted .last .1 .1 .0) (c .before .before .before .before .accepted .result) (both-accepted (now (c .before .before .before .before .before .before .before .before .before .before .before .before .before .before .before .before .before .args .s)) (now (c .before .before .before .before .before .before .before .before .before .before .before .before .before .before .before .before .before .args .t)) (length (now (c .before .before .before .before .before .before .before .before .before .before .before .before .before .before .before .before .before .args .w))) (now (c .before .before .before .before .before .before .before .before .before .before .before .before .before .before .before .before .before .args .out)) (c .before .before .before .before .before .before .before .before .before .before .before .before .document .result) (c .before .before .before .before .before .before .before .before .before .before .before .before .document .ensures) (c .before .before .before .before .before .before .before .before .before .before .enum-told .given .0 .0) (c .before .before .before .before .before .before .before .before .before .before .enum-told .given .1) (c .before .before .before .before .before .before .before .before .before .judge .result) (c .before .before .before .before .before .before .before .before .before .judge .ensures) (c .before .before .before .before .before .before .before .enum-told2 .given .0 .0) (c .before .before .before .before .before .before .before .enum-told2 .given .1)) (c .before .before .before .before .accepted .ensures)
+returns-3 c =
+    let args = c .before .before .before .before .before .before .before .before .before .before .before .before .before .before .before .before .before
+    .args in
+    let document = c .before .before .before .before .before .before .before .before .before .before .before .before .document in
+    let enum-told = c .before .before .before .before .before .before .before .before .before .before .enum-told in
+    let judge = c .before .before .before .before .before .before .before .before .before .judge in
+    let enum-told2 = c .before .before .before .before .before .before .before .enum-told2 in
+    let accepted = c .before .before .before .before .accepted in
+    accepted-is (now (args .s)) (now (args .t)) (length (now (args .w))) (now (args .out)) (accepted .last .1 .1 .0) (accepted .result)
+    (both-accepted (now (args .s)) (now (args .t)) (length (now (args .w))) (now (args .out)) (document .result) (document .ensures) (enum-told .given .0 .0)
+    (enum-told .given .1) (judge .result) (judge .ensures) (enum-told2 .given .0 .0) (enum-told2 .given .1)) (accepted .ensures)
 
 pub translate-spec : {M : Type 1} → statement M
 translate-spec =

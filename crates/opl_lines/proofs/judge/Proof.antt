@@ -27,19 +27,49 @@ enum-known-r : tie.Need-enum-known-r Inv-loop μ-loop
 enum-known-r c = search needs
 
 loop-less : tie.Need-loop-less Inv-loop μ-loop
-loop-less c = omega (arith, judge-past (now (c .before .before .before .before .before .before .before .args .t)) (c .before .before .before .before .before .loop .at) (c .before .before .before .before .loop-test .taken) (c .before .before .before .read-line .result) (c .before .before .before .read-line .ensures) (c .before .r .given .0 .0) (c .before .r .given .0 .1 .0) (c .before .r .given .0 .1 .1 .0) (c .before .r .given .1) .0, judge-past (now (c .before .before .before .before .before .before .before .args .t)) (c .before .before .before .before .before .loop .at) (c .before .before .before .before .loop-test .taken) (c .before .before .before .read-line .result) (c .before .before .before .read-line .ensures) (c .before .r .given .0 .0) (c .before .r .given .0 .1 .0) (c .before .r .given .0 .1 .1 .0) (c .before .r .given .1) .1)
+loop-less c =
+    let args = c .before .before .before .before .before .before .before .args in
+    let loop = c .before .before .before .before .before .loop in
+    let loop-test = c .before .before .before .before .loop-test in
+    let read-line = c .before .before .before .read-line in
+    omega (
+      arith,
+      judge-past (now (args .t)) (loop .at) (loop-test .taken) (read-line .result) (read-line .ensures) (c .before .r .given .0 .0)
+          (c .before .r .given .0 .1 .0) (c .before .r .given .0 .1 .1 .0) (c .before .r .given .1) .0,
+      judge-past (now (args .t)) (loop .at) (loop-test .taken) (read-line .result) (read-line .ensures) (c .before .r .given .0 .0)
+          (c .before .r .given .0 .1 .0) (c .before .r .given .0 .1 .1 .0) (c .before .r .given .1) .1,
+    )
 
 loop-again : tie.Need-loop-again Inv-loop μ-loop
-loop-again c = (judge-past (now (c .before .before .before .before .before .before .before .args .t)) (c .before .before .before .before .before .loop .at) (c .before .before .before .before .loop-test .taken) (c .before .before .before .read-line .result) (c .before .before .before .read-line .ensures) (c .before .r .given .0 .0) (c .before .r .given .0 .1 .0) (c .before .r .given .0 .1 .1 .0) (c .before .r .given .1) .1, c .before .before .before .before .before .loop .inv .1 ∙ judge-on (now (c .before .before .before .before .before .before .before .args .t)) (c .before .before .before .before .before .loop .at) (c .before .before .before .before .loop-test .taken) (c .before .before .before .read-line .result) (c .before .before .before .read-line .ensures) (c .before .r .given .0 .0) (c .before .r .given .0 .1 .0) (c .before .r .given .0 .1 .1 .0) (c .before .r .given .1))
+loop-again c =
+    let args = c .before .before .before .before .before .before .before .args in
+    let loop = c .before .before .before .before .before .loop in
+    let loop-test = c .before .before .before .before .loop-test in
+    let read-line = c .before .before .before .read-line in (
+      judge-past (now (args .t)) (loop .at) (loop-test .taken) (read-line .result) (read-line .ensures) (c .before .r .given .0 .0)
+          (c .before .r .given .0 .1 .0) (c .before .r .given .0 .1 .1 .0) (c .before .r .given .1) .1,
+      loop .inv .1 ∙
+          judge-on (now (args .t)) (loop .at) (loop-test .taken) (read-line .result) (read-line .ensures) (c .before .r .given .0 .0)
+          (c .before .r .given .0 .1 .0) (c .before .r .given .0 .1 .1 .0) (c .before .r .given .1),
+    )
 
 enum-known-r-2 : tie.Need-enum-known-r-2 Inv-loop μ-loop
 enum-known-r-2 c = search needs
 
 returns : tie.Need-returns Inv-loop μ-loop
-returns c = let e = judge-bad (now (c .before .before .before .before .before .before .before .args .t)) (c .before .before .before .before .before .loop .at) (c .before .before .before .before .loop-test .taken) (c .before .before .before .read-line .result) (c .before .before .before .read-line .ensures) (c .before .r2 .given .0 .0) (c .before .r2 .given .1) in record { read-is = e .0 ∙ sym (c .before .before .before .before .before .loop .inv .1); inside = e .1 }
+returns c =
+    let args = c .before .before .before .before .before .before .before .args in
+    let loop = c .before .before .before .before .before .loop in
+    let loop-test = c .before .before .before .before .loop-test in
+    let read-line = c .before .before .before .read-line in
+    let e =
+    judge-bad (now (args .t)) (loop .at) (loop-test .taken) (read-line .result) (read-line .ensures) (c .before .r2 .given .0 .0) (c .before .r2 .given .1) in
+    record { read-is = e .0 ∙ sym (loop .inv .1); inside = e .1 }
 
 returns-2 : tie.Need-returns-2 Inv-loop μ-loop
-returns-2 c = record { read-is = judge-end (now (c .before .before .before .args .t)) (c .before .loop .at) (c .loop-test .left) ∙ sym (c .before .loop .inv .1); inside = c .before .loop .inv .0 }
+returns-2 c =
+    let args = c .before .before .before .args in
+    record { read-is = judge-end (now (args .t)) (c .before .loop .at) (c .loop-test .left) ∙ sym (c .before .loop .inv .1); inside = c .before .loop .inv .0 }
 
 pub judge-spec : {M : Type 1} → statement M
 judge-spec =

@@ -26,7 +26,15 @@ shared-slice-read-if1 : tie.Need-shared-slice-read-if1 Inv-loop μ-loop
 shared-slice-read-if1 c = search needs
 
 returns : tie.Need-returns Inv-loop μ-loop
-returns c = record { rest = behind-stop inLine (now (c .before .before .before .before .args .t)) (c .before .before .before .loop .i) (c .before .before .loop-test .taken) false (sym (le-ltb 32 _ (c .if1 .taken))) refl ∙ sym (c .before .before .before .loop .inv .1); inside = c .before .before .before .loop .inv .0 }
+returns c =
+    let args = c .before .before .before .before .args in
+    let loop = c .before .before .before .loop in
+    record {
+      rest =
+          behind-stop inLine (now (args .t)) (loop .i) (c .before .before .loop-test .taken) false (sym (le-ltb 32 _ (c .if1 .taken))) refl ∙
+          sym (loop .inv .1);
+      inside = loop .inv .0;
+    }
 
 add-i : tie.Need-add-i Inv-loop μ-loop
 add-i c = search needs
@@ -35,10 +43,19 @@ loop-less : tie.Need-loop-less Inv-loop μ-loop
 loop-less c = search needs
 
 loop-again : tie.Need-loop-again Inv-loop μ-loop
-loop-again c = (omega arith, c .before .before .before .loop .inv .1 ∙ behind-more inLine (now (c .before .before .before .before .args .t)) (c .before .before .before .loop .i) (c .before .before .loop-test .taken) true (sym (lt-ltb 32 _ (c .if1 .left))) refl)
+loop-again c =
+    let args = c .before .before .before .before .args in
+    let loop = c .before .before .before .loop in (
+      omega arith,
+      loop .inv .1 ∙ behind-more inLine (now (args .t)) (loop .i) (c .before .before .loop-test .taken) true (sym (lt-ltb 32 _ (c .if1 .left))) refl,
+    )
 
 returns-2 : tie.Need-returns-2 Inv-loop μ-loop
-returns-2 c = record { rest = behind-end inLine (now (c .before .before .args .t)) (c .before .loop .i) (c .loop-test .left) ∙ sym (c .before .loop .inv .1); inside = c .before .loop .inv .0 }
+returns-2 c =
+    record {
+      rest = behind-end inLine (now (c .before .before .args .t)) (c .before .loop .i) (c .loop-test .left) ∙ sym (c .before .loop .inv .1);
+      inside = c .before .loop .inv .0;
+    }
 
 pub name-end-spec : {M : Type 1} → statement M
 name-end-spec =

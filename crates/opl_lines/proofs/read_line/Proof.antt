@@ -13,37 +13,143 @@ name-end-requires : tie.Need-name-end-requires
 name-end-requires c κs = search needs
 
 returns : tie.Need-returns
-returns c = record { read-is = line-empty (now (c .before .before .before .args .t)) (c .before .before .before .args .at) (c .before .name-end .result) (c .before .before .before .pre) (c .before .name-end .ensures .rest) (c .before .name-end .ensures .inside) (c .if1 .taken); stands = c .before .name-end .ensures .inside }
+returns c =
+    let args = c .before .before .before .args in
+    let pre = c .before .before .before .pre in
+    record {
+      read-is =
+          line-empty (now (args .t)) (args .at) (c .before .name-end .result) pre (c .before .name-end .ensures .rest) (c .before .name-end .ensures .inside)
+          (c .if1 .taken);
+      stands = c .before .name-end .ensures .inside;
+    }
 
 is-at-requires : tie.Need-is-at-requires
 is-at-requires c κs = search needs
 
 returns-2 : tie.Need-returns-2
-returns-2 c = record { read-is = line-unspaced (now (c .before .before .before .before .before .args .t)) (c .before .before .before .before .before .args .at) (c .before .before .before .name-end .result) (c .before .before .before .before .before .pre) (c .before .before .before .name-end .ensures .rest) (c .before .before .before .name-end .ensures .inside) (c .before .before .if1 .left) (c .before .is-at .result) (c .before .is-at .ensures) (c .if2 .taken); stands = c .before .before .before .name-end .ensures .inside }
+returns-2 c =
+    let args = c .before .before .before .before .before .args in
+    let pre = c .before .before .before .before .before .pre in
+    let name-end = c .before .before .before .name-end in
+    record {
+      read-is =
+          line-unspaced (now (args .t)) (args .at) (name-end .result) pre (name-end .ensures .rest) (name-end .ensures .inside) (c .before .before .if1 .left)
+          (c .before .is-at .result) (c .before .is-at .ensures) (c .if2 .taken);
+      stands = name-end .ensures .inside;
+    }
 
 add-from : tie.Need-add-from
 add-from c = search needs
 
 name-end-requires-2 : tie.Need-name-end-requires-2
-name-end-requires-2 c κs = line-past (now (c .before .before .before .before .before .args .t)) (c .before .before .before .before .before .args .at) (c .before .before .before .name-end .result) (c .before .before .before .before .before .pre) (c .before .before .before .name-end .ensures .rest) (c .before .before .before .name-end .ensures .inside) (c .before .before .if1 .left) (c .before .is-at .result) (c .before .is-at .ensures) (c .if2 .left)
+name-end-requires-2 c κs =
+    let args = c .before .before .before .before .before .args in
+    let pre = c .before .before .before .before .before .pre in
+    let name-end = c .before .before .before .name-end in
+    line-past (now (args .t)) (args .at) (name-end .result) pre (name-end .ensures .rest) (name-end .ensures .inside) (c .before .before .if1 .left)
+    (c .before .is-at .result) (c .before .is-at .ensures) (c .if2 .left)
 
 returns-3 : tie.Need-returns-3
-returns-3 c = record { read-is = line-one (now (c .before .before .before .before .before .before .before .args .t)) (c .before .before .before .before .before .before .before .args .at) (c .before .before .before .before .before .name-end .result) (c .before .before .before .before .before .before .before .pre) (c .before .before .before .before .before .name-end .ensures .rest) (c .before .before .before .before .before .name-end .ensures .inside) (c .before .before .before .before .if1 .left) (c .before .before .before .is-at .result) (c .before .before .before .is-at .ensures) (c .before .before .if2 .left) (c .before .name-end2 .result) (c .before .name-end2 .ensures .rest) (c .before .name-end2 .ensures .inside) (c .if3 .taken); stands = c .before .name-end2 .ensures .inside }
+returns-3 c =
+    let args = c .before .before .before .before .before .before .before .args in
+    let pre = c .before .before .before .before .before .before .before .pre in
+    let name-end = c .before .before .before .before .before .name-end in
+    let if1 = c .before .before .before .before .if1 in
+    let is-at = c .before .before .before .is-at in
+    record {
+      read-is =
+          line-one (now (args .t)) (args .at) (name-end .result) pre (name-end .ensures .rest) (name-end .ensures .inside) (if1 .left) (is-at .result)
+          (is-at .ensures) (c .before .before .if2 .left) (c .before .name-end2 .result) (c .before .name-end2 .ensures .rest)
+          (c .before .name-end2 .ensures .inside) (c .if3 .taken);
+      stands = c .before .name-end2 .ensures .inside;
+    }
 
 returns-4 : tie.Need-returns-4
-returns-4 c = record { read-is = line-last (now (c .before .before .before .before .before .before .before .before .args .t)) (c .before .before .before .before .before .before .before .before .args .at) (c .before .before .before .before .before .before .name-end .result) (c .before .before .before .before .before .before .before .before .pre) (c .before .before .before .before .before .before .name-end .ensures .rest) (c .before .before .before .before .before .before .name-end .ensures .inside) (c .before .before .before .before .before .if1 .left) (c .before .before .before .before .is-at .result) (c .before .before .before .before .is-at .ensures) (c .before .before .before .if2 .left) (c .before .before .name-end2 .result) (c .before .before .name-end2 .ensures .rest) (c .before .before .name-end2 .ensures .inside) (c .before .if3 .left) (c .if4 .taken); stands = record { task = omega (arith, onward inLine (now (c .before .before .before .before .before .before .before .before .args .t)) (c .before .before .before .before .before .before .before .before .args .at) (c .before .before .before .before .before .before .name-end .result) (c .before .before .before .before .before .before .before .before .pre) (c .before .before .before .before .before .before .name-end .ensures .rest) (c .before .before .before .before .before .before .name-end .ensures .inside), c .before .before .before .before .before .if1 .left); template = omega (arith, onward inLine (now (c .before .before .before .before .before .before .before .before .args .t)) (c .before .before .before .before .before .before .name-end .result + 1) (c .before .before .name-end2 .result) (line-past (now (c .before .before .before .before .before .before .before .before .args .t)) (c .before .before .before .before .before .before .before .before .args .at) (c .before .before .before .before .before .before .name-end .result) (c .before .before .before .before .before .before .before .before .pre) (c .before .before .before .before .before .before .name-end .ensures .rest) (c .before .before .before .before .before .before .name-end .ensures .inside) (c .before .before .before .before .before .if1 .left) (c .before .before .before .before .is-at .result) (c .before .before .before .before .is-at .ensures) (c .before .before .before .if2 .left)) (c .before .before .name-end2 .ensures .rest) (c .before .before .name-end2 .ensures .inside), c .before .if3 .left); next = omega arith; inside = c .before .before .name-end2 .ensures .inside } }
+returns-4 c =
+    let args = c .before .before .before .before .before .before .before .before .args in
+    let pre = c .before .before .before .before .before .before .before .before .pre in
+    let name-end = c .before .before .before .before .before .before .name-end in
+    let if1 = c .before .before .before .before .before .if1 in
+    let is-at = c .before .before .before .before .is-at in
+    let if2 = c .before .before .before .if2 in
+    let name-end2 = c .before .before .name-end2 in
+    record {
+      read-is =
+          line-last (now (args .t)) (args .at) (name-end .result) pre (name-end .ensures .rest) (name-end .ensures .inside) (if1 .left) (is-at .result)
+          (is-at .ensures) (if2 .left) (name-end2 .result) (name-end2 .ensures .rest) (name-end2 .ensures .inside) (c .before .if3 .left) (c .if4 .taken);
+      stands =
+          record {
+            task =
+                omega (arith, onward inLine (now (args .t)) (args .at) (name-end .result) pre (name-end .ensures .rest) (name-end .ensures .inside), if1 .left);
+            template =
+                omega (
+                  arith,
+                  onward inLine (now (args .t)) (name-end .result + 1) (name-end2 .result) (line-past (now (args .t)) (args .at) (name-end .result) pre
+                      (name-end .ensures .rest) (name-end .ensures .inside) (if1 .left) (is-at .result) (is-at .ensures) (if2 .left)) (name-end2 .ensures .rest)
+                      (name-end2 .ensures .inside),
+                  c .before .if3 .left,
+                );
+            next = omega arith;
+            inside = name-end2 .ensures .inside;
+          };
+    }
 
 is-at-requires-2 : tie.Need-is-at-requires-2
 is-at-requires-2 c κs = search needs
 
 returns-5 : tie.Need-returns-5
-returns-5 c = record { read-is = line-unended (now (c .before .before .before .before .before .before .before .before .before .before .args .t)) (c .before .before .before .before .before .before .before .before .before .before .args .at) (c .before .before .before .before .before .before .before .before .name-end .result) (c .before .before .before .before .before .before .before .before .before .before .pre) (c .before .before .before .before .before .before .before .before .name-end .ensures .rest) (c .before .before .before .before .before .before .before .before .name-end .ensures .inside) (c .before .before .before .before .before .before .before .if1 .left) (c .before .before .before .before .before .before .is-at .result) (c .before .before .before .before .before .before .is-at .ensures) (c .before .before .before .before .before .if2 .left) (c .before .before .before .before .name-end2 .result) (c .before .before .before .before .name-end2 .ensures .rest) (c .before .before .before .before .name-end2 .ensures .inside) (c .before .before .before .if3 .left) (omega (arith, c .before .before .if4 .left)) (c .before .is-at2 .result) (c .before .is-at2 .ensures) (c .if5 .taken); stands = c .before .before .before .before .name-end2 .ensures .inside }
+returns-5 c =
+    let args = c .before .before .before .before .before .before .before .before .before .before .args in
+    let pre = c .before .before .before .before .before .before .before .before .before .before .pre in
+    let name-end = c .before .before .before .before .before .before .before .before .name-end in
+    let if1 = c .before .before .before .before .before .before .before .if1 in
+    let is-at = c .before .before .before .before .before .before .is-at in
+    let if2 = c .before .before .before .before .before .if2 in
+    let name-end2 = c .before .before .before .before .name-end2 in
+    let if3 = c .before .before .before .if3 in
+    record {
+      read-is =
+          line-unended (now (args .t)) (args .at) (name-end .result) pre (name-end .ensures .rest) (name-end .ensures .inside) (if1 .left) (is-at .result)
+          (is-at .ensures) (if2 .left) (name-end2 .result) (name-end2 .ensures .rest) (name-end2 .ensures .inside) (if3 .left)
+          (omega (arith, c .before .before .if4 .left)) (c .before .is-at2 .result) (c .before .is-at2 .ensures) (c .if5 .taken);
+      stands = name-end2 .ensures .inside;
+    }
 
 add-t8 : tie.Need-add-t8
 add-t8 c = search needs
 
 returns-6 : tie.Need-returns-6
-returns-6 c = record { read-is = line-whole (now (c .before .before .before .before .before .before .before .before .before .before .args .t)) (c .before .before .before .before .before .before .before .before .before .before .args .at) (c .before .before .before .before .before .before .before .before .name-end .result) (c .before .before .before .before .before .before .before .before .before .before .pre) (c .before .before .before .before .before .before .before .before .name-end .ensures .rest) (c .before .before .before .before .before .before .before .before .name-end .ensures .inside) (c .before .before .before .before .before .before .before .if1 .left) (c .before .before .before .before .before .before .is-at .result) (c .before .before .before .before .before .before .is-at .ensures) (c .before .before .before .before .before .if2 .left) (c .before .before .before .before .name-end2 .result) (c .before .before .before .before .name-end2 .ensures .rest) (c .before .before .before .before .name-end2 .ensures .inside) (c .before .before .before .if3 .left) (omega (arith, c .before .before .if4 .left)) (c .before .is-at2 .result) (c .before .is-at2 .ensures) (c .if5 .left); stands = record { task = omega (arith, onward inLine (now (c .before .before .before .before .before .before .before .before .before .before .args .t)) (c .before .before .before .before .before .before .before .before .before .before .args .at) (c .before .before .before .before .before .before .before .before .name-end .result) (c .before .before .before .before .before .before .before .before .before .before .pre) (c .before .before .before .before .before .before .before .before .name-end .ensures .rest) (c .before .before .before .before .before .before .before .before .name-end .ensures .inside), c .before .before .before .before .before .before .before .if1 .left); template = omega (arith, onward inLine (now (c .before .before .before .before .before .before .before .before .before .before .args .t)) (c .before .before .before .before .before .before .before .before .name-end .result + 1) (c .before .before .before .before .name-end2 .result) (line-past (now (c .before .before .before .before .before .before .before .before .before .before .args .t)) (c .before .before .before .before .before .before .before .before .before .before .args .at) (c .before .before .before .before .before .before .before .before .name-end .result) (c .before .before .before .before .before .before .before .before .before .before .pre) (c .before .before .before .before .before .before .before .before .name-end .ensures .rest) (c .before .before .before .before .before .before .before .before .name-end .ensures .inside) (c .before .before .before .before .before .before .before .if1 .left) (c .before .before .before .before .before .before .is-at .result) (c .before .before .before .before .before .before .is-at .ensures) (c .before .before .before .before .before .if2 .left)) (c .before .before .before .before .name-end2 .ensures .rest) (c .before .before .before .before .name-end2 .ensures .inside), c .before .before .before .if3 .left); next = omega arith; inside = omega (arith, c .before .before .if4 .left) } }
+returns-6 c =
+    let args = c .before .before .before .before .before .before .before .before .before .before .args in
+    let pre = c .before .before .before .before .before .before .before .before .before .before .pre in
+    let name-end = c .before .before .before .before .before .before .before .before .name-end in
+    let if1 = c .before .before .before .before .before .before .before .if1 in
+    let is-at = c .before .before .before .before .before .before .is-at in
+    let if2 = c .before .before .before .before .before .if2 in
+    let name-end2 = c .before .before .before .before .name-end2 in
+    let if3 = c .before .before .before .if3 in
+    let if4 = c .before .before .if4 in
+    record {
+      read-is =
+          line-whole (now (args .t)) (args .at) (name-end .result) pre (name-end .ensures .rest) (name-end .ensures .inside) (if1 .left) (is-at .result)
+          (is-at .ensures) (if2 .left) (name-end2 .result) (name-end2 .ensures .rest) (name-end2 .ensures .inside) (if3 .left) (omega (arith, if4 .left))
+          (c .before .is-at2 .result) (c .before .is-at2 .ensures) (c .if5 .left);
+      stands =
+          record {
+            task =
+                omega (arith, onward inLine (now (args .t)) (args .at) (name-end .result) pre (name-end .ensures .rest) (name-end .ensures .inside), if1 .left);
+            template =
+                omega (
+                  arith,
+                  onward inLine (now (args .t)) (name-end .result + 1) (name-end2 .result) (line-past (now (args .t)) (args .at) (name-end .result) pre
+                      (name-end .ensures .rest) (name-end .ensures .inside) (if1 .left) (is-at .result) (is-at .ensures) (if2 .left)) (name-end2 .ensures .rest)
+                      (name-end2 .ensures .inside),
+                  if3 .left,
+                );
+            next = omega arith;
+            inside = omega (arith, if4 .left);
+          };
+    }
 
 pub read-line-spec : {M : Type 1} → statement M
 read-line-spec =

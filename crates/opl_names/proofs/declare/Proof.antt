@@ -48,8 +48,12 @@ same-length c = search needs
 
 returns : tie.Need-returns
 returns c =
-    let z : c .before .before .before .before .before .before .before .before .before .args .at + c .before .before .before .before .before .before .before .before .before .args .size - c .before .before .before .before .before .before .before .before .before .args .at ≡ c .before .before .before .before .before .before .before .before .before .args .size = omega arith in
-    declared-there (now (c .before .before .before .before .before .before .before .before .before .args .s)) (c .before .before .before .before .before .before .before .before .before .args .n) (now (c .before .before .before .before .before .before .before .before .before .args .t)) (take (c .before .before .before .before .before .before .before .before .before .args .size) (drop (c .before .before .before .before .before .before .before .before .before .args .at) (now (c .before .before .before .before .before .before .before .before .before .args .s)))) (c .before .before .before .before .before .before .before .before .before .pre .0) (c .before .before .find-marked .result) _ (c .enum-told2 .given .1) (rw z at (c .before .before .find-marked .ensures))
+    let args = c .before .before .before .before .before .before .before .before .before .args in
+    let pre = c .before .before .before .before .before .before .before .before .before .pre in
+    let find-marked = c .before .before .find-marked in
+    let z : args .at + args .size - args .at ≡ args .size = omega arith in
+    declared-there (now (args .s)) (args .n) (now (args .t)) (take (args .size) (drop (args .at) (now (args .s)))) (pre .0) (find-marked .result) _
+    (c .enum-told2 .given .1) (rw z at (find-marked .ensures))
 
 slice-read-k : tie.Need-slice-read-k
 slice-read-k c = search needs
@@ -59,8 +63,12 @@ same-length-2 c = search needs
 
 returns-2 : tie.Need-returns-2
 returns-2 c =
-    let z : c .before .before .before .before .before .before .before .before .before .before .before .args .at + c .before .before .before .before .before .before .before .before .before .before .before .args .size - c .before .before .before .before .before .before .before .before .before .before .before .args .at ≡ c .before .before .before .before .before .before .before .before .before .before .before .args .size = omega arith in
-    declared-full (now (c .before .before .before .before .before .before .before .before .before .before .before .args .s)) (c .before .before .before .before .before .before .before .before .before .before .before .args .n) (now (c .before .before .before .before .before .before .before .before .before .before .before .args .t)) (take (c .before .before .before .before .before .before .before .before .before .before .before .args .size) (drop (c .before .before .before .before .before .before .before .before .before .before .before .args .at) (now (c .before .before .before .before .before .before .before .before .before .before .before .args .s)))) (c .before .before .before .before .before .before .before .before .before .before .before .pre .0) (c .before .before .before .before .find-marked .result) (c .before .before .enum-told .given .1) (rw z at (c .before .before .before .before .find-marked .ensures)) (omega (arith, c .if1 .taken))
+    let args = c .before .before .before .before .before .before .before .before .before .before .before .args in
+    let pre = c .before .before .before .before .before .before .before .before .before .before .before .pre in
+    let find-marked = c .before .before .before .before .find-marked in
+    let z : args .at + args .size - args .at ≡ args .size = omega arith in
+    declared-full (now (args .s)) (args .n) (now (args .t)) (take (args .size) (drop (args .at) (now (args .s)))) (pre .0) (find-marked .result)
+    (c .before .before .enum-told .given .1) (rw z at (find-marked .ensures)) (omega (arith, c .if1 .taken))
 
 append-requires : tie.Need-append-requires
 append-requires c κs = search needs
@@ -70,8 +78,17 @@ same-length-3 c = search needs
 
 returns-3 : tie.Need-returns-3
 returns-3 c =
-    let z : c .before .before .before .before .before .before .before .before .before .before .before .before .before .before .before .args .at + c .before .before .before .before .before .before .before .before .before .before .before .before .before .before .before .args .size - c .before .before .before .before .before .before .before .before .before .before .before .before .before .before .before .args .at ≡ c .before .before .before .before .before .before .before .before .before .before .before .before .before .before .before .args .size = omega arith in
-    declared-new (now (c .before .before .before .before .before .before .before .before .before .before .before .before .before .before .before .args .s)) (c .before .before .before .before .before .before .before .before .before .before .before .before .before .before .before .args .n) (now (c .before .before .before .before .before .before .before .before .before .before .before .before .before .before .before .args .t)) (take (c .before .before .before .before .before .before .before .before .before .before .before .before .before .before .before .args .size) (drop (c .before .before .before .before .before .before .before .before .before .before .before .before .before .before .before .args .at) (now (c .before .before .before .before .before .before .before .before .before .before .before .before .before .before .before .args .s)))) (c .before .before .before .before .before .before .before .before .before .before .before .before .before .before .before .pre .0) (c .before .before .before .before .before .before .before .before .before .before .before .before .before .before .before .args .at) (c .before .before .before .before .before .before .before .before .before .before .before .before .before .before .before .args .size) (c .before .before .before .before .before .before .before .before .before .before .before .mark .result) (sym (rw z at (c .before .before .before .before .before .before .before .before .find-marked .ensures)) ∙ ap foundOf (c .before .before .before .before .before .before .enum-told .given .1)) (omega (arith, c .before .before .before .before .if1 .left)) (c .before .before .before .before .before .before .before .before .before .before .before .before .before .before .before .pre .1 .0) (c .before .before .before .before .before .before .before .before .before .before .before .before .before .before .before .pre .1 .1) refl (rw z at (c .before .before .before .before .before .before .before .before .before .before .before .mark .ensures .0)) (c .before .before .append .last .0) (c .before .before .append .ensures)
+    let args = c .before .before .before .before .before .before .before .before .before .before .before .before .before .before .before .args in
+    let pre = c .before .before .before .before .before .before .before .before .before .before .before .before .before .before .before .pre in
+    let mark = c .before .before .before .before .before .before .before .before .before .before .before .mark in
+    let find-marked = c .before .before .before .before .before .before .before .before .find-marked in
+    let enum-told = c .before .before .before .before .before .before .enum-told in
+    let if1 = c .before .before .before .before .if1 in
+    let append = c .before .before .append in
+    let z : args .at + args .size - args .at ≡ args .size = omega arith in
+    declared-new (now (args .s)) (args .n) (now (args .t)) (take (args .size) (drop (args .at) (now (args .s)))) (pre .0) (args .at) (args .size) (mark .result)
+    (sym (rw z at (find-marked .ensures)) ∙ ap foundOf (enum-told .given .1)) (omega (arith, if1 .left)) (pre .1 .0) (pre .1 .1) refl
+    (rw z at (mark .ensures .0)) (append .last .0) (append .ensures)
 
 pub declare-spec : {M : Type 1} → statement M
 declare-spec =

@@ -19,31 +19,65 @@ bucket-requires : tie.Need-bucket-requires Inv-loop μ-loop
 bucket-requires c κs = c .before .before .before .pre .0 .some
 
 start-requires : tie.Need-start-requires Inv-loop μ-loop
-start-requires c κs = (c .before .before .before .before .pre .0 .some, (c .before .before .before .before .pre .0 .room, (c .before .before .before .before .pre .0 .within, c .bucket .ensures .1)))
+start-requires c κs =
+    let pre = c .before .before .before .before .pre in
+    (pre .0 .some, (pre .0 .room, (pre .0 .within, c .bucket .ensures .1)))
 
 loop-holds : tie.Need-loop-holds Inv-loop μ-loop
-loop-holds c = walk-start (now (c .before .before .before .before .before .args .s)) (c .before .before .before .before .before .args .n) (now (c .before .before .before .before .before .args .t)) (now (c .before .before .before .before .before .args .name)) (c .before .before .before .before .before .args .m) (bucketOf (c .before .before .before .before .before .args .n) (c .before .before .before .before .before .args .m)) (c .before .before .before .before .before .pre .0) (c .before .before .before .before .before .pre .1) refl (c .start .result) (rw (c .before .bucket .ensures .0) at (c .before .bucket .ensures .1)) (rw (c .before .bucket .ensures .0) at (c .start .ensures .0))
+loop-holds c =
+    let args = c .before .before .before .before .before .args in
+    let pre = c .before .before .before .before .before .pre in
+    walk-start (now (args .s)) (args .n) (now (args .t)) (now (args .name)) (args .m) (bucketOf (args .n) (args .m)) (pre .0) (pre .1) refl (c .start .result)
+    (rw (c .before .bucket .ensures .0) at (c .before .bucket .ensures .1)) (rw (c .before .bucket .ensures .0) at (c .start .ensures .0))
 
 sub-k : tie.Need-sub-k Inv-loop μ-loop
 sub-k c = search needs
 
 is-name-requires : tie.Need-is-name-requires Inv-loop μ-loop
-is-name-requires c κs = (omega (arith, c .before .loop .inv .within, c .before .before .before .before .before .before .before .pre .0 .room, c .before .before .before .before .before .before .before .pre .0 .within), c .before .before .before .before .before .before .before .pre .0 .inside (c .before .loop .next - 1) (omega (arith, c .before .loop .inv .within)))
+is-name-requires c κs =
+    let pre = c .before .before .before .before .before .before .before .pre in (
+      omega (arith, c .before .loop .inv .within, pre .0 .room, pre .0 .within),
+      pre .0 .inside (c .before .loop .next - 1) (omega (arith, c .before .loop .inv .within)),
+    )
 
 returns : tie.Need-returns Inv-loop μ-loop
-returns c = walk-found (now (c .before .before .before .before .before .before .before .before .before .args .s)) (c .before .before .before .before .before .before .before .before .before .args .n) (now (c .before .before .before .before .before .before .before .before .before .args .t)) (now (c .before .before .before .before .before .before .before .before .before .args .name)) (c .before .before .before .before .before .before .before .before .before .args .m) (bucketOf (c .before .before .before .before .before .before .before .before .before .args .n) (c .before .before .before .before .before .before .before .before .before .args .m)) (c .before .before .before .before .before .before .before .before .before .pre .0) (c .before .before .before .before .before .before .before .before .before .pre .1) refl (c .before .before .before .loop .next) (omega (arith, c .before .before .loop-test .taken)) (c .before .before .before .loop .inv) (sym (c .if1 .taken) ∙ c .before .is-name .ensures)
+returns c =
+    let args = c .before .before .before .before .before .before .before .before .before .args in
+    let pre = c .before .before .before .before .before .before .before .before .before .pre in
+    let loop = c .before .before .before .loop in
+    walk-found (now (args .s)) (args .n) (now (args .t)) (now (args .name)) (args .m) (bucketOf (args .n) (args .m)) (pre .0) (pre .1) refl (loop .next)
+    (omega (arith, c .before .before .loop-test .taken)) (loop .inv) (sym (c .if1 .taken) ∙ c .before .is-name .ensures)
 
 link-requires : tie.Need-link-requires Inv-loop μ-loop
-link-requires c κs = omega (arith, c .before .before .before .loop .inv .within, c .before .before .before .before .before .before .before .before .before .pre .0 .room, c .before .before .before .before .before .before .before .before .before .pre .0 .within)
+link-requires c κs =
+    let pre = c .before .before .before .before .before .before .before .before .before .pre in
+    let loop = c .before .before .before .loop in
+    omega (arith, loop .inv .within, pre .0 .room, pre .0 .within)
 
 loop-less : tie.Need-loop-less Inv-loop μ-loop
-loop-less c = walk-less (now (c .before .before .before .before .before .before .before .before .before .before .args .s)) (c .before .before .before .before .before .before .before .before .before .before .args .n) (now (c .before .before .before .before .before .before .before .before .before .before .args .t)) (now (c .before .before .before .before .before .before .before .before .before .before .args .name)) (c .before .before .before .before .before .before .before .before .before .before .args .m) (bucketOf (c .before .before .before .before .before .before .before .before .before .before .args .n) (c .before .before .before .before .before .before .before .before .before .before .args .m)) (c .before .before .before .before .before .before .before .before .before .before .pre .0) (c .before .before .before .before .before .before .before .before .before .before .pre .1) refl (c .before .before .before .before .loop .next) (omega (arith, c .before .before .before .loop-test .taken)) (c .before .before .before .before .loop .inv) (c .link .result) (sym (c .before .if1 .left) ∙ c .before .before .is-name .ensures) (c .link .ensures)
+loop-less c =
+    let args = c .before .before .before .before .before .before .before .before .before .before .args in
+    let pre = c .before .before .before .before .before .before .before .before .before .before .pre in
+    let loop = c .before .before .before .before .loop in
+    let loop-test = c .before .before .before .loop-test in
+    walk-less (now (args .s)) (args .n) (now (args .t)) (now (args .name)) (args .m) (bucketOf (args .n) (args .m)) (pre .0) (pre .1) refl (loop .next)
+    (omega (arith, loop-test .taken)) (loop .inv) (c .link .result) (sym (c .before .if1 .left) ∙ c .before .before .is-name .ensures) (c .link .ensures)
 
 loop-again : tie.Need-loop-again Inv-loop μ-loop
-loop-again c = walk-on (now (c .before .before .before .before .before .before .before .before .before .before .args .s)) (c .before .before .before .before .before .before .before .before .before .before .args .n) (now (c .before .before .before .before .before .before .before .before .before .before .args .t)) (now (c .before .before .before .before .before .before .before .before .before .before .args .name)) (c .before .before .before .before .before .before .before .before .before .before .args .m) (bucketOf (c .before .before .before .before .before .before .before .before .before .before .args .n) (c .before .before .before .before .before .before .before .before .before .before .args .m)) (c .before .before .before .before .before .before .before .before .before .before .pre .0) (c .before .before .before .before .before .before .before .before .before .before .pre .1) refl (c .before .before .before .before .loop .next) (omega (arith, c .before .before .before .loop-test .taken)) (c .before .before .before .before .loop .inv) (c .link .result) (sym (c .before .if1 .left) ∙ c .before .before .is-name .ensures) (c .link .ensures)
+loop-again c =
+    let args = c .before .before .before .before .before .before .before .before .before .before .args in
+    let pre = c .before .before .before .before .before .before .before .before .before .before .pre in
+    let loop = c .before .before .before .before .loop in
+    let loop-test = c .before .before .before .loop-test in
+    walk-on (now (args .s)) (args .n) (now (args .t)) (now (args .name)) (args .m) (bucketOf (args .n) (args .m)) (pre .0) (pre .1) refl (loop .next)
+    (omega (arith, loop-test .taken)) (loop .inv) (c .link .result) (sym (c .before .if1 .left) ∙ c .before .before .is-name .ensures) (c .link .ensures)
 
 returns-2 : tie.Need-returns-2 Inv-loop μ-loop
-returns-2 c = walk-end (now (c .before .before .before .before .before .before .before .args .s)) (c .before .before .before .before .before .before .before .args .n) (now (c .before .before .before .before .before .before .before .args .t)) (now (c .before .before .before .before .before .before .before .args .name)) (c .before .before .before .before .before .before .before .args .m) (bucketOf (c .before .before .before .before .before .before .before .args .n) (c .before .before .before .before .before .before .before .args .m)) (c .before .before .before .before .before .before .before .pre .0) (c .before .before .before .before .before .before .before .pre .1) refl (c .before .loop .next) (omega (arith, c .loop-test .left)) (c .before .loop .inv)
+returns-2 c =
+    let args = c .before .before .before .before .before .before .before .args in
+    let pre = c .before .before .before .before .before .before .before .pre in
+    walk-end (now (args .s)) (args .n) (now (args .t)) (now (args .name)) (args .m) (bucketOf (args .n) (args .m)) (pre .0) (pre .1) refl
+    (c .before .loop .next) (omega (arith, c .loop-test .left)) (c .before .loop .inv)
 
 pub find-marked-spec : {M : Type 1} → statement M
 find-marked-spec =

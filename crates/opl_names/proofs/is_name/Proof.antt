@@ -49,7 +49,10 @@ same-by-eights-requires : tie.Need-same-by-eights-requires
 same-by-eights-requires c κs = search needs
 
 returns-2 : tie.Need-returns-2
-returns-2 c = is-last (now (c .before .before .before .before .before .before .before .before .args .s)) (now (c .before .before .before .before .before .before .before .before .args .t)) (c .before .before .before .before .before .before .before .before .args .k) (c .before .before .before .before .before .before .before .before .args .m) (now (c .before .before .before .before .before .before .before .before .args .name)) (c .before .before .before .if1 .left) (c .same-by-eights .ensures)
+returns-2 c =
+    let args = c .before .before .before .before .before .before .before .before .args in
+    let if1 = c .before .before .before .if1 in
+    is-last (now (args .s)) (now (args .t)) (args .k) (args .m) (now (args .name)) (if1 .left) (c .same-by-eights .ensures)
 
 pub is-name-spec : {M : Type 1} → statement M
 is-name-spec =

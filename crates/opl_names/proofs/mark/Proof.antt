@@ -36,7 +36,12 @@ loop-less : tie.Need-loop-less Inv-loop μ-loop
 loop-less c = search needs
 
 loop-again : tie.Need-loop-again Inv-loop μ-loop
-loop-again c = (omega (arith, c .before .before .loop-test .taken), (c .turn .ensures .1, quads-on (now (c .before .before .before .before .before .args .name)) (c .before .before .before .loop .k) (c .before .before .before .loop .inv .1 .1) (c .before .quad .ensures .0) (c .turn .ensures .0)))
+loop-again c =
+    let args = c .before .before .before .before .before .args in
+    let loop = c .before .before .before .loop in (
+      omega (arith, c .before .before .loop-test .taken),
+      (c .turn .ensures .1, quads-on (now (args .name)) (loop .k) (loop .inv .1 .1) (c .before .quad .ensures .0) (c .turn .ensures .0)),
+    )
 
 mul-rest : tie.Need-mul-rest Inv-loop μ-loop
 mul-rest c = search needs
@@ -48,7 +53,14 @@ turn-requires-2 : tie.Need-turn-requires-2 Inv-loop μ-loop
 turn-requires-2 c κs = search needs
 
 returns : tie.Need-returns Inv-loop μ-loop
-returns c = let z : c .before .before .before .loop .k ≡ length (now (c .before .before .before .before .before .args .name)) / 4 = omega (arith, c .before .before .before .loop .inv .0, c .before .before .loop-test .left) in (quads-end (now (c .before .before .before .before .before .args .name)) (length (now (c .before .before .before .before .before .args .name)) / 4) (c .before .before .before .loop .inv .1 .1 ∙ ap (markTo (now (c .before .before .before .before .before .args .name))) z) refl (c .before .rest .ensures .0) (c .turn2 .ensures .0), c .turn2 .ensures .1)
+returns c =
+    let args = c .before .before .before .before .before .args in
+    let loop = c .before .before .before .loop in
+    let z : loop .k ≡ length (now (args .name)) / 4 = omega (arith, loop .inv .0, c .before .before .loop-test .left) in (
+      quads-end (now (args .name)) (length (now (args .name)) / 4) (loop .inv .1 .1 ∙ ap (markTo (now (args .name))) z) refl (c .before .rest .ensures .0)
+          (c .turn2 .ensures .0),
+      c .turn2 .ensures .1,
+    )
 
 pub mark-spec : {M : Type 1} → statement M
 mark-spec =

@@ -58,7 +58,13 @@ add-result-3 c = search needs
 
 returns : tie.Need-returns
 unfolding quadAt
-returns c = (omega (arith, c .before .before .before .before .before .before .wide .ensures .0, c .before .before .before .before .wide2 .ensures .0, c .before .before .wide3 .ensures .0, c .wide4 .ensures .0), omega (arith, c .before .before .before .before .before .before .wide .ensures .1, c .before .before .before .before .wide2 .ensures .1, c .before .before .wide3 .ensures .1, c .wide4 .ensures .1))
+returns c =
+    let wide = c .before .before .before .before .before .before .wide in
+    let wide2 = c .before .before .before .before .wide2 in
+    let wide3 = c .before .before .wide3 in (
+      omega (arith, wide .ensures .0, wide2 .ensures .0, wide3 .ensures .0, c .wide4 .ensures .0),
+      omega (arith, wide .ensures .1, wide2 .ensures .1, wide3 .ensures .1, c .wide4 .ensures .1),
+    )
 
 pub quad-spec : {M : Type 1} → statement M
 quad-spec =

@@ -39,10 +39,20 @@ loop-less : tie.Need-loop-less Inv-loop μ-loop
 loop-less c = search needs
 
 loop-again : tie.Need-loop-again Inv-loop μ-loop
-loop-again c = (search needs, (mod-lt (256 * (c .before .before .before .loop .x) + c .wide .result) (omega arith), rest-turn (now (c .before .before .before .before .before .args .name)) (c .before .before .before .loop .x) (c .before .before .before .loop .i) (c .before .before .loop-test .taken) (c .wide .ensures .0) refl (c .before .before .before .loop .inv .1 .1)))
+loop-again c =
+    let args = c .before .before .before .before .before .args in
+    let loop = c .before .before .before .loop in (
+      search needs,
+      (
+        mod-lt (256 * (loop .x) + c .wide .result) (omega arith),
+        rest-turn (now (args .name)) (loop .x) (loop .i) (c .before .before .loop-test .taken) (c .wide .ensures .0) refl (loop .inv .1 .1),
+      ),
+    )
 
 returns : tie.Need-returns Inv-loop μ-loop
-returns c = (rest-end (now (c .before .before .before .args .name)) (c .before .loop .x) (c .before .loop .i) (c .loop-test .left) (c .before .loop .inv .1 .1), c .before .loop .inv .1 .0)
+returns c =
+    let args = c .before .before .before .args in
+    (rest-end (now (args .name)) (c .before .loop .x) (c .before .loop .i) (c .loop-test .left) (c .before .loop .inv .1 .1), c .before .loop .inv .1 .0)
 
 pub rest-spec : {M : Type 1} → statement M
 rest-spec =

@@ -49,11 +49,20 @@ bucket-requires c κs = search needs
 
 returns-3 : tie.Need-returns-3
 unfolding startOf
-returns-3 c = (simp (ne-eqb _ _ (c .before .before .before .before .before .if1 .left), le-ltb _ _ (c .before .before .before .if2 .left), ← (c .before .bucket .ensures .0), ne-eqb _ _ (c .if3 .taken)), omega arith)
+returns-3 c =
+    let if1 = c .before .before .before .before .before .if1 in
+    let if2 = c .before .before .before .if2 in
+    (simp (ne-eqb _ _ (if1 .left), le-ltb _ _ (if2 .left), ← (c .before .bucket .ensures .0), ne-eqb _ _ (c .if3 .taken)), omega arith)
 
 returns-4 : tie.Need-returns-4
 unfolding startOf
-returns-4 c = (simp (ne-eqb _ _ (c .before .before .before .before .before .if1 .left), le-ltb _ _ (c .before .before .before .if2 .left), ← (c .before .bucket .ensures .0), eq-eqb _ _ (c .if3 .left)), omega (arith, c .before .before .before .if2 .left, c .before .before .before .before .before .before .before .before .pre .1 .1 .0))
+returns-4 c =
+    let pre = c .before .before .before .before .before .before .before .before .pre in
+    let if1 = c .before .before .before .before .before .if1 in
+    let if2 = c .before .before .before .if2 in (
+      simp (ne-eqb _ _ (if1 .left), le-ltb _ _ (if2 .left), ← (c .before .bucket .ensures .0), eq-eqb _ _ (c .if3 .left)),
+      omega (arith, if2 .left, pre .1 .1 .0),
+    )
 
 pub start-spec : {M : Type 1} → statement M
 start-spec =

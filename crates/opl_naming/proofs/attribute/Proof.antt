@@ -1,5 +1,5 @@
 -- One case for each space.
-use Rattle.opl_declared.specs.Names.{attributeOf}
+use Rattle.opl_line_names.specs.Names.{attributeOf}
 use Rattle.opl_naming.proofs.NamingLaws.{last-attribute}
 use Rattle.opl_naming.proofs.attribute.Statement.{statement}
 use Rattle.opl_naming.proofs.attribute.Tie as tie

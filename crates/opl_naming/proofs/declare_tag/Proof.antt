@@ -20,37 +20,94 @@ enum-known-t-2 : tie.Need-enum-known-t-2
 enum-known-t-2 c = search needs
 
 sub-element : tie.Need-sub-element
-sub-element c = let o = goes-stands (now (c .before .before .before .before .before .before .args .s)) (c .before .before .before .before .before .before .args .at) (c .before .before .before .read-tag .result) (c .before .before .before .read-tag .ensures) (now (c .before .before .before .before .before .before .args .w)) (c .before .before .before .before .before .before .pre .1 .0) (c .before .t2 .given .0 .0) (c .before .t2 .given .0 .1 .0) (c .before .t2 .given .1) in omega (arith, o .named)
+sub-element c =
+    let args = c .before .before .before .before .before .before .args in
+    let pre = c .before .before .before .before .before .before .pre in
+    let read-tag = c .before .before .before .read-tag in
+    let o =
+    goes-stands (now (args .s)) (args .at) (read-tag .result) (read-tag .ensures) (now (args .w)) (pre .1 .0) (c .before .t2 .given .0 .0)
+    (c .before .t2 .given .0 .1 .0) (c .before .t2 .given .1) in
+    omega (arith, o .named)
 
 part-element-start : tie.Need-part-element-start
-part-element-start c = let o = goes-stands (now (c .before .before .before .before .before .before .args .s)) (c .before .before .before .before .before .before .args .at) (c .before .before .before .read-tag .result) (c .before .before .before .read-tag .ensures) (now (c .before .before .before .before .before .before .args .w)) (c .before .before .before .before .before .before .pre .1 .0) (c .before .t2 .given .0 .0) (c .before .t2 .given .0 .1 .0) (c .before .t2 .given .1) in search needs
+part-element-start c =
+    let args = c .before .before .before .before .before .before .args in
+    let pre = c .before .before .before .before .before .before .pre in
+    let read-tag = c .before .before .before .read-tag in
+    let o =
+    goes-stands (now (args .s)) (args .at) (read-tag .result) (read-tag .ensures) (now (args .w)) (pre .1 .0) (c .before .t2 .given .0 .0)
+    (c .before .t2 .given .0 .1 .0) (c .before .t2 .given .1) in
+    search needs
 
 part-element-end : tie.Need-part-element-end
-part-element-end c = let o = goes-stands (now (c .before .before .before .before .before .before .args .s)) (c .before .before .before .before .before .before .args .at) (c .before .before .before .read-tag .result) (c .before .before .before .read-tag .ensures) (now (c .before .before .before .before .before .before .args .w)) (c .before .before .before .before .before .before .pre .1 .0) (c .before .t2 .given .0 .0) (c .before .t2 .given .0 .1 .0) (c .before .t2 .given .1) in search needs
+part-element-end c =
+    let args = c .before .before .before .before .before .before .args in
+    let pre = c .before .before .before .before .before .before .pre in
+    let read-tag = c .before .before .before .read-tag in
+    let o =
+    goes-stands (now (args .s)) (args .at) (read-tag .result) (read-tag .ensures) (now (args .w)) (pre .1 .0) (c .before .t2 .given .0 .0)
+    (c .before .t2 .given .0 .1 .0) (c .before .t2 .given .1) in
+    search needs
 
 element-requires : tie.Need-element-requires
 element-requires c κs = search needs
 
 enter-requires : tie.Need-enter-requires
-enter-requires c κs = (c .before .before .before .before .before .before .before .before .before .pre .0, (goes-stands (now (c .before .before .before .before .before .before .before .before .before .args .s)) (c .before .before .before .before .before .before .before .before .before .args .at) (c .before .before .before .before .before .before .read-tag .result) (c .before .before .before .before .before .before .read-tag .ensures) (now (c .before .before .before .before .before .before .before .before .before .args .w)) (c .before .before .before .before .before .before .before .before .before .pre .1 .0) (c .before .before .before .before .t2 .given .0 .0) (c .before .before .before .before .t2 .given .0 .1 .0) (c .before .before .before .before .t2 .given .1) .inside, goes-low (now (c .before .before .before .before .before .before .before .before .before .args .s)) (c .before .before .before .before .before .before .before .before .before .args .at) (c .before .before .before .before .before .before .read-tag .result) (c .before .before .before .before .before .before .read-tag .ensures) (now (c .before .before .before .before .before .before .before .before .before .args .w)) (c .before .before .before .before .before .before .before .before .before .pre .1 .0) (c .before .before .before .before .t2 .given .0 .0) (c .before .before .before .before .t2 .given .0 .1 .0) (c .before .before .before .before .t2 .given .1) (c .before .element .result) (c .before .element .ensures)))
+enter-requires c κs =
+    let pre = c .before .before .before .before .before .before .before .before .before .pre in
+    let args = c .before .before .before .before .before .before .before .before .before .args in
+    let read-tag = c .before .before .before .before .before .before .read-tag in
+    let t2 = c .before .before .before .before .t2 in (
+      pre .0,
+      (
+        goes-stands (now (args .s)) (args .at) (read-tag .result) (read-tag .ensures) (now (args .w)) (pre .1 .0) (t2 .given .0 .0) (t2 .given .0 .1 .0)
+            (t2 .given .1) .inside,
+        goes-low (now (args .s)) (args .at) (read-tag .result) (read-tag .ensures) (now (args .w)) (pre .1 .0) (t2 .given .0 .0) (t2 .given .0 .1 .0)
+            (t2 .given .1) (c .before .element .result) (c .before .element .ensures),
+      ),
+    )
 
 same-length : tie.Need-same-length
 same-length c = search needs
 
 returns : tie.Need-returns
-returns c = goes-other (now (c .before .before .before .before .before .before .before .before .before .before .before .before .before .args .s)) (c .before .before .before .before .before .before .before .before .before .before .before .before .before .args .at) (c .before .before .before .before .before .before .before .before .before .before .read-tag .result) (c .before .before .before .before .before .before .before .before .before .before .read-tag .ensures) (now (c .before .before .before .before .before .before .before .before .before .before .before .before .before .args .w)) (c .before .before .before .before .before .before .before .before .before .before .before .before .before .pre .1 .0) (c .before .before .before .before .before .before .before .before .t2 .given .0 .0) (c .before .before .before .before .before .before .before .before .t2 .given .0 .1 .0) (c .before .before .before .before .before .before .before .before .t2 .given .1) (c .before .before .before .before .before .element .result) (c .before .before .before .before .before .element .ensures) (c .before .before .before .before .before .before .before .before .before .before .before .before .before .pre .0) (c .before .before .before .enter .last .1 .0) (c .before .before .before .enter .ensures) (λ i h u. omega (arith, u, c .if1 .taken))
+returns c =
+    let args = c .before .before .before .before .before .before .before .before .before .before .before .before .before .args in
+    let pre = c .before .before .before .before .before .before .before .before .before .before .before .before .before .pre in
+    let read-tag = c .before .before .before .before .before .before .before .before .before .before .read-tag in
+    let t2 = c .before .before .before .before .before .before .before .before .t2 in
+    let element = c .before .before .before .before .before .element in
+    let enter = c .before .before .before .enter in
+    goes-other (now (args .s)) (args .at) (read-tag .result) (read-tag .ensures) (now (args .w)) (pre .1 .0) (t2 .given .0 .0) (t2 .given .0 .1 .0)
+    (t2 .given .1) (element .result) (element .ensures) (pre .0) (enter .last .1 .0) (enter .ensures) (λ i h u. omega (arith, u, c .if1 .taken))
 
 same-length-2 : tie.Need-same-length-2
 same-length-2 c = search needs
 
 returns-2 : tie.Need-returns-2
-returns-2 c = goes-other (now (c .before .before .before .before .before .before .before .before .before .before .before .before .before .before .args .s)) (c .before .before .before .before .before .before .before .before .before .before .before .before .before .before .args .at) (c .before .before .before .before .before .before .before .before .before .before .before .read-tag .result) (c .before .before .before .before .before .before .before .before .before .before .before .read-tag .ensures) (now (c .before .before .before .before .before .before .before .before .before .before .before .before .before .before .args .w)) (c .before .before .before .before .before .before .before .before .before .before .before .before .before .before .pre .1 .0) (c .before .before .before .before .before .before .before .before .before .t2 .given .0 .0) (c .before .before .before .before .before .before .before .before .before .t2 .given .0 .1 .0) (c .before .before .before .before .before .before .before .before .before .t2 .given .1) (c .before .before .before .before .before .before .element .result) (c .before .before .before .before .before .before .element .ensures) (c .before .before .before .before .before .before .before .before .before .before .before .before .before .before .pre .0) (c .before .before .before .before .enter .last .1 .0) (c .before .before .before .before .enter .ensures) (λ i h u. omega (arith, u, c .if2 .taken))
+returns-2 c =
+    let args = c .before .before .before .before .before .before .before .before .before .before .before .before .before .before .args in
+    let pre = c .before .before .before .before .before .before .before .before .before .before .before .before .before .before .pre in
+    let read-tag = c .before .before .before .before .before .before .before .before .before .before .before .read-tag in
+    let t2 = c .before .before .before .before .before .before .before .before .before .t2 in
+    let element = c .before .before .before .before .before .before .element in
+    let enter = c .before .before .before .before .enter in
+    goes-other (now (args .s)) (args .at) (read-tag .result) (read-tag .ensures) (now (args .w)) (pre .1 .0) (t2 .given .0 .0) (t2 .given .0 .1 .0)
+    (t2 .given .1) (element .result) (element .ensures) (pre .0) (enter .last .1 .0) (enter .ensures) (λ i h u. omega (arith, u, c .if2 .taken))
 
 attribute-requires : tie.Need-attribute-requires
 attribute-requires c κs = search needs
 
 value-place-requires : tie.Need-value-place-requires
-value-place-requires c κs = let o = goes-stands (now (c .before .before .before .before .before .before .before .before .before .before .before .before .before .before .before .args .s)) (c .before .before .before .before .before .before .before .before .before .before .before .before .before .before .before .args .at) (c .before .before .before .before .before .before .before .before .before .before .before .before .read-tag .result) (c .before .before .before .before .before .before .before .before .before .before .before .before .read-tag .ensures) (now (c .before .before .before .before .before .before .before .before .before .before .before .before .before .before .before .args .w)) (c .before .before .before .before .before .before .before .before .before .before .before .before .before .before .before .pre .1 .0) (c .before .before .before .before .before .before .before .before .before .before .t2 .given .0 .0) (c .before .before .before .before .before .before .before .before .before .before .t2 .given .0 .1 .0) (c .before .before .before .before .before .before .before .before .before .before .t2 .given .1) in omega (arith, o .inside)
+value-place-requires c κs =
+    let o =
+    let args = c .before .before .before .before .before .before .before .before .before .before .before .before .before .before .before .args in
+    let pre = c .before .before .before .before .before .before .before .before .before .before .before .before .before .before .before .pre in
+    let read-tag = c .before .before .before .before .before .before .before .before .before .before .before .before .read-tag in
+    let t2 = c .before .before .before .before .before .before .before .before .before .before .t2 in
+    goes-stands (now (args .s)) (args .at) (read-tag .result) (read-tag .ensures) (now (args .w)) (pre .1 .0) (t2 .given .0 .0) (t2 .given .0 .1 .0)
+    (t2 .given .1) in
+    omega (arith, o .inside)
 
 sub-size : tie.Need-sub-size
 sub-size c = search needs
@@ -59,22 +116,88 @@ same-length-3 : tie.Need-same-length-3
 same-length-3 c = search needs
 
 returns-3 : tie.Need-returns-3
-returns-3 c = goes-long (now (c .before .before .before .before .before .before .before .before .before .before .before .before .before .before .before .before .before .before .args .s)) (c .before .before .before .before .before .before .before .before .before .before .before .before .before .before .before .before .before .before .args .at) (c .before .before .before .before .before .before .before .before .before .before .before .before .before .before .before .read-tag .result) (c .before .before .before .before .before .before .before .before .before .before .before .before .before .before .before .read-tag .ensures) (now (c .before .before .before .before .before .before .before .before .before .before .before .before .before .before .before .before .before .before .args .w)) (c .before .before .before .before .before .before .before .before .before .before .before .before .before .before .before .before .before .before .pre .1 .0) (c .before .before .before .before .before .before .before .before .before .before .before .before .before .t2 .given .0 .0) (c .before .before .before .before .before .before .before .before .before .before .before .before .before .t2 .given .0 .1 .0) (c .before .before .before .before .before .before .before .before .before .before .before .before .before .t2 .given .1) (c .before .before .before .before .before .before .before .before .before .before .element .result) (c .before .before .before .before .before .before .before .before .before .before .element .ensures) (c .before .before .before .before .before .before .before .before .before .before .before .before .before .before .before .before .before .before .pre .0) (c .before .before .before .before .before .before .before .before .enter .last .1 .0) (c .before .before .before .before .before .before .before .before .enter .ensures) (c .before .before .before .before .before .before .before .before .before .before .element .result - 12) (omega (arith, c .before .before .before .before .before .if1 .left, c .before .before .before .before .if2 .left)) (omega (arith, c .before .before .before .before .before .if1 .left)) (c .before .before .value-place .result) (rw (c .before .before .before .attribute .ensures) at (c .before .before .value-place .ensures)) (c .if3 .taken)
+returns-3 c =
+    let args = c .before .before .before .before .before .before .before .before .before .before .before .before .before .before .before .before .before .before
+    .args in
+    let pre = c .before .before .before .before .before .before .before .before .before .before .before .before .before .before .before .before .before .before
+    .pre in
+    let read-tag = c .before .before .before .before .before .before .before .before .before .before .before .before .before .before .before .read-tag in
+    let t2 = c .before .before .before .before .before .before .before .before .before .before .before .before .before .t2 in
+    let element = c .before .before .before .before .before .before .before .before .before .before .element in
+    let enter = c .before .before .before .before .before .before .before .before .enter in
+    let if1 = c .before .before .before .before .before .if1 in
+    let if2 = c .before .before .before .before .if2 in
+    let attribute = c .before .before .before .attribute in
+    let value-place = c .before .before .value-place in
+    goes-long (now (args .s)) (args .at) (read-tag .result) (read-tag .ensures) (now (args .w)) (pre .1 .0) (t2 .given .0 .0) (t2 .given .0 .1 .0)
+    (t2 .given .1) (element .result) (element .ensures) (pre .0) (enter .last .1 .0) (enter .ensures) (element .result - 12)
+    (omega (arith, if1 .left, if2 .left)) (omega (arith, if1 .left)) (value-place .result) (rw (attribute .ensures) at (value-place .ensures)) (c .if3 .taken)
 
 declare-requires : tie.Need-declare-requires
-declare-requires c κs = ((goes-room (now (c .before .before .before .before .before .before .before .before .before .before .before .before .before .before .before .before .before .before .before .args .s)) (c .before .before .before .before .before .before .before .before .before .before .before .before .before .before .before .before .before .before .before .args .at) (c .before .before .before .before .before .before .before .before .before .before .before .before .before .before .before .before .read-tag .result) (c .before .before .before .before .before .before .before .before .before .before .before .before .before .before .before .before .read-tag .ensures) (now (c .before .before .before .before .before .before .before .before .before .before .before .before .before .before .before .before .before .before .before .args .w)) (c .before .before .before .before .before .before .before .before .before .before .before .before .before .before .before .before .before .before .before .pre .1 .0) (c .before .before .before .before .before .before .before .before .before .before .before .before .before .before .t2 .given .0 .0) (c .before .before .before .before .before .before .before .before .before .before .before .before .before .before .t2 .given .0 .1 .0) (c .before .before .before .before .before .before .before .before .before .before .before .before .before .before .t2 .given .1) (c .before .before .before .before .before .before .before .before .before .before .before .element .result) (c .before .before .before .before .before .before .before .before .before .before .before .element .ensures) (c .before .before .before .before .before .before .before .before .before .before .before .before .before .before .before .before .before .before .before .pre .0) (c .before .before .before .before .before .before .before .before .before .enter .last .1 .0) (c .before .before .before .before .before .before .before .before .before .enter .ensures), omega (arith, c .before .before .before .before .before .before .if1 .left, c .before .before .before .before .before .if2 .left)), (goes-sound (now (c .before .before .before .before .before .before .before .before .before .before .before .before .before .before .before .before .before .before .before .args .s)) (c .before .before .before .before .before .before .before .before .before .before .before .before .before .before .before .before .before .before .before .args .at) (c .before .before .before .before .before .before .before .before .before .before .before .before .before .before .before .before .read-tag .result) (c .before .before .before .before .before .before .before .before .before .before .before .before .before .before .before .before .read-tag .ensures) (now (c .before .before .before .before .before .before .before .before .before .before .before .before .before .before .before .before .before .before .before .args .w)) (c .before .before .before .before .before .before .before .before .before .before .before .before .before .before .before .before .before .before .before .pre .1 .0) (c .before .before .before .before .before .before .before .before .before .before .before .before .before .before .t2 .given .0 .0) (c .before .before .before .before .before .before .before .before .before .before .before .before .before .before .t2 .given .0 .1 .0) (c .before .before .before .before .before .before .before .before .before .before .before .before .before .before .t2 .given .1) (c .before .before .before .before .before .before .before .before .before .before .before .element .result) (c .before .before .before .before .before .before .before .before .before .before .before .element .ensures) (c .before .before .before .before .before .before .before .before .before .before .before .before .before .before .before .before .before .before .before .pre .0) (c .before .before .before .before .before .before .before .before .before .enter .last .1 .0) (c .before .before .before .before .before .before .before .before .before .enter .ensures) (c .before .before .before .before .before .before .before .before .before .before .before .element .result - 12) (omega (arith, c .before .before .before .before .before .before .if1 .left, c .before .before .before .before .before .if2 .left)), (omega (arith, c .before .before .before .value-place .ensures .inside, c .before .before .before .value-place .ensures .order), c .before .if3 .left)))
+declare-requires c κs =
+    let args = c .before .before .before .before .before .before .before .before .before .before .before .before .before .before .before .before .before .before
+    .before .args in
+    let pre = c .before .before .before .before .before .before .before .before .before .before .before .before .before .before .before .before .before .before
+    .before .pre in
+    let read-tag = c .before .before .before .before .before .before .before .before .before .before .before .before .before .before .before .before
+    .read-tag in
+    let t2 = c .before .before .before .before .before .before .before .before .before .before .before .before .before .before .t2 in
+    let element = c .before .before .before .before .before .before .before .before .before .before .before .element in
+    let enter = c .before .before .before .before .before .before .before .before .before .enter in
+    let if1 = c .before .before .before .before .before .before .if1 in
+    let if2 = c .before .before .before .before .before .if2 in
+    let value-place = c .before .before .before .value-place in (
+      (
+        goes-room (now (args .s)) (args .at) (read-tag .result) (read-tag .ensures) (now (args .w)) (pre .1 .0) (t2 .given .0 .0) (t2 .given .0 .1 .0)
+            (t2 .given .1) (element .result) (element .ensures) (pre .0) (enter .last .1 .0) (enter .ensures),
+        omega (arith, if1 .left, if2 .left),
+      ),
+      (
+        goes-sound (now (args .s)) (args .at) (read-tag .result) (read-tag .ensures) (now (args .w)) (pre .1 .0) (t2 .given .0 .0) (t2 .given .0 .1 .0)
+            (t2 .given .1) (element .result) (element .ensures) (pre .0) (enter .last .1 .0) (enter .ensures) (element .result - 12)
+            (omega (arith, if1 .left, if2 .left)),
+        (omega (arith, value-place .ensures .inside, value-place .ensures .order), c .before .if3 .left),
+      ),
+    )
 
 returns-4 : tie.Need-returns-4
-returns-4 c = goes-halt (now (c .before .before .before .before .before .args .s)) (c .before .before .before .before .before .args .at) (c .before .before .read-tag .result) (c .before .before .read-tag .ensures) (now (c .before .before .before .before .before .args .w)) (c .before .before .before .before .before .pre .1 .0) (c .enum-told .given .1)
+returns-4 c =
+    let args = c .before .before .before .before .before .args in
+    let pre = c .before .before .before .before .before .pre in
+    let read-tag = c .before .before .read-tag in
+    goes-halt (now (args .s)) (args .at) (read-tag .result) (read-tag .ensures) (now (args .w)) (pre .1 .0) (c .enum-told .given .1)
 
 returns-5 : tie.Need-returns-5
-returns-5 c = goes-end (now (c .before .before .before .before .before .before .args .s)) (c .before .before .before .before .before .before .args .at) (c .before .before .before .read-tag .result) (c .before .before .before .read-tag .ensures) (now (c .before .before .before .before .before .before .args .w)) (c .before .before .before .before .before .before .pre .1 .0) (c .before .t .given .0 .0) (c .before .t .given .1)
+returns-5 c =
+    let args = c .before .before .before .before .before .before .args in
+    let pre = c .before .before .before .before .before .before .pre in
+    let read-tag = c .before .before .before .read-tag in
+    goes-end (now (args .s)) (args .at) (read-tag .result) (read-tag .ensures) (now (args .w)) (pre .1 .0) (c .before .t .given .0 .0) (c .before .t .given .1)
 
 same-length-4 : tie.Need-same-length-4
 same-length-4 c = search needs
 
 returns-6 : tie.Need-returns-6
-returns-6 c = goes-on (now (c .before .before .before .before .before .before .before .before .before .before .before .before .before .before .before .before .before .before .before .before .before .before .args .s)) (c .before .before .before .before .before .before .before .before .before .before .before .before .before .before .before .before .before .before .before .before .before .before .args .at) (c .before .before .before .before .before .before .before .before .before .before .before .before .before .before .before .before .before .before .before .read-tag .result) (c .before .before .before .before .before .before .before .before .before .before .before .before .before .before .before .before .before .before .before .read-tag .ensures) (now (c .before .before .before .before .before .before .before .before .before .before .before .before .before .before .before .before .before .before .before .before .before .before .args .w)) (c .before .before .before .before .before .before .before .before .before .before .before .before .before .before .before .before .before .before .before .before .before .before .pre .1 .0) (c .before .before .before .before .before .before .before .before .before .before .before .before .before .before .before .before .before .t2 .given .0 .0) (c .before .before .before .before .before .before .before .before .before .before .before .before .before .before .before .before .before .t2 .given .0 .1 .0) (c .before .before .before .before .before .before .before .before .before .before .before .before .before .before .before .before .before .t2 .given .1) (c .before .before .before .before .before .before .before .before .before .before .before .before .before .before .element .result) (c .before .before .before .before .before .before .before .before .before .before .before .before .before .before .element .ensures) (c .before .before .before .before .before .before .before .before .before .before .before .before .before .before .before .before .before .before .before .before .before .before .pre .0) (c .before .before .before .before .before .before .before .before .before .before .before .before .enter .last .1 .0) (c .before .before .before .before .before .before .before .before .before .before .before .before .enter .ensures) (c .before .before .before .before .before .before .before .before .before .before .before .before .before .before .element .result - 12) (omega (arith, c .before .before .before .before .before .before .before .before .before .if1 .left, c .before .before .before .before .before .before .before .before .if2 .left)) (omega (arith, c .before .before .before .before .before .before .before .before .before .if1 .left)) (c .before .before .before .before .before .before .value-place .result) (rw (c .before .before .before .before .before .before .before .attribute .ensures) at (c .before .before .before .before .before .before .value-place .ensures)) (c .before .before .declare .last .1 .0) (c .before .before .declare .result) (c .before .before .before .before .if3 .left) (c .before .before .declare .ensures)
+returns-6 c =
+    let args = c .before .before .before .before .before .before .before .before .before .before .before .before .before .before .before .before .before .before
+    .before .before .before .before .args in
+    let pre = c .before .before .before .before .before .before .before .before .before .before .before .before .before .before .before .before .before .before
+    .before .before .before .before .pre in
+    let read-tag = c .before .before .before .before .before .before .before .before .before .before .before .before .before .before .before .before .before
+    .before .before .read-tag in
+    let t2 = c .before .before .before .before .before .before .before .before .before .before .before .before .before .before .before .before .before .t2 in
+    let element = c .before .before .before .before .before .before .before .before .before .before .before .before .before .before .element in
+    let enter = c .before .before .before .before .before .before .before .before .before .before .before .before .enter in
+    let if1 = c .before .before .before .before .before .before .before .before .before .if1 in
+    let if2 = c .before .before .before .before .before .before .before .before .if2 in
+    let attribute = c .before .before .before .before .before .before .before .attribute in
+    let value-place = c .before .before .before .before .before .before .value-place in
+    let if3 = c .before .before .before .before .if3 in
+    let declare = c .before .before .declare in
+    goes-on (now (args .s)) (args .at) (read-tag .result) (read-tag .ensures) (now (args .w)) (pre .1 .0) (t2 .given .0 .0) (t2 .given .0 .1 .0) (t2 .given .1)
+    (element .result) (element .ensures) (pre .0) (enter .last .1 .0) (enter .ensures) (element .result - 12) (omega (arith, if1 .left, if2 .left))
+    (omega (arith, if1 .left)) (value-place .result) (rw (attribute .ensures) at (value-place .ensures)) (declare .last .1 .0) (declare .result) (if3 .left)
+    (declare .ensures)
 
 pub declare-tag-spec : {M : Type 1} → statement M
 declare-tag-spec =

@@ -16,43 +16,79 @@ abbrev μ-loop : tie.MeasureT-loop
 μ-loop s w₀ from at₀ w at = length s - at
 
 loop-holds : tie.Need-loop-holds Inv-loop μ-loop
-loop-holds c = names-first (now (c .before .before .args .s)) (c .before .before .args .from) (now (c .before .before .args .w)) (c .before .before .pre .1 .1) (c .before .before .pre .1 .0)
+loop-holds c =
+    let args = c .before .before .args in
+    let pre = c .before .before .pre in
+    names-first (now (args .s)) (args .from) (now (args .w)) (pre .1 .1) (pre .1 .0)
 
 declare-tag-requires : tie.Need-declare-tag-requires Inv-loop μ-loop
-declare-tag-requires c κs = (c .before .before .loop .inv .room ∙ c .before .before .before .before .before .pre .0, (λ i h. c .before .before .loop .inv .spaces i h .sound, c .before .before .loop .inv .inside))
+declare-tag-requires c κs =
+    let pre = c .before .before .before .before .before .pre in
+    let loop = c .before .before .loop in
+    (loop .inv .room ∙ pre .0, (λ i h. loop .inv .spaces i h .sound, loop .inv .inside))
 
 enum-told : tie.Need-enum-told Inv-loop μ-loop
 enum-told c = search needs
 
 same-length : tie.Need-same-length Inv-loop μ-loop
-same-length c = c .before .before .before .before .declare-tag .kept .1 .0 ∙ c .before .before .before .before .before .before .before .loop .inv .room
+same-length c =
+    let loop = c .before .before .before .before .before .before .before .loop in
+    let declare-tag = c .before .before .before .before .declare-tag in
+    declare-tag .kept .1 .0 ∙ loop .inv .room
 
 returns : tie.Need-returns Inv-loop μ-loop
-returns c = names-done (now (c .before .before .before .before .before .before .before .before .before .before .args .s)) (c .before .before .before .before .before .before .before .before .before .before .args .from) (now (c .before .before .before .before .before .before .before .before .before .before .args .w)) (c .before .before .before .before .before .before .before .loop .at) (c .before .before .before .before .before .before .before .loop .w) (c .before .before .before .before .before .before .before .loop .inv) (c .before .before .before .before .declare-tag .result) (c .before .before .before .before .declare-tag .last .1 .0) (c .before .before .before .before .declare-tag .ensures) (c .enum-told .given .1)
+returns c =
+    let args = c .before .before .before .before .before .before .before .before .before .before .args in
+    let loop = c .before .before .before .before .before .before .before .loop in
+    let declare-tag = c .before .before .before .before .declare-tag in
+    names-done (now (args .s)) (args .from) (now (args .w)) (loop .at) (loop .w) (loop .inv) (declare-tag .result) (declare-tag .last .1 .0)
+    (declare-tag .ensures) (c .enum-told .given .1)
 
 enum-told-2 : tie.Need-enum-told-2 Inv-loop μ-loop
 enum-told-2 c = search needs
 
 same-length-2 : tie.Need-same-length-2 Inv-loop μ-loop
-same-length-2 c = c .before .before .before .before .declare-tag .kept .1 .0 ∙ c .before .before .before .before .before .before .before .loop .inv .room
+same-length-2 c =
+    let loop = c .before .before .before .before .before .before .before .loop in
+    let declare-tag = c .before .before .before .before .declare-tag in
+    declare-tag .kept .1 .0 ∙ loop .inv .room
 
 returns-2 : tie.Need-returns-2 Inv-loop μ-loop
-returns-2 c = names-long (now (c .before .before .before .before .before .before .before .before .before .before .args .s)) (c .before .before .before .before .before .before .before .before .before .before .args .from) (now (c .before .before .before .before .before .before .before .before .before .before .args .w)) (c .before .before .before .before .before .before .before .loop .at) (c .before .before .before .before .before .before .before .loop .w) (c .before .before .before .before .before .before .before .loop .inv) (c .before .before .before .before .declare-tag .result) (c .before .before .before .before .declare-tag .last .1 .0) (c .before .before .before .before .declare-tag .ensures) (c .enum-told2 .given .1)
+returns-2 c =
+    let args = c .before .before .before .before .before .before .before .before .before .before .args in
+    let loop = c .before .before .before .before .before .before .before .loop in
+    let declare-tag = c .before .before .before .before .declare-tag in
+    names-long (now (args .s)) (args .from) (now (args .w)) (loop .at) (loop .w) (loop .inv) (declare-tag .result) (declare-tag .last .1 .0)
+    (declare-tag .ensures) (c .enum-told2 .given .1)
 
 enum-known-r : tie.Need-enum-known-r Inv-loop μ-loop
 enum-known-r c = search needs
 
 loop-less : tie.Need-loop-less Inv-loop μ-loop
-loop-less c = let p = names-past (now (c .before .before .before .before .before .before .before .before .before .before .before .args .s)) (c .before .before .before .before .before .before .before .before .before .before .before .args .from) (now (c .before .before .before .before .before .before .before .before .before .before .before .args .w)) (c .before .before .before .before .before .before .before .before .loop .at) (c .before .before .before .before .before .before .before .before .loop .w) (c .before .before .before .before .before .before .before .before .loop .inv) (c .before .before .before .before .before .declare-tag .result) (c .before .before .before .before .before .declare-tag .last .1 .0) (c .before .before .before .before .before .declare-tag .ensures) (c .before .r .given .0 .0) (c .before .r .given .1) in omega (arith, p .0, p .1)
+loop-less c =
+    let p =
+    let args = c .before .before .before .before .before .before .before .before .before .before .before .args in
+    let loop = c .before .before .before .before .before .before .before .before .loop in
+    let declare-tag = c .before .before .before .before .before .declare-tag in
+    names-past (now (args .s)) (args .from) (now (args .w)) (loop .at) (loop .w) (loop .inv) (declare-tag .result) (declare-tag .last .1 .0)
+    (declare-tag .ensures) (c .before .r .given .0 .0) (c .before .r .given .1) in
+    omega (arith, p .0, p .1)
 
 loop-again : tie.Need-loop-again Inv-loop μ-loop
-loop-again c = names-on (now (c .before .before .before .before .before .before .before .before .before .before .before .args .s)) (c .before .before .before .before .before .before .before .before .before .before .before .args .from) (now (c .before .before .before .before .before .before .before .before .before .before .before .args .w)) (c .before .before .before .before .before .before .before .before .loop .at) (c .before .before .before .before .before .before .before .before .loop .w) (c .before .before .before .before .before .before .before .before .loop .inv) (c .before .before .before .before .before .declare-tag .result) (c .before .before .before .before .before .declare-tag .last .1 .0) (c .before .before .before .before .before .declare-tag .ensures) (c .before .r .given .0 .0) (c .before .r .given .1)
+loop-again c =
+    let args = c .before .before .before .before .before .before .before .before .before .before .before .args in
+    let loop = c .before .before .before .before .before .before .before .before .loop in
+    let declare-tag = c .before .before .before .before .before .declare-tag in
+    names-on (now (args .s)) (args .from) (now (args .w)) (loop .at) (loop .w) (loop .inv) (declare-tag .result) (declare-tag .last .1 .0)
+    (declare-tag .ensures) (c .before .r .given .0 .0) (c .before .r .given .1)
 
 same-length-3 : tie.Need-same-length-3 Inv-loop μ-loop
 same-length-3 c = c .before .loop .inv .room
 
 returns-3 : tie.Need-returns-3 Inv-loop μ-loop
-returns-3 c = names-end (now (c .before .before .before .before .args .s)) (c .before .before .before .before .args .from) (now (c .before .before .before .before .args .w)) (c .before .loop .at) (c .before .loop .w) (c .before .loop .inv) (c .loop-test .left)
+returns-3 c =
+    let args = c .before .before .before .before .args in
+    names-end (now (args .s)) (args .from) (now (args .w)) (c .before .loop .at) (c .before .loop .w) (c .before .loop .inv) (c .loop-test .left)
 
 pub declare-tags-spec : {M : Type 1} → statement M
 declare-tags-spec =

@@ -20,7 +20,9 @@ loop-holds : tie.Need-loop-holds Inv-loop μ-loop
 loop-holds c = empty-first (now (c .before .args .w))
 
 empty-requires : tie.Need-empty-requires Inv-loop μ-loop
-empty-requires c κs = (c .before .before .loop .inv .room ∙ c .before .before .before .before .pre, c .before .loop-test .taken)
+empty-requires c κs =
+    let pre = c .before .before .before .before .pre in
+    (c .before .before .loop .inv .room ∙ pre, c .before .loop-test .taken)
 
 add-i : tie.Need-add-i Inv-loop μ-loop
 add-i c = search needs
@@ -29,7 +31,12 @@ loop-less : tie.Need-loop-less Inv-loop μ-loop
 loop-less c = omega (arith, c .before .before .before .before .loop-test .taken)
 
 loop-again : tie.Need-loop-again Inv-loop μ-loop
-loop-again c = empty-on (now (c .before .before .before .before .before .before .before .args .w)) (c .before .before .before .before .before .loop .w) (c .before .before .empty .last .0) (c .before .before .before .before .before .loop .i) (c .before .before .before .before .loop-test .taken) (c .before .before .before .before .before .loop .inv) (c .before .before .empty .ensures)
+loop-again c =
+    let args = c .before .before .before .before .before .before .before .args in
+    let loop = c .before .before .before .before .before .loop in
+    let loop-test = c .before .before .before .before .loop-test in
+    let empty = c .before .before .empty in
+    empty-on (now (args .w)) (loop .w) (empty .last .0) (loop .i) (loop-test .taken) (loop .inv) (empty .ensures)
 
 slice-write-w : tie.Need-slice-write-w Inv-loop μ-loop
 slice-write-w c = omega (arith, c .before .loop .inv .room, c .before .before .before .pre)
@@ -38,7 +45,10 @@ same-length : tie.Need-same-length Inv-loop μ-loop
 same-length c = length-set (c .before .loop .w) listPlace 0 ∙ c .before .loop .inv .room
 
 returns : tie.Need-returns Inv-loop μ-loop
-returns c = empty-end (now (c .before .before .before .args .w)) (c .before .loop .w) (c .before .loop .i) (c .before .before .before .pre) (c .loop-test .left) (c .before .loop .inv)
+returns c =
+    let args = c .before .before .before .args in
+    let pre = c .before .before .before .pre in
+    empty-end (now (args .w)) (c .before .loop .w) (c .before .loop .i) pre (c .loop-test .left) (c .before .loop .inv)
 
 pub empty-all-spec : {M : Type 1} → statement M
 empty-all-spec =

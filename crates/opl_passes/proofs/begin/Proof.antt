@@ -26,7 +26,10 @@ sub-if1 : tie.Need-sub-if1 Inv-loop μ-loop
 sub-if1 c = c .before .before .loop .inv .fits
 
 returns : tie.Need-returns Inv-loop μ-loop
-returns c = begin-over (now (c .before .before .before .before .args .counts)) (c .before .before .before .before .args .cap) (c .before .before .before .loop .counts) (c .before .before .before .loop .sum) (c .before .before .before .loop .k) (c .before .before .before .loop .inv) (c .before .before .loop-test .taken) (c .if1 .taken)
+returns c =
+    let args = c .before .before .before .before .args in
+    let loop = c .before .before .before .loop in
+    begin-over (now (args .counts)) (args .cap) (loop .counts) (loop .sum) (loop .k) (loop .inv) (c .before .before .loop-test .taken) (c .if1 .taken)
 
 mul-counts : tie.Need-mul-counts Inv-loop μ-loop
 mul-counts c = search needs
@@ -44,10 +47,15 @@ loop-less : tie.Need-loop-less Inv-loop μ-loop
 loop-less c = omega (arith, c .before .before .loop-test .taken)
 
 loop-again : tie.Need-loop-again Inv-loop μ-loop
-loop-again c = begin-on (now (c .before .before .before .before .args .counts)) (c .before .before .before .before .args .cap) (c .before .before .before .loop .counts) (c .before .before .before .loop .sum) (c .before .before .before .loop .k) (c .before .before .before .loop .inv) (c .before .before .loop-test .taken) (c .if1 .left)
+loop-again c =
+    let args = c .before .before .before .before .args in
+    let loop = c .before .before .before .loop in
+    begin-on (now (args .counts)) (args .cap) (loop .counts) (loop .sum) (loop .k) (loop .inv) (c .before .before .loop-test .taken) (c .if1 .left)
 
 returns-2 : tie.Need-returns-2 Inv-loop μ-loop
-returns-2 c = begin-end (now (c .before .before .args .counts)) (c .before .before .args .cap) (c .before .loop .counts) (c .before .loop .sum) (c .before .loop .k) (c .before .loop .inv) (c .loop-test .left)
+returns-2 c =
+    let args = c .before .before .args in
+    begin-end (now (args .counts)) (args .cap) (c .before .loop .counts) (c .before .loop .sum) (c .before .loop .k) (c .before .loop .inv) (c .loop-test .left)
 
 pub begin-spec : {M : Type 1} → statement M
 begin-spec =

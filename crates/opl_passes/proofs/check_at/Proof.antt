@@ -15,7 +15,9 @@ use Rattle.opl_passes.proofs.check_at.Statement.{statement}
 use Rattle.opl_passes.proofs.check_at.Tie as tie
 
 turn-requires : tie.Need-turn-requires
-turn-requires c κs = (c .before .before .before .before .pre .0 .room, c .before .before .before .before .pre .1 .0 .0)
+turn-requires c κs =
+    let pre = c .before .before .before .before .pre in
+    (pre .0 .room, pre .1 .0 .0)
 
 enum-told : tie.Need-enum-told
 enum-told c = search needs
@@ -27,7 +29,15 @@ enum-known-x-2 : tie.Need-enum-known-x-2
 enum-known-x-2 c = search needs
 
 said-requires : tie.Need-said-requires
-said-requires c κs = let b : Turns (now (c .before .before .before .before .before .before .before .before .before .args .s)) (listOf (now (c .before .before .before .before .before .before .before .before .before .args .w))) (c .before .before .before .before .before .before .before .before .before .args .c) (Says (c .before .before .x2 .given .0 .0) (c .before .before .x2 .given .0 .1 .0) (c .before .before .x2 .given .0 .1 .1 .0) (c .before .before .x2 .given .0 .1 .1 .1 .0)) = rw (c .before .before .x2 .given .1) at (c .before .before .before .before .turn .ensures) in let t = b .0 in (c .before .before .before .before .before .before .before .before .before .pre .0, ((rw (t .ends) at (t .steps .stood .inside), rw (t .ends) at (b .1)), t .cardinal))
+said-requires c κs =
+    let args = c .before .before .before .before .before .before .before .before .before .args in
+    let pre = c .before .before .before .before .before .before .before .before .before .pre in
+    let turn = c .before .before .before .before .turn in
+    let x2 = c .before .before .x2 in
+    let b : Turns (now (args .s)) (listOf (now (args .w))) (args .c)
+    (Says (x2 .given .0 .0) (x2 .given .0 .1 .0) (x2 .given .0 .1 .1 .0) (x2 .given .0 .1 .1 .1 .0)) = rw (x2 .given .1) at (turn .ensures) in
+    let t = b .0 in
+    (pre .0, ((rw (t .ends) at (t .steps .stood .inside), rw (t .ends) at (b .1)), t .cardinal))
 
 enum-known-f : tie.Need-enum-known-f
 enum-known-f c = search needs
@@ -39,31 +49,84 @@ same-length : tie.Need-same-length
 same-length c = search needs
 
 returns : tie.Need-returns
-returns c = let b : Turns (now (c .before .before .before .before .before .before .before .before .before .before .before .before .args .s)) (listOf (now (c .before .before .before .before .before .before .before .before .before .before .before .before .args .w))) (c .before .before .before .before .before .before .before .before .before .before .before .before .args .c) (Says (c .before .before .before .before .before .x2 .given .0 .0) (c .before .before .before .before .before .x2 .given .0 .1 .0) (c .before .before .before .before .before .x2 .given .0 .1 .1 .0) (c .before .before .before .before .before .x2 .given .0 .1 .1 .1 .0)) = rw (c .before .before .before .before .before .x2 .given .1) at (c .before .before .before .before .before .before .before .turn .ensures) in let t = b .0 in told-none (allNames (now (c .before .before .before .before .before .before .before .before .before .before .before .before .args .s)) (now (c .before .before .before .before .before .before .before .before .before .before .before .before .args .t))) (now (c .before .before .before .before .before .before .before .before .before .before .before .before .args .s)) (c .before .before .before .before .before .before .before .before .before .before .before .before .args .c) (c .before .before .before .before .before .x2 .given .0 .0) (c .before .before .before .before .before .x2 .given .0 .1 .0) (c .before .before .before .before .before .x2 .given .0 .1 .1 .0) (c .before .before .before .before .before .x2 .given .0 .1 .1 .1 .0) t (c .before .before .said .result) (c .before .before .said .ensures) (c .enum-told2 .given .1)
+returns c =
+    let args = c .before .before .before .before .before .before .before .before .before .before .before .before .args in
+    let turn = c .before .before .before .before .before .before .before .turn in
+    let x2 = c .before .before .before .before .before .x2 in
+    let said = c .before .before .said in
+    let b : Turns (now (args .s)) (listOf (now (args .w))) (args .c)
+    (Says (x2 .given .0 .0) (x2 .given .0 .1 .0) (x2 .given .0 .1 .1 .0) (x2 .given .0 .1 .1 .1 .0)) = rw (x2 .given .1) at (turn .ensures) in
+    let t = b .0 in
+    told-none (allNames (now (args .s)) (now (args .t))) (now (args .s)) (args .c) (x2 .given .0 .0) (x2 .given .0 .1 .0) (x2 .given .0 .1 .1 .0)
+    (x2 .given .0 .1 .1 .1 .0) t (said .result) (said .ensures) (c .enum-told2 .given .1)
 
 add-i : tie.Need-add-i
-add-i c = record { fits = omega (arith, c .before .before .before .before .before .before .before .before .before .before .before .before .before .pre .1 .0 .1, c .before .before .before .before .before .before .before .before .before .before .before .before .before .pre .1 .0 .0 .0 .inside) }
+add-i c =
+    let pre = c .before .before .before .before .before .before .before .before .before .before .before .before .before .pre in
+    record { fits = omega (arith, pre .1 .0 .1, pre .1 .0 .0 .0 .inside) }
 
 mul-counts : tie.Need-mul-counts
-mul-counts c = let b : Turns (now (c .before .before .before .before .before .before .before .before .before .before .before .before .before .args .s)) (listOf (now (c .before .before .before .before .before .before .before .before .before .before .before .before .before .args .w))) (c .before .before .before .before .before .before .before .before .before .before .before .before .before .args .c) (Says (c .before .before .before .before .before .before .x2 .given .0 .0) (c .before .before .before .before .before .before .x2 .given .0 .1 .0) (c .before .before .before .before .before .before .x2 .given .0 .1 .1 .0) (c .before .before .before .before .before .before .x2 .given .0 .1 .1 .1 .0)) = rw (c .before .before .before .before .before .before .x2 .given .1) at (c .before .before .before .before .before .before .before .before .turn .ensures) in let t = b .0 in record { fits = omega (arith, t .small) }
+mul-counts c =
+    let args = c .before .before .before .before .before .before .before .before .before .before .before .before .before .args in
+    let turn = c .before .before .before .before .before .before .before .before .turn in
+    let x2 = c .before .before .before .before .before .before .x2 in
+    let b : Turns (now (args .s)) (listOf (now (args .w))) (args .c)
+    (Says (x2 .given .0 .0) (x2 .given .0 .1 .0) (x2 .given .0 .1 .1 .0) (x2 .given .0 .1 .1 .1 .0)) = rw (x2 .given .1) at (turn .ensures) in
+    let t = b .0 in
+    record { fits = omega (arith, t .small) }
 
 element-copy-out-counts : tie.Need-element-copy-out-counts
-element-copy-out-counts c = let b : Turns (now (c .before .before .before .before .before .before .before .before .before .before .before .before .before .args .s)) (listOf (now (c .before .before .before .before .before .before .before .before .before .before .before .before .before .args .w))) (c .before .before .before .before .before .before .before .before .before .before .before .before .before .args .c) (Says (c .before .before .before .before .before .before .x2 .given .0 .0) (c .before .before .before .before .before .before .x2 .given .0 .1 .0) (c .before .before .before .before .before .before .x2 .given .0 .1 .1 .0) (c .before .before .before .before .before .before .x2 .given .0 .1 .1 .1 .0)) = rw (c .before .before .before .before .before .before .x2 .given .1) at (c .before .before .before .before .before .before .before .before .turn .ensures) in let t = b .0 in t .small
+element-copy-out-counts c =
+    let args = c .before .before .before .before .before .before .before .before .before .before .before .before .before .args in
+    let turn = c .before .before .before .before .before .before .before .before .turn in
+    let x2 = c .before .before .before .before .before .before .x2 in
+    let b : Turns (now (args .s)) (listOf (now (args .w))) (args .c)
+    (Says (x2 .given .0 .0) (x2 .given .0 .1 .0) (x2 .given .0 .1 .1 .0) (x2 .given .0 .1 .1 .1 .0)) = rw (x2 .given .1) at (turn .ensures) in
+    let t = b .0 in
+    t .small
 
 add-counts : tie.Need-add-counts
-add-counts c = record { fits = omega (arith, c .before .before .before .before .before .before .before .before .before .before .before .before .before .before .pre .1 .1 .1 (c .before .before .before .before .before .before .before .x2 .given .0 .0), c .before .before .before .before .before .before .before .before .before .before .before .before .before .before .pre .1 .0 .0 .0 .inside) }
+add-counts c =
+    let pre = c .before .before .before .before .before .before .before .before .before .before .before .before .before .before .pre in
+    let x2 = c .before .before .before .before .before .before .before .x2 in
+    record { fits = omega (arith, pre .1 .1 .1 (x2 .given .0 .0), pre .1 .0 .0 .0 .inside) }
 
 mul-counts-2 : tie.Need-mul-counts-2
-mul-counts-2 c = let b : Turns (now (c .before .before .before .before .before .before .before .before .before .before .before .before .before .before .args .s)) (listOf (now (c .before .before .before .before .before .before .before .before .before .before .before .before .before .before .args .w))) (c .before .before .before .before .before .before .before .before .before .before .before .before .before .before .args .c) (Says (c .before .before .before .before .before .before .before .x2 .given .0 .0) (c .before .before .before .before .before .before .before .x2 .given .0 .1 .0) (c .before .before .before .before .before .before .before .x2 .given .0 .1 .1 .0) (c .before .before .before .before .before .before .before .x2 .given .0 .1 .1 .1 .0)) = rw (c .before .before .before .before .before .before .before .x2 .given .1) at (c .before .before .before .before .before .before .before .before .before .turn .ensures) in let t = b .0 in record { fits = omega (arith, t .small) }
+mul-counts-2 c =
+    let args = c .before .before .before .before .before .before .before .before .before .before .before .before .before .before .args in
+    let turn = c .before .before .before .before .before .before .before .before .before .turn in
+    let x2 = c .before .before .before .before .before .before .before .x2 in
+    let b : Turns (now (args .s)) (listOf (now (args .w))) (args .c)
+    (Says (x2 .given .0 .0) (x2 .given .0 .1 .0) (x2 .given .0 .1 .1 .0) (x2 .given .0 .1 .1 .1 .0)) = rw (x2 .given .1) at (turn .ensures) in
+    let t = b .0 in
+    record { fits = omega (arith, t .small) }
 
 element-write-counts : tie.Need-element-write-counts
-element-write-counts c = let b : Turns (now (c .before .before .before .before .before .before .before .before .before .before .before .before .before .before .args .s)) (listOf (now (c .before .before .before .before .before .before .before .before .before .before .before .before .before .before .args .w))) (c .before .before .before .before .before .before .before .before .before .before .before .before .before .before .args .c) (Says (c .before .before .before .before .before .before .before .x2 .given .0 .0) (c .before .before .before .before .before .before .before .x2 .given .0 .1 .0) (c .before .before .before .before .before .before .before .x2 .given .0 .1 .1 .0) (c .before .before .before .before .before .before .before .x2 .given .0 .1 .1 .1 .0)) = rw (c .before .before .before .before .before .before .before .x2 .given .1) at (c .before .before .before .before .before .before .before .before .before .turn .ensures) in let t = b .0 in t .small
+element-write-counts c =
+    let args = c .before .before .before .before .before .before .before .before .before .before .before .before .before .before .args in
+    let turn = c .before .before .before .before .before .before .before .before .before .turn in
+    let x2 = c .before .before .before .before .before .before .before .x2 in
+    let b : Turns (now (args .s)) (listOf (now (args .w))) (args .c)
+    (Says (x2 .given .0 .0) (x2 .given .0 .1 .0) (x2 .given .0 .1 .1 .0) (x2 .given .0 .1 .1 .1 .0)) = rw (x2 .given .1) at (turn .ensures) in
+    let t = b .0 in
+    t .small
 
 low-word-requires : tie.Need-low-word-requires
-low-word-requires c κs = let b : Turns (now (c .before .before .before .before .before .before .before .before .before .before .before .before .before .before .args .s)) (listOf (now (c .before .before .before .before .before .before .before .before .before .before .before .before .before .before .args .w))) (c .before .before .before .before .before .before .before .before .before .before .before .before .before .before .args .c) (Says (c .before .before .before .before .before .before .before .x2 .given .0 .0) (c .before .before .before .before .before .before .before .x2 .given .0 .1 .0) (c .before .before .before .before .before .before .before .x2 .given .0 .1 .1 .0) (c .before .before .before .before .before .before .before .x2 .given .0 .1 .1 .1 .0)) = rw (c .before .before .before .before .before .before .before .x2 .given .1) at (c .before .before .before .before .before .before .before .before .before .turn .ensures) in let t = b .0 in let z : Small (c .before .before .f .given .0 .0) (c .before .before .f .given .0 .1 .0) (c .before .before .f .given .0 .1 .1 .0) (c .before .before .f .given .0 .1 .1 .1 .0) = rw (c .before .before .f .given .1) at (c .before .before .before .before .said .ensures .fits) in (omega (arith, t .small), (z .n-fits, (z .a-fits, (z .b-fits, z .c-fits))))
+low-word-requires c κs =
+    let args = c .before .before .before .before .before .before .before .before .before .before .before .before .before .before .args in
+    let turn = c .before .before .before .before .before .before .before .before .before .turn in
+    let x2 = c .before .before .before .before .before .before .before .x2 in
+    let said = c .before .before .before .before .said in
+    let f = c .before .before .f in
+    let b : Turns (now (args .s)) (listOf (now (args .w))) (args .c)
+    (Says (x2 .given .0 .0) (x2 .given .0 .1 .0) (x2 .given .0 .1 .1 .0) (x2 .given .0 .1 .1 .1 .0)) = rw (x2 .given .1) at (turn .ensures) in
+    let t = b .0 in
+    let z : Small (f .given .0 .0) (f .given .0 .1 .0) (f .given .0 .1 .1 .0) (f .given .0 .1 .1 .1 .0) = rw (f .given .1) at (said .ensures .fits) in
+    (omega (arith, t .small), (z .n-fits, (z .a-fits, (z .b-fits, z .c-fits))))
 
 keep-requires : tie.Need-keep-requires
-keep-requires c κs = c .before .before .before .before .before .before .before .before .before .before .before .before .before .before .before .before .pre .0 .room
+keep-requires c κs =
+    c .before .before .before .before .before .before .before .before .before .before .before .before .before .before .before .before .pre .0 .room
 
 same-length-2 : tie.Need-same-length-2
 same-length-2 c = search needs
@@ -75,13 +138,42 @@ same-length-3 : tie.Need-same-length-3
 same-length-3 c = search needs
 
 returns-3 : tie.Need-returns-3
-returns-3 c = let p : Turns (now (c .before .before .before .before .before .before .before .before .args .s)) (listOf (now (c .before .before .before .before .before .before .before .before .args .w))) (c .before .before .before .before .before .before .before .before .args .c) (Silent (c .before .x .given .0 .0)) = rw (c .before .x .given .1) at (c .before .before .before .turn .ensures) in (passed (allNames (now (c .before .before .before .before .before .before .before .before .args .s)) (now (c .before .before .before .before .before .before .before .before .args .t))) (now (c .before .before .before .before .before .before .before .before .args .s)) (c .before .before .before .before .before .before .before .before .args .c) (now (c .before .before .before .before .before .before .before .before .args .counts)) (c .before .x .given .0 .0) (c .before .before .before .before .before .before .before .before .pre .1 .1 .1) (p .0), kept-passed (allNames (now (c .before .before .before .before .before .before .before .before .args .s)) (now (c .before .before .before .before .before .before .before .before .args .t))) (now (c .before .before .before .before .before .before .before .before .args .s)) (now (c .before .before .before .before .before .before .before .before .args .t)) (c .before .before .before .before .before .before .before .before .args .c) (c .before .before .before .before .before .before .before .before .args .j) (now (c .before .before .before .before .before .before .before .before .args .w)) (c .before .before .before .before .before .before .before .before .pre .0) (c .before .before .before .before .before .before .before .before .pre .1 .0 .1) (c .before .x .given .0 .0) (p .0) (p .1))
+returns-3 c =
+    let args = c .before .before .before .before .before .before .before .before .args in
+    let pre = c .before .before .before .before .before .before .before .before .pre in
+    let turn = c .before .before .before .turn in
+    let p : Turns (now (args .s)) (listOf (now (args .w))) (args .c) (Silent (c .before .x .given .0 .0)) = rw (c .before .x .given .1) at (turn .ensures) in (
+      passed (allNames (now (args .s)) (now (args .t))) (now (args .s)) (args .c) (now (args .counts)) (c .before .x .given .0 .0) (pre .1 .1 .1) (p .0),
+      kept-passed (allNames (now (args .s)) (now (args .t))) (now (args .s)) (now (args .t)) (args .c) (args .j) (now (args .w)) (pre .0) (pre .1 .0 .1)
+          (c .before .x .given .0 .0) (p .0) (p .1),
+    )
 
 same-length-4 : tie.Need-same-length-4
 same-length-4 c = search needs
 
 returns-4 : tie.Need-returns-4
-returns-4 c = let b : Turns (now (c .before .before .before .before .before .before .before .before .before .before .before .before .before .before .before .before .before .before .before .args .s)) (listOf (now (c .before .before .before .before .before .before .before .before .before .before .before .before .before .before .before .before .before .before .before .args .w))) (c .before .before .before .before .before .before .before .before .before .before .before .before .before .before .before .before .before .before .before .args .c) (Says (c .before .before .before .before .before .before .before .before .before .before .before .before .x2 .given .0 .0) (c .before .before .before .before .before .before .before .before .before .before .before .before .x2 .given .0 .1 .0) (c .before .before .before .before .before .before .before .before .before .before .before .before .x2 .given .0 .1 .1 .0) (c .before .before .before .before .before .before .before .before .before .before .before .before .x2 .given .0 .1 .1 .1 .0)) = rw (c .before .before .before .before .before .before .before .before .before .before .before .before .x2 .given .1) at (c .before .before .before .before .before .before .before .before .before .before .before .before .before .before .turn .ensures) in let t = b .0 in (counted (allNames (now (c .before .before .before .before .before .before .before .before .before .before .before .before .before .before .before .before .before .before .before .args .s)) (now (c .before .before .before .before .before .before .before .before .before .before .before .before .before .before .before .before .before .before .before .args .t))) (now (c .before .before .before .before .before .before .before .before .before .before .before .before .before .before .before .before .before .before .before .args .s)) (c .before .before .before .before .before .before .before .before .before .before .before .before .before .before .before .before .before .before .before .args .c) (c .before .before .before .before .before .before .before .before .before .before .before .before .x2 .given .0 .0) (c .before .before .before .before .before .before .before .before .before .before .before .before .x2 .given .0 .1 .0) (c .before .before .before .before .before .before .before .before .before .before .before .before .x2 .given .0 .1 .1 .0) (c .before .before .before .before .before .before .before .before .before .before .before .before .x2 .given .0 .1 .1 .1 .0) t (c .before .before .before .before .before .before .before .before .before .said .result) (c .before .before .before .before .before .before .before .before .before .said .ensures) (c .before .before .before .before .before .before .before .f .given .0 .0) (c .before .before .before .before .before .before .before .f .given .0 .1 .0) (c .before .before .before .before .before .before .before .f .given .0 .1 .1 .0) (c .before .before .before .before .before .before .before .f .given .0 .1 .1 .1 .0) (c .before .before .before .before .before .before .before .f .given .0 .1 .1 .1 .1 .0) (c .before .before .before .before .before .before .before .f .given .1) (now (c .before .before .before .before .before .before .before .before .before .before .before .before .before .before .before .before .before .before .before .args .counts)) (c .before .before .before .before .before .before .before .before .before .before .before .before .before .before .before .before .before .before .before .pre .1 .1 .0) (c .before .before .before .before .before .before .before .before .before .before .before .before .before .before .before .before .before .before .before .pre .1 .1 .1), kept-on (allNames (now (c .before .before .before .before .before .before .before .before .before .before .before .before .before .before .before .before .before .before .before .args .s)) (now (c .before .before .before .before .before .before .before .before .before .before .before .before .before .before .before .before .before .before .before .args .t))) (now (c .before .before .before .before .before .before .before .before .before .before .before .before .before .before .before .before .before .before .before .args .s)) (now (c .before .before .before .before .before .before .before .before .before .before .before .before .before .before .before .before .before .before .before .args .t)) (c .before .before .before .before .before .before .before .before .before .before .before .before .before .before .before .before .before .before .before .args .c) (c .before .before .before .before .before .before .before .before .before .before .before .before .before .before .before .before .before .before .before .args .j) (now (c .before .before .before .before .before .before .before .before .before .before .before .before .before .before .before .before .before .before .before .args .w)) (c .before .before .before .before .before .before .before .before .before .before .before .before .before .before .before .before .before .before .before .pre .0) (c .before .before .before .before .before .before .before .before .before .before .before .before .before .before .before .before .before .before .before .pre .1 .0 .1) (c .before .before .before .before .before .before .before .before .before .before .before .before .x2 .given .0 .0) (c .before .before .before .before .before .before .before .before .before .before .before .before .x2 .given .0 .1 .0) (c .before .before .before .before .before .before .before .before .before .before .before .before .x2 .given .0 .1 .1 .0) (c .before .before .before .before .before .before .before .before .before .before .before .before .x2 .given .0 .1 .1 .1 .0) t (c .before .before .before .before .before .before .before .before .before .said .result) (c .before .before .before .before .before .before .before .before .before .said .ensures) (c .before .before .before .before .before .before .before .f .given .0 .0) (c .before .before .before .before .before .before .before .f .given .0 .1 .0) (c .before .before .before .before .before .before .before .f .given .0 .1 .1 .0) (c .before .before .before .before .before .before .before .f .given .0 .1 .1 .1 .0) (c .before .before .before .before .before .before .before .f .given .0 .1 .1 .1 .1 .0) (c .before .before .before .before .before .before .before .f .given .1) (c .before .before .keep .last .0) (c .before .before .keep .ensures ∙ ap (λ (x : ℕ). keptWith (now (c .before .before .before .before .before .before .before .before .before .before .before .before .before .before .before .before .before .before .before .args .w)) (c .before .before .before .before .before .before .before .before .before .before .before .before .before .before .before .before .before .before .before .args .j) x (c .before .before .before .before .before .before .before .f .given .0 .1 .1 .1 .1 .0)) (c .before .before .before .before .low-word .ensures)) (b .1))
+returns-4 c =
+    let args = c .before .before .before .before .before .before .before .before .before .before .before .before .before .before .before .before .before .before
+    .before .args in
+    let pre = c .before .before .before .before .before .before .before .before .before .before .before .before .before .before .before .before .before .before
+    .before .pre in
+    let turn = c .before .before .before .before .before .before .before .before .before .before .before .before .before .before .turn in
+    let x2 = c .before .before .before .before .before .before .before .before .before .before .before .before .x2 in
+    let said = c .before .before .before .before .before .before .before .before .before .said in
+    let f = c .before .before .before .before .before .before .before .f in
+    let low-word = c .before .before .before .before .low-word in
+    let keep = c .before .before .keep in
+    let b : Turns (now (args .s)) (listOf (now (args .w))) (args .c)
+    (Says (x2 .given .0 .0) (x2 .given .0 .1 .0) (x2 .given .0 .1 .1 .0) (x2 .given .0 .1 .1 .1 .0)) = rw (x2 .given .1) at (turn .ensures) in
+    let t = b .0 in (
+      counted (allNames (now (args .s)) (now (args .t))) (now (args .s)) (args .c) (x2 .given .0 .0) (x2 .given .0 .1 .0) (x2 .given .0 .1 .1 .0)
+          (x2 .given .0 .1 .1 .1 .0) t (said .result) (said .ensures) (f .given .0 .0) (f .given .0 .1 .0) (f .given .0 .1 .1 .0) (f .given .0 .1 .1 .1 .0)
+          (f .given .0 .1 .1 .1 .1 .0) (f .given .1) (now (args .counts)) (pre .1 .1 .0) (pre .1 .1 .1),
+      kept-on (allNames (now (args .s)) (now (args .t))) (now (args .s)) (now (args .t)) (args .c) (args .j) (now (args .w)) (pre .0) (pre .1 .0 .1)
+          (x2 .given .0 .0) (x2 .given .0 .1 .0) (x2 .given .0 .1 .1 .0) (x2 .given .0 .1 .1 .1 .0) t (said .result) (said .ensures) (f .given .0 .0)
+          (f .given .0 .1 .0) (f .given .0 .1 .1 .0) (f .given .0 .1 .1 .1 .0) (f .given .0 .1 .1 .1 .1 .0) (f .given .1) (keep .last .0)
+          (keep .ensures ∙ ap (λ (x : ℕ). keptWith (now (args .w)) (args .j) x (f .given .0 .1 .1 .1 .1 .0)) (low-word .ensures)) (b .1),
+    )
 
 pub check-at-spec : {M : Type 1} → statement M
 check-at-spec =

@@ -27,7 +27,11 @@ enum-told : tie.Need-enum-told
 enum-told c = search needs
 
 returns : tie.Need-returns
-returns c = no-task (allNames (now (c .before .before .before .before .before .before .before .args .s)) (now (c .before .before .before .before .before .before .before .args .t))) (take (c .before .before .before .before .before .before .before .args .task - c .before .before .before .before .before .before .before .args .at) (drop (c .before .before .before .before .before .before .before .args .at) (now (c .before .before .before .before .before .before .before .args .t)))) (take (c .before .before .before .before .before .before .before .args .template - (c .before .before .before .before .before .before .before .args .task + 1)) (drop (c .before .before .before .before .before .before .before .args .task + 1) (now (c .before .before .before .before .before .before .before .args .t)))) (c .before .before .number-of .result) (c .before .before .number-of .ensures) (c .enum-told .given .1)
+returns c =
+    let args = c .before .before .before .before .before .before .before .args in
+    let number-of = c .before .before .number-of in
+    no-task (allNames (now (args .s)) (now (args .t))) (take (args .task - args .at) (drop (args .at) (now (args .t))))
+    (take (args .template - (args .task + 1)) (drop (args .task + 1) (now (args .t)))) (number-of .result) (number-of .ensures) (c .enum-told .given .1)
 
 add-from : tie.Need-add-from
 add-from c = search needs
@@ -51,10 +55,24 @@ enum-told-2 : tie.Need-enum-told-2
 enum-told-2 c = search needs
 
 returns-2 : tie.Need-returns-2
-returns-2 c = no-template (allNames (now (c .before .before .before .before .before .before .before .before .before .before .before .before .args .s)) (now (c .before .before .before .before .before .before .before .before .before .before .before .before .args .t))) (take (c .before .before .before .before .before .before .before .before .before .before .before .before .args .task - c .before .before .before .before .before .before .before .before .before .before .before .before .args .at) (drop (c .before .before .before .before .before .before .before .before .before .before .before .before .args .at) (now (c .before .before .before .before .before .before .before .before .before .before .before .before .args .t)))) (take (c .before .before .before .before .before .before .before .before .before .before .before .before .args .template - (c .before .before .before .before .before .before .before .before .before .before .before .before .args .task + 1)) (drop (c .before .before .before .before .before .before .before .before .before .before .before .before .args .task + 1) (now (c .before .before .before .before .before .before .before .before .before .before .before .before .args .t)))) (c .before .before .before .before .before .before .before .number-of .result) (c .before .before .before .before .before .before .before .number-of .ensures) (c .before .before .before .before .before .x .given .0 .0) (c .before .before .before .before .before .x .given .1) (c .before .before .number-of2 .result) (c .before .before .number-of2 .ensures) (c .enum-told2 .given .1)
+returns-2 c =
+    let args = c .before .before .before .before .before .before .before .before .before .before .before .before .args in
+    let number-of = c .before .before .before .before .before .before .before .number-of in
+    let x = c .before .before .before .before .before .x in
+    let number-of2 = c .before .before .number-of2 in
+    no-template (allNames (now (args .s)) (now (args .t))) (take (args .task - args .at) (drop (args .at) (now (args .t))))
+    (take (args .template - (args .task + 1)) (drop (args .task + 1) (now (args .t)))) (number-of .result) (number-of .ensures) (x .given .0 .0) (x .given .1)
+    (number-of2 .result) (number-of2 .ensures) (c .enum-told2 .given .1)
 
 returns-3 : tie.Need-returns-3
-returns-3 c = both-named (allNames (now (c .before .before .before .before .before .before .before .before .before .before .before .before .before .args .s)) (now (c .before .before .before .before .before .before .before .before .before .before .before .before .before .args .t))) (take (c .before .before .before .before .before .before .before .before .before .before .before .before .before .args .task - c .before .before .before .before .before .before .before .before .before .before .before .before .before .args .at) (drop (c .before .before .before .before .before .before .before .before .before .before .before .before .before .args .at) (now (c .before .before .before .before .before .before .before .before .before .before .before .before .before .args .t)))) (take (c .before .before .before .before .before .before .before .before .before .before .before .before .before .args .template - (c .before .before .before .before .before .before .before .before .before .before .before .before .before .args .task + 1)) (drop (c .before .before .before .before .before .before .before .before .before .before .before .before .before .args .task + 1) (now (c .before .before .before .before .before .before .before .before .before .before .before .before .before .args .t)))) (c .before .before .before .before .before .before .before .before .number-of .result) (c .before .before .before .before .before .before .before .before .number-of .ensures) (c .before .before .before .before .before .before .x .given .0 .0) (c .before .before .before .before .before .before .x .given .1) (c .before .before .before .number-of2 .result) (c .before .before .before .number-of2 .ensures) (c .before .y .given .0 .0) (c .before .before .before .before .before .before .before .before .before .before .before .before .before .args .next) (c .before .y .given .1)
+returns-3 c =
+    let args = c .before .before .before .before .before .before .before .before .before .before .before .before .before .args in
+    let number-of = c .before .before .before .before .before .before .before .before .number-of in
+    let x = c .before .before .before .before .before .before .x in
+    let number-of2 = c .before .before .before .number-of2 in
+    both-named (allNames (now (args .s)) (now (args .t))) (take (args .task - args .at) (drop (args .at) (now (args .t))))
+    (take (args .template - (args .task + 1)) (drop (args .task + 1) (now (args .t)))) (number-of .result) (number-of .ensures) (x .given .0 .0) (x .given .1)
+    (number-of2 .result) (number-of2 .ensures) (c .before .y .given .0 .0) (args .next) (c .before .y .given .1)
 
 pub numbers-spec : {M : Type 1} → statement M
 numbers-spec =

@@ -49,7 +49,12 @@ same-length : tie.Need-same-length
 same-length c = search needs
 
 returns : tie.Need-returns
-returns c = puts-kept (now (c .before .before .before .before .before .before .before .before .before .args .w)) (c .before .before .before .before .before .before .before .before .before .args .j) (now (c .before .before .before .before .before .before .before .before .before .args .next)) (now (c .before .before .before .before .before .before .before .before .before .args .out)) (c .before .before .put-words .last .0) (omega (arith, c .before .before .before .before .before .before .before .before .before .pre .1 .1 .0, c .before .before .before .before .before .before .before .before .before .pre .1 .1 .1 .0)) (c .before .before .put-words .ensures) (c .before .before .put-words .kept .0)
+returns c =
+    let args = c .before .before .before .before .before .before .before .before .before .args in
+    let pre = c .before .before .before .before .before .before .before .before .before .pre in
+    let put-words = c .before .before .put-words in
+    puts-kept (now (args .w)) (args .j) (now (args .next)) (now (args .out)) (put-words .last .0) (omega (arith, pre .1 .1 .0, pre .1 .1 .1 .0))
+    (put-words .ensures) (put-words .kept .0)
 
 pub put-kept-spec : {M : Type 1} → statement M
 put-kept-spec =

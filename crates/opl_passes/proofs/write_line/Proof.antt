@@ -16,16 +16,33 @@ enum-known-r : tie.Need-enum-known-r
 enum-known-r c = search needs
 
 put-requires : tie.Need-put-requires
-put-requires c κs = line-fits (allNames (now (c .before .before .before .before .before .before .before .before .before .args .s)) (now (c .before .before .before .before .before .before .before .before .before .args .t))) (now (c .before .before .before .before .before .before .before .before .before .args .t)) (c .before .before .before .before .before .before .before .before .before .args .at) (c .before .before .before .before .before .before .before .before .before .pre .1 .0) (c .before .before .r .given .0 .0) (c .before .before .r .given .0 .1 .0) (c .before .before .r .given .0 .1 .1 .0) (rw (c .before .before .r .given .1) at (c .before .before .before .before .row-at .ensures)) (c .before .before .before .before .before .before .before .before .before .args .place) (now (c .before .before .before .before .before .before .before .before .before .args .out)) (c .before .before .before .before .before .before .before .before .before .pre .1 .1)
+put-requires c κs =
+    let args = c .before .before .before .before .before .before .before .before .before .args in
+    let pre = c .before .before .before .before .before .before .before .before .before .pre in
+    let row-at = c .before .before .before .before .row-at in
+    let r = c .before .before .r in
+    line-fits (allNames (now (args .s)) (now (args .t))) (now (args .t)) (args .at) (pre .1 .0) (r .given .0 .0) (r .given .0 .1 .0) (r .given .0 .1 .1 .0)
+    (rw (r .given .1) at (row-at .ensures)) (args .place) (now (args .out)) (pre .1 .1)
 
 returns : tie.Need-returns
-returns c = named-all (allNames (now (c .before .before .before .before .before .before .before .args .s)) (now (c .before .before .before .before .before .before .before .args .t))) (now (c .before .before .before .before .before .before .before .args .t)) (c .before .before .before .before .before .before .before .args .at) (c .before .before .before .before .before .before .before .pre .1 .0) (rw (c .enum-told .given .1) at (c .before .before .row-at .ensures))
+returns c =
+    let args = c .before .before .before .before .before .before .before .args in
+    let pre = c .before .before .before .before .before .before .before .pre in
+    named-all (allNames (now (args .s)) (now (args .t))) (now (args .t)) (args .at) (pre .1 .0)
+    (rw (c .enum-told .given .1) at (c .before .before .row-at .ensures))
 
 same-length : tie.Need-same-length
 same-length c = search needs
 
 returns-2 : tie.Need-returns-2
-returns-2 c = line-written (allNames (now (c .before .before .before .before .before .before .before .before .before .before .before .before .args .s)) (now (c .before .before .before .before .before .before .before .before .before .before .before .before .args .t))) (now (c .before .before .before .before .before .before .before .before .before .before .before .before .args .t)) (c .before .before .before .before .before .before .before .before .before .before .before .before .args .at) (c .before .before .before .before .before .before .before .before .before .before .before .before .pre .1 .0) (c .before .before .before .before .before .r .given .0 .0) (c .before .before .before .before .before .r .given .0 .1 .0) (c .before .before .before .before .before .r .given .0 .1 .1 .0) (rw (c .before .before .before .before .before .r .given .1) at (c .before .before .before .before .before .before .before .row-at .ensures)) (c .before .before .before .before .before .before .before .before .before .before .before .before .args .place) (now (c .before .before .before .before .before .before .before .before .before .before .before .before .args .out)) (c .before .before .put .last .0) (c .before .before .put .ensures) (c .before .before .put .kept .0)
+returns-2 c =
+    let args = c .before .before .before .before .before .before .before .before .before .before .before .before .args in
+    let pre = c .before .before .before .before .before .before .before .before .before .before .before .before .pre in
+    let row-at = c .before .before .before .before .before .before .before .row-at in
+    let r = c .before .before .before .before .before .r in
+    let put = c .before .before .put in
+    line-written (allNames (now (args .s)) (now (args .t))) (now (args .t)) (args .at) (pre .1 .0) (r .given .0 .0) (r .given .0 .1 .0) (r .given .0 .1 .1 .0)
+    (rw (r .given .1) at (row-at .ensures)) (args .place) (now (args .out)) (put .last .0) (put .ensures) (put .kept .0)
 
 pub write-line-spec : {M : Type 1} → statement M
 write-line-spec =

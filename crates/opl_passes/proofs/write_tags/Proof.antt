@@ -21,10 +21,17 @@ abbrev μ-loop : tie.MeasureT-loop
 μ-loop s t w next₀ out₀ from c₀ next out c = length s - c .at
 
 loop-holds : tie.Need-loop-holds Inv-loop μ-loop
-loop-holds c = write-first (allNames (now (c .before .before .before .before .args .s)) (now (c .before .before .before .before .args .t))) (now (c .before .before .before .before .args .s)) (listOf (now (c .before .before .before .before .args .w))) (c .before .before .before .before .args .from) (now (c .before .before .before .before .args .next)) (now (c .before .before .before .before .args .out)) (c .before .before .before .before .pre .0 .1 .0 .0) (c .before .before .before .before .pre .0 .1 .0 .1) (c .before .before .before .before .pre .0 .1 .1) (c .before .before .before .before .pre .1 .0) (c .before .before .before .before .pre .1 .1 .1)
+loop-holds c =
+    let args = c .before .before .before .before .args in
+    let pre = c .before .before .before .before .pre in
+    write-first (allNames (now (args .s)) (now (args .t))) (now (args .s)) (listOf (now (args .w))) (args .from) (now (args .next)) (now (args .out))
+    (pre .0 .1 .0 .0) (pre .0 .1 .0 .1) (pre .0 .1 .1) (pre .1 .0) (pre .1 .1 .1)
 
 write-at-requires : tie.Need-write-at-requires Inv-loop μ-loop
-write-at-requires c κs = ((c .before .before .before .before .before .before .before .before .before .pre .0 .0, (c .before .before .before .before .loop .inv .stood, c .before .before .before .before .loop .inv .led)), (c .before .before .before .before .loop .inv .there-all, (c .before .before .before .before .loop .inv .kinds ∙ c .before .before .before .before .before .before .before .before .before .pre .1 .1 .0, c .before .before .before .before .loop .inv .fit)))
+write-at-requires c κs =
+    let pre = c .before .before .before .before .before .before .before .before .before .pre in
+    let loop = c .before .before .before .before .loop in
+    ((pre .0 .0, (loop .inv .stood, loop .inv .led)), (loop .inv .there-all, (loop .inv .kinds ∙ pre .1 .1 .0, loop .inv .fit)))
 
 enum-known-r : tie.Need-enum-known-r Inv-loop μ-loop
 enum-known-r c = search needs
@@ -33,22 +40,51 @@ enum-told : tie.Need-enum-told Inv-loop μ-loop
 enum-told c = search needs
 
 same-length : tie.Need-same-length Inv-loop μ-loop
-same-length c = c .before .before .before .before .write-at .kept .1 .1 .1 .1 .0 ∙ c .before .before .before .before .before .before .before .before .before .loop .inv .room
+same-length c =
+    let loop = c .before .before .before .before .before .before .before .before .before .loop in
+    let write-at = c .before .before .before .before .write-at in
+    write-at .kept .1 .1 .1 .1 .0 ∙ loop .inv .room
 
 returns : tie.Need-returns Inv-loop μ-loop
-returns c = write-ended (allNames (now (c .before .before .before .before .before .before .before .before .before .before .before .before .before .before .args .s)) (now (c .before .before .before .before .before .before .before .before .before .before .before .before .before .before .args .t))) (now (c .before .before .before .before .before .before .before .before .before .before .before .before .before .before .args .s)) (listOf (now (c .before .before .before .before .before .before .before .before .before .before .before .before .before .before .args .w))) (c .before .before .before .before .before .before .before .before .before .before .before .before .before .before .args .from) (now (c .before .before .before .before .before .before .before .before .before .before .before .before .before .before .args .next)) (now (c .before .before .before .before .before .before .before .before .before .before .before .before .before .before .args .out)) (c .before .before .before .before .before .before .before .before .before .loop .c) (c .before .before .before .before .before .before .before .before .before .loop .next) (c .before .before .before .before .before .before .before .before .before .loop .out) (c .before .before .before .before .before .before .before .before .before .loop .inv) (c .before .before .before .before .write-at .result) (c .before .before .before .before .write-at .last .1 .1 .1 .0) (c .before .before .before .before .write-at .last .1 .1 .1 .1 .0) (c .before .before .before .before .write-at .ensures) (c .enum-told .given .1)
+returns c =
+    let args = c .before .before .before .before .before .before .before .before .before .before .before .before .before .before .args in
+    let loop = c .before .before .before .before .before .before .before .before .before .loop in
+    let write-at = c .before .before .before .before .write-at in
+    write-ended (allNames (now (args .s)) (now (args .t))) (now (args .s)) (listOf (now (args .w))) (args .from) (now (args .next)) (now (args .out)) (loop .c)
+    (loop .next) (loop .out) (loop .inv) (write-at .result) (write-at .last .1 .1 .1 .0) (write-at .last .1 .1 .1 .1 .0) (write-at .ensures)
+    (c .enum-told .given .1)
 
 loop-less : tie.Need-loop-less Inv-loop μ-loop
-loop-less c = let w : Writes (allNames (now (c .before .before .before .before .before .before .before .before .before .before .before .before .before .before .before .args .s)) (now (c .before .before .before .before .before .before .before .before .before .before .before .before .before .before .before .args .t))) (now (c .before .before .before .before .before .before .before .before .before .before .before .before .before .before .before .args .s)) (listOf (now (c .before .before .before .before .before .before .before .before .before .before .before .before .before .before .before .args .w))) (c .before .before .before .before .before .before .before .before .before .before .loop .c) (c .before .before .before .before .before .before .before .before .before .before .loop .next) (c .before .before .before .before .before .write-at .last .1 .1 .1 .0) (c .before .before .before .before .before .before .before .before .before .before .loop .out) (c .before .before .before .before .before .write-at .last .1 .1 .1 .1 .0) (Onward (c .before .r .given .0 .0)) = rw (c .before .r .given .1) at (c .before .before .before .before .before .write-at .ensures) in let p = write-past (allNames (now (c .before .before .before .before .before .before .before .before .before .before .before .before .before .before .before .args .s)) (now (c .before .before .before .before .before .before .before .before .before .before .before .before .before .before .before .args .t))) (now (c .before .before .before .before .before .before .before .before .before .before .before .before .before .before .before .args .s)) (listOf (now (c .before .before .before .before .before .before .before .before .before .before .before .before .before .before .before .args .w))) (c .before .before .before .before .before .before .before .before .before .before .before .before .before .before .before .args .from) (now (c .before .before .before .before .before .before .before .before .before .before .before .before .before .before .before .args .next)) (now (c .before .before .before .before .before .before .before .before .before .before .before .before .before .before .before .args .out)) (c .before .before .before .before .before .before .before .before .before .before .loop .c) (c .before .before .before .before .before .before .before .before .before .before .loop .next) (c .before .before .before .before .before .before .before .before .before .before .loop .out) (c .before .before .before .before .before .before .before .before .before .before .loop .inv) (c .before .r .given .0 .0) (c .before .before .before .before .before .write-at .last .1 .1 .1 .0) (c .before .before .before .before .before .write-at .last .1 .1 .1 .1 .0) (w .0) in omega (arith, p .0, p .1)
+loop-less c =
+    let args = c .before .before .before .before .before .before .before .before .before .before .before .before .before .before .before .args in
+    let loop = c .before .before .before .before .before .before .before .before .before .before .loop in
+    let write-at = c .before .before .before .before .before .write-at in
+    let w : Writes (allNames (now (args .s)) (now (args .t))) (now (args .s)) (listOf (now (args .w))) (loop .c) (loop .next) (write-at .last .1 .1 .1 .0)
+    (loop .out) (write-at .last .1 .1 .1 .1 .0) (Onward (c .before .r .given .0 .0)) = rw (c .before .r .given .1) at (write-at .ensures) in
+    let p =
+    write-past (allNames (now (args .s)) (now (args .t))) (now (args .s)) (listOf (now (args .w))) (args .from) (now (args .next)) (now (args .out)) (loop .c)
+    (loop .next) (loop .out) (loop .inv) (c .before .r .given .0 .0) (write-at .last .1 .1 .1 .0) (write-at .last .1 .1 .1 .1 .0) (w .0) in
+    omega (arith, p .0, p .1)
 
 loop-again : tie.Need-loop-again Inv-loop μ-loop
-loop-again c = let w : Writes (allNames (now (c .before .before .before .before .before .before .before .before .before .before .before .before .before .before .before .args .s)) (now (c .before .before .before .before .before .before .before .before .before .before .before .before .before .before .before .args .t))) (now (c .before .before .before .before .before .before .before .before .before .before .before .before .before .before .before .args .s)) (listOf (now (c .before .before .before .before .before .before .before .before .before .before .before .before .before .before .before .args .w))) (c .before .before .before .before .before .before .before .before .before .before .loop .c) (c .before .before .before .before .before .before .before .before .before .before .loop .next) (c .before .before .before .before .before .write-at .last .1 .1 .1 .0) (c .before .before .before .before .before .before .before .before .before .before .loop .out) (c .before .before .before .before .before .write-at .last .1 .1 .1 .1 .0) (Onward (c .before .r .given .0 .0)) = rw (c .before .r .given .1) at (c .before .before .before .before .before .write-at .ensures) in write-on (allNames (now (c .before .before .before .before .before .before .before .before .before .before .before .before .before .before .before .args .s)) (now (c .before .before .before .before .before .before .before .before .before .before .before .before .before .before .before .args .t))) (now (c .before .before .before .before .before .before .before .before .before .before .before .before .before .before .before .args .s)) (listOf (now (c .before .before .before .before .before .before .before .before .before .before .before .before .before .before .before .args .w))) (c .before .before .before .before .before .before .before .before .before .before .before .before .before .before .before .args .from) (now (c .before .before .before .before .before .before .before .before .before .before .before .before .before .before .before .args .next)) (now (c .before .before .before .before .before .before .before .before .before .before .before .before .before .before .before .args .out)) (c .before .before .before .before .before .before .before .before .before .before .loop .c) (c .before .before .before .before .before .before .before .before .before .before .loop .next) (c .before .before .before .before .before .before .before .before .before .before .loop .out) (c .before .before .before .before .before .before .before .before .before .before .loop .inv) (c .before .r .given .0 .0) (c .before .before .before .before .before .write-at .last .1 .1 .1 .0) (c .before .before .before .before .before .write-at .last .1 .1 .1 .1 .0) (w .0) (w .1)
+loop-again c =
+    let args = c .before .before .before .before .before .before .before .before .before .before .before .before .before .before .before .args in
+    let loop = c .before .before .before .before .before .before .before .before .before .before .loop in
+    let write-at = c .before .before .before .before .before .write-at in
+    let w : Writes (allNames (now (args .s)) (now (args .t))) (now (args .s)) (listOf (now (args .w))) (loop .c) (loop .next) (write-at .last .1 .1 .1 .0)
+    (loop .out) (write-at .last .1 .1 .1 .1 .0) (Onward (c .before .r .given .0 .0)) = rw (c .before .r .given .1) at (write-at .ensures) in
+    write-on (allNames (now (args .s)) (now (args .t))) (now (args .s)) (listOf (now (args .w))) (args .from) (now (args .next)) (now (args .out)) (loop .c)
+    (loop .next) (loop .out) (loop .inv) (c .before .r .given .0 .0) (write-at .last .1 .1 .1 .0) (write-at .last .1 .1 .1 .1 .0) (w .0) (w .1)
 
 same-length-2 : tie.Need-same-length-2 Inv-loop μ-loop
 same-length-2 c = c .before .before .loop .inv .room
 
 returns-2 : tie.Need-returns-2 Inv-loop μ-loop
-returns-2 c = write-end (allNames (now (c .before .before .before .before .before .before .before .args .s)) (now (c .before .before .before .before .before .before .before .args .t))) (now (c .before .before .before .before .before .before .before .args .s)) (listOf (now (c .before .before .before .before .before .before .before .args .w))) (c .before .before .before .before .before .before .before .args .from) (now (c .before .before .before .before .before .before .before .args .next)) (now (c .before .before .before .before .before .before .before .args .out)) (c .before .before .loop .c) (c .before .before .loop .next) (c .before .before .loop .out) (c .before .before .loop .inv) (c .if1 .left)
+returns-2 c =
+    let args = c .before .before .before .before .before .before .before .args in
+    let loop = c .before .before .loop in
+    write-end (allNames (now (args .s)) (now (args .t))) (now (args .s)) (listOf (now (args .w))) (args .from) (now (args .next)) (now (args .out)) (loop .c)
+    (loop .next) (loop .out) (loop .inv) (c .if1 .left)
 
 pub write-tags-spec : {M : Type 1} → statement M
 write-tags-spec =

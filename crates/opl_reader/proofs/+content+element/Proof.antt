@@ -124,7 +124,12 @@ content-returns : (t : ℕ) → content-lts.Need-returns (
   element-below t,
   element.Post,
 ) (content-at t) content.Post content-Inv-loop content-μ-loop
-content-returns t c = moved (c .before .before .before .before .loop .inv .1) (cy.misc-refused (now (c .before .before .before .before .before .before .args .s)) (c .before .before .before .before .before .before .args .d) (c .before .before .before .before .before .before .args .id) (c .before .before .before .before .loop .l) (c .before .before .before .before .loop .i) (c .before .before .skip-misc .result) (c .before .before .skip-misc .ensures) _ (c .enum-told .given .1))
+content-returns t c =
+    let args = c .before .before .before .before .before .before .args in
+    let loop = c .before .before .before .before .loop in
+    let skip-misc = c .before .before .skip-misc in
+    moved (loop .inv .1)
+    (cy.misc-refused (now (args .s)) (args .d) (args .id) (loop .l) (loop .i) (skip-misc .result) (skip-misc .ensures) _ (c .enum-told .given .1))
 
 content-is-at-requires : (t : ℕ) → content-lts.Need-is-at-requires (
   skip-misc-reads.Asked,
@@ -152,7 +157,14 @@ content-add-is-at : (t : ℕ) → content-lts.Need-add-is-at (
   element-below t,
   element.Post,
 ) (content-at t) content.Post content-Inv-loop content-μ-loop
-content-add-is-at t c = let h = cy.misc-inside (now (c .before .before .before .before .before .before .before .before .args .s)) (c .before .before .before .before .before .before .before .before .args .d) (c .before .before .before .before .before .before .before .before .args .id) (c .before .before .before .before .before .before .loop .l) (c .before .before .before .before .before .before .loop .i) (c .before .before .before .before .skip-misc .result) (c .before .before .before .before .skip-misc .ensures) (c .before .before .m .given .0 .0) (c .before .before .m .given .1) in search needs
+content-add-is-at t c =
+    let h =
+    let args = c .before .before .before .before .before .before .before .before .args in
+    let loop = c .before .before .before .before .before .before .loop in
+    let skip-misc = c .before .before .before .before .skip-misc in
+    let m = c .before .before .m in
+    cy.misc-inside (now (args .s)) (args .d) (args .id) (loop .l) (loop .i) (skip-misc .result) (skip-misc .ensures) (m .given .0 .0) (m .given .1) in
+    search needs
 
 content-is-at-requires-2 : (t : ℕ) → content-lts.Need-is-at-requires-2 (
   skip-misc-reads.Asked,
@@ -180,7 +192,14 @@ content-ending-requires : (t : ℕ) → content-lts.Need-ending-requires (
   element-below t,
   element.Post,
 ) (content-at t) content.Post content-Inv-loop content-μ-loop
-content-ending-requires t c κs = cy.end-room (now (c .before .before .before .before .before .before .before .before .before .before .args .s)) (c .before .before .before .before .before .before .before .before .before .before .args .d) (c .before .before .before .before .before .before .before .before .before .before .args .id) (c .before .before .before .before .before .before .before .before .loop .l) (c .before .before .before .before .before .before .before .before .loop .i) (c .before .before .before .before .before .before .skip-misc .result) (c .before .before .before .before .before .before .skip-misc .ensures) (c .before .before .before .before .m .given .0 .0) (c .before .before .before .before .m .given .1) (c .before .before .is-at .result) (c .before .is-at2 .result) (c .before .before .is-at .ensures) (c .before .is-at2 .ensures) (c .if1 .taken)
+content-ending-requires t c κs =
+    let args = c .before .before .before .before .before .before .before .before .before .before .args in
+    let loop = c .before .before .before .before .before .before .before .before .loop in
+    let skip-misc = c .before .before .before .before .before .before .skip-misc in
+    let m = c .before .before .before .before .m in
+    let is-at = c .before .before .is-at in
+    cy.end-room (now (args .s)) (args .d) (args .id) (loop .l) (loop .i) (skip-misc .result) (skip-misc .ensures) (m .given .0 .0) (m .given .1) (is-at .result)
+    (c .before .is-at2 .result) (is-at .ensures) (c .before .is-at2 .ensures) (c .if1 .taken)
 
 content-returns-2 : (t : ℕ) → content-lts.Need-returns-2 (
   skip-misc-reads.Asked,
@@ -194,7 +213,15 @@ content-returns-2 : (t : ℕ) → content-lts.Need-returns-2 (
   element-below t,
   element.Post,
 ) (content-at t) content.Post content-Inv-loop content-μ-loop
-content-returns-2 t c = moved (c .before .before .before .before .before .before .before .before .before .loop .inv .1) (cy.at-end-tag (now (c .before .before .before .before .before .before .before .before .before .before .before .args .s)) (c .before .before .before .before .before .before .before .before .before .before .before .args .d) (c .before .before .before .before .before .before .before .before .before .before .before .args .id) (c .before .before .before .before .before .before .before .before .before .loop .l) (c .before .before .before .before .before .before .before .before .before .loop .i) (c .before .before .before .before .before .before .before .skip-misc .result) (c .before .before .before .before .before .before .before .skip-misc .ensures) (c .before .before .before .before .before .m .given .0 .0) (c .before .before .before .before .before .m .given .1) (c .before .before .before .is-at .result) (c .before .before .is-at2 .result) (c .before .before .before .is-at .ensures) (c .before .before .is-at2 .ensures) (c .before .if1 .taken) (c .ending .result) (c .ending .ensures))
+content-returns-2 t c =
+    let args = c .before .before .before .before .before .before .before .before .before .before .before .args in
+    let loop = c .before .before .before .before .before .before .before .before .before .loop in
+    let skip-misc = c .before .before .before .before .before .before .before .skip-misc in
+    let m = c .before .before .before .before .before .m in
+    let is-at = c .before .before .before .is-at in
+    let is-at2 = c .before .before .is-at2 in
+    moved (loop .inv .1) (cy.at-end-tag (now (args .s)) (args .d) (args .id) (loop .l) (loop .i) (skip-misc .result) (skip-misc .ensures) (m .given .0 .0)
+    (m .given .1) (is-at .result) (is-at2 .result) (is-at .ensures) (is-at2 .ensures) (c .before .if1 .taken) (c .ending .result) (c .ending .ensures))
 
 content-opening-requires : (t : ℕ) → content-lts.Need-opening-requires (
   skip-misc-reads.Asked,
@@ -208,7 +235,12 @@ content-opening-requires : (t : ℕ) → content-lts.Need-opening-requires (
   element-below t,
   element.Post,
 ) (content-at t) content.Post content-Inv-loop content-μ-loop
-content-opening-requires t c κs = cy.misc-inside (now (c .before .before .before .before .before .before .before .before .before .before .args .s)) (c .before .before .before .before .before .before .before .before .before .before .args .d) (c .before .before .before .before .before .before .before .before .before .before .args .id) (c .before .before .before .before .before .before .before .before .loop .l) (c .before .before .before .before .before .before .before .before .loop .i) (c .before .before .before .before .before .before .skip-misc .result) (c .before .before .before .before .before .before .skip-misc .ensures) (c .before .before .before .before .m .given .0 .0) (c .before .before .before .before .m .given .1)
+content-opening-requires t c κs =
+    let args = c .before .before .before .before .before .before .before .before .before .before .args in
+    let loop = c .before .before .before .before .before .before .before .before .loop in
+    let skip-misc = c .before .before .before .before .before .before .skip-misc in
+    let m = c .before .before .before .before .m in
+    cy.misc-inside (now (args .s)) (args .d) (args .id) (loop .l) (loop .i) (skip-misc .result) (skip-misc .ensures) (m .given .0 .0) (m .given .1)
 
 content-enum-known-o : (t : ℕ) → content-lts.Need-enum-known-o (
   skip-misc-reads.Asked,
@@ -236,7 +268,18 @@ content-returns-3 : (t : ℕ) → content-lts.Need-returns-3 (
   element-below t,
   element.Post,
 ) (content-at t) content.Post content-Inv-loop content-μ-loop
-content-returns-3 t c = moved (c .before .before .before .before .before .before .before .before .before .before .before .before .loop .inv .1) (cy.stopped (now (c .before .before .before .before .before .before .before .before .before .before .before .before .before .before .args .s)) (c .before .before .before .before .before .before .before .before .before .before .before .before .before .before .args .d) (c .before .before .before .before .before .before .before .before .before .before .before .before .before .before .args .id) (c .before .before .before .before .before .before .before .before .before .before .before .before .loop .l) (c .before .before .before .before .before .before .before .before .before .before .before .before .loop .i) (c .before .before .before .before .before .before .before .before .before .before .skip-misc .result) (c .before .before .before .before .before .before .before .before .before .before .skip-misc .ensures) (c .before .before .before .before .before .before .before .before .m .given .0 .0) (c .before .before .before .before .before .before .before .before .m .given .1) (c .before .before .before .before .before .before .is-at .result) (c .before .before .before .before .before .is-at2 .result) (c .before .before .before .before .before .before .is-at .ensures) (c .before .before .before .before .before .is-at2 .ensures) (c .before .before .before .before .if1 .left) (c .before .before .before .opening .result) (c .before .before .before .opening .ensures) (c .before .o .given .0 .0) (c .before .o .given .1))
+content-returns-3 t c =
+    let args = c .before .before .before .before .before .before .before .before .before .before .before .before .before .before .args in
+    let loop = c .before .before .before .before .before .before .before .before .before .before .before .before .loop in
+    let skip-misc = c .before .before .before .before .before .before .before .before .before .before .skip-misc in
+    let m = c .before .before .before .before .before .before .before .before .m in
+    let is-at = c .before .before .before .before .before .before .is-at in
+    let is-at2 = c .before .before .before .before .before .is-at2 in
+    let if1 = c .before .before .before .before .if1 in
+    let opening = c .before .before .before .opening in
+    moved (loop .inv .1) (cy.stopped (now (args .s)) (args .d) (args .id) (loop .l) (loop .i) (skip-misc .result) (skip-misc .ensures) (m .given .0 .0)
+    (m .given .1) (is-at .result) (is-at2 .result) (is-at .ensures) (is-at2 .ensures) (if1 .left) (opening .result) (opening .ensures)
+    (c .before .o .given .0 .0) (c .before .o .given .1))
 
 content-enum-known-o-2 : (t : ℕ) → content-lts.Need-enum-known-o-2 (
   skip-misc-reads.Asked,
@@ -349,7 +392,21 @@ content-returns-4 : (t : ℕ) → content-lts.Need-returns-4 (
   element-below t,
   element.Post,
 ) (content-at t) content.Post content-Inv-loop content-μ-loop
-content-returns-4 t c = moved (c .before .before .before .before .before .before .before .before .before .before .before .before .before .before .before .loop .inv .1) (cy.refused (now (c .before .before .before .before .before .before .before .before .before .before .before .before .before .before .before .before .before .args .s)) (c .before .before .before .before .before .before .before .before .before .before .before .before .before .before .before .before .before .args .d) (c .before .before .before .before .before .before .before .before .before .before .before .before .before .before .before .before .before .args .id) (c .before .before .before .before .before .before .before .before .before .before .before .before .before .before .before .loop .l) (c .before .before .before .before .before .before .before .before .before .before .before .before .before .before .before .loop .i) (c .before .before .before .before .before .before .before .before .before .before .before .before .before .skip-misc .result) (c .before .before .before .before .before .before .before .before .before .before .before .before .before .skip-misc .ensures) (c .before .before .before .before .before .before .before .before .before .before .before .m .given .0 .0) (c .before .before .before .before .before .before .before .before .before .before .before .m .given .1) (c .before .before .before .before .before .before .before .before .before .is-at .result) (c .before .before .before .before .before .before .before .before .is-at2 .result) (c .before .before .before .before .before .before .before .before .before .is-at .ensures) (c .before .before .before .before .before .before .before .before .is-at2 .ensures) (c .before .before .before .before .before .before .before .if1 .left) (c .before .before .before .before .before .before .opening .result) (c .before .before .before .before .before .before .opening .ensures) (c .before .before .before .before .o2 .given .0 .0) (c .before .before .before .before .o2 .given .0 .1 .0) (c .before .before .before .before .o2 .given .0 .1 .1 .0) (c .before .before .before .before .o2 .given .1) (c .before .before .element .result) (c .before .before .element .ensures) _ (c .enum-told2 .given .1))
+content-returns-4 t c =
+    let args = c .before .before .before .before .before .before .before .before .before .before .before .before .before .before .before .before .before
+    .args in
+    let loop = c .before .before .before .before .before .before .before .before .before .before .before .before .before .before .before .loop in
+    let skip-misc = c .before .before .before .before .before .before .before .before .before .before .before .before .before .skip-misc in
+    let m = c .before .before .before .before .before .before .before .before .before .before .before .m in
+    let is-at = c .before .before .before .before .before .before .before .before .before .is-at in
+    let is-at2 = c .before .before .before .before .before .before .before .before .is-at2 in
+    let if1 = c .before .before .before .before .before .before .before .if1 in
+    let opening = c .before .before .before .before .before .before .opening in
+    let o2 = c .before .before .before .before .o2 in
+    let element = c .before .before .element in
+    moved (loop .inv .1) (cy.refused (now (args .s)) (args .d) (args .id) (loop .l) (loop .i) (skip-misc .result) (skip-misc .ensures) (m .given .0 .0)
+    (m .given .1) (is-at .result) (is-at2 .result) (is-at .ensures) (is-at2 .ensures) (if1 .left) (opening .result) (opening .ensures) (o2 .given .0 .0)
+    (o2 .given .0 .1 .0) (o2 .given .0 .1 .1 .0) (o2 .given .1) (element .result) (element .ensures) _ (c .enum-told2 .given .1))
 
 content-loop-less : (t : ℕ) → content-lts.Need-loop-less (
   skip-misc-reads.Asked,
@@ -364,7 +421,8 @@ content-loop-less : (t : ℕ) → content-lts.Need-loop-less (
   element.Post,
 ) (content-at t) content.Post content-Inv-loop content-μ-loop
 content-loop-less t c =
-    let a = c .before .before .before .before .before .before .before .before .before .before .before .before .before .before .before .before .before .before .args in
+    let a = c .before .before .before .before .before .before .before .before .before .before .before .before .before .before .before .before .before .before
+    .args in
     let loop = c .before .before .before .before .before .before .before .before .before .before .before .before .before .before .before .before .loop in
     let misc = c .before .before .before .before .before .before .before .before .before .before .before .before .before .before .skip-misc in
     let m = c .before .before .before .before .before .before .before .before .before .before .before .before .m .given in
@@ -375,8 +433,9 @@ content-loop-less t c =
     let e = c .before .before .before .element in
     let r = c .before .r .given in
     let h =
+    let if1 = c .before .before .before .before .before .before .before .before .if1 in
     cy.onward (now (a .s)) (a .d) (a .id) (loop .l) (loop .i) (misc .result) (misc .ensures) (m .0 .0) (m .1) (x .result) (y .result) (x .ensures) (y .ensures)
-    (c .before .before .before .before .before .before .before .before .if1 .left) (o .result) (o .ensures) (k .0 .0) (k .0 .1 .0) (k .0 .1 .1 .0) (k .1) (e .result) (e .ensures) (r .0 .0) (r .1) in
+    (if1 .left) (o .result) (o .ensures) (k .0 .0) (k .0 .1 .0) (k .0 .1 .1 .0) (k .1) (e .result) (e .ensures) (r .0 .0) (r .1) in
     let past = h .past in
     let inside = h .inside in
     omega arith
@@ -394,7 +453,8 @@ content-loop-again : (t : ℕ) → content-lts.Need-loop-again (
   element.Post,
 ) (content-at t) content.Post content-Inv-loop content-μ-loop
 content-loop-again t c =
-    let a = c .before .before .before .before .before .before .before .before .before .before .before .before .before .before .before .before .before .before .args in
+    let a = c .before .before .before .before .before .before .before .before .before .before .before .before .before .before .before .before .before .before
+    .args in
     let loop = c .before .before .before .before .before .before .before .before .before .before .before .before .before .before .before .before .loop in
     let misc = c .before .before .before .before .before .before .before .before .before .before .before .before .before .before .skip-misc in
     let m = c .before .before .before .before .before .before .before .before .before .before .before .before .m .given in
@@ -405,8 +465,9 @@ content-loop-again t c =
     let e = c .before .before .before .element in
     let r = c .before .r .given in
     let h =
+    let if1 = c .before .before .before .before .before .before .before .before .if1 in
     cy.onward (now (a .s)) (a .d) (a .id) (loop .l) (loop .i) (misc .result) (misc .ensures) (m .0 .0) (m .1) (x .result) (y .result) (x .ensures) (y .ensures)
-    (c .before .before .before .before .before .before .before .before .if1 .left) (o .result) (o .ensures) (k .0 .0) (k .0 .1 .0) (k .0 .1 .1 .0) (k .1) (e .result) (e .ensures) (r .0 .0) (r .1) in
+    (if1 .left) (o .result) (o .ensures) (k .0 .0) (k .0 .1 .0) (k .0 .1 .1 .0) (k .1) (e .result) (e .ensures) (r .0 .0) (r .1) in
     let from = loop .inv .0 .0 in
     let past = h .past in
     ((omega arith, h .inside), loop .inv .1 ∙ h .rest)
@@ -423,7 +484,12 @@ content-returns-5 : (t : ℕ) → content-lts.Need-returns-5 (
   element-below t,
   element.Post,
 ) (content-at t) content.Post content-Inv-loop content-μ-loop
-content-returns-5 t c = moved (c .before .loop .inv .1) (record { read-is = cy.at-end (now (c .before .before .before .args .s)) (c .before .before .before .args .d) (c .before .before .before .args .id) (c .before .loop .l) (c .before .loop .i) (c .loop-test .left); inside = c .before .loop .inv .0 .1 })
+content-returns-5 t c =
+    let args = c .before .before .before .args in
+    moved (c .before .loop .inv .1) (record {
+      read-is = cy.at-end (now (args .s)) (args .d) (args .id) (c .before .loop .l) (c .before .loop .i) (c .loop-test .left);
+      inside = c .before .loop .inv .0 .1;
+    })
 
 element-first-requires : (t : ℕ) → element-lts.Need-first-requires (
   first-reads.Asked,
@@ -483,7 +549,13 @@ element-returns : (t : ℕ) → element-lts.Need-returns (
   may-end-reads.Asked,
   may-end-reads.Learnt,
 ) (element-at t) element.Post
-element-returns t c = cy.with-content (now (c .before .before .before .before .before .args .s)) (c .before .before .before .before .before .args .at) (c .before .before .before .before .before .args .d) (c .before .before .before .before .before .args .id) (c .before .before .before .before .before .pre .1) (c .before .before .before .first .result) (c .before .before .before .first .ensures) (c .before .before .is-at .result) (c .before .before .is-at .ensures) (c .before .if1 .taken) (c .content .result) (c .content .ensures)
+element-returns t c =
+    let args = c .before .before .before .before .before .args in
+    let pre = c .before .before .before .before .before .pre in
+    let first = c .before .before .before .first in
+    let is-at = c .before .before .is-at in
+    cy.with-content (now (args .s)) (args .at) (args .d) (args .id) (pre .1) (first .result) (first .ensures) (is-at .result) (is-at .ensures)
+    (c .before .if1 .taken) (c .content .result) (c .content .ensures)
 
 element-add-is-at : (t : ℕ) → element-lts.Need-add-is-at (
   first-reads.Asked,
@@ -531,7 +603,17 @@ element-returns-2 : (t : ℕ) → element-lts.Need-returns-2 (
   may-end-reads.Asked,
   may-end-reads.Learnt,
 ) (element-at t) element.Post
-element-returns-2 t c = record { read-is = cy.slash-cut (now (c .before .before .before .before .before .before .args .s)) (c .before .before .before .before .before .before .args .at) (c .before .before .before .before .before .before .args .d) (c .before .before .before .before .before .before .args .id) (c .before .before .before .before .before .before .pre .1) (c .before .before .before .before .first .result) (c .before .before .before .before .first .ensures) (c .before .before .before .is-at .result) (c .before .before .before .is-at .ensures) (c .before .before .if1 .left) (c .before .is-at2 .result) (c .before .is-at2 .ensures) (c .if2 .taken); inside = c .before .before .before .before .before .before .pre .1 }
+element-returns-2 t c =
+    let args = c .before .before .before .before .before .before .args in
+    let pre = c .before .before .before .before .before .before .pre in
+    let first = c .before .before .before .before .first in
+    let is-at = c .before .before .before .is-at in
+    record {
+      read-is =
+          cy.slash-cut (now (args .s)) (args .at) (args .d) (args .id) (pre .1) (first .result) (first .ensures) (is-at .result) (is-at .ensures)
+          (c .before .before .if1 .left) (c .before .is-at2 .result) (c .before .is-at2 .ensures) (c .if2 .taken);
+      inside = pre .1;
+    }
 
 element-may-end-requires : (t : ℕ) → element-lts.Need-may-end-requires (
   first-reads.Asked,
@@ -555,7 +637,19 @@ element-returns-3 : (t : ℕ) → element-lts.Need-returns-3 (
   may-end-reads.Asked,
   may-end-reads.Learnt,
 ) (element-at t) element.Post
-element-returns-3 t c = record { read-is = cy.slash-early (now (c .before .before .before .before .before .before .before .before .args .s)) (c .before .before .before .before .before .before .before .before .args .at) (c .before .before .before .before .before .before .before .before .args .d) (c .before .before .before .before .before .before .before .before .args .id) (c .before .before .before .before .before .before .before .before .pre .1) (c .before .before .before .before .before .before .first .result) (c .before .before .before .before .before .before .first .ensures) (c .before .before .before .before .before .is-at .result) (c .before .before .before .before .before .is-at .ensures) (c .before .before .before .before .if1 .left) (c .before .before .before .is-at2 .result) (c .before .before .before .is-at2 .ensures) (c .before .before .if2 .left) (c .before .may-end .result) (c .before .may-end .ensures) (c .if3 .taken); inside = let h = c .before .before .before .before .before .before .before .before .pre .1 in omega arith }
+element-returns-3 t c =
+    let args = c .before .before .before .before .before .before .before .before .args in
+    let pre = c .before .before .before .before .before .before .before .before .pre in
+    let first = c .before .before .before .before .before .before .first in
+    let is-at = c .before .before .before .before .before .is-at in
+    let if1 = c .before .before .before .before .if1 in
+    let is-at2 = c .before .before .before .is-at2 in
+    record {
+      read-is =
+          cy.slash-early (now (args .s)) (args .at) (args .d) (args .id) (pre .1) (first .result) (first .ensures) (is-at .result) (is-at .ensures) (if1 .left)
+          (is-at2 .result) (is-at2 .ensures) (c .before .before .if2 .left) (c .before .may-end .result) (c .before .may-end .ensures) (c .if3 .taken);
+      inside = let h = pre .1 in omega arith;
+    }
 
 element-add-t9 : (t : ℕ) → element-lts.Need-add-t9 (
   first-reads.Asked,
@@ -567,7 +661,17 @@ element-add-t9 : (t : ℕ) → element-lts.Need-add-t9 (
   may-end-reads.Asked,
   may-end-reads.Learnt,
 ) (element-at t) element.Post
-element-add-t9 t c = let h = cy.slash-room (now (c .before .before .before .before .before .before .before .before .args .s)) (c .before .before .before .before .before .before .before .before .args .at) (c .before .before .before .before .before .before .before .before .args .d) (c .before .before .before .before .before .before .before .before .args .id) (c .before .before .before .before .before .before .before .before .pre .1) (c .before .before .before .before .before .before .first .result) (c .before .before .before .before .before .before .first .ensures) (c .before .before .before .before .before .is-at .result) (c .before .before .before .before .before .is-at .ensures) (c .before .before .before .before .if1 .left) (c .before .before .before .is-at2 .result) (c .before .before .before .is-at2 .ensures) (c .before .before .if2 .left) (c .before .may-end .result) (c .before .may-end .ensures) in search needs
+element-add-t9 t c =
+    let h =
+    let args = c .before .before .before .before .before .before .before .before .args in
+    let pre = c .before .before .before .before .before .before .before .before .pre in
+    let first = c .before .before .before .before .before .before .first in
+    let is-at = c .before .before .before .before .before .is-at in
+    let if1 = c .before .before .before .before .if1 in
+    let is-at2 = c .before .before .before .is-at2 in
+    cy.slash-room (now (args .s)) (args .at) (args .d) (args .id) (pre .1) (first .result) (first .ensures) (is-at .result) (is-at .ensures) (if1 .left)
+    (is-at2 .result) (is-at2 .ensures) (c .before .before .if2 .left) (c .before .may-end .result) (c .before .may-end .ensures) in
+    search needs
 
 element-returns-4 : (t : ℕ) → element-lts.Need-returns-4 (
   first-reads.Asked,
@@ -579,7 +683,22 @@ element-returns-4 : (t : ℕ) → element-lts.Need-returns-4 (
   may-end-reads.Asked,
   may-end-reads.Learnt,
 ) (element-at t) element.Post
-element-returns-4 t c = record { read-is = cy.slash-done (now (c .before .before .before .before .before .before .before .before .args .s)) (c .before .before .before .before .before .before .before .before .args .at) (c .before .before .before .before .before .before .before .before .args .d) (c .before .before .before .before .before .before .before .before .args .id) (c .before .before .before .before .before .before .before .before .pre .1) (c .before .before .before .before .before .before .first .result) (c .before .before .before .before .before .before .first .ensures) (c .before .before .before .before .before .is-at .result) (c .before .before .before .before .before .is-at .ensures) (c .before .before .before .before .if1 .left) (c .before .before .before .is-at2 .result) (c .before .before .before .is-at2 .ensures) (c .before .before .if2 .left) (c .before .may-end .result) (c .before .may-end .ensures) (c .if3 .left); inside = cy.slash-room (now (c .before .before .before .before .before .before .before .before .args .s)) (c .before .before .before .before .before .before .before .before .args .at) (c .before .before .before .before .before .before .before .before .args .d) (c .before .before .before .before .before .before .before .before .args .id) (c .before .before .before .before .before .before .before .before .pre .1) (c .before .before .before .before .before .before .first .result) (c .before .before .before .before .before .before .first .ensures) (c .before .before .before .before .before .is-at .result) (c .before .before .before .before .before .is-at .ensures) (c .before .before .before .before .if1 .left) (c .before .before .before .is-at2 .result) (c .before .before .before .is-at2 .ensures) (c .before .before .if2 .left) (c .before .may-end .result) (c .before .may-end .ensures) }
+element-returns-4 t c =
+    let args = c .before .before .before .before .before .before .before .before .args in
+    let pre = c .before .before .before .before .before .before .before .before .pre in
+    let first = c .before .before .before .before .before .before .first in
+    let is-at = c .before .before .before .before .before .is-at in
+    let if1 = c .before .before .before .before .if1 in
+    let is-at2 = c .before .before .before .is-at2 in
+    let if2 = c .before .before .if2 in
+    record {
+      read-is =
+          cy.slash-done (now (args .s)) (args .at) (args .d) (args .id) (pre .1) (first .result) (first .ensures) (is-at .result) (is-at .ensures) (if1 .left)
+          (is-at2 .result) (is-at2 .ensures) (if2 .left) (c .before .may-end .result) (c .before .may-end .ensures) (c .if3 .left);
+      inside =
+          cy.slash-room (now (args .s)) (args .at) (args .d) (args .id) (pre .1) (first .result) (first .ensures) (is-at .result) (is-at .ensures) (if1 .left)
+          (is-at2 .result) (is-at2 .ensures) (if2 .left) (c .before .may-end .result) (c .before .may-end .ensures);
+    }
 
 pub +content+element-spec : {M : Type 1} → statement M
 +content+element-spec = close μ-content μ-element (λ t. content-lts.spec (

@@ -20,7 +20,14 @@ enum-known-n-2 : tie.Need-enum-known-n-2
 enum-known-n-2 c = search needs
 
 part-requires : tie.Need-part-requires
-part-requires c κs = (let h = name-room (now (c .before .before .before .before .before .args .s)) (c .before .before .before .before .before .args .at) (c .before .before .before .read-name .result) (c .before .before .before .read-name .ensures) (c .before .n2 .given .0 .0) (c .before .n2 .given .1) in omega arith, within (now (c .before .before .before .before .before .args .s)) (wordOf (now (c .before .before .before .before .before .args .s)) (c .before .before .before .before .before .args .at)) (name (drop (c .before .before .before .before .before .args .at) (now (c .before .before .before .before .before .args .s)))) (c .before .before .before .read-name .result) (c .before .before .before .read-name .ensures) (c .before .n2 .given .0 .0) (c .before .n2 .given .1))
+part-requires c κs =
+    let args = c .before .before .before .before .before .args in
+    let read-name = c .before .before .before .read-name in (
+      let h =
+          name-room (now (args .s)) (args .at) (read-name .result) (read-name .ensures) (c .before .n2 .given .0 .0) (c .before .n2 .given .1) in omega arith,
+      within (now (args .s)) (wordOf (now (args .s)) (args .at)) (name (drop (args .at) (now (args .s)))) (read-name .result) (read-name .ensures)
+          (c .before .n2 .given .0 .0) (c .before .n2 .given .1),
+    )
 
 attribute-requires : tie.Need-attribute-requires
 attribute-requires c κs = search needs
@@ -29,22 +36,53 @@ enum-told : tie.Need-enum-told
 enum-told c = search needs
 
 strange-value-requires : tie.Need-strange-value-requires
-strange-value-requires c κs = (within (now (c .before .before .before .before .before .before .before .before .before .args .s)) (wordOf (now (c .before .before .before .before .before .before .before .before .before .args .s)) (c .before .before .before .before .before .before .before .before .before .args .at)) (name (drop (c .before .before .before .before .before .before .before .before .before .args .at) (now (c .before .before .before .before .before .before .before .before .before .args .s)))) (c .before .before .before .before .before .before .before .read-name .result) (c .before .before .before .before .before .before .before .read-name .ensures) (c .before .before .before .before .before .n2 .given .0 .0) (c .before .before .before .before .before .n2 .given .1), search needs)
+strange-value-requires c κs =
+    let args = c .before .before .before .before .before .before .before .before .before .args in
+    let read-name = c .before .before .before .before .before .before .before .read-name in
+    let n2 = c .before .before .before .before .before .n2 in (
+      within (now (args .s)) (wordOf (now (args .s)) (args .at)) (name (drop (args .at) (now (args .s)))) (read-name .result) (read-name .ensures)
+          (n2 .given .0 .0) (n2 .given .1),
+      search needs,
+    )
 
 enum-known-found : tie.Need-enum-known-found
 enum-known-found c = search needs
 
 attribute-value-requires : tie.Need-attribute-value-requires
-attribute-value-requires c κs = within (now (c .before .before .before .before .before .before .before .before .before .before .args .s)) (wordOf (now (c .before .before .before .before .before .before .before .before .before .before .args .s)) (c .before .before .before .before .before .before .before .before .before .before .args .at)) (name (drop (c .before .before .before .before .before .before .before .before .before .before .args .at) (now (c .before .before .before .before .before .before .before .before .before .before .args .s)))) (c .before .before .before .before .before .before .before .before .read-name .result) (c .before .before .before .before .before .before .before .before .read-name .ensures) (c .before .before .before .before .before .before .n2 .given .0 .0) (c .before .before .before .before .before .before .n2 .given .1)
+attribute-value-requires c κs =
+    let args = c .before .before .before .before .before .before .before .before .before .before .args in
+    let read-name = c .before .before .before .before .before .before .before .before .read-name in
+    let n2 = c .before .before .before .before .before .before .n2 in
+    within (now (args .s)) (wordOf (now (args .s)) (args .at)) (name (drop (args .at) (now (args .s)))) (read-name .result) (read-name .ensures)
+    (n2 .given .0 .0) (n2 .given .1)
 
 returns : tie.Need-returns
-returns c = attribute-none (now (c .before .before .before .before .before .args .s)) (c .before .before .before .before .before .args .at) (c .before .before .before .before .before .args .list) (c .before .before .before .read-name .result) (c .before .before .before .read-name .ensures) (c .before .n .given .0 .0) (c .before .n .given .1)
+returns c =
+    let args = c .before .before .before .before .before .args in
+    let read-name = c .before .before .before .read-name in
+    attribute-none (now (args .s)) (args .at) (args .list) (read-name .result) (read-name .ensures) (c .before .n .given .0 .0) (c .before .n .given .1)
 
 returns-2 : tie.Need-returns-2
-returns-2 c = attribute-unknown (now (c .before .before .before .before .before .before .before .before .before .before .args .s)) (c .before .before .before .before .before .before .before .before .before .before .args .at) (c .before .before .before .before .before .before .before .before .before .before .args .list) (c .before .before .before .before .before .before .before .before .read-name .result) (c .before .before .before .before .before .before .before .before .read-name .ensures) (c .before .before .before .before .before .before .n2 .given .0 .0) (c .before .before .before .before .before .before .n2 .given .1) (now (c .before .before .before .before .part .result)) (c .before .before .before .before .part .ensures) (c .before .before .before .attribute .result) (c .before .before .before .attribute .ensures) (c .before .enum-told .given .1) (c .strange-value .result) (c .strange-value .ensures)
+returns-2 c =
+    let args = c .before .before .before .before .before .before .before .before .before .before .args in
+    let read-name = c .before .before .before .before .before .before .before .before .read-name in
+    let n2 = c .before .before .before .before .before .before .n2 in
+    let part = c .before .before .before .before .part in
+    let attribute = c .before .before .before .attribute in
+    attribute-unknown (now (args .s)) (args .at) (args .list) (read-name .result) (read-name .ensures) (n2 .given .0 .0) (n2 .given .1) (now (part .result))
+    (part .ensures) (attribute .result) (attribute .ensures) (c .before .enum-told .given .1) (c .strange-value .result) (c .strange-value .ensures)
 
 returns-3 : tie.Need-returns-3
-returns-3 c = attribute-known (now (c .before .before .before .before .before .before .before .before .before .before .before .args .s)) (c .before .before .before .before .before .before .before .before .before .before .before .args .at) (c .before .before .before .before .before .before .before .before .before .before .before .args .list) (c .before .before .before .before .before .before .before .before .before .read-name .result) (c .before .before .before .before .before .before .before .before .before .read-name .ensures) (c .before .before .before .before .before .before .before .n2 .given .0 .0) (c .before .before .before .before .before .before .before .n2 .given .1) (now (c .before .before .before .before .before .part .result)) (c .before .before .before .before .before .part .ensures) (c .before .before .before .before .attribute .result) (c .before .before .before .before .attribute .ensures) (c .before .before .found .given .0 .0) (c .before .before .found .given .0 .1 .0) (c .before .before .found .given .1) (c .attribute-value .result) (c .attribute-value .ensures)
+returns-3 c =
+    let args = c .before .before .before .before .before .before .before .before .before .before .before .args in
+    let read-name = c .before .before .before .before .before .before .before .before .before .read-name in
+    let n2 = c .before .before .before .before .before .before .before .n2 in
+    let part = c .before .before .before .before .before .part in
+    let attribute = c .before .before .before .before .attribute in
+    let found = c .before .before .found in
+    attribute-known (now (args .s)) (args .at) (args .list) (read-name .result) (read-name .ensures) (n2 .given .0 .0) (n2 .given .1) (now (part .result))
+    (part .ensures) (attribute .result) (attribute .ensures) (found .given .0 .0) (found .given .0 .1 .0) (found .given .1) (c .attribute-value .result)
+    (c .attribute-value .ensures)
 
 pub attribute-spec : {M : Type 1} → statement M
 attribute-spec =

@@ -19,13 +19,25 @@ enum-known-q-2 : tie.Need-enum-known-q-2
 enum-known-q-2 c = search needs
 
 class-value-requires : tie.Need-class-value-requires
-class-value-requires c κs = within (now (c .before .before .before .before .before .args .s)) (stepOf (now (c .before .before .before .before .before .args .s))) (equals (drop (c .before .before .before .before .before .args .at) (now (c .before .before .before .before .before .args .s)))) (c .before .before .before .equals .result) (c .before .before .before .equals .ensures) (c .before .q2 .given .0 .0) (c .before .q2 .given .1)
+class-value-requires c κs =
+    let args = c .before .before .before .before .before .args in
+    let equals' = c .before .before .before .equals in
+    within (now (args .s)) (stepOf (now (args .s))) (equals (drop (args .at) (now (args .s)))) (equals' .result) (equals' .ensures) (c .before .q2 .given .0 .0)
+    (c .before .q2 .given .1)
 
 returns : tie.Need-returns
-returns c = value-bad (now (c .before .before .before .before .before .args .s)) (c .before .before .before .before .before .args .at) (c .before .before .before .before .before .args .class) (c .before .before .before .before .before .args .more) (c .before .before .before .equals .result) (c .before .before .before .equals .ensures) (c .before .q .given .0 .0) (c .before .q .given .1)
+returns c =
+    let args = c .before .before .before .before .before .args in
+    let equals = c .before .before .before .equals in
+    value-bad (now (args .s)) (args .at) (args .class) (args .more) (equals .result) (equals .ensures) (c .before .q .given .0 .0) (c .before .q .given .1)
 
 returns-2 : tie.Need-returns-2
-returns-2 c = value-on (now (c .before .before .before .before .before .before .args .s)) (c .before .before .before .before .before .before .args .at) (c .before .before .before .before .before .before .args .class) (c .before .before .before .before .before .before .args .more) (c .before .before .before .before .equals .result) (c .before .before .before .before .equals .ensures) (c .before .before .q2 .given .0 .0) (c .before .before .q2 .given .1) (c .class-value .result) (c .class-value .ensures)
+returns-2 c =
+    let args = c .before .before .before .before .before .before .args in
+    let equals = c .before .before .before .before .equals in
+    let q2 = c .before .before .q2 in
+    value-on (now (args .s)) (args .at) (args .class) (args .more) (equals .result) (equals .ensures) (q2 .given .0 .0) (q2 .given .1) (c .class-value .result)
+    (c .class-value .ensures)
 
 pub attribute-value-spec : {M : Type 1} → statement M
 attribute-value-spec =

@@ -34,13 +34,51 @@ missing-requires : tie.Need-missing-requires Inv-loop μ-loop
 missing-requires c κs = search needs
 
 returns : tie.Need-returns Inv-loop μ-loop
-returns c = record { read-is = tag-missing (now (c .before .before .before .before .before .before .before .before .before .args .s)) (c .before .before .before .before .before .before .before .loop .i) (c .before .before .before .before .before .before .before .loop .l) (c .before .before .before .before .before .before .loop-test .taken) (c .before .before .before .before .before .skip-space .result) (c .before .before .before .before .before .skip-space .ensures .rest) (c .before .before .before .before .before .skip-space .ensures .inside) (c .before .before .before .before .is-at .result) (c .before .before .before .is-at2 .result) (c .before .before .before .before .is-at .ensures) (c .before .before .before .is-at2 .ensures) (c .before .before .if1 .taken) (c .before .missing .result) (c .before .missing .ensures) (c .if2 .taken) ∙ sym (c .before .before .before .before .before .before .before .loop .inv .1); inside = c .before .before .before .before .before .skip-space .ensures .inside }
+returns c =
+    let args = c .before .before .before .before .before .before .before .before .before .args in
+    let loop = c .before .before .before .before .before .before .before .loop in
+    let loop-test = c .before .before .before .before .before .before .loop-test in
+    let skip-space = c .before .before .before .before .before .skip-space in
+    let is-at = c .before .before .before .before .is-at in
+    let is-at2 = c .before .before .before .is-at2 in
+    record {
+      read-is =
+          tag-missing (now (args .s)) (loop .i) (loop .l) (loop-test .taken) (skip-space .result) (skip-space .ensures .rest) (skip-space .ensures .inside)
+          (is-at .result) (is-at2 .result) (is-at .ensures) (is-at2 .ensures) (c .before .before .if1 .taken) (c .before .missing .result)
+          (c .before .missing .ensures) (c .if2 .taken) ∙ sym (loop .inv .1);
+      inside = skip-space .ensures .inside;
+    }
 
 returns-2 : tie.Need-returns-2 Inv-loop μ-loop
-returns-2 c = record { read-is = tag-whole (now (c .before .before .before .before .before .before .before .before .before .args .s)) (c .before .before .before .before .before .before .before .loop .i) (c .before .before .before .before .before .before .before .loop .l) (c .before .before .before .before .before .before .loop-test .taken) (c .before .before .before .before .before .skip-space .result) (c .before .before .before .before .before .skip-space .ensures .rest) (c .before .before .before .before .before .skip-space .ensures .inside) (c .before .before .before .before .is-at .result) (c .before .before .before .is-at2 .result) (c .before .before .before .before .is-at .ensures) (c .before .before .before .is-at2 .ensures) (c .before .before .if1 .taken) (c .before .missing .result) (c .before .missing .ensures) (c .if2 .left) ∙ sym (c .before .before .before .before .before .before .before .loop .inv .1); inside = c .before .before .before .before .before .skip-space .ensures .inside }
+returns-2 c =
+    let args = c .before .before .before .before .before .before .before .before .before .args in
+    let loop = c .before .before .before .before .before .before .before .loop in
+    let loop-test = c .before .before .before .before .before .before .loop-test in
+    let skip-space = c .before .before .before .before .before .skip-space in
+    let is-at = c .before .before .before .before .is-at in
+    let is-at2 = c .before .before .before .is-at2 in
+    record {
+      read-is =
+          tag-whole (now (args .s)) (loop .i) (loop .l) (loop-test .taken) (skip-space .result) (skip-space .ensures .rest) (skip-space .ensures .inside)
+          (is-at .result) (is-at2 .result) (is-at .ensures) (is-at2 .ensures) (c .before .before .if1 .taken) (c .before .missing .result)
+          (c .before .missing .ensures) (c .if2 .left) ∙ sym (loop .inv .1);
+      inside = skip-space .ensures .inside;
+    }
 
 returns-3 : tie.Need-returns-3 Inv-loop μ-loop
-returns-3 c = record { read-is = no-space (now (c .before .before .before .before .before .before .before .before .args .s)) (c .before .before .before .before .before .before .loop .i) (c .before .before .before .before .before .before .loop .l) (c .before .before .before .before .before .loop-test .taken) (c .before .before .before .before .skip-space .result) (c .before .before .before .before .skip-space .ensures .rest) (c .before .before .before .before .skip-space .ensures .inside) (c .before .before .before .is-at .result) (c .before .before .is-at2 .result) (c .before .before .before .is-at .ensures) (c .before .before .is-at2 .ensures) (c .before .if1 .left) (c .if3 .taken) ∙ sym (c .before .before .before .before .before .before .loop .inv .1); inside = c .before .before .before .before .before .before .loop .inv .0 }
+returns-3 c =
+    let args = c .before .before .before .before .before .before .before .before .args in
+    let loop = c .before .before .before .before .before .before .loop in
+    let loop-test = c .before .before .before .before .before .loop-test in
+    let skip-space = c .before .before .before .before .skip-space in
+    let is-at = c .before .before .before .is-at in
+    let is-at2 = c .before .before .is-at2 in
+    record {
+      read-is =
+          no-space (now (args .s)) (loop .i) (loop .l) (loop-test .taken) (skip-space .result) (skip-space .ensures .rest) (skip-space .ensures .inside)
+          (is-at .result) (is-at2 .result) (is-at .ensures) (is-at2 .ensures) (c .before .if1 .left) (c .if3 .taken) ∙ sym (loop .inv .1);
+      inside = loop .inv .0;
+    }
 
 attribute-requires : tie.Need-attribute-requires Inv-loop μ-loop
 attribute-requires c κs = c .before .before .before .before .skip-space .ensures .inside
@@ -49,19 +87,71 @@ enum-known-a : tie.Need-enum-known-a Inv-loop μ-loop
 enum-known-a c = search needs
 
 returns-4 : tie.Need-returns-4 Inv-loop μ-loop
-returns-4 c = moved (c .before .before .before .before .before .before .before .before .before .before .loop .inv .1) (attribute-refused (now (c .before .before .before .before .before .before .before .before .before .before .before .before .args .s)) (c .before .before .before .before .before .before .before .before .before .before .loop .i) (c .before .before .before .before .before .before .before .before .before .before .loop .l) (c .before .before .before .before .before .before .before .before .before .loop-test .taken) (c .before .before .before .before .before .before .before .before .skip-space .result) (c .before .before .before .before .before .before .before .before .skip-space .ensures .rest) (c .before .before .before .before .before .before .before .before .skip-space .ensures .inside) (c .before .before .before .before .before .before .before .is-at .result) (c .before .before .before .before .before .before .is-at2 .result) (c .before .before .before .before .before .before .before .is-at .ensures) (c .before .before .before .before .before .before .is-at2 .ensures) (c .before .before .before .before .before .if1 .left) (c .before .before .before .before .if3 .left) (c .before .before .before .attribute .result) (c .before .before .before .attribute .ensures) (c .before .a .given .0 .0) (c .before .a .given .1))
+returns-4 c =
+    let args = c .before .before .before .before .before .before .before .before .before .before .before .before .args in
+    let loop = c .before .before .before .before .before .before .before .before .before .before .loop in
+    let loop-test = c .before .before .before .before .before .before .before .before .before .loop-test in
+    let skip-space = c .before .before .before .before .before .before .before .before .skip-space in
+    let is-at = c .before .before .before .before .before .before .before .is-at in
+    let is-at2 = c .before .before .before .before .before .before .is-at2 in
+    let if1 = c .before .before .before .before .before .if1 in
+    let if3 = c .before .before .before .before .if3 in
+    let attribute = c .before .before .before .attribute in
+    moved (loop .inv .1) (attribute-refused (now (args .s)) (loop .i) (loop .l) (loop-test .taken) (skip-space .result) (skip-space .ensures .rest)
+    (skip-space .ensures .inside) (is-at .result) (is-at2 .result) (is-at .ensures) (is-at2 .ensures) (if1 .left) (if3 .left) (attribute .result)
+    (attribute .ensures) (c .before .a .given .0 .0) (c .before .a .given .1))
 
 enum-known-a-2 : tie.Need-enum-known-a-2 Inv-loop μ-loop
 enum-known-a-2 c = search needs
 
 loop-less : tie.Need-loop-less Inv-loop μ-loop
-loop-less c = let p : c .before .before .before .before .before .before .before .before .before .before .loop .i < c .before .a2 .given .0 .0 = more-past (now (c .before .before .before .before .before .before .before .before .before .before .before .before .args .s)) (c .before .before .before .before .before .before .before .before .before .before .loop .i) (c .before .before .before .before .before .before .before .before .before .before .loop .l) (c .before .before .before .before .before .before .before .before .before .loop-test .taken) (c .before .before .before .before .before .before .before .before .skip-space .result) (c .before .before .before .before .before .before .before .before .skip-space .ensures .rest) (c .before .before .before .before .before .before .before .before .skip-space .ensures .inside) (c .before .before .before .before .before .before .before .is-at .result) (c .before .before .before .before .before .before .is-at2 .result) (c .before .before .before .before .before .before .before .is-at .ensures) (c .before .before .before .before .before .before .is-at2 .ensures) (c .before .before .before .before .before .if1 .left) (c .before .before .before .before .if3 .left) (c .before .before .before .attribute .result) (c .before .before .before .attribute .ensures) (c .before .a2 .given .0 .0) (c .before .a2 .given .0 .1 .0) (c .before .a2 .given .1) in let q : c .before .a2 .given .0 .0 ≤ length (now (c .before .before .before .before .before .before .before .before .before .before .before .before .args .s)) = more-inside (now (c .before .before .before .before .before .before .before .before .before .before .before .before .args .s)) (c .before .before .before .before .before .before .before .before .before .before .loop .i) (c .before .before .before .before .before .before .before .before .before .before .loop .l) (c .before .before .before .before .before .before .before .before .before .loop-test .taken) (c .before .before .before .before .before .before .before .before .skip-space .result) (c .before .before .before .before .before .before .before .before .skip-space .ensures .rest) (c .before .before .before .before .before .before .before .before .skip-space .ensures .inside) (c .before .before .before .before .before .before .before .is-at .result) (c .before .before .before .before .before .before .is-at2 .result) (c .before .before .before .before .before .before .before .is-at .ensures) (c .before .before .before .before .before .before .is-at2 .ensures) (c .before .before .before .before .before .if1 .left) (c .before .before .before .before .if3 .left) (c .before .before .before .attribute .result) (c .before .before .before .attribute .ensures) (c .before .a2 .given .0 .0) (c .before .a2 .given .0 .1 .0) (c .before .a2 .given .1) in omega arith
+loop-less c =
+    let args = c .before .before .before .before .before .before .before .before .before .before .before .before .args in
+    let loop = c .before .before .before .before .before .before .before .before .before .before .loop in
+    let loop-test = c .before .before .before .before .before .before .before .before .before .loop-test in
+    let skip-space = c .before .before .before .before .before .before .before .before .skip-space in
+    let is-at = c .before .before .before .before .before .before .before .is-at in
+    let is-at2 = c .before .before .before .before .before .before .is-at2 in
+    let if1 = c .before .before .before .before .before .if1 in
+    let if3 = c .before .before .before .before .if3 in
+    let attribute = c .before .before .before .attribute in
+    let p : loop .i < c .before .a2 .given .0 .0 =
+    more-past (now (args .s)) (loop .i) (loop .l) (loop-test .taken) (skip-space .result) (skip-space .ensures .rest) (skip-space .ensures .inside)
+    (is-at .result) (is-at2 .result) (is-at .ensures) (is-at2 .ensures) (if1 .left) (if3 .left) (attribute .result) (attribute .ensures)
+    (c .before .a2 .given .0 .0) (c .before .a2 .given .0 .1 .0) (c .before .a2 .given .1) in
+    let q : c .before .a2 .given .0 .0 ≤ length (now (args .s)) =
+    more-inside (now (args .s)) (loop .i) (loop .l) (loop-test .taken) (skip-space .result) (skip-space .ensures .rest) (skip-space .ensures .inside)
+    (is-at .result) (is-at2 .result) (is-at .ensures) (is-at2 .ensures) (if1 .left) (if3 .left) (attribute .result) (attribute .ensures)
+    (c .before .a2 .given .0 .0) (c .before .a2 .given .0 .1 .0) (c .before .a2 .given .1) in
+    omega arith
 
 loop-again : tie.Need-loop-again Inv-loop μ-loop
-loop-again c = (more-inside (now (c .before .before .before .before .before .before .before .before .before .before .before .before .args .s)) (c .before .before .before .before .before .before .before .before .before .before .loop .i) (c .before .before .before .before .before .before .before .before .before .before .loop .l) (c .before .before .before .before .before .before .before .before .before .loop-test .taken) (c .before .before .before .before .before .before .before .before .skip-space .result) (c .before .before .before .before .before .before .before .before .skip-space .ensures .rest) (c .before .before .before .before .before .before .before .before .skip-space .ensures .inside) (c .before .before .before .before .before .before .before .is-at .result) (c .before .before .before .before .before .before .is-at2 .result) (c .before .before .before .before .before .before .before .is-at .ensures) (c .before .before .before .before .before .before .is-at2 .ensures) (c .before .before .before .before .before .if1 .left) (c .before .before .before .before .if3 .left) (c .before .before .before .attribute .result) (c .before .before .before .attribute .ensures) (c .before .a2 .given .0 .0) (c .before .a2 .given .0 .1 .0) (c .before .a2 .given .1), c .before .before .before .before .before .before .before .before .before .before .loop .inv .1 ∙ more-on (now (c .before .before .before .before .before .before .before .before .before .before .before .before .args .s)) (c .before .before .before .before .before .before .before .before .before .before .loop .i) (c .before .before .before .before .before .before .before .before .before .before .loop .l) (c .before .before .before .before .before .before .before .before .before .loop-test .taken) (c .before .before .before .before .before .before .before .before .skip-space .result) (c .before .before .before .before .before .before .before .before .skip-space .ensures .rest) (c .before .before .before .before .before .before .before .before .skip-space .ensures .inside) (c .before .before .before .before .before .before .before .is-at .result) (c .before .before .before .before .before .before .is-at2 .result) (c .before .before .before .before .before .before .before .is-at .ensures) (c .before .before .before .before .before .before .is-at2 .ensures) (c .before .before .before .before .before .if1 .left) (c .before .before .before .before .if3 .left) (c .before .before .before .attribute .result) (c .before .before .before .attribute .ensures) (c .before .a2 .given .0 .0) (c .before .a2 .given .0 .1 .0) (c .before .a2 .given .1))
+loop-again c =
+    let args = c .before .before .before .before .before .before .before .before .before .before .before .before .args in
+    let loop = c .before .before .before .before .before .before .before .before .before .before .loop in
+    let loop-test = c .before .before .before .before .before .before .before .before .before .loop-test in
+    let skip-space = c .before .before .before .before .before .before .before .before .skip-space in
+    let is-at = c .before .before .before .before .before .before .before .is-at in
+    let is-at2 = c .before .before .before .before .before .before .is-at2 in
+    let if1 = c .before .before .before .before .before .if1 in
+    let if3 = c .before .before .before .before .if3 in
+    let attribute = c .before .before .before .attribute in (
+      more-inside (now (args .s)) (loop .i) (loop .l) (loop-test .taken) (skip-space .result) (skip-space .ensures .rest) (skip-space .ensures .inside)
+          (is-at .result) (is-at2 .result) (is-at .ensures) (is-at2 .ensures) (if1 .left) (if3 .left) (attribute .result) (attribute .ensures)
+          (c .before .a2 .given .0 .0) (c .before .a2 .given .0 .1 .0) (c .before .a2 .given .1),
+      loop .inv .1 ∙
+          more-on (now (args .s)) (loop .i) (loop .l) (loop-test .taken) (skip-space .result) (skip-space .ensures .rest) (skip-space .ensures .inside)
+          (is-at .result) (is-at2 .result) (is-at .ensures) (is-at2 .ensures) (if1 .left) (if3 .left) (attribute .result) (attribute .ensures)
+          (c .before .a2 .given .0 .0) (c .before .a2 .given .0 .1 .0) (c .before .a2 .given .1),
+    )
 
 returns-5 : tie.Need-returns-5 Inv-loop μ-loop
-returns-5 c = record { read-is = none-left (now (c .before .before .before .args .s)) (c .before .loop .i) (c .before .loop .l) (c .loop-test .left) ∙ sym (c .before .loop .inv .1); inside = c .before .loop .inv .0 }
+returns-5 c =
+    let args = c .before .before .before .args in
+    record {
+      read-is = none-left (now (args .s)) (c .before .loop .i) (c .before .loop .l) (c .loop-test .left) ∙ sym (c .before .loop .inv .1);
+      inside = c .before .loop .inv .0;
+    }
 
 pub attributes-end-spec : {M : Type 1} → statement M
 attributes-end-spec =

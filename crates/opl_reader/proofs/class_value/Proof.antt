@@ -17,7 +17,15 @@ enum-known-e-2 : tie.Need-enum-known-e-2
 enum-known-e-2 c = search needs
 
 quoted-requires : tie.Need-quoted-requires
-quoted-requires c κs = (value-room (now (c .before .before .before .before .before .args .s)) (c .before .before .before .before .before .args .at) (c .before .before .before .read-value .result) (c .before .before .before .read-value .ensures) (c .before .e2 .given .0 .0) (c .before .e2 .given .1) (c .before .before .before .before .before .pre) .0, let h = value-room (now (c .before .before .before .before .before .args .s)) (c .before .before .before .before .before .args .at) (c .before .before .before .read-value .result) (c .before .before .before .read-value .ensures) (c .before .e2 .given .0 .0) (c .before .e2 .given .1) (c .before .before .before .before .before .pre) .1 in omega arith)
+quoted-requires c κs =
+    let args = c .before .before .before .before .before .args in
+    let pre = c .before .before .before .before .before .pre in
+    let read-value = c .before .before .before .read-value in (
+      value-room (now (args .s)) (args .at) (read-value .result) (read-value .ensures) (c .before .e2 .given .0 .0) (c .before .e2 .given .1) pre .0,
+      let h =
+          value-room (now (args .s)) (args .at) (read-value .result) (read-value .ensures) (c .before .e2 .given .0 .0) (c .before .e2 .given .1) pre .1 in
+          omega arith,
+    )
 
 of-class-requires : tie.Need-of-class-requires
 of-class-requires c κs = search needs
@@ -26,16 +34,41 @@ add-t12 : tie.Need-add-t12
 add-t12 c = search needs
 
 returns : tie.Need-returns
-returns c = class-not (now (c .before .before .before .before .before .before .before .before .args .s)) (c .before .before .before .before .before .before .before .before .args .at) (c .before .before .before .before .before .before .before .before .args .class) (c .before .before .before .before .before .before .before .before .args .more) (c .before .before .before .before .before .before .before .before .pre) (c .before .before .before .before .before .before .read-value .result) (c .before .before .before .before .before .before .read-value .ensures) (c .before .before .before .before .e2 .given .0 .0) (c .before .before .before .before .e2 .given .1) (now (c .before .before .quoted .result)) (c .before .before .quoted .ensures) (c .before .of-class .result) (c .before .of-class .ensures) (c .if1 .taken)
+returns c =
+    let args = c .before .before .before .before .before .before .before .before .args in
+    let pre = c .before .before .before .before .before .before .before .before .pre in
+    let read-value = c .before .before .before .before .before .before .read-value in
+    let e2 = c .before .before .before .before .e2 in
+    let quoted = c .before .before .quoted in
+    class-not (now (args .s)) (args .at) (args .class) (args .more) pre (read-value .result) (read-value .ensures) (e2 .given .0 .0) (e2 .given .1)
+    (now (quoted .result)) (quoted .ensures) (c .before .of-class .result) (c .before .of-class .ensures) (c .if1 .taken)
 
 add-t13 : tie.Need-add-t13
-add-t13 c = let h = value-room (now (c .before .before .before .before .before .before .before .before .args .s)) (c .before .before .before .before .before .before .before .before .args .at) (c .before .before .before .before .before .before .read-value .result) (c .before .before .before .before .before .before .read-value .ensures) (c .before .before .before .before .e2 .given .0 .0) (c .before .before .before .before .e2 .given .1) (c .before .before .before .before .before .before .before .before .pre) in search needs
+add-t13 c =
+    let h =
+    let args = c .before .before .before .before .before .before .before .before .args in
+    let pre = c .before .before .before .before .before .before .before .before .pre in
+    let read-value = c .before .before .before .before .before .before .read-value in
+    let e2 = c .before .before .before .before .e2 in
+    value-room (now (args .s)) (args .at) (read-value .result) (read-value .ensures) (e2 .given .0 .0) (e2 .given .1) pre in search needs
 
 returns-2 : tie.Need-returns-2
-returns-2 c = class-bad (now (c .before .before .before .before .before .args .s)) (c .before .before .before .before .before .args .at) (c .before .before .before .before .before .args .class) (c .before .before .before .before .before .args .more) (c .before .before .before .before .before .pre) (c .before .before .before .read-value .result) (c .before .before .before .read-value .ensures) (c .before .e .given .0 .0) (c .before .e .given .1)
+returns-2 c =
+    let args = c .before .before .before .before .before .args in
+    let pre = c .before .before .before .before .before .pre in
+    let read-value = c .before .before .before .read-value in
+    class-bad (now (args .s)) (args .at) (args .class) (args .more) pre (read-value .result) (read-value .ensures) (c .before .e .given .0 .0)
+    (c .before .e .given .1)
 
 returns-3 : tie.Need-returns-3
-returns-3 c = class-yes (now (c .before .before .before .before .before .before .before .before .args .s)) (c .before .before .before .before .before .before .before .before .args .at) (c .before .before .before .before .before .before .before .before .args .class) (c .before .before .before .before .before .before .before .before .args .more) (c .before .before .before .before .before .before .before .before .pre) (c .before .before .before .before .before .before .read-value .result) (c .before .before .before .before .before .before .read-value .ensures) (c .before .before .before .before .e2 .given .0 .0) (c .before .before .before .before .e2 .given .1) (now (c .before .before .quoted .result)) (c .before .before .quoted .ensures) (c .before .of-class .result) (c .before .of-class .ensures) (c .if1 .left)
+returns-3 c =
+    let args = c .before .before .before .before .before .before .before .before .args in
+    let pre = c .before .before .before .before .before .before .before .before .pre in
+    let read-value = c .before .before .before .before .before .before .read-value in
+    let e2 = c .before .before .before .before .e2 in
+    let quoted = c .before .before .quoted in
+    class-yes (now (args .s)) (args .at) (args .class) (args .more) pre (read-value .result) (read-value .ensures) (e2 .given .0 .0) (e2 .given .1)
+    (now (quoted .result)) (quoted .ensures) (c .before .of-class .result) (c .before .of-class .ensures) (c .if1 .left)
 
 pub class-value-spec : {M : Type 1} → statement M
 class-value-spec =

@@ -15,23 +15,44 @@ starts-with-requires c κs = search needs
 
 returns : tie.Need-returns
 unfolding text
-returns c = record { read-is = undeclared (now (c .before .before .before .before .args .s)) (c .before .starts-with .result) (c .before .starts-with .ensures) (c .if1 .taken); inside = search needs }
+returns c =
+    let args = c .before .before .before .before .args in
+    record { read-is = undeclared (now (args .s)) (c .before .starts-with .result) (c .before .starts-with .ensures) (c .if1 .taken); inside = search needs }
 
 skip-space-requires : tie.Need-skip-space-requires
 unfolding text
-skip-space-requires c κs = declared-room (now (c .before .before .before .before .args .s)) (c .before .starts-with .result) (c .before .starts-with .ensures) (c .if1 .left)
+skip-space-requires c κs =
+    let args = c .before .before .before .before .args in
+    declared-room (now (args .s)) (c .before .starts-with .result) (c .before .starts-with .ensures) (c .if1 .left)
 
 returns-2 : tie.Need-returns-2
 unfolding text
-returns-2 c = record { read-is = declared-other (now (c .before .before .before .before .before .before .args .s)) (c .before .before .before .starts-with .result) (c .before .before .before .starts-with .ensures) (c .before .before .if1 .left) (c .before .skip-space .result) (c .before .skip-space .ensures .rest) (c .before .skip-space .ensures .inside) (c .if2 .taken); inside = search needs }
+returns-2 c =
+    let args = c .before .before .before .before .before .before .args in
+    let starts-with = c .before .before .before .starts-with in
+    record {
+      read-is =
+          declared-other (now (args .s)) (starts-with .result) (starts-with .ensures) (c .before .before .if1 .left) (c .before .skip-space .result)
+          (c .before .skip-space .ensures .rest) (c .before .skip-space .ensures .inside) (c .if2 .taken);
+      inside = search needs;
+    }
 
 declaration-requires : tie.Need-declaration-requires
 unfolding text
-declaration-requires c κs = declared-room (now (c .before .before .before .before .before .before .args .s)) (c .before .before .before .starts-with .result) (c .before .before .before .starts-with .ensures) (c .before .before .if1 .left)
+declaration-requires c κs =
+    let args = c .before .before .before .before .before .before .args in
+    let starts-with = c .before .before .before .starts-with in
+    declared-room (now (args .s)) (starts-with .result) (starts-with .ensures) (c .before .before .if1 .left)
 
 returns-3 : tie.Need-returns-3
 unfolding text
-returns-3 c = declared-on (now (c .before .before .before .before .before .before .before .args .s)) (c .before .before .before .before .starts-with .result) (c .before .before .before .before .starts-with .ensures) (c .before .before .before .if1 .left) (c .before .before .skip-space .result) (c .before .before .skip-space .ensures .rest) (c .before .before .skip-space .ensures .inside) (c .before .if2 .left) (c .declaration .result) (c .declaration .ensures)
+returns-3 c =
+    let args = c .before .before .before .before .before .before .before .args in
+    let starts-with = c .before .before .before .before .starts-with in
+    let if1 = c .before .before .before .if1 in
+    let skip-space = c .before .before .skip-space in
+    declared-on (now (args .s)) (starts-with .result) (starts-with .ensures) (if1 .left) (skip-space .result) (skip-space .ensures .rest)
+    (skip-space .ensures .inside) (c .before .if2 .left) (c .declaration .result) (c .declaration .ensures)
 
 pub declared-spec : {M : Type 1} → statement M
 declared-spec =

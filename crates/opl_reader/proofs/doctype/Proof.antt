@@ -25,14 +25,22 @@ enum-told c = search needs
 
 returns : tie.Need-returns
 unfolding text
-returns c = doctype-root (now (c .before .before .before .before .before .args .s)) (c .before .before .before .before .before .args .at) (c .before .before .spaced .result) (c .before .before .spaced .ensures) _ (c .enum-told .given .1)
+returns c =
+    let args = c .before .before .before .before .before .args in
+    let spaced = c .before .before .spaced in
+    doctype-root (now (args .s)) (args .at) (spaced .result) (spaced .ensures) _ (c .enum-told .given .1)
 
 slice-aggregate-spaced-2 : tie.Need-slice-aggregate-spaced-2
 slice-aggregate-spaced-2 c = search needs
 
 spaced-requires-2 : tie.Need-spaced-requires-2
 unfolding text
-spaced-requires-2 c κs = within (now (c .before .before .before .before .before .before .before .args .s)) (stepOf (now (c .before .before .before .before .before .before .before .args .s))) (spacedRead (text "policy_object") (drop (c .before .before .before .before .before .before .before .args .at) (now (c .before .before .before .before .before .before .before .args .s)))) (c .before .before .before .before .spaced .result) (c .before .before .before .before .spaced .ensures) (c .before .before .root .given .0 .0) (c .before .before .root .given .1)
+spaced-requires-2 c κs =
+    let args = c .before .before .before .before .before .before .before .args in
+    let spaced = c .before .before .before .before .spaced in
+    let root = c .before .before .root in
+    within (now (args .s)) (stepOf (now (args .s))) (spacedRead (text "policy_object") (drop (args .at) (now (args .s)))) (spaced .result) (spaced .ensures)
+    (root .given .0 .0) (root .given .1)
 
 enum-known-system : tie.Need-enum-known-system
 enum-known-system c = search needs
@@ -42,11 +50,22 @@ enum-told-2 c = search needs
 
 returns-2 : tie.Need-returns-2
 unfolding text
-returns-2 c = doctype-system (now (c .before .before .before .before .before .before .before .before .before .before .args .s)) (c .before .before .before .before .before .before .before .before .before .before .args .at) (c .before .before .before .before .before .before .before .spaced .result) (c .before .before .before .before .before .before .before .spaced .ensures) (c .before .before .before .before .before .root .given .0 .0) (c .before .before .before .before .before .root .given .1) (c .before .before .spaced2 .result) (c .before .before .spaced2 .ensures) _ (c .enum-told2 .given .1)
+returns-2 c =
+    let args = c .before .before .before .before .before .before .before .before .before .before .args in
+    let spaced = c .before .before .before .before .before .before .before .spaced in
+    let root = c .before .before .before .before .before .root in
+    let spaced2 = c .before .before .spaced2 in
+    doctype-system (now (args .s)) (args .at) (spaced .result) (spaced .ensures) (root .given .0 .0) (root .given .1) (spaced2 .result) (spaced2 .ensures) _
+    (c .enum-told2 .given .1)
 
 space-requires : tie.Need-space-requires
 unfolding text
-space-requires c κs = within (now (c .before .before .before .before .before .before .before .before .before .before .before .args .s)) (stepOf (now (c .before .before .before .before .before .before .before .before .before .before .before .args .s))) (spacedRead (text "SYSTEM") (drop (c .before .before .before .before .before .before .root .given .0 .0) (now (c .before .before .before .before .before .before .before .before .before .before .before .args .s)))) (c .before .before .before .spaced2 .result) (c .before .before .before .spaced2 .ensures) (c .before .system .given .0 .0) (c .before .system .given .1)
+space-requires c κs =
+    let args = c .before .before .before .before .before .before .before .before .before .before .before .args in
+    let root = c .before .before .before .before .before .before .root in
+    let spaced2 = c .before .before .before .spaced2 in
+    within (now (args .s)) (stepOf (now (args .s))) (spacedRead (text "SYSTEM") (drop (root .given .0 .0) (now (args .s)))) (spaced2 .result) (spaced2 .ensures)
+    (c .before .system .given .0 .0) (c .before .system .given .1)
 
 enum-known-b : tie.Need-enum-known-b
 enum-known-b c = search needs
@@ -56,10 +75,23 @@ enum-told-3 c = search needs
 
 returns-3 : tie.Need-returns-3
 unfolding text
-returns-3 c = doctype-space (now (c .before .before .before .before .before .before .before .before .before .before .before .before .before .before .args .s)) (c .before .before .before .before .before .before .before .before .before .before .before .before .before .before .args .at) (c .before .before .before .before .before .before .before .before .before .before .before .spaced .result) (c .before .before .before .before .before .before .before .before .before .before .before .spaced .ensures) (c .before .before .before .before .before .before .before .before .before .root .given .0 .0) (c .before .before .before .before .before .before .before .before .before .root .given .1) (c .before .before .before .before .before .before .spaced2 .result) (c .before .before .before .before .before .before .spaced2 .ensures) (c .before .before .before .before .system .given .0 .0) (c .before .before .before .before .system .given .1) (c .before .before .space .result) (c .before .before .space .ensures) _ (c .enum-told3 .given .1)
+returns-3 c =
+    let args = c .before .before .before .before .before .before .before .before .before .before .before .before .before .before .args in
+    let spaced = c .before .before .before .before .before .before .before .before .before .before .before .spaced in
+    let root = c .before .before .before .before .before .before .before .before .before .root in
+    let spaced2 = c .before .before .before .before .before .before .spaced2 in
+    let system = c .before .before .before .before .system in
+    let space = c .before .before .space in
+    doctype-space (now (args .s)) (args .at) (spaced .result) (spaced .ensures) (root .given .0 .0) (root .given .1) (spaced2 .result) (spaced2 .ensures)
+    (system .given .0 .0) (system .given .1) (space .result) (space .ensures) _ (c .enum-told3 .given .1)
 
 read-value-requires : tie.Need-read-value-requires
-read-value-requires c κs = within (now (c .before .before .before .before .before .before .before .before .before .before .before .before .before .before .before .args .s)) (stepOf (now (c .before .before .before .before .before .before .before .before .before .before .before .before .before .before .before .args .s))) (space (drop (c .before .before .before .before .before .system .given .0 .0) (now (c .before .before .before .before .before .before .before .before .before .before .before .before .before .before .before .args .s)))) (c .before .before .before .space .result) (c .before .before .before .space .ensures) (c .before .b .given .0 .0) (c .before .b .given .1)
+read-value-requires c κs =
+    let args = c .before .before .before .before .before .before .before .before .before .before .before .before .before .before .before .args in
+    let system = c .before .before .before .before .before .system in
+    let space' = c .before .before .before .space in
+    within (now (args .s)) (stepOf (now (args .s))) (space (drop (system .given .0 .0) (now (args .s)))) (space' .result) (space' .ensures)
+    (c .before .b .given .0 .0) (c .before .b .given .1)
 
 enum-known-e : tie.Need-enum-known-e
 enum-known-e c = search needs
@@ -69,13 +101,45 @@ enum-told-4 c = search needs
 
 returns-4 : tie.Need-returns-4
 unfolding text
-returns-4 c = doctype-value (now (c .before .before .before .before .before .before .before .before .before .before .before .before .before .before .before .before .before .before .args .s)) (c .before .before .before .before .before .before .before .before .before .before .before .before .before .before .before .before .before .before .args .at) (c .before .before .before .before .before .before .before .before .before .before .before .before .before .before .before .spaced .result) (c .before .before .before .before .before .before .before .before .before .before .before .before .before .before .before .spaced .ensures) (c .before .before .before .before .before .before .before .before .before .before .before .before .before .root .given .0 .0) (c .before .before .before .before .before .before .before .before .before .before .before .before .before .root .given .1) (c .before .before .before .before .before .before .before .before .before .before .spaced2 .result) (c .before .before .before .before .before .before .before .before .before .before .spaced2 .ensures) (c .before .before .before .before .before .before .before .before .system .given .0 .0) (c .before .before .before .before .before .before .before .before .system .given .1) (c .before .before .before .before .before .before .space .result) (c .before .before .before .before .before .before .space .ensures) (c .before .before .before .before .b .given .0 .0) (c .before .before .before .before .b .given .1) (c .before .before .read-value .result) (c .before .before .read-value .ensures) _ (c .enum-told4 .given .1)
+returns-4 c =
+    let args = c .before .before .before .before .before .before .before .before .before .before .before .before .before .before .before .before .before .before
+    .args in
+    let spaced = c .before .before .before .before .before .before .before .before .before .before .before .before .before .before .before .spaced in
+    let root = c .before .before .before .before .before .before .before .before .before .before .before .before .before .root in
+    let spaced2 = c .before .before .before .before .before .before .before .before .before .before .spaced2 in
+    let system = c .before .before .before .before .before .before .before .before .system in
+    let space = c .before .before .before .before .before .before .space in
+    let b = c .before .before .before .before .b in
+    let read-value = c .before .before .read-value in
+    doctype-value (now (args .s)) (args .at) (spaced .result) (spaced .ensures) (root .given .0 .0) (root .given .1) (spaced2 .result) (spaced2 .ensures)
+    (system .given .0 .0) (system .given .1) (space .result) (space .ensures) (b .given .0 .0) (b .given .1) (read-value .result) (read-value .ensures) _
+    (c .enum-told4 .given .1)
 
 add-skip-space : tie.Need-add-skip-space
-add-skip-space c = let h = value-room (now (c .before .before .before .before .before .before .before .before .before .before .before .before .before .before .before .before .before .before .before .args .s)) (c .before .before .before .before .before .b .given .0 .0) (c .before .before .before .read-value .result) (c .before .before .before .read-value .ensures) (c .before .e .given .0 .0) (c .before .e .given .1) (within (now (c .before .before .before .before .before .before .before .before .before .before .before .before .before .before .before .before .before .before .before .args .s)) (stepOf (now (c .before .before .before .before .before .before .before .before .before .before .before .before .before .before .before .before .before .before .before .args .s))) (space (drop (c .before .before .before .before .before .before .before .before .before .system .given .0 .0) (now (c .before .before .before .before .before .before .before .before .before .before .before .before .before .before .before .before .before .before .before .args .s)))) (c .before .before .before .before .before .before .before .space .result) (c .before .before .before .before .before .before .before .space .ensures) (c .before .before .before .before .before .b .given .0 .0) (c .before .before .before .before .before .b .given .1)) in search needs
+add-skip-space c =
+    let h =
+    let args = c .before .before .before .before .before .before .before .before .before .before .before .before .before .before .before .before .before .before
+    .before .args in
+    let system = c .before .before .before .before .before .before .before .before .before .system in
+    let space' = c .before .before .before .before .before .before .before .space in
+    let b = c .before .before .before .before .before .b in
+    let read-value = c .before .before .before .read-value in
+    value-room (now (args .s)) (b .given .0 .0) (read-value .result) (read-value .ensures) (c .before .e .given .0 .0) (c .before .e .given .1)
+    (within (now (args .s)) (stepOf (now (args .s))) (space (drop (system .given .0 .0) (now (args .s)))) (space' .result) (space' .ensures) (b .given .0 .0)
+    (b .given .1)) in
+    search needs
 
 skip-space-requires : tie.Need-skip-space-requires
-skip-space-requires c κs = value-room (now (c .before .before .before .before .before .before .before .before .before .before .before .before .before .before .before .before .before .before .before .args .s)) (c .before .before .before .before .before .b .given .0 .0) (c .before .before .before .read-value .result) (c .before .before .before .read-value .ensures) (c .before .e .given .0 .0) (c .before .e .given .1) (within (now (c .before .before .before .before .before .before .before .before .before .before .before .before .before .before .before .before .before .before .before .args .s)) (stepOf (now (c .before .before .before .before .before .before .before .before .before .before .before .before .before .before .before .before .before .before .before .args .s))) (space (drop (c .before .before .before .before .before .before .before .before .before .system .given .0 .0) (now (c .before .before .before .before .before .before .before .before .before .before .before .before .before .before .before .before .before .before .before .args .s)))) (c .before .before .before .before .before .before .before .space .result) (c .before .before .before .before .before .before .before .space .ensures) (c .before .before .before .before .before .b .given .0 .0) (c .before .before .before .before .before .b .given .1)) .1
+skip-space-requires c κs =
+    let args = c .before .before .before .before .before .before .before .before .before .before .before .before .before .before .before .before .before .before
+    .before .args in
+    let system = c .before .before .before .before .before .before .before .before .before .system in
+    let space' = c .before .before .before .before .before .before .before .space in
+    let b = c .before .before .before .before .before .b in
+    let read-value = c .before .before .before .read-value in
+    value-room (now (args .s)) (b .given .0 .0) (read-value .result) (read-value .ensures) (c .before .e .given .0 .0) (c .before .e .given .1)
+    (within (now (args .s)) (stepOf (now (args .s))) (space (drop (system .given .0 .0) (now (args .s)))) (space' .result) (space' .ensures) (b .given .0 .0)
+    (b .given .1)) .1
 
 slice-aggregate-expect : tie.Need-slice-aggregate-expect
 slice-aggregate-expect c = search needs
@@ -85,7 +149,23 @@ expect-requires c κs = search needs
 
 returns-5 : tie.Need-returns-5
 unfolding text
-returns-5 c = doctype-end (now (c .before .before .before .before .before .before .before .before .before .before .before .before .before .before .before .before .before .before .before .before .before .before .args .s)) (c .before .before .before .before .before .before .before .before .before .before .before .before .before .before .before .before .before .before .before .before .before .before .args .at) (c .before .before .before .before .before .before .before .before .before .before .before .before .before .before .before .before .before .before .before .spaced .result) (c .before .before .before .before .before .before .before .before .before .before .before .before .before .before .before .before .before .before .before .spaced .ensures) (c .before .before .before .before .before .before .before .before .before .before .before .before .before .before .before .before .before .root .given .0 .0) (c .before .before .before .before .before .before .before .before .before .before .before .before .before .before .before .before .before .root .given .1) (c .before .before .before .before .before .before .before .before .before .before .before .before .before .before .spaced2 .result) (c .before .before .before .before .before .before .before .before .before .before .before .before .before .before .spaced2 .ensures) (c .before .before .before .before .before .before .before .before .before .before .before .before .system .given .0 .0) (c .before .before .before .before .before .before .before .before .before .before .before .before .system .given .1) (c .before .before .before .before .before .before .before .before .before .before .space .result) (c .before .before .before .before .before .before .before .before .before .before .space .ensures) (c .before .before .before .before .before .before .before .before .b .given .0 .0) (c .before .before .before .before .before .before .before .before .b .given .1) (c .before .before .before .before .before .before .read-value .result) (c .before .before .before .before .before .before .read-value .ensures) (c .before .before .before .before .e .given .0 .0) (c .before .before .before .before .e .given .1) (c .before .before .skip-space .result) (c .before .before .skip-space .ensures .rest) (c .expect .result) (c .expect .ensures)
+returns-5 c =
+    let args = c .before .before .before .before .before .before .before .before .before .before .before .before .before .before .before .before .before .before
+    .before .before .before .before .args in
+    let spaced = c .before .before .before .before .before .before .before .before .before .before .before .before .before .before .before .before .before
+    .before .before .spaced in
+    let root = c .before .before .before .before .before .before .before .before .before .before .before .before .before .before .before .before .before
+    .root in
+    let spaced2 = c .before .before .before .before .before .before .before .before .before .before .before .before .before .before .spaced2 in
+    let system = c .before .before .before .before .before .before .before .before .before .before .before .before .system in
+    let space = c .before .before .before .before .before .before .before .before .before .before .space in
+    let b = c .before .before .before .before .before .before .before .before .b in
+    let read-value = c .before .before .before .before .before .before .read-value in
+    let e = c .before .before .before .before .e in
+    let skip-space = c .before .before .skip-space in
+    doctype-end (now (args .s)) (args .at) (spaced .result) (spaced .ensures) (root .given .0 .0) (root .given .1) (spaced2 .result) (spaced2 .ensures)
+    (system .given .0 .0) (system .given .1) (space .result) (space .ensures) (b .given .0 .0) (b .given .1) (read-value .result) (read-value .ensures)
+    (e .given .0 .0) (e .given .1) (skip-space .result) (skip-space .ensures .rest) (c .expect .result) (c .expect .ensures)
 
 pub doctype-spec : {M : Type 1} → statement M
 doctype-spec =

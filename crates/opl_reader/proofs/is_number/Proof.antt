@@ -32,19 +32,37 @@ digit-requires : tie.Need-digit-requires Inv-loop μ-loop
 digit-requires c κs = search needs
 
 returns-2 : tie.Need-returns-2 Inv-loop μ-loop
-returns-2 c = count-not (now (c .before .before .before .before .before .before .before .before .args .v)) (c .before .before .before .before .before .loop .n) (c .before .before .before .before .before .loop .i) (c .before .before .before .before .loop-test .taken) (c .before .before .wide .result) (c .before .before .wide .ensures .0) (c .before .digit .result) (c .before .digit .ensures) (c .if2 .taken) ∙ sym (c .before .before .before .before .before .loop .inv .1)
+returns-2 c =
+    let args = c .before .before .before .before .before .before .before .before .args in
+    let loop = c .before .before .before .before .before .loop in
+    let loop-test = c .before .before .before .before .loop-test in
+    let wide = c .before .before .wide in
+    count-not (now (args .v)) (loop .n) (loop .i) (loop-test .taken) (wide .result) (wide .ensures .0) (c .before .digit .result) (c .before .digit .ensures)
+    (c .if2 .taken) ∙ sym (loop .inv .1)
 
 mul-n : tie.Need-mul-n Inv-loop μ-loop
 mul-n c = search needs
 
 sub-n : tie.Need-sub-n Inv-loop μ-loop
-sub-n c = let h : 48 ≤ c .before .before .wide .result = digit-low (c .before .before .wide .result) (c .before .digit .result) (c .before .digit .ensures) (c .if2 .left) in search needs
+sub-n c =
+    let wide = c .before .before .wide in
+    let h : 48 ≤ wide .result = digit-low (wide .result) (c .before .digit .result) (c .before .digit .ensures) (c .if2 .left) in search needs
 
 add-n : tie.Need-add-n Inv-loop μ-loop
-add-n c = let h : 48 ≤ c .before .before .wide .result = digit-low (c .before .before .wide .result) (c .before .digit .result) (c .before .digit .ensures) (c .if2 .left) in search needs
+add-n c =
+    let wide = c .before .before .wide in
+    let h : 48 ≤ wide .result = digit-low (wide .result) (c .before .digit .result) (c .before .digit .ensures) (c .if2 .left) in search needs
 
 returns-3 : tie.Need-returns-3 Inv-loop μ-loop
-returns-3 c = count-over (10 * c .before .before .before .before .before .before .loop .n + (c .before .before .before .wide .result - 48)) (drop (c .before .before .before .before .before .before .loop .i + 1) (now (c .before .before .before .before .before .before .before .before .before .args .v))) (c .if3 .taken) ∙ sym (c .before .before .before .before .before .before .loop .inv .1 ∙ count-more (now (c .before .before .before .before .before .before .before .before .before .args .v)) (c .before .before .before .before .before .before .loop .n) (c .before .before .before .before .before .before .loop .i) (c .before .before .before .before .before .loop-test .taken) (c .before .before .before .wide .result) (c .before .before .before .wide .ensures .0) (c .before .before .digit .result) (c .before .before .digit .ensures) (c .before .if2 .left))
+returns-3 c =
+    let args = c .before .before .before .before .before .before .before .before .before .args in
+    let loop = c .before .before .before .before .before .before .loop in
+    let loop-test = c .before .before .before .before .before .loop-test in
+    let wide = c .before .before .before .wide in
+    let digit = c .before .before .digit in
+    count-over (10 * loop .n + (wide .result - 48)) (drop (loop .i + 1) (now (args .v))) (c .if3 .taken) ∙
+    sym (loop .inv .1 ∙
+    count-more (now (args .v)) (loop .n) (loop .i) (loop-test .taken) (wide .result) (wide .ensures .0) (digit .result) (digit .ensures) (c .before .if2 .left))
 
 add-i : tie.Need-add-i Inv-loop μ-loop
 add-i c = search needs
@@ -53,10 +71,22 @@ loop-less : tie.Need-loop-less Inv-loop μ-loop
 loop-less c = search needs
 
 loop-again : tie.Need-loop-again Inv-loop μ-loop
-loop-again c = (search needs, c .before .before .before .before .before .before .loop .inv .1 ∙ count-more (now (c .before .before .before .before .before .before .before .before .before .args .v)) (c .before .before .before .before .before .before .loop .n) (c .before .before .before .before .before .before .loop .i) (c .before .before .before .before .before .loop-test .taken) (c .before .before .before .wide .result) (c .before .before .before .wide .ensures .0) (c .before .before .digit .result) (c .before .before .digit .ensures) (c .before .if2 .left))
+loop-again c =
+    let args = c .before .before .before .before .before .before .before .before .before .args in
+    let loop = c .before .before .before .before .before .before .loop in
+    let loop-test = c .before .before .before .before .before .loop-test in
+    let wide = c .before .before .before .wide in
+    let digit = c .before .before .digit in (
+      search needs,
+      loop .inv .1 ∙
+          count-more (now (args .v)) (loop .n) (loop .i) (loop-test .taken) (wide .result) (wide .ensures .0) (digit .result) (digit .ensures)
+          (c .before .if2 .left),
+    )
 
 returns-4 : tie.Need-returns-4 Inv-loop μ-loop
-returns-4 c = count-end (now (c .before .before .before .before .args .v)) (c .before .loop .n) (c .before .loop .i) (c .loop-test .left) (c .before .loop .inv .0) ∙ sym (c .before .loop .inv .1)
+returns-4 c =
+    let args = c .before .before .before .before .args in
+    count-end (now (args .v)) (c .before .loop .n) (c .before .loop .i) (c .loop-test .left) (c .before .loop .inv .0) ∙ sym (c .before .loop .inv .1)
 
 pub is-number-spec : {M : Type 1} → statement M
 is-number-spec =

@@ -18,7 +18,9 @@ returns-2 : tie.Need-returns-2
 returns-2 c = rw (c .before .match .keys2) (c .is-number .ensures)
 
 returns-3 : tie.Need-returns-3
-returns-3 c = fits-any (c .before .before .args .class) (now (c .before .before .args .v)) (apart 2 (c .before .before .args .class) (c .match .rest))
+returns-3 c =
+    let args = c .before .before .args in
+    fits-any (args .class) (now (args .v)) (apart 2 (args .class) (c .match .rest))
 
 pub of-class-spec : {M : Type 1} → statement M
 of-class-spec = tie.close (tie.spec is-number-requires returns returns-2 returns-3)

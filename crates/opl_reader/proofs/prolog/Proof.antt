@@ -20,10 +20,17 @@ enum-told : tie.Need-enum-told
 enum-told c = search needs
 
 returns : tie.Need-returns
-returns c = prolog-declared (now (c .before .before .before .before .args .s)) (c .before .before .declared .result) (c .before .before .declared .ensures) _ (c .enum-told .given .1)
+returns c =
+    let args = c .before .before .before .before .args in
+    let declared = c .before .before .declared in
+    prolog-declared (now (args .s)) (declared .result) (declared .ensures) _ (c .enum-told .given .1)
 
 skip-misc-requires : tie.Need-skip-misc-requires
-skip-misc-requires c κs = within (now (c .before .before .before .before .before .args .s)) (stepOf (now (c .before .before .before .before .before .args .s))) (declaredRead (now (c .before .before .before .before .before .args .s))) (c .before .before .before .declared .result) (c .before .before .before .declared .ensures) (c .before .d .given .0 .0) (c .before .d .given .1)
+skip-misc-requires c κs =
+    let args = c .before .before .before .before .before .args in
+    let declared = c .before .before .before .declared in
+    within (now (args .s)) (stepOf (now (args .s))) (declaredRead (now (args .s))) (declared .result) (declared .ensures) (c .before .d .given .0 .0)
+    (c .before .d .given .1)
 
 enum-known-m : tie.Need-enum-known-m
 enum-known-m c = search needs
@@ -32,13 +39,31 @@ enum-told-2 : tie.Need-enum-told-2
 enum-told-2 c = search needs
 
 returns-2 : tie.Need-returns-2
-returns-2 c = prolog-misc (now (c .before .before .before .before .before .before .before .before .args .s)) (c .before .before .before .before .before .before .declared .result) (c .before .before .before .before .before .before .declared .ensures) (c .before .before .before .before .d .given .0 .0) (c .before .before .before .before .d .given .1) (c .before .before .skip-misc .result) (c .before .before .skip-misc .ensures) _ (c .enum-told2 .given .1)
+returns-2 c =
+    let args = c .before .before .before .before .before .before .before .before .args in
+    let declared = c .before .before .before .before .before .before .declared in
+    let d = c .before .before .before .before .d in
+    let skip-misc = c .before .before .skip-misc in
+    prolog-misc (now (args .s)) (declared .result) (declared .ensures) (d .given .0 .0) (d .given .1) (skip-misc .result) (skip-misc .ensures) _
+    (c .enum-told2 .given .1)
 
 typed-requires : tie.Need-typed-requires
-typed-requires c κs = within (now (c .before .before .before .before .before .before .before .before .before .args .s)) (stepOf (now (c .before .before .before .before .before .before .before .before .before .args .s))) (misc (length (drop (c .before .before .before .before .before .d .given .0 .0) (now (c .before .before .before .before .before .before .before .before .before .args .s)))) (drop (c .before .before .before .before .before .d .given .0 .0) (now (c .before .before .before .before .before .before .before .before .before .args .s)))) (c .before .before .before .skip-misc .result) (c .before .before .before .skip-misc .ensures) (c .before .m .given .0 .0) (c .before .m .given .1)
+typed-requires c κs =
+    let args = c .before .before .before .before .before .before .before .before .before .args in
+    let d = c .before .before .before .before .before .d in
+    let skip-misc = c .before .before .before .skip-misc in
+    within (now (args .s)) (stepOf (now (args .s))) (misc (length (drop (d .given .0 .0) (now (args .s)))) (drop (d .given .0 .0) (now (args .s))))
+    (skip-misc .result) (skip-misc .ensures) (c .before .m .given .0 .0) (c .before .m .given .1)
 
 returns-3 : tie.Need-returns-3
-returns-3 c = prolog-typed (now (c .before .before .before .before .before .before .before .before .before .before .args .s)) (c .before .before .before .before .before .before .before .before .declared .result) (c .before .before .before .before .before .before .before .before .declared .ensures) (c .before .before .before .before .before .before .d .given .0 .0) (c .before .before .before .before .before .before .d .given .1) (c .before .before .before .before .skip-misc .result) (c .before .before .before .before .skip-misc .ensures) (c .before .before .m .given .0 .0) (c .before .before .m .given .1) (c .typed .result) (c .typed .ensures)
+returns-3 c =
+    let args = c .before .before .before .before .before .before .before .before .before .before .args in
+    let declared = c .before .before .before .before .before .before .before .before .declared in
+    let d = c .before .before .before .before .before .before .d in
+    let skip-misc = c .before .before .before .before .skip-misc in
+    let m = c .before .before .m in
+    prolog-typed (now (args .s)) (declared .result) (declared .ensures) (d .given .0 .0) (d .given .1) (skip-misc .result) (skip-misc .ensures) (m .given .0 .0)
+    (m .given .1) (c .typed .result) (c .typed .ensures)
 
 pub prolog-spec : {M : Type 1} → statement M
 prolog-spec =

@@ -21,10 +21,17 @@ enum-told : tie.Need-enum-told
 enum-told c = search needs
 
 returns : tie.Need-returns
-returns c = pseudo-word (now (c .before .before .before .before .before .before .args .s)) (c .before .before .before .before .before .before .args .at) (now (c .before .before .before .before .before .before .args .w)) (now (c .before .before .before .before .before .before .args .v)) (c .before .before .expect .result) (c .before .before .expect .ensures) _ (c .enum-told .given .1)
+returns c =
+    let args = c .before .before .before .before .before .before .args in
+    let expect = c .before .before .expect in
+    pseudo-word (now (args .s)) (args .at) (now (args .w)) (now (args .v)) (expect .result) (expect .ensures) _ (c .enum-told .given .1)
 
 equals-requires : tie.Need-equals-requires
-equals-requires c κs = within (now (c .before .before .before .before .before .before .before .args .s)) (stepOf (now (c .before .before .before .before .before .before .before .args .s))) (expect (now (c .before .before .before .before .before .before .before .args .w)) (drop (c .before .before .before .before .before .before .before .args .at) (now (c .before .before .before .before .before .before .before .args .s)))) (c .before .before .before .expect .result) (c .before .before .before .expect .ensures) (c .before .x .given .0 .0) (c .before .x .given .1)
+equals-requires c κs =
+    let args = c .before .before .before .before .before .before .before .args in
+    let expect' = c .before .before .before .expect in
+    within (now (args .s)) (stepOf (now (args .s))) (expect (now (args .w)) (drop (args .at) (now (args .s)))) (expect' .result) (expect' .ensures)
+    (c .before .x .given .0 .0) (c .before .x .given .1)
 
 enum-known-q : tie.Need-enum-known-q
 enum-known-q c = search needs
@@ -33,10 +40,21 @@ enum-told-2 : tie.Need-enum-told-2
 enum-told-2 c = search needs
 
 returns-2 : tie.Need-returns-2
-returns-2 c = pseudo-equals (now (c .before .before .before .before .before .before .before .before .before .before .args .s)) (c .before .before .before .before .before .before .before .before .before .before .args .at) (now (c .before .before .before .before .before .before .before .before .before .before .args .w)) (now (c .before .before .before .before .before .before .before .before .before .before .args .v)) (c .before .before .before .before .before .before .expect .result) (c .before .before .before .before .before .before .expect .ensures) (c .before .before .before .before .x .given .0 .0) (c .before .before .before .before .x .given .1) (c .before .before .equals .result) (c .before .before .equals .ensures) _ (c .enum-told2 .given .1)
+returns-2 c =
+    let args = c .before .before .before .before .before .before .before .before .before .before .args in
+    let expect = c .before .before .before .before .before .before .expect in
+    let x = c .before .before .before .before .x in
+    let equals = c .before .before .equals in
+    pseudo-equals (now (args .s)) (args .at) (now (args .w)) (now (args .v)) (expect .result) (expect .ensures) (x .given .0 .0) (x .given .1) (equals .result)
+    (equals .ensures) _ (c .enum-told2 .given .1)
 
 read-value-requires : tie.Need-read-value-requires
-read-value-requires c κs = within (now (c .before .before .before .before .before .before .before .before .before .before .before .args .s)) (stepOf (now (c .before .before .before .before .before .before .before .before .before .before .before .args .s))) (equals (drop (c .before .before .before .before .before .x .given .0 .0) (now (c .before .before .before .before .before .before .before .before .before .before .before .args .s)))) (c .before .before .before .equals .result) (c .before .before .before .equals .ensures) (c .before .q .given .0 .0) (c .before .q .given .1)
+read-value-requires c κs =
+    let args = c .before .before .before .before .before .before .before .before .before .before .before .args in
+    let x = c .before .before .before .before .before .x in
+    let equals' = c .before .before .before .equals in
+    within (now (args .s)) (stepOf (now (args .s))) (equals (drop (x .given .0 .0) (now (args .s)))) (equals' .result) (equals' .ensures)
+    (c .before .q .given .0 .0) (c .before .q .given .1)
 
 enum-known-e : tie.Need-enum-known-e
 enum-known-e c = search needs
@@ -45,25 +63,108 @@ enum-told-3 : tie.Need-enum-told-3
 enum-told-3 c = search needs
 
 returns-3 : tie.Need-returns-3
-returns-3 c = pseudo-value (now (c .before .before .before .before .before .before .before .before .before .before .before .before .before .before .args .s)) (c .before .before .before .before .before .before .before .before .before .before .before .before .before .before .args .at) (now (c .before .before .before .before .before .before .before .before .before .before .before .before .before .before .args .w)) (now (c .before .before .before .before .before .before .before .before .before .before .before .before .before .before .args .v)) (c .before .before .before .before .before .before .before .before .before .before .expect .result) (c .before .before .before .before .before .before .before .before .before .before .expect .ensures) (c .before .before .before .before .before .before .before .before .x .given .0 .0) (c .before .before .before .before .before .before .before .before .x .given .1) (c .before .before .before .before .before .before .equals .result) (c .before .before .before .before .before .before .equals .ensures) (c .before .before .before .before .q .given .0 .0) (c .before .before .before .before .q .given .1) (c .before .before .read-value .result) (c .before .before .read-value .ensures) _ (c .enum-told3 .given .1)
+returns-3 c =
+    let args = c .before .before .before .before .before .before .before .before .before .before .before .before .before .before .args in
+    let expect = c .before .before .before .before .before .before .before .before .before .before .expect in
+    let x = c .before .before .before .before .before .before .before .before .x in
+    let equals = c .before .before .before .before .before .before .equals in
+    let q = c .before .before .before .before .q in
+    let read-value = c .before .before .read-value in
+    pseudo-value (now (args .s)) (args .at) (now (args .w)) (now (args .v)) (expect .result) (expect .ensures) (x .given .0 .0) (x .given .1) (equals .result)
+    (equals .ensures) (q .given .0 .0) (q .given .1) (read-value .result) (read-value .ensures) _ (c .enum-told3 .given .1)
 
 quoted-requires : tie.Need-quoted-requires
-quoted-requires c κs = (value-room (now (c .before .before .before .before .before .before .before .before .before .before .before .before .before .before .before .args .s)) (c .before .before .before .before .before .q .given .0 .0) (c .before .before .before .read-value .result) (c .before .before .before .read-value .ensures) (c .before .e .given .0 .0) (c .before .e .given .1) (within (now (c .before .before .before .before .before .before .before .before .before .before .before .before .before .before .before .args .s)) (stepOf (now (c .before .before .before .before .before .before .before .before .before .before .before .before .before .before .before .args .s))) (equals (drop (c .before .before .before .before .before .before .before .before .before .x .given .0 .0) (now (c .before .before .before .before .before .before .before .before .before .before .before .before .before .before .before .args .s)))) (c .before .before .before .before .before .before .before .equals .result) (c .before .before .before .before .before .before .before .equals .ensures) (c .before .before .before .before .before .q .given .0 .0) (c .before .before .before .before .before .q .given .1)) .0, let h = value-room (now (c .before .before .before .before .before .before .before .before .before .before .before .before .before .before .before .args .s)) (c .before .before .before .before .before .q .given .0 .0) (c .before .before .before .read-value .result) (c .before .before .before .read-value .ensures) (c .before .e .given .0 .0) (c .before .e .given .1) (within (now (c .before .before .before .before .before .before .before .before .before .before .before .before .before .before .before .args .s)) (stepOf (now (c .before .before .before .before .before .before .before .before .before .before .before .before .before .before .before .args .s))) (equals (drop (c .before .before .before .before .before .before .before .before .before .x .given .0 .0) (now (c .before .before .before .before .before .before .before .before .before .before .before .before .before .before .before .args .s)))) (c .before .before .before .before .before .before .before .equals .result) (c .before .before .before .before .before .before .before .equals .ensures) (c .before .before .before .before .before .q .given .0 .0) (c .before .before .before .before .before .q .given .1)) .1 in omega arith)
+quoted-requires c κs =
+    let args = c .before .before .before .before .before .before .before .before .before .before .before .before .before .before .before .args in
+    let x = c .before .before .before .before .before .before .before .before .before .x in
+    let equals' = c .before .before .before .before .before .before .before .equals in
+    let q = c .before .before .before .before .before .q in
+    let read-value = c .before .before .before .read-value in (
+      value-room (now (args .s)) (q .given .0 .0) (read-value .result) (read-value .ensures) (c .before .e .given .0 .0) (c .before .e .given .1)
+          (within (now (args .s)) (stepOf (now (args .s))) (equals (drop (x .given .0 .0) (now (args .s)))) (equals' .result) (equals' .ensures)
+          (q .given .0 .0) (q .given .1)) .0,
+      let h =
+          value-room (now (args .s)) (q .given .0 .0) (read-value .result) (read-value .ensures) (c .before .e .given .0 .0) (c .before .e .given .1)
+          (within (now (args .s)) (stepOf (now (args .s))) (equals (drop (x .given .0 .0) (now (args .s)))) (equals' .result) (equals' .ensures)
+          (q .given .0 .0) (q .given .1)) .1 in omega arith,
+    )
 
 same-bytes-requires : tie.Need-same-bytes-requires
 same-bytes-requires c κs = search needs
 
 add-t14 : tie.Need-add-t14
-add-t14 c = let h = value-room (now (c .before .before .before .before .before .before .before .before .before .before .before .before .before .before .before .before .before .before .args .s)) (c .before .before .before .before .before .before .before .before .q .given .0 .0) (c .before .before .before .before .before .before .read-value .result) (c .before .before .before .before .before .before .read-value .ensures) (c .before .before .before .before .e .given .0 .0) (c .before .before .before .before .e .given .1) (within (now (c .before .before .before .before .before .before .before .before .before .before .before .before .before .before .before .before .before .before .args .s)) (stepOf (now (c .before .before .before .before .before .before .before .before .before .before .before .before .before .before .before .before .before .before .args .s))) (equals (drop (c .before .before .before .before .before .before .before .before .before .before .before .before .x .given .0 .0) (now (c .before .before .before .before .before .before .before .before .before .before .before .before .before .before .before .before .before .before .args .s)))) (c .before .before .before .before .before .before .before .before .before .before .equals .result) (c .before .before .before .before .before .before .before .before .before .before .equals .ensures) (c .before .before .before .before .before .before .before .before .q .given .0 .0) (c .before .before .before .before .before .before .before .before .q .given .1)) in search needs
+add-t14 c =
+    let h =
+    let args = c .before .before .before .before .before .before .before .before .before .before .before .before .before .before .before .before .before .before
+    .args in
+    let x = c .before .before .before .before .before .before .before .before .before .before .before .before .x in
+    let equals' = c .before .before .before .before .before .before .before .before .before .before .equals in
+    let q = c .before .before .before .before .before .before .before .before .q in
+    let read-value = c .before .before .before .before .before .before .read-value in
+    let e = c .before .before .before .before .e in
+    value-room (now (args .s)) (q .given .0 .0) (read-value .result) (read-value .ensures) (e .given .0 .0) (e .given .1)
+    (within (now (args .s)) (stepOf (now (args .s))) (equals (drop (x .given .0 .0) (now (args .s)))) (equals' .result) (equals' .ensures) (q .given .0 .0)
+    (q .given .1)) in
+    search needs
 
 returns-4 : tie.Need-returns-4
-returns-4 c = record { read-is = pseudo-not (now (c .before .before .before .before .before .before .before .before .before .before .before .before .before .before .before .before .before .before .args .s)) (c .before .before .before .before .before .before .before .before .before .before .before .before .before .before .before .before .before .before .args .at) (now (c .before .before .before .before .before .before .before .before .before .before .before .before .before .before .before .before .before .before .args .w)) (now (c .before .before .before .before .before .before .before .before .before .before .before .before .before .before .before .before .before .before .args .v)) (c .before .before .before .before .before .before .before .before .before .before .before .before .before .before .expect .result) (c .before .before .before .before .before .before .before .before .before .before .before .before .before .before .expect .ensures) (c .before .before .before .before .before .before .before .before .before .before .before .before .x .given .0 .0) (c .before .before .before .before .before .before .before .before .before .before .before .before .x .given .1) (c .before .before .before .before .before .before .before .before .before .before .equals .result) (c .before .before .before .before .before .before .before .before .before .before .equals .ensures) (c .before .before .before .before .before .before .before .before .q .given .0 .0) (c .before .before .before .before .before .before .before .before .q .given .1) (c .before .before .before .before .before .before .read-value .result) (c .before .before .before .before .before .before .read-value .ensures) (c .before .before .before .before .e .given .0 .0) (c .before .before .before .before .e .given .1) (now (c .before .before .quoted .result)) (c .before .before .quoted .ensures) (c .before .same-bytes .result) (c .before .same-bytes .ensures) (c .if1 .taken); inside = let h = value-room (now (c .before .before .before .before .before .before .before .before .before .before .before .before .before .before .before .before .before .before .args .s)) (c .before .before .before .before .before .before .before .before .q .given .0 .0) (c .before .before .before .before .before .before .read-value .result) (c .before .before .before .before .before .before .read-value .ensures) (c .before .before .before .before .e .given .0 .0) (c .before .before .before .before .e .given .1) (within (now (c .before .before .before .before .before .before .before .before .before .before .before .before .before .before .before .before .before .before .args .s)) (stepOf (now (c .before .before .before .before .before .before .before .before .before .before .before .before .before .before .before .before .before .before .args .s))) (equals (drop (c .before .before .before .before .before .before .before .before .before .before .before .before .x .given .0 .0) (now (c .before .before .before .before .before .before .before .before .before .before .before .before .before .before .before .before .before .before .args .s)))) (c .before .before .before .before .before .before .before .before .before .before .equals .result) (c .before .before .before .before .before .before .before .before .before .before .equals .ensures) (c .before .before .before .before .before .before .before .before .q .given .0 .0) (c .before .before .before .before .before .before .before .before .q .given .1)) in omega arith }
+returns-4 c =
+    let args = c .before .before .before .before .before .before .before .before .before .before .before .before .before .before .before .before .before .before
+    .args in
+    let expect = c .before .before .before .before .before .before .before .before .before .before .before .before .before .before .expect in
+    let x = c .before .before .before .before .before .before .before .before .before .before .before .before .x in
+    let equals' = c .before .before .before .before .before .before .before .before .before .before .equals in
+    let q = c .before .before .before .before .before .before .before .before .q in
+    let read-value = c .before .before .before .before .before .before .read-value in
+    let e = c .before .before .before .before .e in
+    let quoted = c .before .before .quoted in
+    record {
+      read-is =
+          pseudo-not (now (args .s)) (args .at) (now (args .w)) (now (args .v)) (expect .result) (expect .ensures) (x .given .0 .0) (x .given .1)
+          (equals' .result) (equals' .ensures) (q .given .0 .0) (q .given .1) (read-value .result) (read-value .ensures) (e .given .0 .0) (e .given .1)
+          (now (quoted .result)) (quoted .ensures) (c .before .same-bytes .result) (c .before .same-bytes .ensures) (c .if1 .taken);
+      inside = let h =
+          value-room (now (args .s)) (q .given .0 .0) (read-value .result) (read-value .ensures) (e .given .0 .0) (e .given .1)
+          (within (now (args .s)) (stepOf (now (args .s))) (equals (drop (x .given .0 .0) (now (args .s)))) (equals' .result) (equals' .ensures)
+          (q .given .0 .0) (q .given .1)) in omega arith;
+    }
 
 add-t15 : tie.Need-add-t15
-add-t15 c = let h = value-room (now (c .before .before .before .before .before .before .before .before .before .before .before .before .before .before .before .before .before .before .args .s)) (c .before .before .before .before .before .before .before .before .q .given .0 .0) (c .before .before .before .before .before .before .read-value .result) (c .before .before .before .before .before .before .read-value .ensures) (c .before .before .before .before .e .given .0 .0) (c .before .before .before .before .e .given .1) (within (now (c .before .before .before .before .before .before .before .before .before .before .before .before .before .before .before .before .before .before .args .s)) (stepOf (now (c .before .before .before .before .before .before .before .before .before .before .before .before .before .before .before .before .before .before .args .s))) (equals (drop (c .before .before .before .before .before .before .before .before .before .before .before .before .x .given .0 .0) (now (c .before .before .before .before .before .before .before .before .before .before .before .before .before .before .before .before .before .before .args .s)))) (c .before .before .before .before .before .before .before .before .before .before .equals .result) (c .before .before .before .before .before .before .before .before .before .before .equals .ensures) (c .before .before .before .before .before .before .before .before .q .given .0 .0) (c .before .before .before .before .before .before .before .before .q .given .1)) in search needs
+add-t15 c =
+    let h =
+    let args = c .before .before .before .before .before .before .before .before .before .before .before .before .before .before .before .before .before .before
+    .args in
+    let x = c .before .before .before .before .before .before .before .before .before .before .before .before .x in
+    let equals' = c .before .before .before .before .before .before .before .before .before .before .equals in
+    let q = c .before .before .before .before .before .before .before .before .q in
+    let read-value = c .before .before .before .before .before .before .read-value in
+    let e = c .before .before .before .before .e in
+    value-room (now (args .s)) (q .given .0 .0) (read-value .result) (read-value .ensures) (e .given .0 .0) (e .given .1)
+    (within (now (args .s)) (stepOf (now (args .s))) (equals (drop (x .given .0 .0) (now (args .s)))) (equals' .result) (equals' .ensures) (q .given .0 .0)
+    (q .given .1)) in
+    search needs
 
 returns-5 : tie.Need-returns-5
-returns-5 c = record { read-is = pseudo-yes (now (c .before .before .before .before .before .before .before .before .before .before .before .before .before .before .before .before .before .before .args .s)) (c .before .before .before .before .before .before .before .before .before .before .before .before .before .before .before .before .before .before .args .at) (now (c .before .before .before .before .before .before .before .before .before .before .before .before .before .before .before .before .before .before .args .w)) (now (c .before .before .before .before .before .before .before .before .before .before .before .before .before .before .before .before .before .before .args .v)) (c .before .before .before .before .before .before .before .before .before .before .before .before .before .before .expect .result) (c .before .before .before .before .before .before .before .before .before .before .before .before .before .before .expect .ensures) (c .before .before .before .before .before .before .before .before .before .before .before .before .x .given .0 .0) (c .before .before .before .before .before .before .before .before .before .before .before .before .x .given .1) (c .before .before .before .before .before .before .before .before .before .before .equals .result) (c .before .before .before .before .before .before .before .before .before .before .equals .ensures) (c .before .before .before .before .before .before .before .before .q .given .0 .0) (c .before .before .before .before .before .before .before .before .q .given .1) (c .before .before .before .before .before .before .read-value .result) (c .before .before .before .before .before .before .read-value .ensures) (c .before .before .before .before .e .given .0 .0) (c .before .before .before .before .e .given .1) (now (c .before .before .quoted .result)) (c .before .before .quoted .ensures) (c .before .same-bytes .result) (c .before .same-bytes .ensures) (c .if1 .left); inside = value-room (now (c .before .before .before .before .before .before .before .before .before .before .before .before .before .before .before .before .before .before .args .s)) (c .before .before .before .before .before .before .before .before .q .given .0 .0) (c .before .before .before .before .before .before .read-value .result) (c .before .before .before .before .before .before .read-value .ensures) (c .before .before .before .before .e .given .0 .0) (c .before .before .before .before .e .given .1) (within (now (c .before .before .before .before .before .before .before .before .before .before .before .before .before .before .before .before .before .before .args .s)) (stepOf (now (c .before .before .before .before .before .before .before .before .before .before .before .before .before .before .before .before .before .before .args .s))) (equals (drop (c .before .before .before .before .before .before .before .before .before .before .before .before .x .given .0 .0) (now (c .before .before .before .before .before .before .before .before .before .before .before .before .before .before .before .before .before .before .args .s)))) (c .before .before .before .before .before .before .before .before .before .before .equals .result) (c .before .before .before .before .before .before .before .before .before .before .equals .ensures) (c .before .before .before .before .before .before .before .before .q .given .0 .0) (c .before .before .before .before .before .before .before .before .q .given .1)) .1 }
+returns-5 c =
+    let args = c .before .before .before .before .before .before .before .before .before .before .before .before .before .before .before .before .before .before
+    .args in
+    let expect = c .before .before .before .before .before .before .before .before .before .before .before .before .before .before .expect in
+    let x = c .before .before .before .before .before .before .before .before .before .before .before .before .x in
+    let equals' = c .before .before .before .before .before .before .before .before .before .before .equals in
+    let q = c .before .before .before .before .before .before .before .before .q in
+    let read-value = c .before .before .before .before .before .before .read-value in
+    let e = c .before .before .before .before .e in
+    let quoted = c .before .before .quoted in
+    record {
+      read-is =
+          pseudo-yes (now (args .s)) (args .at) (now (args .w)) (now (args .v)) (expect .result) (expect .ensures) (x .given .0 .0) (x .given .1)
+          (equals' .result) (equals' .ensures) (q .given .0 .0) (q .given .1) (read-value .result) (read-value .ensures) (e .given .0 .0) (e .given .1)
+          (now (quoted .result)) (quoted .ensures) (c .before .same-bytes .result) (c .before .same-bytes .ensures) (c .if1 .left);
+      inside =
+          value-room (now (args .s)) (q .given .0 .0) (read-value .result) (read-value .ensures) (e .given .0 .0) (e .given .1)
+          (within (now (args .s)) (stepOf (now (args .s))) (equals (drop (x .given .0 .0) (now (args .s)))) (equals' .result) (equals' .ensures)
+          (q .given .0 .0) (q .given .1)) .1;
+    }
 
 pub pseudo-spec : {M : Type 1} → statement M
 pseudo-spec =

@@ -20,10 +20,17 @@ enum-told : tie.Need-enum-told
 enum-told c = search needs
 
 returns : tie.Need-returns
-returns c = root-element (now (c .before .before .before .before .args .s)) (c .before .before .before .before .args .at) (c .before .before .before .before .args .id) (c .before .before .element .result) (c .before .before .element .ensures) _ (c .enum-told .given .1)
+returns c =
+    let args = c .before .before .before .before .args in
+    let element = c .before .before .element in
+    root-element (now (args .s)) (args .at) (args .id) (element .result) (element .ensures) _ (c .enum-told .given .1)
 
 skip-misc-requires : tie.Need-skip-misc-requires
-skip-misc-requires c κs = within (now (c .before .before .before .before .before .args .s)) (stepOf (now (c .before .before .before .before .before .args .s))) (elementRead 7 (c .before .before .before .before .before .args .id) (drop (c .before .before .before .before .before .args .at) (now (c .before .before .before .before .before .args .s)))) (c .before .before .before .element .result) (c .before .before .before .element .ensures) (c .before .e .given .0 .0) (c .before .e .given .1)
+skip-misc-requires c κs =
+    let args = c .before .before .before .before .before .args in
+    let element = c .before .before .before .element in
+    within (now (args .s)) (stepOf (now (args .s))) (elementRead 7 (args .id) (drop (args .at) (now (args .s)))) (element .result) (element .ensures)
+    (c .before .e .given .0 .0) (c .before .e .given .1)
 
 enum-known-m : tie.Need-enum-known-m
 enum-known-m c = search needs
@@ -32,13 +39,45 @@ enum-told-2 : tie.Need-enum-told-2
 enum-told-2 c = search needs
 
 returns-2 : tie.Need-returns-2
-returns-2 c = root-misc (now (c .before .before .before .before .before .before .before .before .args .s)) (c .before .before .before .before .before .before .before .before .args .at) (c .before .before .before .before .before .before .before .before .args .id) (c .before .before .before .before .before .before .element .result) (c .before .before .before .before .before .before .element .ensures) (c .before .before .before .before .e .given .0 .0) (c .before .before .before .before .e .given .1) (c .before .before .skip-misc .result) (c .before .before .skip-misc .ensures) _ (c .enum-told2 .given .1)
+returns-2 c =
+    let args = c .before .before .before .before .before .before .before .before .args in
+    let element = c .before .before .before .before .before .before .element in
+    let e = c .before .before .before .before .e in
+    let skip-misc = c .before .before .skip-misc in
+    root-misc (now (args .s)) (args .at) (args .id) (element .result) (element .ensures) (e .given .0 .0) (e .given .1) (skip-misc .result) (skip-misc .ensures)
+    _ (c .enum-told2 .given .1)
 
 returns-3 : tie.Need-returns-3
-returns-3 c = record { read-is = root-more (now (c .before .before .before .before .before .before .before .before .before .before .args .s)) (c .before .before .before .before .before .before .before .before .before .before .args .at) (c .before .before .before .before .before .before .before .before .before .before .args .id) (c .before .before .before .before .before .before .before .before .element .result) (c .before .before .before .before .before .before .before .before .element .ensures) (c .before .before .before .before .before .before .e .given .0 .0) (c .before .before .before .before .before .before .e .given .1) (c .before .before .before .before .skip-misc .result) (c .before .before .before .before .skip-misc .ensures) (c .before .before .m .given .0 .0) (c .before .before .m .given .1) (c .if1 .taken); inside = within (now (c .before .before .before .before .before .before .before .before .before .before .args .s)) (stepOf (now (c .before .before .before .before .before .before .before .before .before .before .args .s))) (misc (length (drop (c .before .before .before .before .before .before .e .given .0 .0) (now (c .before .before .before .before .before .before .before .before .before .before .args .s)))) (drop (c .before .before .before .before .before .before .e .given .0 .0) (now (c .before .before .before .before .before .before .before .before .before .before .args .s)))) (c .before .before .before .before .skip-misc .result) (c .before .before .before .before .skip-misc .ensures) (c .before .before .m .given .0 .0) (c .before .before .m .given .1) }
+returns-3 c =
+    let args = c .before .before .before .before .before .before .before .before .before .before .args in
+    let element = c .before .before .before .before .before .before .before .before .element in
+    let e = c .before .before .before .before .before .before .e in
+    let skip-misc = c .before .before .before .before .skip-misc in
+    let m = c .before .before .m in
+    record {
+      read-is =
+          root-more (now (args .s)) (args .at) (args .id) (element .result) (element .ensures) (e .given .0 .0) (e .given .1) (skip-misc .result)
+          (skip-misc .ensures) (m .given .0 .0) (m .given .1) (c .if1 .taken);
+      inside =
+          within (now (args .s)) (stepOf (now (args .s))) (misc (length (drop (e .given .0 .0) (now (args .s)))) (drop (e .given .0 .0) (now (args .s))))
+          (skip-misc .result) (skip-misc .ensures) (m .given .0 .0) (m .given .1);
+    }
 
 returns-4 : tie.Need-returns-4
-returns-4 c = record { read-is = root-done (now (c .before .before .before .before .before .before .before .before .before .before .args .s)) (c .before .before .before .before .before .before .before .before .before .before .args .at) (c .before .before .before .before .before .before .before .before .before .before .args .id) (c .before .before .before .before .before .before .before .before .element .result) (c .before .before .before .before .before .before .before .before .element .ensures) (c .before .before .before .before .before .before .e .given .0 .0) (c .before .before .before .before .before .before .e .given .1) (c .before .before .before .before .skip-misc .result) (c .before .before .before .before .skip-misc .ensures) (c .before .before .m .given .0 .0) (c .before .before .m .given .1) (c .if1 .left); inside = within (now (c .before .before .before .before .before .before .before .before .before .before .args .s)) (stepOf (now (c .before .before .before .before .before .before .before .before .before .before .args .s))) (misc (length (drop (c .before .before .before .before .before .before .e .given .0 .0) (now (c .before .before .before .before .before .before .before .before .before .before .args .s)))) (drop (c .before .before .before .before .before .before .e .given .0 .0) (now (c .before .before .before .before .before .before .before .before .before .before .args .s)))) (c .before .before .before .before .skip-misc .result) (c .before .before .before .before .skip-misc .ensures) (c .before .before .m .given .0 .0) (c .before .before .m .given .1) }
+returns-4 c =
+    let args = c .before .before .before .before .before .before .before .before .before .before .args in
+    let element = c .before .before .before .before .before .before .before .before .element in
+    let e = c .before .before .before .before .before .before .e in
+    let skip-misc = c .before .before .before .before .skip-misc in
+    let m = c .before .before .m in
+    record {
+      read-is =
+          root-done (now (args .s)) (args .at) (args .id) (element .result) (element .ensures) (e .given .0 .0) (e .given .1) (skip-misc .result)
+          (skip-misc .ensures) (m .given .0 .0) (m .given .1) (c .if1 .left);
+      inside =
+          within (now (args .s)) (stepOf (now (args .s))) (misc (length (drop (e .given .0 .0) (now (args .s)))) (drop (e .given .0 .0) (now (args .s))))
+          (skip-misc .result) (skip-misc .ensures) (m .given .0 .0) (m .given .1);
+    }
 
 pub root-spec : {M : Type 1} → statement M
 root-spec =

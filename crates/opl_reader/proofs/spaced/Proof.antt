@@ -19,13 +19,25 @@ enum-told : tie.Need-enum-told
 enum-told c = search needs
 
 returns : tie.Need-returns
-returns c = spaced-not (now (c .before .before .before .before .before .args .s)) (c .before .before .before .before .before .args .at) (now (c .before .before .before .before .before .args .w)) (c .before .before .space .result) (c .before .before .space .ensures) _ (c .enum-told .given .1)
+returns c =
+    let args = c .before .before .before .before .before .args in
+    let space = c .before .before .space in
+    spaced-not (now (args .s)) (args .at) (now (args .w)) (space .result) (space .ensures) _ (c .enum-told .given .1)
 
 expect-requires : tie.Need-expect-requires
-expect-requires c κs = within (now (c .before .before .before .before .before .before .args .s)) (stepOf (now (c .before .before .before .before .before .before .args .s))) (space (drop (c .before .before .before .before .before .before .args .at) (now (c .before .before .before .before .before .before .args .s)))) (c .before .before .before .space .result) (c .before .before .before .space .ensures) (c .before .b .given .0 .0) (c .before .b .given .1)
+expect-requires c κs =
+    let args = c .before .before .before .before .before .before .args in
+    let space' = c .before .before .before .space in
+    within (now (args .s)) (stepOf (now (args .s))) (space (drop (args .at) (now (args .s)))) (space' .result) (space' .ensures) (c .before .b .given .0 .0)
+    (c .before .b .given .1)
 
 returns-2 : tie.Need-returns-2
-returns-2 c = spaced-on (now (c .before .before .before .before .before .before .before .args .s)) (c .before .before .before .before .before .before .before .args .at) (now (c .before .before .before .before .before .before .before .args .w)) (c .before .before .before .before .space .result) (c .before .before .before .before .space .ensures) (c .before .before .b .given .0 .0) (c .before .before .b .given .1) (c .expect .result) (c .expect .ensures)
+returns-2 c =
+    let args = c .before .before .before .before .before .before .before .args in
+    let space = c .before .before .before .before .space in
+    let b = c .before .before .b in
+    spaced-on (now (args .s)) (args .at) (now (args .w)) (space .result) (space .ensures) (b .given .0 .0) (b .given .1) (c .expect .result)
+    (c .expect .ensures)
 
 pub spaced-spec : {M : Type 1} → statement M
 spaced-spec =

@@ -6,7 +6,9 @@ use Rattle.opl_reader.proofs.tagged.Statement.{statement}
 use Rattle.opl_reader.proofs.tagged.Tie as tie
 
 returns : tie.Need-returns
-returns c = record { read-is = tag-deep (now (c .before .before .args .s)) (c .before .before .args .at) (c .before .before .args .d) (c .before .before .args .id) (c .before .before .args .more) (c .if1 .taken); inside = c .before .before .pre }
+returns c =
+    let args = c .before .before .args in
+    record { read-is = tag-deep (now (args .s)) (args .at) (args .d) (args .id) (args .more) (c .if1 .taken); inside = c .before .before .pre }
 
 tag-end-requires : tie.Need-tag-end-requires
 tag-end-requires c κs = search needs
@@ -18,10 +20,20 @@ enum-known-t-2 : tie.Need-enum-known-t-2
 enum-known-t-2 c = search needs
 
 returns-2 : tie.Need-returns-2
-returns-2 c = tag-bad (now (c .before .before .before .before .before .before .args .s)) (c .before .before .before .before .before .before .args .at) (c .before .before .before .before .before .before .args .d) (c .before .before .before .before .before .before .args .id) (c .before .before .before .before .before .before .args .more) (c .before .before .before .before .if1 .left) (c .before .before .before .tag-end .result) (c .before .before .before .tag-end .ensures) (c .before .t .given .0 .0) (c .before .t .given .1)
+returns-2 c =
+    let args = c .before .before .before .before .before .before .args in
+    let if1 = c .before .before .before .before .if1 in
+    let tag-end = c .before .before .before .tag-end in
+    tag-bad (now (args .s)) (args .at) (args .d) (args .id) (args .more) (if1 .left) (tag-end .result) (tag-end .ensures) (c .before .t .given .0 .0)
+    (c .before .t .given .1)
 
 returns-3 : tie.Need-returns-3
-returns-3 c = tag-got (now (c .before .before .before .before .before .before .args .s)) (c .before .before .before .before .before .before .args .at) (c .before .before .before .before .before .before .args .d) (c .before .before .before .before .before .before .args .id) (c .before .before .before .before .before .before .args .more) (c .before .before .before .before .if1 .left) (c .before .before .before .tag-end .result) (c .before .before .before .tag-end .ensures) (c .before .t2 .given .0 .0) (c .before .t2 .given .1)
+returns-3 c =
+    let args = c .before .before .before .before .before .before .args in
+    let if1 = c .before .before .before .before .if1 in
+    let tag-end = c .before .before .before .tag-end in
+    tag-got (now (args .s)) (args .at) (args .d) (args .id) (args .more) (if1 .left) (tag-end .result) (tag-end .ensures) (c .before .t2 .given .0 .0)
+    (c .before .t2 .given .1)
 
 pub tagged-spec : {M : Type 1} → statement M
 tagged-spec =

@@ -19,14 +19,19 @@ starts-with-requires c κs = search needs
 
 returns : tie.Need-returns
 unfolding text
-returns c = record { read-is = untyped (now (c .before .before .before .before .args .s)) (c .before .before .before .before .args .at) (c .before .starts-with .result) (c .before .starts-with .ensures) (c .if1 .taken); inside = c .before .before .before .before .pre }
+returns c =
+    let args = c .before .before .before .before .args in
+    let pre = c .before .before .before .before .pre in
+    record { read-is = untyped (now (args .s)) (args .at) (c .before .starts-with .result) (c .before .starts-with .ensures) (c .if1 .taken); inside = pre }
 
 add-doctype : tie.Need-add-doctype
 add-doctype c = search needs
 
 doctype-requires : tie.Need-doctype-requires
 unfolding text
-doctype-requires c κs = typed-room (now (c .before .before .before .before .args .s)) (c .before .before .before .before .args .at) (c .before .starts-with .result) (c .before .starts-with .ensures) (c .if1 .left)
+doctype-requires c κs =
+    let args = c .before .before .before .before .args in
+    typed-room (now (args .s)) (args .at) (c .before .starts-with .result) (c .before .starts-with .ensures) (c .if1 .left)
 
 enum-known-d : tie.Need-enum-known-d
 enum-known-d c = search needs
@@ -36,14 +41,31 @@ enum-told c = search needs
 
 returns-2 : tie.Need-returns-2
 unfolding text
-returns-2 c = typed-not (now (c .before .before .before .before .before .before .before .args .s)) (c .before .before .before .before .before .before .before .args .at) (c .before .before .before .before .starts-with .result) (c .before .before .before .before .starts-with .ensures) (c .before .before .before .if1 .left) (c .before .before .doctype .result) (c .before .before .doctype .ensures) _ (c .enum-told .given .1)
+returns-2 c =
+    let args = c .before .before .before .before .before .before .before .args in
+    let starts-with = c .before .before .before .before .starts-with in
+    let if1 = c .before .before .before .if1 in
+    let doctype = c .before .before .doctype in
+    typed-not (now (args .s)) (args .at) (starts-with .result) (starts-with .ensures) (if1 .left) (doctype .result) (doctype .ensures) _
+    (c .enum-told .given .1)
 
 skip-misc-requires : tie.Need-skip-misc-requires
-skip-misc-requires c κs = within (now (c .before .before .before .before .before .before .before .before .args .s)) (stepOf (now (c .before .before .before .before .before .before .before .before .args .s))) (doctype (drop (c .before .before .before .before .before .before .before .before .args .at + 9) (now (c .before .before .before .before .before .before .before .before .args .s)))) (c .before .before .before .doctype .result) (c .before .before .before .doctype .ensures) (c .before .d .given .0 .0) (c .before .d .given .1)
+skip-misc-requires c κs =
+    let args = c .before .before .before .before .before .before .before .before .args in
+    let doctype' = c .before .before .before .doctype in
+    within (now (args .s)) (stepOf (now (args .s))) (doctype (drop (args .at + 9) (now (args .s)))) (doctype' .result) (doctype' .ensures)
+    (c .before .d .given .0 .0) (c .before .d .given .1)
 
 returns-3 : tie.Need-returns-3
 unfolding text
-returns-3 c = typed-on (now (c .before .before .before .before .before .before .before .before .before .args .s)) (c .before .before .before .before .before .before .before .before .before .args .at) (c .before .before .before .before .before .before .starts-with .result) (c .before .before .before .before .before .before .starts-with .ensures) (c .before .before .before .before .before .if1 .left) (c .before .before .before .before .doctype .result) (c .before .before .before .before .doctype .ensures) (c .before .before .d .given .0 .0) (c .before .before .d .given .1) (c .skip-misc .result) (c .skip-misc .ensures)
+returns-3 c =
+    let args = c .before .before .before .before .before .before .before .before .before .args in
+    let starts-with = c .before .before .before .before .before .before .starts-with in
+    let if1 = c .before .before .before .before .before .if1 in
+    let doctype = c .before .before .before .before .doctype in
+    let d = c .before .before .d in
+    typed-on (now (args .s)) (args .at) (starts-with .result) (starts-with .ensures) (if1 .left) (doctype .result) (doctype .ensures) (d .given .0 .0)
+    (d .given .1) (c .skip-misc .result) (c .skip-misc .ensures)
 
 pub typed-spec : {M : Type 1} → statement M
 typed-spec =

@@ -23,7 +23,14 @@ cardinality-requires : tie.Need-cardinality-requires
 cardinality-requires c κs = search needs
 
 returns-2 : tie.Need-returns-2
-returns-2 c = rw (c .cardinality .ensures) (one-is (cardinalityAt (now (c .before .before .before .before .before .before .before .before .args .s)) (c .before .before .before .before .before .before .before .before .args .end)) (c .before .before .f .given .0 .0) _ (number-some (c .before .before .before .before .field .ensures) (c .before .before .f .given .0 .0) (c .before .before .f .given .1)) (omega (arith, c .before .before .before .before .before .before .before .before .pre .1 .1)) (number-fits 5 (omega arith) (c .before .before .before .before .field .ensures) (c .before .before .f .given .0 .0) (c .before .before .f .given .1)))
+returns-2 c =
+    let args = c .before .before .before .before .before .before .before .before .args in
+    let pre = c .before .before .before .before .before .before .before .before .pre in
+    let field = c .before .before .before .before .field in
+    let f = c .before .before .f in
+    rw (c .cardinality .ensures) (one-is (cardinalityAt (now (args .s)) (args .end)) (f .given .0 .0) _
+    (number-some (field .ensures) (f .given .0 .0) (f .given .1)) (omega (arith, pre .1 .1))
+    (number-fits 5 (omega arith) (field .ensures) (f .given .0 .0) (f .given .1)))
 
 pub counted-spec : {M : Type 1} → statement M
 counted-spec =

@@ -20,7 +20,10 @@ loop-holds : tie.Need-loop-holds Inv-loop μ-loop
 loop-holds c = refl
 
 mul-n : tie.Need-mul-n Inv-loop μ-loop
-mul-n c = let h = digits-small (now (c .before .before .before .args .v)) (c .before .loop .n) (c .before .loop .i) (c .before .loop .inv) (c .loop-test .taken) (c .before .before .before .pre) in omega (arith, h)
+mul-n c =
+    let args = c .before .before .before .args in
+    let pre = c .before .before .before .pre in
+    let h = digits-small (now (args .v)) (c .before .loop .n) (c .before .loop .i) (c .before .loop .inv) (c .loop-test .taken) pre in omega (arith, h)
 
 shared-slice-read-digit : tie.Need-shared-slice-read-digit Inv-loop μ-loop
 shared-slice-read-digit c = search needs
@@ -29,7 +32,11 @@ digit-requires : tie.Need-digit-requires Inv-loop μ-loop
 digit-requires c κs = search needs
 
 add-n : tie.Need-add-n Inv-loop μ-loop
-add-n c = let h = digits-small (now (c .before .before .before .before .before .args .v)) (c .before .before .before .loop .n) (c .before .before .before .loop .i) (c .before .before .before .loop .inv) (c .before .before .loop-test .taken) (c .before .before .before .before .before .pre) in omega (arith, h, c .digit .ensures)
+add-n c =
+    let args = c .before .before .before .before .before .args in
+    let pre = c .before .before .before .before .before .pre in
+    let loop = c .before .before .before .loop in
+    let h = digits-small (now (args .v)) (loop .n) (loop .i) (loop .inv) (c .before .before .loop-test .taken) pre in omega (arith, h, c .digit .ensures)
 
 add-i : tie.Need-add-i Inv-loop μ-loop
 add-i c = search needs
@@ -38,10 +45,15 @@ loop-less : tie.Need-loop-less Inv-loop μ-loop
 loop-less c = search needs
 
 loop-again : tie.Need-loop-again Inv-loop μ-loop
-loop-again c = rw (c .digit .ensures) (digits-more (now (c .before .before .before .before .before .args .v)) (c .before .before .before .loop .n) (c .before .before .before .loop .i) (c .before .before .before .loop .inv) (c .before .before .loop-test .taken))
+loop-again c =
+    let args = c .before .before .before .before .before .args in
+    let loop = c .before .before .before .loop in
+    rw (c .digit .ensures) (digits-more (now (args .v)) (loop .n) (loop .i) (loop .inv) (c .before .before .loop-test .taken))
 
 returns : tie.Need-returns Inv-loop μ-loop
-returns c = digits-end (now (c .before .before .before .args .v)) (c .before .loop .n) (c .before .loop .i) (c .before .loop .inv) (c .loop-test .left)
+returns c =
+    let args = c .before .before .before .args in
+    digits-end (now (args .v)) (c .before .loop .n) (c .before .loop .i) (c .before .loop .inv) (c .loop-test .left)
 
 pub decimal-spec : {M : Type 1} → statement M
 decimal-spec =

@@ -17,16 +17,25 @@ use Rattle.opl_said.proofs.members.Statement.{statement}
 use Rattle.opl_said.proofs.members.Tie as tie
 
 abbrev Inv-loop : tie.InvT-loop
-Inv-loop s t w e id i from entry m₀ at₀ k₀ m at k = ((at ≤ length s) × (setFrom m (each (numberBy (allNames s t) id i) (insideAt s e at)) ≡ setBy (allNames s t) id i (insideAt s e from))) × Leads s (listOf w) k at
+Inv-loop s t w e id i from entry m₀ at₀ k₀ m at k =
+    ((at ≤ length s) × (setFrom m (each (numberBy (allNames s t) id i) (insideAt s e at)) ≡ setBy (allNames s t) id i (insideAt s e from))) ×
+    Leads s (listOf w) k at
 
 abbrev μ-loop : tie.MeasureT-loop
 μ-loop s t w e id i from entry m₀ at₀ k₀ m at k = length s - at
 
 loop-holds : tie.Need-loop-holds Inv-loop μ-loop
-loop-holds c = ((c .before .before .before .pre .1 .0 .0, set-first (allNames (now (c .before .before .before .args .s)) (now (c .before .before .before .args .t))) (now (c .before .before .before .args .s)) (listOf (now (c .before .before .before .args .w))) (c .before .before .before .args .e) (c .before .before .before .args .id) (c .before .before .before .args .i) (c .before .before .before .args .from)), c .before .before .before .pre .1 .0 .1)
+loop-holds c =
+    let pre = c .before .before .before .pre in
+    let args = c .before .before .before .args in (
+      (pre .1 .0 .0, set-first (allNames (now (args .s)) (now (args .t))) (now (args .s)) (listOf (now (args .w))) (args .e) (args .id) (args .i) (args .from)),
+      pre .1 .0 .1,
+    )
 
 next-member-requires : tie.Need-next-member-requires Inv-loop μ-loop
-next-member-requires c κs = ((c .before .before .before .before .before .pre .0 .room, c .before .before .before .before .before .pre .1 .1 .0), (c .before .loop .inv .0 .0, c .before .loop .inv .1))
+next-member-requires c κs =
+    let pre = c .before .before .before .before .before .pre in
+    ((pre .0 .room, pre .1 .1 .0), (c .before .loop .inv .0 .0, c .before .loop .inv .1))
 
 enum-known-r : tie.Need-enum-known-r Inv-loop μ-loop
 enum-known-r c = search needs
@@ -35,10 +44,25 @@ enum-told : tie.Need-enum-told Inv-loop μ-loop
 enum-told c = search needs
 
 returns : tie.Need-returns Inv-loop μ-loop
-returns c = set-end (allNames (now (c .before .before .before .before .before .before .before .before .args .s)) (now (c .before .before .before .before .before .before .before .before .args .t))) (now (c .before .before .before .before .before .before .before .before .args .s)) (listOf (now (c .before .before .before .before .before .before .before .before .args .w))) (c .before .before .before .before .before .before .before .before .args .e) (c .before .before .before .before .before .before .before .before .args .id) (c .before .before .before .before .before .before .before .before .args .i) (c .before .before .before .before .before .before .before .before .args .from) (c .before .before .before .before .loop .m) (c .before .before .before .before .loop .at) (c .before .before .before .before .loop .inv .0 .1) (let z = rw (c .enum-told .given .1) at (c .before .before .next-member .ensures) in z)
+returns c =
+    let args = c .before .before .before .before .before .before .before .before .args in
+    let loop = c .before .before .before .before .loop in
+    set-end (allNames (now (args .s)) (now (args .t))) (now (args .s)) (listOf (now (args .w))) (args .e) (args .id) (args .i) (args .from) (loop .m) (loop .at)
+    (loop .inv .0 .1) (let z = rw (c .enum-told .given .1) at (c .before .before .next-member .ensures) in z)
 
 field-requires : tie.Need-field-requires Inv-loop μ-loop
-field-requires c κs = (c .before .before .before .before .before .before .before .before .before .pre .0, ((there-is (allNames (now (c .before .before .before .before .before .before .before .before .before .args .s)) (now (c .before .before .before .before .before .before .before .before .before .args .t))) (now (c .before .before .before .before .before .before .before .before .before .args .s)) (listOf (now (c .before .before .before .before .before .before .before .before .before .args .w))) (c .before .before .before .before .before .before .before .before .before .args .e) (c .before .before .before .before .before .before .before .before .before .args .id) (c .before .before .before .before .before .before .before .before .before .args .i) (c .before .before .before .before .before .loop .at) (c .before .before .before .next-member .result) (c .before .before .before .next-member .ensures) (c .before .r .given .0 .0) (c .before .r .given .0 .1 .0) (c .before .r .given .1)) .inside, c .before .before .before .before .before .before .before .before .before .pre .1 .1 .1 .0))
+field-requires c κs =
+    let pre = c .before .before .before .before .before .before .before .before .before .pre in
+    let args = c .before .before .before .before .before .before .before .before .before .args in
+    let loop = c .before .before .before .before .before .loop in
+    let next-member = c .before .before .before .next-member in (
+      pre .0,
+      (
+        (there-is (allNames (now (args .s)) (now (args .t))) (now (args .s)) (listOf (now (args .w))) (args .e) (args .id) (args .i) (loop .at)
+            (next-member .result) (next-member .ensures) (c .before .r .given .0 .0) (c .before .r .given .0 .1 .0) (c .before .r .given .1)) .inside,
+        pre .1 .1 .1 .0,
+      ),
+    )
 
 enum-known-f : tie.Need-enum-known-f Inv-loop μ-loop
 enum-known-f c = search needs
@@ -47,19 +71,60 @@ enum-told-2 : tie.Need-enum-told-2 Inv-loop μ-loop
 enum-told-2 c = search needs
 
 returns-2 : tie.Need-returns-2 Inv-loop μ-loop
-returns-2 c = set-unnamed (allNames (now (c .before .before .before .before .before .before .before .before .before .before .before .before .args .s)) (now (c .before .before .before .before .before .before .before .before .before .before .before .before .args .t))) (now (c .before .before .before .before .before .before .before .before .before .before .before .before .args .s)) (listOf (now (c .before .before .before .before .before .before .before .before .before .before .before .before .args .w))) (c .before .before .before .before .before .before .before .before .before .before .before .before .args .e) (c .before .before .before .before .before .before .before .before .before .before .before .before .args .id) (c .before .before .before .before .before .before .before .before .before .before .before .before .args .i) (c .before .before .before .before .before .before .before .before .before .before .before .before .args .from) (c .before .before .before .before .before .before .before .before .loop .m) (c .before .before .before .before .before .before .before .before .loop .at) (c .before .before .before .before .before .before .before .before .loop .inv .0 .1) (limitOf (c .before .before .before .before .before .before .before .before .before .before .before .before .args .i)) (c .before .before .before .before .r .given .0 .0) (c .before .before .before .before .r .given .0 .1 .0) (there-is (allNames (now (c .before .before .before .before .before .before .before .before .before .before .before .before .args .s)) (now (c .before .before .before .before .before .before .before .before .before .before .before .before .args .t))) (now (c .before .before .before .before .before .before .before .before .before .before .before .before .args .s)) (listOf (now (c .before .before .before .before .before .before .before .before .before .before .before .before .args .w))) (c .before .before .before .before .before .before .before .before .before .before .before .before .args .e) (c .before .before .before .before .before .before .before .before .before .before .before .before .args .id) (c .before .before .before .before .before .before .before .before .before .before .before .before .args .i) (c .before .before .before .before .before .before .before .before .loop .at) (c .before .before .before .before .before .before .next-member .result) (c .before .before .before .before .before .before .next-member .ensures) (c .before .before .before .before .r .given .0 .0) (c .before .before .before .before .r .given .0 .1 .0) (c .before .before .before .before .r .given .1)) (c .before .before .field .result) (c .before .before .field .ensures) (c .enum-told2 .given .1)
+returns-2 c =
+    let args = c .before .before .before .before .before .before .before .before .before .before .before .before .args in
+    let loop = c .before .before .before .before .before .before .before .before .loop in
+    let next-member = c .before .before .before .before .before .before .next-member in
+    let r = c .before .before .before .before .r in
+    let field = c .before .before .field in
+    set-unnamed (allNames (now (args .s)) (now (args .t))) (now (args .s)) (listOf (now (args .w))) (args .e) (args .id) (args .i) (args .from) (loop .m)
+    (loop .at) (loop .inv .0 .1) (limitOf (args .i)) (r .given .0 .0) (r .given .0 .1 .0) (there-is (allNames (now (args .s)) (now (args .t))) (now (args .s))
+    (listOf (now (args .w))) (args .e) (args .id) (args .i) (loop .at) (next-member .result) (next-member .ensures) (r .given .0 .0) (r .given .0 .1 .0)
+    (r .given .1)) (field .result) (field .ensures) (c .enum-told2 .given .1)
 
 with-requires : tie.Need-with-requires Inv-loop μ-loop
-with-requires c κs = omega (arith, number-small (c .before .before .before .field .ensures) (c .before .f .given .0 .0) (c .before .f .given .1), c .before .before .before .before .before .before .before .before .before .before .before .before .before .pre .1 .1 .1 .1)
+with-requires c κs =
+    let pre = c .before .before .before .before .before .before .before .before .before .before .before .before .before .pre in
+    let field = c .before .before .before .field in
+    omega (arith, number-small (field .ensures) (c .before .f .given .0 .0) (c .before .f .given .1), pre .1 .1 .1 .1)
 
 loop-less : tie.Need-loop-less Inv-loop μ-loop
-loop-less c = let o = (there-is (allNames (now (c .before .before .before .before .before .before .before .before .before .before .before .before .before .before .args .s)) (now (c .before .before .before .before .before .before .before .before .before .before .before .before .before .before .args .t))) (now (c .before .before .before .before .before .before .before .before .before .before .before .before .before .before .args .s)) (listOf (now (c .before .before .before .before .before .before .before .before .before .before .before .before .before .before .args .w))) (c .before .before .before .before .before .before .before .before .before .before .before .before .before .before .args .e) (c .before .before .before .before .before .before .before .before .before .before .before .before .before .before .args .id) (c .before .before .before .before .before .before .before .before .before .before .before .before .before .before .args .i) (c .before .before .before .before .before .before .before .before .before .before .loop .at) (c .before .before .before .before .before .before .before .before .next-member .result) (c .before .before .before .before .before .before .before .before .next-member .ensures) (c .before .before .before .before .before .before .r .given .0 .0) (c .before .before .before .before .before .before .r .given .0 .1 .0) (c .before .before .before .before .before .before .r .given .1)) in omega (arith, o .past, o .inside)
+loop-less c =
+    let o =
+    let args = c .before .before .before .before .before .before .before .before .before .before .before .before .before .before .args in
+    let loop = c .before .before .before .before .before .before .before .before .before .before .loop in
+    let next-member = c .before .before .before .before .before .before .before .before .next-member in
+    let r = c .before .before .before .before .before .before .r in
+    (there-is (allNames (now (args .s)) (now (args .t))) (now (args .s)) (listOf (now (args .w))) (args .e) (args .id) (args .i) (loop .at)
+    (next-member .result) (next-member .ensures) (r .given .0 .0) (r .given .0 .1 .0) (r .given .1)) in
+    omega (arith, o .past, o .inside)
 
 loop-again : tie.Need-loop-again Inv-loop μ-loop
-loop-again c = (((there-is (allNames (now (c .before .before .before .before .before .before .before .before .before .before .before .before .before .before .args .s)) (now (c .before .before .before .before .before .before .before .before .before .before .before .before .before .before .args .t))) (now (c .before .before .before .before .before .before .before .before .before .before .before .before .before .before .args .s)) (listOf (now (c .before .before .before .before .before .before .before .before .before .before .before .before .before .before .args .w))) (c .before .before .before .before .before .before .before .before .before .before .before .before .before .before .args .e) (c .before .before .before .before .before .before .before .before .before .before .before .before .before .before .args .id) (c .before .before .before .before .before .before .before .before .before .before .before .before .before .before .args .i) (c .before .before .before .before .before .before .before .before .before .before .loop .at) (c .before .before .before .before .before .before .before .before .next-member .result) (c .before .before .before .before .before .before .before .before .next-member .ensures) (c .before .before .before .before .before .before .r .given .0 .0) (c .before .before .before .before .before .before .r .given .0 .1 .0) (c .before .before .before .before .before .before .r .given .1)) .inside, rw (c .with .ensures) (set-on (allNames (now (c .before .before .before .before .before .before .before .before .before .before .before .before .before .before .args .s)) (now (c .before .before .before .before .before .before .before .before .before .before .before .before .before .before .args .t))) (now (c .before .before .before .before .before .before .before .before .before .before .before .before .before .before .args .s)) (listOf (now (c .before .before .before .before .before .before .before .before .before .before .before .before .before .before .args .w))) (c .before .before .before .before .before .before .before .before .before .before .before .before .before .before .args .e) (c .before .before .before .before .before .before .before .before .before .before .before .before .before .before .args .id) (c .before .before .before .before .before .before .before .before .before .before .before .before .before .before .args .i) (c .before .before .before .before .before .before .before .before .before .before .before .before .before .before .args .from) (c .before .before .before .before .before .before .before .before .before .before .loop .m) (c .before .before .before .before .before .before .before .before .before .before .loop .at) (c .before .before .before .before .before .before .before .before .before .before .loop .inv .0 .1) (limitOf (c .before .before .before .before .before .before .before .before .before .before .before .before .before .before .args .i)) (c .before .before .before .before .before .before .r .given .0 .0) (c .before .before .before .before .before .before .r .given .0 .1 .0) (there-is (allNames (now (c .before .before .before .before .before .before .before .before .before .before .before .before .before .before .args .s)) (now (c .before .before .before .before .before .before .before .before .before .before .before .before .before .before .args .t))) (now (c .before .before .before .before .before .before .before .before .before .before .before .before .before .before .args .s)) (listOf (now (c .before .before .before .before .before .before .before .before .before .before .before .before .before .before .args .w))) (c .before .before .before .before .before .before .before .before .before .before .before .before .before .before .args .e) (c .before .before .before .before .before .before .before .before .before .before .before .before .before .before .args .id) (c .before .before .before .before .before .before .before .before .before .before .before .before .before .before .args .i) (c .before .before .before .before .before .before .before .before .before .before .loop .at) (c .before .before .before .before .before .before .before .before .next-member .result) (c .before .before .before .before .before .before .before .before .next-member .ensures) (c .before .before .before .before .before .before .r .given .0 .0) (c .before .before .before .before .before .before .r .given .0 .1 .0) (c .before .before .before .before .before .before .r .given .1)) (c .before .before .before .before .field .result) (c .before .before .before .before .field .ensures) (c .before .before .f .given .0 .0) (c .before .before .f .given .1))), (there-is (allNames (now (c .before .before .before .before .before .before .before .before .before .before .before .before .before .before .args .s)) (now (c .before .before .before .before .before .before .before .before .before .before .before .before .before .before .args .t))) (now (c .before .before .before .before .before .before .before .before .before .before .before .before .before .before .args .s)) (listOf (now (c .before .before .before .before .before .before .before .before .before .before .before .before .before .before .args .w))) (c .before .before .before .before .before .before .before .before .before .before .before .before .before .before .args .e) (c .before .before .before .before .before .before .before .before .before .before .before .before .before .before .args .id) (c .before .before .before .before .before .before .before .before .before .before .before .before .before .before .args .i) (c .before .before .before .before .before .before .before .before .before .before .loop .at) (c .before .before .before .before .before .before .before .before .next-member .result) (c .before .before .before .before .before .before .before .before .next-member .ensures) (c .before .before .before .before .before .before .r .given .0 .0) (c .before .before .before .before .before .before .r .given .0 .1 .0) (c .before .before .before .before .before .before .r .given .1)) .leads)
+loop-again c =
+    let args = c .before .before .before .before .before .before .before .before .before .before .before .before .before .before .args in
+    let loop = c .before .before .before .before .before .before .before .before .before .before .loop in
+    let next-member = c .before .before .before .before .before .before .before .before .next-member in
+    let r = c .before .before .before .before .before .before .r in
+    let field = c .before .before .before .before .field in
+    let f = c .before .before .f in (
+      (
+        (there-is (allNames (now (args .s)) (now (args .t))) (now (args .s)) (listOf (now (args .w))) (args .e) (args .id) (args .i) (loop .at)
+            (next-member .result) (next-member .ensures) (r .given .0 .0) (r .given .0 .1 .0) (r .given .1)) .inside,
+        rw (c .with .ensures) (set-on (allNames (now (args .s)) (now (args .t))) (now (args .s)) (listOf (now (args .w))) (args .e) (args .id) (args .i)
+            (args .from) (loop .m) (loop .at) (loop .inv .0 .1) (limitOf (args .i)) (r .given .0 .0) (r .given .0 .1 .0)
+            (there-is (allNames (now (args .s)) (now (args .t))) (now (args .s)) (listOf (now (args .w))) (args .e) (args .id) (args .i) (loop .at)
+            (next-member .result) (next-member .ensures) (r .given .0 .0) (r .given .0 .1 .0) (r .given .1)) (field .result) (field .ensures)
+            (f .given .0 .0) (f .given .1)),
+      ),
+      (there-is (allNames (now (args .s)) (now (args .t))) (now (args .s)) (listOf (now (args .w))) (args .e) (args .id) (args .i) (loop .at)
+          (next-member .result) (next-member .ensures) (r .given .0 .0) (r .given .0 .1 .0) (r .given .1)) .leads,
+    )
 
 returns-3 : tie.Need-returns-3 Inv-loop μ-loop
-returns-3 c = set-end (allNames (now (c .before .before .before .before .before .args .s)) (now (c .before .before .before .before .before .args .t))) (now (c .before .before .before .before .before .args .s)) (listOf (now (c .before .before .before .before .before .args .w))) (c .before .before .before .before .before .args .e) (c .before .before .before .before .before .args .id) (c .before .before .before .before .before .args .i) (c .before .before .before .before .before .args .from) (c .before .loop .m) (c .before .loop .at) (c .before .loop .inv .0 .1) (no-members (now (c .before .before .before .before .before .args .s)) (c .before .before .before .before .before .args .e) (c .before .loop .at) (c .loop-test .left))
+returns-3 c =
+    let args = c .before .before .before .before .before .args in
+    set-end (allNames (now (args .s)) (now (args .t))) (now (args .s)) (listOf (now (args .w))) (args .e) (args .id) (args .i) (args .from) (c .before .loop .m)
+    (c .before .loop .at) (c .before .loop .inv .0 .1) (no-members (now (args .s)) (args .e) (c .before .loop .at) (c .loop-test .left))
 
 pub members-spec : {M : Type 1} → statement M
 members-spec =

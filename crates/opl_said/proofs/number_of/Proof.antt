@@ -6,16 +6,31 @@ use Rattle.opl_said.proofs.number_of.Statement.{statement}
 use Rattle.opl_said.proofs.number_of.Tie as tie
 
 number-requires : tie.Need-number-requires
-number-requires c κs = ((c .before .before .before .before .before .pre .0 .room, c .before .before .before .before .before .pre .1), c .before .before .before .before .before .pre .0 .tags-sound (c .before .before .before .before .before .args .i) (c .if1 .taken))
+number-requires c κs =
+    let pre = c .before .before .before .before .before .pre in
+    let args = c .before .before .before .before .before .args in
+    ((pre .0 .room, pre .1), pre .0 .tags-sound (args .i) (c .if1 .taken))
 
 returns : tie.Need-returns
-returns c = number-in (now (c .before .before .before .before .before .before .args .s)) (c .before .before .before .before .before .before .args .i) (now (c .before .before .before .before .before .before .args .w)) (now (c .before .before .before .before .before .before .args .name)) _ (c .number .result) (c .before .before .before .before .before .before .pre .0 .tags-sound (c .before .before .before .before .before .before .args .i) (c .before .if1 .taken)) (c .before .before .before .before .before .before .pre .0 .tag-numbers (c .before .before .before .before .before .before .args .i) (c .before .if1 .taken) (now (c .before .before .before .before .before .before .args .name))) (c .number .ensures)
+returns c =
+    let args = c .before .before .before .before .before .before .args in
+    let pre = c .before .before .before .before .before .before .pre in
+    number-in (now (args .s)) (args .i) (now (args .w)) (now (args .name)) _ (c .number .result) (pre .0 .tags-sound (args .i) (c .before .if1 .taken))
+    (pre .0 .tag-numbers (args .i) (c .before .if1 .taken) (now (args .name))) (c .number .ensures)
 
 number-requires-2 : tie.Need-number-requires-2
-number-requires-2 c κs = ((c .before .before .before .before .before .pre .0 .room, c .before .before .before .before .before .pre .1), c .before .before .before .before .before .pre .0 .lines-sound (c .before .before .before .before .before .args .i) (omega (arith, c .if1 .left)) (c .before .before .before .before .before .pre .1))
+number-requires-2 c κs =
+    let pre = c .before .before .before .before .before .pre in
+    let args = c .before .before .before .before .before .args in
+    ((pre .0 .room, pre .1), pre .0 .lines-sound (args .i) (omega (arith, c .if1 .left)) (pre .1))
 
 returns-2 : tie.Need-returns-2
-returns-2 c = number-in (now (c .before .before .before .before .before .before .args .t)) (c .before .before .before .before .before .before .args .i) (now (c .before .before .before .before .before .before .args .w)) (now (c .before .before .before .before .before .before .args .name)) _ (c .number2 .result) (c .before .before .before .before .before .before .pre .0 .lines-sound (c .before .before .before .before .before .before .args .i) (omega (arith, c .before .if1 .left)) (c .before .before .before .before .before .before .pre .1)) (c .before .before .before .before .before .before .pre .0 .line-numbers (c .before .before .before .before .before .before .args .i) (omega (arith, c .before .if1 .left)) (c .before .before .before .before .before .before .pre .1) (now (c .before .before .before .before .before .before .args .name))) (c .number2 .ensures)
+returns-2 c =
+    let args = c .before .before .before .before .before .before .args in
+    let pre = c .before .before .before .before .before .before .pre in
+    number-in (now (args .t)) (args .i) (now (args .w)) (now (args .name)) _ (c .number2 .result)
+    (pre .0 .lines-sound (args .i) (omega (arith, c .before .if1 .left)) (pre .1))
+    (pre .0 .line-numbers (args .i) (omega (arith, c .before .if1 .left)) (pre .1) (now (args .name))) (c .number2 .ensures)
 
 pub number-of-spec : {M : Type 1} → statement M
 number-of-spec = tie.close (tie.spec number-requires returns number-requires-2 returns-2)

@@ -18,7 +18,12 @@ returns : tie.Need-returns
 returns c = unnamed-are _ (rw (number-none (c .before .before .field .ensures) (c .enum-told .given .1)))
 
 returns-2 : tie.Need-returns-2
-returns-2 c = one-is 0 (c .before .f .given .0 .0) _ (number-some (c .before .before .before .field .ensures) (c .before .f .given .0 .0) (c .before .f .given .1)) (omega arith) (number-fits (c .before .before .before .before .before .before .before .args .i) (c .before .before .before .before .before .before .before .pre .1 .1) (c .before .before .before .field .ensures) (c .before .f .given .0 .0) (c .before .f .given .1))
+returns-2 c =
+    let args = c .before .before .before .before .before .before .before .args in
+    let pre = c .before .before .before .before .before .before .before .pre in
+    let field = c .before .before .before .field in
+    one-is 0 (c .before .f .given .0 .0) _ (number-some (field .ensures) (c .before .f .given .0 .0) (c .before .f .given .1)) (omega arith)
+    (number-fits (args .i) (pre .1 .1) (field .ensures) (c .before .f .given .0 .0) (c .before .f .given .1))
 
 pub one-spec : {M : Type 1} → statement M
 one-spec = tie.close (tie.spec field-requires enum-known-f enum-told returns returns-2)

@@ -8,10 +8,14 @@ returns : tie.Need-returns
 returns c = partition-none (c .before .before .before .before .args .number) _ (c .if1 .taken)
 
 of-set-requires : tie.Need-of-set-requires
-of-set-requires c κs = (c .before .before .before .before .pre .0, ((omega arith, omega (arith, c .if1 .left)), (c .before .before .before .before .pre .1, (partition-inner, (omega arith, few-tasks)))))
+of-set-requires c κs =
+    let pre = c .before .before .before .before .pre in
+    (pre .0, ((omega arith, omega (arith, c .if1 .left)), (pre .1, (partition-inner, (omega arith, few-tasks)))))
 
 returns-2 : tie.Need-returns-2
-returns-2 c = partition-is (c .before .before .before .before .before .args .number) _ (omega (arith, c .before .if1 .left)) (c .of-set .result) (c .of-set .ensures)
+returns-2 c =
+    let args = c .before .before .before .before .before .args in
+    partition-is (args .number) _ (omega (arith, c .before .if1 .left)) (c .of-set .result) (c .of-set .ensures)
 
 pub partition-spec : {M : Type 1} → statement M
 partition-spec = tie.close (tie.spec returns of-set-requires returns-2)

@@ -8,7 +8,9 @@ cardinality-requires : tie.Need-cardinality-requires
 cardinality-requires c κs = search needs
 
 of-set-requires : tie.Need-of-set-requires
-of-set-requires c κs = (c .before .before .before .before .pre .0, ((omega (arith, c .cardinality .ensures, c .before .before .before .before .pre .1 .0), omega arith), c .before .before .before .before .pre .1 .1))
+of-set-requires c κs =
+    let pre = c .before .before .before .before .pre in
+    (pre .0, ((omega (arith, c .cardinality .ensures, pre .1 .0), omega arith), pre .1 .1))
 
 returns : tie.Need-returns
 returns c = rw (c .before .cardinality .ensures) at (c .of-set .ensures)

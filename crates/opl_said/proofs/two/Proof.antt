@@ -26,10 +26,22 @@ enum-told-2 : tie.Need-enum-told-2
 enum-told-2 c = search needs
 
 returns-2 : tie.Need-returns-2
-returns-2 c = unnamed-are _ (rw (number-some (c .before .before .before .before .before .before .field .ensures) (c .before .before .before .before .f .given .0 .0) (c .before .before .before .before .f .given .1), number-none (c .before .before .field2 .ensures) (c .enum-told2 .given .1)))
+returns-2 c =
+    let field = c .before .before .before .before .before .before .field in
+    let f = c .before .before .before .before .f in
+    unnamed-are _ (rw (number-some (field .ensures) (f .given .0 .0) (f .given .1), number-none (c .before .before .field2 .ensures) (c .enum-told2 .given .1)))
 
 returns-3 : tie.Need-returns-3
-returns-3 c = two-are (c .before .before .before .before .before .f .given .0 .0) (c .before .g .given .0 .0) _ _ (number-some (c .before .before .before .before .before .before .before .field .ensures) (c .before .before .before .before .before .f .given .0 .0) (c .before .before .before .before .before .f .given .1)) (number-some (c .before .before .before .field2 .ensures) (c .before .g .given .0 .0) (c .before .g .given .1)) (number-fits (c .before .before .before .before .before .before .before .before .before .before .before .args .i) (c .before .before .before .before .before .before .before .before .before .before .before .pre .1 .1 .0) (c .before .before .before .before .before .before .before .field .ensures) (c .before .before .before .before .before .f .given .0 .0) (c .before .before .before .before .before .f .given .1)) (number-fits (c .before .before .before .before .before .before .before .before .before .before .before .args .i2) (c .before .before .before .before .before .before .before .before .before .before .before .pre .1 .1 .1) (c .before .before .before .field2 .ensures) (c .before .g .given .0 .0) (c .before .g .given .1))
+returns-3 c =
+    let args = c .before .before .before .before .before .before .before .before .before .before .before .args in
+    let pre = c .before .before .before .before .before .before .before .before .before .before .before .pre in
+    let field = c .before .before .before .before .before .before .before .field in
+    let f = c .before .before .before .before .before .f in
+    let field2 = c .before .before .before .field2 in
+    two-are (f .given .0 .0) (c .before .g .given .0 .0) _ _ (number-some (field .ensures) (f .given .0 .0) (f .given .1))
+    (number-some (field2 .ensures) (c .before .g .given .0 .0) (c .before .g .given .1))
+    (number-fits (args .i) (pre .1 .1 .0) (field .ensures) (f .given .0 .0) (f .given .1))
+    (number-fits (args .i2) (pre .1 .1 .1) (field2 .ensures) (c .before .g .given .0 .0) (c .before .g .given .1))
 
 pub two-spec : {M : Type 1} → statement M
 two-spec =

@@ -13,16 +13,34 @@ base-requires : tie.Need-base-requires
 base-requires c κs = search needs
 
 add-to : tie.Need-add-to
-add-to c = omega (arith, lent-fits (c .before .before .before .before .args .i) (c .before .before .before .before .pre .0 .1) (now (c .before .before .before .before .args .w)) (c .before .limit .result) (c .base .result) (c .before .limit .ensures) (c .base .ensures) (c .before .before .before .before .pre .0 .0))
+add-to c =
+    let args = c .before .before .before .before .args in
+    let pre = c .before .before .before .before .pre in
+    omega (
+      arith,
+      lent-fits (args .i) (pre .0 .1) (now (args .w)) (c .before .limit .result) (c .base .result) (c .before .limit .ensures) (c .base .ensures) (pre .0 .0),
+    )
 
 mul-to : tie.Need-mul-to
 mul-to c = search needs
 
 add-to-2 : tie.Need-add-to-2
-add-to-2 c = omega (arith, lent-fits (c .before .before .before .before .args .i) (c .before .before .before .before .pre .0 .1) (now (c .before .before .before .before .args .w)) (c .before .limit .result) (c .base .result) (c .before .limit .ensures) (c .base .ensures) (c .before .before .before .before .pre .0 .0))
+add-to-2 c =
+    let args = c .before .before .before .before .args in
+    let pre = c .before .before .before .before .pre in
+    omega (
+      arith,
+      lent-fits (args .i) (pre .0 .1) (now (args .w)) (c .before .limit .result) (c .base .result) (c .before .limit .ensures) (c .base .ensures) (pre .0 .0),
+    )
 
 mul-declare : tie.Need-mul-declare
-mul-declare c = omega (arith, lent-fits (c .before .before .before .before .args .i) (c .before .before .before .before .pre .0 .1) (now (c .before .before .before .before .args .w)) (c .before .limit .result) (c .base .result) (c .before .limit .ensures) (c .base .ensures) (c .before .before .before .before .pre .0 .0))
+mul-declare c =
+    let args = c .before .before .before .before .args in
+    let pre = c .before .before .before .before .pre in
+    omega (
+      arith,
+      lent-fits (args .i) (pre .0 .1) (now (args .w)) (c .before .limit .result) (c .base .result) (c .before .limit .ensures) (c .base .ensures) (pre .0 .0),
+    )
 
 sub-declare : tie.Need-sub-declare
 sub-declare c = search needs
@@ -31,16 +49,37 @@ part-declare-start : tie.Need-part-declare-start
 part-declare-start c = search needs
 
 part-declare-end : tie.Need-part-declare-end
-part-declare-end c = let h = lent-fits (c .before .before .before .before .args .i) (c .before .before .before .before .pre .0 .1) (now (c .before .before .before .before .args .w)) (c .before .limit .result) (c .base .result) (c .before .limit .ensures) (c .base .ensures) (c .before .before .before .before .pre .0 .0) in search needs
+part-declare-end c =
+    let args = c .before .before .before .before .args in
+    let pre = c .before .before .before .before .pre in
+    let h =
+    lent-fits (args .i) (pre .0 .1) (now (args .w)) (c .before .limit .result) (c .base .result) (c .before .limit .ensures) (c .base .ensures) (pre .0 .0) in
+    search needs
 
 declare-requires : tie.Need-declare-requires
-declare-requires c κs = (rw (lent-is (c .before .before .before .before .before .args .i) (c .before .before .before .before .before .pre .0 .1) (now (c .before .before .before .before .before .args .w)) (c .before .before .limit .result) (c .before .base .result) (c .before .before .limit .ensures) (c .before .base .ensures) (c .before .before .before .before .before .pre .0 .0), c .before .before .limit .ensures) (c .before .before .before .before .before .pre .1 .0), c .before .before .before .before .before .pre .1 .1)
+declare-requires c κs =
+    let args = c .before .before .before .before .before .args in
+    let pre = c .before .before .before .before .before .pre in
+    let limit = c .before .before .limit in (
+      rw (
+        lent-is (args .i) (pre .0 .1) (now (args .w)) (limit .result) (c .before .base .result) (limit .ensures) (c .before .base .ensures) (pre .0 .0),
+        limit .ensures,
+      ) (pre .1 .0),
+      pre .1 .1,
+    )
 
 same-length : tie.Need-same-length
 same-length c = search needs
 
 returns : tie.Need-returns
-returns c = declares-in (c .before .before .before .before .before .before .before .before .args .i) (c .before .before .before .before .before .before .before .before .pre .0 .1) (now (c .before .before .before .before .before .before .before .before .args .w)) (c .before .before .before .before .before .limit .result) (c .before .before .before .before .base .result) (c .before .before .before .before .before .limit .ensures) (c .before .before .before .before .base .ensures) (c .before .before .before .before .before .before .before .before .pre .0 .0) (now (c .before .before .before .before .before .before .before .before .args .s)) _ (c .before .before .declare .last .1 .0) (c .before .before .declare .result) (c .before .before .declare .ensures)
+returns c =
+    let args = c .before .before .before .before .before .before .before .before .args in
+    let pre = c .before .before .before .before .before .before .before .before .pre in
+    let limit = c .before .before .before .before .before .limit in
+    let base = c .before .before .before .before .base in
+    let declare = c .before .before .declare in
+    declares-in (args .i) (pre .0 .1) (now (args .w)) (limit .result) (base .result) (limit .ensures) (base .ensures) (pre .0 .0) (now (args .s)) _
+    (declare .last .1 .0) (declare .result) (declare .ensures)
 
 pub declare-spec : {M : Type 1} → statement M
 declare-spec =

@@ -13,16 +13,32 @@ base-requires : tie.Need-base-requires
 base-requires c κs = search needs
 
 add-to : tie.Need-add-to
-add-to c = omega (arith, lent-fits (c .before .before .before .args .i) (c .before .before .before .pre .1) (now (c .before .before .before .args .w)) (c .before .limit .result) (c .base .result) (c .before .limit .ensures) (c .base .ensures) (c .before .before .before .pre .0))
+add-to c =
+    let args = c .before .before .before .args in
+    let pre = c .before .before .before .pre in
+    omega
+    (arith, lent-fits (args .i) (pre .1) (now (args .w)) (c .before .limit .result) (c .base .result) (c .before .limit .ensures) (c .base .ensures) (pre .0))
 
 mul-to : tie.Need-mul-to
-mul-to c = omega (arith, lent-fits (c .before .before .before .args .i) (c .before .before .before .pre .1) (now (c .before .before .before .args .w)) (c .before .limit .result) (c .base .result) (c .before .limit .ensures) (c .base .ensures) (c .before .before .before .pre .0))
+mul-to c =
+    let args = c .before .before .before .args in
+    let pre = c .before .before .before .pre in
+    omega
+    (arith, lent-fits (args .i) (pre .1) (now (args .w)) (c .before .limit .result) (c .base .result) (c .before .limit .ensures) (c .base .ensures) (pre .0))
 
 add-to-2 : tie.Need-add-to-2
-add-to-2 c = omega (arith, lent-fits (c .before .before .before .args .i) (c .before .before .before .pre .1) (now (c .before .before .before .args .w)) (c .before .limit .result) (c .base .result) (c .before .limit .ensures) (c .base .ensures) (c .before .before .before .pre .0))
+add-to-2 c =
+    let args = c .before .before .before .args in
+    let pre = c .before .before .before .pre in
+    omega
+    (arith, lent-fits (args .i) (pre .1) (now (args .w)) (c .before .limit .result) (c .base .result) (c .before .limit .ensures) (c .base .ensures) (pre .0))
 
 mul-empty : tie.Need-mul-empty
-mul-empty c = omega (arith, lent-fits (c .before .before .before .args .i) (c .before .before .before .pre .1) (now (c .before .before .before .args .w)) (c .before .limit .result) (c .base .result) (c .before .limit .ensures) (c .base .ensures) (c .before .before .before .pre .0))
+mul-empty c =
+    let args = c .before .before .before .args in
+    let pre = c .before .before .before .pre in
+    omega
+    (arith, lent-fits (args .i) (pre .1) (now (args .w)) (c .before .limit .result) (c .base .result) (c .before .limit .ensures) (c .base .ensures) (pre .0))
 
 sub-empty : tie.Need-sub-empty
 sub-empty c = search needs
@@ -31,16 +47,35 @@ part-empty-start : tie.Need-part-empty-start
 part-empty-start c = search needs
 
 part-empty-end : tie.Need-part-empty-end
-part-empty-end c = let h = lent-fits (c .before .before .before .args .i) (c .before .before .before .pre .1) (now (c .before .before .before .args .w)) (c .before .limit .result) (c .base .result) (c .before .limit .ensures) (c .base .ensures) (c .before .before .before .pre .0) in search needs
+part-empty-end c =
+    let args = c .before .before .before .args in
+    let pre = c .before .before .before .pre in
+    let h = lent-fits (args .i) (pre .1) (now (args .w)) (c .before .limit .result) (c .base .result) (c .before .limit .ensures) (c .base .ensures) (pre .0) in
+    search needs
 
 empty-requires : tie.Need-empty-requires
-empty-requires c κs = (rw (c .before .before .limit .ensures) (bounds (c .before .before .before .before .args .i) (c .before .before .before .before .pre .1) .some), (rw (c .before .before .limit .ensures) (bounds (c .before .before .before .before .args .i) (c .before .before .before .before .pre .1) .few), lent-length (c .before .before .before .before .args .i) (c .before .before .before .before .pre .1) (now (c .before .before .before .before .args .w)) (c .before .before .limit .result) (c .before .base .result) (c .before .before .limit .ensures) (c .before .base .ensures) (c .before .before .before .before .pre .0)))
+empty-requires c κs =
+    let args = c .before .before .before .before .args in
+    let pre = c .before .before .before .before .pre in
+    let limit = c .before .before .limit in (
+      rw (limit .ensures) (bounds (args .i) (pre .1) .some),
+      (
+        rw (limit .ensures) (bounds (args .i) (pre .1) .few),
+        lent-length (args .i) (pre .1) (now (args .w)) (limit .result) (c .before .base .result) (limit .ensures) (c .before .base .ensures) (pre .0),
+      ),
+    )
 
 same-length : tie.Need-same-length
 same-length c = search needs
 
 returns : tie.Need-returns
-returns c = empties (c .before .before .before .before .before .before .before .args .i) (c .before .before .before .before .before .before .before .pre .1) (now (c .before .before .before .before .before .before .before .args .w)) (c .before .before .before .before .before .limit .result) (c .before .before .before .before .base .result) (c .before .before .before .before .before .limit .ensures) (c .before .before .before .before .base .ensures) (c .before .before .before .before .before .before .before .pre .0) (c .before .before .empty .last .0) (c .before .before .empty .ensures)
+returns c =
+    let args = c .before .before .before .before .before .before .before .args in
+    let pre = c .before .before .before .before .before .before .before .pre in
+    let limit = c .before .before .before .before .before .limit in
+    let base = c .before .before .before .before .base in
+    let empty = c .before .before .empty in
+    empties (args .i) (pre .1) (now (args .w)) (limit .result) (base .result) (limit .ensures) (base .ensures) (pre .0) (empty .last .0) (empty .ensures)
 
 pub empty-spec : {M : Type 1} → statement M
 empty-spec =

@@ -19,16 +19,34 @@ base-requires : tie.Need-base-requires
 base-requires c κs = search needs
 
 add-to : tie.Need-add-to
-add-to c = omega (arith, lent-fits (c .before .before .before .before .before .before .args .i) (c .before .before .before .before .before .before .pre .0 .1) (now (c .before .before .before .before .before .before .args .w)) (c .before .limit .result) (c .base .result) (c .before .limit .ensures) (c .base .ensures) (c .before .before .before .before .before .before .pre .0 .0))
+add-to c =
+    let args = c .before .before .before .before .before .before .args in
+    let pre = c .before .before .before .before .before .before .pre in
+    omega (
+      arith,
+      lent-fits (args .i) (pre .0 .1) (now (args .w)) (c .before .limit .result) (c .base .result) (c .before .limit .ensures) (c .base .ensures) (pre .0 .0),
+    )
 
 mul-to : tie.Need-mul-to
 mul-to c = search needs
 
 add-to-2 : tie.Need-add-to-2
-add-to-2 c = omega (arith, lent-fits (c .before .before .before .before .before .before .args .i) (c .before .before .before .before .before .before .pre .0 .1) (now (c .before .before .before .before .before .before .args .w)) (c .before .limit .result) (c .base .result) (c .before .limit .ensures) (c .base .ensures) (c .before .before .before .before .before .before .pre .0 .0))
+add-to-2 c =
+    let args = c .before .before .before .before .before .before .args in
+    let pre = c .before .before .before .before .before .before .pre in
+    omega (
+      arith,
+      lent-fits (args .i) (pre .0 .1) (now (args .w)) (c .before .limit .result) (c .base .result) (c .before .limit .ensures) (c .base .ensures) (pre .0 .0),
+    )
 
 mul-find : tie.Need-mul-find
-mul-find c = omega (arith, lent-fits (c .before .before .before .before .before .before .args .i) (c .before .before .before .before .before .before .pre .0 .1) (now (c .before .before .before .before .before .before .args .w)) (c .before .limit .result) (c .base .result) (c .before .limit .ensures) (c .base .ensures) (c .before .before .before .before .before .before .pre .0 .0))
+mul-find c =
+    let args = c .before .before .before .before .before .before .args in
+    let pre = c .before .before .before .before .before .before .pre in
+    omega (
+      arith,
+      lent-fits (args .i) (pre .0 .1) (now (args .w)) (c .before .limit .result) (c .base .result) (c .before .limit .ensures) (c .base .ensures) (pre .0 .0),
+    )
 
 sub-find : tie.Need-sub-find
 sub-find c = search needs
@@ -37,10 +55,22 @@ part-find-start : tie.Need-part-find-start
 part-find-start c = search needs
 
 part-find-end : tie.Need-part-find-end
-part-find-end c = let h = lent-fits (c .before .before .before .before .before .before .args .i) (c .before .before .before .before .before .before .pre .0 .1) (now (c .before .before .before .before .before .before .args .w)) (c .before .limit .result) (c .base .result) (c .before .limit .ensures) (c .base .ensures) (c .before .before .before .before .before .before .pre .0 .0) in search needs
+part-find-end c =
+    let args = c .before .before .before .before .before .before .args in
+    let pre = c .before .before .before .before .before .before .pre in
+    let h =
+    lent-fits (args .i) (pre .0 .1) (now (args .w)) (c .before .limit .result) (c .base .result) (c .before .limit .ensures) (c .base .ensures) (pre .0 .0) in
+    search needs
 
 find-requires : tie.Need-find-requires
-find-requires c κs = rw (lent-is (c .before .before .before .before .before .before .before .args .i) (c .before .before .before .before .before .before .before .pre .0 .1) (now (c .before .before .before .before .before .before .before .args .w)) (c .before .before .limit .result) (c .before .base .result) (c .before .before .limit .ensures) (c .before .base .ensures) (c .before .before .before .before .before .before .before .pre .0 .0), c .before .before .limit .ensures) (c .before .before .before .before .before .before .before .pre .1)
+find-requires c κs =
+    let args = c .before .before .before .before .before .before .before .args in
+    let pre = c .before .before .before .before .before .before .before .pre in
+    let limit = c .before .before .limit in
+    rw (
+      lent-is (args .i) (pre .0 .1) (now (args .w)) (limit .result) (c .before .base .result) (limit .ensures) (c .before .base .ensures) (pre .0 .0),
+      limit .ensures,
+    ) (pre .1)
 
 enum-known-r : tie.Need-enum-known-r
 enum-known-r c = search needs
@@ -49,10 +79,26 @@ enum-told : tie.Need-enum-told
 enum-told c = search needs
 
 returns-2 : tie.Need-returns-2
-returns-2 c = rw (le-leb _ 64 (c .before .before .before .before .before .before .before .if1 .left)) (ap foundOf (sym (c .before .r .given .1)) ∙ rw (lent-is (c .before .before .before .before .before .before .before .before .before .before .before .args .i) (c .before .before .before .before .before .before .before .before .before .before .before .pre .0 .1) (now (c .before .before .before .before .before .before .before .before .before .before .before .args .w)) (c .before .before .before .before .before .before .limit .result) (c .before .before .before .before .before .base .result) (c .before .before .before .before .before .before .limit .ensures) (c .before .before .before .before .before .base .ensures) (c .before .before .before .before .before .before .before .before .before .before .before .pre .0 .0)) at (c .before .before .before .find .ensures))
+returns-2 c =
+    let args = c .before .before .before .before .before .before .before .before .before .before .before .args in
+    let pre = c .before .before .before .before .before .before .before .before .before .before .before .pre in
+    let if1 = c .before .before .before .before .before .before .before .if1 in
+    let limit = c .before .before .before .before .before .before .limit in
+    let base = c .before .before .before .before .before .base in
+    let find = c .before .before .before .find in
+    rw (le-leb _ 64 (if1 .left)) (ap foundOf (sym (c .before .r .given .1)) ∙
+    rw (lent-is (args .i) (pre .0 .1) (now (args .w)) (limit .result) (base .result) (limit .ensures) (base .ensures) (pre .0 .0)) at (find .ensures))
 
 returns-3 : tie.Need-returns-3
-returns-3 c = rw (le-leb _ 64 (c .before .before .before .before .before .before .if1 .left)) (ap foundOf (sym (c .enum-told .given .1)) ∙ rw (lent-is (c .before .before .before .before .before .before .before .before .before .before .args .i) (c .before .before .before .before .before .before .before .before .before .before .pre .0 .1) (now (c .before .before .before .before .before .before .before .before .before .before .args .w)) (c .before .before .before .before .before .limit .result) (c .before .before .before .before .base .result) (c .before .before .before .before .before .limit .ensures) (c .before .before .before .before .base .ensures) (c .before .before .before .before .before .before .before .before .before .before .pre .0 .0)) at (c .before .before .find .ensures))
+returns-3 c =
+    let args = c .before .before .before .before .before .before .before .before .before .before .args in
+    let pre = c .before .before .before .before .before .before .before .before .before .before .pre in
+    let if1 = c .before .before .before .before .before .before .if1 in
+    let limit = c .before .before .before .before .before .limit in
+    let base = c .before .before .before .before .base in
+    rw (le-leb _ 64 (if1 .left)) (ap foundOf (sym (c .enum-told .given .1)) ∙
+    rw (lent-is (args .i) (pre .0 .1) (now (args .w)) (limit .result) (base .result) (limit .ensures) (base .ensures) (pre .0 .0)) at
+    (c .before .before .find .ensures))
 
 pub number-spec : {M : Type 1} → statement M
 number-spec =

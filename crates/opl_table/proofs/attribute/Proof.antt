@@ -6,7 +6,9 @@ use Rattle.opl_table.proofs.attribute.Statement.{statement}
 use Rattle.opl_table.proofs.attribute.Tie as tie
 
 returns : tie.Need-returns
-returns c = attribute-past (now (c .before .before .args .v)) (c .before .before .args .list) (c .if1 .taken)
+returns c =
+    let args = c .before .before .args in
+    attribute-past (now (args .v)) (args .list) (c .if1 .taken)
 
 list-from-requires : tie.Need-list-from-requires
 list-from-requires c κs = search needs
@@ -30,10 +32,25 @@ enum-told : tie.Need-enum-told
 enum-told c = search needs
 
 returns-2 : tie.Need-returns-2
-returns-2 c = attribute-known (now (c .before .before .before .before .before .before .before .before .before .args .v)) (c .before .before .before .before .before .before .before .before .before .args .list) (c .before .before .before .before .before .before .list-from .result) (c .before .before .before .before .before .list-from2 .result) (c .before .before .before .before .before .before .before .if1 .left) (c .before .before .before .before .before .before .list-from .ensures) (c .before .before .before .before .before .list-from2 .ensures) (c .before .before .before .before .pick .result) (c .before .before .before .before .pick .ensures) (c .before .before .p .given .0 .0) (c .place-then .result) (c .before .before .p .given .1) (c .place-then .ensures)
+returns-2 c =
+    let args = c .before .before .before .before .before .before .before .before .before .args in
+    let if1 = c .before .before .before .before .before .before .before .if1 in
+    let list-from = c .before .before .before .before .before .before .list-from in
+    let list-from2 = c .before .before .before .before .before .list-from2 in
+    let pick = c .before .before .before .before .pick in
+    let p = c .before .before .p in
+    attribute-known (now (args .v)) (args .list) (list-from .result) (list-from2 .result) (if1 .left) (list-from .ensures) (list-from2 .ensures) (pick .result)
+    (pick .ensures) (p .given .0 .0) (c .place-then .result) (p .given .1) (c .place-then .ensures)
 
 returns-3 : tie.Need-returns-3
-returns-3 c = attribute-unknown (now (c .before .before .before .before .before .before .before .args .v)) (c .before .before .before .before .before .before .before .args .list) (c .before .before .before .before .list-from .result) (c .before .before .before .list-from2 .result) (c .before .before .before .before .before .if1 .left) (c .before .before .before .before .list-from .ensures) (c .before .before .before .list-from2 .ensures) (c .before .before .pick .result) (c .before .before .pick .ensures) (c .enum-told .given .1)
+returns-3 c =
+    let args = c .before .before .before .before .before .before .before .args in
+    let if1 = c .before .before .before .before .before .if1 in
+    let list-from = c .before .before .before .before .list-from in
+    let list-from2 = c .before .before .before .list-from2 in
+    let pick = c .before .before .pick in
+    attribute-unknown (now (args .v)) (args .list) (list-from .result) (list-from2 .result) (if1 .left) (list-from .ensures) (list-from2 .ensures)
+    (pick .result) (pick .ensures) (c .enum-told .given .1)
 
 pub attribute-spec : {M : Type 1} → statement M
 attribute-spec =

@@ -31,28 +31,44 @@ is-name-6-requires : tie.Need-is-name-6-requires
 is-name-6-requires c κs = search needs
 
 returns : tie.Need-returns
-returns c = let k : c .before .before .before .args .id / 10 ≡ 0 = c .before .match .keys1 in let e : 0 + c .before .before .before .args .id % 10 ≡ c .before .before .before .args .id = omega arith in c .is-name-0 .ensures ∙ rw e
+returns c =
+    let args = c .before .before .before .args in
+    let k : args .id / 10 ≡ 0 = c .before .match .keys1 in let e : 0 + args .id % 10 ≡ args .id = omega arith in c .is-name-0 .ensures ∙ rw e
 
 returns-2 : tie.Need-returns-2
-returns-2 c = let k : c .before .before .before .args .id / 10 ≡ 1 = c .before .match .keys2 in let e : 10 + c .before .before .before .args .id % 10 ≡ c .before .before .before .args .id = omega arith in c .is-name-1 .ensures ∙ rw e
+returns-2 c =
+    let args = c .before .before .before .args in
+    let k : args .id / 10 ≡ 1 = c .before .match .keys2 in let e : 10 + args .id % 10 ≡ args .id = omega arith in c .is-name-1 .ensures ∙ rw e
 
 returns-3 : tie.Need-returns-3
-returns-3 c = let k : c .before .before .before .args .id / 10 ≡ 2 = c .before .match .keys3 in let e : 20 + c .before .before .before .args .id % 10 ≡ c .before .before .before .args .id = omega arith in c .is-name-2 .ensures ∙ rw e
+returns-3 c =
+    let args = c .before .before .before .args in
+    let k : args .id / 10 ≡ 2 = c .before .match .keys3 in let e : 20 + args .id % 10 ≡ args .id = omega arith in c .is-name-2 .ensures ∙ rw e
 
 returns-4 : tie.Need-returns-4
-returns-4 c = let k : c .before .before .before .args .id / 10 ≡ 3 = c .before .match .keys4 in let e : 30 + c .before .before .before .args .id % 10 ≡ c .before .before .before .args .id = omega arith in c .is-name-3 .ensures ∙ rw e
+returns-4 c =
+    let args = c .before .before .before .args in
+    let k : args .id / 10 ≡ 3 = c .before .match .keys4 in let e : 30 + args .id % 10 ≡ args .id = omega arith in c .is-name-3 .ensures ∙ rw e
 
 returns-5 : tie.Need-returns-5
-returns-5 c = let k : c .before .before .before .args .id / 10 ≡ 4 = c .before .match .keys5 in let e : 40 + c .before .before .before .args .id % 10 ≡ c .before .before .before .args .id = omega arith in c .is-name-4 .ensures ∙ rw e
+returns-5 c =
+    let args = c .before .before .before .args in
+    let k : args .id / 10 ≡ 4 = c .before .match .keys5 in let e : 40 + args .id % 10 ≡ args .id = omega arith in c .is-name-4 .ensures ∙ rw e
 
 returns-6 : tie.Need-returns-6
-returns-6 c = let k : c .before .before .before .args .id / 10 ≡ 5 = c .before .match .keys6 in let e : 50 + c .before .before .before .args .id % 10 ≡ c .before .before .before .args .id = omega arith in c .is-name-5 .ensures ∙ rw e
+returns-6 c =
+    let args = c .before .before .before .args in
+    let k : args .id / 10 ≡ 5 = c .before .match .keys6 in let e : 50 + args .id % 10 ≡ args .id = omega arith in c .is-name-5 .ensures ∙ rw e
 
 returns-7 : tie.Need-returns-7
-returns-7 c = let k : c .before .before .before .args .id / 10 ≡ 6 = c .before .match .keys7 in let e : 60 + c .before .before .before .args .id % 10 ≡ c .before .before .before .args .id = omega arith in c .is-name-6 .ensures ∙ rw e
+returns-7 c =
+    let args = c .before .before .before .args in
+    let k : args .id / 10 ≡ 6 = c .before .match .keys7 in let e : 60 + args .id % 10 ≡ args .id = omega arith in c .is-name-6 .ensures ∙ rw e
 
 returns-8 : tie.Need-returns-8
-returns-8 c = let h = apart 7 (c .before .before .args .id / 10) (c .match .rest) in no-name (now (c .before .before .args .v)) (c .before .before .args .id) (omega arith)
+returns-8 c =
+    let args = c .before .before .args in
+    let h = apart 7 (args .id / 10) (c .match .rest) in no-name (now (args .v)) (args .id) (omega arith)
 
 pub is-name-spec : {M : Type 1} → statement M
 is-name-spec =

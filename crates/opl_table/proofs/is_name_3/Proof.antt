@@ -42,4 +42,5 @@ is-name-3-spec =
     (λ c. rw (c .before .before .match .keys7) (c .same-bytes7 .ensures))
     (λ c. rw (c .before .before .match .keys8) (c .same-bytes8 .ensures))
     (λ c. rw (c .before .before .match .keys9) (c .same-bytes9 .ensures))
-    (λ c. rw (last 9 (c .before .before .before .before .args .i) (c .before .before .before .before .pre) (c .before .before .match .rest)) (c .same-bytes10 .ensures)))
+    (λ c. rw (last 9 (c .before .before .before .before .args .i) (c .before .before .before .before .pre) (c .before .before .match .rest))
+    (c .same-bytes10 .ensures)))

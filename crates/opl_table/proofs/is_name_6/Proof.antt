@@ -32,4 +32,5 @@ is-name-6-spec =
     (λ c. rw (c .before .before .match .keys3) (c .same-bytes3 .ensures))
     (λ c. rw (c .before .before .match .keys4) (c .same-bytes4 .ensures))
     (λ c. rw (c .before .before .match .keys5) (c .same-bytes5 .ensures))
-    (λ c. let h = apart 5 (c .before .before .args .i) (c .match .rest) in no-name (now (c .before .before .args .v)) (60 + c .before .before .args .i) (omega arith)))
+    (λ c. let h =
+    apart 5 (c .before .before .args .i) (c .match .rest) in no-name (now (c .before .before .args .v)) (60 + c .before .before .args .i) (omega arith)))

@@ -6,7 +6,9 @@ use Rattle.opl_table.proofs.next.Statement.{statement}
 use Rattle.opl_table.proofs.next.Tie as tie
 
 returns : tie.Need-returns
-returns c = child-past (now (c .before .before .args .v)) (c .before .before .args .left) (c .if1 .taken)
+returns c =
+    let args = c .before .before .args in
+    child-past (now (args .v)) (args .left) (c .if1 .taken)
 
 state-from-requires : tie.Need-state-from-requires
 state-from-requires c κs = search needs
@@ -33,10 +35,26 @@ enum-told : tie.Need-enum-told
 enum-told c = search needs
 
 returns-2 : tie.Need-returns-2
-returns-2 c = child-known (now (c .before .before .before .before .before .before .before .before .before .before .args .v)) (c .before .before .before .before .before .before .before .before .before .before .args .left) (c .before .before .before .before .before .before .before .state-from .result) (c .before .before .before .before .before .before .state-from2 .result) (c .before .before .before .before .before .before .before .before .if1 .left) (c .before .before .before .before .before .before .before .state-from .ensures) (c .before .before .before .before .before .before .state-from2 .ensures) (c .before .before .before .before .before .pick .result) (c .before .before .before .before .before .pick .ensures) (c .before .before .before .p .given .0 .0) (c .before .place-name .result) (c .place-then .result) (c .before .before .before .p .given .1) (c .before .place-name .ensures) (c .place-then .ensures)
+returns-2 c =
+    let args = c .before .before .before .before .before .before .before .before .before .before .args in
+    let if1 = c .before .before .before .before .before .before .before .before .if1 in
+    let state-from = c .before .before .before .before .before .before .before .state-from in
+    let state-from2 = c .before .before .before .before .before .before .state-from2 in
+    let pick = c .before .before .before .before .before .pick in
+    let p = c .before .before .before .p in
+    child-known (now (args .v)) (args .left) (state-from .result) (state-from2 .result) (if1 .left) (state-from .ensures) (state-from2 .ensures) (pick .result)
+    (pick .ensures) (p .given .0 .0) (c .before .place-name .result) (c .place-then .result) (p .given .1) (c .before .place-name .ensures)
+    (c .place-then .ensures)
 
 returns-3 : tie.Need-returns-3
-returns-3 c = child-unknown (now (c .before .before .before .before .before .before .before .args .v)) (c .before .before .before .before .before .before .before .args .left) (c .before .before .before .before .state-from .result) (c .before .before .before .state-from2 .result) (c .before .before .before .before .before .if1 .left) (c .before .before .before .before .state-from .ensures) (c .before .before .before .state-from2 .ensures) (c .before .before .pick .result) (c .before .before .pick .ensures) (c .enum-told .given .1)
+returns-3 c =
+    let args = c .before .before .before .before .before .before .before .args in
+    let if1 = c .before .before .before .before .before .if1 in
+    let state-from = c .before .before .before .before .state-from in
+    let state-from2 = c .before .before .before .state-from2 in
+    let pick = c .before .before .pick in
+    child-unknown (now (args .v)) (args .left) (state-from .result) (state-from2 .result) (if1 .left) (state-from .ensures) (state-from2 .ensures)
+    (pick .result) (pick .ensures) (c .enum-told .given .1)
 
 pub next-spec : {M : Type 1} → statement M
 next-spec =

@@ -24,7 +24,13 @@ is-name-requires : tie.Need-is-name-requires Inv-loop μ-loop
 is-name-requires c κs = search needs
 
 returns : tie.Need-returns Inv-loop μ-loop
-returns c = place-here (now (c .before .before .before .before .before .before .args .v)) (c .before .before .before .before .loop .k) (c .before .before .before .before .before .before .args .end) (c .before .before .before .loop-test .taken) (c .before .before .place-name .result) (c .before .before .place-name .ensures) (c .before .is-name .result) (c .before .is-name .ensures) (c .if1 .taken) ∙ sym (c .before .before .before .before .loop .inv)
+returns c =
+    let args = c .before .before .before .before .before .before .args in
+    let loop = c .before .before .before .before .loop in
+    let loop-test = c .before .before .before .loop-test in
+    let place-name = c .before .before .place-name in
+    place-here (now (args .v)) (loop .k) (args .end) (loop-test .taken) (place-name .result) (place-name .ensures) (c .before .is-name .result)
+    (c .before .is-name .ensures) (c .if1 .taken) ∙ sym (loop .inv)
 
 add-k : tie.Need-add-k Inv-loop μ-loop
 add-k c = search needs
@@ -33,10 +39,19 @@ loop-less : tie.Need-loop-less Inv-loop μ-loop
 loop-less c = search needs
 
 loop-again : tie.Need-loop-again Inv-loop μ-loop
-loop-again c = c .before .before .before .before .loop .inv ∙ place-more (now (c .before .before .before .before .before .before .args .v)) (c .before .before .before .before .loop .k) (c .before .before .before .before .before .before .args .end) (c .before .before .before .loop-test .taken) (c .before .before .place-name .result) (c .before .before .place-name .ensures) (c .before .is-name .result) (c .before .is-name .ensures) (c .if1 .left)
+loop-again c =
+    let args = c .before .before .before .before .before .before .args in
+    let loop = c .before .before .before .before .loop in
+    let loop-test = c .before .before .before .loop-test in
+    let place-name = c .before .before .place-name in
+    loop .inv ∙
+    place-more (now (args .v)) (loop .k) (args .end) (loop-test .taken) (place-name .result) (place-name .ensures) (c .before .is-name .result)
+    (c .before .is-name .ensures) (c .if1 .left)
 
 returns-2 : tie.Need-returns-2 Inv-loop μ-loop
-returns-2 c = no-place (now (c .before .before .before .args .v)) (c .before .loop .k) (c .before .before .before .args .end) (c .loop-test .left) ∙ sym (c .before .loop .inv)
+returns-2 c =
+    let args = c .before .before .before .args in
+    no-place (now (args .v)) (c .before .loop .k) (args .end) (c .loop-test .left) ∙ sym (c .before .loop .inv)
 
 pub pick-spec : {M : Type 1} → statement M
 pick-spec =

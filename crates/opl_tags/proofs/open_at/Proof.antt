@@ -38,7 +38,11 @@ loop-less : tie.Need-loop-less Inv-loop μ-loop
 loop-less c = omega (arith, c .before .before .before .loop .inv .0, c .before .before .loop-test .taken)
 
 loop-again : tie.Need-loop-again Inv-loop μ-loop
-loop-again c = (omega (arith, c .before .before .before .loop .inv .0, c .before .before .loop-test .taken), c .before .before .before .loop .inv .1 ∙ c .before .shut-run .ensures (not-false (c .before .shut-run .result) (c .if1 .left)))
+loop-again c =
+    let loop = c .before .before .before .loop in (
+      omega (arith, loop .inv .0, c .before .before .loop-test .taken),
+      loop .inv .1 ∙ c .before .shut-run .ensures (not-false (c .before .shut-run .result) (c .if1 .left)),
+    )
 
 open-rest-requires-2 : tie.Need-open-rest-requires-2 Inv-loop μ-loop
 open-rest-requires-2 c κs = c .before .loop .inv .0

@@ -77,7 +77,21 @@ shut-requires-8 : tie.Need-shut-requires-8
 shut-requires-8 c κs = search needs
 
 returns : tie.Need-returns
-returns c = λ e. run-eight shut (now (c .before .before .before .before .before .before .before .before .before .before .before .before .before .before .before .before .before .args .s)) (c .before .before .before .before .before .before .before .before .before .before .before .before .before .before .before .before .before .args .i) (c .before .before .before .before .before .before .before .before .before .before .before .before .before .before .before .before .before .pre) (c .before .before .before .before .before .before .before .before .before .before .before .before .before .before .shut .result) (c .before .before .before .before .before .before .before .before .before .before .before .before .shut2 .result) (c .before .before .before .before .before .before .before .before .before .before .shut3 .result) (c .before .before .before .before .before .before .before .before .shut4 .result) (c .before .before .before .before .before .before .shut5 .result) (c .before .before .before .before .shut6 .result) (c .before .before .shut7 .result) (c .shut8 .result) (λ z. sym (c .before .before .before .before .before .before .before .before .before .before .before .before .before .before .shut .ensures) ∙ z) (λ z. sym (c .before .before .before .before .before .before .before .before .before .before .before .before .shut2 .ensures) ∙ z) (λ z. sym (c .before .before .before .before .before .before .before .before .before .before .shut3 .ensures) ∙ z) (λ z. sym (c .before .before .before .before .before .before .before .before .shut4 .ensures) ∙ z) (λ z. sym (c .before .before .before .before .before .before .shut5 .ensures) ∙ z) (λ z. sym (c .before .before .before .before .shut6 .ensures) ∙ z) (λ z. sym (c .before .before .shut7 .ensures) ∙ z) (λ z. sym (c .shut8 .ensures) ∙ z) e
+returns c =
+    let args = c .before .before .before .before .before .before .before .before .before .before .before .before .before .before .before .before .before
+    .args in
+    let pre = c .before .before .before .before .before .before .before .before .before .before .before .before .before .before .before .before .before .pre in
+    let shut' = c .before .before .before .before .before .before .before .before .before .before .before .before .before .before .shut in
+    let shut2 = c .before .before .before .before .before .before .before .before .before .before .before .before .shut2 in
+    let shut3 = c .before .before .before .before .before .before .before .before .before .before .shut3 in
+    let shut4 = c .before .before .before .before .before .before .before .before .shut4 in
+    let shut5 = c .before .before .before .before .before .before .shut5 in
+    let shut6 = c .before .before .before .before .shut6 in
+    let shut7 = c .before .before .shut7 in
+    λ e. run-eight shut (now (args .s)) (args .i) pre (shut' .result) (shut2 .result) (shut3 .result) (shut4 .result) (shut5 .result) (shut6 .result)
+    (shut7 .result) (c .shut8 .result) (λ z. sym (shut' .ensures) ∙ z) (λ z. sym (shut2 .ensures) ∙ z) (λ z. sym (shut3 .ensures) ∙ z)
+    (λ z. sym (shut4 .ensures) ∙ z) (λ z. sym (shut5 .ensures) ∙ z) (λ z. sym (shut6 .ensures) ∙ z) (λ z. sym (shut7 .ensures) ∙ z)
+    (λ z. sym (c .shut8 .ensures) ∙ z) e
 
 pub shut-run-spec : {M : Type 1} → statement M
 shut-run-spec =

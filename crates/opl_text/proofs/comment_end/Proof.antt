@@ -35,7 +35,20 @@ add-if2 : tie.Need-add-if2 Inv-loop μ-loop
 add-if2 c = search needs
 
 returns : tie.Need-returns Inv-loop μ-loop
-returns c = record { read-is = closing-end (now (c .before .before .before .before .before .before .before .args .s)) (c .before .before .before .before .before .loop .i + 2) (drop (c .before .before .before .before .before .loop .i) (now (c .before .before .before .before .before .before .before .args .s))) (c .if2 .taken) ∙ sym (comment-hit (now (c .before .before .before .before .before .before .before .args .s)) (c .before .before .before .before .before .loop .i) (c .before .before .before .before .loop-test .taken) (c .before .before .before .is-at .result) (c .before .before .is-at2 .result) (c .before .before .before .is-at .ensures) (c .before .before .is-at2 .ensures) (c .before .if1 .taken)) ∙ sym (c .before .before .before .before .before .loop .inv .1); inside = omega arith }
+returns c =
+    let args = c .before .before .before .before .before .before .before .args in
+    let loop = c .before .before .before .before .before .loop in
+    let loop-test = c .before .before .before .before .loop-test in
+    let is-at = c .before .before .before .is-at in
+    let is-at2 = c .before .before .is-at2 in
+    record {
+      read-is =
+          closing-end (now (args .s)) (loop .i + 2) (drop (loop .i) (now (args .s))) (c .if2 .taken) ∙
+          sym
+          (comment-hit (now (args .s)) (loop .i) (loop-test .taken) (is-at .result) (is-at2 .result) (is-at .ensures) (is-at2 .ensures) (c .before .if1 .taken))
+          ∙ sym (loop .inv .1);
+      inside = omega arith;
+    }
 
 add-if3 : tie.Need-add-if3 Inv-loop μ-loop
 add-if3 c = search needs
@@ -47,10 +60,36 @@ add-t14 : tie.Need-add-t14 Inv-loop μ-loop
 add-t14 c = search needs
 
 returns-2 : tie.Need-returns-2 Inv-loop μ-loop
-returns-2 c = record { read-is = closing-yes (now (c .before .before .before .before .before .before .before .before .before .args .s)) (c .before .before .before .before .before .before .before .loop .i + 2) (drop (c .before .before .before .before .before .before .before .loop .i) (now (c .before .before .before .before .before .before .before .before .before .args .s))) (c .before .before .before .before .before .before .before .loop .i + 3) (omega arith) (c .before .before .if2 .left) (c .if3 .taken) ∙ sym (comment-hit (now (c .before .before .before .before .before .before .before .before .before .args .s)) (c .before .before .before .before .before .before .before .loop .i) (c .before .before .before .before .before .before .loop-test .taken) (c .before .before .before .before .before .is-at .result) (c .before .before .before .before .is-at2 .result) (c .before .before .before .before .before .is-at .ensures) (c .before .before .before .before .is-at2 .ensures) (c .before .before .before .if1 .taken)) ∙ sym (c .before .before .before .before .before .before .before .loop .inv .1); inside = omega arith }
+returns-2 c =
+    let args = c .before .before .before .before .before .before .before .before .before .args in
+    let loop = c .before .before .before .before .before .before .before .loop in
+    let loop-test = c .before .before .before .before .before .before .loop-test in
+    let is-at = c .before .before .before .before .before .is-at in
+    let is-at2 = c .before .before .before .before .is-at2 in
+    let if1 = c .before .before .before .if1 in
+    record {
+      read-is =
+          closing-yes (now (args .s)) (loop .i + 2) (drop (loop .i) (now (args .s))) (loop .i + 3) (omega arith) (c .before .before .if2 .left) (c .if3 .taken)
+          ∙ sym (comment-hit (now (args .s)) (loop .i) (loop-test .taken) (is-at .result) (is-at2 .result) (is-at .ensures) (is-at2 .ensures) (if1 .taken)) ∙
+          sym (loop .inv .1);
+      inside = omega arith;
+    }
 
 returns-3 : tie.Need-returns-3 Inv-loop μ-loop
-returns-3 c = record { read-is = closing-not (now (c .before .before .before .before .before .before .before .before .before .args .s)) (c .before .before .before .before .before .before .before .loop .i + 2) (drop (c .before .before .before .before .before .before .before .loop .i) (now (c .before .before .before .before .before .before .before .before .before .args .s))) (c .before .before .if2 .left) (c .if3 .left) ∙ sym (comment-hit (now (c .before .before .before .before .before .before .before .before .before .args .s)) (c .before .before .before .before .before .before .before .loop .i) (c .before .before .before .before .before .before .loop-test .taken) (c .before .before .before .before .before .is-at .result) (c .before .before .before .before .is-at2 .result) (c .before .before .before .before .before .is-at .ensures) (c .before .before .before .before .is-at2 .ensures) (c .before .before .before .if1 .taken)) ∙ sym (c .before .before .before .before .before .before .before .loop .inv .1); inside = omega arith }
+returns-3 c =
+    let args = c .before .before .before .before .before .before .before .before .before .args in
+    let loop = c .before .before .before .before .before .before .before .loop in
+    let loop-test = c .before .before .before .before .before .before .loop-test in
+    let is-at = c .before .before .before .before .before .is-at in
+    let is-at2 = c .before .before .before .before .is-at2 in
+    let if1 = c .before .before .before .if1 in
+    record {
+      read-is =
+          closing-not (now (args .s)) (loop .i + 2) (drop (loop .i) (now (args .s))) (c .before .before .if2 .left) (c .if3 .left) ∙
+          sym (comment-hit (now (args .s)) (loop .i) (loop-test .taken) (is-at .result) (is-at2 .result) (is-at .ensures) (is-at2 .ensures) (if1 .taken)) ∙
+          sym (loop .inv .1);
+      inside = omega arith;
+    }
 
 shared-slice-read-control : tie.Need-shared-slice-read-control Inv-loop μ-loop
 shared-slice-read-control c = search needs
@@ -59,7 +98,19 @@ control-requires : tie.Need-control-requires Inv-loop μ-loop
 control-requires c κs = search needs
 
 returns-4 : tie.Need-returns-4 Inv-loop μ-loop
-returns-4 c = record { read-is = comment-bad (now (c .before .before .before .before .before .before .before .before .before .args .s)) (c .before .before .before .before .before .before .before .loop .i) (c .before .before .before .before .before .before .loop-test .taken) (c .before .before .before .before .before .is-at .result) (c .before .before .before .before .is-at2 .result) (c .before .before .before .before .before .is-at .ensures) (c .before .before .before .before .is-at2 .ensures) (c .before .before .before .if1 .left) (c .before .control .result) (c .before .control .ensures) (c .if4 .taken) ∙ sym (c .before .before .before .before .before .before .before .loop .inv .1); inside = omega arith }
+returns-4 c =
+    let args = c .before .before .before .before .before .before .before .before .before .args in
+    let loop = c .before .before .before .before .before .before .before .loop in
+    let loop-test = c .before .before .before .before .before .before .loop-test in
+    let is-at = c .before .before .before .before .before .is-at in
+    let is-at2 = c .before .before .before .before .is-at2 in
+    let if1 = c .before .before .before .if1 in
+    record {
+      read-is =
+          comment-bad (now (args .s)) (loop .i) (loop-test .taken) (is-at .result) (is-at2 .result) (is-at .ensures) (is-at2 .ensures) (if1 .left)
+          (c .before .control .result) (c .before .control .ensures) (c .if4 .taken) ∙ sym (loop .inv .1);
+      inside = omega arith;
+    }
 
 add-i : tie.Need-add-i Inv-loop μ-loop
 add-i c = search needs
@@ -68,10 +119,23 @@ loop-less : tie.Need-loop-less Inv-loop μ-loop
 loop-less c = search needs
 
 loop-again : tie.Need-loop-again Inv-loop μ-loop
-loop-again c = (omega arith, c .before .before .before .before .before .before .before .loop .inv .1 ∙ comment-more (now (c .before .before .before .before .before .before .before .before .before .args .s)) (c .before .before .before .before .before .before .before .loop .i) (c .before .before .before .before .before .before .loop-test .taken) (c .before .before .before .before .before .is-at .result) (c .before .before .before .before .is-at2 .result) (c .before .before .before .before .before .is-at .ensures) (c .before .before .before .before .is-at2 .ensures) (c .before .before .before .if1 .left) (c .before .control .result) (c .before .control .ensures) (c .if4 .left))
+loop-again c =
+    let args = c .before .before .before .before .before .before .before .before .before .args in
+    let loop = c .before .before .before .before .before .before .before .loop in
+    let loop-test = c .before .before .before .before .before .before .loop-test in
+    let is-at = c .before .before .before .before .before .is-at in
+    let is-at2 = c .before .before .before .before .is-at2 in
+    let if1 = c .before .before .before .if1 in (
+      omega arith,
+      loop .inv .1 ∙
+          comment-more (now (args .s)) (loop .i) (loop-test .taken) (is-at .result) (is-at2 .result) (is-at .ensures) (is-at2 .ensures) (if1 .left)
+          (c .before .control .result) (c .before .control .ensures) (c .if4 .left),
+    )
 
 returns-5 : tie.Need-returns-5 Inv-loop μ-loop
-returns-5 c = record { read-is = comment-end (now (c .before .before .before .args .s)) (c .before .loop .i) (c .loop-test .left) ∙ sym (c .before .loop .inv .1); inside = c .before .loop .inv .0 }
+returns-5 c =
+    let args = c .before .before .before .args in
+    record { read-is = comment-end (now (args .s)) (c .before .loop .i) (c .loop-test .left) ∙ sym (c .before .loop .inv .1); inside = c .before .loop .inv .0 }
 
 pub comment-end-spec : {M : Type 1} → statement M
 comment-end-spec =

@@ -12,16 +12,37 @@ is-at-requires : tie.Need-is-at-requires
 is-at-requires c κs = search needs
 
 returns : tie.Need-returns
-returns c = record { read-is = equals-not (now (c .before .before .before .before .args .s)) (c .before .before .before .before .args .at) (c .before .before .skip-space .result) (c .before .before .skip-space .ensures .rest) (c .before .is-at .result) (c .before .is-at .ensures) (c .if1 .taken); inside = c .before .before .skip-space .ensures .inside }
+returns c =
+    let args = c .before .before .before .before .args in
+    let skip-space = c .before .before .skip-space in
+    record {
+      read-is =
+          equals-not (now (args .s)) (args .at) (skip-space .result) (skip-space .ensures .rest) (c .before .is-at .result) (c .before .is-at .ensures)
+          (c .if1 .taken);
+      inside = skip-space .ensures .inside;
+    }
 
 add-skip-space : tie.Need-add-skip-space
 add-skip-space c = search needs
 
 skip-space-requires-2 : tie.Need-skip-space-requires-2
-skip-space-requires-2 c κs = equals-room (now (c .before .before .before .before .args .s)) (c .before .before .before .before .args .at) (c .before .before .skip-space .result) (c .before .before .skip-space .ensures .rest) (c .before .is-at .result) (c .before .is-at .ensures) (c .if1 .left)
+skip-space-requires-2 c κs =
+    let args = c .before .before .before .before .args in
+    let skip-space = c .before .before .skip-space in
+    equals-room (now (args .s)) (args .at) (skip-space .result) (skip-space .ensures .rest) (c .before .is-at .result) (c .before .is-at .ensures)
+    (c .if1 .left)
 
 returns-2 : tie.Need-returns-2
-returns-2 c = record { read-is = equals-yes (now (c .before .before .before .before .before .args .s)) (c .before .before .before .before .before .args .at) (c .before .before .before .skip-space .result) (c .before .before .before .skip-space .ensures .rest) (c .before .before .is-at .result) (c .before .before .is-at .ensures) (c .before .if1 .left) (c .skip-space2 .result) (c .skip-space2 .ensures .rest); inside = c .skip-space2 .ensures .inside }
+returns-2 c =
+    let args = c .before .before .before .before .before .args in
+    let skip-space = c .before .before .before .skip-space in
+    let is-at = c .before .before .is-at in
+    record {
+      read-is =
+          equals-yes (now (args .s)) (args .at) (skip-space .result) (skip-space .ensures .rest) (is-at .result) (is-at .ensures) (c .before .if1 .left)
+          (c .skip-space2 .result) (c .skip-space2 .ensures .rest);
+      inside = c .skip-space2 .ensures .inside;
+    }
 
 pub equals-spec : {M : Type 1} → statement M
 equals-spec =

@@ -35,7 +35,16 @@ add-t10 : tie.Need-add-t10 Inv-loop μ-loop
 add-t10 c = search needs
 
 returns : tie.Need-returns Inv-loop μ-loop
-returns c = record { read-is = literal-cut (now (c .before .before .before .before .before .before .before .args .s)) (now (c .before .before .before .before .before .before .before .args .w)) (c .before .before .before .before .before .before .before .args .at) (c .before .before .before .before .loop .i) (c .before .before .before .loop-test .taken) (c .before .is-at .result) (c .before .is-at .ensures) (c .if1 .taken) ∙ sym (c .before .before .before .before .loop .inv .2); inside = c .before .before .before .before .loop .inv .1 }
+returns c =
+    let args = c .before .before .before .before .before .before .before .args in
+    let loop = c .before .before .before .before .loop in
+    let loop-test = c .before .before .before .loop-test in
+    record {
+      read-is =
+          literal-cut (now (args .s)) (now (args .w)) (args .at) (loop .i) (loop-test .taken) (c .before .is-at .result) (c .before .is-at .ensures)
+          (c .if1 .taken) ∙ sym (loop .inv .2);
+      inside = loop .inv .1;
+    }
 
 add-i : tie.Need-add-i Inv-loop μ-loop
 add-i c = search needs
@@ -44,13 +53,28 @@ loop-less : tie.Need-loop-less Inv-loop μ-loop
 loop-less c = search needs
 
 loop-again : tie.Need-loop-again Inv-loop μ-loop
-loop-again c = (omega arith, literal-room (now (c .before .before .before .before .before .before .before .args .s)) (now (c .before .before .before .before .before .before .before .args .w)) (c .before .before .before .before .before .before .before .args .at) (c .before .before .before .before .loop .i) (c .before .before .before .loop-test .taken) (c .before .is-at .result) (c .before .is-at .ensures) (c .if1 .left), c .before .before .before .before .loop .inv .2 ∙ literal-more (now (c .before .before .before .before .before .before .before .args .s)) (now (c .before .before .before .before .before .before .before .args .w)) (c .before .before .before .before .before .before .before .args .at) (c .before .before .before .before .loop .i) (c .before .before .before .loop-test .taken) (c .before .is-at .result) (c .before .is-at .ensures) (c .if1 .left))
+loop-again c =
+    let args = c .before .before .before .before .before .before .before .args in
+    let loop = c .before .before .before .before .loop in
+    let loop-test = c .before .before .before .loop-test in (
+      omega arith,
+      literal-room (now (args .s)) (now (args .w)) (args .at) (loop .i) (loop-test .taken) (c .before .is-at .result) (c .before .is-at .ensures)
+          (c .if1 .left),
+      loop .inv .2 ∙
+          literal-more (now (args .s)) (now (args .w)) (args .at) (loop .i) (loop-test .taken) (c .before .is-at .result) (c .before .is-at .ensures)
+          (c .if1 .left),
+    )
 
 add-t11 : tie.Need-add-t11 Inv-loop μ-loop
 add-t11 c = search needs
 
 returns-2 : tie.Need-returns-2 Inv-loop μ-loop
-returns-2 c = record { read-is = literal-end (now (c .before .before .before .before .args .s)) (now (c .before .before .before .before .args .w)) (c .before .before .before .before .args .at) (c .before .loop .i) (c .loop-test .left) ∙ sym (c .before .loop .inv .2); inside = c .before .loop .inv .1 }
+returns-2 c =
+    let args = c .before .before .before .before .args in
+    record {
+      read-is = literal-end (now (args .s)) (now (args .w)) (args .at) (c .before .loop .i) (c .loop-test .left) ∙ sym (c .before .loop .inv .2);
+      inside = c .before .loop .inv .1;
+    }
 
 pub expect-spec : {M : Type 1} → statement M
 expect-spec =

@@ -12,7 +12,9 @@ shared-slice-read-result : tie.Need-shared-slice-read-result
 shared-slice-read-result c = search needs
 
 returns-2 : tie.Need-returns-2
-returns-2 c = at-here (now (c .before .before .args .s)) (c .before .before .args .at) (c .before .before .args .b) (c .before .if1 .left)
+returns-2 c =
+    let args = c .before .before .args in
+    at-here (now (args .s)) (args .at) (args .b) (c .before .if1 .left)
 
 pub is-at-spec : {M : Type 1} → statement M
 is-at-spec = tie.close (tie.spec returns shared-slice-read-result returns-2)

@@ -28,7 +28,16 @@ in-name-requires : tie.Need-in-name-requires Inv-loop μ-loop
 in-name-requires c κs = search needs
 
 returns : tie.Need-returns Inv-loop μ-loop
-returns c = record { rest = behind-stop inName (now (c .before .before .before .before .before .before .args .s)) (c .before .before .before .before .loop .i) (c .before .before .before .loop-test .taken) (c .before .in-name .result) (c .before .in-name .ensures) (c .if1 .taken) ∙ sym (c .before .before .before .before .loop .inv .1); inside = c .before .before .before .before .loop .inv .0 }
+returns c =
+    let args = c .before .before .before .before .before .before .args in
+    let loop = c .before .before .before .before .loop in
+    let loop-test = c .before .before .before .loop-test in
+    record {
+      rest =
+          behind-stop inName (now (args .s)) (loop .i) (loop-test .taken) (c .before .in-name .result) (c .before .in-name .ensures) (c .if1 .taken) ∙
+          sym (loop .inv .1);
+      inside = loop .inv .0;
+    }
 
 add-i : tie.Need-add-i Inv-loop μ-loop
 add-i c = search needs
@@ -37,10 +46,19 @@ loop-less : tie.Need-loop-less Inv-loop μ-loop
 loop-less c = search needs
 
 loop-again : tie.Need-loop-again Inv-loop μ-loop
-loop-again c = (omega arith, c .before .before .before .before .loop .inv .1 ∙ behind-more inName (now (c .before .before .before .before .before .before .args .s)) (c .before .before .before .before .loop .i) (c .before .before .before .loop-test .taken) (c .before .in-name .result) (c .before .in-name .ensures) (c .if1 .left))
+loop-again c =
+    let args = c .before .before .before .before .before .before .args in
+    let loop = c .before .before .before .before .loop in
+    let loop-test = c .before .before .before .loop-test in (
+      omega arith,
+      loop .inv .1 ∙ behind-more inName (now (args .s)) (loop .i) (loop-test .taken) (c .before .in-name .result) (c .before .in-name .ensures) (c .if1 .left),
+    )
 
 returns-2 : tie.Need-returns-2 Inv-loop μ-loop
-returns-2 c = record { rest = behind-end inName (now (c .before .before .before .args .s)) (c .before .loop .i) (c .loop-test .left) ∙ sym (c .before .loop .inv .1); inside = c .before .loop .inv .0 }
+returns-2 c =
+    let args = c .before .before .before .args in
+    record
+    { rest = behind-end inName (now (args .s)) (c .before .loop .i) (c .loop-test .left) ∙ sym (c .before .loop .inv .1); inside = c .before .loop .inv .0 }
 
 pub name-end-spec : {M : Type 1} → statement M
 name-end-spec =

@@ -27,7 +27,12 @@ is-at-requires-4 : tie.Need-is-at-requires-4
 is-at-requires-4 c κs = search needs
 
 returns : tie.Need-returns
-returns c = opening-is (now (c .before .before .before .before .before .args .s)) (c .before .before .before .before .before .args .at) (c .before .before .before .is-at .result) (c .before .before .is-at2 .result) (c .before .is-at3 .result) (c .is-at4 .result) (c .before .before .before .is-at .ensures) (c .before .before .is-at2 .ensures) (c .before .is-at3 .ensures) (c .is-at4 .ensures)
+returns c =
+    let args = c .before .before .before .before .before .args in
+    let is-at = c .before .before .before .is-at in
+    let is-at2 = c .before .before .is-at2 in
+    opening-is (now (args .s)) (args .at) (is-at .result) (is-at2 .result) (c .before .is-at3 .result) (c .is-at4 .result) (is-at .ensures) (is-at2 .ensures)
+    (c .before .is-at3 .ensures) (c .is-at4 .ensures)
 
 pub opens-comment-spec : {M : Type 1} → statement M
 opens-comment-spec =

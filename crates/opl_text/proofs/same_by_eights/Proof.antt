@@ -18,7 +18,9 @@ abbrev μ-loop : tie.MeasureT-loop
 μ-loop v w i₀ i = length v - i
 
 returns : tie.Need-returns Inv-loop μ-loop
-returns c = other-length (now (c .before .before .before .args .v)) (now (c .before .before .before .args .w)) (c .if1 .taken)
+returns c =
+    let args = c .before .before .before .args in
+    other-length (now (args .v)) (now (args .w)) (c .if1 .taken)
 
 loop-holds : tie.Need-loop-holds Inv-loop μ-loop
 loop-holds c = (omega arith, refl)
@@ -27,7 +29,8 @@ sub-loop : tie.Need-sub-loop Inv-loop μ-loop
 sub-loop c = c .loop .inv .0
 
 same-run-requires : tie.Need-same-run-requires Inv-loop μ-loop
-same-run-requires c κs = (omega (arith, c .before .loop .inv .0, c .loop-test .taken), omega (arith, c .before .loop .inv .0, c .loop-test .taken, c .before .before .if1 .left))
+same-run-requires c κs =
+    (omega (arith, c .before .loop .inv .0, c .loop-test .taken), omega (arith, c .before .loop .inv .0, c .loop-test .taken, c .before .before .if1 .left))
 
 same-rest-requires : tie.Need-same-rest-requires Inv-loop μ-loop
 same-rest-requires c κs = (c .before .before .before .loop .inv .0, c .before .before .before .before .if1 .left)
@@ -42,7 +45,11 @@ loop-less : tie.Need-loop-less Inv-loop μ-loop
 loop-less c = omega (arith, c .before .before .before .loop .inv .0, c .before .before .loop-test .taken)
 
 loop-again : tie.Need-loop-again Inv-loop μ-loop
-loop-again c = (omega (arith, c .before .before .before .loop .inv .0, c .before .before .loop-test .taken), c .before .before .before .loop .inv .1 ∙ c .before .same-run .ensures (not-false (c .before .same-run .result) (c .if2 .left)))
+loop-again c =
+    let loop = c .before .before .before .loop in (
+      omega (arith, loop .inv .0, c .before .before .loop-test .taken),
+      loop .inv .1 ∙ c .before .same-run .ensures (not-false (c .before .same-run .result) (c .if2 .left)),
+    )
 
 same-rest-requires-2 : tie.Need-same-rest-requires-2 Inv-loop μ-loop
 same-rest-requires-2 c κs = (c .before .loop .inv .0, c .before .before .if1 .left)

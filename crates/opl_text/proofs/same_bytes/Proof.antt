@@ -31,7 +31,13 @@ shared-slice-read-if2-2 : tie.Need-shared-slice-read-if2-2 Inv-loop μ-loop
 shared-slice-read-if2-2 c = search needs
 
 returns-2 : tie.Need-returns-2 Inv-loop μ-loop
-returns-2 c = same-not (now (c .before .before .before .before .before .before .args .v)) (now (c .before .before .before .before .before .before .args .w)) (c .before .before .before .before .loop .i) (c .before .before .before .loop-test .taken) (let e = c .before .before .before .before .before .if1 .left in let h = c .before .before .before .loop-test .taken in omega arith) (c .if2 .taken) ∙ sym (c .before .before .before .before .loop .inv .1)
+returns-2 c =
+    let args = c .before .before .before .before .before .before .args in
+    let if1 = c .before .before .before .before .before .if1 in
+    let loop = c .before .before .before .before .loop in
+    let loop-test = c .before .before .before .loop-test in
+    same-not (now (args .v)) (now (args .w)) (loop .i) (loop-test .taken) (let e = if1 .left in let h = loop-test .taken in omega arith) (c .if2 .taken) ∙
+    sym (loop .inv .1)
 
 add-i : tie.Need-add-i Inv-loop μ-loop
 add-i c = search needs
@@ -40,10 +46,21 @@ loop-less : tie.Need-loop-less Inv-loop μ-loop
 loop-less c = search needs
 
 loop-again : tie.Need-loop-again Inv-loop μ-loop
-loop-again c = (omega arith, c .before .before .before .before .loop .inv .1 ∙ same-more (now (c .before .before .before .before .before .before .args .v)) (now (c .before .before .before .before .before .before .args .w)) (c .before .before .before .before .loop .i) (c .before .before .before .loop-test .taken) (let e = c .before .before .before .before .before .if1 .left in let h = c .before .before .before .loop-test .taken in omega arith) (c .if2 .left))
+loop-again c =
+    let args = c .before .before .before .before .before .before .args in
+    let if1 = c .before .before .before .before .before .if1 in
+    let loop = c .before .before .before .before .loop in
+    let loop-test = c .before .before .before .loop-test in (
+      omega arith,
+      loop .inv .1 ∙
+          same-more (now (args .v)) (now (args .w)) (loop .i) (loop-test .taken) (let e = if1 .left in let h = loop-test .taken in omega arith) (c .if2 .left),
+    )
 
 returns-3 : tie.Need-returns-3 Inv-loop μ-loop
-returns-3 c = same-end (now (c .before .before .before .args .v)) (now (c .before .before .before .args .w)) (c .before .loop .i) (c .loop-test .left) (let e = c .before .before .if1 .left in let h = c .loop-test .left in omega arith) ∙ sym (c .before .loop .inv .1)
+returns-3 c =
+    let args = c .before .before .before .args in
+    same-end (now (args .v)) (now (args .w)) (c .before .loop .i) (c .loop-test .left)
+    (let e = c .before .before .if1 .left in let h = c .loop-test .left in omega arith) ∙ sym (c .before .loop .inv .1)
 
 pub same-bytes-spec : {M : Type 1} → statement M
 same-bytes-spec =

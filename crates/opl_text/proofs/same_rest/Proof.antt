@@ -28,7 +28,13 @@ shared-slice-read-if1-2 : tie.Need-shared-slice-read-if1-2 Inv-loop μ-loop
 shared-slice-read-if1-2 c = search needs
 
 returns : tie.Need-returns Inv-loop μ-loop
-returns c = same-not (now (c .before .before .before .before .before .args .v)) (now (c .before .before .before .before .before .args .w)) (c .before .before .before .before .loop .i) (c .before .before .before .loop-test .taken) (let e = c .before .before .before .before .before .pre .1 in let h = c .before .before .before .loop-test .taken in omega arith) (c .if1 .taken) ∙ sym (c .before .before .before .before .loop .inv .1)
+returns c =
+    let args = c .before .before .before .before .before .args in
+    let pre = c .before .before .before .before .before .pre in
+    let loop = c .before .before .before .before .loop in
+    let loop-test = c .before .before .before .loop-test in
+    same-not (now (args .v)) (now (args .w)) (loop .i) (loop-test .taken) (let e = pre .1 in let h = loop-test .taken in omega arith) (c .if1 .taken) ∙
+    sym (loop .inv .1)
 
 add-i : tie.Need-add-i Inv-loop μ-loop
 add-i c = search needs
@@ -37,10 +43,21 @@ loop-less : tie.Need-loop-less Inv-loop μ-loop
 loop-less c = search needs
 
 loop-again : tie.Need-loop-again Inv-loop μ-loop
-loop-again c = (omega arith, c .before .before .before .before .loop .inv .1 ∙ same-more (now (c .before .before .before .before .before .args .v)) (now (c .before .before .before .before .before .args .w)) (c .before .before .before .before .loop .i) (c .before .before .before .loop-test .taken) (let e = c .before .before .before .before .before .pre .1 in let h = c .before .before .before .loop-test .taken in omega arith) (c .if1 .left))
+loop-again c =
+    let args = c .before .before .before .before .before .args in
+    let pre = c .before .before .before .before .before .pre in
+    let loop = c .before .before .before .before .loop in
+    let loop-test = c .before .before .before .loop-test in (
+      omega arith,
+      loop .inv .1 ∙
+          same-more (now (args .v)) (now (args .w)) (loop .i) (loop-test .taken) (let e = pre .1 in let h = loop-test .taken in omega arith) (c .if1 .left),
+    )
 
 returns-2 : tie.Need-returns-2 Inv-loop μ-loop
-returns-2 c = same-end (now (c .before .before .args .v)) (now (c .before .before .args .w)) (c .before .loop .i) (c .loop-test .left) (let e = c .before .before .pre .1 in let h = c .loop-test .left in omega arith) ∙ sym (c .before .loop .inv .1)
+returns-2 c =
+    let args = c .before .before .args in
+    same-end (now (args .v)) (now (args .w)) (c .before .loop .i) (c .loop-test .left)
+    (let e = c .before .before .pre .1 in let h = c .loop-test .left in omega arith) ∙ sym (c .before .loop .inv .1)
 
 pub same-rest-spec : {M : Type 1} → statement M
 same-rest-spec =

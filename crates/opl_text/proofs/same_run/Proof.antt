@@ -96,7 +96,10 @@ shared-slice-read-result-16 : tie.Need-shared-slice-read-result-16
 shared-slice-read-result-16 c = search needs
 
 returns : tie.Need-returns
-returns c = λ e. same-eight (now (c .before .before .before .before .before .before .before .before .before .before .before .before .before .before .before .before .args .v)) (now (c .before .before .before .before .before .before .before .before .before .before .before .before .before .before .before .before .args .w)) (c .before .before .before .before .before .before .before .before .before .before .before .before .before .before .before .before .args .i) (c .before .before .before .before .before .before .before .before .before .before .before .before .before .before .before .before .pre .0) (c .before .before .before .before .before .before .before .before .before .before .before .before .before .before .before .before .pre .1) e
+returns c =
+    let args = c .before .before .before .before .before .before .before .before .before .before .before .before .before .before .before .before .args in
+    let pre = c .before .before .before .before .before .before .before .before .before .before .before .before .before .before .before .before .pre in
+    λ e. same-eight (now (args .v)) (now (args .w)) (args .i) (pre .0) (pre .1) e
 
 pub same-run-spec : {M : Type 1} → statement M
 same-run-spec =

@@ -15,10 +15,16 @@ enum-told-2 : tie.Need-enum-told-2
 enum-told-2 c = search needs
 
 returns : tie.Need-returns
-returns c = starts-yes (now (c .before .before .before .before .before .args .s)) (now (c .before .before .before .before .before .args .w)) (c .before .before .before .before .before .args .at) (c .before .before .expect .result) (c .before .before .expect .ensures) _ (c .enum-told .given .1)
+returns c =
+    let args = c .before .before .before .before .before .args in
+    let expect = c .before .before .expect in
+    starts-yes (now (args .s)) (now (args .w)) (args .at) (expect .result) (expect .ensures) _ (c .enum-told .given .1)
 
 returns-2 : tie.Need-returns-2
-returns-2 c = starts-not (now (c .before .before .before .before .before .args .s)) (now (c .before .before .before .before .before .args .w)) (c .before .before .before .before .before .args .at) (c .before .before .expect .result) (c .before .before .expect .ensures) _ (c .enum-told2 .given .1)
+returns-2 c =
+    let args = c .before .before .before .before .before .args in
+    let expect = c .before .before .expect in
+    starts-not (now (args .s)) (now (args .w)) (args .at) (expect .result) (expect .ensures) _ (c .enum-told2 .given .1)
 
 pub starts-with-spec : {M : Type 1} → statement M
 starts-with-spec = tie.close (tie.spec expect-requires enum-told enum-told-2 returns returns-2)

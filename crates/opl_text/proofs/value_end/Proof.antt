@@ -37,7 +37,11 @@ loop-less : tie.Need-loop-less Inv-loop μ-loop
 loop-less c = omega (arith, c .before .before .before .loop .inv .0, c .before .before .loop-test .taken)
 
 loop-again : tie.Need-loop-again Inv-loop μ-loop
-loop-again c = (omega (arith, c .before .before .before .loop .inv .0, c .before .before .loop-test .taken), c .before .before .before .loop .inv .1 ∙ c .before .value-run .ensures (not-false (c .before .value-run .result) (c .if1 .left)))
+loop-again c =
+    let loop = c .before .before .before .loop in (
+      omega (arith, loop .inv .0, c .before .before .loop-test .taken),
+      loop .inv .1 ∙ c .before .value-run .ensures (not-false (c .before .value-run .result) (c .if1 .left)),
+    )
 
 value-rest-requires-2 : tie.Need-value-rest-requires-2 Inv-loop μ-loop
 value-rest-requires-2 c κs = c .before .loop .inv .0

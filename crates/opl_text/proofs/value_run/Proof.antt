@@ -76,7 +76,21 @@ often-in-value-requires-8 : tie.Need-often-in-value-requires-8
 often-in-value-requires-8 c κs = search needs
 
 returns : tie.Need-returns
-returns c = λ e. run-eight (inValue (c .before .before .before .before .before .before .before .before .before .before .before .before .before .before .before .before .before .args .q)) (now (c .before .before .before .before .before .before .before .before .before .before .before .before .before .before .before .before .before .args .s)) (c .before .before .before .before .before .before .before .before .before .before .before .before .before .before .before .before .before .args .i) (c .before .before .before .before .before .before .before .before .before .before .before .before .before .before .before .before .before .pre) (c .before .before .before .before .before .before .before .before .before .before .before .before .before .before .often-in-value .result) (c .before .before .before .before .before .before .before .before .before .before .before .before .often-in-value2 .result) (c .before .before .before .before .before .before .before .before .before .before .often-in-value3 .result) (c .before .before .before .before .before .before .before .before .often-in-value4 .result) (c .before .before .before .before .before .before .often-in-value5 .result) (c .before .before .before .before .often-in-value6 .result) (c .before .before .often-in-value7 .result) (c .often-in-value8 .result) (c .before .before .before .before .before .before .before .before .before .before .before .before .before .before .often-in-value .ensures) (c .before .before .before .before .before .before .before .before .before .before .before .before .often-in-value2 .ensures) (c .before .before .before .before .before .before .before .before .before .before .often-in-value3 .ensures) (c .before .before .before .before .before .before .before .before .often-in-value4 .ensures) (c .before .before .before .before .before .before .often-in-value5 .ensures) (c .before .before .before .before .often-in-value6 .ensures) (c .before .before .often-in-value7 .ensures) (c .often-in-value8 .ensures) e
+returns c =
+    let args = c .before .before .before .before .before .before .before .before .before .before .before .before .before .before .before .before .before
+    .args in
+    let pre = c .before .before .before .before .before .before .before .before .before .before .before .before .before .before .before .before .before .pre in
+    let often-in-value = c .before .before .before .before .before .before .before .before .before .before .before .before .before .before .often-in-value in
+    let often-in-value2 = c .before .before .before .before .before .before .before .before .before .before .before .before .often-in-value2 in
+    let often-in-value3 = c .before .before .before .before .before .before .before .before .before .before .often-in-value3 in
+    let often-in-value4 = c .before .before .before .before .before .before .before .before .often-in-value4 in
+    let often-in-value5 = c .before .before .before .before .before .before .often-in-value5 in
+    let often-in-value6 = c .before .before .before .before .often-in-value6 in
+    let often-in-value7 = c .before .before .often-in-value7 in
+    λ e. run-eight (inValue (args .q)) (now (args .s)) (args .i) pre (often-in-value .result) (often-in-value2 .result) (often-in-value3 .result)
+    (often-in-value4 .result) (often-in-value5 .result) (often-in-value6 .result) (often-in-value7 .result) (c .often-in-value8 .result)
+    (often-in-value .ensures) (often-in-value2 .ensures) (often-in-value3 .ensures) (often-in-value4 .ensures) (often-in-value5 .ensures)
+    (often-in-value6 .ensures) (often-in-value7 .ensures) (c .often-in-value8 .ensures) e
 
 pub value-run-spec : {M : Type 1} → statement M
 value-run-spec =

@@ -20,25 +20,56 @@ enum-known-t-2 : tie.Need-enum-known-t-2
 enum-known-t-2 c = search needs
 
 sub-element : tie.Need-sub-element
-sub-element c = let o = read-stands (now (c .before .before .before .before .before .args .s)) (c .before .before .before .before .before .args .at) (c .before .before .before .read-tag .result) (c .before .before .before .read-tag .ensures) (c .before .t2 .given .0 .0) (c .before .t2 .given .0 .1 .0) (c .before .t2 .given .1) in omega (arith, o .named)
+sub-element c =
+    let args = c .before .before .before .before .before .args in
+    let read-tag = c .before .before .before .read-tag in
+    let o =
+    read-stands (now (args .s)) (args .at) (read-tag .result) (read-tag .ensures) (c .before .t2 .given .0 .0) (c .before .t2 .given .0 .1 .0)
+    (c .before .t2 .given .1) in
+    omega (arith, o .named)
 
 part-element-start : tie.Need-part-element-start
-part-element-start c = let o = read-stands (now (c .before .before .before .before .before .args .s)) (c .before .before .before .before .before .args .at) (c .before .before .before .read-tag .result) (c .before .before .before .read-tag .ensures) (c .before .t2 .given .0 .0) (c .before .t2 .given .0 .1 .0) (c .before .t2 .given .1) in search needs
+part-element-start c =
+    let args = c .before .before .before .before .before .args in
+    let read-tag = c .before .before .before .read-tag in
+    let o =
+    read-stands (now (args .s)) (args .at) (read-tag .result) (read-tag .ensures) (c .before .t2 .given .0 .0) (c .before .t2 .given .0 .1 .0)
+    (c .before .t2 .given .1) in
+    search needs
 
 part-element-end : tie.Need-part-element-end
-part-element-end c = let o = read-stands (now (c .before .before .before .before .before .args .s)) (c .before .before .before .before .before .args .at) (c .before .before .before .read-tag .result) (c .before .before .before .read-tag .ensures) (c .before .t2 .given .0 .0) (c .before .t2 .given .0 .1 .0) (c .before .t2 .given .1) in search needs
+part-element-end c =
+    let args = c .before .before .before .before .before .args in
+    let read-tag = c .before .before .before .read-tag in
+    let o =
+    read-stands (now (args .s)) (args .at) (read-tag .result) (read-tag .ensures) (c .before .t2 .given .0 .0) (c .before .t2 .given .0 .1 .0)
+    (c .before .t2 .given .1) in
+    search needs
 
 element-requires : tie.Need-element-requires
 element-requires c κs = search needs
 
 returns : tie.Need-returns
-returns c = read-over (now (c .before .before .before .before .args .s)) (c .before .before .before .before .args .at) (c .before .before .read-tag .result) (c .before .before .read-tag .ensures) (c .enum-told .given .1)
+returns c =
+    let args = c .before .before .before .before .args in
+    let read-tag = c .before .before .read-tag in
+    read-over (now (args .s)) (args .at) (read-tag .result) (read-tag .ensures) (c .enum-told .given .1)
 
 returns-2 : tie.Need-returns-2
-returns-2 c = read-ended (now (c .before .before .before .before .before .args .s)) (c .before .before .before .before .before .args .at) (c .before .before .before .read-tag .result) (c .before .before .before .read-tag .ensures) (c .before .t .given .0 .0) (c .before .t .given .1)
+returns-2 c =
+    let args = c .before .before .before .before .before .args in
+    let read-tag = c .before .before .before .read-tag in
+    read-ended (now (args .s)) (args .at) (read-tag .result) (read-tag .ensures) (c .before .t .given .0 .0) (c .before .t .given .1)
 
 returns-3 : tie.Need-returns-3
-returns-3 c = (read-begun (now (c .before .before .before .before .before .before .before .args .s)) (c .before .before .before .before .before .before .before .args .at) (c .before .before .before .before .before .read-tag .result) (c .before .before .before .before .before .read-tag .ensures) (c .before .before .before .t2 .given .0 .0) (c .before .before .before .t2 .given .0 .1 .0) (c .before .before .before .t2 .given .1) (c .element .result) (c .element .ensures), refl)
+returns-3 c =
+    let args = c .before .before .before .before .before .before .before .args in
+    let read-tag = c .before .before .before .before .before .read-tag in
+    let t2 = c .before .before .before .t2 in (
+      read-begun (now (args .s)) (args .at) (read-tag .result) (read-tag .ensures) (t2 .given .0 .0) (t2 .given .0 .1 .0) (t2 .given .1) (c .element .result)
+          (c .element .ensures),
+      refl,
+    )
 
 pub read-spec : {M : Type 1} → statement M
 read-spec =

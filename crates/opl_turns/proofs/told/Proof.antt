@@ -14,13 +14,18 @@ parts-by-requires : tie.Need-parts-by-requires
 parts-by-requires c κs = search needs
 
 returns : tie.Need-returns
-returns c = rw (← c .before .before .sets-by .ensures, ← c .before .parts-by .ensures, ← c .before .before .before .kind-by .ensures, eq-eqb _ _ (c .if1 .taken))
+returns c =
+    let kind-by = c .before .before .before .kind-by in
+    rw (← c .before .before .sets-by .ensures, ← c .before .parts-by .ensures, ← kind-by .ensures, eq-eqb _ _ (c .if1 .taken))
 
 number-by-requires : tie.Need-number-by-requires
 number-by-requires c κs = search needs
 
 returns-2 : tie.Need-returns-2
-returns-2 c = rw (← c .before .before .before .sets-by .ensures, ← c .before .before .parts-by .ensures, ← c .before .before .before .before .kind-by .ensures, ← c .number-by .ensures, ne-eqb _ _ (c .before .if1 .left))
+returns-2 c =
+    let kind-by = c .before .before .before .before .kind-by in
+    let sets-by = c .before .before .before .sets-by in
+    rw (← sets-by .ensures, ← c .before .before .parts-by .ensures, ← kind-by .ensures, ← c .number-by .ensures, ne-eqb _ _ (c .before .if1 .left))
 
 pub told-spec : {M : Type 1} → statement M
 told-spec =

@@ -22,13 +22,28 @@ told-requires : tie.Need-told-requires
 told-requires c κs = search needs
 
 returns : tie.Need-returns
-returns c = turn-over (now (c .before .before .before .before .before .args .s)) (listOf (now (c .before .before .before .before .before .args .w))) (c .before .before .before .before .before .args .c) (c .before .before .before .before .before .pre .1 .0) (c .before .before .meet .result) (c .before .before .meet .ensures) (c .enum-told .given .1)
+returns c =
+    let args = c .before .before .before .before .before .args in
+    let pre = c .before .before .before .before .before .pre in
+    let meet = c .before .before .meet in
+    turn-over (now (args .s)) (listOf (now (args .w))) (args .c) (pre .1 .0) (meet .result) (meet .ensures) (c .enum-told .given .1)
 
 returns-2 : tie.Need-returns-2
-returns-2 c = turn-ended (now (c .before .before .before .before .before .before .args .s)) (listOf (now (c .before .before .before .before .before .before .args .w))) (c .before .before .before .before .before .before .args .c) (c .before .before .before .before .before .before .pre .1 .0) (c .before .before .before .meet .result) (c .before .before .before .meet .ensures) (c .before .t .given .0 .0) (c .before .t .given .1)
+returns-2 c =
+    let args = c .before .before .before .before .before .before .args in
+    let pre = c .before .before .before .before .before .before .pre in
+    let meet = c .before .before .before .meet in
+    turn-ended (now (args .s)) (listOf (now (args .w))) (args .c) (pre .1 .0) (meet .result) (meet .ensures) (c .before .t .given .0 .0)
+    (c .before .t .given .1)
 
 returns-3 : tie.Need-returns-3
-returns-3 c = rw (c .told .ensures) (turn-begun (now (c .before .before .before .before .before .before .before .args .s)) (listOf (now (c .before .before .before .before .before .before .before .args .w))) (c .before .before .before .before .before .before .before .args .c) (c .before .before .before .before .before .before .before .pre .1 .0) (c .before .before .before .before .meet .result) (c .before .before .before .before .meet .ensures) (c .before .before .t2 .given .0 .0) (c .before .before .t2 .given .0 .1 .0) (c .before .before .t2 .given .0 .1 .1 .0) (c .before .before .t2 .given .1))
+returns-3 c =
+    let args = c .before .before .before .before .before .before .before .args in
+    let pre = c .before .before .before .before .before .before .before .pre in
+    let meet = c .before .before .before .before .meet in
+    let t2 = c .before .before .t2 in
+    rw (c .told .ensures) (turn-begun (now (args .s)) (listOf (now (args .w))) (args .c) (pre .1 .0) (meet .result) (meet .ensures) (t2 .given .0 .0)
+    (t2 .given .0 .1 .0) (t2 .given .0 .1 .1 .0) (t2 .given .1))
 
 pub turn-spec : {M : Type 1} → statement M
 turn-spec =

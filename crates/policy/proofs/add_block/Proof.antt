@@ -37,7 +37,9 @@ same-length : tie.Need-same-length
 same-length c = search needs
 
 returns : tie.Need-returns
-returns c = block-added _ (c .before .before .before .pre .0) (c .block-count .result) _ _ (c .before .before .before .pre .1 .0) (omega arith) (c .block-count .ensures .0)
+returns c =
+    let pre = c .before .before .before .pre in
+    block-added _ (pre .0) (c .block-count .result) _ _ (pre .1 .0) (omega arith) (c .block-count .ensures .0)
 
 pub add-block-spec : {M : Type 1} → statement M
 add-block-spec =

@@ -55,7 +55,9 @@ same-length : tie.Need-same-length
 same-length c = search needs
 
 returns : tie.Need-returns
-returns c = limit-added _ (c .before .before .before .pre .0) _ (c .limit-count .result) _ _ (c .before .before .before .pre .1 .0) (omega arith) (c .limit-count .ensures .0)
+returns c =
+    let pre = c .before .before .before .pre in
+    limit-added _ (pre .0) _ (c .limit-count .result) _ _ (pre .1 .0) (omega arith) (c .limit-count .ensures .0)
 
 pub add-limit-spec : {M : Type 1} → statement M
 add-limit-spec =

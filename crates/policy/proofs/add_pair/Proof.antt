@@ -46,7 +46,9 @@ same-length : tie.Need-same-length
 same-length c = search needs
 
 returns : tie.Need-returns
-returns c = pair-added _ (c .before .before .before .pre .0) _ (c .pair-count .result) _ _ (c .before .before .before .pre .1 .0) (c .before .before .before .pre .1 .1 .0) (c .before .before .before .pre .1 .1 .1 .0) (omega arith) (c .pair-count .ensures .0)
+returns c =
+    let pre = c .before .before .before .pre in
+    pair-added _ (pre .0) _ (c .pair-count .result) _ _ (pre .1 .0) (pre .1 .1 .0) (pre .1 .1 .1 .0) (omega arith) (c .pair-count .ensures .0)
 
 pub add-pair-spec : {M : Type 1} → statement M
 add-pair-spec =

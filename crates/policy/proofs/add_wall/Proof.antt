@@ -61,7 +61,11 @@ same-length : tie.Need-same-length
 same-length c = search needs
 
 returns : tie.Need-returns
-returns c = rw (c .wall-word .ensures .0) (wall-added _ (c .before .before .before .before .before .before .before .pre .0) (c .before .before .before .before .wall-count .result) _ _ _ _ (c .before .before .before .before .before .before .before .pre .1 .0) (c .before .before .before .before .before .before .before .pre .1 .1 .0) (c .before .before .before .before .before .before .before .pre .1 .1 .1 .0) (omega arith) (c .before .before .before .before .wall-count .ensures .0) (c .before .with .ensures ∙ ap (λ m. plus m (c .before .before .before .before .wall-count .result % 64)) (c .before .before .wall-rows .ensures)))
+returns c =
+    let pre = c .before .before .before .before .before .before .before .pre in
+    let wall-count = c .before .before .before .before .wall-count in
+    rw (c .wall-word .ensures .0) (wall-added _ (pre .0) (wall-count .result) _ _ _ _ (pre .1 .0) (pre .1 .1 .0) (pre .1 .1 .1 .0) (omega arith)
+    (wall-count .ensures .0) (c .before .with .ensures ∙ ap (λ m. plus m (wall-count .result % 64)) (c .before .before .wall-rows .ensures)))
 
 pub add-wall-spec : {M : Type 1} → statement M
 add-wall-spec =

@@ -25,7 +25,9 @@ shared-slice-read-t5 : tie.Need-shared-slice-read-t5
 shared-slice-read-t5 c = search needs
 
 returns-2 : tie.Need-returns-2
-returns-2 c = below-row _ _ (search needs) (rw (← c .before .before .before .seniors .ensures) (sym (c .before .before .has .ensures) ∙ not-false _ (c .before .if1 .left)))
+returns-2 c =
+    let seniors = c .before .before .before .seniors in
+    below-row _ _ (search needs) (rw (← seniors .ensures) (sym (c .before .before .has .ensures) ∙ not-false _ (c .before .if1 .left)))
 
 pub below-spec : {M : Type 1} → statement M
 below-spec =

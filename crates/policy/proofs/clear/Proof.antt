@@ -40,7 +40,8 @@ same-length : tie.Need-same-length Inv-loop μ-loop
 same-length c = search needs
 
 returns : tie.Need-returns Inv-loop μ-loop
-returns c = cleared (c .before .loop .p) (c .before .before .args .p .now) (c .before .loop .i) (c .before .loop .inv .1 .0) (omega arith) (c .before .loop .inv .1 .1)
+returns c =
+    cleared (c .before .loop .p) (c .before .before .args .p .now) (c .before .loop .i) (c .before .loop .inv .1 .0) (omega arith) (c .before .loop .inv .1 .1)
 
 pub clear-spec : {M : Type 1} → statement M
 clear-spec =

@@ -24,7 +24,9 @@ same-length : tie.Need-same-length Inv-loop μ-loop
 same-length c = search needs
 
 returns : tie.Need-returns Inv-loop μ-loop
-returns c = ready-listed _ _ _ (ap (λ m. has m (c .before .before .before .before .before .args .four)) (sym (c .before .before .fours-in .ensures)) ∙ sym (c .before .has .ensures) ∙ c .if1 .taken)
+returns c =
+    let args = c .before .before .before .before .before .args in
+    ready-listed _ _ _ (ap (λ m. has m (args .four)) (sym (c .before .before .fours-in .ensures)) ∙ sym (c .before .has .ensures) ∙ c .if1 .taken)
 
 mul-b : tie.Need-mul-b Inv-loop μ-loop
 mul-b c = search needs
@@ -66,7 +68,20 @@ loop-less : tie.Need-loop-less Inv-loop μ-loop
 loop-less c = search needs
 
 loop-again : tie.Need-loop-again Inv-loop μ-loop
-loop-again c = (omega arith, (omega arith, ready-more _ _ _ _ (c .before .before .before .loop .b) _ (c .before .before .before .loop .inv .1 .1) (ap (λ m. has m (c .before .before .before .before .before .before .before .before .before .args .four)) (sym (c .before .before .before .before .before .before .fours-in .ensures)) ∙ sym (c .before .before .before .before .before .has .ensures) ∙ c .before .before .before .before .if1 .left) (c .before .before .before .before .before .before .before .before .before .pre .1 .0) (c .before .before .before .loop .inv .0) (omega arith) (c .unless-in .ensures)))
+loop-again c =
+    let args = c .before .before .before .before .before .before .before .before .before .args in
+    let pre = c .before .before .before .before .before .before .before .before .before .pre in
+    let fours-in = c .before .before .before .before .before .before .fours-in in
+    let has' = c .before .before .before .before .before .has in
+    let if1 = c .before .before .before .before .if1 in
+    let loop = c .before .before .before .loop in (
+      omega arith,
+      (
+        omega arith,
+        ready-more _ _ _ _ (loop .b) _ (loop .inv .1 .1) (ap (λ m. has m (args .four)) (sym (fours-in .ensures)) ∙ sym (has' .ensures) ∙ if1 .left)
+            (pre .1 .0) (loop .inv .0) (omega arith) (c .unless-in .ensures),
+      ),
+    )
 
 same-length-2 : tie.Need-same-length-2 Inv-loop μ-loop
 same-length-2 c = search needs

@@ -13,7 +13,9 @@ fours-in-requires c κs = search needs
 
 returns : tie.Need-returns
 unfolding foursFor
-returns c = c .fours-in .ensures ∙ ap (tableIn bucketTable (c .before .before .before .args .p .now)) (c .before .bucket-of .ensures .0)
+returns c =
+    let args = c .before .before .before .args in
+    c .fours-in .ensures ∙ ap (tableIn bucketTable (args .p .now)) (c .before .bucket-of .ensures .0)
 
 pub fours-for-spec : {M : Type 1} → statement M
 fours-for-spec = tie.close (tie.spec bucket-of-requires fours-in-requires returns)

@@ -25,7 +25,9 @@ has-requires c κs = search needs
 
 returns : tie.Need-returns
 unfolding policyOf
-returns c = declared-there _ _ (c .before .before .before .before .before .pre .1) (lists-bit _ _ _ (c .before .before .bucket-of .ensures .0) (c .before .fours-in .ensures) (c .has .ensures))
+returns c =
+    let pre = c .before .before .before .before .before .pre in
+    declared-there _ _ (pre .1) (lists-bit _ _ _ (c .before .before .bucket-of .ensures .0) (c .before .fours-in .ensures) (c .has .ensures))
 
 pub permission-declared-spec : {M : Type 1} → statement M
 permission-declared-spec =

@@ -26,7 +26,9 @@ shared-slice-read-result c = search needs
 
 returns-2 : tie.Need-returns-2
 unfolding policyOf
-returns-2 c = (declared-value _ _ (c .before .before .before .before .pre .1) (λ x. x .operation) (sym (c .before .before .permission-declared .ensures) ∙ not-false _ (c .before .if1 .left)), omega arith)
+returns-2 c =
+    let pre = c .before .before .before .before .pre in
+    (declared-value _ _ (pre .1) (λ x. x .operation) (sym (c .before .before .permission-declared .ensures) ∙ not-false _ (c .before .if1 .left)), omega arith)
 
 pub permission-operation-spec : {M : Type 1} → statement M
 permission-operation-spec =

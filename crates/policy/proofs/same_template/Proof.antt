@@ -30,7 +30,9 @@ shared-slice-read-result c = search needs
 
 returns : tie.Need-returns
 unfolding policyOf tasksIn together
-returns c = template-same _ _ ∙ sym (ap₂ (λ (x y : Maybe ℕ). holds (λ j. is j y) x) (column-at _ _ _ _ _ _ (c .before .before .pre .1 .0)) (column-at _ _ _ _ _ _ (c .before .before .pre .1 .1)))
+returns c =
+    let pre = c .before .before .pre in
+    template-same _ _ ∙ sym (ap₂ (λ (x y : Maybe ℕ). holds (λ j. is j y) x) (column-at _ _ _ _ _ _ (pre .1 .0)) (column-at _ _ _ _ _ _ (pre .1 .1)))
 
 pub same-template-spec : {M : Type 1} → statement M
 same-template-spec =

@@ -28,7 +28,10 @@ same-length : tie.Need-same-length
 same-length c = search needs
 
 returns : tie.Need-returns
-returns c = below-set _ (c .before .before .before .before .pre .0) _ _ (c .before .before .before .before .pre .1) _ (c .with .ensures ∙ ap (λ m. plus m (c .before .before .before .before .args .r)) (c .before .seniors .ensures))
+returns c =
+    let pre = c .before .before .before .before .pre in
+    let args = c .before .before .before .before .args in
+    below-set _ (pre .0) _ _ (pre .1) _ (c .with .ensures ∙ ap (λ m. plus m (args .r)) (c .before .seniors .ensures))
 
 pub set-below-spec : {M : Type 1} → statement M
 set-below-spec =

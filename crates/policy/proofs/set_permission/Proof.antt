@@ -52,7 +52,14 @@ same-length : tie.Need-same-length
 same-length c = search needs
 
 returns : tie.Need-returns
-returns c = rw (c .before .before .before .before .before .before .before .bucket-of .ensures .0) (permission-set _ (c .before .before .before .before .before .empty-strays .last .0) (omega arith) _ _ _ _ (c .before .before .before .before .before .before .before .before .before .pre .1 .0) (c .before .before .before .before .before .before .before .before .before .pre .1 .1 .0) (c .before .before .before .before .before .before .before .before .before .pre .1 .1 .1) (rw (c .before .before .before .before .before .before .before .bucket-of .ensures .0) at (c .before .before .before .before .before .empty-strays .ensures)) (c .with .ensures ∙ ap (λ m. plus m (c .before .before .before .before .before .before .before .before .before .args .a / 4)) (rw (c .before .before .before .before .before .before .before .bucket-of .ensures .0) at (c .before .fours-in .ensures))))
+returns c =
+    let pre = c .before .before .before .before .before .before .before .before .before .pre in
+    let args = c .before .before .before .before .before .before .before .before .before .args in
+    let bucket-of = c .before .before .before .before .before .before .before .bucket-of in
+    let empty-strays = c .before .before .before .before .before .empty-strays in
+    rw (bucket-of .ensures .0) (permission-set _ (empty-strays .last .0) (omega arith) _ _ _ _ (pre .1 .0) (pre .1 .1 .0) (pre .1 .1 .1)
+    (rw (bucket-of .ensures .0) at (empty-strays .ensures))
+    (c .with .ensures ∙ ap (λ m. plus m (args .a / 4)) (rw (bucket-of .ensures .0) at (c .before .fours-in .ensures))))
 
 pub set-permission-spec : {M : Type 1} → statement M
 set-permission-spec =

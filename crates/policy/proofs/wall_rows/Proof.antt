@@ -20,7 +20,9 @@ shared-slice-read-t8 c = search needs
 
 returns : tie.Need-returns
 unfolding wallRows
-returns c = sym (column-at _ _ _ _ _ _ (c .before .wall-word .ensures .1)) ∙ ap (tableIn wallBucketTable (c .before .before .before .args .p .now)) (c .before .wall-word .ensures .0)
+returns c =
+    let args = c .before .before .before .args in
+    sym (column-at _ _ _ _ _ _ (c .before .wall-word .ensures .1)) ∙ ap (tableIn wallBucketTable (args .p .now)) (c .before .wall-word .ensures .0)
 
 pub wall-rows-spec : {M : Type 1} → statement M
 wall-rows-spec = tie.close (tie.spec wall-word-requires add-t5 mul-t6 shared-slice-read-t8 returns)

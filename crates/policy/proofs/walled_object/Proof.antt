@@ -21,10 +21,14 @@ has-requires : tie.Need-has-requires
 has-requires c κs = search needs
 
 returns : tie.Need-returns
-returns c = (object-none _ _ (c .before .before .before .before .before .pre .1) (c .before .before .wall-rows .ensures) (c .before .has .ensures) (c .if1 .taken), omega arith)
+returns c =
+    let pre = c .before .before .before .before .before .pre in
+    (object-none _ _ (pre .1) (c .before .before .wall-rows .ensures) (c .before .has .ensures) (c .if1 .taken), omega arith)
 
 returns-2 : tie.Need-returns-2
-returns-2 c = (object-listed _ _ (c .before .before .before .before .before .pre .1) (c .before .before .wall-rows .ensures) (c .before .has .ensures) (c .if1 .left), omega arith)
+returns-2 c =
+    let pre = c .before .before .before .before .before .pre in
+    (object-listed _ _ (pre .1) (c .before .before .wall-rows .ensures) (c .before .has .ensures) (c .if1 .left), omega arith)
 
 pub walled-object-spec : {M : Type 1} → statement M
 walled-object-spec =

@@ -12,7 +12,9 @@ word-requires-2 : tie.Need-word-requires-2
 word-requires-2 c κs = search needs
 
 returns : tie.Need-returns
-returns c = fields (c .before .before .before .args .s .now) (λ i. omega (arith, c .before .before .shared-slice-known .given i)) (c .before .word .ensures) (c .word2 .ensures)
+returns c =
+    let args = c .before .before .before .args in
+    fields (args .s .now) (λ i. omega (arith, c .before .before .shared-slice-known .given i)) (c .before .word .ensures) (c .word2 .ensures)
 
 pub decode-spec : {M : Type 1} → statement M
 decode-spec = tie.close (tie.spec word-requires word-requires-2 returns)

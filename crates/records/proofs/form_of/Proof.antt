@@ -10,7 +10,8 @@ use Rattle.records.proofs.form_of.Tie as tie
 -- the keys of the arms
 abbrev kinds : List ℕ
 kinds =
-    1 ∷ 2 ∷ 3 ∷ 4 ∷ 5 ∷ 6 ∷ 7 ∷ 8 ∷ 9 ∷ 10 ∷ 11 ∷ 12 ∷ 13 ∷ 14 ∷ 15 ∷ 16 ∷ 17 ∷ 18 ∷ 32 ∷ 33 ∷ 34 ∷ 35 ∷ 36 ∷ 37 ∷ 40 ∷ 41 ∷ 42 ∷ 43 ∷ 48 ∷ 49 ∷ 50 ∷ 51 ∷ 52 ∷ 56 ∷ 57 ∷ 58 ∷ 59 ∷ 60 ∷ []
+    1 ∷ 2 ∷ 3 ∷ 4 ∷ 5 ∷ 6 ∷ 7 ∷ 8 ∷ 9 ∷ 10 ∷ 11 ∷ 12 ∷ 13 ∷ 14 ∷ 15 ∷ 16 ∷ 17 ∷ 18 ∷ 32 ∷ 33 ∷ 34 ∷ 35 ∷ 36 ∷ 37 ∷ 40 ∷ 41 ∷ 42 ∷ 43 ∷ 48 ∷ 49 ∷ 50 ∷ 51 ∷ 52 ∷
+    56 ∷ 57 ∷ 58 ∷ 59 ∷ 60 ∷ []
 
 returns : tie.Need-returns
 unfolding tableOpen
@@ -166,7 +167,9 @@ returns-38 c = rw (c .match .keys38)
 
 returns-39 : tie.Need-returns-39
 unfolding tableOpen
-returns-39 c = rest same same-sound tableAt (record { 0 = 0; 1 = 0; 2 = 0; 3 = 0; 4 = 0; 5 = 0 }) (oneEach kinds) 0 256 tt (c .before .args .kind) (c .match .rest) zero-le (c .before .pre)
+returns-39 c =
+    rest same same-sound tableAt (record { 0 = 0; 1 = 0; 2 = 0; 3 = 0; 4 = 0; 5 = 0 }) (oneEach kinds) 0 256 tt (c .before .args .kind) (c .match .rest) zero-le
+    (c .before .pre)
 
 pub form-of-spec : {M : Type 1} → statement M
 form-of-spec =

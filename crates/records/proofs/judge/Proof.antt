@@ -22,18 +22,37 @@ misshapen-requires c κs = search needs
 
 returns-2 : tie.Need-returns-2
 returns-2 c =
-    misshaped (c .before .before .before .before .before .before .before .args .call) (c .before .before .before .before .before .if1 .left) (c .before .before .before .before .decode .ensures) (c .before .before .form-of .ensures) (c .before .before .before .word .ensures) (sym (c .before .misshapen .ensures) ∙ c .if2 .taken)
+    let args = c .before .before .before .before .before .before .before .args in
+    let if1 = c .before .before .before .before .before .if1 in
+    let decode = c .before .before .before .before .decode in
+    let word = c .before .before .before .word in
+    misshaped (args .call) (if1 .left) (decode .ensures) (c .before .before .form-of .ensures) (word .ensures)
+    (sym (c .before .misshapen .ensures) ∙ c .if2 .taken)
 
 out-of-range-requires : tie.Need-out-of-range-requires
 out-of-range-requires c κs = search needs
 
 returns-3 : tie.Need-returns-3
 returns-3 c =
-    outranged (c .before .before .before .before .before .before .before .before .before .args .call) (c .before .before .before .before .before .before .before .if1 .left) (c .before .before .before .before .before .before .decode .ensures) (c .before .before .before .before .form-of .ensures) (c .before .before .before .before .before .word .ensures) (sym (c .before .before .before .misshapen .ensures) ∙ c .before .before .if2 .left) (sym (c .before .out-of-range .ensures) ∙ c .if3 .taken)
+    let args = c .before .before .before .before .before .before .before .before .before .args in
+    let if1 = c .before .before .before .before .before .before .before .if1 in
+    let decode = c .before .before .before .before .before .before .decode in
+    let word = c .before .before .before .before .before .word in
+    let form-of = c .before .before .before .before .form-of in
+    let misshapen = c .before .before .before .misshapen in
+    outranged (args .call) (if1 .left) (decode .ensures) (form-of .ensures) (word .ensures) (sym (misshapen .ensures) ∙ c .before .before .if2 .left)
+    (sym (c .before .out-of-range .ensures) ∙ c .if3 .taken)
 
 returns-4 : tie.Need-returns-4
 returns-4 c =
-    fine (c .before .before .before .before .before .before .before .before .before .args .call) (c .before .before .before .before .before .before .before .if1 .left) (c .before .before .before .before .before .before .decode .ensures) (c .before .before .before .before .form-of .ensures) (c .before .before .before .before .before .word .ensures) (sym (c .before .before .before .misshapen .ensures) ∙ c .before .before .if2 .left) (sym (c .before .out-of-range .ensures) ∙ c .if3 .left)
+    let args = c .before .before .before .before .before .before .before .before .before .args in
+    let if1 = c .before .before .before .before .before .before .before .if1 in
+    let decode = c .before .before .before .before .before .before .decode in
+    let word = c .before .before .before .before .before .word in
+    let form-of = c .before .before .before .before .form-of in
+    let misshapen = c .before .before .before .misshapen in
+    fine (args .call) (if1 .left) (decode .ensures) (form-of .ensures) (word .ensures) (sym (misshapen .ensures) ∙ c .before .before .if2 .left)
+    (sym (c .before .out-of-range .ensures) ∙ c .if3 .left)
 
 pub judge-spec : {M : Type 1} → statement M
 judge-spec =

@@ -16,14 +16,23 @@ quad-requires-2 : tie.Need-quad-requires-2
 quad-requires-2 c κs = search needs
 
 mul-result : tie.Need-mul-result
-mul-result c = omega (arith, four-small (c .before .before .before .args .s .now) (λ i. omega (arith, c .before .before .shared-slice-known .given i)) (c .before .before .before .args .at + 4))
+mul-result c =
+    let args = c .before .before .before .args in
+    omega (arith, four-small (args .s .now) (λ i. omega (arith, c .before .before .shared-slice-known .given i)) (args .at + 4))
 
 add-result : tie.Need-add-result
 add-result c =
-    omega (arith, eight (c .before .before .before .args .s .now) (c .before .before .before .args .at) (c .before .quad .ensures) (c .quad2 .ensures), eight-small (c .before .before .before .args .s .now) (λ i. omega (arith, c .before .before .shared-slice-known .given i)) (c .before .before .before .args .at))
+    let args = c .before .before .before .args in
+    omega (
+      arith,
+      eight (args .s .now) (args .at) (c .before .quad .ensures) (c .quad2 .ensures),
+      eight-small (args .s .now) (λ i. omega (arith, c .before .before .shared-slice-known .given i)) (args .at),
+    )
 
 returns : tie.Need-returns
-returns c = eight (c .before .before .before .args .s .now) (c .before .before .before .args .at) (c .before .quad .ensures) (c .quad2 .ensures)
+returns c =
+    let args = c .before .before .before .args in
+    eight (args .s .now) (args .at) (c .before .quad .ensures) (c .quad2 .ensures)
 
 pub word-spec : {M : Type 1} → statement M
 word-spec =

@@ -47,18 +47,29 @@ low-requires-14 c κs = search needs
 
 returns : tie.Need-returns
 returns c =
+    let low = c .before .before .before .before .before .before .before .before .before .before .before .before .before .low in
+    let low2 = c .before .before .before .before .before .before .before .before .before .before .before .before .low2 in
+    let low3 = c .before .before .before .before .before .before .before .before .before .before .before .low3 in
+    let low4 = c .before .before .before .before .before .before .before .before .before .before .low4 in
+    let low5 = c .before .before .before .before .before .before .before .before .before .low5 in
+    let low6 = c .before .before .before .before .before .before .before .before .low6 in
+    let low7 = c .before .before .before .before .before .before .before .low7 in
+    let low8 = c .before .before .before .before .before .before .low8 in
+    let low9 = c .before .before .before .before .before .low9 in
+    let low10 = c .before .before .before .before .low10 in
+    let low11 = c .before .before .before .low11 in
     rw (
-      c .before .before .before .before .before .before .before .before .before .before .before .before .before .low .ensures,
-      c .before .before .before .before .before .before .before .before .before .before .before .before .low2 .ensures,
-      c .before .before .before .before .before .before .before .before .before .before .before .low3 .ensures,
-      c .before .before .before .before .before .before .before .before .before .before .low4 .ensures,
-      c .before .before .before .before .before .before .before .before .before .low5 .ensures,
-      c .before .before .before .before .before .before .before .before .low6 .ensures,
-      c .before .before .before .before .before .before .before .low7 .ensures,
-      c .before .before .before .before .before .before .low8 .ensures,
-      c .before .before .before .before .before .low9 .ensures,
-      c .before .before .before .before .low10 .ensures,
-      c .before .before .before .low11 .ensures,
+      low .ensures,
+      low2 .ensures,
+      low3 .ensures,
+      low4 .ensures,
+      low5 .ensures,
+      low6 .ensures,
+      low7 .ensures,
+      low8 .ensures,
+      low9 .ensures,
+      low10 .ensures,
+      low11 .ensures,
       c .before .before .low12 .ensures,
       c .before .low13 .ensures,
       c .low14 .ensures,

@@ -18,7 +18,9 @@ part-result-end : tie.Need-part-result-end
 part-result-end c = search needs
 
 returns : tie.Need-returns
-returns c = let z : (c .before .before .args .n) - 0 ≡ c .before .before .args .n = omega arith in rw z
+returns c =
+    let args = c .before .before .args in
+    let z : (args .n) - 0 ≡ args .n = omega arith in rw z
 
 returns-2 : tie.Need-returns-2
 returns-2 c = sym (take-all (c .before .args .n) (now (c .before .args .bytes)) (omega arith))

@@ -21,7 +21,8 @@ Inv-loop words₀ seed x₀ i₀ words x i = (i ≤ length words₀) × ((length
 abbrev μ-loop : tie.MeasureT-loop
 μ-loop words₀ seed x₀ i₀ words x i = length words₀ - i
 
-one-more : (seed : ℕ) (words : List ℕ) (i x : ℕ) → i < length words → x ≡ drawn seed (i + 1) → Filled seed words i → Filled seed (set words i (garbled x)) (i + 1)
+one-more : (seed : ℕ) (words : List ℕ) (i x : ℕ) → i < length words → x ≡ drawn seed (i + 1) → Filled seed words i →
+    Filled seed (set words i (garbled x)) (i + 1)
 one-more seed words i x l e h =
     below-more (λ k. getD (set words i (garbled x)) k 0 ≡ garbled (drawn seed (k + 1))) i
     (λ k u. getD-set-other words i k (garbled x) 0 (λ e. omega arith) ∙ h k u)
@@ -58,8 +59,11 @@ loop-less c = search needs
 
 loop-again : tie.Need-loop-again Inv-loop μ-loop
 loop-again c =
-    let next = drawn-more (c .before .before .args .seed) (c .before .loop .i) (c .before .loop .inv .1 .1 .0) in
-    (search needs, (search needs, (next, one-more (c .before .before .args .seed) (c .before .loop .words) (c .before .loop .i) _ (search needs) next (c .before .loop .inv .1 .1 .1))))
+    let args = c .before .before .args in
+    let next = drawn-more (args .seed) (c .before .loop .i) (c .before .loop .inv .1 .1 .0) in (
+      search needs,
+      (search needs, (next, one-more (args .seed) (c .before .loop .words) (c .before .loop .i) _ (search needs) next (c .before .loop .inv .1 .1 .1))),
+    )
 
 same-length : tie.Need-same-length Inv-loop μ-loop
 same-length c = search needs

@@ -10,7 +10,9 @@ same-length : tie.Need-same-length
 same-length c = search needs
 
 returns : tie.Need-returns
-returns c = record { kept = λ e. absurd (c .before .before .before .before .if1 .taken e); words = λ _. c .before .before .garble .ensures }
+returns c =
+    let if1 = c .before .before .before .before .if1 in
+    record { kept = λ e. absurd (if1 .taken e); words = λ _. c .before .before .garble .ensures }
 
 returns-2 : tie.Need-returns-2
 returns-2 c = search needs

@@ -21,7 +21,9 @@ shared-slice-read-if1 : tie.Need-shared-slice-read-if1 Inv-loop μ-loop
 shared-slice-read-if1 c = search needs
 
 returns : tie.Need-returns Inv-loop μ-loop
-returns c = record { begins = search needs; within = search needs; inside = λ k h l. c .before .before .before .loop .inv .1 .1 k l h; newline = λ _. c .if1 .taken }
+returns c =
+    let loop = c .before .before .before .loop in
+    record { begins = search needs; within = search needs; inside = λ k h l. loop .inv .1 .1 k l h; newline = λ _. c .if1 .taken }
 
 add-i : tie.Need-add-i Inv-loop μ-loop
 add-i c = search needs

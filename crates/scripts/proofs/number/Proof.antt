@@ -49,16 +49,20 @@ loop-less : tie.Need-loop-less Inv-loop μ-loop
 loop-less c = search needs
 
 loop-again : tie.Need-loop-again Inv-loop μ-loop
-loop-again c = (
-  search needs,
-  (
-    space-more (c .before .before .before .before .before .before .args .line .now) (c .before .before .before .before .loop .i) (c .before .before .before .before .loop .inv .1 .0) (c .before .spaces-with .ensures),
-    number-more (c .before .before .before .before .before .before .args .k) (c .before .before .before .before .before .before .args .line .now) (c .before .before .before .before .loop .i) (c .before .before .before .before .loop .inv .1 .0) (c .before .before .before .before .loop .inv .1 .1) (c .before .spaces-with .ensures) (c .if-word .ensures),
-  ),
-)
+loop-again c =
+    let args = c .before .before .before .before .before .before .args in
+    let loop = c .before .before .before .before .loop in (
+      search needs,
+      (
+        space-more (args .line .now) (loop .i) (loop .inv .1 .0) (c .before .spaces-with .ensures),
+        number-more (args .k) (args .line .now) (loop .i) (loop .inv .1 .0) (loop .inv .1 .1) (c .before .spaces-with .ensures) (c .if-word .ensures),
+      ),
+    )
 
 returns : tie.Need-returns Inv-loop μ-loop
-returns c = let e : c .before .loop .i ≡ length (c .before .before .before .args .line .now) = omega arith in rw (← e) (c .before .loop .inv .1 .1)
+returns c =
+    let args = c .before .before .before .args in
+    let e : c .before .loop .i ≡ length (args .line .now) = omega arith in rw (← e) (c .before .loop .inv .1 .1)
 
 pub number-spec : {M : Type 1} → statement M
 number-spec =

@@ -78,12 +78,15 @@ same-length c = search needs
 
 returns-3 : tie.Need-returns-3 Inv-loop μ-loop
 returns-3 c =
+    let if1 = c .before .before .before .before .if1 in
+    let if2 = c .before .before .before .if2 in
     record {
-      ends = rw (le-ltb _ _ (c .before .before .before .before .if1 .left), le-ltb _ _ (c .before .before .before .if2 .left));
+      ends = rw (le-ltb _ _ (if1 .left), le-ltb _ _ (if2 .left));
       written = λ k h. c .before .loop .inv .1 .1 .1 .0 k (omega arith) ∙ ap (λ (x : List ℕ). getD x k 0) (c .before .before .bytes .ensures);
       others = λ k h. c .before .loop .inv .1 .1 .1 .1 k (λ a b. h a (omega arith));
     }
 
 pub put-spec : {M : Type 1} → statement M
 put-spec =
-    tie.close (tie.spec Inv-loop μ-loop returns add-end returns-2 bytes-requires loop-holds array-read-to add-to slice-write-to add-i loop-less loop-again same-length returns-3)
+    tie.close (tie.spec Inv-loop μ-loop returns add-end returns-2 bytes-requires loop-holds array-read-to add-to slice-write-to add-i loop-less loop-again
+    same-length returns-3)

@@ -45,11 +45,17 @@ number-requires-6 : tie.Need-number-requires-6
 number-requires-6 c κs = search needs
 
 returns : tie.Need-returns
-returns c = λ x.
+returns c =
+    let number = c .before .before .before .before .before .before .before .number in
+    let low = c .before .before .before .before .before .before .low in
+    let number2 = c .before .before .before .before .before .number2 in
+    let low2 = c .before .before .before .before .low2 in
+    let number3 = c .before .before .before .number3 in
+    λ x.
     record {
-      kind = (c .before .before .before .before .before .before .low .ensures ∙ ap (λ (y : ℕ). y % 256) (c .before .before .before .before .before .before .before .number .ensures)) x;
-      n = (c .before .before .before .before .low2 .ensures ∙ ap (λ (y : ℕ). y % 256) (c .before .before .before .before .before .number2 .ensures)) x;
-      a = c .before .before .before .number3 .ensures x;
+      kind = (low .ensures ∙ ap (λ (y : ℕ). y % 256) (number .ensures)) x;
+      n = (low2 .ensures ∙ ap (λ (y : ℕ). y % 256) (number2 .ensures)) x;
+      a = number3 .ensures x;
       b = c .before .before .number4 .ensures x;
       c = c .before .number5 .ensures x;
       m = c .number6 .ensures x;

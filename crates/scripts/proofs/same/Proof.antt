@@ -45,10 +45,14 @@ loop-less : tie.Need-loop-less Inv-loop μ-loop
 loop-less c = search needs
 
 loop-again : tie.Need-loop-again Inv-loop μ-loop
-loop-again c = (search needs, below-more _ (c .before .before .before .before .loop .i) (c .before .before .before .before .loop .inv .1) (c .if2 .left))
+loop-again c =
+    let loop = c .before .before .before .before .loop in
+    (search needs, below-more _ (loop .i) (loop .inv .1) (c .if2 .left))
 
 returns-3 : tie.Need-returns-3 Inv-loop μ-loop
-returns-3 c = (λ _. ext-getD 0 (c .before .before .before .args .x .now) (c .before .before .before .args .y .now) (c .before .before .if1 .left) (λ k l. c .before .loop .inv .1 k (omega arith)), λ _. refl)
+returns-3 c =
+    let args = c .before .before .before .args in
+    (λ _. ext-getD 0 (args .x .now) (args .y .now) (c .before .before .if1 .left) (λ k l. c .before .loop .inv .1 k (omega arith)), λ _. refl)
 
 pub same-spec : {M : Type 1} → statement M
 same-spec =

@@ -34,7 +34,9 @@ loop-less : tie.Need-loop-less Inv-loop μ-loop
 loop-less c = search needs
 
 loop-again : tie.Need-loop-again Inv-loop μ-loop
-loop-again c = (search needs, c .union .ensures ∙ ap₂ union (c .before .before .before .loop .inv .1) (c .before .active-in .ensures) ∙ sym (union-more _ _))
+loop-again c =
+    let loop = c .before .before .before .loop in
+    (search needs, c .union .ensures ∙ ap₂ union (loop .inv .1) (c .before .active-in .ensures) ∙ sym (union-more _ _))
 
 returns : tie.Need-returns Inv-loop μ-loop
 unfolding activeOf ofSubjects

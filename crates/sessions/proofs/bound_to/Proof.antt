@@ -24,7 +24,9 @@ shared-slice-read-t10 : tie.Need-shared-slice-read-t10
 shared-slice-read-t10 c = search needs
 
 returns : tie.Need-returns
-returns c = sym (bound-at (c .before .before .args .s .now) (c .before .before .args .u) (c .before .before .pre .1))
+returns c =
+    let args = c .before .before .args in
+    sym (bound-at (args .s .now) (args .u) (c .before .before .pre .1))
 
 pub bound-to-spec : {M : Type 1} → statement M
 bound-to-spec =

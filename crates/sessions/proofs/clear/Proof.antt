@@ -32,13 +32,15 @@ loop-less : tie.Need-loop-less Inv-loop μ-loop
 loop-less c = search needs
 
 loop-again : tie.Need-loop-again Inv-loop μ-loop
-loop-again c = (search needs, (search needs, rw (c .before .loop .inv .1 .1) (fill-more (c .before .loop .i) 0 (c .before .before .args .s .now) (omega arith))))
+loop-again c =
+    (search needs, (search needs, rw (c .before .loop .inv .1 .1) (fill-more (c .before .loop .i) 0 (c .before .before .args .s .now) (omega arith))))
 
 same-length : tie.Need-same-length Inv-loop μ-loop
 same-length c = search needs
 
 returns : tie.Need-returns Inv-loop μ-loop
-returns c = filled (c .before .loop .s) (c .before .before .args .s .now) (c .before .loop .i) (omega arith) (c .before .loop .inv .1 .0) (c .before .loop .inv .1 .1)
+returns c =
+    filled (c .before .loop .s) (c .before .before .args .s .now) (c .before .loop .i) (omega arith) (c .before .loop .inv .1 .0) (c .before .loop .inv .1 .1)
 
 pub clear-spec : {M : Type 1} → statement M
 clear-spec =

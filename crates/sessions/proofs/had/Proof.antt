@@ -21,7 +21,10 @@ union-requires : tie.Need-union-requires
 union-requires c κs = search needs
 
 returns : tie.Need-returns
-returns c = c .union .ensures ∙ rw (c .before .active .ensures, active-at (c .before .before .before .before .args .s .now) (c .before .before .before .before .args .a) (c .before .before .before .before .pre .1)) (sym (had-at (c .before .before .before .before .args .s .now) (c .before .before .before .before .args .a) (c .before .before .before .before .pre .1)))
+returns c =
+    let args = c .before .before .before .before .args in
+    let pre = c .before .before .before .before .pre in
+    c .union .ensures ∙ rw (c .before .active .ensures, active-at (args .s .now) (args .a) (pre .1)) (sym (had-at (args .s .now) (args .a) (pre .1)))
 
 pub had-spec : {M : Type 1} → statement M
 had-spec =

@@ -54,7 +54,16 @@ loop-less : tie.Need-loop-less Inv-loop μ-loop
 loop-less c = search needs
 
 loop-again : tie.Need-loop-again Inv-loop μ-loop
-loop-again c = (search needs, (rw (c .one-more .ensures) (more-le (c .before .quarter-of .result) (c .before .before .before .loop .hits) (c .before .before .before .loop .a) (c .before .before .before .loop .inv .1 .0)), hit-more (subjectOf (sessionsOf (c .before .before .before .before .before .args .s .now)) (c .before .before .before .before .before .args .u)) (c .before .before .before .loop .a) (c .before .before .before .loop .hits) (c .one-more .result) (c .before .quarter-of .result) (c .before .quarter-of .ensures) (c .one-more .ensures) (c .before .before .before .loop .inv .1 .1)))
+loop-again c =
+    let args = c .before .before .before .before .before .args in
+    let loop = c .before .before .before .loop in (
+      search needs,
+      (
+        rw (c .one-more .ensures) (more-le (c .before .quarter-of .result) (loop .hits) (loop .a) (loop .inv .1 .0)),
+        hit-more (subjectOf (sessionsOf (args .s .now)) (args .u)) (loop .a) (loop .hits) (c .one-more .result) (c .before .quarter-of .result)
+            (c .before .quarter-of .ensures) (c .one-more .ensures) (loop .inv .1 .1),
+      ),
+    )
 
 returns : tie.Need-returns Inv-loop μ-loop
 returns c = let e : 128 ≡ c .before .loop .a = omega arith in rw e (c .before .loop .inv .1 .1)

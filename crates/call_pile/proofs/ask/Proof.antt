@@ -1,0 +1,55 @@
+-- Written from Proof.tmpl by 'prove expand': edit that file.
+-- By either function it is a request.
+use mathlib.Core.Path.{refl}
+use borrow.Author.Needs.{needs}
+use Rattle.call_pile.proofs.ask.Statement.{statement}
+use Rattle.call_pile.proofs.ask.Tie as tie
+
+settled-request-requires : tie.Need-settled-request-requires
+settled-request-requires c κs = search needs
+
+same-length : tie.Need-same-length
+same-length c = search needs
+
+same-length-2 : tie.Need-same-length-2
+same-length-2 c = search needs
+
+same-length-3 : tie.Need-same-length-3
+same-length-3 c = search needs
+
+returns : tie.Need-returns
+returns c =
+    let pre = c .before .before .before .before .before .before .before .before .before .before .before .before .before .before .before .pre in
+    let if1 = c .before .before .before .before .before .before .before .before .before .before .if1 in
+    let settled-request = c .before .before .before .before .before .before .settled-request in
+    settled-request .ensures .sound (pre (if1 .taken)) .0
+
+request-requires : tie.Need-request-requires
+request-requires c κs = search needs
+
+same-length-4 : tie.Need-same-length-4
+same-length-4 c = search needs
+
+same-length-5 : tie.Need-same-length-5
+same-length-5 c = search needs
+
+same-length-6 : tie.Need-same-length-6
+same-length-6 c = search needs
+
+returns-2 : tie.Need-returns-2
+returns-2 c = c .before .before .before .before .before .before .request .ensures
+
+pub ask-spec : {M : Type 1} → statement M
+ask-spec =
+    tie.close
+    (tie.spec
+    settled-request-requires
+    same-length
+    same-length-2
+    same-length-3
+    returns
+    request-requires
+    same-length-4
+    same-length-5
+    same-length-6
+    returns-2)

@@ -1,0 +1,301 @@
+// The ledger: the instances and the entries of all of them, over the linked words of the orders buffer (links).
+// Each function equals what paper_upper defines over the tables that a sound buffer reads as (specs/Reading). None asks for sound links: of any content of the right
+// length each ends and keeps to the buffer, and that promise is made under the condition that the links are sound.
+ghost use mathlib.Core.Path.{_≡_};
+ghost use Prim.Native.Nat.{_+_, _/_, _%_, _<_, _≤_};
+ghost use lib.ListN.{length};
+ghost use mathlib.Core.Bool.{true, false, cond, _&&_};
+ghost use lib.Dec.{eqb};
+ghost use Rattle.paper_lower.specs.Sets.{plus};
+ghost use Rattle.paper_lower.specs.Lists.{there, some, many};
+ghost use Rattle.paper_lower.specs.Lists.Maybe.{just};
+ghost use Rattle.paper_upper.specs.Orders.{isHeld, isHeldBy, inOrder, heldBy};
+ghost use Rattle.paper_upper.specs.Questions.{figuresOf};
+ghost use Rattle.order_links.specs.Chains.{ordersWords, markOf, soundOf};
+ghost use Rattle.order_entries.specs.Reading.{Cleared, ordersOf, withInstance, openedOf, inOpenOrder, keyOf, fits, anyIn, anyUpTo};
+ghost use Rattle.order_entries.specs.Acts.{InLimits, afterEnter, afterRelease, afterFinish, afterEnd, Acts, Enters, Tried};
+ghost use Rattle.order_entries.specs.Gathering.{gatheredOf, takenIn, kept};
+use order_links::FREE;
+use order_links::ORDERS_WORDS;
+use sets::Set;
+use sets::set_of;
+
+// What of an entry's word a test looks at: its instance, and whether it is held; and its task and subject. Where all words are asked: whether it is held,
+// its subject, and whether it is free; or its user, and whether it is free.
+const ORDER_HELD: u64 = 127;
+
+const HELD_BY: u64 = 1048575;
+
+const HOLDER: u32 = 1074782272;
+
+const USER: u32 = 2146435072;
+
+pub struct Instance {
+    pub open: bool,
+    pub template: u64,
+}
+
+pub fn opened(o: &[u64], i: u64) -> Instance
+    requires { ⌜ (length (now o) ≡ ordersWords) × (i < 64) ⌝ }
+    ensures { λ r. ⌜ (openedOf r ≡ ordersOf (now (o .entry)) .opened i) × (r .template < 16) ⌝ }
+{
+    let open = order_links::is_open(o, i);
+    let template = order_links::template(o, i);
+    Instance { open, template }
+}
+
+pub fn set_opened(o: &mut [u64], i: u64, j: u64)
+    requires { ⌜ (length (now o) ≡ ordersWords) × ((i < 64) × (j < 16)) ⌝ }
+    ensures { λ _. ⌜ (length (now (o .exit)) ≡ length (now (o .entry))) × (soundOf (now (o .entry)) ≡ true → there (ordersOf (now (o .entry)) .opened i) ≡ false → Acts (withInstance (ordersOf (now (o .entry))) i (just j)) (now (o .exit))) ⌝ }
+{
+    order_links::open_chain(o, i, j);
+}
+
+// How many entries there are.
+pub fn in_use(o: &[u64]) -> usize
+    requires { ⌜ length (now o) ≡ ordersWords ⌝ }
+    ensures { λ r. ⌜ (soundOf (now (o .entry)) ≡ true → r ≡ many (ordersOf (now (o .entry)) .entries)) ⌝ }
+{
+    let free = order_links::chain(o, FREE);
+    let m = order_links::mark(o);
+    ((m + 4096 - free / 4096 % 4096) % 4096) as usize
+}
+
+// ---- What a claim asks.
+
+// The tasks of one instance with an entry of the user, with a done entry, with an entry of another user; the entries of one task, and 1 where one of
+// them is held: the padding of a bool would go through memory at each turn.
+pub struct Gathered {
+    pub mine: Set,
+    pub done: Set,
+    pub others: Set,
+    pub times: u64,
+    pub held: u64,
+}
+
+fn pick(c: bool, a: u64, b: u64) -> u64
+    ensures { λ r. ⌜ r ≡ cond c a b ⌝ }
+{
+    if c { a } else { b }
+}
+
+fn more_if(c: bool, n: u64) -> u64
+    requires { ⌜ n < 4096 ⌝ }
+    ensures { λ r. ⌜ r ≡ cond c (n + 1) n ⌝ }
+{
+    if c { n + 1 } else { n }
+}
+
+fn with_if(c: bool, tasks: Set, t: u64) -> Set
+    requires { ⌜ t < 64 ⌝ }
+    ensures { λ r. ⌜ r .bits ≡ cond c (plus (tasks .bits) t) (tasks .bits) ⌝ }
+{
+    let more = tasks.with(t);
+    Set {
+        bits: pick(c, more.bits, tasks.bits),
+    }
+}
+
+// One entry more of the instance, without a branch. The done tasks are the kept ones.
+fn take_in(g: Gathered, w: u64, u: u64, t: u64) -> Gathered
+    requires { ⌜ g .times < 4096 ⌝ }
+    ensures { λ r. ⌜ r ≡ takenIn u t (w / 1048576 % 1024) (w / 128 % 64) (eqb (w / 64 % 2) 1) g ⌝ }
+{
+    let task = w / 128 % 64;
+    let own = w / 1048576 % 1024 == u;
+    let this = task == t;
+    let finished = w / 64 % 2 == 1;
+    let mine = with_if(own, g.mine, task);
+    let done = g.done;
+    let others = with_if(!own, g.others, task);
+    let times = more_if(this, g.times);
+    let held = pick(this & !finished, 1, g.held);
+    Gathered {
+        mine,
+        done,
+        others,
+        times,
+        held,
+    }
+}
+
+// What a claim of task t by user u in instance i asks of the entries: a walk over those of the instance, and its kept set of done tasks.
+pub fn gather(o: &[u64], i: u64, u: u64, t: u64) -> Gathered
+    requires { ⌜ (length (now o) ≡ ordersWords) × (i < 64) ⌝ }
+    ensures { λ r. ⌜ (soundOf (now (o .entry)) ≡ true → r ≡ gatheredOf i u t (ordersOf (now (o .entry)) .entries)) ⌝ }
+{
+    let x = order_links::chain(o, i);
+    let done = order_links::done(o, i);
+    let mut h = x % 4096;
+    let mut n = x / 4096 % 4096;
+    let mut g = Gathered {
+        mine: Set::EMPTY,
+        done: set_of(done),
+        others: Set::EMPTY,
+        times: 0,
+        held: 0,
+    };
+    while 0 < n {
+        let w = order_links::linked(o, h);
+        g = take_in(g, w, u, t);
+        h = w / 4294967296 % 4096;
+        n -= 1;
+    }
+    g
+}
+
+// ---- A search through the entries.
+
+// Whether the word of some entry of instance i, cut by the mask, is the key.
+fn any_in(o: &[u64], i: u64, mask: u64, key: u64) -> bool
+    requires { ⌜ (length (now o) ≡ ordersWords) × (i < 64) ⌝ }
+    ensures { λ r. ⌜ (soundOf (now (o .entry)) ≡ true → r ≡ anyIn (now (o .entry)) i mask key) ⌝ }
+{
+    let x = order_links::chain(o, i);
+    let mut h = x % 4096;
+    let mut n = x / 4096 % 4096;
+    let mut found = false;
+    while 0 < n {
+        let w = order_links::linked(o, h);
+        found = (w & mask == key) | found;
+        h = w / 4294967296 % 4096;
+        n -= 1;
+    }
+    found
+}
+
+// The same of a word's lower half, as four of these are compared at once; and hits are counted, as a count keeps their width.
+fn half_fits(w: u64, mask: u32, key: u32) -> bool
+    ensures { λ r. ⌜ r ≡ fits mask key w ⌝ }
+{
+    let half = (w % 4294967296) as u32;
+    half & mask == key
+}
+
+fn one_more(hit: bool, n: u32) -> u32
+    requires { ⌜ n < 4096 ⌝ }
+    ensures { λ r. ⌜ r ≡ cond hit (n + 1) n ⌝ }
+{
+    if hit { n + 1 } else { n }
+}
+
+// Whether that of some entry up to the mark is: side by side, without a look at the links.
+fn any(o: &[u64], mask: u32, key: u32) -> bool
+    requires { ⌜ length (now o) ≡ ordersWords ⌝ }
+    ensures { λ r. ⌜ (soundOf (now (o .entry)) ≡ true → r ≡ anyUpTo (now (o .entry)) (markOf (now (o .entry))) mask key) ⌝ }
+{
+    let m = order_links::mark(o);
+    let mut k = 0;
+    let mut hits: u32 = 0;
+    while k < m {
+        let w = order_links::word(o, k + 1);
+        let hit = half_fits(w, mask, key);
+        hits = one_more(hit, hits);
+        k += 1;
+    }
+    0 < hits
+}
+
+// The part of an entry's word below its user: task t of instance i, held by subject a.
+fn key_of(i: u64, t: u64, a: u64) -> u64
+    requires { ⌜ InLimits i t a ⌝ }
+    ensures { λ r. ⌜ r ≡ keyOf i t a ⌝ }
+{
+    i + 128 * t + 8192 * a
+}
+
+pub fn holds_task(o: &[u64], i: u64, t: u64, a: u64) -> bool
+    requires { ⌜ (length (now o) ≡ ordersWords) × InLimits i t a ⌝ }
+    ensures { λ r. ⌜ (soundOf (now (o .entry)) ≡ true → r ≡ some (heldBy i t a) (ordersOf (now (o .entry)) .entries)) ⌝ }
+{
+    let key = key_of(i, t, a);
+    any_in(o, i, HELD_BY, key)
+}
+
+pub fn order_held(o: &[u64], i: u64) -> bool
+    requires { ⌜ (length (now o) ≡ ordersWords) × (i < 64) ⌝ }
+    ensures { λ r. ⌜ (soundOf (now (o .entry)) ≡ true → r ≡ some (λ e. inOrder i e && isHeld (e .standing)) (ordersOf (now (o .entry)) .entries)) ⌝ }
+{
+    any_in(o, i, ORDER_HELD, i)
+}
+
+// Whether the subject holds any task, of whatever instance.
+pub fn holds_any(o: &[u64], a: u64) -> bool
+    requires { ⌜ (length (now o) ≡ ordersWords) × (a < 128) ⌝ }
+    ensures { λ r. ⌜ (soundOf (now (o .entry)) ≡ true → r ≡ some (λ e. isHeldBy a (e .standing)) (ordersOf (now (o .entry)) .entries)) ⌝ }
+{
+    any(o, HOLDER, (8192 * a) as u32)
+}
+
+// Whether the user has an entry in an open instance: no other has any.
+pub fn in_open_order(o: &[u64], u: u64) -> bool
+    requires { ⌜ (length (now o) ≡ ordersWords) × (u < 1024) ⌝ }
+    ensures { λ r. ⌜ (soundOf (now (o .entry)) ≡ true → r ≡ some (inOpenOrder (ordersOf (now (o .entry))) u) (ordersOf (now (o .entry)) .entries)) ⌝ }
+{
+    any(o, USER, (1048576 * u) as u32)
+}
+
+// ---- Kept figures.
+
+pub struct Figures {
+    pub entries: u64,
+    pub done: Set,
+}
+
+// How many entries instance i has, and which of its tasks are done.
+pub fn figures_of(o: &[u64], i: u64) -> Figures
+    requires { ⌜ (length (now o) ≡ ordersWords) × (i < 64) ⌝ }
+    ensures { λ r. ⌜ (soundOf (now (o .entry)) ≡ true → r ≡ kept (figuresOf i (ordersOf (now (o .entry)) .entries))) ⌝ }
+{
+    let x = order_links::chain(o, i);
+    let d = order_links::done(o, i);
+    Figures {
+        entries: x / 4096 % 4096,
+        done: set_of(d),
+    }
+}
+
+// ---- Acts.
+
+// Subject a, of user u, takes task t of instance i.
+pub fn enter(o: &mut [u64], i: u64, u: u64, t: u64, a: u64)
+    requires { ⌜ (length (now o) ≡ ordersWords) × ((u < 1024) × InLimits i t a) ⌝ }
+    ensures { λ _. ⌜ (length (now (o .exit)) ≡ length (now (o .entry))) × (soundOf (now (o .entry)) ≡ true → there (ordersOf (now (o .entry)) .opened i) ≡ true → many (ordersOf (now (o .entry)) .entries) < 2048 → Enters (afterEnter (ordersOf (now (o .entry))) i u t a) (now (o .exit))) ⌝ }
+{
+    order_links::enter(o, i, u, t, a);
+}
+
+// Subject a gives it back; answers whether it held it.
+pub fn release(o: &mut [u64], i: u64, t: u64, a: u64) -> bool
+    requires { ⌜ (length (now o) ≡ ordersWords) × InLimits i t a ⌝ }
+    ensures { λ r. ⌜ Tried i (some (heldBy i t a) (ordersOf (now (o .entry)) .entries)) (afterRelease (ordersOf (now (o .entry))) i t a) (now (o .entry)) (now (o .exit)) r ⌝ }
+{
+    order_links::release(o, i, t, a)
+}
+
+// It is done; answers whether subject a held it.
+pub fn finish(o: &mut [u64], i: u64, t: u64, a: u64) -> bool
+    requires { ⌜ (length (now o) ≡ ordersWords) × InLimits i t a ⌝ }
+    ensures { λ r. ⌜ Tried i (some (heldBy i t a) (ordersOf (now (o .entry)) .entries)) (afterFinish (ordersOf (now (o .entry))) i t a) (now (o .entry)) (now (o .exit)) r ⌝ }
+{
+    order_links::finish(o, i, t, a)
+}
+
+// The instance is closed, and its entries go.
+pub fn end_order(o: &mut [u64], i: u64)
+    requires { ⌜ (length (now o) ≡ ordersWords) × (i < 64) ⌝ }
+    ensures { λ _. ⌜ (length (now (o .exit)) ≡ length (now (o .entry))) × (soundOf (now (o .entry)) ≡ true → Acts (afterEnd (ordersOf (now (o .entry))) i) (now (o .exit))) ⌝ }
+{
+    order_links::close_chain(o, i);
+}
+
+pub fn clear(o: &mut [u64])
+    requires { ⌜ length (now o) ≡ ordersWords ⌝ }
+    ensures { λ _. ⌜ Cleared (now (o .exit)) ⌝ }
+{
+    let mut k = 0;
+    while k < ORDERS_WORDS {
+        o[k] = 0;
+        k += 1;
+    }
+}

@@ -1,0 +1,63 @@
+-- A search over the kept rows.
+use mathlib.Core.Path.{_≡_, sym, _∙_}
+use Prim.Native.Nat.{_-_, _≤_}
+use borrow.Author.Needs.{needs}
+use Rattle.paper_lower.specs.Lists.{some}
+use Rattle.paper_lower.specs.Policy.{samePair}
+use Rattle.policy.specs.Layout.{pairAt}
+use Rattle.policy.specs.Reading.{policyOf, pairsOf}
+use Rattle.policy.proofs.RuleLaws.{pairs-are}
+use Rattle.replies.specs.Cells.{rowsFrom}
+use Rattle.replies.proofs.SearchLaws.{some-start, some-here, some-later, some-end}
+use Rattle.policy_lookups.proofs.pair_repeated.Statement.{statement}
+use Rattle.policy_lookups.proofs.pair_repeated.Tie as tie
+
+abbrev Inv-loop : tie.InvT-loop
+Inv-loop p which a b count k₀ k =
+    (k ≤ count) × (some (samePair a b) (pairsOf (policyOf p .rules) which) ≡ some (samePair a b) (rowsFrom (pairAt which p) k (count - k)))
+
+abbrev μ-loop : tie.MeasureT-loop
+μ-loop p which a b count k₀ k = count - k
+
+pair-count-requires : tie.Need-pair-count-requires Inv-loop μ-loop
+pair-count-requires c κs = search needs
+
+loop-holds : tie.Need-loop-holds Inv-loop μ-loop
+loop-holds c = (search needs, some-start _ (pairs-are _ _ (c .before .before .pre .1)) (c .pair-count .ensures .0) _)
+
+pair-is-requires : tie.Need-pair-is-requires Inv-loop μ-loop
+pair-is-requires c κs = search needs
+
+returns : tie.Need-returns Inv-loop μ-loop
+returns c =
+    let loop = c .before .before .before .loop in
+    sym (loop .inv .1 ∙ some-here _ _ _ _ (search needs) (sym (c .before .pair-is .ensures) ∙ c .if1 .taken))
+
+add-k : tie.Need-add-k Inv-loop μ-loop
+add-k c = search needs
+
+loop-less : tie.Need-loop-less Inv-loop μ-loop
+loop-less c = search needs
+
+loop-again : tie.Need-loop-again Inv-loop μ-loop
+loop-again c =
+    let loop = c .before .before .before .loop in
+    (search needs, loop .inv .1 ∙ some-later _ _ _ _ (search needs) (sym (c .before .pair-is .ensures) ∙ c .if1 .left))
+
+returns-2 : tie.Need-returns-2 Inv-loop μ-loop
+returns-2 c = sym (c .before .loop .inv .1 ∙ some-end _ _ _ _ (search needs))
+
+pub pair-repeated-spec : {M : Type 1} → statement M
+pair-repeated-spec =
+    tie.close
+    (tie.spec
+    Inv-loop
+    μ-loop
+    pair-count-requires
+    loop-holds
+    pair-is-requires
+    returns
+    add-k
+    loop-less
+    loop-again
+    returns-2)
