@@ -2,6 +2,7 @@
 //! wrong with a text is told in the plain one's words.
 
 use crate::names::{Names, Sort};
+pub use opl::{Remedy, Unsaid, Way, Written};
 
 /// Records, and the dealer's names.
 #[derive(Clone, Debug)]
@@ -10,6 +11,21 @@ pub struct Dealt {
     pub records: Vec<u8>,
     /// The dealer's names by number.
     pub names: Names,
+    /// Where each record stands; empty where that is not known.
+    pub spots: Vec<Spot>,
+    /// What is to be warned of in the policy text: where, and what.
+    pub warnings: Vec<(Spot, String)>,
+}
+
+/// A place in one of the two texts, from 1.
+#[derive(Clone, Copy, PartialEq, Eq, Debug)]
+pub struct Spot {
+    /// Whether it is in the task lines.
+    pub of_tasks: bool,
+    /// The line.
+    pub line: usize,
+    /// The column: a character is one, of however many bytes.
+    pub column: usize,
 }
 
 /// A refusal: of the task lines or of the policy, and what to say.
@@ -43,32 +59,115 @@ pub const READER: &str = if cfg!(mishantral_opl) {
     "plain"
 };
 
-/// What both texts say.
-#[cfg(not(mishantral_opl))]
+/// What both texts say, and where.
 pub fn read(xml: &[u8], tasks: &[u8]) -> Result<Dealt, Fault> {
+    let (records, names) = said(xml, tasks)?;
+    let spots = spots(xml, tasks, &records);
+    let warnings = warnings(xml);
+    Ok(Dealt {
+        records,
+        names,
+        spots,
+        warnings,
+    })
+}
+
+#[cfg(not(mishantral_opl))]
+fn said(xml: &[u8], tasks: &[u8]) -> Result<(Vec<u8>, Names), Fault> {
     let policy = opl::read(xml, tasks).map_err(|why| plain(&why, xml, tasks))?;
     let mut names = Names::default();
     for space in opl::Space::ALL {
-        named(
-            &mut names,
-            space.name(),
-            policy.names(space).iter().copied(),
-        );
+        let all = policy.names(space).iter().copied();
+        named(&mut names, space.name(), all);
     }
-    let records = policy.records();
-    Ok(Dealt { records, names })
+    Ok((policy.records(), names))
 }
 
-/// What both texts say.
 #[cfg(mishantral_opl)]
-pub fn read(xml: &[u8], tasks: &[u8]) -> Result<Dealt, Fault> {
+fn said(xml: &[u8], tasks: &[u8]) -> Result<(Vec<u8>, Names), Fault> {
     let policy = mishantral::Policy::from_opl(xml, tasks).map_err(|why| proved(why, xml, tasks))?;
     let mut names = Names::default();
     for space in mishantral::Space::ALL {
         named(&mut names, space.word(), policy.names(space));
     }
-    let records = policy.bytes().to_vec();
-    Ok(Dealt { records, names })
+    Ok((policy.bytes().to_vec(), names))
+}
+
+/// The lines of a text, of which many places are asked.
+struct Lines<'t> {
+    text: &'t [u8],
+    starts: Vec<usize>,
+}
+
+impl<'t> Lines<'t> {
+    fn of(text: &'t [u8]) -> Lines<'t> {
+        let ends = text.iter().enumerate().filter(|(_, &byte)| byte == b'\n');
+        let starts = [0].into_iter().chain(ends.map(|(at, _)| at + 1));
+        Lines {
+            text,
+            starts: starts.collect(),
+        }
+    }
+
+    fn spot(&self, place: usize, of_tasks: bool) -> Spot {
+        let before = place.saturating_sub(1).min(self.text.len());
+        let line = self.starts.partition_point(|&start| start <= before);
+        let start = line.checked_sub(1).map_or(0, |at| self.starts[at]);
+        // A byte order mark is no character of the first line.
+        let mark = usize::from(start == 0 && self.text.starts_with(b"\xef\xbb\xbf") && before > 0);
+        let begins = |byte: &&u8| !(0x80..0xc0).contains(*byte);
+        let column = 1 + self.text[start..before].iter().filter(begins).count() - mark;
+        Spot {
+            of_tasks,
+            line,
+            column,
+        }
+    }
+}
+
+/// Where the records stand. The plain walk tells it, as many places as there are records; else nothing is told.
+fn spots(xml: &[u8], tasks: &[u8], records: &[u8]) -> Vec<Spot> {
+    let origins = opl::origins(xml, tasks);
+    if origins.len() * opl::RECORD != records.len() {
+        return Vec::new();
+    }
+    let (xml, tasks) = (Lines::of(xml), Lines::of(tasks));
+    let spot = |origin: &opl::Origin| match origin.text {
+        opl::Text::Policy => xml.spot(origin.place, false),
+        opl::Text::Tasks => tasks.spot(origin.place, true),
+    };
+    origins.iter().map(spot).collect()
+}
+
+/// What an accepted policy text has that is hardly meant.
+fn warnings(xml: &[u8]) -> Vec<(Spot, String)> {
+    let lines = Lines::of(xml);
+    let mut all: Vec<(Spot, String)> = Vec::new();
+    if let Err(why) = std::str::from_utf8(xml) {
+        let at = why.valid_up_to();
+        let says = match opl::has_encoding(xml) {
+            true => "the text says that it is UTF-8",
+            false => "a text that tells no encoding is UTF-8",
+        };
+        let byte = xml[at];
+        let text = format!(
+            "{says}, and the byte 0x{byte:02x} here is not; names are compared byte by byte"
+        );
+        all.push((lines.spot(at + 1, false), text));
+    }
+    for module in opl::missing_modules(xml) {
+        let name = String::from_utf8_lossy(module.name)
+            .escape_debug()
+            .to_string();
+        let text = match module.known {
+            true => format!(
+                "{name} is said to be active, and the text has no such module: it sets no rule"
+            ),
+            false => format!("{name} is said to be active, and OPL/XML has no module of this name"),
+        };
+        all.push((lines.spot(module.place, false), text));
+    }
+    all
 }
 
 /// The proved reader's refusal, in the plain one's words where that refuses at the same place.
@@ -94,5 +193,23 @@ fn proved(why: mishantral::opl::NotRead, xml: &[u8], tasks: &[u8]) -> Fault {
             of_tasks,
             message: why.to_string(),
         },
+    }
+}
+
+/// The way back: records and their names as OPL/XML and task lines. What is written has been read again, to the same records.
+pub fn write(records: &[u8], names: &Names, way: Way) -> Result<Written, Vec<Unsaid>> {
+    let name = |space: opl::Space, number: u16| {
+        let sort = Sort::of_word(space.name())?;
+        names.name(sort, number).map(<[u8]>::to_vec)
+    };
+    let written = opl::write(records, &name, way)?;
+    match said(&written.policy, &written.tasks) {
+        Ok((back, _)) if back == written.records => Ok(written),
+        _ => Err(vec![Unsaid {
+            record: None,
+            why: "what was written is read back otherwise, which is a fault of this program"
+                .to_string(),
+            remedy: None,
+        }]),
     }
 }

@@ -1,13 +1,14 @@
 //! Policies and requests as files: records, text in the notation, or a dealer's OPL/XML with its task lines. What is wrong with a file
 //! is told in lines that begin with its name.
 
-use crate::dealer;
+use crate::dealer::{self, Spot};
 use crate::is_text;
 use crate::names::{Names, Sort};
 use crate::reader::{self, Error, Line};
 use crate::writer;
 use records::{Record, Reply, LENGTH};
 use std::io::Read;
+use std::sync::Arc;
 
 /// What is wrong, a line each.
 pub type Wrongs = Vec<String>;
@@ -56,7 +57,7 @@ impl Format {
 }
 
 /// A policy's records, where each comes from, and the names that it gives.
-#[derive(Clone, Debug)]
+#[derive(Clone, Default, Debug)]
 pub struct Policy {
     /// The file as the user names it.
     pub file: String,
@@ -66,6 +67,19 @@ pub struct Policy {
     pub lines: Vec<usize>,
     /// The names that it gives.
     pub names: Names,
+    /// Of a dealer's OPL/XML: where its records come from.
+    pub dealt: Option<Arc<Dealt>>,
+}
+
+/// Where the records of a dealer's OPL/XML come from, and what is to be warned of.
+#[derive(Clone, Debug)]
+pub struct Dealt {
+    /// The file of the task lines.
+    tasks: String,
+    /// Where each record stands.
+    spots: Vec<Spot>,
+    /// Lines that begin with the file's name and the place.
+    warnings: Vec<String>,
 }
 
 impl Policy {
@@ -77,30 +91,70 @@ impl Policy {
 
     /// Whether it is a dealer's OPL/XML: it has names, and no lines that its records stand in.
     pub fn is_dealt(&self) -> bool {
-        self.lines.is_empty() && Sort::ALL.into_iter().any(|sort| self.names.has_any(sort))
+        let named = || Sort::ALL.into_iter().any(|sort| self.names.has_any(sort));
+        self.dealt.is_some() || self.lines.is_empty() && named()
+    }
+
+    fn spot(&self, before: usize) -> Option<Spot> {
+        self.dealt.as_ref()?.spots.get(before).copied()
+    }
+
+    /// The file that a record stands in, counted from 0: that of the task lines for a task of OPL/XML, else the policy.
+    pub fn file_of(&self, before: usize) -> &str {
+        match (self.spot(before), &self.dealt) {
+            (Some(spot), Some(dealt)) if spot.of_tasks => &dealt.tasks,
+            _ => &self.file,
+        }
+    }
+
+    /// The line that a record stands in, where it stands in one.
+    pub fn line_of(&self, before: usize) -> Option<usize> {
+        let spot = || self.spot(before).map(|spot| spot.line);
+        self.lines.get(before).copied().or_else(spot)
+    }
+
+    /// The column of a record's element, where it has one.
+    pub fn column_of(&self, before: usize) -> Option<usize> {
+        let spot = self.spot(before).filter(|spot| !spot.of_tasks);
+        spot.map(|spot| spot.column)
     }
 
     /// Where a record stands, counted from 0: `policy.txt, line 14`.
     pub fn place(&self, before: usize) -> String {
-        format!("{}, {}", self.file, self.place_within(before))
+        format!("{}, {}", self.file_of(before), self.within(before))
     }
 
-    /// Its place within the file alone: `line 14`.
+    /// Its place within the file alone: `line 14`, of OPL/XML `line 14, column 5`; with the file where that is another, the task lines'.
     pub fn place_within(&self, before: usize) -> String {
-        match self.lines.get(before) {
-            Some(line) => format!("line {line}"),
-            None => format!("record {}", before + 1),
+        match self.file_of(before) == self.file {
+            true => self.within(before),
+            false => self.place(before),
         }
+    }
+
+    fn within(&self, before: usize) -> String {
+        match (self.line_of(before), self.column_of(before)) {
+            (Some(line), Some(column)) => format!("line {line}, column {column}"),
+            (Some(line), None) => format!("line {line}"),
+            (None, _) => format!("record {}", before + 1),
+        }
+    }
+
+    /// How a line about a record begins: `policy.txt: line 14`.
+    pub fn head(&self, before: usize) -> String {
+        format!("{}: {}", self.file_of(before), self.within(before))
+    }
+
+    /// What is to be warned of in the text itself, whether it loads or not: `policy.xml: line 3, column 5: warning: ..`.
+    pub fn warnings(&self) -> &[String] {
+        self.dealt.as_ref().map_or(&[], |dealt| &dealt.warnings)
     }
 
     /// A refused load in words: `policy.txt: line 7: 5 TAKEN: user 3`. The place counts from 1; 0 is none.
     pub fn refusal(&self, reply: Reply, place: usize) -> String {
         match place.checked_sub(1) {
             None => format!("{}: {reply}", self.file),
-            Some(before) => {
-                let at = self.place_within(before);
-                format!("{}: {at}: {reply}: {}", self.file, self.line(before))
-            }
+            Some(before) => format!("{}: {reply}: {}", self.head(before), self.line(before)),
         }
     }
 
@@ -192,8 +246,7 @@ fn record_policy(file: &str, bytes: Vec<u8>) -> Policy {
     Policy {
         file: shown(file).to_string(),
         bytes,
-        lines: Vec::new(),
-        names: Names::default(),
+        ..Policy::default()
     }
 }
 
@@ -209,6 +262,7 @@ fn text_of(file: &str, text: &[u8], once: bool) -> Result<Policy, Wrongs> {
         lines: read.records().map(|(line, _)| line).collect(),
         bytes: read.bytes(),
         names: read.names,
+        dealt: None,
     })
 }
 
@@ -225,11 +279,22 @@ fn opl_policy(file: &str, xml: &[u8], tasks: Option<&str>) -> Result<Policy, Wro
         }
         lines
     })?;
+    let file = shown(file).to_string();
+    let warning = |(spot, text): &(Spot, String)| {
+        let Spot { line, column, .. } = spot;
+        format!("{file}: line {line}, column {column}: warning: {text}")
+    };
+    let dealt = Dealt {
+        tasks: tasks.map_or("no task lines", shown).to_string(),
+        warnings: read.warnings.iter().map(warning).collect(),
+        spots: read.spots,
+    };
     Ok(Policy {
-        file: shown(file).to_string(),
+        file,
         bytes: read.records,
         lines: Vec::new(),
         names: read.names,
+        dealt: Some(Arc::new(dealt)),
     })
 }
 

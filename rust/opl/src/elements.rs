@@ -1,5 +1,5 @@
 //! The fifty accepted elements of OPL/XML: attributes and content models, as the report's DTDs have them (5.2, 6.1, 6.3,
-//! 6.8, 6.9, 6.11 to 6.13), without the elements of other sections.
+//! 6.8, 6.9, 6.11 to 6.13), without the elements of other sections; and nine more of 6.2, 6.4 and 6.6, where all sections are read.
 
 use Bound::{Many, One, Optional, Several};
 use Tag::*;
@@ -57,6 +57,18 @@ pub(crate) enum Tag {
     WfPrereqStep,
     PrereqSteps,
     PrereqStep,
+    /// The root and its modules where all sections are read.
+    WidePolicyObject,
+    WidePolicyObjectModules,
+    RoleHierarchyModule,
+    RoleHierarchy,
+    InheritRole,
+    SepDutyRh,
+    ChineseWall,
+    CwPartitions,
+    CwPartition,
+    PartitionObject,
+    Uocws,
 }
 
 impl Tag {
@@ -171,7 +183,7 @@ const fn empty(tag: Tag, name: &'static str, attributes: &'static [Attribute]) -
 }
 
 /// By tag.
-static ELEMENTS: [Element; 50] = [
+static ELEMENTS: [Element; 61] = [
     holder(
         PolicyObject,
         "policy_object",
@@ -382,6 +394,58 @@ static ELEMENTS: [Element; 50] = [
         "prereq_step",
         &[id("prereq_task_id"), id("task_id")],
     ),
+    holder(
+        WidePolicyObject,
+        "policy_object",
+        &[
+            (PolicyObjectAttributes, One),
+            (ActiveModules, One),
+            (WidePolicyObjectModules, One),
+        ],
+    ),
+    element(
+        WidePolicyObjectModules,
+        "policy_object_modules",
+        &[],
+        Content::Choice(&[
+            RbacCore,
+            RoleHierarchyModule,
+            SepDuty,
+            SepDutyRh,
+            ChineseWall,
+            WfCore,
+            WfSepDuty,
+            WfCardinality,
+            WfBindDuty,
+            WfPrereqStep,
+        ]),
+    ),
+    holder(
+        RoleHierarchyModule,
+        "module_role_hierarchy_policy",
+        &[(RoleHierarchy, One)],
+    ),
+    holder(RoleHierarchy, "role_hierarchy", &[(InheritRole, Many)]),
+    empty(
+        InheritRole,
+        "inherit_role",
+        &[id("upper_role"), id("lower_role")],
+    ),
+    holder(
+        SepDutyRh,
+        "module_sep_duty_rh_policy",
+        &[(StaticSeparation, Optional), (DynamicSeparation, Optional)],
+    ),
+    holder(
+        ChineseWall,
+        "module_chinese_wall_policy",
+        &[(CwPartitions, One), (Uocws, One)],
+    ),
+    holder(CwPartitions, "cw_partitions", &[(CwPartition, Many)]),
+    holder(CwPartition, "cw_partition", &[(PartitionObject, Many)]),
+    empty(PartitionObject, "partition_object", &[id("object_id")]),
+    // What users have touched is no policy: 000's children of it are not read.
+    holder(Uocws, "uocws", &[]),
 ];
 
 /// Where the children of an open element have come to: the place in its sequence, and whether a child stands there.
@@ -458,71 +522,4 @@ impl Progress {
 }
 
 #[cfg(test)]
-mod tests {
-    use super::*;
-
-    #[test]
-    fn the_table_is_by_tag_and_has_each_name_once() {
-        for (at, element) in ELEMENTS.iter().enumerate() {
-            assert_eq!(element.tag as usize, at, "{}", element.name);
-            assert!(element.attributes.len() <= ATTRIBUTES);
-            let same = ELEMENTS.iter().filter(|other| other.name == element.name);
-            assert_eq!(same.count(), 1, "{}", element.name);
-            for attribute in element.attributes {
-                let is_id = attribute.name.ends_with("_id");
-                assert_eq!(is_id, attribute.sort == Sort::Id, "{}", attribute.name);
-            }
-        }
-    }
-
-    #[test]
-    fn no_element_stands_deeper_than_eight() {
-        fn depth(tag: Tag) -> usize {
-            let below = match tag.element().content {
-                Content::Empty => None,
-                Content::Choice(children) => children.iter().map(|&c| depth(c)).max(),
-                Content::Sequence(children) => children.iter().map(|&(c, _)| depth(c)).max(),
-            };
-            1 + below.unwrap_or(0)
-        }
-        assert_eq!(depth(PolicyObject), 8);
-    }
-
-    /// The names of what may stand after these children, and whether the element may end there.
-    fn after(tag: Tag, names: &[&str]) -> Option<(Vec<&'static str>, bool)> {
-        let content = &tag.element().content;
-        let mut progress = Progress::default();
-        for name in names {
-            progress.take(content, |child| child.name == *name)?;
-        }
-        let allowed = progress.allowed(content);
-        let names = allowed.iter().map(|child| child.element().name).collect();
-        Some((names, progress.missing(content).is_none()))
-    }
-
-    #[test]
-    fn children_stand_in_their_order_and_number() {
-        assert_eq!(
-            after(PolicyObject, &[]),
-            Some((vec!["policy_object_attributes"], false))
-        );
-        assert_eq!(after(Users, &["user", "user"]), Some((vec!["user"], true)));
-        let (rest, ends) = after(WfSepDuty, &["hdsod"]).unwrap();
-        assert_eq!((&rest[..], ends), (&["hdsodtp"][..], true));
-        assert_eq!(after(WfSepDuty, &["hdsod", "hdsod"]), None);
-        assert_eq!(after(WfSepDuty, &["hdsodtp", "hdsodsl"]), None);
-        let (rest, ends) = after(CriticalRoles, &[]).unwrap();
-        assert_eq!((&rest[..], ends), (&["critical_role"][..], false));
-        assert_eq!(
-            after(Permission, &["operation"]),
-            Some((vec!["object"], false))
-        );
-        assert_eq!(
-            after(Permission, &["operation", "object"]),
-            Some((vec![], true))
-        );
-        let (rest, ends) = after(PolicyObjectModules, &["module_wf_core_policy"]).unwrap();
-        assert_eq!((rest.len(), ends), (7, true));
-        assert_eq!(after(User, &["user"]), None);
-    }
-}
+mod tests;

@@ -21,14 +21,21 @@
 
 mod elements;
 mod names;
+mod origins;
 mod policy;
 mod reader;
+mod reasons;
 mod refusal;
 mod tasks;
+mod writer;
+mod xml;
 
 pub use names::{Space, LONGEST};
+pub use origins::{has_encoding, missing_modules, origins, Missing, Origin};
 pub use policy::{Policy, RECORD};
+pub use reasons::WIDER;
 pub use refusal::{found, line_and_column, Fault, NameFault, NameWhy, Refusal, Text, Why};
+pub use writer::{write, Remedy, Unsaid, Way, Written};
 
 /// The reply to an accepted policy.
 pub const ACCEPTED: u8 = 0;
@@ -66,9 +73,28 @@ impl Answer {
     }
 }
 
+/// Which sections of document 000 are read.
+#[derive(Clone, Copy, PartialEq, Eq, Default, Debug)]
+pub enum Sections {
+    /// Those that Ask 4 names: 5.2, 6.1, 6.3, 6.8, 6.9 and 6.11 to 6.13.
+    #[default]
+    Asked,
+    /// All that the engine can hold: 6.2, 6.4 and 6.6 too.
+    All,
+}
+
 /// Reads a policy and its task lines: the whole policy text is judged first, then the lines, then the names.
 pub fn read<'t>(policy: &'t [u8], tasks: &'t [u8]) -> Result<Policy<'t>, Refusal> {
-    let mut read = reader::read_policy(policy).map_err(Refusal::Text)?;
+    read_sections(policy, tasks, Sections::Asked)
+}
+
+/// The same with a choice of sections.
+pub fn read_sections<'t>(
+    policy: &'t [u8],
+    tasks: &'t [u8],
+    sections: Sections,
+) -> Result<Policy<'t>, Refusal> {
+    let mut read = reader::read_policy(policy, sections).map_err(Refusal::Text)?;
     tasks::read_tasks(tasks, &mut read)?;
     match read.name_fault() {
         Some(fault) => Err(Refusal::Names(fault)),
@@ -78,7 +104,17 @@ pub fn read<'t>(policy: &'t [u8], tasks: &'t [u8]) -> Result<Policy<'t>, Refusal
 
 /// Reads, and writes the records to the front of the output. A refusal writes nothing.
 pub fn translate(policy: &[u8], tasks: &[u8], output: &mut [u8]) -> Answer {
-    let (reply, count) = match read(policy, tasks) {
+    translate_sections(policy, tasks, output, Sections::Asked)
+}
+
+/// The same with a choice of sections.
+pub fn translate_sections(
+    policy: &[u8],
+    tasks: &[u8],
+    output: &mut [u8],
+    sections: Sections,
+) -> Answer {
+    let (reply, count) = match read_sections(policy, tasks, sections) {
         Ok(read) if read.write(output) => (ACCEPTED, read.count()),
         Ok(_) => (ROOM, 0),
         Err(refusal) => return refusal.answer(),

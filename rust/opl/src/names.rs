@@ -7,7 +7,7 @@ use std::hash::{BuildHasherDefault, Hasher};
 pub const LONGEST: usize = 64;
 
 /// What has names: each space has its own numbers.
-#[derive(Clone, Copy, PartialEq, Eq, Hash, Debug)]
+#[derive(Clone, Copy, PartialEq, Eq, PartialOrd, Ord, Hash, Debug)]
 #[repr(u8)]
 pub enum Space {
     /// Declared by `user`.

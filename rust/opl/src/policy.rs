@@ -7,10 +7,13 @@ use crate::refusal::{NameFault, NameWhy, Text};
 pub const RECORD: usize = 16;
 
 /// The last kind of policy record that OPL/XML yields.
-const KINDS: usize = 16;
+const KINDS: usize = 18;
 
 /// How many partitionings there may be.
 const PARTITIONINGS: u32 = 16;
+
+/// How many walls there may be, and blocks of one.
+const WALLS: u32 = 16;
 
 /// A record whose numbers are not known yet: up to three names; of a rule over a set, the partitioning and the part
 /// of `members` from b to c.
@@ -30,6 +33,9 @@ pub struct Policy<'t> {
     said: [Vec<Said>; KINDS + 1],
     members: Vec<Met>,
     partitionings: u32,
+    walls: u32,
+    /// Of the latest wall.
+    wall_blocks: u32,
     /// The first name that is too long or above a limit.
     fault: Option<NameFault>,
 }
@@ -124,6 +130,27 @@ impl<'t> Policy<'t> {
         }
     }
 
+    pub(crate) fn wall(&mut self, place: usize) {
+        (self.walls, self.wall_blocks) = (self.walls + 1, 0);
+        if self.walls > WALLS {
+            self.refuse(Text::Policy, place, NameWhy::Walls);
+        }
+    }
+
+    /// A block of the latest wall.
+    pub(crate) fn wall_block(&mut self, place: usize) {
+        self.wall_blocks += 1;
+        if self.wall_blocks > WALLS {
+            self.refuse(Text::Policy, place, NameWhy::WallBlocks);
+        }
+    }
+
+    /// An object in the latest block.
+    pub(crate) fn walled(&mut self, object: Met) {
+        let (wall, block) = (self.walls, self.wall_blocks);
+        self.say(18, 0, wall.wrapping_sub(1), block.wrapping_sub(1), object);
+    }
+
     /// Why the names refuse the policy, if they do. Task and template names are declared by the second text alone.
     pub(crate) fn name_fault(&self) -> Option<NameFault> {
         let undeclared = || {
@@ -201,7 +228,12 @@ impl<'t> Policy<'t> {
             12 => ([said.a as u16, 0, 0], self.members(Task, said)),
             13 => (one(Template), 0),
             14 => (one(Task), 0),
-            _ => (two(Task, Task), 0),
+            15 | 16 => (two(Task, Task), 0),
+            17 => (two(Role, Role), 0),
+            _ => {
+                let object = self.number(Object, said.c);
+                ([said.a as u16, said.b as u16, object], 0)
+            }
         };
         let mut bytes = [0; RECORD];
         bytes[..2].copy_from_slice(&[kind as u8, said.n]);

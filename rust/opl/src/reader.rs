@@ -5,6 +5,7 @@ use crate::elements::{Element, Progress, Sort, Tag, ATTRIBUTES};
 use crate::names::{Met, Space};
 use crate::policy::{Name, Policy};
 use crate::refusal::{is_name, Fault, Text, Why};
+use crate::Sections;
 
 type Read<T> = Result<T, Box<Fault>>;
 
@@ -314,13 +315,12 @@ impl Reader<'_> {
         Ok(())
     }
 
-    fn document(&mut self) -> Read<()> {
+    fn document(&mut self, root: Tag) -> Read<()> {
         self.prolog()?;
         let start = self.at;
         if self.peek() != Some(b'<') {
             return self.expected("<policy_object>");
         }
-        let root = Tag::PolicyObject;
         let name = root.element().name;
         if !self.is_named(start + 1, name) {
             return self.no_start_tag(Why::Markup("<policy_object>"));
@@ -559,6 +559,13 @@ impl<'t> Reader<'t> {
             }
             Tag::BindOfDutyConstraint => self.pair(15, attributes, [(Task, 0), (Task, 1)]),
             Tag::PrereqStep => self.pair(16, attributes, [(Task, 0), (Task, 1)]),
+            Tag::InheritRole => self.pair(17, attributes, [(Role, 0), (Role, 1)]),
+            Tag::ChineseWall => self.policy.wall(self.at),
+            Tag::CwPartition => self.policy.wall_block(self.at),
+            Tag::PartitionObject => {
+                let object = self.declared(Object, attributes);
+                self.policy.walled(object);
+            }
             _ => {}
         }
     }
@@ -570,13 +577,16 @@ impl<'t> Reader<'t> {
     }
 }
 
-pub(crate) fn read_policy(text: &[u8]) -> Read<Policy<'_>> {
+pub(crate) fn read_policy(text: &[u8], sections: Sections) -> Read<Policy<'_>> {
     let mut reader = Reader {
         text,
         at: 0,
         policy: Policy::default(),
         role_sets: 0,
     };
-    reader.document()?;
+    reader.document(match sections {
+        Sections::Asked => Tag::PolicyObject,
+        Sections::All => Tag::WidePolicyObject,
+    })?;
     Ok(reader.policy)
 }

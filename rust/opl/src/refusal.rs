@@ -2,6 +2,7 @@
 
 use crate::elements::{Progress, Tag};
 use crate::names::{Space, LONGEST};
+use crate::reasons::{reason, tag_of};
 use crate::{Answer, NAMES, TEXT};
 use std::fmt::{self, Display, Formatter};
 
@@ -90,6 +91,10 @@ pub enum NameWhy {
     TooMany(Space),
     /// It is the 17th partitioning, which has no name.
     Partitionings,
+    /// It is the 17th wall, which has no name.
+    Walls,
+    /// It is the 17th block of a wall, which has no name.
+    WallBlocks,
 }
 
 impl Why {
@@ -184,6 +189,8 @@ impl Display for NameWhy {
                 write!(f, "more than {} {}s", space.limit(), space.name())
             }
             NameWhy::Partitionings => f.write_str("more than 16 partitionings"),
+            NameWhy::Walls => f.write_str("more than 16 walls"),
+            NameWhy::WallBlocks => f.write_str("more than 16 blocks in a wall"),
         }
     }
 }
@@ -217,7 +224,7 @@ pub fn found(text: &[u8], place: usize) -> String {
     match *rest {
         [] => "the end of the text".to_string(),
         [0xff, 0xfe, ..] | [0xfe, 0xff, ..] if place == 1 => {
-            "the byte order mark of UTF-16 (write the text as UTF-8)".to_string()
+            "the byte order mark of UTF-16".to_string()
         }
         [b'<', b'!' | b'?', ..] => format!("\"{}\"", shown(&rest[..run(2)])),
         [b'<', b'/', ..] => format!("{}>", shown(&rest[..run(2)])),
@@ -275,16 +282,30 @@ impl Refusal {
         }
     }
 
-    /// The refusal in words, for the text that it is about: `line 12, column 7: TEXT: expected .., found ..`.
+    /// The name of the element that begins where the text was refused, and may not stand there.
+    pub fn element<'t>(&self, text: &'t [u8]) -> Option<&'t str> {
+        let Refusal::Text(fault) = self else {
+            return None;
+        };
+        let misplaced = matches!(fault.why, Why::Elements(..) | Why::Markup(_));
+        let rest = text.get(fault.place - 1..).filter(|_| misplaced)?;
+        tag_of(rest)
+    }
+
+    /// The refusal in words, for the text that it is about: `line 12, column 7: TEXT: expected .., found ..`, and why, where that may be
+    /// asked.
     pub fn message(&self, text: &[u8]) -> String {
         let (line, column) = line_and_column(text, self.place());
         let what = match self {
             Refusal::Text(fault) => {
                 let found = found(text, fault.place);
-                format!("TEXT: expected {}, found {found}", fault.why)
+                let because = reason(text, fault).map_or(String::new(), |why| format!(": {why}"));
+                format!("TEXT: expected {}, found {found}{because}", fault.why)
             }
             Refusal::Names(fault) => match fault.why {
-                NameWhy::Partitionings => format!("NAMES: {}", fault.why),
+                NameWhy::Partitionings | NameWhy::Walls | NameWhy::WallBlocks => {
+                    format!("NAMES: {}", fault.why)
+                }
                 why => format!("NAMES: {why}, \"{}\"", shown(name_at(text, fault))),
             },
         };

@@ -270,19 +270,22 @@ fn refusals_in_words() {
         ("<policy_object a", "line 1, column 17: TEXT: expected \"=\", found the end of the text"),
         ("<policy_object a b", "line 1, column 18: TEXT: expected \"=\", found \"b\""),
         ("<policy_object a='b'>", "line 1, column 16: TEXT: expected no attribute of <policy_object>, found \"a\""),
-        ("<policy_object>é", "line 1, column 16: TEXT: expected <policy_object_attributes>, found \"é\""),
-        ("<policy_object><policy_object_attributes>&", "line 1, column 42: TEXT: expected <attribute> or </policy_object_attributes>, found \"&\""),
+        ("<policy_object>é", "line 1, column 16: TEXT: expected <policy_object_attributes>, found \"é\": elements have no text within"),
+        ("<policy_object><policy_object_attributes>&", "line 1, column 42: TEXT: expected <attribute> or </policy_object_attributes>, found \"&\": references to characters and entities are not read"),
         ("<policy_object><policy_object_attributes><attribute value='1' name='2'/>", "line 1, column 63: TEXT: expected key or value as the attribute of <attribute>, found \"name\""),
         ("<policy_object><policy_object_attributes><attribute value='1'\n/>", "line 2, column 1: TEXT: expected the attribute key, which <attribute> needs, found \"/\""),
         ("<policy_object><!-- é -- -->", "line 1, column 23: TEXT: expected no \"--\" within a comment, found \"--\""),
-        ("<policy_object><policy_object_attributes><![CDATA[", "line 1, column 42: TEXT: expected <attribute> or </policy_object_attributes>, found \"<!\""),
+        ("<policy_object><policy_object_attributes><![CDATA[", "line 1, column 42: TEXT: expected <attribute> or </policy_object_attributes>, found \"<!\": elements have no text within, and so no CDATA section"),
+        ("<policy_object><?php", "line 1, column 16: TEXT: expected <policy_object_attributes>, found \"<?php\": processing instructions are not read"),
+        ("<policy_object><a:b/>", "line 1, column 16: TEXT: expected <policy_object_attributes>, found <a:b>: namespaces are not read"),
+        ("<policy_object xmlns='x'>", "line 1, column 16: TEXT: expected no attribute of <policy_object>, found \"xmlns\": namespaces are not read"),
     ] {
         let refusal = read(text.as_bytes(), b"").unwrap_err();
         assert_eq!(refusal.message(text.as_bytes()), message);
     }
     let utf16 = b"\xff\xfe<\0p\0";
     let refusal = read(utf16, b"").unwrap_err();
-    let message = "line 1, column 1: TEXT: expected <policy_object>, found the byte order mark of UTF-16 (write the text as UTF-8)";
+    let message = "line 1, column 1: TEXT: expected <policy_object>, found the byte order mark of UTF-16: the text is UTF-16, and UTF-8 alone is read: iconv -f UTF-16 -t UTF-8 turns it";
     assert_eq!(refusal.message(utf16), message);
     let policy = policy("<module_sep_duty_policy/>");
     for (lines, message) in [
@@ -292,7 +295,7 @@ fn refusals_in_words() {
         ),
         (
             "a b\n\n",
-            "line 2, column 1: TEXT: expected a task name, found the end of the line",
+            "line 2, column 1: TEXT: expected a task name, found the end of the line: there are no empty lines",
         ),
         (
             "a\tb\n",
@@ -302,4 +305,37 @@ fn refusals_in_words() {
         let refusal = read(policy.as_bytes(), lines.as_bytes()).unwrap_err();
         assert_eq!(refusal.message(lines.as_bytes()), message);
     }
+}
+
+/// What XML or OPL has and is left out here: the message says why.
+#[test]
+fn what_is_left_out_on_purpose_says_why() {
+    let head = "<policy_object><policy_object_attributes/><active_modules/><policy_object_modules>";
+    let separation = format!("{head}<module_sep_duty_policy>");
+    for (text, why) in [
+        ("<\0?\0x\0", "the text is UTF-16, and UTF-8 alone is read: iconv -f UTF-16 -t UTF-8 turns it"),
+        ("\0<\0?", "the text is UTF-16, and UTF-8 alone is read: iconv -f UTF-16 -t UTF-8 turns it"),
+        (
+            "<?xml version='1.0' encoding='ISO-8859-1'?>",
+            "names are compared byte by byte, so that UTF-8 alone is read: iconv -f ISO-8859-1 -t UTF-8 turns a text, whose declaration has to say so then",
+        ),
+        (
+            "<!DOCTYPE policy_object SYSTEM 'a' [<!ENTITY b 'c'>]>",
+            "a DTD within the text may declare entities and values, which are not looked up: leave it out",
+        ),
+        (&format!("{head}<module_exo_context_policy/>"), "section 6.5 of OPL is not read, since the engine has no such rule"),
+        (&format!("{head}<module_role_hierarchy_policy/>"), "the sections that are read are 5.2, 6.1, 6.3, 6.8, 6.9 and 6.11 to 6.13"),
+        (&format!("{separation}<strict_static_separation_of_duty/>"), "strict separation of duty (sssod) is not read, since the engine has no such rule"),
+        (&format!("{head}\n<?xml version='1.0'?>"), "a declaration stands at the very start of a text, once"),
+    ] {
+        let refusal = read(text.as_bytes(), b"").unwrap_err();
+        let said = refusal.message(text.as_bytes());
+        assert!(said.contains(": TEXT: expected ") && said.ends_with(&format!(": {why}")), "{said}");
+    }
+    let text = format!("{head}<module_chinese_wall_policy/>");
+    let refusal = read(text.as_bytes(), b"").unwrap_err();
+    assert_eq!(
+        refusal.element(text.as_bytes()),
+        Some("module_chinese_wall_policy")
+    );
 }

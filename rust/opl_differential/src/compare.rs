@@ -2,7 +2,7 @@
 
 use crate::slow;
 use crate::texts::Texts;
-use opl::{Answer, Space, RECORD};
+use opl::{Answer, Sections, Space, RECORD};
 use std::cell::{Cell, RefCell};
 use std::fmt::Write;
 
@@ -73,16 +73,23 @@ impl Reader {
     }
 }
 
-/// All readers that there are: the plain one, the slow one, and the proved one where the library is linked.
+/// All readers that there are of Ask 4's sections: the plain one, the slow one, and the proved one where the library is linked.
 pub fn readers() -> Vec<Reader> {
-    let slow = Reader::new("slow", |policy, tasks, output| {
-        slow::translate(policy, tasks, output).0
+    readers_of(Sections::Asked)
+}
+
+/// All readers that there are of these sections.
+pub fn readers_of(sections: Sections) -> Vec<Reader> {
+    let plain = Reader::new("plain", move |policy, tasks, output| {
+        opl::translate_sections(policy, tasks, output, sections)
     });
-    let mut all = vec![
-        Reader::new("plain", opl::translate),
-        Reader { slow: true, ..slow },
-    ];
-    all.extend(proved::reader());
+    let slow = Reader::new("slow", move |policy, tasks, output| {
+        slow::translate(policy, tasks, output, sections).0
+    });
+    let mut all = vec![plain, Reader { slow: true, ..slow }];
+    if sections == Sections::Asked {
+        all.extend(proved::reader());
+    }
     all
 }
 
@@ -247,18 +254,34 @@ fn report(readers: &[Reader], texts: &Texts, room: usize) -> String {
     words
 }
 
-/// The names by number of an accepted policy, as all readers tell them.
-pub fn compare_names(texts: &Texts) -> Result<(), String> {
-    let read = opl::read(&texts.policy, &texts.tasks).map_err(|r| format!("{r:?}"))?;
+/// The names by number of an accepted policy, as all readers of these sections tell them.
+pub fn compare_names(texts: &Texts, sections: Sections) -> Result<(), String> {
+    let read =
+        |of| opl::read_sections(&texts.policy, &texts.tasks, of).map_err(|r| format!("{r:?}"));
+    let wider = read(Sections::All)?.records();
+    let read = read(sections)?;
+    if read.records() != wider {
+        return Err(format!(
+            "all sections are read otherwise than these in {texts:?}"
+        ));
+    }
     let mut output = vec![0; RECORD * read.count()];
-    let (_, names) = slow::translate(&texts.policy, &texts.tasks, &mut output);
+    let (_, names) = slow::translate(&texts.policy, &texts.tasks, &mut output, sections);
     let names = names.ok_or("the slow reader accepts what the plain one accepts")?;
     for space in Space::ALL {
         if read.names(space) != names[space as usize] {
             return Err(format!("the {} names differ in {texts:?}", space.name()));
         }
     }
-    if !proved::agrees(texts, &read) {
+    let begins = |origin: &opl::Origin| match origin.text {
+        opl::Text::Policy => texts.policy[origin.place - 1] == b'<',
+        opl::Text::Tasks => origin.place == 1 || texts.tasks[origin.place - 2] == b'\n',
+    };
+    let origins = opl::origins(&texts.policy, &texts.tasks);
+    if origins.len() != read.count() || !origins.iter().all(begins) {
+        return Err(format!("the records' origins differ in {texts:?}"));
+    }
+    if sections == Sections::Asked && !proved::agrees(texts, &read) {
         return Err(format!("the wrapper's names differ in {texts:?}"));
     }
     if read.records() == output {

@@ -39,7 +39,14 @@ pub fn struck(text: &[u8], place: usize, blow: Blow) -> Vec<u8> {
 }
 
 /// Elements of other sections, elements at wrong places, and what is no element.
-const INTRUDERS: [&str; 34] = [
+const INTRUDERS: [&str; 41] = [
+    "<inherit_role upper_role='r' lower_role='r'/>",
+    "<inherit_role upper_role='' lower_role='r'/>",
+    "<cw_partitions/>",
+    "<cw_partition/>",
+    "<partition_object object_id='o'/>",
+    "<uocws/>",
+    "<uocw user_id='u' object_id='o'/>",
     "<static_separation_of_duty_attached_to_permissions/>",
     "<strict_static_separation_of_duty><critical_role_sets/></strict_static_separation_of_duty>",
     "<critical_permission_sets/>",

@@ -1,10 +1,13 @@
 //! Document 000's DTDs, read: content models as expressions over element names, and what may follow by derivatives.
 
+use opl::Sections;
 use std::collections::HashMap;
 use std::sync::OnceLock;
 
 /// The accepted sections.
 pub const DTD: &str = include_str!("../../opl/policy-object.dtd");
+/// Those that are accepted where all sections are asked for.
+pub const WIDE_DTD: &str = include_str!("../../opl/policy-object-all.dtd");
 
 /// A content model. `Nothing` is what no content fits; it never stands within another model.
 #[derive(Clone, PartialEq, Debug)]
@@ -148,10 +151,13 @@ fn add(elements: &mut HashMap<&'static str, Element>, name: &'static str, model:
     elements.insert(name, Element { model, attributes });
 }
 
-/// The element that the DTD declares under a name.
-pub fn element(name: &[u8]) -> Option<&'static Element> {
-    static ELEMENTS: OnceLock<HashMap<&'static str, Element>> = OnceLock::new();
-    let elements = ELEMENTS.get_or_init(|| declarations(DTD));
+/// The element that the DTD of these sections declares under a name.
+pub fn element(name: &[u8], sections: Sections) -> Option<&'static Element> {
+    static ELEMENTS: [OnceLock<HashMap<&'static str, Element>>; 2] = [const { OnceLock::new() }; 2];
+    let elements = match sections {
+        Sections::Asked => ELEMENTS[0].get_or_init(|| declarations(DTD)),
+        Sections::All => ELEMENTS[1].get_or_init(|| declarations(WIDE_DTD)),
+    };
     elements.get(std::str::from_utf8(name).ok()?)
 }
 
@@ -170,11 +176,12 @@ mod tests {
         attributes.sort();
         attributes.dedup();
         assert_eq!(attributes.len(), 15);
+        assert_eq!(declarations(WIDE_DTD).len(), 59);
     }
 
     #[test]
     fn children_in_their_order() {
-        let model = |name: &str| &element(name.as_bytes()).unwrap().model;
+        let model = |name: &str| &element(name.as_bytes(), Sections::Asked).unwrap().model;
         let permission = model("permission");
         assert_eq!(permission.after(b"object"), Nothing);
         assert!(!permission.may_end());

@@ -22,8 +22,8 @@ mod run;
 mod slow;
 mod texts;
 
-pub use compare::{compare, compare_names, readers, Exported, Reader, Translate};
+pub use compare::{compare, compare_names, readers, readers_of, Exported, Reader, Translate};
 pub use damage::{blows, mangled, struck, Blow};
-pub use dtd::DTD;
-pub use run::{run, Met, Run};
+pub use dtd::{DTD, WIDE_DTD};
+pub use run::{run, run_sections, Met, Run};
 pub use texts::{Style, Texts};

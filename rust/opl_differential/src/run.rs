@@ -3,7 +3,7 @@
 use crate::compare::{compare, compare_names, Reader};
 use crate::damage::{blows, mangled, struck};
 use crate::texts::Texts;
-use opl::{Refusal, Why, ACCEPTED, RECORD};
+use opl::{Refusal, Sections, Why, ACCEPTED, RECORD};
 use random::Random;
 use std::fmt;
 
@@ -25,14 +25,17 @@ pub struct Met {
     /// By the sort of fault in the policy text.
     pub faults: [u64; Why::SORTS],
     /// By kind of record.
-    pub kinds: [u64; 17],
+    pub kinds: [u64; 19],
 }
 
 impl Met {
-    /// Whether everything that there is has come up.
-    pub fn everything(&self) -> bool {
+    /// Whether everything that these sections have has come up.
+    pub fn everything(&self, sections: Sections) -> bool {
         let others = [self.accepted, self.no_room, self.names, self.tasks];
-        let kinds = &self.kinds[1..];
+        let kinds = match sections {
+            Sections::Asked => &self.kinds[1..=16],
+            Sections::All => &self.kinds[1..=18],
+        };
         others
             .iter()
             .chain(&self.faults)
@@ -57,6 +60,7 @@ impl fmt::Display for Met {
 /// The readers under comparison, and the random numbers that choose texts.
 pub struct Run<'r> {
     readers: &'r [Reader],
+    sections: Sections,
     random: Random,
     /// What has come up so far.
     pub met: Met,
@@ -66,10 +70,11 @@ pub struct Run<'r> {
 const SMALL: usize = 2_500;
 
 impl<'r> Run<'r> {
-    /// A run that a seed repeats.
-    pub fn new(readers: &'r [Reader], seed: u64) -> Run<'r> {
+    /// A run of texts of these sections, that a seed repeats.
+    pub fn new(readers: &'r [Reader], seed: u64, sections: Sections) -> Run<'r> {
         Run {
             readers,
+            sections,
             random: Random::new(seed),
             met: Met::default(),
         }
@@ -79,7 +84,7 @@ impl<'r> Run<'r> {
     pub fn check(&mut self, texts: &Texts) -> Result<(), String> {
         self.met.texts += 1;
         self.met.bytes += (texts.policy.len() + texts.tasks.len()) as u64;
-        let read = opl::read(&texts.policy, &texts.tasks);
+        let read = opl::read_sections(&texts.policy, &texts.tasks, self.sections);
         let needed = read.as_ref().map_or(2, |read| read.count()) * RECORD;
         let room = match self.random.below(10) {
             0 => needed.saturating_sub(1),
@@ -94,7 +99,7 @@ impl<'r> Run<'r> {
                 for record in read.records().chunks(RECORD) {
                     self.met.kinds[usize::from(record[0])] += 1;
                 }
-                compare_names(texts)?;
+                compare_names(texts, self.sections)?;
             }
             Ok(_) => self.met.no_room += 1,
             Err(Refusal::Names(_)) => self.met.names += 1,
@@ -106,7 +111,7 @@ impl<'r> Run<'r> {
 
     /// A text of the grammar and damaged ones made from it; at each byte of it where that is asked for.
     pub fn case(&mut self, each_byte: bool) -> Result<(), String> {
-        let texts = Texts::random(&mut self.random);
+        let texts = Texts::of_sections(&mut self.random, self.sections);
         self.check(&texts)?;
         for _ in 0..20 {
             let policy = mangled(&mut self.random, &texts.policy);
@@ -148,9 +153,19 @@ impl<'r> Run<'r> {
     }
 }
 
-/// At least so many texts; one case of 64 is damaged at each of its bytes.
+/// At least so many texts of Ask 4's sections; one case of 64 is damaged at each of its bytes.
 pub fn run(readers: &[Reader], seed: u64, texts: u64) -> Result<Met, String> {
-    let mut run = Run::new(readers, seed);
+    run_sections(readers, seed, texts, Sections::Asked)
+}
+
+/// The same of these sections.
+pub fn run_sections(
+    readers: &[Reader],
+    seed: u64,
+    texts: u64,
+    sections: Sections,
+) -> Result<Met, String> {
+    let mut run = Run::new(readers, seed, sections);
     let mut case = 0;
     while run.met.texts < texts {
         run.case(case % 64 == 0)?;

@@ -2,7 +2,7 @@
 //! Content models and attributes come from the DTD's own text.
 
 use crate::dtd;
-use opl::{Answer, Space, ACCEPTED, NAMES, RECORD, ROOM, TEXT};
+use opl::{Answer, Sections, Space, ACCEPTED, NAMES, RECORD, ROOM, TEXT};
 
 /// An element of a text.
 #[derive(Default)]
@@ -15,8 +15,9 @@ struct Node {
 /// What was read and where it ends, from 0; or the place of the fault, from 0.
 type Step<T> = Result<(T, usize), usize>;
 
+/// A text, and the sections that it is read by.
 #[derive(Clone, Copy)]
-struct Grammar<'t>(&'t [u8]);
+struct Grammar<'t>(&'t [u8], Sections);
 
 const WHITE: [u8; 4] = [0x20, 0x09, 0x0a, 0x0d];
 
@@ -180,7 +181,7 @@ impl Grammar<'_> {
 
     /// From behind the name, which may stand where it stands.
     fn element(self, name: Vec<u8>, at: usize) -> Step<Node> {
-        let declared = dtd::element(&name).expect("a declared element");
+        let declared = dtd::element(&name, self.1).expect("a declared element");
         let mut node = Node {
             name,
             ..Node::default()
@@ -220,12 +221,14 @@ impl Grammar<'_> {
     fn attribute(self, node: &mut Node, start: usize) -> Result<usize, usize> {
         let (name, at) = self.name(start)?;
         let (value, at) = self.equals_value(at)?;
-        let known = &dtd::element(&node.name).expect("an element").attributes;
+        let known = &dtd::element(&node.name, self.1)
+            .expect("an element")
+            .attributes;
         let twice = node.attributes.iter().any(|given| given.0 == name);
         if twice || !known.iter().any(|a| a.0.as_bytes() == name) {
             return Err(start);
         }
-        if name.ends_with(b"_id") && value.is_empty() {
+        if space_of(&name).is_some() && value.is_empty() {
             return Err(at - 1);
         }
         if name == b"cardinality" && cardinality(&value).is_none() {
@@ -236,7 +239,7 @@ impl Grammar<'_> {
     }
 
     fn content(self, mut node: Node, at: usize) -> Step<Node> {
-        let declared = dtd::element(&node.name).expect("a declared element");
+        let declared = dtd::element(&node.name, self.1).expect("a declared element");
         let mut model = declared.model.clone();
         let mut at = self.misc(at)?;
         while !self.has(at, b"</") {
@@ -293,12 +296,17 @@ impl Node {
 
     /// This element and all within it that are so named, in text order.
     fn all<'n>(&'n self, name: &str) -> Vec<&'n Node> {
+        self.all_of(&[name])
+    }
+
+    /// The same with any of these names.
+    fn all_of<'n>(&'n self, names: &[&str]) -> Vec<&'n Node> {
         let mut found = Vec::new();
-        if self.name == name.as_bytes() {
+        if names.iter().any(|name| self.name == name.as_bytes()) {
             found.push(self);
         }
         for child in &self.children {
-            found.extend(child.all(name));
+            found.extend(child.all_of(names));
         }
         found
     }
@@ -324,7 +332,7 @@ fn distinct<'a>(names: impl Iterator<Item = &'a [u8]>) -> Vec<&'a [u8]> {
 fn space_of(attribute: &[u8]) -> Option<Space> {
     Some(match attribute {
         b"user_id" => Space::User,
-        b"role_id" => Space::Role,
+        b"role_id" | b"upper_role" | b"lower_role" => Space::Role,
         b"permission_id" => Space::Permission,
         b"operation_id" => Space::Operation,
         b"object_id" => Space::Object,
@@ -339,16 +347,17 @@ pub type AllNames = [Vec<Vec<u8>>; 7];
 
 impl Read {
     fn declared(&self, space: Space) -> Vec<&[u8]> {
-        let elements = |name: &str, attribute: &'static str| {
-            let elements = self.root.all(name).into_iter();
+        let each = |names: &[&str], attribute: &'static str| {
+            let elements = self.root.all_of(names).into_iter();
             distinct(elements.map(|element| element.value(attribute)))
         };
+        let elements = |name: &str, attribute: &'static str| each(&[name], attribute);
         match space {
             Space::User => elements("user", "user_id"),
             Space::Role => elements("role", "role_id"),
             Space::Permission => elements("permission", "permission_id"),
             Space::Operation => elements("operation", "operation_id"),
-            Space::Object => elements("object", "object_id"),
+            Space::Object => each(&["object", "partition_object"], "object_id"),
             Space::Task => distinct(self.lines.iter().map(|line| &line[0][..])),
             Space::Template => distinct(self.lines.iter().map(|line| &line[1][..])),
         }
@@ -373,7 +382,16 @@ impl Read {
         within.all(|(names, limit)| names.len() <= limit)
             && self.lines.iter().flatten().all(|name| name.len() <= 64)
             && self.root.all("hdsodtp_partitioning").len() <= 16
+            && self.walls().len() <= 16
+            && self
+                .walls()
+                .iter()
+                .all(|wall| wall.all("cw_partition").len() <= 16)
             && self.names_are_fit(declared, &self.root)
+    }
+
+    fn walls(&self) -> Vec<&Node> {
+        self.root.all("module_chinese_wall_policy")
     }
 
     fn records(&self, declared: &[Vec<&[u8]>; 7]) -> Vec<[u8; RECORD]> {
@@ -492,6 +510,17 @@ impl Read {
                 0,
             );
         }
+        for node in all("inherit_role") {
+            let roles = [number(node, "upper_role"), number(node, "lower_role"), 0];
+            add(17, 0, roles, 0);
+        }
+        for (wall, module) in (0..).zip(self.walls()) {
+            for (block, partition) in (0..).zip(module.all("cw_partition")) {
+                for node in &partition.children {
+                    add(18, 0, [wall, block, number(node, "object_id")], 0);
+                }
+            }
+        }
         records
     }
 }
@@ -507,12 +536,17 @@ fn refused(reply: u8, text: u8, figure: usize) -> (Answer, Option<AllNames>) {
 }
 
 /// The answer, what it writes to the output, and the names of an accepted policy.
-pub fn translate(policy: &[u8], tasks: &[u8], output: &mut [u8]) -> (Answer, Option<AllNames>) {
-    let root = match Grammar(policy).document() {
+pub fn translate(
+    policy: &[u8],
+    tasks: &[u8],
+    output: &mut [u8],
+    sections: Sections,
+) -> (Answer, Option<AllNames>) {
+    let root = match Grammar(policy, sections).document() {
         Ok(root) => root,
         Err(at) => return refused(TEXT, 1, at + 1),
     };
-    let lines = match Grammar(tasks).tasks() {
+    let lines = match Grammar(tasks, sections).tasks() {
         Ok(lines) => lines,
         Err(at) => return refused(TEXT, 2, at + 1),
     };

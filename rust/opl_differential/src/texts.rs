@@ -1,6 +1,7 @@
 //! Random texts of the grammar: white space, comments, both quotes, both forms of an element without children, repeated
 //! modules, names used before they are declared or declared nowhere, names and numbers at their limits.
 
+use opl::Sections;
 use random::Random;
 
 /// A policy and its task lines.
@@ -24,6 +25,8 @@ pub struct Style {
     strays: usize,
     /// Names, numbers and layout as a dealer would send them.
     tidy: bool,
+    /// Modules of all sections that the engine can hold.
+    wide: bool,
 }
 
 impl Style {
@@ -35,6 +38,7 @@ impl Style {
             loose: random.chance(1, 3),
             strays: random.pick(&[0, 0, 0, 0, 0, 10]),
             tidy: false,
+            wide: false,
         }
     }
 }
@@ -406,8 +410,8 @@ impl Writer<'_> {
         });
     }
 
-    fn separation(&mut self, size: Size) {
-        self.within("module_sep_duty_policy", vec![], |w| {
+    fn separation(&mut self, module: &str, size: Size) {
+        self.within(module, vec![], |w| {
             for name in ["static_separation_of_duty", "dynamic_separation_of_duty"] {
                 if w.random.chance(2, 3) {
                     w.within(name, vec![], |w| w.role_sets(size));
@@ -516,9 +520,65 @@ impl Writer<'_> {
         });
     }
 
+    /// Senior roles.
+    fn hierarchy(&mut self, size: Size) {
+        let count = self.others(size);
+        self.within("module_role_hierarchy_policy", vec![], |w| {
+            w.each("role_hierarchy", count, |w, _| {
+                let (upper, lower) = (w.role_used(), w.role_used());
+                w.empty(
+                    "inherit_role",
+                    vec![("upper_role", upper), ("lower_role", lower)],
+                );
+            });
+        });
+    }
+
+    /// A wall of so many blocks, whose objects permissions may have too.
+    fn wall(&mut self, blocks: usize) {
+        self.within("module_chinese_wall_policy", vec![], |w| {
+            w.each("cw_partitions", blocks, |w, _| {
+                let objects = w.random.below(3);
+                w.each("cw_partition", objects, |w, _| {
+                    let place = w.random.below(w.external.names.len());
+                    let object = w.external.names[place].clone();
+                    w.empty("partition_object", vec![("object_id", object)]);
+                });
+            });
+            w.empty("uocws", vec![]);
+            w.misc();
+        });
+    }
+
+    /// Modules of the sections that Ask 4 does not name; now and then as many walls or blocks as there may be, or one more.
+    fn wide_rules(&mut self, size: Size) {
+        match self.random.below(40) {
+            0 => {
+                for _ in 0..16 + self.random.below(2) {
+                    self.wall(1);
+                    self.misc();
+                }
+            }
+            1 => {
+                let blocks = 16 + self.random.below(2);
+                self.wall(blocks);
+            }
+            2..14 => self.hierarchy(size),
+            14..27 => {
+                let blocks = self.random.below(4);
+                self.wall(blocks);
+            }
+            _ => self.separation("module_sep_duty_rh_policy", size),
+        }
+    }
+
     fn rules(&mut self, size: Size) {
+        if self.style.wide && self.random.chance(1, 2) {
+            self.wide_rules(size);
+            return self.misc();
+        }
         match self.random.below(6) {
-            0 => self.separation(size),
+            0 => self.separation("module_sep_duty_policy", size),
             1 => self.workflow(size),
             2 => self.task_separation(size, size.partitionings % 16),
             3 => self.list(
@@ -677,10 +737,16 @@ fn written(random: &mut Random, style: Style, size: Size) -> Texts {
 }
 
 impl Texts {
-    /// A text of any style and size.
+    /// A text of any style and size, of Ask 4's sections.
     pub fn random(random: &mut Random) -> Texts {
+        Texts::of_sections(random, Sections::Asked)
+    }
+
+    /// A text of any style and size, of these sections.
+    pub fn of_sections(random: &mut Random, sections: Sections) -> Texts {
+        let wide = sections == Sections::All;
         let style = Style::random(random);
-        Texts::styled(random, style)
+        Texts::styled(random, Style { wide, ..style })
     }
 
     /// A text of a style and any size.
@@ -708,6 +774,7 @@ impl Texts {
             loose: false,
             strays: 0,
             tidy: true,
+            wide: false,
         };
         let mut random = Random::new(bytes as u64);
         let mut others = 2;

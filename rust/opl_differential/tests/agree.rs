@@ -1,12 +1,22 @@
 //! The readers agree over random and damaged texts, and everything that they can answer has come up.
 
-use opl_differential::{readers, run, Reader};
+use opl::Sections;
+use opl_differential::{readers, readers_of, run, run_sections, Reader};
 use std::slice::{from_raw_parts, from_raw_parts_mut};
 
 #[test]
 fn the_readers_agree() {
     let met = run(&readers(), 7, 100_000).unwrap_or_else(|difference| panic!("{difference}"));
-    assert!(met.everything(), "{met}");
+    assert!(met.everything(Sections::Asked), "{met}");
+}
+
+/// Readers that read all sections that the engine can hold.
+#[test]
+fn the_readers_of_all_sections_agree() {
+    let readers = readers_of(Sections::All);
+    let met = run_sections(&readers, 17, 50_000, Sections::All);
+    let met = met.unwrap_or_else(|difference| panic!("{difference}"));
+    assert!(met.everything(Sections::All), "{met}");
 }
 
 /// The plain reader as a library would export it; it spoils its scratch.

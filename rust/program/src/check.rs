@@ -28,7 +28,7 @@ pub fn check(policy: Policy, strict: bool, as_json: bool, out: &mut dyn Write) -
             return Ok(REFUSED);
         }
     };
-    let warned = warnings(&desk);
+    let warned = [policy.warnings(), &warnings(&desk)].concat();
     let status = match strict && !warned.is_empty() {
         true => REFUSED,
         false => WELL,
@@ -59,7 +59,9 @@ fn refused_object(policy: &Policy, Refused { reply, place }: Refused) -> Value {
         "file": policy.file, "accepted": false, "reply": reply.number(), "name": reply.name(), "record": place,
     });
     if let Some(before) = place.checked_sub(1) {
-        object["line"] = json!(policy.lines.get(before));
+        object["file"] = json!(policy.file_of(before));
+        object["line"] = json!(policy.line_of(before));
+        object["column"] = json!(policy.column_of(before));
         object["refused"] = json!(policy.line(before));
         object["because"] = json!(clashes(policy, before, reply));
     }
@@ -98,12 +100,8 @@ pub fn refusal(policy: &Policy, refused: Refused) -> Vec<String> {
     let Some(before) = place.checked_sub(1) else {
         return vec![format!("{}: {reply}", policy.file)];
     };
-    let at = policy.place_within(before);
-    let mut lines = vec![format!(
-        "{}: {at}: {reply}: {}",
-        policy.file,
-        policy.line(before)
-    )];
+    let (head, line) = (policy.head(before), policy.line(before));
+    let mut lines = vec![format!("{head}: {reply}: {line}")];
     lines.extend(
         clashes(policy, before, reply)
             .into_iter()
@@ -417,6 +415,7 @@ mod tests {
                     bytes: [&kept[..], &record.0].concat(),
                     lines: Vec::new(),
                     names: Names::default(),
+                    ..Policy::default()
                 };
                 let Err(refused) = Desk::open(&policy) else {
                     kept = policy.bytes;

@@ -122,10 +122,13 @@ fn test() -> Command {
 
 fn convert() -> Command {
     Command::new("convert")
-        .about("Write a policy or requests in another form: records or text")
+        .about("Write a policy or requests in another form: records, text or OPL/XML")
         .long_about(
-            "Writes a policy (records, text or OPL/XML) as text or as records. Text has the names that the policy gives, or with --numbers \
-             numbers alone, as the notation has them. With --requests, a file of requests is written instead, with the policy's names.",
+            "Writes a policy (records, text or OPL/XML) as text, as records, or as OPL/XML with its task lines. Text has the names that the policy \
+             gives, or with --numbers numbers alone, as the notation has them. With --requests, a file of requests is written instead, with the \
+             policy's names.\n\n\
+             OPL/XML and its task lines are read back to the same records. What OPL/XML cannot say (senior roles, walls, numbers that a reader \
+             would not give) is told, all of it, and then nothing is written.",
         )
         .args([policy(), tasks(), format()])
         .arg(
@@ -133,10 +136,12 @@ fn convert() -> Command {
                 .long("to")
                 .value_name("FORM")
                 .required(true)
-                .value_parser(PossibleValuesParser::new(["text", "records"]))
+                .value_parser(PossibleValuesParser::new(["text", "records", "opl"]))
                 .help("What to write"),
         )
-        .arg(flag("numbers", "Text without names"))
+        .arg(flag("numbers", "Text without names; OPL/XML with names made from numbers"))
+        .arg(value("tasks-to", "FILE", "With --to opl, where the task lines go").value_hint(ValueHint::FilePath))
+        .arg(flag("renumber", "With --to opl, also where a reader gives other numbers than the policy has"))
         .arg(
             Arg::new("requests")
                 .long("requests")
@@ -149,8 +154,10 @@ fn convert() -> Command {
             "Examples:\n",
             "  mishantral convert policy.xml --tasks tasks.txt --to text\n",
             "  mishantral convert policy.txt --to records -o policy.rec\n",
+            "  mishantral convert policy.txt --to opl -o policy.xml --tasks-to tasks.txt\n",
             "\n",
-            "Exit status: 0 written; 2 text errors, or a file that cannot be read or written.",
+            "Exit status: 0 written; 1 OPL/XML cannot say the policy, and nothing is written; 2 text errors, or a file that cannot be read or \
+             written.",
         ))
 }
 

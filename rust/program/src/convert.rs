@@ -1,10 +1,12 @@
-//! `convert`: between records, text and, as input, OPL/XML.
+//! `convert`: between records, text and OPL/XML.
 
 use crate::names::Names;
 use crate::reader;
+use crate::report::report;
 use crate::source::{Policy, Requests};
-use crate::stop::{Done, WELL};
+use crate::stop::{Done, Stop, WELL};
 use crate::writer;
+use notation::dealer::{self, Remedy, Unsaid, Way, Written};
 use std::io::Write;
 
 /// What is written.
@@ -49,4 +51,42 @@ pub fn requests(requests: &Requests, names: &Names, to: To, out: &mut dyn Write)
     }
     out.flush()?;
     Ok(WELL)
+}
+
+/// A policy as OPL/XML and task lines; or all that cannot be said so.
+pub fn opl(policy: &Policy, numbers: bool, way: Way) -> Result<Written, Stop> {
+    let none = Names::default();
+    let names = if numbers { &none } else { &policy.names };
+    let written = dealer::write(&policy.bytes, names, way);
+    let written = written.map_err(|unsaid| Stop::Refused(untold(policy, &unsaid)))?;
+    let changed = written.renumbered.iter();
+    let changed: Vec<String> = changed
+        .map(|(space, count)| format!("{count} of a {}", space.name()))
+        .collect();
+    if !changed.is_empty() {
+        let changed = changed.join(", ");
+        report(format!(
+            "{}: a reader gives other numbers than these: {changed}",
+            policy.file
+        ));
+    }
+    Ok(written)
+}
+
+/// What cannot be said, a line each, and what would help.
+fn untold(policy: &Policy, unsaid: &[Unsaid]) -> Vec<String> {
+    let line = |unsaid: &Unsaid| match unsaid.record {
+        None => format!("{}: OPL/XML cannot say it: {}", policy.file, unsaid.why),
+        Some(at) => {
+            let (head, line) = (policy.head(at), policy.line(at));
+            format!("{head}: OPL/XML cannot say it: {line}: {}", unsaid.why)
+        }
+    };
+    let mut lines: Vec<String> = unsaid.iter().map(line).collect();
+    if unsaid.iter().any(|u| u.remedy == Some(Remedy::Renumber)) {
+        lines.push(
+            "--renumber writes it with its names, and lets a reader give the numbers".to_string(),
+        );
+    }
+    lines
 }

@@ -227,8 +227,12 @@ impl Told<'_> {
     fn object(&self, change: &Change) -> Value {
         let (old, new) = (self.old, self.new);
         let at = |policy: &Policy, place: Place| {
-            let line = policy.lines.get(place);
-            json!({"file": policy.file, "record": place + 1, "line": line, "text": policy.line(place)})
+            let (file, line, column) = (
+                policy.file_of(place),
+                policy.line_of(place),
+                policy.column_of(place),
+            );
+            json!({"file": file, "record": place + 1, "line": line, "column": column, "text": policy.line(place)})
         };
         let text = |name: &Option<Vec<u8>>| name.as_deref().map(crate::names::shown);
         match change {

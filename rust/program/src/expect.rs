@@ -292,6 +292,7 @@ fn empty(file: &str) -> Policy {
         bytes: Vec::new(),
         lines: Vec::new(),
         names: Names::default(),
+        ..Policy::default()
     }
 }
 
@@ -511,6 +512,7 @@ impl<'a> Run<'a> {
             bytes: mended.records,
             lines,
             names: block.names,
+            ..Policy::default()
         };
         self.begin(policy.clone(), true);
         self.loaded = true;

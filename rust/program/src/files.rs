@@ -102,6 +102,7 @@ pub fn write(mut desk: Desk, requests: &Requests, output: &Output, out: &mut dyn
         bytes: written(desk.engine())?,
         lines: Vec::new(),
         names: desk.names,
+        dealt: None,
         ..desk.policy
     };
     output.put(&policy, out)?;
@@ -130,7 +131,7 @@ pub fn mend(policy: Policy, output: Option<&Output>, as_json: bool, out: &mut dy
         let (at, line) = (policy.place_within(place - 1), policy.line(place - 1));
         report += &match as_json {
             true => {
-                let line_of_text = policy.lines.get(place - 1);
+                let line_of_text = policy.line_of(place - 1);
                 let (number, name) = (reply.number(), reply.name());
                 format!(
                     "{}\n",

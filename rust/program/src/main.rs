@@ -43,10 +43,18 @@ fn text<'a>(given: &'a ArgMatches, name: &str) -> Option<&'a str> {
     given.get_one::<String>(name).map(String::as_str)
 }
 
-fn policy(given: &ArgMatches) -> Result<Policy, Stop> {
+/// The policy that is named. What is to be warned of in a dealer's text is left to the caller.
+fn read_policy(given: &ArgMatches) -> Result<Policy, Stop> {
     let format = text(given, "from").and_then(Format::of_name);
     let file = text(given, "policy").unwrap_or("-");
     source::policy(file, text(given, "tasks"), format)
+}
+
+/// The policy that is named, warnings told on standard error.
+fn policy(given: &ArgMatches) -> Result<Policy, Stop> {
+    let policy = read_policy(given)?;
+    policy.warnings().iter().for_each(report::report);
+    Ok(policy)
 }
 
 fn style(given: &ArgMatches) -> Style {
@@ -59,43 +67,94 @@ fn style(given: &ArgMatches) -> Style {
     }
 }
 
+/// The file that an option names, which is none of those that are read here.
+fn to_file<'a>(given: &'a ArgMatches, option: &str) -> Result<Option<&'a str>, Stop> {
+    let Some(name) = text(given, option).filter(|&name| name != "-") else {
+        return Ok(None);
+    };
+    let inputs = ["policy", "tasks", "requests"].map(|name| text(given, name));
+    let mut inputs = inputs.iter().flatten();
+    match inputs.any(|input| files::is_same(name, input)) {
+        true => wrong(format!(
+            "{name}: it is read here, and is not written over: -o takes another name"
+        )),
+        false => Ok(Some(name)),
+    }
+}
+
+fn created(name: &str) -> Result<BufWriter<File>, Stop> {
+    match File::create(name) {
+        Ok(made) => Ok(BufWriter::new(made)),
+        Err(why) => wrong(format!("{name}: it cannot be written: {why}")),
+    }
+}
+
 fn convert(given: &ArgMatches, out: &mut dyn Write) -> Done {
     let policy = policy(given)?;
     let numbers = given.get_flag("numbers");
     let to = match text(given, "to") {
         Some("records") => convert::To::Records,
+        Some("opl") => return convert_to_opl(given, &policy, out),
         _ => convert::To::Text { numbers },
     };
+    if text(given, "tasks-to").is_some() || given.get_flag("renumber") {
+        return wrong("--tasks-to and --renumber go with --to opl");
+    }
     let requests = match text(given, "requests") {
         Some(file) => Some(source::requests(file, &policy.names)?),
         None => None,
     };
     let mut file;
-    let to_file = text(given, "output").filter(|&name| name != "-");
-    let inputs = ["policy", "tasks", "requests"].map(|name| text(given, name));
-    if let Some(name) = to_file {
-        if inputs
-            .iter()
-            .flatten()
-            .any(|input| files::is_same(name, input))
-        {
-            return wrong(format!(
-                "{name}: it is read here, and is not written over: -o takes another name"
-            ));
-        }
-    }
-    let out = match to_file.map(|name| (name, File::create(name))) {
+    let out = match to_file(given, "output")? {
         None => out,
-        Some((_, Ok(made))) => {
-            file = BufWriter::new(made);
+        Some(name) => {
+            file = created(name)?;
             &mut file as &mut dyn Write
         }
-        Some((name, Err(why))) => return wrong(format!("{name}: it cannot be written: {why}")),
     };
     match requests {
         Some(requests) => convert::requests(&requests, &policy.names, to, out),
         None => convert::policy(&policy, to, out),
     }
+}
+
+/// Two texts, the task lines to a file of their own.
+fn convert_to_opl(given: &ArgMatches, policy: &Policy, out: &mut dyn Write) -> Done {
+    if text(given, "requests").is_some() {
+        return wrong(
+            "requests have no form in OPL/XML: --requests goes with --to text or records",
+        );
+    }
+    let way = notation::dealer::Way {
+        renumber: given.get_flag("renumber"),
+        ..Default::default()
+    };
+    let written = convert::opl(policy, given.get_flag("numbers"), way)?;
+    let (file, tasks) = (to_file(given, "output")?, to_file(given, "tasks-to")?);
+    let Some(tasks) = tasks else {
+        return match written.tasks.is_empty() {
+            true => put(file, &written.policy, out),
+            false => wrong("the task lines are a text of their own: --tasks-to names its file"),
+        };
+    };
+    if file.is_some_and(|file| file == tasks || files::is_same(file, tasks)) {
+        return wrong(format!("{tasks}: -o and --tasks-to name one file"));
+    }
+    put(Some(tasks), &written.tasks, out)?;
+    put(file, &written.policy, out)
+}
+
+/// Bytes to a file, or to standard output.
+fn put(file: Option<&str>, bytes: &[u8], out: &mut dyn Write) -> Done {
+    match file {
+        None => out.write_all(bytes)?,
+        Some(name) => {
+            let mut file = created(name)?;
+            let written = file.write_all(bytes).and_then(|()| file.flush());
+            written.or_else(|why| wrong(format!("{name}: it cannot be written: {why}")))?;
+        }
+    }
+    Ok(WELL)
 }
 
 fn write(given: &ArgMatches, out: &mut dyn Write) -> Done {
@@ -409,7 +468,7 @@ fn done(out: &mut dyn Write) -> Done {
     match given.subcommand() {
         Some(("check", given)) => {
             let (strict, json) = (given.get_flag("strict"), given.get_flag("json"));
-            check::check(policy(given)?, strict, json, out)
+            check::check(read_policy(given)?, strict, json, out)
         }
         Some(("run", given)) => {
             run::run(policy(given)?, text(given, "requests"), style(given), out)

@@ -87,19 +87,26 @@ fn show_refusal(
             } else {
                 clashes(policy, before, reply)
             };
-            let line = policy.lines.get(before);
+            let (line, column) = (policy.line_of(before), policy.column_of(before));
+            let file = if place == 0 {
+                &policy.file
+            } else {
+                policy.file_of(before)
+            };
             let record = policy.line(before);
             let refused = json!({
-                "load": reply.number(), "name": reply.name(), "place": place, "file": policy.file,
-                "line": line, "record": record, "because": because,
+                "load": reply.number(), "name": reply.name(), "place": place, "file": file,
+                "line": line, "column": column, "record": record, "because": because,
             });
             writeln!(out, "{refused}")?;
         }
         Style::Words { .. } => {
-            let at = if place == 0 {
-                String::new()
-            } else {
-                format!(" at record {place}")
+            let at = match place.checked_sub(1) {
+                None => String::new(),
+                Some(before) if policy.dealt.is_some() => {
+                    format!(" at {}", policy.place_within(before))
+                }
+                Some(_) => format!(" at record {place}"),
             };
             writeln!(out, "load {reply}{at}")?;
             for line in refusal(policy, refused) {
@@ -191,8 +198,8 @@ fn explained(desk: &Desk, why: &Why) -> Value {
     let mut value = json!({ "because": why.because });
     if let Some((place, _)) = why.rule {
         value["rule"] = json!({
-            "text": desk.policy.line(place), "file": desk.policy.file,
-            "record": place + 1, "line": desk.policy.lines.get(place),
+            "text": desk.policy.line(place), "file": desk.policy.file_of(place),
+            "record": place + 1, "line": desk.policy.line_of(place), "column": desk.policy.column_of(place),
         });
     }
     if let Some((task, could)) = &why.could {

@@ -28,8 +28,8 @@ pub fn warnings(desk: &Desk) -> Vec<String> {
     found.templates();
     found.all.sort();
     let line = |(place, text): (usize, String)| {
-        let at = desk.policy.place_within(place);
-        format!("{}: {at}: warning: {text}", desk.policy.file)
+        let head = desk.policy.head(place);
+        format!("{head}: warning: {text}")
     };
     found.all.into_iter().map(line).collect()
 }

@@ -1006,7 +1006,10 @@ fn dealers_policies_are_compared_by_names() {
         .lines()
         .filter(|line| line.starts_with(['+', '-', '~', '>']))
         .collect();
-    assert_eq!(added, [format!("+ user \"user:anna\" ({new}, record 1)")]);
+    assert_eq!(
+        added,
+        [format!("+ user \"user:anna\" ({new}, line 26, column 9)")]
+    );
     assert!(
         told.contains("= user \"user:klaus_meier\": number 1, was 0\n"),
         "{told}"

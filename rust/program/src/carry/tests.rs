@@ -50,6 +50,7 @@ fn policy(random: &mut Random) -> Policy {
         bytes: kept.iter().flat_map(|record| record.0).collect(),
         lines: Vec::new(),
         names: Names::default(),
+        ..Policy::default()
     }
 }
 

@@ -83,6 +83,7 @@ fn desk(random: &mut Random, size: &Size) -> Desk {
         bytes: records.iter().flat_map(|record| record.0).collect(),
         lines: Vec::new(),
         names: Names::default(),
+        ..Policy::default()
     };
     let mut desk = Desk::open(&policy).expect("what was kept loads");
     let _ = desk.ask(&Record::open_order(0, 0).0);

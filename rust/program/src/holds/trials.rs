@@ -332,6 +332,7 @@ fn policy_of(records: &[Record]) -> Policy {
         bytes: records.iter().flat_map(|record| record.0).collect(),
         lines: Vec::new(),
         names: Names::default(),
+        ..Policy::default()
     }
 }
 

@@ -114,6 +114,7 @@ fn policy(act: &Connection, file: String) -> Result<Policy, Unfit> {
         bytes: Vec::new(),
         lines: Vec::new(),
         names: Names::default(),
+        ..Policy::default()
     };
     let mut rows = act.prepare("SELECT line, kind, n, a, b, c, m FROM policy ORDER BY place")?;
     let mut rows = rows.query([])?;

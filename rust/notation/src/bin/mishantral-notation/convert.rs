@@ -19,7 +19,13 @@ fn read(given: &Given) -> Result<Source, Stop> {
             let names = source::policy(policy, tasks, None)?.names;
             Source::Requests(source::requests(file, &names)?, names)
         }
-        None => Source::Policy(source::either(file, tasks)?),
+        None => {
+            let policy = source::either(file, tasks)?;
+            for warning in policy.warnings() {
+                eprintln!("mishantral-notation: {warning}");
+            }
+            Source::Policy(policy)
+        }
     })
 }
 

@@ -147,6 +147,9 @@ fn run(asked: &Asked, program: &Program, out: &mut dyn Write) -> Done {
         let file = &policy.file;
         eprintln!("desk: {file}: the plain reader reads it, which is not proved: the library has no reader");
     }
+    for warning in policy.warnings() {
+        eprintln!("desk: {warning}");
+    }
     let whole = asked.requests(&policy)?;
     program.put("policy.rec", &policy.bytes)?;
     let load = program.listing(&[])?;
