@@ -309,9 +309,21 @@ fn serve() -> Command {
                 .action(ArgAction::Append)
                 .conflicts_with("journal"),
         )
-        .arg(socket("Where clients come: a Unix socket"))
+        .arg(
+            socket("Where clients come: a Unix socket")
+                .required(false)
+                .required_unless_present("http"),
+        )
         .arg(value("socket-mode", "MODE", "The socket's mode in octal digits; 0600, its owner alone, where it is missing"))
         .arg(value("socket-group", "GROUP", "The socket's group"))
+        .arg(value("http", "ADDRESS", "Answer by HTTP too: at a loopback address, as 127.0.0.1:8080, or a Unix socket, as unix:desk.http (docs/HTTP.md)"))
+        .arg(
+            value("account-header", "NAME", "The header in which a proxy names the account that it has signed in; without it the system says whose a Unix socket's connection is")
+                .requires("http"),
+        )
+        .arg(value("http-mode", "MODE", "The mode of HTTP's Unix socket; 0600 where it is missing").requires("http"))
+        .arg(value("http-group", "GROUP", "The group of HTTP's Unix socket").requires("http"))
+        .arg(number("http-connections", "How many connections of HTTP there may be at once; 1024 where it is missing").requires("http"))
         .arg(
             value("access", "FILE", "Which account may ask what; without it the server's own account and root ask everything, and nobody else comes in")
                 .value_hint(ValueHint::FilePath),
@@ -337,6 +349,8 @@ fn serve() -> Command {
             "  mishantral serve --journal desk.db --socket desk.sock\n",
             "  mishantral ask --socket desk.sock 'open order 7 of template breakdown'\n",
             "  mishantral serve --desk mill=mill.db --desk yard=yard.db --socket desks.sock\n",
+            "  mishantral serve --journal desk.db --http unix:desk.http\n",
+            "  mishantral serve --journal desk.db --access access.txt --http 127.0.0.1:8080 --account-header X-Account\n",
             "\n",
             "Exit status: 1 a policy or a journal was refused, or the journal failed; 2 wrong use, or a file that cannot be read.",
         ))

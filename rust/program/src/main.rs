@@ -257,16 +257,16 @@ fn desks(given: &ArgMatches) -> Result<Vec<serve::Wanted>, Stop> {
     named.iter().map(one).collect()
 }
 
-/// The socket's mode, in octal digits.
-fn mode(given: &ArgMatches) -> Result<u32, Stop> {
-    let Some(digits) = text(given, "socket-mode") else {
+/// A socket's mode, in octal digits.
+fn mode(given: &ArgMatches, name: &str) -> Result<u32, Stop> {
+    let Some(digits) = text(given, name) else {
         return Ok(0o600);
     };
     let mode = u32::from_str_radix(digits, 8);
     match mode.ok().filter(|mode| mode & !0o777 == 0) {
         Some(mode) => Ok(mode),
         None => wrong(format!(
-            "--socket-mode {digits}: octal digits are expected, as 0660"
+            "--{name} {digits}: octal digits are expected, as 0660"
         )),
     }
 }
@@ -277,14 +277,22 @@ fn serve(given: &ArgMatches, out: &mut dyn Write) -> Done {
         Some(_) => Some(policy(given)?),
         None => None,
     };
+    let (socket_mode, http_mode) = (mode(given, "socket-mode")?, mode(given, "http-mode")?);
     let options = serve::Options {
         desks: desks(given)?,
         policy,
-        socket: serve::Socket {
-            path: text(given, "socket").unwrap_or_default().to_string(),
-            mode: mode(given)?,
+        socket: text(given, "socket").map(|path| serve::Socket {
+            path: path.to_string(),
+            mode: socket_mode,
             group: text(given, "socket-group").map(String::from),
-        },
+        }),
+        http: text(given, "http").map(|address| serve::Http {
+            address: address.to_string(),
+            header: text(given, "account-header").map(String::from),
+            mode: http_mode,
+            group: text(given, "http-group").map(String::from),
+            connections: number("http-connections", 1024) as usize,
+        }),
         access: text(given, "access").map(String::from),
         group: number("group", 4096) as usize,
         snapshot: number("snapshot", 100_000) as i64,

@@ -19,6 +19,8 @@ pub struct Why {
     pub because: Vec<String>,
     /// A task, and who could claim it now.
     pub could: Option<(u16, Candidates)>,
+    /// The order and the task of which it helps to know who could claim it.
+    pub claimable: Option<(u16, u16)>,
 }
 
 impl Why {
@@ -96,8 +98,17 @@ fn say_candidates(desk: &Desk, who: &[Candidate]) -> String {
     joined(&all)
 }
 
-/// Why the engine, as it stands, gave this record this answer.
+/// Why the engine, as it stands, gave this record this answer, and who could claim instead.
 pub fn why(desk: &Desk, bytes: &[u8], answer: Answer) -> Why {
+    let mut why = reason(desk, bytes, answer);
+    why.could = why
+        .claimable
+        .map(|(order, task)| (task, desk.candidates(order, task)));
+    why
+}
+
+/// Why alone, for those who ask much: who could claim instead is not looked for.
+pub fn reason(desk: &Desk, bytes: &[u8], answer: Answer) -> Why {
     let Some(record) = whole(bytes) else {
         return Why::because(format!(
             "a record has {LENGTH} bytes, and this has {}",
@@ -515,7 +526,7 @@ fn no_role(desk: &Desk, record: Record) -> Why {
         }
     }
     Why {
-        could: Some((task, desk.candidates(record.b(), task))),
+        claimable: Some((record.b(), task)),
         ..Why::all(because)
     }
 }
@@ -600,13 +611,11 @@ fn claim_rule(desk: &Desk, record: Record, answer: Answer) -> Why {
         claim.task
     };
     let held = claim.entries(|e| e.task == task && e.holder.is_some());
-    let could = held
-        .is_empty()
-        .then(|| (task, desk.candidates(claim.order, task)));
     Why {
         rule: Some((place, rule)),
         because: vec![claim.met(rule)],
-        could,
+        claimable: held.is_empty().then_some((claim.order, task)),
+        ..Why::default()
     }
 }
 
@@ -618,7 +627,7 @@ fn alone(desk: &Desk, record: Record) -> Why {
     let own = claim.entries(|e| e.user == claim.user);
     let reason = format!("{}: every other task", say_entries(desk, claim.user, &own));
     Why {
-        could: Some((claim.task, desk.candidates(claim.order, claim.task))),
+        claimable: Some((claim.order, claim.task)),
         ..Why::because(reason).by(rule)
     }
 }

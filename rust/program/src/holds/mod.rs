@@ -17,9 +17,11 @@ mod totals;
 mod trials;
 
 pub use calendar::{length, moment, next_time, shifts, Shift, Zone};
-pub use charts::{Panel, Picture};
+pub use charts::{picture, Panel, Picture};
 pub use figures::By;
 pub use measure::End;
+pub use objects::object;
+pub use text::csv;
 
 use crate::journal::{self, Unfit};
 use crate::stop::{wrong, Done, Stop, WELL};

@@ -379,6 +379,35 @@ pub fn time_of(connection: &Connection, word: Option<&str>, else_at: i64) -> Res
     })
 }
 
+/// Rows of a select behind the columns of a request.
+fn rows_of(file: &str, behind: &str, parameter: i64) -> Result<Vec<Row>, Unfit> {
+    let connection = found::reading(file)?;
+    // Keys are not wanted here: so it is the same whatever the version.
+    let all = select(2, "request");
+    let columns = all.split(" WHERE ").next().unwrap_or_default();
+    let mut select = connection.prepare(&format!("{columns} {behind}"))?;
+    let mut rows = select.query([parameter])?;
+    let mut all = Vec::new();
+    while let Some(columns) = rows.next()? {
+        all.push(row(columns)?.0);
+    }
+    Ok(all)
+}
+
+/// The granted requests from this one on that open, end or work on orders, without the names that they give.
+pub fn worked(file: &str, first: i64) -> Result<Vec<Row>, Unfit> {
+    let behind = "WHERE number >= ?1 AND reply = 0 AND kind BETWEEN 48 AND 52 ORDER BY number";
+    rows_of(file, behind, first)
+}
+
+/// The last so many requests that were refused, in their order.
+pub fn refused(file: &str, count: usize) -> Result<Vec<Row>, Unfit> {
+    let behind = "WHERE reply <> 0 ORDER BY number DESC LIMIT ?1";
+    let mut rows = rows_of(file, behind, count as i64)?;
+    rows.reverse();
+    Ok(rows)
+}
+
 fn replies(word: &str) -> Option<Replies> {
     if word.eq_ignore_ascii_case("refused") {
         return Some(Replies::Refused);

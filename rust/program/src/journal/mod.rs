@@ -30,7 +30,7 @@ pub use check::check;
 pub use files::{lock, private};
 pub use found::{found, of, reading, replay, said, there, Found, Look, Unfit};
 pub use head::head;
-pub use listing::{list, moment, name_of_opening, time, time_of, Filter};
+pub use listing::{list, moment, name_of_opening, refused, time, time_of, worked, Filter};
 pub use live::Live;
 pub use seal::{print as print_seal, Seal};
 

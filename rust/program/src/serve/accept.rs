@@ -3,6 +3,7 @@
 use super::account::{peer, Gate};
 use super::client;
 use super::door::Door;
+use super::meter::Meter;
 use super::question::Pool;
 use crate::report::report;
 use nix::sys::resource::{getrlimit, setrlimit, Resource};
@@ -11,7 +12,7 @@ use std::collections::BTreeMap;
 use std::fs::File;
 use std::io::{self, Write};
 use std::os::unix::net::{UnixListener, UnixStream};
-use std::sync::atomic::{AtomicBool, Ordering};
+use std::sync::atomic::{AtomicBool, AtomicI64, Ordering};
 use std::sync::{Arc, Mutex, PoisonError};
 use std::thread;
 use std::time::Duration;
@@ -35,7 +36,10 @@ pub struct House {
     /// No further client comes.
     pub closing: AtomicBool,
     pub limits: Limits,
+    pub meter: Arc<Meter>,
     counts: Mutex<Counts>,
+    /// How many clients have come.
+    came: AtomicI64,
 }
 
 /// How many clients there may be, and how many of one account.
@@ -76,6 +80,7 @@ impl House {
         gate: Gate,
         pool: Pool,
         limits: Limits,
+        meter: Arc<Meter>,
     ) -> House {
         House {
             desks,
@@ -83,8 +88,15 @@ impl House {
             pool,
             closing: AtomicBool::new(false),
             limits,
+            meter,
             counts: Mutex::default(),
+            came: AtomicI64::new(0),
         }
+    }
+
+    /// The number of a client that comes, from 1.
+    pub fn next_client(&self) -> i64 {
+        self.came.fetch_add(1, Ordering::Relaxed) + 1
     }
 
     fn counts(&self) -> std::sync::MutexGuard<'_, Counts> {
@@ -141,7 +153,6 @@ pub fn accept(listener: &UnixListener, house: &Arc<House>) {
     // A descriptor to spare: where none is left, a client is taken with it and told.
     let spare = || File::open("/dev/null").ok();
     let mut spared = spare();
-    let mut number = 0;
     loop {
         let taken = listener.accept();
         if house.closing.load(Ordering::Relaxed) {
@@ -149,8 +160,7 @@ pub fn accept(listener: &UnixListener, house: &Arc<House>) {
         }
         match taken {
             Ok((stream, _)) => {
-                number += 1;
-                take(stream, number, house);
+                take(stream, house.next_client(), house);
             }
             // The system looks for a free descriptor before it waits for a client: whether there is one by then shows afterwards.
             Err(why) if is_full(&why) => {
@@ -159,8 +169,7 @@ pub fn accept(listener: &UnixListener, house: &Arc<House>) {
                 spared = spare();
                 match (taken, &spared) {
                     (Ok((stream, _)), Some(_)) => {
-                        number += 1;
-                        take(stream, number, house);
+                        take(stream, house.next_client(), house);
                     }
                     (Ok((stream, _)), None) => {
                         let told = "the server has no descriptor left for a further client";
@@ -215,8 +224,8 @@ fn take(stream: UnixStream, number: i64, house: &Arc<House>) {
 }
 
 /// Raises how many descriptors may be open as far as the system lets it; the clients that there may be by that, and what to tell.
-pub fn descriptors(clients: usize, desks: usize) -> (usize, Option<String>) {
-    let own = OWN + OF_A_DESK * desks as u64;
+pub fn descriptors(clients: usize, desks: usize, http: usize) -> (usize, Option<String>) {
+    let own = OWN + OF_A_DESK * desks as u64 + http as u64;
     let wanted = own + clients as u64;
     let Ok((mut soft, hard)) = getrlimit(Resource::RLIMIT_NOFILE) else {
         return (clients, None);

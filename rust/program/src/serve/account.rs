@@ -10,7 +10,6 @@ use nix::unistd::{getgrouplist, Group, Uid, User};
 use records::Record;
 use std::ffi::CString;
 use std::os::fd::AsRawFd;
-use std::os::unix::net::UnixStream;
 use std::sync::Arc;
 
 /// An account, as established by the connection's listener.
@@ -30,7 +29,7 @@ pub enum Gate {
 }
 
 /// The user's number of the process at the other end, by the kernel.
-pub fn peer(stream: &UnixStream) -> nix::Result<Uid> {
+pub fn peer(stream: &impl AsRawFd) -> nix::Result<Uid> {
     let credentials = getsockopt(stream.as_raw_fd(), PeerCredentials)?;
     Ok(Uid::from_raw(credentials.uid()))
 }
@@ -71,6 +70,28 @@ impl Gate {
         }
     }
 
+    /// An account that a proxy names, which has signed it in; `via` is whom the proxy runs as.
+    pub fn named(&self, account: &str, via: &Arc<str>) -> Who {
+        let rights = match self {
+            Gate::Owner(_) => Rights::default(),
+            Gate::Listed(access) => access.rights(account, |group| is_member(account, group)),
+        };
+        Who {
+            account: account.into(),
+            via: Some(via.clone()),
+            rights,
+        }
+    }
+
+    /// Somebody of whom the system says nothing but where it is.
+    pub fn nobody(&self, place: &str) -> Who {
+        Who {
+            account: place.into(),
+            via: None,
+            rights: Rights::default(),
+        }
+    }
+
     /// The account that a gateway speaks for; or why it may not.
     pub fn speaking_for(&self, gateway: &Who, account: &str) -> Result<Who, Told> {
         let by = &gateway.account;
@@ -100,7 +121,7 @@ pub enum Told {
 }
 
 impl Who {
-    fn is_user(&self, user: u16, names: &Names) -> bool {
+    pub fn is_user(&self, user: u16, names: &Names) -> bool {
         let is = |whose: &Whose| match whose {
             Whose::Number(number) => *number == user,
             Whose::Name(name) => names.name(Sort::User, user) == Some(name),

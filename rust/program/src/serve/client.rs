@@ -5,7 +5,7 @@ use super::account::Who;
 use super::door::{Door, Entered};
 use super::form::{self, Item, Shown};
 use super::greeting::{greeted, Form, Greeted};
-use super::group::{Asked, Batch, Waiting};
+use super::group::{Asked, Back, Batch, Waiting};
 use super::input::{Cut, Input, Keyed};
 use super::keys;
 use super::question::{self, Asks, Unanswered};
@@ -13,7 +13,7 @@ use crate::journal::{self, Barred, Bytes};
 use nix::unistd::Uid;
 use std::io::{self, Read, Write};
 use std::os::unix::net::UnixStream;
-use std::sync::mpsc::{sync_channel, Receiver, SyncSender};
+use std::sync::mpsc::{sync_channel, Receiver};
 use std::sync::Arc;
 use std::time::Duration;
 
@@ -57,7 +57,7 @@ struct Client<'a> {
     items: Vec<Item>,
     asked: Vec<Asked>,
     /// A batch comes back by this channel; its other end goes with it.
-    back: (Option<SyncSender<Batch>>, Receiver<Batch>),
+    back: (Option<Back>, Receiver<Batch>),
 }
 
 /// Serves a client until it ends, or its desk does.
@@ -92,7 +92,7 @@ pub fn serve(stream: &Arc<UnixStream>, number: i64, uid: Uid, house: &House) -> 
         lines,
         items: Vec::new(),
         asked: Vec::new(),
-        back: (Some(to), from),
+        back: (Some(Back::Thread(to)), from),
     };
     match form {
         Form::Lines => client.lines(),

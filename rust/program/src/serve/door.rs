@@ -1,6 +1,7 @@
 //! What clients have of a desk: the way to its thread, the names to read lines with, and that it has ended.
 
 use super::account::Who;
+use super::feed::Feed;
 use super::group::Waiting;
 use crate::journal::{Barred, Live};
 use crate::names::Names;
@@ -21,6 +22,8 @@ pub struct Door {
     pub policy: Policy,
     /// The journal's file; none where nothing survives.
     pub journal: Option<String>,
+    /// What the desk's thread tells.
+    pub feed: Arc<Feed>,
     inside: Mutex<Inside>,
 }
 
@@ -56,6 +59,7 @@ impl Door {
         live: Arc<RwLock<Live>>,
         policy: Policy,
         journal: Option<String>,
+        feed: Arc<Feed>,
     ) -> Door {
         Door {
             name,
@@ -63,6 +67,7 @@ impl Door {
             live,
             policy,
             journal,
+            feed,
             inside: Mutex::default(),
         }
     }

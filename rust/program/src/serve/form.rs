@@ -106,7 +106,7 @@ pub fn of_object(line: &[u8]) -> (Result<(Said, Key), String>, Option<Value>) {
 }
 
 /// Hexadecimal digits, two a byte, at most sixteen bytes.
-fn bytes_of(digits: &str) -> Result<Vec<u8>, String> {
+pub fn bytes_of(digits: &str) -> Result<Vec<u8>, String> {
     let expected = || "a record is 32 hexadecimal digits, or fewer where it is cut".to_string();
     let even =
         digits.is_ascii() && digits.len().is_multiple_of(2) && (2..=32).contains(&digits.len());

@@ -2,6 +2,7 @@
 //! journal in one transaction, and only then hands the replies back.
 
 use super::account::Who;
+use super::feed::Feed;
 use super::form;
 use super::keys::{self, Remembered};
 use crate::journal::{
@@ -14,7 +15,8 @@ use records::Record;
 use std::sync::atomic::{AtomicU64, Ordering};
 use std::sync::mpsc::{Receiver, RecvTimeoutError, SyncSender};
 use std::sync::{Arc, RwLock};
-use std::time::Duration;
+use std::time::{Duration, Instant};
+use tokio::sync::oneshot;
 
 /// A request on its way.
 #[derive(Debug)]
@@ -78,7 +80,29 @@ pub struct Batch {
     pub asked: Vec<Asked>,
     /// Why those without a number were not done.
     pub failed: Option<String>,
-    pub back: SyncSender<Batch>,
+    pub back: Back,
+}
+
+/// Whom a batch goes back to: a client's thread, or a task that waits for it.
+#[derive(Debug)]
+pub enum Back {
+    Thread(SyncSender<Batch>),
+    Task(Option<oneshot::Sender<Batch>>),
+}
+
+impl Batch {
+    /// A client that has gone is not told.
+    fn hand_back(mut self) {
+        match &mut self.back {
+            Back::Thread(to) => {
+                let to = to.clone();
+                let _ = to.send(self);
+            }
+            Back::Task(to) => {
+                let _ = to.take().map(|to| to.send(self));
+            }
+        }
+    }
 }
 
 /// What a desk's thread is asked for.
@@ -111,6 +135,8 @@ pub struct Served {
     pub keys: i64,
     /// The keys of a desk without a journal.
     pub remembered: Remembered,
+    /// What those who look on are told.
+    pub feed: Arc<Feed>,
 }
 
 /// How often the journal's files are looked at while nobody asks.
@@ -141,12 +167,8 @@ impl Taken {
         0
     }
 
-    /// A client that has gone is not told.
     fn hand_back(&mut self) {
-        for batch in self.group.drain(..) {
-            let back = batch.back.clone();
-            let _ = back.send(batch);
-        }
+        self.group.drain(..).for_each(Batch::hand_back);
     }
 }
 
@@ -212,6 +234,7 @@ impl Served {
             return Ok(true);
         };
         barred.at = journal.time();
+        self.feed.answered(&[], 1, &self.live.names);
         let group = Group {
             rows: &[],
             barred: &[barred],
@@ -327,11 +350,13 @@ impl Served {
                 live: &self.live,
             };
             let nothing = rows.is_empty() && barred.is_empty();
-            if let Err(why) = if nothing {
-                Ok(())
-            } else {
-                journal.write(&group)
-            } {
+            let began = Instant::now();
+            let written = match nothing {
+                true => Ok(()),
+                false => journal.write(&group),
+            };
+            self.feed.wrote(began.elapsed(), part.len(), &written);
+            if let Err(why) = written {
                 self.engine = engine;
                 self.live.openings = openings;
                 if self.live.changes != changes {
@@ -348,6 +373,7 @@ impl Served {
         if self.live.changes != changes {
             self.publish(&rows);
         }
+        self.feed.answered(&rows, barred.len(), &self.live.names);
         for (batch, request, recorded) in again {
             keys::answered(
                 &mut group[batch].asked[request],

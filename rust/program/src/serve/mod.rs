@@ -6,14 +6,18 @@ mod access;
 mod account;
 mod client;
 mod door;
+mod feed;
 mod form;
 mod greeting;
 mod group;
+mod http;
 mod input;
 mod keys;
 mod listen;
+mod meter;
 mod question;
 
+pub use http::Wanted as Http;
 pub use listen::Socket;
 pub use question::Allowed;
 
@@ -26,7 +30,9 @@ use accept::{House, Limits};
 use access::{Access, Whose};
 use account::Gate;
 use door::Door;
+use feed::{Feed, Seen};
 use group::{Served, Waiting};
+use meter::Meter;
 use mishantral::Engine;
 use nix::sys::signal::{SigSet, Signal};
 use nix::unistd::Uid;
@@ -50,7 +56,9 @@ pub struct Wanted {
 pub struct Options {
     pub desks: Vec<Wanted>,
     pub policy: Option<Policy>,
-    pub socket: Socket,
+    /// Where clients come: a socket, HTTP, or both.
+    pub socket: Option<Socket>,
+    pub http: Option<Http>,
     /// The access file; without one the server's own account and root speak for everyone, and nobody else comes in.
     pub access: Option<String>,
     /// How many requests go into one transaction at most.
@@ -75,24 +83,28 @@ pub fn serve(options: &Options, out: &mut dyn Write) -> Done {
     let ends = ends_asked_for().map_err(|why| cannot("the signals cannot be waited for", &why))?;
     report::in_background().map_err(|why| threads(&why))?;
     let pool = Pool::new(options.questions).map_err(|why| threads(&why))?;
+    let meter = Meter::new().map_err(|why| cannot("the figures cannot be kept", &why))?;
     let gate = gate(options)?;
     let (mut desks, mut served) = (BTreeMap::new(), Vec::new());
     for wanted in &options.desks {
         if desks.contains_key(&wanted.name) {
             return wrong(format!("desk {}: it is named twice", wanted.name));
         }
-        let (door, desk, waiting, line) = opened(options, wanted, &pool.answered)?;
+        let (door, desk, waiting, line) = opened(options, wanted, &pool.answered, &meter)?;
         tell(&line);
         unknown_users(&gate, &door);
         desks.insert(wanted.name.clone(), door.clone());
         served.push((door, desk, waiting));
     }
-    let listening = listen::listen(&options.socket)?;
-    let (clients, told) = accept::descriptors(options.clients, desks.len());
+    let listening = options.socket.as_ref().map(listen::listen).transpose()?;
+    let by_http = |wanted: &Http| http::open(wanted, options.access.is_some());
+    let by_http = options.http.as_ref().map(by_http).transpose()?;
+    let connections = options.http.as_ref().map_or(0, |wanted| wanted.connections);
+    let (clients, told) = accept::descriptors(options.clients, desks.len(), connections);
     told.iter().for_each(report);
     let each = options.clients_each.unwrap_or(clients.div_ceil(2));
     let limits = Limits { clients, each };
-    let house = Arc::new(House::new(desks, gate, pool, limits));
+    let house = Arc::new(House::new(desks, gate, pool, limits, Arc::new(meter)));
     let (ended, came) = channel();
     for (door, desk, waiting) in served {
         let ended = ended.clone();
@@ -100,28 +112,47 @@ pub fn serve(options: &Options, out: &mut dyn Write) -> Done {
             let why = group::work(desk, waiting);
             let _ = ended.send((door, why));
         };
-        thread::Builder::new()
-            .spawn(work)
-            .map_err(|why| threads(&why))?;
+        started(work)?;
     }
-    let listening = Arc::new(listening);
-    let (accepting, taking) = (listening.clone(), house.clone());
-    let accept = move || accept::accept(&accepting.listener, &taking);
-    thread::Builder::new()
-        .spawn(accept)
-        .map_err(|why| threads(&why))?;
-    let (waiting, closing) = (house.clone(), listening.clone());
-    let end = move || {
+    let mut at = Vec::new();
+    let serving = by_http.map(|opened| {
+        at.push(format!("HTTP at {}", opened.at));
+        http::start(opened, &house).map_err(|why| threads(&why))
+    });
+    let serving = serving.transpose()?.map(Arc::new);
+    let listening = listening.map(Arc::new);
+    if let Some(accepting) = listening.clone() {
+        let taking = house.clone();
+        started(move || accept::accept(&accepting.listener, &taking))?;
+    }
+    let (waiting, by_http) = (house.clone(), serving.clone());
+    started(move || {
         if ends.wait().is_ok() {
-            closing.remove();
+            listening.iter().for_each(|listening| listening.remove());
+            by_http.iter().for_each(|serving| serving.close());
             close(&waiting);
         }
-    };
-    thread::Builder::new()
-        .spawn(end)
-        .map_err(|why| threads(&why))?;
-    tell(&format!("serving on {}", options.socket.path));
-    Ok(until_all_end(&house, &came, options.together))
+    })?;
+    at.extend(options.socket.as_ref().map(|socket| socket.path.clone()));
+    tell(&format!("serving on {}", at.join(" and ")));
+    let status = until_all_end(&house, &came, options.together);
+    serving.iter().for_each(|serving| serving.close());
+    answered(&house, serving.as_deref());
+    Ok(status)
+}
+
+fn started(work: impl FnOnce() + Send + 'static) -> Result<(), Stop> {
+    let started = thread::Builder::new().spawn(work);
+    started.map(drop).map_err(|why| threads(&why))
+}
+
+/// Replies that are on their way are sent, if that takes no longer than two seconds.
+fn answered(house: &House, serving: Option<&http::Serving>) {
+    let began = Instant::now();
+    let left = || house.clients() + serving.map_or(0, |serving| serving.connections());
+    while left() > 0 && began.elapsed() < Duration::from_secs(2) {
+        thread::sleep(Duration::from_millis(5));
+    }
 }
 
 /// A desk that has ended, and how.
@@ -147,11 +178,6 @@ fn until_all_end(house: &Arc<House>, came: &Receiver<Ended>, together: bool) -> 
                 }
             }
         }
-    }
-    // Replies that are on their way are sent.
-    let began = Instant::now();
-    while house.clients() > 0 && began.elapsed() < Duration::from_secs(2) {
-        thread::sleep(Duration::from_millis(5));
     }
     status
 }
@@ -210,12 +236,22 @@ fn threads(why: &std::io::Error) -> Stop {
 type Opened = (Arc<Door>, Served, Receiver<Waiting>, String);
 
 /// Reads a desk's journal, which is begun where there is none.
-fn opened(options: &Options, wanted: &Wanted, answered: &Arc<AtomicU64>) -> Result<Opened, Stop> {
+fn opened(
+    options: &Options,
+    wanted: &Wanted,
+    answered: &Arc<AtomicU64>,
+    meter: &Meter,
+) -> Result<Opened, Stop> {
     let (policy, live, engine, journal, last, line) = match &wanted.journal {
         Some(file) => from_journal(options, wanted, file)?,
         None => without(options)?,
     };
     let shared = Arc::new(RwLock::new(live.clone()));
+    let seen = options.http.as_ref().map(|_| match &wanted.journal {
+        Some(file) => Seen::read(file, &live),
+        None => Seen::default(),
+    });
+    let feed = Arc::new(Feed::new(http::shown(&wanted.name), meter, last, seen));
     let served = Served {
         engine,
         journal,
@@ -226,10 +262,11 @@ fn opened(options: &Options, wanted: &Wanted, answered: &Arc<AtomicU64>) -> Resu
         answered: answered.clone(),
         keys: options.keys,
         remembered: Default::default(),
+        feed: feed.clone(),
     };
     let (to, waiting) = channel();
     let (name, file) = (wanted.name.clone(), wanted.journal.clone());
-    let door = Door::new(name, to, shared, policy, file);
+    let door = Door::new(name, to, shared, policy, file, feed);
     Ok((Arc::new(door), served, waiting, line))
 }
 

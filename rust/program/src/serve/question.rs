@@ -21,7 +21,7 @@ use std::collections::{BTreeMap, VecDeque};
 use std::os::fd::AsRawFd;
 use std::os::unix::net::UnixStream;
 use std::sync::atomic::{AtomicBool, AtomicU64, Ordering};
-use std::sync::mpsc::{sync_channel, RecvTimeoutError, SyncSender};
+use std::sync::mpsc::{sync_channel, RecvTimeoutError};
 use std::sync::{Arc, Condvar, Mutex, MutexGuard, PoisonError};
 use std::thread;
 use std::time::{Duration, Instant};
@@ -76,12 +76,36 @@ pub struct Allowed {
     pub bytes: usize,
 }
 
+/// Whether the one who asked has gone.
+pub type Gone = Arc<AtomicBool>;
+
 struct Job {
-    door: Arc<Door>,
-    asks: Asks,
-    json: bool,
-    gone: Arc<AtomicBool>,
-    back: SyncSender<(Result<String, String>, Duration)>,
+    work: Box<dyn FnOnce(&Pool) + Send>,
+    gone: Gone,
+    turn: Turn,
+}
+
+/// A place among the questions of an account, which is free again when this goes.
+pub struct Turn {
+    pool: Pool,
+    account: Arc<str>,
+}
+
+impl Turn {
+    /// What a question took counts for its account.
+    pub fn took(&self, time: Duration) {
+        if let Some(account) = self.pool.inside().accounts.get_mut(&self.account) {
+            account.taken += time;
+        }
+    }
+}
+
+impl Drop for Turn {
+    fn drop(&mut self) {
+        if let Some(account) = self.pool.inside().accounts.get_mut(&self.account) {
+            account.waiting -= 1;
+        }
+    }
 }
 
 /// What an account's questions take.
@@ -152,25 +176,53 @@ impl Pool {
                 continue;
             }
             let began = Instant::now();
-            let answer = self.answer(&job);
-            let _ = job.back.send((answer, began.elapsed()));
+            (job.work)(self);
+            job.turn.took(began.elapsed());
         }
     }
 
-    fn answer(&self, job: &Job) -> Result<String, String> {
+    /// A copy of a desk's engine as it stands.
+    pub fn look(door: &Door) -> Result<Engine, String> {
         let ended = || "the desk has ended".to_string();
         let (to, from) = sync_channel(1);
-        let sent = job.door.to.send(Waiting::Look(to));
-        sent.map_err(|_| ended())?;
-        let engine = from.recv().map_err(|_| ended())?;
-        let budget = Budget::of_question(
-            finish::TRIES,
-            self.allowed.seconds,
-            self.allowed.bytes,
-            job.gone.clone(),
-            self.answered.clone(),
-        );
-        answer(&job.door, engine, &job.asks, job.json, &budget)
+        door.to.send(Waiting::Look(to)).map_err(|_| ended())?;
+        from.recv().map_err(|_| ended())
+    }
+
+    /// What a question may take.
+    pub fn budget(&self, gone: &Gone) -> Budget {
+        let Allowed { seconds, bytes } = self.allowed;
+        let (gone, answered) = (gone.clone(), self.answered.clone());
+        Budget::of_question(finish::TRIES, seconds, bytes, gone, answered)
+    }
+
+    /// A place for a question of an account; or why there is none.
+    pub fn turn(&self, account: &Arc<str>) -> Result<Turn, String> {
+        self.admit(account)?;
+        Ok(Turn {
+            pool: self.clone(),
+            account: account.clone(),
+        })
+    }
+
+    /// Has the pool's threads do this, in its turn; not where `gone` is set by then.
+    pub fn put(&self, turn: Turn, gone: Gone, work: impl FnOnce(&Pool) + Send + 'static) {
+        let work = Box::new(work);
+        self.inside().jobs.push_back(Job { work, gone, turn });
+        self.inside.1.notify_one();
+    }
+
+    /// What waits for nobody goes.
+    pub fn forget_gone(&self) {
+        let mut inside = self.inside();
+        let (gone, there): (Vec<Job>, Vec<Job>) = inside
+            .jobs
+            .drain(..)
+            .partition(|job| job.gone.load(Ordering::Relaxed));
+        inside.jobs = there.into();
+        drop(inside);
+        // Their turns end only now: they look inside too.
+        drop(gone);
     }
 
     /// Asks, and waits for the answer as long as the client is there.
@@ -182,40 +234,26 @@ impl Pool {
         json: bool,
         client: &UnixStream,
     ) -> Result<String, Unanswered> {
-        self.admit(&who.account).map_err(Unanswered::Wrong)?;
+        let turn = self.turn(&who.account).map_err(Unanswered::Wrong)?;
         let (back, from) = sync_channel(1);
-        let gone = Arc::new(AtomicBool::new(false));
-        let job = Job {
-            door: door.clone(),
-            asks,
-            json,
-            gone: gone.clone(),
-            back,
-        };
-        self.inside().jobs.push_back(job);
-        self.inside.1.notify_one();
-        let came = loop {
+        let gone = Gone::default();
+        let (door, inside) = (door.clone(), gone.clone());
+        self.put(turn, gone.clone(), move |pool| {
+            let engine = Pool::look(&door);
+            let budget = pool.budget(&inside);
+            let _ = back.send(engine.and_then(|e| answer(&door, e, &asks, json, &budget)));
+        });
+        loop {
             match from.recv_timeout(LOOK) {
-                Ok((answer, took)) => break Some((answer, took)),
-                Err(RecvTimeoutError::Disconnected) => break None,
-                Err(RecvTimeoutError::Timeout) if has_gone(client) => {
-                    gone.store(true, Ordering::Relaxed);
-                    break None;
-                }
+                Ok(answer) => return answer.map_err(Unanswered::Wrong),
+                Err(RecvTimeoutError::Disconnected) => break,
+                Err(RecvTimeoutError::Timeout) if has_gone(client) => break,
                 Err(RecvTimeoutError::Timeout) => {}
             }
-        };
-        let mut inside = self.inside();
-        inside.jobs.retain(|job| !job.gone.load(Ordering::Relaxed));
-        if let Some(account) = inside.accounts.get_mut(&who.account) {
-            account.waiting -= 1;
-            account.taken += came.as_ref().map_or(Duration::ZERO, |(_, took)| *took);
         }
-        drop(inside);
-        match came {
-            Some((answer, _)) => answer.map_err(Unanswered::Wrong),
-            None => Err(Unanswered::Gone),
-        }
+        gone.store(true, Ordering::Relaxed);
+        self.forget_gone();
+        Err(Unanswered::Gone)
     }
 
     /// Whether an account may ask a further question now; or why not.
@@ -265,7 +303,7 @@ fn has_gone(client: &UnixStream) -> bool {
 }
 
 /// The answer, on one line.
-fn answer(
+pub fn answer(
     door: &Door,
     engine: Engine,
     asks: &Asks,

@@ -3,6 +3,7 @@
 #![allow(dead_code)]
 
 pub mod forge;
+pub mod web;
 
 use std::fs;
 use std::io::{BufRead, BufReader, Read, Write};
