@@ -39,7 +39,7 @@ trials: the served desk tried out
   --requests N     10000000 where it is missing
   --kills N        how often it is killed under load; 1000 where it is missing
   --torn N         how many torn files of each sort are tried; 200 where it is missing
-  --only WHAT      kills, full, torn, garbage, attacks (faults 1 to 15) or the number of one of these alone
+  --only WHAT      kills, full, torn, garbage, attacks (faults 1 to 15) or the number of one of these; several with commas between: kills,torn,3
   --seed N         other random numbers
 
 Exit status: 0 every promise was kept; 1 one was not; 2 wrong use. tools/faults builds and runs it.
@@ -54,7 +54,32 @@ struct Options {
     seconds: u64,
     docs: Option<PathBuf>,
     requests: u64,
-    only: Option<String>,
+    /// The trials that are asked for; all where there is none.
+    only: Vec<String>,
+}
+
+/// The trials beside the numbered ones.
+const TRIALS: [&str; 5] = ["kills", "full", "torn", "garbage", "attacks"];
+
+/// The trials that an option names.
+fn only(words: &str) -> Result<Vec<String>, String> {
+    let known = |word: &str| {
+        let numbered = |fault: &attacks::Fault| fault.0.to_string() == word;
+        TRIALS.contains(&word) || attacks::FAULTS.iter().any(numbered)
+    };
+    let words: Vec<String> = words.split(',').map(String::from).collect();
+    match words.iter().find(|word| !known(word)) {
+        Some(word) => Err(format!("--only: there is no trial {word:?}")),
+        None => Ok(words),
+    }
+}
+
+impl Options {
+    /// Whether a trial is asked for, by any of its names.
+    fn wants(&self, names: &[&str]) -> bool {
+        let asked = |word: &String| names.contains(&word.as_str());
+        self.only.is_empty() || self.only.iter().any(asked)
+    }
 }
 
 fn options(arguments: &[String]) -> Result<Options, String> {
@@ -67,7 +92,7 @@ fn options(arguments: &[String]) -> Result<Options, String> {
         seconds: 3,
         docs: None,
         requests: 10_000_000,
-        only: None,
+        only: Vec::new(),
     };
     let mut rest = arguments.iter();
     while let Some(option) = rest.next() {
@@ -85,7 +110,7 @@ fn options(arguments: &[String]) -> Result<Options, String> {
             "--seed" => options.seed = number()?,
             "--seconds" => options.seconds = number()?,
             "--requests" => options.requests = number()?,
-            "--only" => options.only = Some(value.clone()),
+            "--only" => options.only = only(value)?,
             "--docs" => options.docs = Some(PathBuf::from(value)),
             _ => return Err(format!("no such option: {option}")),
         }
@@ -143,7 +168,7 @@ fn faults(options: &Options) -> bool {
     println!("| Fault | What came of it |\n|---|---|");
     let mut kept = true;
     let mut trial = |name: &str, what: &str, came: &dyn Fn() -> Result<String, String>| {
-        if options.only.as_ref().is_none_or(|only| only == name) {
+        if options.wants(&[name]) {
             let came = came();
             kept &= came.is_ok();
             tell(what, came);
@@ -154,10 +179,7 @@ fn faults(options: &Options) -> bool {
     trial("torn", "torn writes", &|| ripped(program, options));
     trial("garbage", "garbage", &|| disturbed(program));
     for (number, what, fault) in attacks::FAULTS {
-        let name = number.to_string();
-        let attacks = options.only.as_deref() == Some("attacks");
-        let chosen = options.only.is_none() || attacks || options.only == Some(name);
-        if chosen {
+        if options.wants(&["attacks", &number.to_string()]) {
             eprintln!("fault {number}: {what}");
             let came = fault(program);
             kept &= came.is_ok();
