@@ -10,8 +10,10 @@
 
 The module calls the shared library (tools/archive shared) through ctypes; there is no build step. Refusals are values:
 an Answer is true exactly when the request was granted. Only a refused load raises, because nothing sensible can follow.
+Desk asks a served desk by HTTP instead (docs/HTTP.md); it needs no library.
 """
 
+from .desk import Desk, DeskAnswer, DeskError
 from .engine import Answer, Dropped, Engine, Figures, Mended, Rule, StuckTasks
 from .errors import LibraryNotFound, LoadRefused, MishantralError, TextRefused
 from .opl import records_from_opl
@@ -20,6 +22,9 @@ from .replies import Reply
 
 __all__ = [
     "Answer",
+    "Desk",
+    "DeskAnswer",
+    "DeskError",
     "Dropped",
     "Engine",
     "Figures",

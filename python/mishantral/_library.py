@@ -1,6 +1,7 @@
 """Finds and declares the shared library."""
 
 import ctypes
+import functools
 import os
 from ctypes.util import find_library
 from pathlib import Path
@@ -47,24 +48,23 @@ def _candidates() -> Iterator[str]:
         yield found
 
 
-def _load() -> ctypes.CDLL:
+@functools.lru_cache(maxsize=None)
+def library() -> ctypes.CDLL:
+    """The library, found at the first call: a client of a served desk needs none."""
     for path in _candidates():
         try:
-            library = ctypes.CDLL(path)
+            loaded = ctypes.CDLL(path)
         except OSError as error:
             raise LibraryNotFound(f"{path} cannot be loaded: {error}") from error
         for name, arguments in _SIGNATURES.items():
-            function = getattr(library, name)
+            function = getattr(loaded, name)
             function.argtypes = arguments
             function.restype = ctypes.c_uint64
-        return library
+        return loaded
     raise LibraryNotFound(
         "libmishantral.so was not found: make it with `tools/archive shared`, install it with `tools/install`, "
         "or name it in the environment variable MISHANTRAL_LIBRARY"
     )
-
-
-library = _load()
 
 
 def bytes_in(data: bytes) -> "ctypes.Array[ctypes.c_uint8]":

@@ -95,7 +95,7 @@ class Engine:
     """A desk of its own. It is not safe to use one from several threads at once."""
 
     def __init__(self) -> None:
-        self._buffers = [(ctypes.c_uint64 * library.mishantral_words(group))() for group in range(3)]
+        self._buffers = [(ctypes.c_uint64 * library().mishantral_words(group))() for group in range(3)]
 
     def _lent(self) -> List[object]:
         return [argument for buffer in self._buffers for argument in (buffer, len(buffer))]
@@ -103,14 +103,14 @@ class Engine:
     def load(self, policy: Policy) -> None:
         """Empties the engine and loads a policy; a refused one raises LoadRefused and leaves the engine empty."""
         data = bytes_in(_as_bytes(policy))
-        number = library.mishantral_load(data, len(data), *self._lent())
+        number = library().mishantral_load(data, len(data), *self._lent())
         if number % 256:
             raise LoadRefused(Reply(number % 256), number // 256)
 
     def request(self, record: Union[Record, bytes]) -> Answer:
         """Makes one request. A refused one changes nothing."""
         data = bytes_in(bytes(record))
-        number = library.mishantral_settled_request(data, len(data), *self._lent())
+        number = library().mishantral_settled_request(data, len(data), *self._lent())
         return Answer(Reply(number % 256), number // 256)
 
     def requests(self, records: Iterable[Record]) -> List[Reply]:
@@ -120,7 +120,7 @@ class Engine:
         for start in range(0, len(data), 16 * _MOST_PILED):
             part = bytes_in(data[start : start + 16 * _MOST_PILED])
             answers = (ctypes.c_uint8 * (len(part) // 16))()
-            number = library.mishantral_pile(part, len(part), answers, len(answers), 0, *self._lent())
+            number = library().mishantral_pile(part, len(part), answers, len(answers), 0, *self._lent())
             if number:
                 raise MishantralError(f"the pile was refused: {Reply(number)}")
             replies.extend(Reply(answer) for answer in answers)
@@ -129,7 +129,7 @@ class Engine:
     def _question(self, record: Record) -> Tuple[Reply, "ctypes.Array[ctypes.c_uint64]"]:
         data = bytes_in(bytes(record))
         answer = (ctypes.c_uint64 * _ANSWER_WORDS)()
-        number = library.mishantral_question(data, len(data), answer, len(answer), *self._lent())
+        number = library().mishantral_question(data, len(data), answer, len(answer), *self._lent())
         return Reply(number % 256), answer
 
     def figures(self, order: int) -> Union[Figures, Reply]:
@@ -147,7 +147,7 @@ class Engine:
         room = 1024
         while True:
             output = (ctypes.c_uint8 * (16 * room))()
-            number = library.mishantral_write(output, len(output), *self._lent())
+            number = library().mishantral_write(output, len(output), *self._lent())
             if number % 256 == Reply.GRANTED:
                 return bytes(output[: 16 * (number // 256)])
             if room == _MOST_WRITTEN:
@@ -159,7 +159,7 @@ class Engine:
         data = bytes_in(damaged)
         output = (ctypes.c_uint8 * len(damaged))()
         report = (DroppedRecord * (len(damaged) // 16 + 1))()
-        number = library.mishantral_mend(data, len(data), output, len(output), report, len(report), *self._lent())
+        number = library().mishantral_mend(data, len(data), output, len(output), report, len(report), *self._lent())
         if number % 256:
             raise MishantralError(f"the file cannot be mended: {Reply(number % 256)}")
         kept = number // 256

@@ -14,11 +14,11 @@ _SCRATCH = 4
 def records_from_opl(policy: bytes, task_lines: bytes = b"") -> List[Record]:
     """The records that the policy text and its task lines say; refused texts raise TextRefused."""
     texts = [bytes_in(policy), bytes_in(task_lines)]
-    scratch = (ctypes.c_uint64 * library.mishantral_words(_SCRATCH))()
+    scratch = (ctypes.c_uint64 * library().mishantral_words(_SCRATCH))()
     room = len(policy) + len(task_lines) + 16
     while True:
         output = (ctypes.c_uint8 * room)()
-        number = library.mishantral_opl(
+        number = library().mishantral_opl(
             texts[0], len(policy), texts[1], len(task_lines), output, len(output), scratch, len(scratch)
         )
         reply, text, figure = Reply(number % 256), number // 256 % 4, number // 1024
