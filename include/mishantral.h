@@ -195,7 +195,8 @@ uint64_t mishantral_mend(const uint8_t *bytes, size_t length,
                          uint64_t *orders, size_t orders_words);
 
 /* Reads a dealer's OPL/XML with its task lines, and writes the policy's records, sixteen bytes each, to the front of `output`,
- * for mishantral_load to take. A task line is a task's name, one space and its template's name.
+ * for mishantral_load to take. A task line is a task's name, one space and its template's name; it ends with a line feed, with
+ * a carriage return and a line feed, or, the last, with nothing. Either text may begin with a byte order mark, which is skipped.
  *
  * The answer is the reply + 256 times (the text + 4 times a figure), by the first of these that applies:
  *

@@ -10,10 +10,10 @@ use borrow.Author.Tests.{eq-eqb, ne-eqb}
 use Rattle.paper_lower.specs.Lists.{every, Every}
 use Rattle.paper_lower.specs.Checks.{GRANTED}
 use Rattle.paper_lower.specs.Records.{Bytes}
-use Rattle.paper_opl.specs.Reading.{Text, Read}
+use Rattle.paper_opl.specs.Reading.{Text, Read, starts}
 use Rattle.paper_opl.specs.Reading.Read.{got, bad}
-use Rattle.paper_opl.specs.Tree.{Tag, prolog, document}
-use Rattle.paper_opl.specs.Naming.{lines, recordsOf, written, translate, Answer as Translated}
+use Rattle.paper_opl.specs.Tree.{Tag, byteOrderMark, behindMark, prolog, document}
+use Rattle.paper_opl.specs.Naming.{lines, taskLines, recordsOf, written, translate, Answer as Translated}
 use Rattle.paper_opl.specs.Walk.{recordsIn, tags}
 use Rattle.paper_opl.proofs.Inversion.{on, on-test, on-found, bad≢got}
 use Rattle.paper_opl.proofs.Cardinalities.{value-small}
@@ -73,34 +73,39 @@ module _ (s t : Text) (words : ℕ) (out : Bytes) (d : Step) (reads : Reads s (s
     policy-good =
         on (document s) (λ es z q. rw q) (λ z q. absurd (bad≢got (sym (ap forget q) ∙ sym (rw e at (reads .read-is)))))
 
-    module _ (l : Step) (reads₂ : Reads t (stepOf t) (forgetLines (lines (length t) t)) l) where
-      pub line-inside : (i : ℕ) → l ≡ Bad i → i ≤ length t
-      line-inside i q = rw q at (reads₂ .inside)
+    module _ (u : Text) (behind : u ≡ behindMark t) (l : Step) (reads₂ : Reads u (stepOf u) (forgetLines (lines (length u) u)) l) where
+      no-longer : length u ≤ length t
+      unfolding behindMark
+      no-longer = rw behind (on-test (starts byteOrderMark t) (λ c. rw c (omega (arith, length-drop 3 t))) (λ c. rw c (omega arith)))
 
-      pub bad-lines : (i : ℕ) → l ≡ Bad i → Answers s t words out out (badText i 2)
-      unfolding answer
+      pub line-inside : (i : ℕ) → l ≡ Bad i → (length u ≤ length t) × (length t - length u + i ≤ length t)
+      line-inside i q = let h : i ≤ length u = rw q at (reads₂ .inside) in (no-longer, omega (arith, no-longer))
+
+      pub bad-lines : (i : ℕ) → l ≡ Bad i → Answers s t words out out (badText (length t - length u + i) 2)
+      unfolding answer taskLines
       bad-lines i q =
-          reads-on (document s) policy-good (λ es z u. on (lines (length t) t)
+          reads-on (document s) policy-good (λ es z x. on (lines (length u) u)
           (λ ls y v. absurd (bad≢got ((rw q at (reads₂ .read-is)) ∙ ap forgetLines v)))
           (λ y v.
-          let w : _≡_ {A = Read (Unit {0})} (bad (drop i t)) (bad y) = (rw q at (reads₂ .read-is)) ∙ ap forgetLines v in
-          record { answer-is = rw (u, v, ← bad-rest w, place-is t i (line-inside i q)); room = refl }))
+          let w : _≡_ {A = Read (Unit {0})} (bad (drop i u)) (bad y) = (rw q at (reads₂ .read-is)) ∙ ap forgetLines v in
+          let h : i ≤ length u = rw q at (reads₂ .inside) in
+          let p : suc (length t - length (drop i u)) ≡ length t - length u + i + 1 = omega (arith, no-longer, length-drop i u) in
+          record { answer-is = rw (x, ← behind, v, ← bad-rest w, p); room = refl }))
 
-      pub both-accepted : (i : ℕ) → l ≡ Next i → Accepts s t
+      pub both-accepted : (i : ℕ) → l ≡ Next i → Accepts s u
       both-accepted i q =
           record {
             policy = policy-good;
-            task-lines = on (lines (length t) t) (λ ls z v. rw v) (λ z v. absurd (bad≢got (sym (ap forgetLines v) ∙ sym (rw q at (reads₂ .read-is)))));
+            task-lines = on (lines (length u) u) (λ ls z v. rw v) (λ z v. absurd (bad≢got (sym (ap forgetLines v) ∙ sym (rw q at (reads₂ .read-is)))));
           }
 
-pub by-walk : (s t : Text) (words : ℕ) (out : Bytes) → Accepts s t → answer words s t out ≡ acceptedAnswer words s t out
-unfolding answer acceptedAnswer recordsAnswer linesIn
-by-walk s t words out a =
-    reads-on (document s) (a .policy) (λ es z u. reads-on (lines (length t) t) (a .task-lines) (λ ls y v. rw (u, v, walk-gives s es z ls u)))
+module _ (s t u : Text) (behind : u ≡ behindMark t) (words : ℕ) (out : Bytes) (a : Accepts s u) where
+  by-walk : answer words s t out ≡ acceptedAnswer words s u out
+  unfolding answer acceptedAnswer recordsAnswer linesIn taskLines
+  by-walk = reads-on (document s) (a .policy) (λ es z x. reads-on (lines (length u) u) (a .task-lines) (λ ls y v. rw (x, ← behind, v, walk-gives s es z ls x)))
 
-pub accepted-is : (s t : Text) (words : ℕ) (out out′ : Bytes) (r : Answer) → Accepts s t → Gives (acceptedAnswer words s t out) out out′ r →
-    Answers s t words out out′ r
-accepted-is s t words out out′ r a g = record { answer-is = g .answer-is ∙ sym (by-walk s t words out a); room = g .room }
+  pub accepted-is : (out′ : Bytes) (r : Answer) → Gives (acceptedAnswer words s u out) out out′ r → Answers s t words out out′ r
+  accepted-is out′ r g = record { answer-is = g .answer-is ∙ sym by-walk; room = g .room }
 
 -- ---- Two accepted texts.
 module _ (s t : Text) (words : ℕ) (out : Bytes) where
@@ -175,7 +180,7 @@ refusal-keeps : (words : ℕ) (s t : Text) (out : Bytes) → (answer words s t o
 unfolding answer
 refusal-keeps words s t out n =
     on (document s)
-    (λ es z u. on (lines (length t) t)
+    (λ es z u. on (taskLines t)
     (λ ls y v. on-test (eqb words scratchWords)
     (λ q. on-found (recordsOf es ls)
     (λ rs p. on-test (leb (length (written rs)) (length out)) (λ f. absurd (n (rw (u, v, q, p, f)))) (λ f. rw (u, v, q, p, f)))
@@ -194,7 +199,7 @@ small-answer : (words : ℕ) (s t : Text) (out : Bytes) → (answer words s t ou
 unfolding answer
 small-answer words s t out =
     on (document s)
-    (λ es z u. on (lines (length t) t)
+    (λ es z u. on (taskLines t)
     (λ ls y v. on-test (eqb words scratchWords)
     (λ q. on-found (recordsOf es ls)
     (λ rs p. on-test (leb (length (written rs)) (length out)) (λ f. rw (u, v, q, p, f) (omega arith, omega arith))

@@ -8,7 +8,7 @@ use Rattle.paper_lower.specs.Checks.{GRANTED, ROOM}
 use Rattle.paper_lower.specs.Records.{Bytes}
 use Rattle.paper_opl.specs.Reading.{Text}
 use Rattle.paper_opl.specs.Tree.{if-found, document}
-use Rattle.paper_opl.specs.Naming.{lines, recordsOf, TEXT, NAMES, Answer as Translated, refused, writes, judged, translate}
+use Rattle.paper_opl.specs.Naming.{taskLines, recordsOf, TEXT, NAMES, Answer as Translated, refused, writes, judged, translate}
 use Rattle.opl_spaces.specs.Spaces.{scratchWords}
 use Rattle.opl.specs.declared.Answer.{Answer}
 
@@ -16,7 +16,7 @@ use Rattle.opl.specs.declared.Answer.{Answer}
 -- scratch, so that a scratch of another length is answered with ROOM before them.
 unfoldable pub answer : ℕ → Text → Text → Bytes → Translated
 answer words s t out =
-    judged 1 s (document s) out (λ es. judged 2 t (lines (length t) t) out (λ ls.
+    judged 1 s (document s) out (λ es. judged 2 t (taskLines t) out (λ ls.
     cond (eqb words scratchWords) (if-found (recordsOf es ls) (refused NAMES 0 0 out) (λ rs. writes rs out)) (refused ROOM 0 0 out)))
 
 -- what the code answers, with the output as the call left it

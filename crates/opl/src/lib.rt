@@ -2,6 +2,7 @@
 ghost use mathlib.Core.Path.{_≡_};
 ghost use Prim.Native.Nat.{_<_};
 ghost use lib.ListN.{length};
+ghost use Rattle.paper_opl.specs.Tree.{behindMark};
 ghost use Rattle.opl.specs.Call.{Answers, shownOf, Exported};
 ghost use Rattle.opl.specs.Steps.{refusal, badText, Accepts, recordsAnswer, acceptedAnswer, Gives, Ready};
 use opl_lines::judge;
@@ -14,6 +15,7 @@ use opl_passes::check_lines;
 use opl_passes::check_tags;
 use opl_passes::write_all;
 use opl_passes::write_lines;
+use opl_reader::behind_mark;
 use opl_reader::document;
 use opl_reader::prolog;
 use opl_spaces::WORDS;
@@ -109,6 +111,14 @@ fn accepted(s: &[u8], t: &[u8], out: &mut [u8], w: &mut [u64]) -> Answer
     records(s, t, out, w, from)
 }
 
+// The task lines, behind a byte order mark.
+fn unmarked(t: &[u8]) -> &[u8]
+    ensures { λ r. ⌜ now r ≡ behindMark (now (t .entry)) ⌝ }
+{
+    let from = behind_mark(t);
+    &t[from..]
+}
+
 // Any texts, any output and any scratch. The scratch may hold anything, and holds anything afterwards.
 pub fn translate(s: &[u8], t: &[u8], out: &mut [u8], w: &mut [u64]) -> Answer
     ensures { λ r. ⌜ Answers (now (s .entry)) (now (t .entry)) (length (now (w .entry))) (now (out .entry)) (now (out .exit)) r ⌝ }
@@ -117,10 +127,11 @@ pub fn translate(s: &[u8], t: &[u8], out: &mut [u8], w: &mut [u64]) -> Answer
     match d {
         Step::Bad(i) => bad_text(i, 1),
         Step::Next(_) => {
-            let l = judge(t);
+            let u = unmarked(t);
+            let l = judge(u);
             match l {
-                Step::Bad(i) => bad_text(i, 2),
-                Step::Next(_) => accepted(s, t, out, w),
+                Step::Bad(i) => bad_text(t.len() - u.len() + i, 2),
+                Step::Next(_) => accepted(s, u, out, w),
             }
         }
     }

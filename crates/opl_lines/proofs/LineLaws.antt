@@ -9,13 +9,38 @@ use lib.Seq.{drop-cons, drop-drop}
 use borrow.Author.Tests.{not-true, not-false}
 use Rattle.paper_opl.specs.Reading.{Text, Read, after, same, starts, expect, word, behind}
 use Rattle.paper_opl.specs.Reading.Read.{got, bad}
-use Rattle.paper_opl.specs.Naming.{Line, inLine, lines}
+use Rattle.paper_opl.specs.Naming.{Line, inLine, lineEnd, lines}
 use Rattle.paper_opl.proofs.Inversion.{on, bad≢got, got-rest}
-use Rattle.paper_opl.proofs.Counts.{lines-enough}
+use Rattle.paper_opl.proofs.Counts.{below-of, line-end-below, lines-enough}
+use Rattle.opl_text.specs.declared.Step.{Step}
+use Rattle.opl_text.specs.declared.Step.the-variants.{Next, Bad as Stop}
+use Rattle.opl_text.specs.Steps.{Reads, stepOf}
 use Rattle.opl_text.proofs.Laws.{no-word, a-word, one-not, one-yes}
 use Rattle.opl_lines.specs.Lines.{line, forget, linesRead, linesIn, Apart, ReadsLine}
 use Rattle.opl_lines.specs.declared.Ends.{Ends}
 use Rattle.opl_lines.specs.declared.Ends.the-variants.{Line as ends, Bad}
+
+-- ---- The end of a line.
+module _ (t : Text) (f : ℕ) where
+  pub ends-here : length t ≤ f → got tt (drop f t) ≡ lineEnd (drop f t)
+  unfolding lineEnd same
+  ends-here h = let z : drop f t ≡ [] = drop-of-length-le t h in rw z
+
+  module _ (h : f < length t) (c : Bool) (is : c ≡ starts (13 ∷ []) (drop f t)) where
+    goes-on : same (drop f t) [] ≡ false
+    unfolding same
+    goes-on = rw (drop-cons t f 0 h)
+
+    pub ends-twice : c ≡ true → (r : Step) → Reads t (stepOf t) (expect (13 ∷ 10 ∷ []) (drop f t)) r → Reads t (stepOf t) (lineEnd (drop f t)) r
+    unfolding lineEnd
+    ends-twice q r a = record { read-is = a .read-is ∙ rw (goes-on, ← is, q); inside = a .inside }
+
+    pub ends-once : c ≡ false → (r : Step) → Reads t (stepOf t) (expect (10 ∷ []) (drop f t)) r → Reads t (stepOf t) (lineEnd (drop f t)) r
+    unfolding lineEnd
+    ends-once q r a = record { read-is = a .read-is ∙ rw (goes-on, ← is, q); inside = a .inside }
+
+pub line-stop : (t : Text) (y : Step) (x : Read (Unit {0})) → Reads t (stepOf t) x y → (i : ℕ) → y ≡ Stop i → i ≤ length t
+line-stop t y x reads i q = rw q at (reads .inside)
 
 -- ---- One line at a place: its task's name ends at e, its template's name at f.
 module _ (t : Text) (at e : ℕ) (room : at ≤ length t) (ends : drop e t ≡ behind inLine (drop at t)) (inside : e ≤ length t) where
@@ -45,36 +70,34 @@ module _ (t : Text) (at e : ℕ) (room : at ≤ length t) (ends : drop e t ≡ b
         module _ (template : f ≡ e + 1 → ⊥) where
           two-names :
               line (drop at t)
-              ≡ after (cond (same (drop f t) []) (got tt (drop f t)) (expect (10 ∷ []) (drop f t)))
-              (λ _ y. got (record { task = take (e - at) (drop at t); template = take (f - (e + 1)) (drop (e + 1) t) }) y)
+              ≡ after (lineEnd (drop f t)) (λ _ y. got (record { task = take (e - at) (drop at t); template = take (f - (e + 1)) (drop (e + 1) t) }) y)
           unfolding line
           two-names =
               rw (← a-word inLine t at e room ends inside task, spaced .0, drop-drop 1 e t, ← a-word inLine t (e + 1) f line-past ends₂ inside₂ template)
 
-          pub line-last : length t ≤ f →
-              got (record { task = take (e - at) (drop at t); template = take (f - (e + 1)) (drop (e + 1) t) }) (drop f t) ≡ line (drop at t)
-          unfolding same
-          line-last h = let z : drop f t ≡ [] = drop-of-length-le t h in rw (two-names, z)
+          module _ (y : Step) (reads : Reads t (stepOf t) (lineEnd (drop f t)) y) where
+            pub line-unended : (i : ℕ) → y ≡ Stop i → bad (drop i t) ≡ line (drop at t)
+            line-unended i q = rw (two-names, ← (reads .read-is), q)
 
-          module _ (h : f < length t) (c : Bool) (is₂ : c ≡ starts (10 ∷ []) (drop f t)) where
-            goes-on : same (drop f t) [] ≡ false
-            unfolding same
-            goes-on = rw (drop-cons t f 0 h)
+            pub line-whole : (n : ℕ) → y ≡ Next n
+                → got (record { task = take (e - at) (drop at t); template = take (f - (e + 1)) (drop (e + 1) t) }) (drop n t) ≡ line (drop at t)
+            line-whole n q = rw (two-names, ← (reads .read-is), q)
 
-            pub line-unended : not c ≡ true → bad (drop f t) ≡ line (drop at t)
-            line-unended u = rw (two-names, goes-on, one-not 10 (drop f t) (sym is₂ ∙ not-true c u))
-
-            pub line-whole : not c ≡ false →
-                got (record { task = take (e - at) (drop at t); template = take (f - (e + 1)) (drop (e + 1) t) }) (drop (f + 1) t) ≡ line (drop at t)
-            line-whole u = rw (two-names, goes-on, one-yes 10 (drop f t) (sym is₂ ∙ not-false c u) .0, drop-drop 1 f t)
+            -- the next line begins no sooner than the name ends
+            pub line-onward : (n : ℕ) → y ≡ Next n → (f ≤ n) × (n ≤ length t)
+            line-onward n q =
+                let z : stepOf t (Next n) ≡ lineEnd (drop f t) = rw q at (reads .read-is) in
+                let i : n ≤ length t = rw q at (reads .inside) in
+                let b = below-of (sym z) (line-end-below (drop f t)) in
+                (omega (arith, b, length-drop f t, length-drop n t), i)
 
 -- ---- Lines, one by one.
 by-line : (n : ℕ) (s : Text) → lines (suc n) s ≡ cond (same s []) (got [] s) (after (line s) (λ l y. after (lines n y) (λ ls x. got (l ∷ ls) x)))
 unfolding lines line
 by-line n s =
-    on (word inLine s) (λ v r e. rw e (on (expect (32 ∷ []) r)
-    (λ _ u d. rw d (on (word inLine u) (λ w z c. rw c (on (cond (same z []) (got tt z) (expect (10 ∷ []) z)) (λ _ y b. rw b) (λ y b. rw b))) (λ z c. rw c)))
-    (λ u d. rw d))) (λ r e. rw e)
+    on (word inLine s) (λ v r e. rw e
+    (on (expect (32 ∷ []) r) (λ _ u d. rw d (on (word inLine u) (λ w z c. rw c (on (lineEnd z) (λ _ y b. rw b) (λ y b. rw b))) (λ z c. rw c))) (λ u d. rw d)))
+    (λ r e. rw e)
 
 more-text : (s : Text) → 0 < length s → same s [] ≡ false
 unfolding same

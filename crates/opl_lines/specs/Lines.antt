@@ -1,20 +1,19 @@
 -- The task lines, one by one, as the code reads them.
 use Prim.Native.Nat.{ℕ, _+_, _-_, _≤_, _<_}
 use mathlib.Core.Path.{_≡_}
-use mathlib.Core.Bool.{cond}
 use mathlib.Core.List.{List, [], _∷_}
 use lib.ListN.{length, take, drop}
-use Rattle.paper_opl.specs.Reading.{Text, Read, after, same, expect, word}
+use Rattle.paper_opl.specs.Reading.{Text, Read, after, expect, word}
 use Rattle.paper_opl.specs.Reading.Read.{got, bad}
-use Rattle.paper_opl.specs.Naming.{Line, inLine, lines}
+use Rattle.paper_opl.specs.Naming.{Line, inLine, lineEnd, lines}
 use Rattle.opl_lines.specs.declared.Ends.{Ends}
 use Rattle.opl_lines.specs.declared.Ends.the-variants.{Line as ends, Bad}
 
--- one line, with the line feed behind it, where the text goes on
+-- one line, with its end
 unfoldable pub line : Text → Read Line
 line s =
     after (word inLine s) (λ v r. after (expect (32 ∷ []) r) (λ _ u. after (word inLine u) (λ w z.
-    after (cond (same z []) (got tt z) (expect (10 ∷ []) z)) (λ _ y. got (record { task = v; template = w }) y))))
+    after (lineEnd z) (λ _ y. got (record { task = v; template = w }) y))))
 
 -- what was read, without what it says
 abbrev pub forget : {A : Type 0} → Read A → Read (Unit {0})

@@ -2,10 +2,11 @@
 ghost use Prim.Native.Nat.{_≤_, _<_};
 ghost use lib.ListN.{length, drop};
 ghost use Rattle.paper_opl.specs.Reading.{behind};
-ghost use Rattle.paper_opl.specs.Naming.{inLine, lines};
+ghost use Rattle.paper_opl.specs.Naming.{inLine, lineEnd, lines};
 ghost use Rattle.opl_text.specs.Steps.{From, Reads, stepOf};
 ghost use Rattle.opl_lines.specs.Lines.{forget, ReadsLine};
 use opl_text::Step;
+use opl_text::expect;
 use opl_text::is_at;
 
 // Where the two names of a line end and the next line begins; or the byte that cannot stand where it stands.
@@ -33,6 +34,20 @@ fn name_end(t: &[u8], at: usize) -> usize
     i
 }
 
+// Behind the end of a line: a line feed, with a carriage return before it or not; nothing at the end of the text.
+fn line_end(t: &[u8], at: usize) -> Step
+    requires { ⌜ at ≤ length (now t) ⌝ }
+    ensures { λ r. ⌜ Reads (now (t .entry)) (stepOf (now (t .entry))) (lineEnd (drop at (now (t .entry)))) r ⌝ }
+{
+    if t.len() <= at {
+        return Step::Next(at);
+    }
+    if is_at(t, at, 13) {
+        return expect(t, at, b"\r\n");
+    }
+    expect(t, at, b"\n")
+}
+
 pub fn read_line(t: &[u8], at: usize) -> Ends
     requires { ⌜ at ≤ length (now t) ⌝ }
     ensures { λ r. ⌜ ReadsLine (now (t .entry)) at r ⌝ }
@@ -49,20 +64,14 @@ pub fn read_line(t: &[u8], at: usize) -> Ends
     if template == from {
         return Ends::Bad(template);
     }
-    if t.len() <= template {
-        return Ends::Line {
+    let e = line_end(t, template);
+    match e {
+        Step::Bad(i) => Ends::Bad(i),
+        Step::Next(next) => Ends::Line {
             task,
             template,
-            next: template,
-        };
-    }
-    if !is_at(t, template, 10) {
-        return Ends::Bad(template);
-    }
-    Ends::Line {
-        task,
-        template,
-        next: template + 1,
+            next,
+        },
     }
 }
 

@@ -4,3 +4,4 @@ pub mod Attributes
 pub mod Tags
 pub mod Cycle
 pub mod Prologue
+pub mod Encoding

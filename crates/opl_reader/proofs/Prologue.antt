@@ -11,61 +11,61 @@ use borrow.Author.Tests.{not-true, not-false, eqb-true, eqb-false, eq-eqb, ne-eq
 use Rattle.paper_opl.specs.Reading.{Text, Read, after, text, same, starts, expect, white, behind, skip, space, misc, equals, value}
 use Rattle.paper_opl.specs.Reading.Read.{got, bad}
 use Rattle.paper_opl.specs.Elements.{elements as table, rowIn, one}
-use Rattle.paper_opl.specs.Tree.{Given, Opened, Elements, Inside, attributes, opening, body, element, pseudo, declaration, doctype, prolog, document}
+use Rattle.paper_opl.specs.Tree.{Given, Opened, Elements, Inside, attributes, opening, body, element, pseudo, optional, isVersion, isEncoding, isStandalone, declaration, doctype, byteOrderMark, behindMark, declared, prolog, document}
 use Rattle.paper_opl.specs.Tree.Elements.{nothing, node}
 use Rattle.paper_opl.proofs.Counts.{starts-le}
 use Rattle.paper_opl.proofs.TreeBack.{same-self}
 use Rattle.opl_text.specs.declared.Step.{Step}
 use Rattle.opl_text.specs.declared.Step.the-variants.{Next, Bad}
-use Rattle.opl_text.specs.Steps.{Reads, stepOf, valueOf}
+use Rattle.opl_text.specs.Steps.{From, Reads, stepOf, valueOf}
 use Rattle.opl_text.proofs.Same.{other-length}
 use Rattle.opl_table.specs.Numbers.{nameOf, leftOf}
 use Rattle.opl_table.proofs.Rows.{document-left}
 use Rattle.opl_reader.specs.declared.Start.{Start}
 use Rattle.opl_reader.specs.declared.Start.the-variants.{Inner, Stop}
-use Rattle.opl_reader.specs.Grammar.{forget, startAt, Opens, tagged, startRead, elementRead, spacedRead, declaredRead, typedRead, rootRead}
+use Rattle.opl_reader.specs.Grammar.{forget, startAt, Opens, tagged, startRead, elementRead, spacedRead, typedRead, rootRead}
 use Rattle.opl_reader.proofs.Cycle.{body-forgets, start-ready}
 use Rattle.opl_reader.proofs.Chain.{moved, goes-on, halted, after-after, after-each}
 
--- ---- A literal, "=", and this value.
+-- ---- A literal, "=", and a value that may stand there.
 
-module _ (s : Text) (at : ℕ) (w v : Text) (x : Step) (a : Reads s (stepOf s) (expect w (drop at s)) x) where
+module _ (s : Text) (at : ℕ) (w : Text) (may : Text → Bool) (x : Step) (a : Reads s (stepOf s) (expect w (drop at s)) x) where
   this : Text → Read (Unit {0})
-  this u = after (value u) (λ m z. cond (same m v) (got tt z) (bad (drop 1 u)))
+  this u = after (value u) (λ m z. cond (may m) (got tt z) (bad (drop 1 u)))
 
-  pub pseudo-word : (p : ℕ) → x ≡ Bad p → Reads s (stepOf s) (pseudo w v (drop at s)) x
+  pub pseudo-word : (p : ℕ) → x ≡ Bad p → Reads s (stepOf s) (pseudo w may (drop at s)) x
   unfolding this
   pseudo-word p e = halted s (stepOf s) (expect w (drop at s)) x a p e refl (λ _ r. after (equals r) (λ _ u. this u))
 
   module _ (i : ℕ) (e : x ≡ Next i) (y : Step) (b : Reads s (stepOf s) (equals (drop i s)) y) where
-    to-equals : pseudo w v (drop at s) ≡ after (equals (drop i s)) (λ _ u. this u)
+    to-equals : pseudo w may (drop at s) ≡ after (equals (drop i s)) (λ _ u. this u)
     unfolding this
     to-equals = goes-on s (stepOf s) (expect w (drop at s)) x a (Next i) e (λ _ r. after (equals r) (λ _ u. this u))
 
-    pub pseudo-equals : (p : ℕ) → y ≡ Bad p → Reads s (stepOf s) (pseudo w v (drop at s)) y
+    pub pseudo-equals : (p : ℕ) → y ≡ Bad p → Reads s (stepOf s) (pseudo w may (drop at s)) y
     pseudo-equals p f = moved to-equals (halted s (stepOf s) (equals (drop i s)) y b p f refl (λ _ u. this u))
 
     module _ (u : ℕ) (f : y ≡ Next u) (z : Step) (c : Reads s (valueOf s (u + 1)) (value (drop u s)) z) where
-      to-value : pseudo w v (drop at s) ≡ this (drop u s)
+      to-value : pseudo w may (drop at s) ≡ this (drop u s)
       to-value = to-equals ∙ goes-on s (stepOf s) (equals (drop i s)) y b (Next u) f (λ _ u. this u)
 
-      pub pseudo-value : (p : ℕ) → z ≡ Bad p → Reads s (stepOf s) (pseudo w v (drop at s)) z
+      pub pseudo-value : (p : ℕ) → z ≡ Bad p → Reads s (stepOf s) (pseudo w may (drop at s)) z
       unfolding this
       pseudo-value p g =
-          moved to-value (halted s (valueOf s (u + 1)) (value (drop u s)) z c p g refl (λ m r. cond (same m v) (got tt r) (bad (drop 1 (drop u s)))))
+          moved to-value (halted s (valueOf s (u + 1)) (value (drop u s)) z c p g refl (λ m r. cond (may m) (got tt r) (bad (drop 1 (drop u s)))))
 
-      module _ (end : ℕ) (g : z ≡ Next end) (m : Text) (t : m ≡ take (end - (u + 1)) (drop (u + 1) s)) (d : Bool) (q : d ≡ same m v) where
-        judged : pseudo w v (drop at s) ≡ cond d (got tt (drop (end + 1) s)) (bad (drop (u + 1) s))
+      module _ (end : ℕ) (g : z ≡ Next end) (m : Text) (t : m ≡ take (end - (u + 1)) (drop (u + 1) s)) (d : Bool) (q : d ≡ may m) where
+        judged : pseudo w may (drop at s) ≡ cond d (got tt (drop (end + 1) s)) (bad (drop (u + 1) s))
         unfolding this
         judged =
             to-value
-            ∙ goes-on s (valueOf s (u + 1)) (value (drop u s)) z c (Next end) g (λ m r. cond (same m v) (got tt r) (bad (drop 1 (drop u s))))
+            ∙ goes-on s (valueOf s (u + 1)) (value (drop u s)) z c (Next end) g (λ m r. cond (may m) (got tt r) (bad (drop 1 (drop u s))))
             ∙ rw (sym t, sym q, drop-drop 1 u s)
 
-        pub pseudo-not : not d ≡ true → bad (drop (u + 1) s) ≡ pseudo w v (drop at s)
+        pub pseudo-not : not d ≡ true → bad (drop (u + 1) s) ≡ pseudo w may (drop at s)
         pseudo-not n = sym (judged ∙ rw (not-true d n))
 
-        pub pseudo-yes : not d ≡ false → got tt (drop (end + 1) s) ≡ pseudo w v (drop at s)
+        pub pseudo-yes : not d ≡ false → got tt (drop (end + 1) s) ≡ pseudo w may (drop at s)
         pseudo-yes n = sym (judged ∙ rw (not-false d n))
 
 -- ---- The XML declaration.
@@ -82,52 +82,69 @@ same-place s u j h from inside = rw (sym from) (go (eqb j u) refl)
         let b = length-drop j s in
         sym (other-length (drop u s) (drop j s) (λ (z : length (drop u s) ≡ length (drop j s)). n (omega arith)))
 
-module _ (s : Text) (at : ℕ) (x : Step) (a : Reads s (stepOf s) (space (drop at s)) x) where
-  encoded : Text → Read (Unit {0})
-  encoded u = after (pseudo (text "encoding") (text "UTF-8") u) (λ _ z. expect (text "?>") (skip z))
+-- a piece that may be left out
+module _ (s : Text) (at c : ℕ) (w : Text) (may : Text → Bool) (h : at ≤ length s) (j : ℕ) (from : drop j s ≡ behind white (drop at s)) (inside : j ≤ length s) (d : Bool) (q : d ≡ starts (c ∷ []) (drop j s)) where
+  optional-is : optional (c ∷ []) w may (drop at s) ≡ cond (d && not (eqb j at)) (pseudo w may (drop j s)) (got tt (drop at s))
+  unfolding optional
+  optional-is = rw (same-place s at j h from inside, sym from, sym q)
 
-  closed : Text → Read (Unit {0})
-  closed u = cond (starts (text "e") (skip u) && not (same u (skip u))) (encoded (skip u)) (expect (text "?>") (skip u))
+  pub optional-not : not (d && not (eqb j at)) ≡ true → got tt (drop at s) ≡ optional (c ∷ []) w may (drop at s)
+  optional-not n = sym (optional-is ∙ rw (not-true (d && not (eqb j at)) n))
+
+  pub optional-on : not (d && not (eqb j at)) ≡ false → (r : Step) → Reads s (stepOf s) (pseudo w may (drop j s)) r →
+      Reads s (stepOf s) (optional (c ∷ []) w may (drop at s)) r
+  optional-on n r a = moved (optional-is ∙ rw (not-false (d && not (eqb j at)) n)) a
+
+module _ (s : Text) (at : ℕ) (x : Step) (a : Reads s (stepOf s) (space (drop at s)) x) where
+  closes : Text → Read (Unit {0})
+  closes y = expect (text "?>") (skip y)
+
+  alone : Text → Read (Unit {0})
+  alone z = after (optional (text "s") (text "standalone") isStandalone z) (λ _ y. closes y)
+
+  encoded : Text → Read (Unit {0})
+  encoded u = after (optional (text "e") (text "encoding") isEncoding u) (λ _ z. alone z)
+
+  versioned : Text → Read (Unit {0})
+  versioned r = after (pseudo (text "version") isVersion r) (λ _ u. encoded u)
 
   pub declaration-space : (p : ℕ) → x ≡ Bad p → Reads s (stepOf s) (declaration (drop at s)) x
-  unfolding declaration encoded closed
-  declaration-space p e = halted s (stepOf s) (space (drop at s)) x a p e refl (λ _ r. after (pseudo (text "version") (text "1.0") r) (λ _ u. closed u))
+  unfolding declaration closes alone encoded versioned
+  declaration-space p e = halted s (stepOf s) (space (drop at s)) x a p e refl (λ _ r. versioned r)
 
-  module _ (i : ℕ) (e : x ≡ Next i) (y : Step) (b : Reads s (stepOf s) (pseudo (text "version") (text "1.0") (drop i s)) y) where
-    to-version : declaration (drop at s) ≡ after (pseudo (text "version") (text "1.0") (drop i s)) (λ _ u. closed u)
-    unfolding declaration encoded closed
-    to-version = goes-on s (stepOf s) (space (drop at s)) x a (Next i) e (λ _ r. after (pseudo (text "version") (text "1.0") r) (λ _ u. closed u))
+  module _ (i : ℕ) (e : x ≡ Next i) (y : Step) (b : Reads s (stepOf s) (pseudo (text "version") isVersion (drop i s)) y) where
+    to-version : declaration (drop at s) ≡ after (pseudo (text "version") isVersion (drop i s)) (λ _ u. encoded u)
+    unfolding declaration closes alone encoded versioned
+    to-version = goes-on s (stepOf s) (space (drop at s)) x a (Next i) e (λ _ r. versioned r)
 
     pub declaration-version : (p : ℕ) → y ≡ Bad p → Reads s (stepOf s) (declaration (drop at s)) y
-    declaration-version p f = moved to-version (halted s (stepOf s) (pseudo (text "version") (text "1.0") (drop i s)) y b p f refl (λ _ u. closed u))
+    declaration-version p f = moved to-version (halted s (stepOf s) (pseudo (text "version") isVersion (drop i s)) y b p f refl (λ _ u. encoded u))
 
-    module _ (u : ℕ) (f : y ≡ Next u) (h : u ≤ length s) (j : ℕ) (from : drop j s ≡ behind white (drop u s)) (inside : j ≤ length s) (d : Bool) (q : d ≡ starts (101 ∷ []) (drop j s)) where
-      to-closed : declaration (drop at s) ≡ cond (d && not (eqb j u)) (encoded (drop j s)) (expect (text "?>") (drop j s))
-      unfolding closed text
-      to-closed =
-          to-version
-          ∙ goes-on s (stepOf s) (pseudo (text "version") (text "1.0") (drop i s)) y b (Next u) f (λ _ u. closed u)
-          ∙ rw (same-place s u j h from inside, sym from, sym q)
+    module _ (u : ℕ) (f : y ≡ Next u) (z : Step) (c : Reads s (stepOf s) (optional (text "e") (text "encoding") isEncoding (drop u s)) z) where
+      to-encoding : declaration (drop at s) ≡ after (optional (text "e") (text "encoding") isEncoding (drop u s)) (λ _ z. alone z)
+      unfolding encoded
+      to-encoding = to-version ∙ goes-on s (stepOf s) (pseudo (text "version") isVersion (drop i s)) y b (Next u) f (λ _ u. encoded u)
 
-      pub declaration-short : not (d && not (eqb j u)) ≡ true → (r : Step) → Reads s (stepOf s) (expect (text "?>") (drop j s)) r →
-          Reads s (stepOf s) (declaration (drop at s)) r
-      declaration-short n r c = moved (to-closed ∙ rw (not-true (d && not (eqb j u)) n)) c
+      pub declaration-encoding : (p : ℕ) → z ≡ Bad p → Reads s (stepOf s) (declaration (drop at s)) z
+      declaration-encoding p g =
+          moved to-encoding (halted s (stepOf s) (optional (text "e") (text "encoding") isEncoding (drop u s)) z c p g refl (λ _ z. alone z))
 
-      module _ (n : not (d && not (eqb j u)) ≡ false) (z : Step) (c : Reads s (stepOf s) (pseudo (text "encoding") (text "UTF-8") (drop j s)) z) where
-        to-encoding : declaration (drop at s) ≡ after (pseudo (text "encoding") (text "UTF-8") (drop j s)) (λ _ z. expect (text "?>") (skip z))
-        unfolding encoded
-        to-encoding = to-closed ∙ rw (not-false (d && not (eqb j u)) n)
+      module _ (k : ℕ) (g : z ≡ Next k) (m : Step) (d : Reads s (stepOf s) (optional (text "s") (text "standalone") isStandalone (drop k s)) m) where
+        to-standalone : declaration (drop at s) ≡ after (optional (text "s") (text "standalone") isStandalone (drop k s)) (λ _ y. closes y)
+        unfolding alone
+        to-standalone = to-encoding ∙ goes-on s (stepOf s) (optional (text "e") (text "encoding") isEncoding (drop u s)) z c (Next k) g (λ _ z. alone z)
 
-        pub declaration-encoding : (p : ℕ) → z ≡ Bad p → Reads s (stepOf s) (declaration (drop at s)) z
-        declaration-encoding p g =
-            moved to-encoding (halted s (stepOf s) (pseudo (text "encoding") (text "UTF-8") (drop j s)) z c p g refl (λ _ z. expect (text "?>") (skip z)))
+        pub declaration-standalone : (p : ℕ) → m ≡ Bad p → Reads s (stepOf s) (declaration (drop at s)) m
+        declaration-standalone p o =
+            moved to-standalone (halted s (stepOf s) (optional (text "s") (text "standalone") isStandalone (drop k s)) m d p o refl (λ _ y. closes y))
 
-        pub declaration-long : (k : ℕ) → z ≡ Next k → (end : ℕ) → drop end s ≡ behind white (drop k s) → (r : Step) →
+        pub declaration-ends : (l : ℕ) → m ≡ Next l → (end : ℕ) → drop end s ≡ behind white (drop l s) → (r : Step) →
             Reads s (stepOf s) (expect (text "?>") (drop end s)) r
             → Reads s (stepOf s) (declaration (drop at s)) r
-        declaration-long k g end l r o =
-            moved (to-encoding ∙ goes-on s (stepOf s) (pseudo (text "encoding") (text "UTF-8") (drop j s)) z c (Next k) g (λ _ z. expect (text "?>") (skip z)) ∙
-            rw (sym l)) o
+        unfolding closes
+        declaration-ends l o end t r q =
+            moved (to-standalone ∙ goes-on s (stepOf s) (optional (text "s") (text "standalone") isStandalone (drop k s)) m d (Next l) o (λ _ y. closes y) ∙
+            rw (sym t)) q
 
 -- ---- The DOCTYPE.
 
@@ -191,23 +208,32 @@ module _ (s : Text) (at : ℕ) (x : Step) (a : Reads s (stepOf s) (spacedRead (t
 
 -- ---- The two at their places.
 
-module _ (s : Text) (b : Bool) (q : b ≡ starts (text "<?xml") s) where
-  pub undeclared : not b ≡ true → got tt s ≡ declaredRead s
-  unfolding declaredRead
+module _ (s : Text) (b : Bool) (q : b ≡ starts byteOrderMark s) where
+  pub marked : b ≡ true → From s (behindMark s) 3
+  unfolding behindMark
+  marked e = record { rest = rw (sym q, e); inside = starts-le byteOrderMark s (sym q ∙ e) }
+
+  pub unmarked : b ≡ false → From s (behindMark s) 0
+  unfolding behindMark
+  unmarked e = record { rest = rw (sym q, e); inside = omega arith }
+
+module _ (s : Text) (at : ℕ) (b : Bool) (q : b ≡ starts (text "<?xml") (drop at s)) where
+  pub undeclared : not b ≡ true → got tt (drop at s) ≡ declared (drop at s)
+  unfolding declared
   undeclared n = rw (sym q, not-true b n)
 
-  pub declared-room : not b ≡ false → 5 ≤ length s
+  pub declared-room : not b ≡ false → at + 5 ≤ length s
   unfolding text
-  declared-room n = starts-le (60 ∷ 63 ∷ 120 ∷ 109 ∷ 108 ∷ []) s (sym q ∙ not-false b n)
+  declared-room n = let h = starts-le (60 ∷ 63 ∷ 120 ∷ 109 ∷ 108 ∷ []) (drop at s) (sym q ∙ not-false b n) in let l = length-drop at s in omega arith
 
-  module _ (n : not b ≡ false) (i : ℕ) (from : drop i s ≡ behind white (drop 5 s)) (inside : i ≤ length s) where
-    pub declared-other : i ≡ 5 → got tt s ≡ declaredRead s
-    unfolding declaredRead
-    declared-other e = rw (sym q, not-false b n, same-place s 5 i (declared-room n) from inside, eq-eqb i 5 e)
+  module _ (n : not b ≡ false) (i : ℕ) (from : drop i s ≡ behind white (drop (at + 5) s)) (inside : i ≤ length s) where
+    pub declared-other : i ≡ at + 5 → got tt (drop at s) ≡ declared (drop at s)
+    unfolding declared
+    declared-other e = rw (sym q, not-false b n, drop-drop 5 at s, same-place s (at + 5) i (declared-room n) from inside, eq-eqb i (at + 5) e)
 
-    pub declared-on : (i ≡ 5 → ⊥) → (r : Step) → Reads s (stepOf s) (declaration (drop 5 s)) r → Reads s (stepOf s) (declaredRead s) r
-    unfolding declaredRead
-    declared-on e r a = moved (rw (sym q, not-false b n, same-place s 5 i (declared-room n) from inside, ne-eqb i 5 e)) a
+    pub declared-on : (i ≡ at + 5 → ⊥) → (r : Step) → Reads s (stepOf s) (declaration (drop (at + 5) s)) r → Reads s (stepOf s) (declared (drop at s)) r
+    unfolding declared
+    declared-on e r a = moved (rw (sym q, not-false b n, drop-drop 5 at s, same-place s (at + 5) i (declared-room n) from inside, ne-eqb i (at + 5) e)) a
 
 module _ (s : Text) (at : ℕ) (b : Bool) (q : b ≡ starts (text "<!DOCTYPE") (drop at s)) where
   pub untyped : not b ≡ true → got tt (drop at s) ≡ typedRead (drop at s)
@@ -231,17 +257,17 @@ module _ (s : Text) (at : ℕ) (b : Bool) (q : b ≡ starts (text "<!DOCTYPE") (
     pub typed-on : (i : ℕ) → x ≡ Next i → (r : Step) → Reads s (stepOf s) (misc (length (drop i s)) (drop i s)) r → Reads s (stepOf s) (typedRead (drop at s)) r
     typed-on i e r c = moved (here ∙ goes-on s (stepOf s) (doctype (drop (at + 9) s)) x a (Next i) e (λ _ r. misc (length r) r)) c
 
-module _ (s : Text) (x : Step) (a : Reads s (stepOf s) (declaredRead s) x) where
-  prolog-is : prolog s ≡ after (declaredRead s) (λ _ r. after (misc (length r) r) (λ _ u. typedRead u))
-  unfolding prolog declaredRead typedRead
-  prolog-is = refl
+module _ (s : Text) (o : ℕ) (marks : From s (behindMark s) o) (x : Step) (a : Reads s (stepOf s) (declared (drop o s)) x) where
+  prolog-is : prolog s ≡ after (declared (drop o s)) (λ _ r. after (misc (length r) r) (λ _ u. typedRead u))
+  unfolding prolog typedRead
+  prolog-is = rw (marks .rest)
 
   pub prolog-declared : (p : ℕ) → x ≡ Bad p → Reads s (stepOf s) (prolog s) x
-  prolog-declared p e = moved prolog-is (halted s (stepOf s) (declaredRead s) x a p e refl (λ _ r. after (misc (length r) r) (λ _ u. typedRead u)))
+  prolog-declared p e = moved prolog-is (halted s (stepOf s) (declared (drop o s)) x a p e refl (λ _ r. after (misc (length r) r) (λ _ u. typedRead u)))
 
   module _ (i : ℕ) (e : x ≡ Next i) (y : Step) (b : Reads s (stepOf s) (misc (length (drop i s)) (drop i s)) y) where
     to-misc : prolog s ≡ after (misc (length (drop i s)) (drop i s)) (λ _ u. typedRead u)
-    to-misc = prolog-is ∙ goes-on s (stepOf s) (declaredRead s) x a (Next i) e (λ _ r. after (misc (length r) r) (λ _ u. typedRead u))
+    to-misc = prolog-is ∙ goes-on s (stepOf s) (declared (drop o s)) x a (Next i) e (λ _ r. after (misc (length r) r) (λ _ u. typedRead u))
 
     pub prolog-misc : (p : ℕ) → y ≡ Bad p → Reads s (stepOf s) (prolog s) y
     prolog-misc p f = moved to-misc (halted s (stepOf s) (misc (length (drop i s)) (drop i s)) y b p f refl (λ _ u. typedRead u))

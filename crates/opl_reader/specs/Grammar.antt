@@ -1,13 +1,13 @@
 -- What the readers of attributes, tags, elements and contents answer, as the definitions have it. They judge, and forget what they read.
 use Prim.Native.Nat.{ℕ, zero, suc, _≤_}
 use mathlib.Core.Path.{_≡_}
-use mathlib.Core.Bool.{not, cond, _&&_}
+use mathlib.Core.Bool.{Bool, cond}
 use mathlib.Core.List.{List, []}
 use lib.ListN.{length, drop}
-use Rattle.paper_opl.specs.Reading.{Text, text, Read, after, same, starts, expect, skip, space, misc, equals, value}
+use Rattle.paper_opl.specs.Reading.{Text, text, Read, after, same, starts, expect, space, misc, equals, value}
 use Rattle.paper_opl.specs.Reading.Read.{got, bad}
 use Rattle.paper_opl.specs.Elements.{Class, Attribute, Child, elements, rowIn}
-use Rattle.paper_opl.specs.Tree.{Opened, fits, without, attribute, attributes, opening, content, body, element, declaration, doctype}
+use Rattle.paper_opl.specs.Tree.{Opened, fits, without, attribute, attributes, opening, content, body, element, isVersion, isEncoding, isStandalone, doctype}
 use Rattle.opl_table.specs.Numbers.{nameOf, leftOf, listOf}
 use Rattle.opl_reader.specs.declared.Taken.{Taken}
 use Rattle.opl_reader.specs.declared.Taken.the-variants.{Behind, Refused}
@@ -88,8 +88,11 @@ contentRead d id left s = forget (content (element elements d) (suc (length s)) 
 unfoldable pub spacedRead : Text → Text → Read (Unit {0})
 spacedRead w s = after (space s) (λ _ r. expect w r)
 
-unfoldable pub declaredRead : Text → Read (Unit {0})
-declaredRead s = cond (starts (text "<?xml") s && not (same (drop 5 s) (skip (drop 5 s)))) (declaration (drop 5 s)) (got tt s)
+-- what may stand in the declaration, by its piece
+abbrev pub mayStand : ℕ → Text → Bool
+mayStand zero = isVersion
+mayStand (suc zero) = isEncoding
+mayStand (suc (suc n)) = isStandalone
 
 unfoldable pub typedRead : Text → Read (Unit {0})
 typedRead s = cond (starts (text "<!DOCTYPE") s) (after (doctype (drop 9 s)) (λ _ r. misc (length r) r)) (got tt s)

@@ -1,15 +1,16 @@
 // A policy text is judged from left to right: attributes, tags, elements and their contents, prolog, document. It is accepted whole, or refused at a
 // byte. It rests on the bytes' readers and on the table of elements.
 ghost use mathlib.Core.Path.{_≡_};
+ghost use mathlib.Core.List.{[], _∷_};
 ghost use Prim.Native.Nat.{_+_, _≤_};
 ghost use lib.ListN.{length, drop};
 ghost use Rattle.paper_opl.specs.Reading.{space as spaceOf};
 ghost use Rattle.paper_opl.specs.Elements.{elements, rowIn};
 ghost use Rattle.paper_opl.specs.Elements.Class.{number};
-ghost use Rattle.paper_opl.specs.Tree.{digit as digitOf, fits as fitsOf, opening as openingOf, ending as endingOf, pseudo as pseudoOf, declaration as declarationOf, doctype as doctypeOf, prolog as prologOf, document as documentOf};
-ghost use Rattle.opl_text.specs.Steps.{Reads, stepOf};
+ghost use Rattle.paper_opl.specs.Tree.{digit as digitOf, fits as fitsOf, opening as openingOf, ending as endingOf, capital as capitalOf, isEncoding, pseudo as pseudoOf, optional as optionalOf, declaration as declarationOf, doctype as doctypeOf, behindMark as behindMarkOf, declared as declaredOf, prolog as prologOf, document as documentOf};
+ghost use Rattle.opl_text.specs.Steps.{From, Reads, stepOf};
 ghost use Rattle.opl_table.specs.Numbers.{nameOf, leftOf, listOf, classOf};
-ghost use Rattle.opl_reader.specs.Grammar.{forget, classed, valued, remaining, attributesRead, Takes, Opens, taggedRead, startRead, elementRead, contentRead, spacedRead, declaredRead, typedRead, rootRead, strange};
+ghost use Rattle.opl_reader.specs.Grammar.{forget, classed, valued, remaining, attributesRead, Takes, Opens, taggedRead, startRead, elementRead, contentRead, spacedRead, mayStand, typedRead, rootRead, strange};
 use opl_table::Found;
 use opl_text::Step;
 
@@ -309,10 +310,43 @@ pub fn content(s: &[u8], at: usize, d: usize, id: u64, left: u64) -> Step
     Step::Bad(i)
 }
 
-// A literal, "=", and this value.
-fn pseudo(s: &[u8], at: usize, w: &[u8], v: &[u8]) -> Step
+// A letter as its capital.
+fn capital(b: u8) -> u64
+    ensures { λ r. ⌜ r ≡ capitalOf b ⌝ }
+{
+    let n = wide(b);
+    if (97 <= n) & (n <= 122) {
+        return n - 32;
+    }
+    n
+}
+
+// "UTF-8", in capitals or small letters.
+fn is_encoding(v: &[u8]) -> bool
+    ensures { λ r. ⌜ r ≡ isEncoding (now (v .entry)) ⌝ }
+{
+    if v.len() != 5 {
+        return false;
+    }
+    let letters = (capital(v[0]) == 85) & (capital(v[1]) == 84) & (capital(v[2]) == 70);
+    letters & (capital(v[3]) == 45) & (capital(v[4]) == 56)
+}
+
+// What may stand in the declaration: a version, an encoding, a `standalone`.
+fn may_stand(which: u64, v: &[u8]) -> bool
+    ensures { λ r. ⌜ r ≡ mayStand which (now (v .entry)) ⌝ }
+{
+    match which {
+        0 => opl_text::same_bytes(v, b"1.0"),
+        1 => is_encoding(v),
+        _ => opl_text::same_bytes(v, b"yes") | opl_text::same_bytes(v, b"no"),
+    }
+}
+
+// A literal, "=", and a value that may stand there.
+fn pseudo(s: &[u8], at: usize, w: &[u8], which: u64) -> Step
     requires { ⌜ at ≤ length (now s) ⌝ }
-    ensures { λ r. ⌜ Reads (now (s .entry)) (stepOf (now (s .entry))) (pseudoOf (now (w .entry)) (now (v .entry)) (drop at (now (s .entry)))) r ⌝ }
+    ensures { λ r. ⌜ Reads (now (s .entry)) (stepOf (now (s .entry))) (pseudoOf (now (w .entry)) (mayStand which) (drop at (now (s .entry)))) r ⌝ }
 {
     let x = opl_text::expect(s, at, w);
     let Step::Next(i) = x else {
@@ -326,10 +360,22 @@ fn pseudo(s: &[u8], at: usize, w: &[u8], v: &[u8]) -> Step
     let Step::Next(end) = e else {
         return e;
     };
-    if !opl_text::same_bytes(opl_text::quoted(s, u, end), v) {
+    if !may_stand(which, opl_text::quoted(s, u, end)) {
         return Step::Bad(u + 1);
     }
     Step::Next(end + 1)
+}
+
+// The same behind white space, or nothing: the literal is known by its first letter.
+fn optional(s: &[u8], at: usize, letter: u8, w: &[u8], which: u64) -> Step
+    requires { ⌜ at ≤ length (now s) ⌝ }
+    ensures { λ r. ⌜ Reads (now (s .entry)) (stepOf (now (s .entry))) (optionalOf (letter ∷ []) (now (w .entry)) (mayStand which) (drop at (now (s .entry)))) r ⌝ }
+{
+    let j = opl_text::skip_space(s, at);
+    if !(opl_text::is_at(s, j, letter) & (j != at)) {
+        return Step::Next(at);
+    }
+    pseudo(s, j, w, which)
 }
 
 // The XML declaration, from behind "<?xml".
@@ -341,19 +387,19 @@ fn declaration(s: &[u8], at: usize) -> Step
     let Step::Next(i) = b else {
         return b;
     };
-    let version = pseudo(s, i, b"version", b"1.0");
+    let version = pseudo(s, i, b"version", 0);
     let Step::Next(u) = version else {
         return version;
     };
-    let j = opl_text::skip_space(s, u);
-    if !(opl_text::is_at(s, j, 101) & (j != u)) {
-        return opl_text::expect(s, j, b"?>");
-    }
-    let encoding = pseudo(s, j, b"encoding", b"UTF-8");
+    let encoding = optional(s, u, 101, b"encoding", 1);
     let Step::Next(z) = encoding else {
         return encoding;
     };
-    let end = opl_text::skip_space(s, z);
+    let standalone = optional(s, z, 115, b"standalone", 2);
+    let Step::Next(y) = standalone else {
+        return standalone;
+    };
+    let end = opl_text::skip_space(s, y);
     opl_text::expect(s, end, b"?>")
 }
 
@@ -394,18 +440,30 @@ fn doctype(s: &[u8], at: usize) -> Step
     opl_text::expect(s, k, b">")
 }
 
-// Behind the XML declaration, which stands at the first byte or nowhere.
-fn declared(s: &[u8]) -> Step
-    ensures { λ r. ⌜ Reads (now (s .entry)) (stepOf (now (s .entry))) (declaredRead (now (s .entry))) r ⌝ }
+// Behind the byte order mark, if it is there.
+pub fn behind_mark(s: &[u8]) -> usize
+    ensures { λ r. ⌜ From (now (s .entry)) (behindMarkOf (now (s .entry))) r ⌝ }
 {
-    if !opl_text::starts_with(s, 0, b"<?xml") {
-        return Step::Next(0);
+    if opl_text::starts_with(s, 0, b"\xef\xbb\xbf") {
+        return 3;
     }
-    let i = opl_text::skip_space(s, 5);
-    if i == 5 {
-        return Step::Next(0);
+    0
+}
+
+// Behind the XML declaration, which stands here or nowhere.
+fn declared(s: &[u8], at: usize) -> Step
+    requires { ⌜ at ≤ length (now s) ⌝ }
+    ensures { λ r. ⌜ Reads (now (s .entry)) (stepOf (now (s .entry))) (declaredOf (drop at (now (s .entry)))) r ⌝ }
+{
+    if !opl_text::starts_with(s, at, b"<?xml") {
+        return Step::Next(at);
     }
-    declaration(s, 5)
+    let from = at + 5;
+    let i = opl_text::skip_space(s, from);
+    if i == from {
+        return Step::Next(at);
+    }
+    declaration(s, from)
 }
 
 // Behind the DOCTYPE, if it is there, and what may stand behind it.
@@ -427,7 +485,7 @@ fn typed(s: &[u8], at: usize) -> Step
 pub fn prolog(s: &[u8]) -> Step
     ensures { λ r. ⌜ Reads (now (s .entry)) (stepOf (now (s .entry))) (prologOf (now (s .entry))) r ⌝ }
 {
-    let d = declared(s);
+    let d = declared(s, behind_mark(s));
     let Step::Next(i) = d else {
         return d;
     };

@@ -13,8 +13,8 @@ use Rattle.paper_lower.specs.Records.{Bytes, Record, encode}
 use Rattle.paper_opl.specs.Reading.{Text, text, same, expect, word, misc}
 use Rattle.paper_opl.specs.Reading.Read.{got}
 use Rattle.paper_opl.specs.Elements.{elements}
-use Rattle.paper_opl.specs.Tree.{Elements, opening, element, prolog, DEPTH, document}
-use Rattle.paper_opl.specs.Naming.{Line, inLine, lines, those, recordsOf, written, translate}
+use Rattle.paper_opl.specs.Tree.{Elements, opening, element, behindMark, prolog, DEPTH, document}
+use Rattle.paper_opl.specs.Naming.{Line, inLine, lineEnd, lines, taskLines, those, recordsOf, written, translate}
 use Rattle.paper_opl.specs.Promises.{WellShaped, RisingFrom, Yield}
 use Rattle.paper_opl.proofs.Inversion.{on, on-test, on-found, bad≢got, got-rest, none≢just}
 use Rattle.paper_opl.proofs.Conforms.{root}
@@ -38,12 +38,15 @@ unfolding lines
 lines-end zero s ls r e = on-test (same s []) (λ q. sym (got-rest (rw q at e)) ∙ same-end s q) (λ q. absurd (bad≢got (rw q at e)))
 lines-end (suc n) s ls r e =
     on-test (same s []) (λ q. sym (got-rest (rw q at e)) ∙ same-end s q)
-    (λ q. on (word inLine s) (λ v u a. on (expect (32 ∷ []) u) (λ _ z b. on (word inLine z) (λ w y c. on (cond (same y []) (got tt y) (expect (10 ∷ []) y)) (λ _
-    x d. on (lines n x)
+    (λ q. on (word inLine s) (λ v u a. on (expect (32 ∷ []) u) (λ _ z b. on (word inLine z) (λ w y c. on (lineEnd y) (λ _ x d. on (lines n x)
     (λ ms i f. sym (got-rest (rw (q, a, b, c, d, f) at e)) ∙ lines-end n x ms i f)
     (λ i f. absurd (bad≢got (rw (q, a, b, c, d, f) at e)))) (λ x d. absurd (bad≢got (rw (q, a, b, c, d) at e))))
     (λ y c. absurd (bad≢got (rw (q, a, b, c) at e))))
     (λ z b. absurd (bad≢got (rw (q, a, b) at e)))) (λ u a. absurd (bad≢got (rw (q, a) at e))))
+
+task-lines-end : (t : Text) (ls : List Line) (r : Text) → taskLines t ≡ got ls r → r ≡ []
+unfolding taskLines
+task-lines-end t ls r e = lines-end (length (behindMark t)) (behindMark t) ls r e
 
 -- ---- Records.
 
@@ -69,16 +72,16 @@ written-length (r ∷ rs) h = let a = h .0 .sixteen in let b = written-length rs
 pub accepted : (s t : Text) (out : Bytes) → translate s t out .reply ≡ GRANTED → Yield s t out
 unfolding translate
 accepted s t out e =
-    on (document s) (λ es r d. on (lines (length t) t) (λ ls u l. on-found (recordsOf es ls)
+    on (document s) (λ es r d. on (taskLines t) (λ ls u l. on-found (recordsOf es ls)
     (λ rs q. on-test (leb (length (written rs)) (length out))
     (λ f.
     let w = records-rise es ls rs (document-small s es r d) q in
     record {
       elements = es;
-      taskLines = ls;
+      lineList = ls;
       records = rs;
       text-is = rw (sym (document-end s es r d)) d;
-      lines-are = rw (sym (lines-end (length t) t ls u l)) l;
+      lines-are = rw (sym (task-lines-end t ls u l)) l;
       says = q;
       well-shaped = w .0;
       kinds-rise = w .1;
@@ -101,6 +104,6 @@ accepted s t out e =
 pub refusal-writes-nothing : (s t : Text) (out : Bytes) → (translate s t out .reply ≡ GRANTED → ⊥) → translate s t out .output ≡ out
 unfolding translate
 refusal-writes-nothing s t out n =
-    on (document s) (λ es r d. on (lines (length t) t) (λ ls u l. on-found (recordsOf es ls)
+    on (document s) (λ es r d. on (taskLines t) (λ ls u l. on-found (recordsOf es ls)
     (λ rs q. on-test (leb (length (written rs)) (length out)) (λ f. absurd (n (rw (d, l, q, f)))) (λ f. rw (d, l, q, f))) (λ q. rw (d, l, q)))
     (λ u l. rw (d, l))) (λ r d. rw d)

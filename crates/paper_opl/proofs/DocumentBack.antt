@@ -1,7 +1,7 @@
 -- A text that is written from a tree of the grammar is read back as that tree.
 use mathlib.Core.Path.{_≡_, refl, sym, ap, _∙_}
 use mathlib.Core.List.{List, [], _∷_, _++_}
-use mathlib.Core.Bool.{true, false, not, cond, _&&_, _||_, false≢true, true≢false}
+use mathlib.Core.Bool.{Bool, true, false, not, cond, _&&_, _||_, false≢true, true≢false}
 use Prim.Native.Nat.{ℕ, suc, _<_, _≤_}
 use native.Mathlib.Omega.{arith}
 use lib.Dec.{eqb, ltb}
@@ -9,13 +9,13 @@ use lib.ListN.{length, drop, length-append}
 use borrow.Author.Tests.{eqb-true, eq-eqb, ltb-true, not-true}
 use Rattle.paper_lower.specs.Lists.{Maybe, some, every, listsOpen}
 use Rattle.paper_lower.specs.Lists.Maybe.{none, just}
-use Rattle.paper_lower.proofs.ListLaws.{both}
+use Rattle.paper_lower.proofs.ListLaws.{both, and-false}
 use Rattle.paper_opl.specs.Reading.{Text, after, text, same, starts, expect, white, skip, inName, value, misc, readingOpen}
 use Rattle.paper_opl.specs.Reading.Read.{got}
 use Rattle.paper_opl.specs.Elements.{Child, elements, next, mayEnd, rowIn}
-use Rattle.paper_opl.specs.Tree.{Elements, Inside, element, DEPTH, pseudo, declaration, doctype, prolog, document}
+use Rattle.paper_opl.specs.Tree.{Elements, Inside, element, DEPTH, pseudo, optional, isVersion, isEncoding, isStandalone, declaration, doctype, byteOrderMark, behindMark, declared, prolog, document}
 use Rattle.paper_opl.specs.Tree.Elements.{nothing, node}
-use Rattle.paper_opl.specs.Layout.{attributesFit, elementsFit, inGrammar, attributesText, attributesLaid, givenBy, Layout, layoutText, layoutFits, treeOf, Document, documentText, documentFits, blank, someBlank, calm, Gap, gap, gapFits, Value, quoted, quoteFits, valueText, valueFits, encodingText, encodingFits, Declaration, declarationText, declarationFits, Doctype, doctypeText, doctypeFits}
+use Rattle.paper_opl.specs.Layout.{attributesFit, elementsFit, inGrammar, attributesText, attributesLaid, givenBy, Layout, layoutText, layoutFits, treeOf, Document, documentText, documentFits, blank, someBlank, calm, Gap, gap, gapFits, Value, quoted, quoteFits, valueText, valueFits, optionalText, optionalFits, Declaration, declarationRest, declarationText, declarationFits, Doctype, doctypeText, doctypeFits, markText}
 use Rattle.paper_opl.specs.Layout.Layout.{last, short, long}
 use Rattle.paper_opl.specs.Layout.Gap.{space as only-space, comment as with-comment}
 use Rattle.paper_opl.proofs.Inversion.{on-test, on-found, none≢just, just-value}
@@ -23,6 +23,7 @@ use Rattle.paper_opl.proofs.Conforms.{same-true, among, forNames, child
 use Rattle.paper_opl.proofs.Depth.{rank, child-lower, root-rank}
 use Rattle.paper_opl.proofs.Tags.{starts-more}
 use Rattle.paper_opl.proofs.BytesBack.{stops, behind-all, space-back, value-back, quote-clear, equals-back, gap-back}
+use Rattle.paper_opl.proofs.Marks.{mark-back}
 use Rattle.paper_opl.proofs.TreeBack.{aName, not-first, opening-back, attributes-stop, slash-stops, angle-stops, element-short, element-long, content-back, children-named}
 
 -- ---- The declaration.
@@ -50,8 +51,9 @@ skipped s rest h k =
     absurd (omega arith))
     (λ e. e)
 
-pseudo-back : (w x : Text) (v : Value) (rest : Text) → valueFits v ≡ true → same (v .value) x ≡ true → pseudo w x (w ++ valueText v rest) ≡ got tt rest
-pseudo-back w x v rest h e =
+pseudo-back : (w : Text) (may : Text → Bool) (v : Value) (rest : Text) → valueFits v ≡ true → may (v .value) ≡ true →
+    pseudo w may (w ++ valueText v rest) ≡ got tt rest
+pseudo-back w may v rest h e =
     let p = both (blank (v .left) && blank (v .right)) (quoteFits (v .quote) (v .value)) h in
     let q = both (blank (v .left)) (blank (v .right)) (p .0) in
     let o = both (eqb (v .quote) 34 || eqb (v .quote) 39) _ (p .1) in
@@ -62,24 +64,42 @@ pseudo-back w x v rest h e =
       e,
     )
 
--- the end of a declaration, with an encoding or without
-encoding-back : (m : Maybe (Text × Value)) (s rest : Text) → encodingFits m ≡ true → blank s ≡ true
-    → cond (starts (text "e") (skip (encodingText m (s ++ (text "?>" ++ rest)))) && not
-    (same (encodingText m (s ++ (text "?>" ++ rest))) (skip (encodingText m (s ++ (text "?>" ++ rest))))))
-    (after (pseudo (text "encoding") (text "UTF-8") (skip (encodingText m (s ++ (text "?>" ++ rest))))) (λ _ z. expect (text "?>") (skip z)))
-    (expect (text "?>") (skip (encodingText m (s ++ (text "?>" ++ rest)))))
-    ≡ got tt rest
-unfolding encodingText starts expect text
-encoding-back none s rest h b = rw (behind-all white s (text "?>" ++ rest) b refl)
-encoding-back (just e) s rest h b =
+-- a piece that may be left out: what stands behind it does not begin with its letter
+optional-back : (c : ℕ) (w : Text) (may : Text → Bool) (m : Maybe (Text × Value)) (rest : Text) → not (white c) ≡ true → optionalFits may m ≡ true →
+    starts (c ∷ []) (skip rest) ≡ false
+    → optional (c ∷ []) (c ∷ w) may (optionalText (c ∷ w) m rest) ≡ got tt rest
+unfolding optional optionalText starts
+optional-back c w may none rest k h n = rw n
+optional-back c w may (just e) rest k h n =
     let p = both (someBlank (e .0)) _ h in
-    let q = both (valueFits (e .1)) (same (e .1 .value) (text "UTF-8")) (p .1) in
+    let q = both (valueFits (e .1)) (may (e .1 .value)) (p .1) in
     rw (
-      skipped (e .0) (text "encoding" ++ valueText (e .1) (s ++ (text "?>" ++ rest))) (p .0) refl,
-      behind-all white (e .0) (text "encoding" ++ valueText (e .1) (s ++ (text "?>" ++ rest))) (both (blank (e .0)) (not (same (e .0) [])) (p .0) .0) refl,
-      pseudo-back (text "encoding") (text "UTF-8") (e .1) (s ++ (text "?>" ++ rest)) (q .0) (q .1),
-      behind-all white s (text "?>" ++ rest) b refl,
+      skipped (e .0) (c ∷ (w ++ valueText (e .1) rest)) (p .0) k,
+      behind-all white (e .0) (c ∷ (w ++ valueText (e .1) rest)) (both (blank (e .0)) (not (same (e .0) [])) (p .0) .0) k,
+      eq-eqb c c refl,
+      pseudo-back (c ∷ w) may (e .1) rest (q .0) (q .1),
     )
+
+encoding-back : (m : Maybe (Text × Value)) (rest : Text) → optionalFits isEncoding m ≡ true → starts (text "e") (skip rest) ≡ false
+    → optional (text "e") (text "encoding") isEncoding (optionalText (text "encoding") m rest) ≡ got tt rest
+unfolding text
+encoding-back m rest h n = optional-back 101 (110 ∷ 99 ∷ 111 ∷ 100 ∷ 105 ∷ 110 ∷ 103 ∷ []) isEncoding m rest refl h n
+
+-- behind an encoding stands no letter of it, and behind what may stand there no letter of that
+no-encoding : (m : Maybe (Text × Value)) (s rest : Text) → optionalFits isStandalone m ≡ true → blank s ≡ true
+    → starts (text "e") (skip (optionalText (text "standalone") m (s ++ (text "?>" ++ rest)))) ≡ false
+unfolding optionalText starts text
+no-encoding none s rest h b = rw (behind-all white s (text "?>" ++ rest) b refl)
+no-encoding (just e) s rest h b =
+    rw (behind-all white (e .0) (text "standalone" ++ valueText (e .1) (s ++ (text "?>" ++ rest)))
+    (both (blank (e .0)) (not (same (e .0) [])) (both (someBlank (e .0)) _ h .0) .0) refl)
+
+standalone-back : (m : Maybe (Text × Value)) (s rest : Text) → optionalFits isStandalone m ≡ true → blank s ≡ true
+    → optional (text "s") (text "standalone") isStandalone (optionalText (text "standalone") m (s ++ (text "?>" ++ rest))) ≡ got tt (s ++ (text "?>" ++ rest))
+unfolding starts text
+standalone-back m s rest h b =
+    optional-back 115 (116 ∷ 97 ∷ 110 ∷ 100 ∷ 97 ∷ 108 ∷ 111 ∷ 110 ∷ 101 ∷ []) isStandalone m (s ++ (text "?>" ++ rest)) refl h
+    (rw (behind-all white s (text "?>" ++ rest) b refl))
 
 version-clear : (rest : Text) → stops white (text "version" ++ rest) ≡ true
 unfolding text
@@ -97,19 +117,28 @@ angle-clear : (rest : Text) → stops white (text ">" ++ rest) ≡ true
 unfolding text
 angle-clear rest = refl
 
-declaration-back : (d : Declaration) (rest : Text) → declarationFits (just d) ≡ true
-    → declaration (d .before ++ (text "version" ++ valueText (d .version) (encodingText (d .encoding) (d .last ++ (text "?>" ++ rest))))) ≡ got tt rest
+question-clear : (rest : Text) → stops white (text "?>" ++ rest) ≡ true
+unfolding text
+question-clear rest = refl
+
+declaration-back : (d : Declaration) (rest : Text) → declarationFits (just d) ≡ true → declaration (declarationRest d rest) ≡ got tt rest
 unfolding declaration
 declaration-back d rest h =
     let a = both (someBlank (d .before)) _ h in
     let b = both (valueFits (d .version)) _ (a .1) in
-    let c = both (same (d .version .value) (text "1.0")) _ (b .1) in
-    let e = both (encodingFits (d .encoding)) (blank (d .last)) (c .1) in
+    let c = both (isVersion (d .version .value)) _ (b .1) in
+    let e = both (optionalFits isEncoding (d .encoding)) _ (c .1) in
+    let f = both (optionalFits isStandalone (d .standalone)) (blank (d .last)) (e .1) in
+    let last = d .last ++ (text "?>" ++ rest) in
+    let alone = optionalText (text "standalone") (d .standalone) last in
     rw (
-      space-back (d .before) (text "version" ++ valueText (d .version) (encodingText (d .encoding) (d .last ++ (text "?>" ++ rest)))) (a .0) (version-clear _),
-      pseudo-back (text "version") (text "1.0") (d .version) (encodingText (d .encoding) (d .last ++ (text "?>" ++ rest))) (b .0) (c .0),
+      space-back (d .before) (text "version" ++ valueText (d .version) (optionalText (text "encoding") (d .encoding) alone)) (a .0) (version-clear _),
+      pseudo-back (text "version") isVersion (d .version) (optionalText (text "encoding") (d .encoding) alone) (b .0) (c .0),
+      encoding-back (d .encoding) alone (e .0) (no-encoding (d .standalone) (d .last) rest (f .0) (f .1)),
+      standalone-back (d .standalone) (d .last) rest (f .0) (f .1),
+      behind-all white (d .last) (text "?>" ++ rest) (f .1) (question-clear rest),
+      expect-back (text "?>") rest,
     )
-    (encoding-back (d .encoding) (d .last) rest (e .0) (e .1))
 
 -- ---- The DOCTYPE.
 
@@ -143,6 +172,18 @@ doctype-back d rest h =
 
 white-no-angle : (b : ℕ) → white b ≡ true → eqb 60 b ≡ false
 white-no-angle b h = on-test (eqb 60 b) (λ e. absurd (false≢true (rw (sym (eqb-true 60 b e)) at h))) (λ e. e)
+
+white-no-mark : (b : ℕ) → white b ≡ true → eqb 239 b ≡ false
+white-no-mark b h = on-test (eqb 239 b) (λ e. absurd (false≢true (rw (sym (eqb-true 239 b e)) at h))) (λ e. e)
+
+-- what may stand at the start begins with no byte order mark
+gap-unmarked : (g : Gap) (rest : Text) → gapFits g ≡ true → starts byteOrderMark (gap g (text "<" ++ rest)) ≡ false
+unfolding gap gapFits starts text every
+gap-unmarked (only-space []) rest h = refl
+gap-unmarked (only-space (b ∷ s)) rest h = rw (white-no-mark b (both (white b) (every white s) h .0))
+gap-unmarked (with-comment [] body g) rest h = refl
+gap-unmarked (with-comment (b ∷ s) body g) rest h =
+    rw (white-no-mark b (both (white b) (every white s) (both (blank (b ∷ s)) (calm body) (both (blank (b ∷ s) && calm body) (gapFits g) h .0) .0) .0))
 
 -- what begins with white space, a comment or another tag does not begin with a declaration
 no-declaration : (g : Gap) (rest : Text) → gapFits g ≡ true → starts (63 ∷ []) rest ≡ false → starts (text "<?xml") (gap g (text "<" ++ rest)) ≡ false
@@ -181,16 +222,33 @@ module _ (g : Gap) (rest : Text) (fit : gapFits g ≡ true) (no-mark : starts (3
   undeclared none h = no-declaration g rest fit no-question
   undeclared (just d) h = no-declaration (d .gap) _ (both (gapFits (d .gap)) _ h .0) refl
 
-  prolog-back : (x : Maybe Declaration) (m : Maybe Doctype) → declarationFits x ≡ true → doctypeFits m ≡ true →
-      prolog (declarationText x (doctypeText m (gap g (text "<" ++ rest)))) ≡ got tt (text "<" ++ rest)
-  unfolding prolog declarationText starts text
-  prolog-back none m a h = rw (undeclared m h) (doctype-read m h)
-  prolog-back (just d) m a h =
+  unmarked : (x : Maybe Declaration) (m : Maybe Doctype) → doctypeFits m ≡ true →
+      starts byteOrderMark (declarationText x (doctypeText m (gap g (text "<" ++ rest)))) ≡ false
+  unfolding declarationText doctypeText starts text
+  unmarked none none h = gap-unmarked g rest fit
+  unmarked none (just d) h = gap-unmarked (d .gap) _ (both (gapFits (d .gap)) _ h .0)
+  unmarked (just d) m h = refl
+
+  declared-back : (x : Maybe Declaration) (m : Maybe Doctype) → declarationFits x ≡ true → doctypeFits m ≡ true
+      → declared (declarationText x (doctypeText m (gap g (text "<" ++ rest)))) ≡ got tt (doctypeText m (gap g (text "<" ++ rest)))
+  unfolding declared declarationText starts text
+  declared-back none m a h = rw (undeclared m h)
+  declared-back (just d) m a h =
       rw (
-        skipped (d .before)
-            (text "version" ++ valueText (d .version) (encodingText (d .encoding) (d .last ++ (text "?>" ++ doctypeText m (gap g (text "<" ++ rest))))))
+        skipped (d .before) (text "version" ++
+            valueText (d .version) (optionalText (text "encoding") (d .encoding)
+            (optionalText (text "standalone") (d .standalone) (d .last ++ (text "?>" ++ doctypeText m (gap g (text "<" ++ rest)))))))
             (both (someBlank (d .before)) _ a .0) refl,
         declaration-back d (doctypeText m (gap g (text "<" ++ rest))) a,
+      )
+
+  prolog-back : (b : Bool) (x : Maybe Declaration) (m : Maybe Doctype) → declarationFits x ≡ true → doctypeFits m ≡ true
+      → prolog (markText b (declarationText x (doctypeText m (gap g (text "<" ++ rest))))) ≡ got tt (text "<" ++ rest)
+  unfolding prolog
+  prolog-back b x m a h =
+      rw (
+        mark-back b (declarationText x (doctypeText m (gap g (text "<" ++ rest)))) (ap (λ (k : Bool). not b && k) (unmarked x m h) ∙ and-false (not b)),
+        declared-back x m a h,
       ) (doctype-read m h)
 
 -- ---- The document.
@@ -221,7 +279,7 @@ module _ (x : Document) (fit : documentFits x ≡ true) where
       let o = both (doctypeFits (x .doctype)) (layoutFits (x .root)) (m .1) in
       rw (
         p,
-        prolog-back g (v ++ u) f (not-first 33 v u refl a) (not-first 63 v u refl a) (x .declaration) (x .doctype) (m .0) (o .0),
+        prolog-back g (v ++ u) f (not-first 33 v u refl a) (not-first 63 v u refl a) (x .mark) (x .declaration) (x .doctype) (m .0) (o .0),
         opening-back root cs v u a k n,
         r,
         gap-back (length (gap h [])) h [] i refl refl (omega arith),

@@ -3,7 +3,7 @@
 use mathlib.Core.Path.{_≡_, refl, sym, ap, _∙_}
 use mathlib.Core.Logic.{_↔_}
 use mathlib.Core.List.{[], _++_}
-use mathlib.Core.Bool.{true, false, not, cond, _&&_, true≢false}
+use mathlib.Core.Bool.{Bool, true, false, not, cond, _&&_, true≢false}
 use lib.ListN.{length, drop}
 use borrow.Author.Tests.{not-true}
 use Rattle.paper_lower.specs.Lists.{Maybe}
@@ -12,9 +12,9 @@ use Rattle.paper_lower.proofs.ListLaws.{both}
 use Rattle.paper_opl.specs.Reading.{Text, after, text, same, run, starts, expect, white, skip, space, value, equals, misc}
 use Rattle.paper_opl.specs.Reading.Read.{got}
 use Rattle.paper_opl.specs.Elements.{elements}
-use Rattle.paper_opl.specs.Tree.{Elements, Inside, opening, element, DEPTH, pseudo, declaration, doctype, prolog, document}
+use Rattle.paper_opl.specs.Tree.{Elements, Inside, opening, element, DEPTH, pseudo, optional, isVersion, isEncoding, isStandalone, declaration, doctype, behindMark, declared, prolog, document}
 use Rattle.paper_opl.specs.Tree.Elements.{nothing, node}
-use Rattle.paper_opl.specs.Layout.{someBlank, Gap, gap, gapFits, Value, quoted, valueText, valueFits, attributesText, Layout, layoutText, layoutFits, treeOf, encodingText, Declaration, declarationText, declarationFits, Doctype, doctypeText, doctypeFits, documentText, inGrammar, WrittenFrom}
+use Rattle.paper_opl.specs.Layout.{someBlank, Gap, gap, gapFits, Value, quoted, valueText, valueFits, attributesText, Layout, layoutText, layoutFits, treeOf, optionalText, optionalFits, Declaration, declarationRest, declarationText, declarationFits, Doctype, doctypeText, doctypeFits, markText, documentText, inGrammar, WrittenFrom}
 use Rattle.paper_opl.specs.Layout.Layout.{last, short, long}
 use Rattle.paper_opl.proofs.Inversion.{on, on-test, bad≢got, got-rest, got-value}
 use Rattle.paper_opl.proofs.Conforms.{root}
@@ -23,18 +23,20 @@ use Rattle.paper_opl.proofs.InGrammar.{document-in-grammar}
 use Rattle.paper_opl.proofs.TreeBack.{same-self}
 use Rattle.paper_opl.proofs.DocumentBack.{read-back}
 use Rattle.paper_opl.proofs.BytesLaid.{expect-laid, starts-laid, skip-laid, space-laid, value-laid, equals-laid, gap-laid}
+use Rattle.paper_opl.proofs.Marks.{mark-laid}
 use Rattle.paper_opl.proofs.TreeLaid.{ElementLaid, element-laid, node-same, started}
 use Rattle.paper_opl.proofs.TreeLaid.ElementLaid.{one-tag, two-tags}
 
 -- ---- The declaration.
 
-pseudo-laid : (w x s r : Text) → pseudo w x s ≡ got tt r → (v : Value) × (valueFits v ≡ true) × (same (v .value) x ≡ true) × (s ≡ w ++ valueText v r)
-pseudo-laid w x s r e =
-    on (expect w s) (λ _ u p. on (equals u) (λ _ z q. on (value z) (λ v y t. on-test (same v x)
+pseudo-laid : (w : Text) (may : Text → Bool) (s r : Text) → pseudo w may s ≡ got tt r →
+    (v : Value) × (valueFits v ≡ true) × (may (v .value) ≡ true) × (s ≡ w ++ valueText v r)
+pseudo-laid w may s r e =
+    on (expect w s) (λ _ u p. on (equals u) (λ _ z q. on (value z) (λ v y t. on-test (may v)
     (λ c.
     let k = rw (p, q, t, c) at e in
     let l = equals-laid u z v y q t in
-    rw (sym (got-rest k)) (l .value, l .fits, ap (λ (o : Text). same o x) (l .value-is) ∙ c, expect-laid w s u p ∙ ap (λ (o : Text). w ++ o) (l .text-is)))
+    rw (sym (got-rest k)) (l .value, l .fits, ap may (l .value-is) ∙ c, expect-laid w s u p ∙ ap (λ (o : Text). w ++ o) (l .text-is)))
     (λ c. absurd (bad≢got (rw (p, q, t, c) at e)))) (λ y t. absurd (bad≢got (rw (p, q, t) at e)))) (λ z q. absurd (bad≢got (rw (p, q) at e))))
     (λ u p. absurd (bad≢got (rw p at e)))
 
@@ -45,45 +47,45 @@ some-skipped u h =
     (λ q. absurd (true≢false (sym (same-self u) ∙ ap (same u) (w .1 ∙ ap (λ (o : Text). o ++ skip u) (same-end (run white u) q)) ∙ h)))
     (λ q. rw (w .0, q))
 
+optional-laid : (letter w : Text) (may : Text → Bool) (s r : Text) → optional letter w may s ≡ got tt r →
+    (m : Maybe (Text × Value)) × (optionalFits may m ≡ true) × (s ≡ optionalText w m r)
+unfolding optional optionalText
+optional-laid letter w may s r e =
+    on-test (starts letter (skip s) && not (same s (skip s)))
+    (λ c.
+    let g = pseudo-laid w may (skip s) r (rw c at e) in
+    let k = skip-laid s in
+    let b = some-skipped s (not-true (same s (skip s)) (both (starts letter (skip s)) (not (same s (skip s))) c .1)) in
+    (just (run white s, g .0), rw (b, g .1, g .2), k .1 ∙ ap (λ (o : Text). run white s ++ o) (g .3)))
+    (λ c. (none, refl, got-rest (rw c at e)))
+
 pub record Declared (s r : Text) : Type 0 where
   pub declaration : Declaration
   pub fits : declarationFits (just declaration) ≡ true
-  pub text-is : s ≡ declaration .before ++ (text "version" ++ valueText (declaration .version) (encodingText (declaration .encoding) (declaration .last ++ (text "?>" ++ r))))
+  pub text-is : s ≡ declarationRest declaration r
 
 declaration-laid : (s r : Text) → declaration s ≡ got tt r → Declared s r
-unfolding declaration encodingText
+unfolding declaration
 declaration-laid s r e =
-    on (space s) (λ _ u p. on (pseudo (text "version") (text "1.0") u) (λ _ z q.
+    on (space s) (λ _ u p. on (pseudo (text "version") isVersion u) (λ _ z q. on (optional (text "e") (text "encoding") isEncoding z) (λ _ y t. on
+    (optional (text "s") (text "standalone") isStandalone y)
+    (λ _ x i.
     let a = space-laid s u p in
-    let b = pseudo-laid (text "version") (text "1.0") u z q in
-    on-test (starts (text "e") (skip z) && not (same z (skip z)))
-    (λ c. on (pseudo (text "encoding") (text "UTF-8") (skip z))
-    (λ _ y t.
-    let f = expect-laid (text "?>") (skip y) r (rw (p, q, c, t) at e) in
-    let g = pseudo-laid (text "encoding") (text "UTF-8") (skip z) y t in
-    let h = skip-laid y in
-    let w = skip-laid z in
+    let b = pseudo-laid (text "version") isVersion u z q in
+    let c = optional-laid (text "e") (text "encoding") isEncoding z y t in
+    let d = optional-laid (text "s") (text "standalone") isStandalone y x i in
+    let f = expect-laid (text "?>") (skip x) r (rw (p, q, t, i) at e) in
+    let w = skip-laid x in
     record {
-      declaration = record { before = a .0; version = b .0; encoding = just (run white z, g .0); last = run white y };
-      fits =
-          rw (a .1, b .1, b .2, some-skipped z (not-true (same z (skip z)) (both (starts (text "e") (skip z)) (not (same z (skip z))) c .1)), g .1, g .2, h .0);
+      declaration = record { before = a .0; version = b .0; encoding = c .0; standalone = d .0; last = run white x };
+      fits = rw (a .1, b .1, b .2, c .1, d .1, w .0);
       text-is =
           a .2 ∙ ap (λ (o : Text). a .0 ++ o) (b .3 ∙ ap (λ (o : Text). text "version" ++ valueText (b .0) o)
-          (w .1 ∙
-          ap (λ (o : Text). run white z ++ o)
-          (g .3 ∙ ap (λ (o : Text). text "encoding" ++ valueText (g .0) o) (h .1 ∙ ap (λ (o : Text). run white y ++ o) f))));
+          (c .2 ∙
+          ap (optionalText (text "encoding") (c .0)) (d .2 ∙ ap (optionalText (text "standalone") (d .0)) (w .1 ∙ ap (λ (o : Text). run white x ++ o) f))));
     })
-    (λ y t. absurd (bad≢got (rw (p, q, c, t) at e))))
-    (λ c.
-    let f = expect-laid (text "?>") (skip z) r (rw (p, q, c) at e) in
-    let w = skip-laid z in
-    record {
-      declaration = record { before = a .0; version = b .0; encoding = none; last = run white z };
-      fits = rw (a .1, b .1, b .2, w .0);
-      text-is =
-          a .2 ∙ ap (λ (o : Text). a .0 ++ o) (b .3 ∙ ap (λ (o : Text). text "version" ++ valueText (b .0) o) (w .1 ∙ ap (λ (o : Text). run white z ++ o) f));
-    }))
-    (λ z q. absurd (bad≢got (rw (p, q) at e)))) (λ u p. absurd (bad≢got (rw p at e)))
+    (λ x i. absurd (bad≢got (rw (p, q, t, i) at e)))) (λ y t. absurd (bad≢got (rw (p, q, t) at e)))) (λ z q. absurd (bad≢got (rw (p, q) at e))))
+    (λ u p. absurd (bad≢got (rw p at e)))
 
 -- ---- The DOCTYPE.
 
@@ -123,13 +125,14 @@ doctype-laid g s r f e =
 -- ---- The prolog.
 
 pub record Preceded (s u : Text) : Type 0 where
+  pub mark : Bool
   pub declaration : Maybe Declaration
   pub doctype : Maybe Doctype
   pub gap-before : Gap
   pub declared : declarationFits declaration ≡ true
   pub typed : doctypeFits doctype ≡ true
   pub gap-fits : gapFits gap-before ≡ true
-  pub text-is : s ≡ declarationText declaration (doctypeText doctype (gap gap-before u))
+  pub text-is : s ≡ markText mark (declarationText declaration (doctypeText doctype (gap gap-before u)))
 
 nine : (v : Text) → starts (text "<!DOCTYPE") v ≡ true → v ≡ text "<!DOCTYPE" ++ drop 9 v
 unfolding text
@@ -166,30 +169,34 @@ typed-laid r u e =
     (λ c. (none, g .0, refl, g .1, g .2 ∙ ap (gap (g .0)) (got-rest (rw (p, c) at e)))))
     (λ v p. absurd (bad≢got (rw p at e)))
 
-prolog-laid : (s u : Text) → prolog s ≡ got tt u → Preceded s u
-unfolding prolog declarationText
-prolog-laid s u e =
+declared-laid : (s r : Text) → declared s ≡ got tt r → (d : Maybe Declaration) × (declarationFits d ≡ true) × (s ≡ declarationText d r)
+unfolding declared declarationText
+declared-laid s r e =
     on-test (starts (text "<?xml") s && not (same (drop 5 s) (skip (drop 5 s))))
-    (λ c. on (declaration (drop 5 s))
+    (λ c.
+    let d = declaration-laid (drop 5 s) r (rw c at e) in
+    (just (d .declaration), d .fits, five s (both (starts (text "<?xml") s) _ c .0) ∙ ap (λ (o : Text). text "<?xml" ++ o) (d .text-is)))
+    (λ c. (none, refl, got-rest (rw c at e)))
+
+prolog-laid : (s u : Text) → prolog s ≡ got tt u → Preceded s u
+unfolding prolog
+prolog-laid s u e =
+    on (declared (behindMark s))
     (λ _ r p.
-    let d = declaration-laid (drop 5 s) r p in
-    let t = typed-laid r u (rw (c, p) at e) in
+    let m = mark-laid s in
+    let d = declared-laid (behindMark s) r p in
+    let t = typed-laid r u (rw p at e) in
     record {
-      declaration = just (d .declaration);
+      mark = m .0;
+      declaration = d .0;
       doctype = t .0;
       gap-before = t .1;
-      declared = d .fits;
+      declared = d .1;
       typed = t .2;
       gap-fits = t .3;
-      text-is =
-          five s (both (starts (text "<?xml") s) _ c .0) ∙ ap (λ (o : Text). text "<?xml" ++ o) (d .text-is
-          ∙ ap (λ (o : Text). d .declaration .before ++
-          (text "version" ++ valueText (d .declaration .version) (encodingText (d .declaration .encoding) (d .declaration .last ++ (text "?>" ++ o))))) (t .4));
+      text-is = m .1 ∙ ap (markText (m .0)) (d .2 ∙ ap (declarationText (d .0)) (t .4));
     })
-    (λ r p. absurd (bad≢got (rw (c, p) at e))))
-    (λ c. let t =
-    typed-laid s u (rw c at e) in record
-    { declaration = none; doctype = t .0; gap-before = t .1; declared = refl; typed = t .2; gap-fits = t .3; text-is = t .4 })
+    (λ r p. absurd (bad≢got (rw p at e)))
 
 -- ---- The document.
 
@@ -222,13 +229,13 @@ written-from s es r e =
     root-laid (c .name) z y i (w .gap-before) (g .0) (w .gap-fits) (g .1) (g .2 ∙ ap (gap (g .0)) (same-end x f))
     (element-laid elements DEPTH (c .name) z i y h) in
     record {
-      layout = record { declaration = w .declaration; doctype = w .doctype; root = q .0 };
+      layout = record { mark = w .mark; declaration = w .declaration; doctype = w .doctype; root = q .0 };
       fits = rw (w .declared, w .typed) (q .1);
       tree-is = q .2 ∙ got-value (rw (p, o, h, m, f) at e);
       in-grammar = document-in-grammar s es r e;
       text-is =
           w .text-is ∙
-          ap (λ (n : Text). declarationText (w .declaration) (doctypeText (w .doctype) n))
+          ap (λ (n : Text). markText (w .mark) (declarationText (w .declaration) (doctypeText (w .doctype) n)))
           (ap (gap (w .gap-before)) (started u root (c .name) z (begun root u c z o)) ∙ q .3);
     })
     (λ f. absurd (bad≢got (rw (p, o, h, m, f) at e)))) (λ x m. absurd (bad≢got (rw (p, o, h, m) at e)))) (λ y h. absurd (bad≢got (rw (p, o, h) at e))))

@@ -16,7 +16,7 @@ use Rattle.paper_opl.specs.Reading.Read.{got}
 use Rattle.paper_opl.specs.Elements.{elements, elementsOpen}
 use Rattle.paper_opl.specs.Tree.{Given, Tag, Elements, tagsOf, document}
 use Rattle.paper_opl.specs.Tree.Elements.{nothing, node}
-use Rattle.paper_opl.specs.Naming.{Line, those, insides, inAll, inEach, valueOf, declaredBy, Names, spaceOf, namesOf, Row, firstRows, lastRows, recordBy, recordsBy, recordsOf, lines, translate}
+use Rattle.paper_opl.specs.Naming.{Line, those, insides, inAll, inEach, valueOf, declaredBy, Names, spaceOf, namesOf, Row, firstRows, lastRows, recordBy, recordsBy, recordsOf, taskLines, translate}
 use Rattle.paper_opl.specs.Walk.{called, declaredIn, namesIn, start, turn, kinds, kindIn, innerNames, leading, Saying, sayings, rowOf, recordSaid, rising, recordsIn, tags, tag, walked, kindAt, saying, inner, Context}
 use Rattle.paper_opl.proofs.Inversion.{on, on-test}
 use Rattle.paper_opl.proofs.Conforms.{same-true, forNames, Fits, root}
@@ -195,7 +195,7 @@ walk-gives s es r ls e = records-are es (document-fits s es r e) ls ∙ rw (tags
 pub walked-is : (s t : Text) (out : Bytes) → translate s t out ≡ walked s t out
 unfolding translate walked
 walked-is s t out =
-    on (document s) (λ es r d. on (lines (length t) t) (λ ls u l. rw (d, l, walk-gives s es r ls d)) (λ u l. rw (d, l))) (λ r d. rw d)
+    on (document s) (λ es r d. on (taskLines t) (λ ls u l. rw (d, l, walk-gives s es r ls d)) (λ u l. rw (d, l))) (λ r d. rw d)
 
 -- ---- A step of the walk, and what it says.
 

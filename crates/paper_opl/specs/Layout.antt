@@ -1,5 +1,5 @@
--- Trees of the grammar, and how a tree may be written: white space, comments, quotes, the two forms of an empty element, a declaration
--- and a DOCTYPE. A reader that refuses what it should read, or reads it otherwise, is shut out by what is proved of these.
+-- Trees of the grammar, and how a tree may be written: white space, comments, quotes, the two forms of an empty element, a byte
+-- order mark, a declaration and a DOCTYPE. A reader that refuses what it should read, or reads it otherwise, is shut out by what is proved of these.
 use Prim.Native.Nat.{ℕ}
 use mathlib.Core.Path.{_≡_}
 use mathlib.Core.Bool.{Bool, true, false, not, _&&_, _||_, cond}
@@ -9,7 +9,7 @@ use Rattle.paper_lower.specs.Lists.{Maybe, some, every, each}
 use Rattle.paper_lower.specs.Lists.Maybe.{none, just}
 use Rattle.paper_opl.specs.Reading.{Text, text, same, starts, white, control, inValue}
 use Rattle.paper_opl.specs.Elements.{Attribute, Child, elements, rowIn, one, next, mayEnd}
-use Rattle.paper_opl.specs.Tree.{Given, Elements, if-found, fits, required, find, without}
+use Rattle.paper_opl.specs.Tree.{Given, Elements, if-found, fits, required, find, without, isVersion, isEncoding, isStandalone, byteOrderMark}
 use Rattle.paper_opl.specs.Tree.Elements.{nothing, node}
 use Rattle.paper_opl.specs.Naming.{Line, inLine}
 
@@ -117,29 +117,35 @@ treeOf (long g w xs s inside e behind) = node w (givenBy xs) (treeOf inside) (tr
 
 -- ---- The document.
 
--- an encoding behind white space, or none
-unfoldable pub encodingText : Maybe (Text × Value) → Text → Text
-encodingText none rest = rest
-encodingText (just e) rest = e .0 ++ (text "encoding" ++ valueText (e .1) rest)
+-- a literal and its value behind white space, or nothing
+unfoldable pub optionalText : Text → Maybe (Text × Value) → Text → Text
+optionalText w none rest = rest
+optionalText w (just e) rest = e .0 ++ (w ++ valueText (e .1) rest)
 
-abbrev pub encodingFits : Maybe (Text × Value) → Bool
-encodingFits none = true
-encodingFits (just e) = someBlank (e .0) && (valueFits (e .1) && same (e .1 .value) (text "UTF-8"))
+abbrev pub optionalFits : (Text → Bool) → Maybe (Text × Value) → Bool
+optionalFits may none = true
+optionalFits may (just e) = someBlank (e .0) && (valueFits (e .1) && may (e .1 .value))
 
 pub record Declaration : Type 0 where
   pub before : Text
   pub version : Value
   pub encoding : Maybe (Text × Value)
+  pub standalone : Maybe (Text × Value)
   pub last : Text
+
+-- from behind "<?xml"
+abbrev pub declarationRest : Declaration → Text → Text
+declarationRest d rest =
+    d .before ++ (text "version" ++ valueText (d .version) (optionalText (text "encoding") (d .encoding) (optionalText (text "standalone") (d .standalone) (d .last ++ (text "?>" ++ rest)))))
 
 unfoldable pub declarationText : Maybe Declaration → Text → Text
 declarationText none rest = rest
-declarationText (just d) rest =
-    text "<?xml" ++ (d .before ++ (text "version" ++ valueText (d .version) (encodingText (d .encoding) (d .last ++ (text "?>" ++ rest)))))
+declarationText (just d) rest = text "<?xml" ++ declarationRest d rest
 
 abbrev pub declarationFits : Maybe Declaration → Bool
 declarationFits none = true
-declarationFits (just d) = someBlank (d .before) && (valueFits (d .version) && (same (d .version .value) (text "1.0") && (encodingFits (d .encoding) && blank (d .last))))
+declarationFits (just d) =
+    someBlank (d .before) && (valueFits (d .version) && (isVersion (d .version .value) && (optionalFits isEncoding (d .encoding) && (optionalFits isStandalone (d .standalone) && blank (d .last)))))
 
 -- a DOCTYPE, behind white space and comments
 pub record Doctype : Type 0 where
@@ -160,13 +166,18 @@ abbrev pub doctypeFits : Maybe Doctype → Bool
 doctypeFits none = true
 doctypeFits (just d) = gapFits (d .gap) && (someBlank (d .first) && (someBlank (d .second) && (someBlank (d .third) && (quoteFits (d .quote) (d .value) && blank (d .last)))))
 
+-- with a byte order mark in front, or without
+unfoldable pub markText : Bool → Text → Text
+markText mark rest = cond mark (byteOrderMark ++ rest) rest
+
 pub record Document : Type 0 where
+  pub mark : Bool
   pub declaration : Maybe Declaration
   pub doctype : Maybe Doctype
   pub root : Layout
 
 unfoldable pub documentText : Document → Text
-documentText x = declarationText (x .declaration) (doctypeText (x .doctype) (layoutText (x .root) []))
+documentText x = markText (x .mark) (declarationText (x .declaration) (doctypeText (x .doctype) (layoutText (x .root) [])))
 
 abbrev pub documentFits : Document → Bool
 documentFits x = declarationFits (x .declaration) && (doctypeFits (x .doctype) && layoutFits (x .root))
@@ -179,27 +190,51 @@ pub record WrittenFrom (es : Elements) (s : Text) : Type 0 where
   pub in-grammar : inGrammar es ≡ true
   pub text-is : s ≡ documentText layout
 
--- ---- The task lines: a line feed between them, and behind the last or not.
+-- ---- The task lines.
 
--- what stands behind a line: nothing, or a line feed and more lines
-unfoldable pub linesText : Bool → List Line → Text
-linesText feed [] = cond feed (text "\n") []
-linesText feed (l ∷ ls) = text "\n" ++ (l .task ++ (text " " ++ (l .template ++ linesText feed ls)))
+-- how a line ends: with nothing, at the end of the text; with a line feed; with a carriage return and a line feed
+pub data End : Type 0 where
+  bare : End
+  feed : End
+  return : End
 
-unfoldable pub tasksText : Bool → List Line → Text
-tasksText feed [] = []
-tasksText feed (l ∷ ls) = l .task ++ (text " " ++ (l .template ++ linesText feed ls))
+unfoldable pub endText : End → Text
+endText bare = []
+endText feed = text "\n"
+endText return = text "\r\n"
+
+pub record LaidLine : Type 0 where
+  pub line : Line
+  pub end : End
+
+unfoldable pub tasksText : List LaidLine → Text
+tasksText [] = []
+tasksText (x ∷ xs) = x .line .task ++ (text " " ++ (x .line .template ++ (endText (x .end) ++ tasksText xs)))
+
+-- the last line alone may end with nothing
+abbrev pub endFits : End → List LaidLine → Bool
+endFits bare [] = true
+endFits bare (x ∷ xs) = false
+endFits feed xs = true
+endFits return xs = true
 
 abbrev pub lineFits : Line → Bool
 lineFits l = every inLine (l .task) && (not (same (l .task) []) && (every inLine (l .template) && not (same (l .template) [])))
 
--- the text is written from these lines
+unfoldable pub linesFit : List LaidLine → Bool
+linesFit [] = true
+linesFit (x ∷ xs) = lineFits (x .line) && (endFits (x .end) xs && linesFit xs)
+
+-- the text is written from these lines, with a byte order mark in front or without; a first name that begins so is none
 pub record LinesFrom (ls : List Line) (t : Text) : Type 0 where
-  pub feed : Bool
-  pub fit : every lineFits ls ≡ true
-  pub text-is : t ≡ tasksText feed ls
+  pub mark : Bool
+  pub layout : List LaidLine
+  pub fit : linesFit layout ≡ true
+  pub unmarked : not mark && starts byteOrderMark (tasksText layout) ≡ false
+  pub lines-are : each (λ x. x .line) layout ≡ ls
+  pub text-is : t ≡ markText mark (tasksText layout)
 
 -- What this page defines, opened together where a case is computed.
 unfoldable pub layoutOpen : Unit {0}
-unfolding attributesFit elementsFit calm gap gapFits attributesText layoutText layoutFits treeOf encodingText declarationText doctypeText documentText linesText tasksText
+unfolding attributesFit elementsFit calm gap gapFits attributesText layoutText layoutFits treeOf optionalText declarationText doctypeText markText documentText endText tasksText linesFit
 layoutOpen = tt

@@ -16,7 +16,7 @@ use Rattle.paper_opl.specs.Elements.{elements, one}
 use Rattle.paper_opl.specs.Dtd.{printed, table, accepted}
 use Rattle.paper_opl.specs.Tree.{Elements, opening, element, prolog, DEPTH, document}
 use Rattle.paper_opl.specs.Tree.Elements.{nothing, node}
-use Rattle.paper_opl.specs.Naming.{Line, lines, Space, Names, distinct, placeOf, numberIn, namesOf, recordsOf, written, translate}
+use Rattle.paper_opl.specs.Naming.{Line, taskLines, Space, Names, distinct, placeOf, numberIn, namesOf, recordsOf, written, translate}
 use Rattle.paper_opl.specs.Layout.{WrittenFrom, LinesFrom}
 
 -- ---- "Accepted text always yields a policy of well-shaped records that says what the elements say".
@@ -35,11 +35,11 @@ RisingFrom k (r ∷ rs) = (k ≤ r .kind) × RisingFrom (r .kind) rs
 -- what an accepted policy text and its task lines yield
 pub record Yield (s t : Text) (out : Bytes) : Type 0 where
   pub elements : Elements
-  pub taskLines : List Line
+  pub lineList : List Line
   pub records : List Record
   pub text-is : document s ≡ got elements []
-  pub lines-are : lines (length t) t ≡ got taskLines []
-  pub says : recordsOf elements taskLines ≡ just records
+  pub lines-are : taskLines t ≡ got lineList []
+  pub says : recordsOf elements lineList ≡ just records
   pub well-shaped : Every WellShaped records
   pub kinds-rise : RisingFrom 1 records
   pub sixteen-each : length (written records) ≡ 16 * many records
@@ -84,7 +84,7 @@ ReadExactly = (s : Text) (es : Elements) → document s ≡ got es [] ↔ Writte
 
 -- The same of the task lines: "lines of task name, one space and template name".
 abbrev pub LinesReadExactly : Type 0
-LinesReadExactly = (t : Text) (ls : List Line) → lines (length t) t ≡ got ls [] ↔ LinesFrom ls t
+LinesReadExactly = (t : Text) (ls : List Line) → taskLines t ≡ got ls [] ↔ LinesFrom ls t
 
 -- "down to depth 8": no text is refused, or read otherwise, for that limit
 abbrev pub DepthNeverBites : Type 0

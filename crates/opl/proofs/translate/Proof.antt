@@ -1,3 +1,4 @@
+-- Written from Proof.tmpl by 'prove expand': edit that file.
 -- The policy text, then the lines, then the records.
 use Rattle.opl.proofs.CallLaws.{bad-inside, line-inside, both-accepted, bad-policy, bad-lines, accepted-is}
 use lib.ListN.{length}
@@ -28,23 +29,51 @@ bad-text-requires c κs =
 enum-told : tie.Need-enum-told
 enum-told c = search needs
 
+unmarked-requires : tie.Need-unmarked-requires
+unmarked-requires c κs = search needs
+
 judge-requires : tie.Need-judge-requires
 judge-requires c κs = search needs
 
 enum-known-l : tie.Need-enum-known-l
 enum-known-l c = search needs
 
+sub-bad-text : tie.Need-sub-bad-text
+sub-bad-text c =
+    let args = c .before .before .before .before .before .before .before .before .before .before .before .before .args in
+    let document = c .before .before .before .before .before .before .before .document in
+    let enum-told = c .before .before .before .before .before .enum-told in
+    let unmarked = c .before .before .before .before .unmarked in
+    let judge = c .before .before .before .judge in
+    line-inside (now (args .s)) (now (args .t)) (length (now (args .w))) (now (args .out)) (document .result) (document .ensures) (enum-told .given .0 .0)
+    (enum-told .given .1) (now (unmarked .result)) (unmarked .ensures) (judge .result) (judge .ensures) (c .before .l .given .0 .0) (c .before .l .given .1) .0
+
+add-bad-text : tie.Need-add-bad-text
+add-bad-text c =
+    let args = c .before .before .before .before .before .before .before .before .before .before .before .before .args in
+    let good = c .before .before .before .before .before .before .before .before .before .before .before .before .good in
+    let document = c .before .before .before .before .before .before .before .document in
+    let enum-told = c .before .before .before .before .before .enum-told in
+    let unmarked = c .before .before .before .before .unmarked in
+    let judge = c .before .before .before .judge in
+    let h =
+    line-inside (now (args .s)) (now (args .t)) (length (now (args .w))) (now (args .out)) (document .result) (document .ensures) (enum-told .given .0 .0)
+    (enum-told .given .1) (now (unmarked .result)) (unmarked .ensures) (judge .result) (judge .ensures) (c .before .l .given .0 .0) (c .before .l .given .1) in
+    omega (arith, good .1 .0 .1)
+
 bad-text-requires-2 : tie.Need-bad-text-requires-2
 bad-text-requires-2 c κs =
-    let args = c .before .before .before .before .before .before .before .before .before .before .before .args in
-    let good = c .before .before .before .before .before .before .before .before .before .before .before .good in
-    let document = c .before .before .before .before .before .before .document in
-    let enum-told = c .before .before .before .before .enum-told in
+    let args = c .before .before .before .before .before .before .before .before .before .before .before .before .args in
+    let good = c .before .before .before .before .before .before .before .before .before .before .before .before .good in
+    let document = c .before .before .before .before .before .before .before .document in
+    let enum-told = c .before .before .before .before .before .enum-told in
+    let unmarked = c .before .before .before .before .unmarked in
     let judge = c .before .before .before .judge in
     omega (
       arith,
       line-inside (now (args .s)) (now (args .t)) (length (now (args .w))) (now (args .out)) (document .result) (document .ensures) (enum-told .given .0 .0)
-          (enum-told .given .1) (judge .result) (judge .ensures) (c .before .l .given .0 .0) (c .before .l .given .1),
+          (enum-told .given .1) (now (unmarked .result)) (unmarked .ensures) (judge .result) (judge .ensures) (c .before .l .given .0 .0)
+          (c .before .l .given .1) .1,
       good .1 .0 .1,
     )
 
@@ -53,13 +82,14 @@ enum-told-2 c = search needs
 
 accepted-requires : tie.Need-accepted-requires
 accepted-requires c κs =
-    let args = c .before .before .before .before .before .before .before .before .before .before .before .before .args in
-    let document = c .before .before .before .before .before .before .before .document in
-    let enum-told = c .before .before .before .before .before .enum-told in
+    let args = c .before .before .before .before .before .before .before .before .before .before .before .before .before .args in
+    let document = c .before .before .before .before .before .before .before .before .document in
+    let enum-told = c .before .before .before .before .before .before .enum-told in
+    let unmarked = c .before .before .before .before .before .unmarked in
     let judge = c .before .before .before .before .judge in
     let enum-told2 = c .before .before .enum-told2 in
     both-accepted (now (args .s)) (now (args .t)) (length (now (args .w))) (now (args .out)) (document .result) (document .ensures) (enum-told .given .0 .0)
-    (enum-told .given .1) (judge .result) (judge .ensures) (enum-told2 .given .0 .0) (enum-told2 .given .1)
+    (enum-told .given .1) (now (unmarked .result)) (unmarked .ensures) (judge .result) (judge .ensures) (enum-told2 .given .0 .0) (enum-told2 .given .1)
 
 returns : tie.Need-returns
 returns c =
@@ -71,13 +101,14 @@ returns c =
 
 returns-2 : tie.Need-returns-2
 returns-2 c =
-    let args = c .before .before .before .before .before .before .before .before .before .before .before .before .args in
-    let document = c .before .before .before .before .before .before .before .document in
-    let enum-told = c .before .before .before .before .before .enum-told in
+    let args = c .before .before .before .before .before .before .before .before .before .before .before .before .before .args in
+    let document = c .before .before .before .before .before .before .before .before .document in
+    let enum-told = c .before .before .before .before .before .before .enum-told in
+    let unmarked = c .before .before .before .before .before .unmarked in
     let judge = c .before .before .before .before .judge in
     let l = c .before .before .l in
     rw (c .bad-text2 .ensures) (bad-lines (now (args .s)) (now (args .t)) (length (now (args .w))) (now (args .out)) (document .result) (document .ensures)
-    (enum-told .given .0 .0) (enum-told .given .1) (judge .result) (judge .ensures) (l .given .0 .0) (l .given .1))
+    (enum-told .given .0 .0) (enum-told .given .1) (now (unmarked .result)) (unmarked .ensures) (judge .result) (judge .ensures) (l .given .0 .0) (l .given .1))
 
 same-length : tie.Need-same-length
 same-length c = search needs
@@ -87,16 +118,18 @@ same-length-2 c = search needs
 
 returns-3 : tie.Need-returns-3
 returns-3 c =
-    let args = c .before .before .before .before .before .before .before .before .before .before .before .before .before .before .before .before .before
+    let args = c .before .before .before .before .before .before .before .before .before .before .before .before .before .before .before .before .before .before
     .args in
-    let document = c .before .before .before .before .before .before .before .before .before .before .before .before .document in
-    let enum-told = c .before .before .before .before .before .before .before .before .before .before .enum-told in
+    let document = c .before .before .before .before .before .before .before .before .before .before .before .before .before .document in
+    let enum-told = c .before .before .before .before .before .before .before .before .before .before .before .enum-told in
+    let unmarked = c .before .before .before .before .before .before .before .before .before .before .unmarked in
     let judge = c .before .before .before .before .before .before .before .before .before .judge in
     let enum-told2 = c .before .before .before .before .before .before .before .enum-told2 in
     let accepted = c .before .before .before .before .accepted in
-    accepted-is (now (args .s)) (now (args .t)) (length (now (args .w))) (now (args .out)) (accepted .last .1 .1 .0) (accepted .result)
+    accepted-is (now (args .s)) (now (args .t)) (now (unmarked .result)) (unmarked .ensures) (length (now (args .w))) (now (args .out))
     (both-accepted (now (args .s)) (now (args .t)) (length (now (args .w))) (now (args .out)) (document .result) (document .ensures) (enum-told .given .0 .0)
-    (enum-told .given .1) (judge .result) (judge .ensures) (enum-told2 .given .0 .0) (enum-told2 .given .1)) (accepted .ensures)
+    (enum-told .given .1) (now (unmarked .result)) (unmarked .ensures) (judge .result) (judge .ensures) (enum-told2 .given .0 .0) (enum-told2 .given .1))
+    (accepted .last .1 .1 .0) (accepted .result) (accepted .ensures)
 
 pub translate-spec : {M : Type 1} → statement M
 translate-spec =
@@ -106,8 +139,11 @@ translate-spec =
     enum-known-d
     bad-text-requires
     enum-told
+    unmarked-requires
     judge-requires
     enum-known-l
+    sub-bad-text
+    add-bad-text
     bad-text-requires-2
     enum-told-2
     accepted-requires

@@ -1,11 +1,13 @@
+-- Written from Proof.tmpl by 'prove expand': edit that file.
 -- Each way out by the bytes that were met.
 use Prim.Native.Nat.{_+_}
 use native.Mathlib.Omega.{arith}
 use denote.Ref.{now}
-use borrow.Author.Needs.{needs}
-use Rattle.paper_opl.specs.Naming.{inLine}
+use lib.ListN.{drop}
+use Rattle.paper_opl.specs.Naming.{inLine, lineEnd}
 use Rattle.opl_text.proofs.Laws.{onward}
-use Rattle.opl_lines.proofs.LineLaws.{line-empty, line-unspaced, line-past, line-one, line-last, line-unended, line-whole}
+use Rattle.opl_lines.proofs.LineLaws.{line-empty, line-unspaced, line-past, line-one, line-unended, line-whole, line-onward, line-stop}
+use borrow.Author.Needs.{needs}
 use Rattle.opl_lines.proofs.read_line.Statement.{statement}
 use Rattle.opl_lines.proofs.read_line.Tie as tie
 
@@ -64,76 +66,54 @@ returns-3 c =
       stands = c .before .name-end2 .ensures .inside;
     }
 
+line-end-requires : tie.Need-line-end-requires
+line-end-requires c κs = search needs
+
+enum-known-e : tie.Need-enum-known-e
+enum-known-e c = search needs
+
+enum-known-e-2 : tie.Need-enum-known-e-2
+enum-known-e-2 c = search needs
+
 returns-4 : tie.Need-returns-4
 returns-4 c =
-    let args = c .before .before .before .before .before .before .before .before .args in
-    let pre = c .before .before .before .before .before .before .before .before .pre in
-    let name-end = c .before .before .before .before .before .before .name-end in
-    let if1 = c .before .before .before .before .before .if1 in
-    let is-at = c .before .before .before .before .is-at in
-    let if2 = c .before .before .before .if2 in
-    let name-end2 = c .before .before .name-end2 in
-    record {
-      read-is =
-          line-last (now (args .t)) (args .at) (name-end .result) pre (name-end .ensures .rest) (name-end .ensures .inside) (if1 .left) (is-at .result)
-          (is-at .ensures) (if2 .left) (name-end2 .result) (name-end2 .ensures .rest) (name-end2 .ensures .inside) (c .before .if3 .left) (c .if4 .taken);
-      stands =
-          record {
-            task =
-                omega (arith, onward inLine (now (args .t)) (args .at) (name-end .result) pre (name-end .ensures .rest) (name-end .ensures .inside), if1 .left);
-            template =
-                omega (
-                  arith,
-                  onward inLine (now (args .t)) (name-end .result + 1) (name-end2 .result) (line-past (now (args .t)) (args .at) (name-end .result) pre
-                      (name-end .ensures .rest) (name-end .ensures .inside) (if1 .left) (is-at .result) (is-at .ensures) (if2 .left)) (name-end2 .ensures .rest)
-                      (name-end2 .ensures .inside),
-                  c .before .if3 .left,
-                );
-            next = omega arith;
-            inside = name-end2 .ensures .inside;
-          };
-    }
-
-is-at-requires-2 : tie.Need-is-at-requires-2
-is-at-requires-2 c κs = search needs
-
-returns-5 : tie.Need-returns-5
-returns-5 c =
-    let args = c .before .before .before .before .before .before .before .before .before .before .args in
-    let pre = c .before .before .before .before .before .before .before .before .before .before .pre in
-    let name-end = c .before .before .before .before .before .before .before .before .name-end in
-    let if1 = c .before .before .before .before .before .before .before .if1 in
-    let is-at = c .before .before .before .before .before .before .is-at in
-    let if2 = c .before .before .before .before .before .if2 in
-    let name-end2 = c .before .before .before .before .name-end2 in
-    let if3 = c .before .before .before .if3 in
+    let args = c .before .before .before .before .before .before .before .before .before .before .before .args in
+    let pre = c .before .before .before .before .before .before .before .before .before .before .before .pre in
+    let name-end = c .before .before .before .before .before .before .before .before .before .name-end in
+    let if1 = c .before .before .before .before .before .before .before .before .if1 in
+    let is-at = c .before .before .before .before .before .before .before .is-at in
+    let if2 = c .before .before .before .before .before .before .if2 in
+    let name-end2 = c .before .before .before .before .before .name-end2 in
+    let if3 = c .before .before .before .before .if3 in
+    let line-end = c .before .before .before .line-end in
     record {
       read-is =
           line-unended (now (args .t)) (args .at) (name-end .result) pre (name-end .ensures .rest) (name-end .ensures .inside) (if1 .left) (is-at .result)
-          (is-at .ensures) (if2 .left) (name-end2 .result) (name-end2 .ensures .rest) (name-end2 .ensures .inside) (if3 .left)
-          (omega (arith, c .before .before .if4 .left)) (c .before .is-at2 .result) (c .before .is-at2 .ensures) (c .if5 .taken);
-      stands = name-end2 .ensures .inside;
+          (is-at .ensures) (if2 .left) (name-end2 .result) (name-end2 .ensures .rest) (name-end2 .ensures .inside) (if3 .left) (line-end .result)
+          (line-end .ensures) (c .before .e .given .0 .0) (c .before .e .given .1);
+      stands = line-stop (now (args .t)) (line-end .result) (lineEnd (drop (name-end2 .result) (now (args .t)))) (line-end .ensures) _ (c .before .e .given .1);
     }
 
-add-t8 : tie.Need-add-t8
-add-t8 c = search needs
-
-returns-6 : tie.Need-returns-6
-returns-6 c =
-    let args = c .before .before .before .before .before .before .before .before .before .before .args in
-    let pre = c .before .before .before .before .before .before .before .before .before .before .pre in
-    let name-end = c .before .before .before .before .before .before .before .before .name-end in
-    let if1 = c .before .before .before .before .before .before .before .if1 in
-    let is-at = c .before .before .before .before .before .before .is-at in
-    let if2 = c .before .before .before .before .before .if2 in
-    let name-end2 = c .before .before .before .before .name-end2 in
-    let if3 = c .before .before .before .if3 in
-    let if4 = c .before .before .if4 in
+returns-5 : tie.Need-returns-5
+returns-5 c =
+    let args = c .before .before .before .before .before .before .before .before .before .before .before .args in
+    let pre = c .before .before .before .before .before .before .before .before .before .before .before .pre in
+    let name-end = c .before .before .before .before .before .before .before .before .before .name-end in
+    let if1 = c .before .before .before .before .before .before .before .before .if1 in
+    let is-at = c .before .before .before .before .before .before .before .is-at in
+    let if2 = c .before .before .before .before .before .before .if2 in
+    let name-end2 = c .before .before .before .before .before .name-end2 in
+    let if3 = c .before .before .before .before .if3 in
+    let line-end = c .before .before .before .line-end in
+    let o =
+    line-onward (now (args .t)) (args .at) (name-end .result) pre (name-end .ensures .rest) (name-end .ensures .inside) (if1 .left) (is-at .result)
+    (is-at .ensures) (if2 .left) (name-end2 .result) (name-end2 .ensures .rest) (name-end2 .ensures .inside) (if3 .left) (line-end .result) (line-end .ensures)
+    (c .before .e2 .given .0 .0) (c .before .e2 .given .1) in
     record {
       read-is =
           line-whole (now (args .t)) (args .at) (name-end .result) pre (name-end .ensures .rest) (name-end .ensures .inside) (if1 .left) (is-at .result)
-          (is-at .ensures) (if2 .left) (name-end2 .result) (name-end2 .ensures .rest) (name-end2 .ensures .inside) (if3 .left) (omega (arith, if4 .left))
-          (c .before .is-at2 .result) (c .before .is-at2 .ensures) (c .if5 .left);
+          (is-at .ensures) (if2 .left) (name-end2 .result) (name-end2 .ensures .rest) (name-end2 .ensures .inside) (if3 .left) (line-end .result)
+          (line-end .ensures) (c .before .e2 .given .0 .0) (c .before .e2 .given .1);
       stands =
           record {
             task =
@@ -146,8 +126,8 @@ returns-6 c =
                       (name-end2 .ensures .inside),
                   if3 .left,
                 );
-            next = omega arith;
-            inside = omega (arith, if4 .left);
+            next = o .0;
+            inside = o .1;
           };
     }
 
@@ -162,8 +142,8 @@ read-line-spec =
     add-from
     name-end-requires-2
     returns-3
+    line-end-requires
+    enum-known-e
+    enum-known-e-2
     returns-4
-    is-at-requires-2
-    returns-5
-    add-t8
-    returns-6)
+    returns-5)

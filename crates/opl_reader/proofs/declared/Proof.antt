@@ -1,3 +1,4 @@
+-- Written from Proof.tmpl by 'prove expand': edit that file.
 -- The declaration has begun where white space stands behind "<?xml".
 use denote.Ref.{now}
 use Rattle.paper_opl.specs.Reading.{text}
@@ -17,24 +18,32 @@ returns : tie.Need-returns
 unfolding text
 returns c =
     let args = c .before .before .before .before .args in
-    record { read-is = undeclared (now (args .s)) (c .before .starts-with .result) (c .before .starts-with .ensures) (c .if1 .taken); inside = search needs }
+    let pre = c .before .before .before .before .pre in
+    record { read-is = undeclared (now (args .s)) (args .at) (c .before .starts-with .result) (c .before .starts-with .ensures) (c .if1 .taken); inside = pre }
+
+add-from : tie.Need-add-from
+unfolding text
+add-from c =
+    let args = c .before .before .before .before .args in
+    let h = declared-room (now (args .s)) (args .at) (c .before .starts-with .result) (c .before .starts-with .ensures) (c .if1 .left) in search needs
 
 skip-space-requires : tie.Need-skip-space-requires
 unfolding text
 skip-space-requires c κs =
     let args = c .before .before .before .before .args in
-    declared-room (now (args .s)) (c .before .starts-with .result) (c .before .starts-with .ensures) (c .if1 .left)
+    declared-room (now (args .s)) (args .at) (c .before .starts-with .result) (c .before .starts-with .ensures) (c .if1 .left)
 
 returns-2 : tie.Need-returns-2
 unfolding text
 returns-2 c =
     let args = c .before .before .before .before .before .before .args in
+    let pre = c .before .before .before .before .before .before .pre in
     let starts-with = c .before .before .before .starts-with in
     record {
       read-is =
-          declared-other (now (args .s)) (starts-with .result) (starts-with .ensures) (c .before .before .if1 .left) (c .before .skip-space .result)
+          declared-other (now (args .s)) (args .at) (starts-with .result) (starts-with .ensures) (c .before .before .if1 .left) (c .before .skip-space .result)
           (c .before .skip-space .ensures .rest) (c .before .skip-space .ensures .inside) (c .if2 .taken);
-      inside = search needs;
+      inside = pre;
     }
 
 declaration-requires : tie.Need-declaration-requires
@@ -42,7 +51,7 @@ unfolding text
 declaration-requires c κs =
     let args = c .before .before .before .before .before .before .args in
     let starts-with = c .before .before .before .starts-with in
-    declared-room (now (args .s)) (starts-with .result) (starts-with .ensures) (c .before .before .if1 .left)
+    declared-room (now (args .s)) (args .at) (starts-with .result) (starts-with .ensures) (c .before .before .if1 .left)
 
 returns-3 : tie.Need-returns-3
 unfolding text
@@ -51,7 +60,7 @@ returns-3 c =
     let starts-with = c .before .before .before .before .starts-with in
     let if1 = c .before .before .before .if1 in
     let skip-space = c .before .before .skip-space in
-    declared-on (now (args .s)) (starts-with .result) (starts-with .ensures) (if1 .left) (skip-space .result) (skip-space .ensures .rest)
+    declared-on (now (args .s)) (args .at) (starts-with .result) (starts-with .ensures) (if1 .left) (skip-space .result) (skip-space .ensures .rest)
     (skip-space .ensures .inside) (c .before .if2 .left) (c .declaration .result) (c .declaration .ensures)
 
 pub declared-spec : {M : Type 1} → statement M
@@ -61,6 +70,7 @@ declared-spec =
     slice-aggregate-starts-with
     starts-with-requires
     returns
+    add-from
     skip-space-requires
     returns-2
     declaration-requires
