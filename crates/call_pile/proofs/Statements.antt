@@ -4,6 +4,7 @@ use mathlib.Core.Bool.{Bool, true, false, not}
 use mathlib.Core.List.{List, [], _∷_}
 use lib.ListN.{drop}
 use mathlib.Core.Path.{_≡_, refl, sym, ap, subst, _∙_}
+use mathlib.Core.Logic.{⊎-elim}
 use native.Mathlib.Omega.{arith}
 use Rattle.paper_lower.specs.Lists.{each}
 use Rattle.paper_lower.specs.Checks.{first, granted, GRANTED, ROOM}
@@ -11,8 +12,9 @@ use Rattle.paper_lower.specs.Records.{Bytes}
 use Rattle.paper_lower.specs.Kinds.{after}
 use Rattle.paper_upper.specs.Orders.{Engine, SameTables}
 use Rattle.paper_upper.specs.Engine.{request, Placed, placedRun}
+use Rattle.order_links.specs.Chains.{soundOf}
 use Rattle.engine.specs.Buffers.{Buffers, tablesOf, fit}
-use Rattle.order_links.proofs.SameLaws.{tables-refl, tables-sym, tables-then}
+use Rattle.paper_upper.proofs.OrderedLaws.{tables-refl, tables-sym, tables-then}
 use Rattle.engine.proofs.RespectLaws.{runs-respect}
 use Rattle.demands.specs.Calls.{Called, Together, fitting, asked}
 use Rattle.demands.proofs.Demands.{in-chains}
@@ -77,7 +79,7 @@ taken-together : {bytes answers answers′ : Bytes} {at : ℕ} {x y : Buffers} �
     × Together said x y
     × (asked (λ a. a .said) said ≡ whole bytes)
     × (answers′ ≡ writtenAt at answers (repliesOf said))
-taken-together {bytes} {answers} {at = at} {x} d =
+taken-together {bytes} {answers} {at = at} {x} {y} d =
     let e = answer-taken bytes answers at x (taken bytes answers at x (sym (d .replies))) in
     let t = tablesOf x in
     let asks = requests-of t (whole bytes) in (
@@ -86,6 +88,7 @@ taken-together {bytes} {answers} {at = at} {x} d =
         answers = ap (placedRun t) (sym asks);
         tables = rw asks (rw e at (d .tables));
         lengths = d .lengths;
+        links = λ s. ⊎-elim (λ (e : soundOf (y .orders) ≡ true). e) (λ (e : y ≡ x). rw e s) (d .settles);
       },
       asks,
       d .written ∙ ap (λ (p : Piled). p .answers) e,

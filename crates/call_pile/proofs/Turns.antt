@@ -21,7 +21,7 @@ use Rattle.order_rules.specs.declared.Judged.{Judged}
 use Rattle.engine.specs.Buffers.{Buffers, tablesOf, fit, SameLengths}
 use Rattle.engine.specs.Answers.{requestAnswer, Requested}
 use Rattle.order_links.specs.Chains.{soundOf}
-use Rattle.order_links.proofs.SameLaws.{tables-refl, tables-sym, tables-then}
+use Rattle.paper_upper.proofs.OrderedLaws.{tables-refl, tables-sym, tables-then}
 use Rattle.engine.proofs.RespectLaws.{runs-respect}
 use Rattle.theorems.proofs.Replies.{in-byte}
 use Rattle.demands.specs.Calls.Request.{within}

@@ -22,7 +22,7 @@ use Rattle.paper_lower.proofs.ListLaws.{both}
 use Rattle.policy.specs.Layout.{policyWords}
 use Rattle.sessions.specs.Reading.{sessionsWords}
 use Rattle.order_links.specs.Chains.{ordersWords}
-use Rattle.order_links.proofs.SameLaws.{tables-refl}
+use Rattle.paper_upper.proofs.OrderedLaws.{tables-refl}
 use Rattle.call_pile.specs.Pile.{count, wholeFrom, whole, MOST, repliesOf, writtenAt, pileChecks, pileOf, pileAnswer}
 use Rattle.call_pile.specs.Promises.{PileDone, Answers}
 

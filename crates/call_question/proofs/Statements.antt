@@ -9,7 +9,8 @@ use Rattle.paper_upper.specs.Orders.{Engine, SameTables, tasksDone}
 use Rattle.paper_upper.specs.Questions.{figuresOf, answered, answerTo}
 use Rattle.paper_upper.specs.Engine.{request, placeTo}
 use Rattle.replies.proofs.DoneLaws.{granted-old}
-use Rattle.order_links.proofs.SameLaws.{many-kept, tasks-same}
+use Rattle.paper_upper.proofs.OrderedLaws.{tables-bag}
+use Rattle.order_links.proofs.SameLaws.{tasks-same}
 use Rattle.engine.specs.Buffers.{tablesOf, fit}
 use Rattle.engine.specs.Answers.{CallAnswer, requestAnswer}
 use Rattle.engine.proofs.RespectLaws.{respects}
@@ -48,7 +49,7 @@ refusals-keep bytes answer answer′ x number q n = q .written ∙ sym (granted-
 -- the words do not depend on the order of the entries
 answered-same : (t t′ : Engine) → SameTables t t′ → (r : Record) → answerTo t r ≡ answerTo t′ r
 unfolding answerTo answered figuresOf tasksDone
-answered-same t t′ h r = rw (many-kept _ (h .entries), tasks-same _ (h .entries), h .lower)
+answered-same t t′ h r = rw (h .entries _, tasks-same _ (tables-bag h), h .lower)
 
 pub one-answer : OneAnswer
 unfolding questionOf questionReply

@@ -19,7 +19,7 @@ use Rattle.order_links.specs.Chains.{soundOf}
 use Rattle.engine.specs.Buffers.{Buffers, tablesOf, fit, SameLengths}
 use Rattle.engine.specs.Answers.{CallAnswer, requestAnswer, Requested, loadAnswer}
 use Rattle.engine.specs.Exports.{RequestExported, LoadExported}
-use Rattle.order_links.proofs.SameLaws.{tables-then}
+use Rattle.paper_upper.proofs.OrderedLaws.{tables-then}
 use Rattle.engine.proofs.RespectLaws.{respects}
 use Rattle.engine.proofs.Ways.{load-exported, request-exported}
 use Rattle.theorems.specs.Replies.{inTable, Listed}

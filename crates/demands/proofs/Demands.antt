@@ -1,22 +1,24 @@
 -- The demands.
 use Prim.Native.Nat.{ℕ, _+_, _/_, _%_, _≤_, _<_}
-use mathlib.Core.Bool.{Bool, true, false}
-use mathlib.Core.List.{List, []}
+use mathlib.Core.Bool.{Bool, true, false, not, cond}
+use mathlib.Core.List.{List, [], _∷_, _++_, append-nil}
 use mathlib.Core.Path.{_≡_, refl, sym, ap, subst, _∙_}
 use mathlib.Core.Logic.{_↔_}
 use native.Mathlib.Omega.{arith}
+use borrow.Author.Tests.{eqb-true}
+use lib.Dec.{eqb}
 use Rattle.paper_lower.specs.Checks.{GRANTED, ROOM, BEFORE, FULL, WALL, first, granted}
-use Rattle.paper_lower.specs.Records.{Bytes}
+use Rattle.paper_lower.specs.Records.{Bytes, Record, decode}
 use Rattle.paper_lower.specs.Forms.{requestForms}
-use Rattle.paper_lower.specs.Lists.{each}
-use Rattle.paper_lower.specs.Kinds.{Answer, run, after}
+use Rattle.paper_lower.specs.Lists.{add, keep, each}
+use Rattle.paper_lower.specs.Kinds.{Answer, Said, run, after}
 use Rattle.paper_lower.specs.Sets.{empty}
 use Rattle.paper_lower.specs.Tables.{Lower, withPolicy}
 use Rattle.paper_lower.specs.Policy.{userChecks, userNext}
 use Rattle.paper_lower.specs.Words.{addUser, join}
 use Rattle.paper_lower.specs.Load.{Loaded, load, recordsOf}
 use Rattle.paper_lower.specs.Sessions.{lowerOf}
-use Rattle.paper_upper.specs.Orders.{Engine, SameTables, withLower}
+use Rattle.paper_upper.specs.Orders.{Entry, Engine, SameTables, withLower, inOrder, ofOrder}
 use Rattle.paper_upper.specs.Engine.{requestKinds, request, placeTo, Placed, placedRun, engineOf}
 use Rattle.replies.specs.Replies.{numberOf}
 use Rattle.replies.specs.declared.Reply.{Reply}
@@ -24,22 +26,30 @@ use Rattle.replies.specs.declared.Reply.the-variants.{Granted, Room, Shape, Ran
 use Rattle.order_rules.specs.declared.Judged.{Judged}
 use Rattle.replies.proofs.ReplyLaws.{one-reply}
 use Rattle.lower.specs.Exports.{inOne}
+use Rattle.order_links.specs.Chains.{entriesIn, soundOf}
+use Rattle.order_links.specs.Stacks.{revOnto}
+use Rattle.order_links.proofs.SoundLaws.{sound}
+use Rattle.order_entries.proofs.FigureLaws.{order-own}
 use Rattle.engine.specs.Buffers.{Buffers, tablesOf, fit}
 use Rattle.engine.specs.Answers.{loadAnswer, LoadDone}
 use Rattle.engine.specs.Exports.{LoadExported}
 use Rattle.engine.specs.Settling.{SettledRequest, SettledExported}
-use Rattle.order_links.proofs.SameLaws.{tables-refl, tables-sym, tables-then}
+use Rattle.paper_upper.proofs.OrderedLaws.{tables-refl, tables-sym, tables-then}
 use Rattle.engine.proofs.RespectLaws.{respects}
+use Rattle.engine.proofs.Ways.{tables-sound}
 use Rattle.theorems.specs.Replies.{inTable, FirstRefusal, checksOf}
-use Rattle.theorems.specs.Outside.{hear, outside}
+use Rattle.theorems.specs.Outside.{Told, nothing, ofInstance, hear, hearAll, outside}
 use Rattle.theorems.specs.OverEntries.{ofKind}
 use Rattle.theorems.specs.Theorems.{tablesAfter, saidAfter, replyAfter, Reaches}
 use Rattle.theorems.specs.InUse.{noTally, count, inUse}
 use Rattle.theorems.specs.Places.{placedAfter, placeAfter}
+use Rattle.theorems.specs.Entering.{grantedIn, entered, enteredAfter, oldestFirst}
 use Rattle.theorems.specs.Meeting.{Apart}
 use Rattle.theorems.specs.Seniority.{AsRecorded, requestBefore, loadBefore, NoneBelow}
 use Rattle.theorems.specs.Walls.{noCommits, commit, committed, commitsAfter, requestUnwalled, Unwalled}
 use Rattle.theorems.proofs.Replies.{checks-in-order, refused-loads-are-empty}
+use Rattle.theorems.proofs.Outside.{told-is-true}
+use Rattle.theorems.proofs.Entering.{told-in-order}
 use Rattle.theorems.proofs.Theorems.{orders-keep-the-rules, clerks-keep-the-limits, first-rule-broken}
 use Rattle.theorems.proofs.Places.{places-are-true, placed-said}
 use Rattle.theorems.proofs.Meeting.{claims-do-not-meet, one-entry-free}
@@ -53,7 +63,8 @@ use Rattle.theorems.proofs.Unwalled.{refused-as-the-check, outside-walls-all-is
 use Rattle.theorems.specs.Exactly.{Known, known}
 use Rattle.theorems.proofs.Exactly.{every-reply}
 use Rattle.demands.specs.Calls.{Request, Load, Called, Together, Requests, allSaid, fitting, asked}
-use Rattle.demands.specs.Demands.{Unlooked, DemandOne, LinksStaySound, DemandTwo, OneAnswer, Upheld, DemandThree, InChains, JoinedWithRoles, EitherFirst, ClaimsDoNotMeet, CanFinish, SeniorRoles, Commits, WithoutWalls, StuckAreNeverEntered}
+use Rattle.demands.specs.Calls.Chain.{no-more, one, misfit, several}
+use Rattle.demands.specs.Demands.{Unlooked, DemandOne, LinksStaySound, LinkedInOrder, DemandTwo, OneAnswer, Upheld, DemandThree, InChains, JoinedWithRoles, EitherFirst, ClaimsDoNotMeet, CanFinish, SeniorRoles, Commits, WithoutWalls, StuckAreNeverEntered}
 use Rattle.demands.proofs.Calls.{fit-kept, first-byte, rest-of, request-listed, answered, stays-sound, answers, no-room, as-load, load-listed, load-reply, after-all, chain-run, told-fitting, said-fitting, told, reading}
 
 -- ---- loads
@@ -124,11 +135,18 @@ unlooked-number {n = n} d =
     let l = listed-reply (d .0 .reply) in
     rw (first-byte _ _ n l (d .1), rest-of _ _ n l (d .1)) (unlooked (d .2))
 
+chain-sound : {x z : Buffers} {said : List Placed} → Requests x said z → soundOf (x .orders) ≡ true → soundOf (z .orders) ≡ true
+chain-sound no-more s = s
+chain-sound (one r c) s = chain-sound c (stays-sound r s)
+chain-sound (misfit f r c) s = chain-sound c s
+chain-sound (several q c e) s = chain-sound c (q .links s)
+
 pub links-stay-sound : LinksStaySound
 links-stay-sound = record {
   loads = λ f l. as-load l .1 .settles f;
   granted = λ r g. answered r .settles g;
   settled = stays-sound;
+  chains = chain-sound;
 }
 
 pub demand-one : DemandOne
@@ -213,6 +231,28 @@ one-answer = record {
         let d = no-room b (sym e ∙ f) in
         (c .0 ∙ sym (d .0), c .1 ∙ sym (d .1), rw (c .2, d .2) h)
 
+-- ---- the order of entry
+granted-fitting : (ys : List Said) → grantedIn (fitting (λ y. y) ys) ≡ grantedIn ys
+unfolding grantedIn keep
+granted-fitting [] = refl
+granted-fitting (y ∷ ys) = go (eqb (y .reply) ROOM) refl (granted-fitting ys)
+  where
+    go : (b : Bool) → eqb (y .reply) ROOM ≡ b → grantedIn (fitting (λ y. y) ys) ≡ grantedIn ys
+        → grantedIn (cond (not b) (y ∷ fitting (λ y. y) ys) (fitting (λ y. y) ys)) ≡ granted (y .reply) (decode (y .request) ∷ grantedIn ys) (grantedIn ys)
+    go true e h = h ∙ ap (λ (q : ℕ). granted q (decode (y .request) ∷ grantedIn ys) (grantedIn ys)) (sym (eqb-true (y .reply) ROOM e))
+    go false e h = ap (λ (rs : List Record). granted (y .reply) (decode (y .request) ∷ rs) rs) h
+
+add-before : (xs ys : List Entry) (e : Entry) → add xs e ++ ys ≡ xs ++ (e ∷ ys)
+unfolding add
+add-before [] ys e = refl
+add-before (x ∷ xs) ys e = ap (_∷_ x) (add-before xs ys e)
+
+-- turned over twice
+oldest-turned : (xs ys : List Entry) → oldestFirst (revOnto xs ys) ≡ oldestFirst ys ++ xs
+unfolding revOnto oldestFirst
+oldest-turned [] ys = sym (append-nil (oldestFirst ys))
+oldest-turned (x ∷ xs) ys = oldest-turned xs (x ∷ ys) ∙ add-before (oldestFirst ys) xs x
+
 -- ---- demand 3
 module _ {policy : Bytes} {x y z : Buffers} {reply : ℕ} {said : List Placed} (l : Load policy x y reply) (g : reply ≡ GRANTED) (c : Requests y said z) where
   abbrev ss : List Bytes
@@ -261,6 +301,22 @@ module _ {policy : Bytes} {x y z : Buffers} {reply : ℕ} {said : List Placed} (
       subst (λ (t : Lower). AsRecorded (recordsOf policy) (t .policy .seniority)) (sym (runs (fits l g) l c .1 .lower))
       (seniority-is-recorded .engine policy accepted ss)
 
+  -- what was granted is granted whatever was refused for the lengths
+  still-granted : grantedIn (saidAfter policy ss) ≡ grantedIn (allSaid said)
+  still-granted = ap grantedIn said-after ∙ granted-fitting (allSaid said)
+
+  in-order : (i : ℕ) → i < 64 → entriesIn (z .orders) i ≡ enteredAfter i policy (allSaid said)
+  unfolding inOrder ofInstance oldestFirst
+  in-order i h =
+      let s : soundOf (z .orders) ≡ true = chain-sound c (as-load l .1 .settles (fits l g)) in
+      let newest : ofOrder i (tablesOf z .orders .entries) ≡ revOnto (entriesIn (z .orders) i) [] =
+      ap (λ (t : Engine). ofOrder i (t .orders .entries)) (tables-sound z s) ∙ order-own (z .orders) (sound (z .orders) s .woven) i h in
+      sym (oldest-turned (entriesIn (z .orders) i) [])
+      ∙ ap oldestFirst
+      (sym newest ∙ runs (fits l g) l c .1 .entries i ∙ ap (λ (x : Told). keep (ofInstance i) (x .orders .entries)) (sym (told-is-true policy accepted ss)))
+      ∙ told-in-order policy accepted ss i
+      ∙ ap (entered i (hearAll nothing (recordsOf policy))) still-granted
+
   can-finish : CanFinish policy said z
   can-finish = record {
     entries = rw heard at (stuck-are-never-entered policy accepted ss);
@@ -269,6 +325,9 @@ module _ {policy : Bytes} {x y z : Buffers} {reply : ℕ} {said : List Placed} (
 
 pub demand-three : DemandThree
 demand-three = record { upheld = λ l g c. upheld l g c }
+
+pub linked-in-order : LinkedInOrder
+linked-in-order = record { upheld = λ l g c i h. in-order l g c i h }
 
 pub calls-never-enter-stuck : StuckAreNeverEntered
 calls-never-enter-stuck = record { upheld = λ l g c. can-finish l g c }
@@ -390,8 +449,11 @@ without-walls = record {
 pub in-chains : InChains
 unfolding placedRun after each
 in-chains = record {
-  settling = λ {x} {y} d. record { answers = refl; tables = subst (SameTables (tablesOf y)) (d .tables) (tables-refl (tablesOf y)); lengths = d .lengths };
-  reading = λ x. record { answers = refl; tables = tables-refl (tablesOf x); lengths = record { policy = refl; sessions = refl; orders = refl } };
+  settling =
+      λ {x} {y} d. record
+      { answers = refl; tables = subst (SameTables (tablesOf y)) (d .tables) (tables-refl (tablesOf y)); lengths = d .lengths; links = λ s. rw (d .kept s) s };
+  reading =
+      λ x. record { answers = refl; tables = tables-refl (tablesOf x); lengths = record { policy = refl; sessions = refl; orders = refl }; links = λ s. s };
 }
 
 -- ---- joining

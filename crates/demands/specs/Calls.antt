@@ -55,6 +55,8 @@ pub record Together (now : List Placed) (x y : Buffers) : Type 0 where
   pub answers : now ≡ placedRun (tablesOf x) (asked (λ a. a .said) now)
   pub tables : SameTables (tablesOf y) (after request (tablesOf x) (asked (λ a. a .said) now))
   pub lengths : SameLengths x y
+  -- and links that are sound
+  pub links : soundOf (x .orders) ≡ true → soundOf (y .orders) ≡ true
 
 abbrev pub Requests : Buffers → List Placed → Buffers → Type 0
 Requests x said z = Chain Called Together fit x said z

@@ -22,7 +22,7 @@ use Rattle.replies.specs.Replies.{numberOf}
 use Rattle.replies.specs.declared.Reply.{Reply}
 use Rattle.lower.specs.Exports.{inOne}
 use Rattle.order_rules.specs.declared.Judged.{Judged}
-use Rattle.order_links.specs.Chains.{soundOf}
+use Rattle.order_links.specs.Chains.{entriesIn, soundOf}
 use Rattle.engine.specs.Buffers.{Buffers, tablesOf, fit, SameLengths}
 use Rattle.engine.specs.Answers.{LoadDone, Zeros}
 use Rattle.engine.specs.Exports.{LoadExported}
@@ -33,6 +33,7 @@ use Rattle.theorems.specs.OverEntries.{ofKind, claimRules, RoleLimits}
 use Rattle.theorems.specs.Theorems.{tablesAfter, Reaches, FirstBroken, fixed}
 use Rattle.theorems.specs.InUse.{inUse}
 use Rattle.theorems.specs.Places.{placedAfter, RuleAt}
+use Rattle.theorems.specs.Entering.{enteredAfter}
 use Rattle.theorems.specs.Meeting.{Apart}
 use Rattle.theorems.specs.Joining.{gathered, EachOnce, EverySetIsListed, oneByOne, AllGranted}
 use Rattle.theorems.specs.Stuck.{NoneStuck, NextOnList}
@@ -76,6 +77,14 @@ pub record LinksStaySound : Type 0 where
   pub loads : {bytes : Bytes} {x y : Buffers} {reply : ℕ} → fit x ≡ true → Load bytes x y reply → soundOf (y .orders) ≡ true
   pub granted : {bytes : Bytes} {x y : Buffers} {reply place : ℕ} → Request bytes x y reply place → reply ≡ GRANTED → soundOf (y .orders) ≡ true
   pub settled : {bytes : Bytes} {x y : Buffers} {reply place : ℕ} → Request bytes x y reply place → soundOf (x .orders) ≡ true → soundOf (y .orders) ≡ true
+  -- all calls after a load
+  pub chains : {x z : Buffers} {said : List Placed} → Requests x said z → soundOf (x .orders) ≡ true → soundOf (z .orders) ≡ true
+
+-- "Keep each open instance's entries linked in order of entry": from the requests and the answers alone, after an accepted load and any requests, the entries that an instance's
+-- links lead through are, the oldest first, its granted claims less the released ones, in that order.
+pub record LinkedInOrder : Type 0 where
+  pub upheld : {policy : Bytes} {x y z : Buffers} {reply : ℕ} {said : List Placed} → Load policy x y reply → reply ≡ GRANTED → Requests y said z
+      → (i : ℕ) → i < 64 → entriesIn (z .orders) i ≡ enteredAfter i policy (allSaid said)
 
 -- ---- Demand 2
 

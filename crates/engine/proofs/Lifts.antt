@@ -13,7 +13,7 @@ use Rattle.replies.specs.declared.Reply.{Reply}
 use Rattle.sessions.specs.Lower.{lowerTables}
 use Rattle.sessions.specs.Both.{Both}
 use Rattle.order_entries.specs.Reading.{ordersOf}
-use Rattle.order_links.proofs.SameLaws.{tables-refl}
+use Rattle.paper_upper.proofs.OrderedLaws.{tables-refl}
 use Rattle.lower.specs.Stepped.{Stepped}
 use Rattle.order_rules.specs.declared.Judged.{Judged}
 use Rattle.order_rules.proofs.PlaceLaws.{plain-place}

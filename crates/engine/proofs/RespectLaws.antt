@@ -1,7 +1,9 @@
--- Replies and next tables depend on the entries only up to their order: row by row of the table of kinds, then along a run.
+-- Replies depend on no order of the entries, and next tables on each instance's own: row by row of the table of kinds, then along a run.
 use Prim.Native.Nat.{ℕ, zero, suc}
 use mathlib.Core.Path.{_≡_, refl, ap, subst, _∙_}
 use mathlib.Core.List.{List, [], _∷_, _++_}
+use mathlib.Core.Bool.{Bool, true, false, cond}
+use lib.Dec.{eqb}
 use Rattle.paper_lower.specs.Lists.{Every, Maybe, each}
 use Rattle.paper_lower.specs.Checks.{Check, first, granted}
 use Rattle.paper_lower.specs.Records.{Record, decode}
@@ -10,15 +12,16 @@ use Rattle.paper_lower.specs.Kinds.{Kind, chosen, replyTo, answer, after}
 use Rattle.paper_lower.specs.Tables.{Lower}
 use Rattle.paper_lower.proofs.ListLaws.{every-map, every-append, every-each, every-all, _⨾_}
 use Rattle.paper_lower.proofs.KindLaws.{of-chosen}
-use Rattle.paper_upper.specs.Orders.{Entry, Same, Engine, SameTables, tasksBy, tasksDone, tasksOthers}
-use Rattle.paper_upper.specs.Orders.Same.{one}
+use Rattle.paper_upper.specs.Orders.{Entry, entry, Engine, SameTables, inOrder, heldBy, tasksBy, tasksDone, tasksOthers}
+use Rattle.paper_upper.specs.Orders.Standing.{done}
 use Rattle.paper_upper.specs.Rules.{ruleChecks}
-use Rattle.paper_upper.specs.Requests.{deleteAbove, destroyAbove, openChecks, openNext, endChecks, endNext, unknown, claimChecks, claimNext, holdChecks, releaseNext, doneNext, taskCheckChecks, claimPlace, figuresChecks, stuckChecks, upperKinds}
+use Rattle.paper_upper.specs.Requests.{deleteAbove, destroyAbove, openChecks, openNext, endChecks, endNext, unknown, claimChecks, claimNext, holdChecks, releaseNext, turned, doneNext, taskCheckChecks, claimPlace, figuresChecks, stuckChecks, upperKinds}
 use Rattle.paper_upper.specs.Engine.{widened, sharedKinds, requestKinds, request, placeOf, placeTo, placedRun}
 use Rattle.engine.specs.Respects.{Respects, RunsRespect}
-use Rattle.order_links.proofs.SameLaws.{some-same, many-same, many-kept, tasks-same, keep-same, each-same}
+use Rattle.paper_upper.proofs.OrderedLaws.{Same, Ordered, ordered-more, ordered-keep, ordered-each, ordered-same, tables-bag}
+use Rattle.order_links.proofs.SameLaws.{some-same, many-same, many-kept, tasks-same}
 
--- ---- Tables that differ in the order of their entries alone.
+-- ---- Tables that differ in how the entries of different instances stand, and in nothing else.
 abbrev engine : Lower → (ℕ → Maybe ℕ) → List Entry → Engine
 engine x opened es = record { lower = x; orders = record { opened = opened; entries = es } }
 
@@ -26,7 +29,7 @@ abbrev Alike : Kind Engine → Record → Engine → Engine → Type 0
 Alike k r t t′ = (k .checks t r ≡ k .checks t′ r) × SameTables (k .next t r) (k .next t′ r)
 
 abbrev InAnyOrder : Kind Engine → Type 0
-InAnyOrder k = (x : Lower) (opened : ℕ → Maybe ℕ) (es es′ : List Entry) → Same es es′ → (r : Record) → Alike k r (engine x opened es) (engine x opened es′)
+InAnyOrder k = (x : Lower) (opened : ℕ → Maybe ℕ) (es es′ : List Entry) → Ordered es es′ → (r : Record) → Alike k r (engine x opened es) (engine x opened es′)
 
 -- tables that are the same differ in that alone
 in-any-order : (k : Kind Engine) → InAnyOrder k → (t t′ : Engine) → SameTables t t′ → (r : Record) → Alike k r t t′
@@ -35,8 +38,8 @@ in-any-order k f t t′ h r =
     (subst (λ (o : ℕ → Maybe ℕ). Alike k r t (engine (t .lower) o (t′ .orders .entries))) (h .opened)
     (f (t .lower) (t .orders .opened) (t .orders .entries) (t′ .orders .entries) (h .entries) r))
 
--- tables that a row leaves: the same but for the order of their entries
-left : {x : Lower} {opened : ℕ → Maybe ℕ} {es es′ : List Entry} → Same es es′ → SameTables (engine x opened es) (engine x opened es′)
+-- tables that a row leaves differ so too
+left : {x : Lower} {opened : ℕ → Maybe ℕ} {es es′ : List Entry} → Ordered es es′ → SameTables (engine x opened es) (engine x opened es′)
 left h = record { lower = refl; opened = refl; entries = h }
 
 -- a kind of the lower part looks at no entry
@@ -44,17 +47,28 @@ lower-row : (k : Kind Lower) → InAnyOrder (widened k)
 unfolding widened
 lower-row k x opened es es′ h r = (refl, left h)
 
+turned-stays : (b c a i : ℕ) (e : Entry) → inOrder i (turned b c a e) ≡ inOrder i e
+unfolding turned inOrder
+turned-stays b c a i e = go (heldBy b c a e)
+  where
+    go : (x : Bool) → eqb (cond x (entry (e .instance) (e .user) (e .task) done) e .instance) i ≡ eqb (e .instance) i
+    go true = refl
+    go false = refl
+
+-- its checks ask for entries in whatever order
 upper-rows : Every InAnyOrder upperKinds
 unfolding upperKinds deleteAbove destroyAbove openChecks openNext endChecks endNext claimChecks claimNext holdChecks releaseNext doneNext taskCheckChecks figuresChecks stuckChecks ruleChecks tasksBy tasksDone tasksOthers unknown
 upper-rows =
-    (λ x opened es es′ h r. (rw (some-same _ h), left h))
-    ⨾ (λ x opened es es′ h r. (rw (some-same _ h), left h))
+    (λ x opened es es′ h r. let s = ordered-same es es′ h in (rw (some-same _ s), left h))
+    ⨾ (λ x opened es es′ h r. let s = ordered-same es es′ h in (rw (some-same _ s), left h))
     ⨾ (λ x opened es es′ h r. (refl, left h))
-    ⨾ (λ x opened es es′ h r. (rw (some-same _ h), left (keep-same _ h)))
-    ⨾ (λ x opened es es′ h r. (rw (some-same _ h, tasks-same _ h, tasks-same _ h, tasks-same _ h, many-kept _ h, many-same h), left (one h)))
-    ⨾ (λ x opened es es′ h r. (rw (some-same _ h), left (keep-same _ h)))
-    ⨾ (λ x opened es es′ h r. (rw (some-same _ h), left (each-same _ h)))
-    ⨾ (λ x opened es es′ h r. (rw (some-same _ h), left h))
+    ⨾ (λ x opened es es′ h r. let s = ordered-same es es′ h in (rw (some-same _ s), left (ordered-keep _ es es′ h)))
+    ⨾ (λ x opened es es′ h r.
+    let s = ordered-same es es′ h in
+    (rw (some-same _ s, tasks-same _ s, tasks-same _ s, tasks-same _ s, many-kept _ s, many-same s), left (ordered-more _ es es′ h)))
+    ⨾ (λ x opened es es′ h r. let s = ordered-same es es′ h in (rw (some-same _ s), left (ordered-keep _ es es′ h)))
+    ⨾ (λ x opened es es′ h r. let s = ordered-same es es′ h in (rw (some-same _ s), left (ordered-each _ (turned-stays (r .b) (r .c) (r .a)) es es′ h)))
+    ⨾ (λ x opened es es′ h r. let s = ordered-same es es′ h in (rw (some-same _ s), left h))
     ⨾ (λ x opened es es′ h r. (refl, left h))
     ⨾ (λ x opened es es′ h r. (refl, left h))
     ⨾ tt
@@ -81,7 +95,7 @@ placed-same : (t t′ : Engine) → SameTables t t′ → (r : Record) (reply : 
 placed-same t t′ h r reply =
     subst (λ (x : Lower). placeOf t r reply ≡ placeOf (engine x (t′ .orders .opened) (t′ .orders .entries)) r reply) (h .lower)
     (subst (λ (o : ℕ → Maybe ℕ). placeOf t r reply ≡ placeOf (engine (t .lower) o (t′ .orders .entries)) r reply) (h .opened)
-    (place-same (t .lower) (t .orders .opened) (h .entries) r reply))
+    (place-same (t .lower) (t .orders .opened) (tables-bag h) r reply))
 
 pub respects : Respects
 unfolding request answer replyTo chosen placeTo

@@ -23,7 +23,7 @@ use Rattle.policy.specs.Layout.{policyWords}
 use Rattle.sessions.specs.Reading.{sessionsWords}
 use Rattle.sessions.specs.Lower.{lowerTables}
 use Rattle.order_links.specs.Chains.{ordersWords, soundOf}
-use Rattle.order_links.proofs.SameLaws.{tables-refl}
+use Rattle.paper_upper.proofs.OrderedLaws.{tables-refl}
 use Rattle.order_entries.specs.Reading.{Cleared}
 use Rattle.lower.specs.Answers.{Loads, fit as lowerFit}
 use Rattle.lower.specs.Exports.{inOne}

@@ -1,4 +1,5 @@
--- The order of the entries is no part of the tables: replies, places and next tables do not depend on it.
+-- How entries of different orders stand among each other is no part of the tables: replies, places and next tables do not depend on it. Each order's own stay in order
+-- of entry.
 use mathlib.Core.Path.{_≡_}
 use mathlib.Core.List.{List}
 use Rattle.paper_lower.specs.Records.{Bytes}

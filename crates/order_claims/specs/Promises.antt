@@ -37,7 +37,7 @@ RulesJudged p template g t j =
 abbrev pub ClaimJudged : List ℕ → List ℕ → List ℕ → ℕ → ℕ → ℕ → Judged → Type 0
 ClaimJudged p s o a b c j = Verdict (claimChecks (engineTables p s o) a b c) (claimPlace (engineTables p s o) a b c) j
 
--- and, of 02's Ask 2, the place of the rule that refuses; the tables afterwards, in whatever order the entries are
+-- and, of 02's Ask 2, the place of the rule that refuses; the tables afterwards, the new entry as the newest of its instance
 pub record Claimed (p s o o′ : List ℕ) (a b c : ℕ) (j : Judged) : Type 0 where
   pub replies : numberOf (j .reply) ≡ first (claimChecks (engineTables p s o) a b c)
   pub places : j .place ≡ claimPlace (engineTables p s o) a b c (first (claimChecks (engineTables p s o) a b c))

@@ -9,8 +9,10 @@ use Rattle.paper_lower.specs.Sets.{plus}
 use Rattle.paper_lower.specs.Lists.{some, many, keep}
 use Rattle.paper_upper.specs.Orders.{Standing, Entry, isHeld, isDone, inOrder, ofTask, ofUser, tasksWhere, tasksBy, tasksDone, tasksOthers}
 use Rattle.paper_upper.specs.Orders.Standing.{held, done}
-use Rattle.order_links.specs.Chains.{markOf, doneWord, headOf, countOf, chainWord, ownerOf, wordAt, standingOf, entryOf, walkOver, takeEntry, entriesIn, Fine}
+use Rattle.order_links.specs.Chains.{markOf, doneWord, headOf, countOf, chainWord, ownerOf, wordAt, standingOf, entryOf, walkOver, takeEntry, entriesIn, joined, Fine}
 use Rattle.order_links.specs.Stacks.{Woven}
+use Rattle.paper_upper.proofs.OrderedLaws.{Same}
+use Rattle.order_links.proofs.SameLaws.{some-same, tasks-same, many-kept, same-turned}
 use Rattle.order_links.proofs.ChainLaws.{is-done, of-instance, walk-fuse}
 use Rattle.order_links.proofs.ActLaws.{Whole}
 use Rattle.sets.specs.declared.Set.{Set}
@@ -95,6 +97,17 @@ module _ (i u t : ℕ) (d : Set) where
   unfolding gatheredWith tasksBy tasksOthers tasksWhere many keep some
   gather-none = refl
 
+  -- in whatever order
+  gather-same : {xs ys : List Entry} → Same xs ys → gatheredWith xs ≡ gatheredWith ys
+  unfolding gatheredWith tasksBy tasksOthers
+  gather-same h = λ x. record {
+    mine = setOf (tasks-same (ofUser i u) h x);
+    done = d;
+    others = setOf (tasks-same (λ e. inOrder i e && not (eqb (e .user) u)) h x);
+    times = many-kept (ofTask i t) h x;
+    held = digit (some-same (λ e. ofTask i t e && isHeld (e .standing)) h x);
+  }
+
   gather-walk : (l : List ℕ) → Woven l → i < 64 →
       walkOver (takeIn u t) l (headOf (chainWord l i)) (countOf (chainWord l i)) (record { mine = setOf 0; done = d; others = setOf 0; times = 0; held = 0 }) ≡
       gatheredWith (ordersOf l .entries)
@@ -103,7 +116,8 @@ module _ (i u t : ℕ) (d : Set) where
       ap (walkOver (takeIn u t) l (headOf (chainWord l i)) (countOf (chainWord l i))) gather-none
       ∙ walk-fuse gatheredWith takeEntry (takeIn u t) l (Fine l i (markOf l)) (λ x es f. gather-step (wordAt l x) es h (f .1 .1)) (headOf (chainWord l i))
       (countOf (chainWord l i)) [] (s .chain i (omega arith))
-      ∙ sym (own-alone gatheredWith i gather-skip gather-goes (entriesIn l) 64 h (λ j less d. entries-other l s i j less d))
+      ∙ sym (gather-same (same-turned (joined (entriesIn l) 64)) ∙
+      own-alone gatheredWith i gather-skip gather-goes (entriesIn l) 64 h (λ j less d. entries-other l s i j less d))
 
   gathered-all : (es : List Entry) → d .bits ≡ tasksDone i es → gatheredWith es ≡ gatheredOf i u t es
   unfolding gatheredWith gatheredOf

@@ -22,7 +22,7 @@ module _ {B : Type 0} (φ : List Entry → B) (i : ℕ) (skip : (e : Entry) (es 
   skip-first [] ys h = refl
   skip-first (x ∷ xs) ys h = skip x (xs ++ ys) (h .0) ∙ skip-first xs ys (h .1)
 
-  skip-all : (ys : List Entry) → Every (λ e. inOrder i e ≡ false) ys → φ ys ≡ φ []
+  pub skip-all : (ys : List Entry) → Every (λ e. inOrder i e ≡ false) ys → φ ys ≡ φ []
   skip-all [] h = refl
   skip-all (y ∷ ys) h = skip y ys (h .0) ∙ skip-all ys (h .1)
 
@@ -30,7 +30,7 @@ module _ {B : Type 0} (φ : List Entry → B) (i : ℕ) (skip : (e : Entry) (es 
   skip-last [] ys h = skip-all ys h
   skip-last (x ∷ xs) ys h = goes x (xs ++ ys) xs (skip-last xs ys h)
 
-  none-own : (f : ℕ → List Entry) (n : ℕ) → ((j : ℕ) → j < n → Every (λ e. inOrder i e ≡ false) (f j)) → Every (λ e. inOrder i e ≡ false) (joined f n)
+  pub none-own : (f : ℕ → List Entry) (n : ℕ) → ((j : ℕ) → j < n → Every (λ e. inOrder i e ≡ false) (f j)) → Every (λ e. inOrder i e ≡ false) (joined f n)
   unfolding joined
   none-own f zero h = tt
   none-own f (suc n) h = every-append (λ e. inOrder i e ≡ false) (f n) (joined f n) (h n (omega arith)) (none-own f n (λ j l. h j (omega arith)))

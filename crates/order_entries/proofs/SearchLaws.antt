@@ -10,8 +10,9 @@ use Rattle.paper_lower.specs.Sets.{has}
 use Rattle.paper_lower.specs.Lists.{there, someBelow, some, Every}
 use Rattle.paper_lower.proofs.ListLaws.{every-map, and-true}
 use Rattle.paper_upper.specs.Orders.{Entry, isHeld, isHeldBy, inOrder, heldBy}
-use Rattle.order_links.specs.Chains.{markOf, openOf, templateAt, headOf, countOf, chainWord, wordAt, entryOf, walkOver, takeEntry, entriesIn, Fine}
+use Rattle.order_links.specs.Chains.{markOf, openOf, templateAt, headOf, countOf, chainWord, wordAt, entryOf, walkOver, takeEntry, entriesIn, joined, Fine}
 use Rattle.order_links.specs.Stacks.{Woven}
+use Rattle.order_links.proofs.SameLaws.{some-same, same-turned}
 use Rattle.order_links.proofs.ReadLaws.{there-open}
 use Rattle.order_links.proofs.ChainLaws.{walk-fuse}
 use Rattle.order_links.proofs.EntryLaws.{held-other}
@@ -49,7 +50,9 @@ module _ (i : ℕ) (p : Entry → Bool) (other : (e : Entry) → inOrder i e ≡
 
   own-some : (l : List ℕ) → Woven l → i < 64 → some p (entriesIn l i) ≡ some p (ordersOf l .entries)
   unfolding ordersOf
-  own-some l s h = sym (own-alone (some p) i some-skip some-goes (entriesIn l) 64 h (λ j less d. entries-other l s i j less d))
+  own-some l s h =
+      sym (some-same p (same-turned (joined (entriesIn l) 64)) ∙
+      own-alone (some p) i some-skip some-goes (entriesIn l) 64 h (λ j less d. entries-other l s i j less d))
 
 -- an instance's entries are the only ones that are asked whether a subject holds its task
 pub held-own : (l : List ℕ) → Woven l → (i t a : ℕ) → i < 64 → some (heldBy i t a) (entriesIn l i) ≡ some (heldBy i t a) (ordersOf l .entries)
@@ -75,7 +78,9 @@ below-same (suc n) f g h = rw (h n (omega arith), below-same n f g (λ i l. h i 
 pub any-held : (l : List ℕ) → Sound l → (a : ℕ) → a < 128 →
     anyUpTo l (markOf l) 1074782272 (8192 * a) ≡ some (λ e. isHeldBy a (e .standing)) (ordersOf l .entries)
 unfolding ordersOf
-any-held l s a h = flat l s 1074782272 (8192 * a) (λ e. isHeldBy a (e .standing)) (λ w. fits-holder w a h)
+any-held l s a h =
+    flat l s 1074782272 (8192 * a) (λ e. isHeldBy a (e .standing)) (λ w. fits-holder w a h)
+    ∙ sym (some-same (λ e. isHeldBy a (e .standing)) (same-turned (joined (entriesIn l) 64)))
 
 -- an instance that has entries is open
 some-every : (p q : Entry → Bool) (es : List Entry) → Every (λ e. p e ≡ q e) es → some p es ≡ some q es
@@ -107,4 +112,5 @@ any-open l s u h =
     ∙ some-joined (λ e. eqb (e .user) u) (entriesIn l) 64
     ∙ below-same 64 (λ i. some (λ e. eqb (e .user) u) (entriesIn l i)) (λ i. some (λ e. eqb (e .user) u && there (templateAt l (e .instance))) (entriesIn l i))
     (λ i less. in-open l (s .woven) u i less)
-    ∙ sym (some-joined (λ e. eqb (e .user) u && there (templateAt l (e .instance))) (entriesIn l) 64)
+    ∙ sym (some-same (λ e. eqb (e .user) u && there (templateAt l (e .instance))) (same-turned (joined (entriesIn l) 64))
+    ∙ some-joined (λ e. eqb (e .user) u && there (templateAt l (e .instance))) (entriesIn l) 64)

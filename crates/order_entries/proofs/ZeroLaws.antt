@@ -7,6 +7,7 @@ use lib.ListN.{length, getD, drop, replicate, length-replicate, drop-of-length-l
 use Rattle.paper_upper.specs.Orders.{Entry, noOrders}
 use Rattle.replies.proofs.CellLaws.{zeros-at}
 use Rattle.order_links.specs.Chains.{ordersWords, entriesIn, joined}
+use Rattle.order_links.specs.Stacks.{revOnto}
 use Rattle.order_links.proofs.ZeroLaws.{zeros-template, zeros-entries, zeros-sound}
 use Rattle.order_entries.specs.Reading.{Cleared, ordersOf}
 
@@ -16,8 +17,9 @@ none-joined f zero h = refl
 none-joined f (suc n) h = rw (h n) (none-joined f n h)
 
 no-orders : (l : List ℕ) → ((k : ℕ) → getD l k 0 ≡ 0) → ordersOf l ≡ noOrders
-unfolding ordersOf noOrders
-no-orders l zeros = λ x. record { opened = fun-ext (zeros-template l zeros) x; entries = none-joined (entriesIn l) 64 (zeros-entries l zeros) x }
+unfolding ordersOf noOrders revOnto
+no-orders l zeros =
+    λ x. record { opened = fun-ext (zeros-template l zeros) x; entries = revOnto (none-joined (entriesIn l) 64 (zeros-entries l zeros) x) [] }
 
 pub cleared : (l : List ℕ) (n : ℕ) {l′ : List ℕ} → length l ≡ ordersWords → n ≡ ordersWords → l′ ≡ replicate n 0 ++ drop n l → Cleared l′
 cleared l n {l′} room full e =

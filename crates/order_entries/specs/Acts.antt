@@ -6,7 +6,7 @@ use mathlib.Core.Path.{_≡_}
 use lib.ListN.{length}
 use Rattle.paper_lower.specs.Lists.{there, keep, each}
 use Rattle.paper_lower.specs.Lists.Maybe.{none}
-use Rattle.paper_upper.specs.Orders.{entry, Orders, Same, inOrder, heldBy}
+use Rattle.paper_upper.specs.Orders.{entry, Orders, inOrder, ofOrder, heldBy}
 use Rattle.paper_upper.specs.Orders.Standing.{held}
 use Rattle.paper_upper.specs.Requests.{turned}
 use Rattle.order_links.specs.Chains.{ordersWords, soundOf}
@@ -42,12 +42,12 @@ pub record Acts (next : Orders) (l : List ℕ) : Type 0 where
   pub sound : soundOf l ≡ true
   pub tables : ordersOf l ≡ next
 
--- where an entry comes to its instance's, the last of them: the same entries
+-- where an entry comes to its instance's, as the newest of them: each instance's entries, in their order
 pub record Enters (next : Orders) (l : List ℕ) : Type 0 where
   pub room : length l ≡ ordersWords
   pub sound : soundOf l ≡ true
   pub opened : ordersOf l .opened ≡ next .opened
-  pub entries : Same (ordersOf l .entries) (next .entries)
+  pub entries : (i : ℕ) → ofOrder i (ordersOf l .entries) ≡ ofOrder i (next .entries)
 
 -- an act that looks first whether there is something to do, on any content: the length stays, and where there was nothing to do every word; on sound links of an open
 -- instance r says whether there was, and these are the tables afterwards

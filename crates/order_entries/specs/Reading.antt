@@ -1,7 +1,7 @@
 -- The orders buffer, its links sound, read as 01's tables: the template of each open instance, and the entries of all of them.
 use Prim.Native.Nat.{ℕ, _+_, _*_}
 use mathlib.Core.Bool.{Bool, true, false, cond, _&&_, _||_}
-use mathlib.Core.List.{List}
+use mathlib.Core.List.{List, []}
 use mathlib.Core.Path.{_≡_}
 use lib.Dec.{eqb}
 use lib.ListN.{length, getD}
@@ -10,11 +10,12 @@ use Rattle.paper_lower.specs.Lists.{Maybe, someBelow, there, upd}
 use Rattle.paper_lower.specs.Lists.Maybe.{none, just}
 use Rattle.paper_upper.specs.Orders.{Entry, Orders, noOrders}
 use Rattle.order_links.specs.Chains.{ordersWords, templateAt, headOf, countOf, chainWord, wordAt, walkOver, entriesIn, soundOf, joined}
+use Rattle.order_links.specs.Stacks.{revOnto}
 use Rattle.order_entries.specs.declared.Instance.{Instance}
 
--- the entries of all instances, each instance's in order of entry; the order of the instances means nothing
+-- the entries of all instances, of each the newest first; the order of the instances means nothing
 unfoldable pub ordersOf : List ℕ → Orders
-ordersOf l = record { opened = templateAt l; entries = joined (entriesIn l) 64 }
+ordersOf l = record { opened = templateAt l; entries = revOnto (joined (entriesIn l) 64) [] }
 
 -- ---- The tables with one of them anew.
 abbrev pub withInstance : Orders → ℕ → Maybe ℕ → Orders

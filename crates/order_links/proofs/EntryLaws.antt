@@ -10,12 +10,12 @@ use Rattle.paper_lower.specs.Lists.{many, add, keep, each}
 use Rattle.paper_lower.proofs.ListLaws.{and-false, both}
 use Rattle.paper_upper.specs.Orders.{Standing, Entry, entry, isDone, isHeldBy, inOrder, ofTask, heldBy, tasksWhere, tasksDone}
 use Rattle.paper_upper.specs.Orders.Standing.{held, done}
-use Rattle.paper_upper.specs.Orders.{Same}
-use Rattle.paper_upper.specs.Orders.Same.{one, swap, then}
 use Rattle.paper_upper.specs.Requests.{turned}
 use Rattle.order_links.specs.Chains.{markOf, headOf, countOf, chainWord, standingOf, entryOf, ownerOf, linkOf, wordAt, walkOver, takeEntry, entriesIn, Fine, Linked}
 use Rattle.order_links.specs.Stacks.{payloadOf, stackOf, payloadsIn, Woven, revOnto, entryFrom, turnedLoad}
-use Rattle.order_links.proofs.SameLaws.{same-refl, same-path, same-turned, tasks-same}
+use Rattle.paper_upper.proofs.OrderedLaws.{Same, same-refl, same-path}
+use Rattle.order_links.proofs.SameLaws.{same-turned, tasks-same}
+use Rattle.paper_upper.proofs.OrderedLaws.Same.{one, swap, then}
 
 -- ---- Entries and payloads.
 -- two readings of the same bits
@@ -80,6 +80,15 @@ add-onto : (xs ys : List Entry) (e : Entry) → revOnto xs (add ys e) ≡ add (r
 unfolding revOnto add
 add-onto [] ys e = refl
 add-onto (x ∷ xs) ys e = add-onto xs (x ∷ ys) e
+
+-- and turned over again it is one more on it
+onto-add : (xs ys : List Entry) (e : Entry) → revOnto (add xs e) ys ≡ e ∷ revOnto xs ys
+unfolding revOnto add
+onto-add [] ys e = refl
+onto-add (x ∷ xs) ys e = onto-add xs (x ∷ ys) e
+
+pub turned-add : (xs : List Entry) (e : Entry) → revOnto (add xs e) [] ≡ e ∷ revOnto xs []
+turned-add xs e = onto-add xs [] e
 
 pub last-onto : (xs : List Entry) (e : Entry) → revOnto (e ∷ xs) [] ≡ add (revOnto xs []) e
 unfolding revOnto add

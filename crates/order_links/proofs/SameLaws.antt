@@ -1,28 +1,17 @@
 -- What is asked of entries, and what is done to them, does not depend on their order.
-use Prim.Native.Nat.{ℕ, zero, suc, _<_}
+use Prim.Native.Nat.{ℕ, zero, suc}
 use mathlib.Core.Path.{_≡_, refl, sym, ap, _∙_}
 use mathlib.Core.Bool.{Bool, true, false, cond, _||_}
 use mathlib.Core.List.{List, [], _∷_, _++_}
-use native.Mathlib.Omega.{arith}
-use borrow.Author.Tests.{eqb-true, eqb-false}
 use lib.Dec.{eqb}
 use Rattle.paper_lower.specs.Sets.{Set, has, plus}
 use Rattle.paper_lower.specs.Lists.{some, many, keep, each}
-use Rattle.paper_upper.specs.Orders.{Entry, Same, Engine, SameTables, tasksWhere}
-use Rattle.paper_upper.specs.Orders.Same.{all, one, swap, then}
+use Rattle.paper_upper.specs.Orders.{Entry, tasksWhere}
+use Rattle.paper_upper.proofs.OrderedLaws.{Same, same-refl, same-path}
+use Rattle.paper_upper.proofs.OrderedLaws.Same.{all, one, swap, then}
 use Rattle.order_links.specs.Chains.{joined}
 use Rattle.order_links.specs.Stacks.{revOnto}
 use Rattle.sets.proofs.SetLaws.{same-members, has-plus}
-
-pub same-refl : (xs : List Entry) → Same xs xs
-same-refl [] = all
-same-refl (x ∷ xs) = one (same-refl xs)
-
-pub same-sym : {xs ys : List Entry} → Same xs ys → Same ys xs
-same-sym all = all
-same-sym (one h) = one (same-sym h)
-same-sym swap = swap
-same-sym (then h k) = then (same-sym k) (same-sym h)
 
 or-swap : (a b c : Bool) → a || (b || c) ≡ b || (a || c)
 or-swap true true c = refl
@@ -91,32 +80,12 @@ keep-same p (then h k) = then (keep-same p h) (keep-same p k)
 pub many-kept : (p : Entry → Bool) {xs ys : List Entry} → Same xs ys → many (keep p xs) ≡ many (keep p ys)
 many-kept p h = many-same (keep-same p h)
 
-pub each-same : (g : Entry → Entry) {xs ys : List Entry} → Same xs ys → Same (each g xs) (each g ys)
-unfolding each
-each-same g all = all
-each-same g (one h) = one (each-same g h)
-each-same g swap = swap
-each-same g (then h k) = then (each-same g h) (each-same g k)
-
 -- ---- lists put together
-pub same-path : {xs ys : List Entry} → xs ≡ ys → Same xs ys
-same-path {xs} {ys} e = rw (← e) (same-refl xs)
-
-pub same-behind : (xs : List Entry) {ys zs : List Entry} → Same ys zs → Same (xs ++ ys) (xs ++ zs)
-same-behind [] h = h
-same-behind (x ∷ xs) h = one (same-behind xs h)
-
-pub same-before : {xs ys : List Entry} (zs : List Entry) → Same xs ys → Same (xs ++ zs) (ys ++ zs)
-same-before zs all = same-refl zs
-same-before zs (one h) = one (same-before zs h)
-same-before zs swap = swap
-same-before zs (then h k) = then (same-before zs h) (same-before zs k)
-
 same-middle : (xs : List Entry) (e : Entry) (ys : List Entry) → Same (xs ++ (e ∷ ys)) (e ∷ (xs ++ ys))
 same-middle [] e ys = same-refl (e ∷ ys)
 same-middle (x ∷ xs) e ys = then (one (same-middle xs e ys)) swap
 
-pub same-onto : (xs ys : List Entry) → Same (revOnto xs ys) (xs ++ ys)
+same-onto : (xs ys : List Entry) → Same (revOnto xs ys) (xs ++ ys)
 unfolding revOnto
 same-onto [] ys = same-refl ys
 same-onto (x ∷ xs) ys = then (same-onto xs (x ∷ ys)) (same-middle xs x ys)
@@ -127,29 +96,6 @@ append-none (x ∷ xs) = ap (_∷_ x) (append-none xs)
 
 pub same-turned : (xs : List Entry) → Same (revOnto xs []) xs
 same-turned xs = then (same-onto xs []) (same-path (append-none xs))
-
-pub same-joined : (f g : ℕ → List Entry) (n : ℕ) → ((j : ℕ) → j < n → Same (f j) (g j)) → Same (joined f n) (joined g n)
-unfolding joined
-same-joined f g zero h = all
-same-joined f g (suc n) h = then (same-before (joined f n) (h n (omega arith))) (same-behind (g n) (same-joined f g n (λ j l. h j (omega arith))))
-
--- one entry more in one of them
-pub joined-more : (f g : ℕ → List Entry) (e : Entry) (i n : ℕ) → i < n → ((j : ℕ) → j < n → (j ≡ i → ⊥) → g j ≡ f j) → Same (g i) (e ∷ f i) →
-    Same (joined g n) (e ∷ joined f n)
-unfolding joined
-joined-more f g e i zero l h s = let z : ⊥ = omega arith in absurd z
-joined-more f g e i (suc n) l h s = go (eqb i n) refl (joined-more f g e i n)
-  where
-    go : (b : Bool) → eqb i n ≡ b → (i < n → ((j : ℕ) → j < n → (j ≡ i → ⊥) → g j ≡ f j) → Same (g i) (e ∷ f i) → Same (joined g n) (e ∷ joined f n)) →
-        Same (g n ++ joined g n) (e ∷ (f n ++ joined f n))
-    go true q rest =
-        let same = eqb-true i n q in
-        let own : Same (g n) (e ∷ f n) = rw same at s in
-        then (same-before (joined g n) own) (one (same-behind (f n) (same-joined g f n (λ j less. same-path (h j (omega arith) (λ d. omega arith))))))
-    go false q rest =
-        let other = eqb-false i n q in
-        then (then (same-path (ap (λ (x : List Entry). x ++ joined g n) (h n (omega arith) (λ d. other (sym d)))))
-        (same-behind (f n) (rest (omega arith) (λ j less d. h j (omega arith) d) s))) (same-middle (f n) e (joined f n))
 
 pub keep-append : (p : Entry → Bool) (xs ys : List Entry) → keep p (xs ++ ys) ≡ keep p xs ++ keep p ys
 unfolding keep
@@ -175,13 +121,3 @@ pub each-joined : (g : Entry → Entry) (f : ℕ → List Entry) (n : ℕ) → e
 unfolding joined each
 each-joined g f zero = refl
 each-joined g f (suc n) = each-append g (f n) (joined f n) ∙ ap (_++_ (each g (f n))) (each-joined g f n)
-
--- ---- tables that are the same
-pub tables-refl : (t : Engine) → SameTables t t
-tables-refl t = record { lower = refl; opened = refl; entries = same-refl (t .orders .entries) }
-
-pub tables-sym : {t t′ : Engine} → SameTables t t′ → SameTables t′ t
-tables-sym h = record { lower = sym (h .lower); opened = sym (h .opened); entries = same-sym (h .entries) }
-
-pub tables-then : {t u v : Engine} → SameTables t u → SameTables u v → SameTables t v
-tables-then h k = record { lower = h .lower ∙ k .lower; opened = h .opened ∙ k .opened; entries = then (h .entries) (k .entries) }

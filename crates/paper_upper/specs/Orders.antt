@@ -5,7 +5,7 @@ use mathlib.Core.Bool.{Bool, true, false, not, cond, _&&_}
 use mathlib.Core.List.{List, [], _∷_}
 use lib.Dec.{eqb}
 use Rattle.paper_lower.specs.Sets.{Set, empty, plus}
-use Rattle.paper_lower.specs.Lists.{Maybe}
+use Rattle.paper_lower.specs.Lists.{Maybe, keep}
 use Rattle.paper_lower.specs.Lists.Maybe.{none}
 use Rattle.paper_lower.specs.Tables.{Lower}
 
@@ -35,7 +35,7 @@ pub record Entry : Type 0 where
 abbrev pub entry : ℕ → ℕ → ℕ → Standing → Entry
 entry i u t x = record { instance = i; user = u; task = t; standing = x }
 
--- the template of each open instance; the entries in use, a bag: no rule asks for their order
+-- the template of each open instance; the entries in use, of each instance the newest first. No rule asks for their order, and between instances it means nothing.
 pub record Orders : Type 0 where
   pub opened : ℕ → Maybe ℕ
   pub entries : List Entry
@@ -43,19 +43,6 @@ pub record Orders : Type 0 where
 pub record Engine : Type 0 where
   pub lower : Lower
   pub orders : Orders
-
--- the same entries, in whatever order
-pub data Same : List Entry → List Entry → Type 0 where
-  all : Same [] []
-  one : {e : Entry} {xs ys : List Entry} → Same xs ys → Same (e ∷ xs) (e ∷ ys)
-  swap : {e f : Entry} {xs : List Entry} → Same (e ∷ f ∷ xs) (f ∷ e ∷ xs)
-  then : {xs ys zs : List Entry} → Same xs ys → Same ys zs → Same xs zs
-
--- the same tables: "the ledger slot that a new entry takes" is no part of them
-pub record SameTables (t t′ : Engine) : Type 0 where
-  pub lower : t .lower ≡ t′ .lower
-  pub opened : t .orders .opened ≡ t′ .orders .opened
-  pub entries : Same (t .orders .entries) (t′ .orders .entries)
 
 unfoldable pub noOrders : Orders
 noOrders = record { opened = λ _. none; entries = [] }
@@ -73,6 +60,9 @@ withEntries t es = withOrders t (record { opened = t .orders .opened; entries = 
 unfoldable pub inOrder : ℕ → Entry → Bool
 inOrder i e = eqb (e .instance) i
 
+abbrev pub ofOrder : ℕ → List Entry → List Entry
+ofOrder i es = keep (inOrder i) es
+
 unfoldable pub ofTask : ℕ → ℕ → Entry → Bool
 ofTask i t e = inOrder i e && eqb (e .task) t
 
@@ -81,6 +71,13 @@ ofUser i u e = inOrder i e && eqb (e .user) u
 
 unfoldable pub heldBy : ℕ → ℕ → ℕ → Entry → Bool
 heldBy i t a e = ofTask i t e && isHeldBy a (e .standing)
+
+-- ---- The same tables. "the ledger slot that a new entry takes" is no part of them: entries of different instances stand in whatever order. Those of one instance stand
+-- in the order of entry.
+pub record SameTables (t t′ : Engine) : Type 0 where
+  pub lower : t .lower ≡ t′ .lower
+  pub opened : t .orders .opened ≡ t′ .orders .opened
+  pub entries : (i : ℕ) → ofOrder i (t .orders .entries) ≡ ofOrder i (t′ .orders .entries)
 
 -- ---- Their tasks.
 unfoldable pub tasksWhere : (Entry → Bool) → List Entry → Set

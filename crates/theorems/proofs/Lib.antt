@@ -53,3 +53,4 @@ pub mod WrittenMost
 pub mod RecordsTables
 pub mod RecordsKinds
 pub mod Records
+pub mod Entering

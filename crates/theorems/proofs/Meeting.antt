@@ -15,19 +15,15 @@ use Rattle.paper_lower.specs.Kinds.{chosen, replyTo, answer}
 use Rattle.paper_lower.specs.Policy.{down}
 use Rattle.paper_lower.proofs.ListLaws.{every-left}
 use Rattle.paper_lower.proofs.CheckLaws.{passed, first-passed}
-use Rattle.paper_upper.specs.Orders.{Entry, entry, Same, Engine, SameTables, withEntries, isHeld, inOrder, ofTask, ofUser, tasksWhere, tasksBy, tasksDone, tasksOthers}
-use Rattle.paper_upper.specs.Orders.Same.{all, one, swap}
+use Rattle.paper_upper.specs.Orders.{Entry, entry, Engine, SameTables, withEntries, isHeld, inOrder, ofTask, ofUser, tasksWhere, tasksBy, tasksDone, tasksOthers}
 use Rattle.paper_upper.specs.Orders.Standing.{held}
 use Rattle.paper_upper.specs.Rules.{ruleChecks}
 use Rattle.paper_upper.specs.Requests.{unknown, claimChecks, claimPlace, claimNext, upperKinds}
 use Rattle.paper_upper.specs.Engine.{requestKinds, request, placeOf, placeTo}
+use Rattle.paper_upper.proofs.OrderedLaws.{swapped}
 use Rattle.theorems.specs.Theorems.{tablesAfter}
-use Rattle.theorems.specs.Meeting.{Apart, ofOrder, EitherFirst, ClaimsDoNotMeet, OneEntryFree}
+use Rattle.theorems.specs.Meeting.{Apart, EitherFirst, ClaimsDoNotMeet, OneEntryFree}
 use Rattle.theorems.proofs.InUse.{in-use}
-
-same : (es : List Entry) → Same es es
-same [] = all
-same (e ∷ es) = one (same es)
 
 -- the checks of a claim before FULL
 abbrev early : Engine → ℕ → ℕ → ℕ → List Check
@@ -131,38 +127,16 @@ module _ (t : Engine) (s d : Bytes) (k : decode s .kind ≡ 50) (l : decode d .k
       ∙ first-passed x (full (suc (many (t .orders .entries)))) (every-left (λ y. y .0 ≡ false) x (full (many (t .orders .entries))) p)
       ∙ rw m
 
-both-ways : (t : Engine) (c d : Bytes) (q p : ℕ)
+both-ways : (t : Engine) (c d : Bytes) → (decode c .b ≡ decode d .b → ⊥) → (q p : ℕ)
     → let x = granted q (claimed t c) t in
     let y = granted p (claimed t d) t in
     SameTables (granted p (claimed x d) x) (granted q (claimed y c) y)
 unfolding claimNext
-both-ways t c d zero zero = record { lower = refl; opened = refl; entries = swap }
-both-ways t c d zero (suc p) = record { lower = refl; opened = refl; entries = same _ }
-both-ways t c d (suc q) zero = record { lower = refl; opened = refl; entries = same _ }
-both-ways t c d (suc q) (suc p) = record { lower = refl; opened = refl; entries = same _ }
-
--- two entries of different instances: either first, no instance sees it
-swapped : (i : ℕ) (e f : Entry) (es : List Entry) → (e .instance ≡ f .instance → ⊥) → keep (inOrder i) (e ∷ f ∷ es) ≡ keep (inOrder i) (f ∷ e ∷ es)
-unfolding keep inOrder
-swapped i e f es n = go (eqb (e .instance) i) refl (eqb (f .instance) i) refl
-  where
-    go : (a : Bool) → eqb (e .instance) i ≡ a → (b : Bool) → eqb (f .instance) i ≡ b
-        → cond a (e ∷ cond b (f ∷ keep (inOrder i) es) (keep (inOrder i) es)) (cond b (f ∷ keep (inOrder i) es) (keep (inOrder i) es))
-        ≡ cond b (f ∷ cond a (e ∷ keep (inOrder i) es) (keep (inOrder i) es)) (cond a (e ∷ keep (inOrder i) es) (keep (inOrder i) es))
-    go true p true q = absurd (n (eqb-true _ _ p ∙ sym (eqb-true _ _ q)))
-    go true p false q = refl
-    go false p true q = refl
-    go false p false q = refl
-
-each-order : (t : Engine) (c d : Bytes) → (decode c .b ≡ decode d .b → ⊥) → (i q p : ℕ)
-    → let x = granted q (claimed t c) t in
-    let y = granted p (claimed t d) t in
-    ofOrder i (granted p (claimed x d) x) ≡ ofOrder i (granted q (claimed y c) y)
-unfolding claimNext
-each-order t c d n i zero zero = swapped i (entered t (decode d)) (entered t (decode c)) (t .orders .entries) (λ e. n (sym e))
-each-order t c d n i zero (suc p) = refl
-each-order t c d n i (suc q) zero = refl
-each-order t c d n i (suc q) (suc p) = refl
+both-ways t c d n zero zero =
+    record { lower = refl; opened = refl; entries = λ i. swapped i (entered t (decode d)) (entered t (decode c)) (t .orders .entries) (λ e. n (sym e)) }
+both-ways t c d n zero (suc p) = record { lower = refl; opened = refl; entries = λ i. refl }
+both-ways t c d n (suc q) zero = record { lower = refl; opened = refl; entries = λ i. refl }
+both-ways t c d n (suc q) (suc p) = record { lower = refl; opened = refl; entries = λ i. refl }
 
 pub either-first : (t : Engine) (c d : Bytes) → Apart c d → many (t .orders .entries) + 2 ≤ 2048 → EitherFirst t c d
 either-first t c d a room =
@@ -176,11 +150,7 @@ either-first t c d a room =
           (subst (λ (z : Engine). SameTables
           (granted (request t d .reply) (claimed (granted (request t c .reply) (claimed t c) t) d) (granted (request t c .reply) (claimed t c) t)) z)
           (sym (tables-after t c d (a .one) (a .other) (λ e. a .differ (sym e)) room))
-          (both-ways t c d (request t c .reply) (request t d .reply)));
-      orders = λ i.
-          ap (ofOrder i) (tables-after t d c (a .other) (a .one) (a .differ) room)
-          ∙ each-order t c d (a .differ) i (request t c .reply) (request t d .reply)
-          ∙ sym (ap (ofOrder i) (tables-after t c d (a .one) (a .other) (λ e. a .differ (sym e)) room));
+          (both-ways t c d (a .differ) (request t c .reply) (request t d .reply)));
     }
 
 pub claims-do-not-meet : ClaimsDoNotMeet

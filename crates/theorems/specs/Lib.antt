@@ -17,3 +17,4 @@ pub mod Exactly
 pub mod Records
 pub mod Meant
 pub mod MeetingTable
+pub mod Entering

@@ -2,10 +2,10 @@
 use Prim.Native.Nat.{ℕ, _+_, _≤_}
 use mathlib.Core.List.{List}
 use mathlib.Core.Path.{_≡_}
-use Rattle.paper_lower.specs.Lists.{many, keep}
+use Rattle.paper_lower.specs.Lists.{many}
 use Rattle.paper_lower.specs.Checks.{GRANTED, FULL}
 use Rattle.paper_lower.specs.Records.{Bytes, decode}
-use Rattle.paper_upper.specs.Orders.{Entry, Engine, SameTables, inOrder}
+use Rattle.paper_upper.specs.Orders.{Engine, SameTables}
 use Rattle.paper_upper.specs.Engine.{request, placeTo}
 use Rattle.theorems.specs.InUse.{inUse}
 use Rattle.theorems.specs.Theorems.{AfterEvery, tablesAfter, saidAfter}
@@ -16,17 +16,11 @@ pub record Apart (c d : Bytes) : Type 0 where
   pub other : decode d .kind ≡ 50
   pub differ : decode c .b ≡ decode d .b → ⊥
 
--- the entries of instance i
-abbrev pub ofOrder : ℕ → Engine → List Entry
-ofOrder i t = keep (inOrder i) (t .orders .entries)
-
 -- "both orders give the same replies, the same places of Ask 2 and the same tables; which ledger slot an entry sits in is not part of a table"
 pub record EitherFirst (t : Engine) (c d : Bytes) : Type 0 where
   pub replies : (request (request t d .tables) c .reply ≡ request t c .reply) × (request (request t c .tables) d .reply ≡ request t d .reply)
   pub places : (placeTo (request t d .tables) c ≡ placeTo t c) × (placeTo (request t c .tables) d ≡ placeTo t d)
   pub tables : SameTables (request (request t c .tables) d .tables) (request (request t d .tables) c .tables)
-  -- the slot alone is no part of them: each order's entries are the same in the same order, the newest first
-  pub orders : (i : ℕ) → ofOrder i (request (request t c .tables) d .tables) ≡ ofOrder i (request (request t d .tables) c .tables)
 
 -- "Show, after an accepted load and any requests: for two claims in different open instances, with at least two ledger entries free beforehand": in
 -- instances that are not open too

@@ -8,7 +8,7 @@ use Rattle.replies.specs.Replies.{numberOf}
 use Rattle.replies.specs.Done.{Done}
 use Rattle.replies.proofs.ReplyLaws.{is-zero}
 use Rattle.replies.proofs.DoneLaws.{refused}
-use Rattle.order_links.proofs.SameLaws.{tables-refl}
+use Rattle.paper_upper.proofs.OrderedLaws.{tables-refl}
 use Rattle.paper_lower.specs.Checks.{first}
 use Rattle.paper_upper.specs.Orders.{Engine, SameTables}
 use Rattle.order_requests.specs.Tables.{engineTables}
