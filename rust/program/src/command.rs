@@ -198,6 +198,7 @@ fn write() -> Command {
         .args([tasks(), format(), form(), flag("numbers", "Text without names")])
         .arg(output("Where to; standard output where it is missing"))
         .arg(journal_file().conflicts_with("policy").help("A served desk's journal, in the place of POLICY"))
+        .arg(desk_of_database())
         .after_help(concat!(
             "Examples:\n",
             "  mishantral write examples/month/policy.txt examples/month/requests.txt\n",
@@ -281,6 +282,14 @@ fn journal_file() -> Arg {
         .value_hint(ValueHint::FilePath)
 }
 
+fn desk_of_database() -> Arg {
+    value(
+        "desk",
+        "NAME",
+        "Which desk, where the journal is in PostgreSQL (--journal postgresql://..)",
+    )
+}
+
 fn number(name: &'static str, help: &'static str) -> Arg {
     Arg::new(name)
         .long(name)
@@ -303,11 +312,10 @@ fn serve() -> Command {
              moment: docs/SERVE.md tells the forms of requests, the journal's tables and what is promised.",
         )
         .args([policy().required(false), tasks(), format()])
-        .arg(journal_file().help("The journal; it is begun with POLICY where there is none"))
+        .arg(journal_file().help("The journal; it is begun with POLICY where there is none. A file, or a database: postgresql://user@host/database, with --desk"))
         .arg(
-            value("desk", "NAME=JOURNAL", "A desk of several, each with an engine, a policy and a journal of its own")
-                .action(ArgAction::Append)
-                .conflicts_with("journal"),
+            value("desk", "NAME[=JOURNAL]", "A desk of several, each with an engine, a policy and a journal of its own; with a database as --journal its name there")
+                .action(ArgAction::Append),
         )
         .arg(
             socket("Where clients come: a Unix socket")
@@ -340,9 +348,12 @@ fn serve() -> Command {
             Arg::new("saved")
                 .long("saved")
                 .value_name("HOW")
-                .value_parser(PossibleValuesParser::new(["full", "normal"]))
-                .help("full: what is answered survives a failure of power; normal: it survives the program's end"),
+                .value_parser(PossibleValuesParser::new(["full", "normal", "replicated"]))
+                .help("full: what is answered survives a failure of power; normal: it survives the program's end; replicated: a synchronous standby of the database has it too"),
         )
+        .arg(flag("standby", "Desks that another server has are watched, and taken over when that is silent; a database as --journal"))
+        .arg(number("takeover", "With a database: a server that is silent for so many seconds has lost its desks; 5 where it is missing"))
+        .arg(value("server", "NAME", "How clients find this server, as those are told who reach another one; host and socket where it is missing"))
         .after_help(concat!(
             "Examples:\n",
             "  mishantral serve examples/named.txt --journal desk.db --socket desk.sock     # the first time\n",
@@ -351,6 +362,7 @@ fn serve() -> Command {
             "  mishantral serve --desk mill=mill.db --desk yard=yard.db --socket desks.sock\n",
             "  mishantral serve --journal desk.db --http unix:desk.http\n",
             "  mishantral serve --journal desk.db --access access.txt --http 127.0.0.1:8080 --account-header X-Account\n",
+            "  mishantral serve policy.txt --journal postgresql://desk@/desks?host=/run/postgresql --desk mill --socket desk.sock --standby\n",
             "\n",
             "Exit status: 1 a policy or a journal was refused, or the journal failed; 2 wrong use, or a file that cannot be read.",
         ))
@@ -415,14 +427,14 @@ fn journal() -> Command {
                 .value_name("FILE")
                 .required_unless_present("socket")
                 .value_hint(ValueHint::FilePath)
-                .help("The journal"),
+                .help("The journal: a file, or a database with --desk"),
         )
         .arg(
             socket("Read it through the desk that is served here: for accounts that may read it, and cannot open its file")
                 .required(false)
                 .conflicts_with_all(["file", "check"]),
         )
-        .arg(value("desk", "NAME", "With --socket, which desk, where there are several").requires("socket"))
+        .arg(value("desk", "NAME", "Which desk: with --socket where there are several, or of a journal in PostgreSQL"))
         .arg(value("order", "ORDER", "Requests about this order: by number, or every opening that had the name"))
         .arg(number("opening", "Requests about the order that this request opened"))
         .arg(value("user", "USER", "Requests about this user, or one of the user's subjects"))
@@ -462,7 +474,8 @@ fn who() -> Command {
         )
         .arg(Arg::new("order").value_name("ORDER").required(true).help("The order, by number or name"))
         .arg(Arg::new("task").value_name("TASK").required(true).help("The task, by number or name"))
-        .arg(journal_file().required(true).help("The desk's journal"))
+        .arg(journal_file().required(true).help("The desk's journal: a file, or postgresql://.."))
+        .arg(desk_of_database())
         .arg(flag("json", "One object"))
         .after_help(concat!(
             "Example:\n",
@@ -484,7 +497,8 @@ fn finish() -> Command {
         )
         .arg(Arg::new("order").value_name("ORDER").required_unless_present("all").help("The order, by number or name"))
         .arg(flag("all", "Every open order").conflicts_with("order"))
-        .arg(journal_file().required(true).help("The desk's journal"))
+        .arg(journal_file().required(true).help("The desk's journal: a file, or postgresql://.."))
+        .arg(desk_of_database())
         .arg(value("with", "USERS", "These users, by number or name with commas between, in the place of those signed in"))
         .arg(number("tries", "How many claims are tried at most; 5000000 where it is missing"))
         .arg(flag("json", "One object an order"))
@@ -506,7 +520,8 @@ fn whatif() -> Command {
              concerns; and which orders would not have been opened. A request about a user, a subject or an order that an earlier difference has \
              made another is told as one that follows. Nothing is written, and a server may be at work meanwhile.",
         )
-        .arg(journal_file().required(true).help("The desk's journal"))
+        .arg(journal_file().required(true).help("The desk's journal: a file, or postgresql://.."))
+        .arg(desk_of_database())
         .arg(policy().long("policy").help("The other policy: records, text, or OPL/XML"))
         .args([tasks(), format()])
         .arg(value("since", "TIME", "Compare requests from this time on, UTC: 2026-11-15, or '2026-11-15 20:31'; the desk as it was by then is brought under the other policy first"))
@@ -554,7 +569,8 @@ fn holds() -> Command {
              - A hold belongs to the period in which it began.\n\n\
              A server may be at work meanwhile. What is read is the journal as it was when the command began.",
         )
-        .arg(journal_file().required(true).help("The desk's journal"))
+        .arg(journal_file().required(true).help("The desk's journal: a file, or postgresql://.."))
+        .arg(desk_of_database())
         .arg(value("from", "TASKS", "The task that is done first, by name or number; with several templates one task of each, with commas between").required(true))
         .arg(value("to", "TASKS", "The task that is claimed next, of the same template; the same number of them").required(true))
         .arg(

@@ -202,7 +202,7 @@ fn whatif(given: &ArgMatches, out: &mut dyn Write) -> Done {
     };
     let examples = given.get_one::<u64>("examples").copied().unwrap_or(3);
     let options = whatif::Options {
-        journal: text(given, "journal").unwrap_or_default(),
+        journal: &journal_of(given, "journal")?,
         since,
         present: given.get_flag("present"),
         examples: examples as usize,
@@ -242,19 +242,63 @@ fn generate(given: &ArgMatches, out: &mut dyn Write) -> Done {
 
 /// The desks to serve: those named, or the one of `--journal`.
 fn desks(given: &ArgMatches) -> Result<Vec<serve::Wanted>, Stop> {
-    let named = words(given, "desk");
+    let (named, journal) = (words(given, "desk"), text(given, "journal"));
+    let database = journal.filter(|word| journal::is_database(word));
     if named.is_empty() {
-        let (name, journal) = (String::new(), text(given, "journal").map(String::from));
-        return Ok(vec![serve::Wanted { name, journal }]);
+        // A desk of a database has a name, which stands behind its address.
+        let name = database.and_then(|word| word.split_once('#'));
+        return Ok(vec![serve::Wanted {
+            name: name.map_or(String::new(), |(_, name)| name.to_string()),
+            journal: journal.map(String::from),
+            alone: true,
+        }]);
     }
-    let one = |word: &String| match word.split_once('=') {
-        Some((name, file)) if !name.is_empty() && !file.is_empty() => Ok(serve::Wanted {
-            name: name.to_string(),
-            journal: Some(file.to_string()),
+    let alone = named.len() == 1 && database.is_some();
+    let one = |word: &String| {
+        match (word.split_once('='), journal, database) {
+        (Some((name, place)), None, _) if !name.is_empty() && !place.is_empty() => {
+            Ok(serve::Wanted {
+                name: name.to_string(),
+                journal: Some(journal::with_desk(place, Some(name))),
+                alone: false,
+            })
+        }
+        (None, Some(_), Some(database)) => Ok(serve::Wanted {
+            name: word.to_string(),
+            journal: Some(journal::with_desk(database, Some(word))),
+            alone,
         }),
-        _ => wrong(format!("--desk {word}: NAME=JOURNAL is expected")),
+        (_, Some(_), None) => wrong(format!(
+            "--desk {word}: a file is one desk's journal: --desk NAME=JOURNAL without --journal, or --journal postgresql://.. with --desk NAME"
+        )),
+        _ => wrong(format!(
+            "--desk {word}: NAME=JOURNAL is expected, or with --journal postgresql://.. NAME"
+        )),
+    }
     };
     named.iter().map(one).collect()
+}
+
+/// The journal that a command reads: a file, or a desk of a database.
+fn journal_of(given: &ArgMatches, option: &str) -> Result<String, Stop> {
+    let (word, desk) = (text(given, option).unwrap_or_default(), text(given, "desk"));
+    match desk {
+        Some(desk) if !journal::is_database(word) => wrong(format!(
+            "--desk {desk}: {word} is a file, which is one desk's journal"
+        )),
+        _ => Ok(journal::with_desk(word, desk)),
+    }
+}
+
+/// How clients find this server, as those are told who reach another one.
+fn server(given: &ArgMatches) -> String {
+    let host = std::fs::read_to_string("/proc/sys/kernel/hostname").unwrap_or_default();
+    let socket = text(given, "socket").unwrap_or_default();
+    let whole = std::path::absolute(socket).unwrap_or_default();
+    match text(given, "server") {
+        Some(name) => name.to_string(),
+        None => format!("{}:{}", host.trim(), whole.display()),
+    }
 }
 
 /// A socket's mode, in octal digits.
@@ -298,8 +342,14 @@ fn serve(given: &ArgMatches, out: &mut dyn Write) -> Done {
         snapshot: number("snapshot", 100_000) as i64,
         saved: match text(given, "saved") {
             Some("normal") => Saved::Normal,
+            Some("replicated") => Saved::Replicated,
             _ => Saved::Full,
         },
+        takeover: journal::Takeover {
+            server: server(given),
+            silent: Duration::from_secs(number("takeover", 5)),
+        },
+        standby: given.get_flag("standby"),
         keys: number("keys", 30) as i64 * 86_400_000_000,
         clients: number("clients", 1000) as usize,
         clients_each: given
@@ -345,7 +395,7 @@ fn journal(given: &ArgMatches, out: &mut dyn Write) -> Done {
     if let Some(socket) = text(given, "socket") {
         return journal_of_desk(given, socket, out);
     }
-    let file = text(given, "file").unwrap_or_default();
+    let file = &journal_of(given, "file")?;
     let seal = match text(given, "seal") {
         Some(word) if !word.is_empty() => {
             Some(journal::Seal::of_text(word).map_err(|why| Stop::Wrong(vec![why]))?)
@@ -385,7 +435,7 @@ fn journal(given: &ArgMatches, out: &mut dyn Write) -> Done {
 
 /// A desk as a journal leaves it.
 fn stood(given: &ArgMatches) -> Result<Desk, Stop> {
-    let found = journal::found(text(given, "journal").unwrap_or_default(), false)?;
+    let found = journal::found(&journal_of(given, "journal")?, false)?;
     Ok(Desk::at(&found.policy, found.live.names, found.engine))
 }
 
@@ -449,7 +499,7 @@ fn holds(given: &ArgMatches, out: &mut dyn Write) -> Done {
             _ => holds::Form::Text,
         },
     };
-    holds::holds(word("journal").unwrap_or_default(), &options, out)
+    holds::holds(&journal_of(given, "journal")?, &options, out)
 }
 
 fn staff(given: &ArgMatches, out: &mut dyn Write) -> Done {

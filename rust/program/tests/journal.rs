@@ -2,7 +2,7 @@
 
 mod common;
 
-use common::{mishantral, room, run, waited, Server, POLICY};
+use common::{mishantral, room, run, stores, waited, Server, POLICY};
 use rusqlite::Connection;
 use serde_json::Value;
 use std::fs;
@@ -135,80 +135,80 @@ fn a_second_path_to_a_journal_is_refused() {
 
 #[test]
 fn a_name_belongs_to_one_opening() {
-    let room = room("names");
-    let server = Server::start(&room, &[POLICY, "--snapshot", "3"]);
-    let said = server.lines(
+    for place in stores("names") {
+        let server = place.start(&[POLICY, "--snapshot", "3"]);
+        let said = server.lines(
         "open order 7 zed of template breakdown\nopen order 61 zed of template breakdown\nend order zed\n",
     );
-    assert_eq!(said[0], "1 0 GRANTED");
-    assert!(said[1].starts_with("wrong: zed is order 7"), "{said:?}");
-    assert_eq!(said[2], "2 0 GRANTED");
-    let said = server.lines("claim 1 zed repair\nopen order 61 zed of template breakdown\n");
-    assert!(
-        said[0].starts_with("wrong: line 1, column 9: expected"),
-        "{said:?}"
-    );
-    assert_eq!(said[1], "3 0 GRANTED");
-    // The number comes again, without the name.
-    server.lines("open order 7 of template breakdown\nclaim 1 zed repair\nclaim 1 7 repair\n");
-    // A user's name is not taken over, and ends with the user.
-    let said =
-        server.lines("add user 400 anna\ndelete user anna\nadd user 400 anna\nadd user 300\n");
-    assert!(said[0].starts_with("wrong: anna is user 300"), "{said:?}");
-    assert_eq!(said[1..], ["7 0 GRANTED", "8 0 GRANTED", "9 0 GRANTED"]);
-    let long = "z".repeat(65);
-    let said = server.lines(&format!("open order 9 {long} of template breakdown\n"));
-    assert!(
-        said[0].contains("column 14: expected a name of at most 64 bytes, found one of 65"),
-        "{said:?}"
-    );
-    drop(server);
-    // After a start from a snapshot they hold as before.
-    let server = Server::start(&room, &["--snapshot", "3"]);
-    assert!(
-        server.told[0].contains("9 requests, 0 of them"),
-        "{:?}",
-        server.told
-    );
-    let said = server.lines("end order zed\nopen order 8 zed of template breakdown\n");
-    assert_eq!(said, ["10 0 GRANTED", "11 0 GRANTED"]);
-    let said = server.lines("create subject 3 for user anna with roles none\n");
-    assert_eq!(said, ["12 0 GRANTED"]);
-    drop(server);
-    let journal = room.join("desk.db");
-    let journal = journal.to_str().unwrap();
-    let numbers = |more: &[&str]| -> Vec<i64> {
-        let (listed, _, _) = run(&[&["journal", journal, "--json"], more].concat());
-        let number = |line: &str| serde_json::from_str::<Value>(line).unwrap()["number"].as_i64();
-        listed.lines().map(|line| number(line).unwrap()).collect()
-    };
-    assert_eq!(numbers(&["--order", "zed"]), [1, 2, 3, 5, 10, 11]);
-    assert_eq!(numbers(&["--opening", "3"]), [3, 5, 10]);
-    assert_eq!(numbers(&["--order", "7"]), [1, 2, 4, 6]);
-    assert_eq!(numbers(&["--user", "anna"]), [7, 8, 12]);
-    assert_eq!(numbers(&["--user", "300"]), [7, 9]);
-    assert_eq!(numbers(&["--last", "2"]), [11, 12]);
-    let (listed, _, _) = run(&["journal", journal, "--order", "zed", "--last", "1"]);
-    assert!(
-        listed.contains("open order zed of template breakdown  (order 8, opening 11, by "),
-        "{listed}"
-    );
-    let (listed, _, _) = run(&["journal", journal, "--order", "zed", "--json"]);
-    let second: Value = serde_json::from_str(listed.lines().nth(3).unwrap()).unwrap();
-    assert_eq!(
-        (&second["order"], &second["order_name"]),
-        (&61.into(), &"zed".into())
-    );
-    assert_eq!(
-        (&second["task"], &second["task_name"]),
-        (&0.into(), &"repair".into())
-    );
-    assert_eq!(
-        (&second["subject"], &second["opening"]),
-        (&1.into(), &3.into())
-    );
-    let (checked, why, status) = run(&["journal", journal, "--check"]);
-    assert_eq!(status, 0, "{checked}{why}");
+        assert_eq!(said[0], "1 0 GRANTED");
+        assert!(said[1].starts_with("wrong: zed is order 7"), "{said:?}");
+        assert_eq!(said[2], "2 0 GRANTED");
+        let said = server.lines("claim 1 zed repair\nopen order 61 zed of template breakdown\n");
+        assert!(
+            said[0].starts_with("wrong: line 1, column 9: expected"),
+            "{said:?}"
+        );
+        assert_eq!(said[1], "3 0 GRANTED");
+        // The number comes again, without the name.
+        server.lines("open order 7 of template breakdown\nclaim 1 zed repair\nclaim 1 7 repair\n");
+        // A user's name is not taken over, and ends with the user.
+        let said =
+            server.lines("add user 400 anna\ndelete user anna\nadd user 400 anna\nadd user 300\n");
+        assert!(said[0].starts_with("wrong: anna is user 300"), "{said:?}");
+        assert_eq!(said[1..], ["7 0 GRANTED", "8 0 GRANTED", "9 0 GRANTED"]);
+        let long = "z".repeat(65);
+        let said = server.lines(&format!("open order 9 {long} of template breakdown\n"));
+        assert!(
+            said[0].contains("column 14: expected a name of at most 64 bytes, found one of 65"),
+            "{said:?}"
+        );
+        drop(server);
+        // After a start from a snapshot they hold as before.
+        let server = place.start(&["--snapshot", "3"]);
+        assert!(
+            server.told[0].contains("9 requests, 0 of them"),
+            "{:?}",
+            server.told
+        );
+        let said = server.lines("end order zed\nopen order 8 zed of template breakdown\n");
+        assert_eq!(said, ["10 0 GRANTED", "11 0 GRANTED"]);
+        let said = server.lines("create subject 3 for user anna with roles none\n");
+        assert_eq!(said, ["12 0 GRANTED"]);
+        drop(server);
+        let numbers = |more: &[&str]| -> Vec<i64> {
+            let (listed, _, _) = place.journal(&[&["--json"], more].concat());
+            let number =
+                |line: &str| serde_json::from_str::<Value>(line).unwrap()["number"].as_i64();
+            listed.lines().map(|line| number(line).unwrap()).collect()
+        };
+        assert_eq!(numbers(&["--order", "zed"]), [1, 2, 3, 5, 10, 11]);
+        assert_eq!(numbers(&["--opening", "3"]), [3, 5, 10]);
+        assert_eq!(numbers(&["--order", "7"]), [1, 2, 4, 6]);
+        assert_eq!(numbers(&["--user", "anna"]), [7, 8, 12]);
+        assert_eq!(numbers(&["--user", "300"]), [7, 9]);
+        assert_eq!(numbers(&["--last", "2"]), [11, 12]);
+        let (listed, _, _) = place.journal(&["--order", "zed", "--last", "1"]);
+        assert!(
+            listed.contains("open order zed of template breakdown  (order 8, opening 11, by "),
+            "{listed}"
+        );
+        let (listed, _, _) = place.journal(&["--order", "zed", "--json"]);
+        let second: Value = serde_json::from_str(listed.lines().nth(3).unwrap()).unwrap();
+        assert_eq!(
+            (&second["order"], &second["order_name"]),
+            (&61.into(), &"zed".into())
+        );
+        assert_eq!(
+            (&second["task"], &second["task_name"]),
+            (&0.into(), &"repair".into())
+        );
+        assert_eq!(
+            (&second["subject"], &second["opening"]),
+            (&1.into(), &3.into())
+        );
+        let (checked, why, status) = place.journal(&["--check"]);
+        assert_eq!(status, 0, "{checked}{why}");
+    }
 }
 
 #[test]

@@ -2,7 +2,7 @@
 
 mod common;
 
-use common::{forge, mishantral, room, run, Server, POLICY};
+use common::{forge, mishantral, room, run, stores, Server, POLICY};
 use rusqlite::Connection;
 use serde_json::Value;
 use std::fs;
@@ -14,128 +14,116 @@ use std::process::Stdio;
 
 #[test]
 fn lines_objects_and_records_are_answered_and_kept() {
-    let room = room("forms");
-    let server = Server::start(&room, &[POLICY]);
-    let said = server.lines(
+    for place in stores("forms") {
+        let server = place.start(&[POLICY]);
+        let said = server.lines(
         "create subject 1 am for user anna with roles fitter\n# a comment\n\nopen order 7 mill of template breakdown\nclaim am mill repair\nclam 1 7 test\nclaim 1 7 sign\n",
     );
-    assert_eq!(said[..3], ["1 0 GRANTED", "2 0 GRANTED", "3 0 GRANTED"]);
-    assert_eq!(
-        said[3],
-        "wrong: line 6, column 1: expected \"claim\", found \"clam\""
-    );
-    assert_eq!(said[4..], ["4 11 NO ROLE"]);
-    let said = server.lines("{\"request\": \"claim am mill test\", \"id\": 9}\n{\"record\": \"3400010007000000\"}\n{\"request\": 5, \"id\": [1]}\n");
-    let said: Vec<Value> = said
-        .iter()
-        .map(|line| serde_json::from_str(line).unwrap())
-        .collect();
-    assert_eq!(
-        said[0],
-        serde_json::json!({"number": 5, "reply": 11, "name": "NO ROLE", "rule": 0, "id": 9})
-    );
-    assert_eq!(
-        (&said[1]["number"], &said[1]["name"]),
-        (&6.into(), &"SHAPE".into())
-    );
-    assert_eq!(said[2]["id"], serde_json::json!([1]));
-    assert!(said[2]["wrong"].is_string());
-    // Records: a whole one, done 1 7 0, and a cut one.
-    let mut records = vec![52, 0, 1, 0, 7, 0, 0, 0, 0, 0, 0, 0, 0, 0, 0, 0];
-    records.extend([52, 0, 1]);
-    let replies = server.ask(&records);
-    assert_eq!(replies.len(), 32);
-    assert_eq!((replies[0], replies[8]), (0, 7));
-    assert_eq!((replies[16], replies[24]), (2, 8));
-    drop(server);
+        assert_eq!(said[..3], ["1 0 GRANTED", "2 0 GRANTED", "3 0 GRANTED"]);
+        assert_eq!(
+            said[3],
+            "wrong: line 6, column 1: expected \"claim\", found \"clam\""
+        );
+        assert_eq!(said[4..], ["4 11 NO ROLE"]);
+        let said = server.lines("{\"request\": \"claim am mill test\", \"id\": 9}\n{\"record\": \"3400010007000000\"}\n{\"request\": 5, \"id\": [1]}\n");
+        let said: Vec<Value> = said
+            .iter()
+            .map(|line| serde_json::from_str(line).unwrap())
+            .collect();
+        assert_eq!(
+            said[0],
+            serde_json::json!({"number": 5, "reply": 11, "name": "NO ROLE", "rule": 0, "id": 9})
+        );
+        assert_eq!(
+            (&said[1]["number"], &said[1]["name"]),
+            (&6.into(), &"SHAPE".into())
+        );
+        assert_eq!(said[2]["id"], serde_json::json!([1]));
+        assert!(said[2]["wrong"].is_string());
+        // Records: a whole one, done 1 7 0, and a cut one.
+        let mut records = vec![52, 0, 1, 0, 7, 0, 0, 0, 0, 0, 0, 0, 0, 0, 0, 0];
+        records.extend([52, 0, 1]);
+        let replies = server.ask(&records);
+        assert_eq!(replies.len(), 32);
+        assert_eq!((replies[0], replies[8]), (0, 7));
+        assert_eq!((replies[16], replies[24]), (2, 8));
+        drop(server);
 
-    let journal = room.join("desk.db");
-    let journal = journal.to_str().unwrap();
-    let (listed, _, status) = run(&["journal", journal]);
-    assert_eq!((listed.lines().count(), status), (8, 0));
-    assert!(
+        let (listed, _, status) = place.journal(&[]);
+        assert_eq!((listed.lines().count(), status), (8, 0));
+        assert!(
         listed.lines().next().unwrap().contains(
             "  0 GRANTED       anna          create subject am for user anna with roles fitter  (subject 1, by "
         ),
         "{listed}"
     );
-    assert!(
+        assert!(
         listed.contains("11 NO ROLE       anna          claim am mill sign  (subject 1, order 7, opening 2, by "),
         "{listed}"
     );
-    let picked = |more: &[&str]| {
-        run(&[&["journal", journal], more].concat())
-            .0
-            .lines()
-            .count()
-    };
-    assert_eq!(picked(&["--order", "mill"]), 5);
-    assert_eq!(picked(&["--order", "mill", "--reply", "no role"]), 2);
-    assert_eq!(picked(&["--user", "anna", "--reply", "refused"]), 2);
-    assert_eq!(picked(&["--task", "repair", "--json"]), 2);
-    assert_eq!(
-        (
-            picked(&["--since", "2100-01-01"]),
-            picked(&["--until", "2100-01-01", "--last", "3"])
-        ),
-        (0, 3)
-    );
-    assert_eq!(run(&["journal", journal, "--user", "nobody"]).2, 2);
-    let (checked, _, status) = run(&["journal", journal, "--check"]);
-    assert!(checked.contains("sound: 8 requests"), "{checked}");
-    assert_eq!(status, 0);
-    let sql = Connection::open(journal).unwrap();
-    let seen: (i64, i64, String) = sql
-        .query_row(
-            "SELECT subject, ordr, reply FROM answered WHERE number = 3",
-            [],
-            |r| Ok((r.get(0)?, r.get(1)?, r.get(2)?)),
-        )
-        .unwrap();
-    assert_eq!(seen, (1, 7, "GRANTED".to_string()));
+        let picked = |more: &[&str]| place.listed(more).len();
+        assert_eq!(picked(&["--order", "mill"]), 5);
+        assert_eq!(picked(&["--order", "mill", "--reply", "no role"]), 2);
+        assert_eq!(picked(&["--user", "anna", "--reply", "refused"]), 2);
+        assert_eq!(picked(&["--task", "repair", "--json"]), 2);
+        assert_eq!(
+            (
+                picked(&["--since", "2100-01-01"]),
+                picked(&["--until", "2100-01-01", "--last", "3"])
+            ),
+            (0, 3)
+        );
+        assert_eq!(place.journal(&["--user", "nobody"]).2, 2);
+        let (checked, _, status) = place.journal(&["--check"]);
+        assert!(checked.contains("sound: 8 requests"), "{checked}");
+        assert_eq!(status, 0);
+        let column = |name: &str| {
+            place.rows(&format!("SELECT {name} FROM answered WHERE number = 3"))[0].clone()
+        };
+        let seen = [column("subject"), column("ordr"), column("reply")];
+        assert_eq!(seen, [1.into(), 7.into(), Value::from("GRANTED")]);
+    }
 }
 
 #[test]
 fn a_desk_goes_on_where_it_was() {
-    let room = room("again");
-    let server = Server::start(&room, &[POLICY, "--snapshot", "5"]);
-    let start = "create subject 1 am for user anna with roles fitter\nopen order 7 mill of template breakdown\n";
-    server.lines(start);
-    for _ in 0..4 {
-        server.lines("claim am mill repair\nrelease am mill repair\n");
+    for place in stores("again") {
+        let server = place.start(&[POLICY, "--snapshot", "5"]);
+        let start = "create subject 1 am for user anna with roles fitter\nopen order 7 mill of template breakdown\n";
+        server.lines(start);
+        for _ in 0..4 {
+            server.lines("claim am mill repair\nrelease am mill repair\n");
+        }
+        drop(server);
+        let server = place.start(&["--snapshot", "5"]);
+        assert!(
+            server.told[0].ends_with(": 10 requests, 4 of them asked anew, all answered as before"),
+            "{:?}",
+            server.told
+        );
+        assert_eq!(server.lines("claim am mill repair\n"), ["11 0 GRANTED"]);
+        assert_eq!(server.lines("who mill repair\n").len(), 1);
+        // Another server may not have the journal, nor the socket.
+        let socket = place.room.join("other.sock");
+        let serve = ["serve", "--socket", socket.to_str().unwrap()];
+        let (_, why, status) = run(&[&serve[..], &place.options()].concat());
+        assert_eq!(
+            (why.contains("another server has it"), status),
+            (true, 1),
+            "{why}"
+        );
+        drop(server);
+        let (checked, _, status) = place.journal(&["--check"]);
+        assert_eq!(
+            (
+                checked.contains("11 requests") && checked.contains("2 snapshots"),
+                status
+            ),
+            (true, 0),
+            "{checked}"
+        );
+        assert_eq!(place.listed(&["--last", "1"]).len(), 1);
     }
-    drop(server);
-    let server = Server::start(&room, &["--snapshot", "5"]);
-    assert!(
-        server.told[0].ends_with(": 10 requests, 4 of them asked anew, all answered as before"),
-        "{:?}",
-        server.told
-    );
-    assert_eq!(server.lines("claim am mill repair\n"), ["11 0 GRANTED"]);
-    assert_eq!(server.lines("who mill repair\n").len(), 1);
-    // Another server may not have the journal, nor the socket.
-    let (journal, socket) = (room.join("desk.db"), room.join("other.sock"));
-    let (journal, socket) = (journal.to_str().unwrap(), socket.to_str().unwrap());
-    let (_, why, status) = run(&["serve", "--journal", journal, "--socket", socket]);
-    assert_eq!(
-        (why.contains("another server has it"), status),
-        (true, 1),
-        "{why}"
-    );
-    drop(server);
-    let (checked, _, status) = run(&["journal", journal, "--check"]);
-    assert_eq!(
-        (
-            checked.contains("11 requests") && checked.contains("2 snapshots"),
-            status
-        ),
-        (true, 0),
-        "{checked}"
-    );
-    assert_eq!(
-        run(&["journal", journal, "--last", "1"]).0.lines().count(),
-        1
-    );
 }
 
 /// All bytes of a journal and of what SQLite has beside it.
@@ -315,77 +303,76 @@ fn one_client_does_not_hold_up_another() {
 
 #[test]
 fn who_and_finish_are_asked_of_a_journal_and_of_a_server() {
-    let room = room("finish");
-    let server = Server::start(&room, &[POLICY]);
-    server.lines("create subject 1 for user anna with roles fitter\ncreate subject 2 for user bert with roles tester\nopen order 7 mill of template breakdown\nclaim 1 mill repair\n");
-    let journal = room.join("desk.db");
-    let journal = journal.to_str().unwrap();
-    let asked = |arguments: &[&str]| run(&[arguments, &["--journal", journal]].concat());
-    assert_eq!(asked(&["who", "mill", "order_part"]).2, 1);
-    // Nobody signed in signs or buys.
-    let (told, _, status) = asked(&["finish", "mill"]);
-    assert_eq!(status, 1);
-    assert!(
-        told.starts_with("mill cannot be finished by those signed in:\n"),
-        "{told}"
-    );
-    assert!(
-        told.contains("11 NO ROLE") && told.contains("no one clerk more is enough"),
-        "{told}"
-    );
-    server.lines("create subject 3 for user dirk with roles none\ncreate subject 4 for user fritz with roles buyer\n");
-    assert_eq!(
-        asked(&["who", "mill", "order_part"]).0,
-        "subject 4 of fritz\n"
-    );
-    let (told, _, status) = asked(&["finish", "mill"]);
-    assert_eq!(status, 1);
-    assert!(
-        told.contains("with gerda it can be finished")
-            && told.contains("with hans it can be finished"),
-        "{told}"
-    );
-    let (told, _, status) = asked(&["finish", "--all", "--with", "anna,bert,dirk,fritz,hans"]);
-    assert_eq!(
-        (told.contains("1 open orders can be finished"), status),
-        (true, 0),
-        "{told}"
-    );
-    let (told, _, _) = asked(&[
-        "finish",
-        "mill",
-        "--json",
-        "--with",
-        "anna,bert,dirk,fritz,hans",
-    ]);
-    let object: Value = serde_json::from_str(&told).unwrap();
-    assert_eq!(object["finish"], "yes");
-    // The plan is granted by the server, step by step.
-    let plan: Vec<String> = object["plan"]
-        .as_array()
-        .unwrap()
-        .iter()
-        .map(|step| step.as_str().unwrap().to_string())
-        .collect();
-    assert!(
-        plan.contains(&"activate role signer in subject 3".to_string()),
-        "{plan:?}"
-    );
-    assert_eq!(plan.last().unwrap(), "end order mill");
-    let said = server.lines(&(plan.join("\n") + "\nfinish mill\n"));
-    let (last, granted) = said.split_last().unwrap();
-    assert!(
-        granted.iter().all(|line| line.ends_with(" 0 GRANTED")),
-        "{said:?}"
-    );
-    // A name ends with its order.
-    assert!(last.contains("there is no order \"mill\""), "{last}");
-    let (told, _, status) = asked(&["finish", "--all", "--tries", "1"]);
-    assert_eq!(
-        (told.contains("0 open orders"), status),
-        (true, 0),
-        "{told}"
-    );
+    for place in stores("finish") {
+        let server = place.start(&[POLICY]);
+        server.lines("create subject 1 for user anna with roles fitter\ncreate subject 2 for user bert with roles tester\nopen order 7 mill of template breakdown\nclaim 1 mill repair\n");
+        let asked = |arguments: &[&str]| run(&[arguments, &place.options()].concat());
+        assert_eq!(asked(&["who", "mill", "order_part"]).2, 1);
+        // Nobody signed in signs or buys.
+        let (told, _, status) = asked(&["finish", "mill"]);
+        assert_eq!(status, 1);
+        assert!(
+            told.starts_with("mill cannot be finished by those signed in:\n"),
+            "{told}"
+        );
+        assert!(
+            told.contains("11 NO ROLE") && told.contains("no one clerk more is enough"),
+            "{told}"
+        );
+        server.lines("create subject 3 for user dirk with roles none\ncreate subject 4 for user fritz with roles buyer\n");
+        assert_eq!(
+            asked(&["who", "mill", "order_part"]).0,
+            "subject 4 of fritz\n"
+        );
+        let (told, _, status) = asked(&["finish", "mill"]);
+        assert_eq!(status, 1);
+        assert!(
+            told.contains("with gerda it can be finished")
+                && told.contains("with hans it can be finished"),
+            "{told}"
+        );
+        let (told, _, status) = asked(&["finish", "--all", "--with", "anna,bert,dirk,fritz,hans"]);
+        assert_eq!(
+            (told.contains("1 open orders can be finished"), status),
+            (true, 0),
+            "{told}"
+        );
+        let (told, _, _) = asked(&[
+            "finish",
+            "mill",
+            "--json",
+            "--with",
+            "anna,bert,dirk,fritz,hans",
+        ]);
+        let object: Value = serde_json::from_str(&told).unwrap();
+        assert_eq!(object["finish"], "yes");
+        // The plan is granted by the server, step by step.
+        let plan: Vec<String> = object["plan"]
+            .as_array()
+            .unwrap()
+            .iter()
+            .map(|step| step.as_str().unwrap().to_string())
+            .collect();
+        assert!(
+            plan.contains(&"activate role signer in subject 3".to_string()),
+            "{plan:?}"
+        );
+        assert_eq!(plan.last().unwrap(), "end order mill");
+        let said = server.lines(&(plan.join("\n") + "\nfinish mill\n"));
+        let (last, granted) = said.split_last().unwrap();
+        assert!(
+            granted.iter().all(|line| line.ends_with(" 0 GRANTED")),
+            "{said:?}"
+        );
+        // A name ends with its order.
+        assert!(last.contains("there is no order \"mill\""), "{last}");
+        let (told, _, status) = asked(&["finish", "--all", "--tries", "1"]);
+        assert_eq!(
+            (told.contains("0 open orders"), status),
+            (true, 0),
+            "{told}"
+        );
+    }
 }
 
 #[test]

@@ -91,13 +91,25 @@ pub fn measured(
     if !way.journal {
         how.journal = None;
     }
+    let measured = measured_of(&how, clients, way.depth, time);
+    let _ = std::fs::remove_dir_all(&room);
+    measured
+}
+
+/// The same of a server that is started so.
+pub fn measured_of(
+    how: &How,
+    clients: usize,
+    depth: usize,
+    time: Duration,
+) -> Result<Measured, String> {
     let server = how.start()?;
     let over = Arc::new(AtomicBool::new(false));
     let began = Instant::now();
     let threads: Vec<_> = (0..clients as u64)
         .map(|seed| {
             let client = Client::new(server.connect().expect("a server that takes clients"));
-            let (over, depth) = (over.clone(), way.depth);
+            let over = over.clone();
             std::thread::spawn(move || asked(client, seed, depth, &over))
         })
         .collect();
@@ -111,7 +123,6 @@ pub fn measured(
     }
     let took = began.elapsed().as_secs_f64();
     drop(server);
-    let _ = std::fs::remove_dir_all(&room);
     waits.sort_unstable();
     let part = |part: f64| waits[((waits.len() - 1) as f64 * part) as usize] as f64 / 1e3;
     Ok(Measured {

@@ -6,6 +6,7 @@ mod full;
 mod garbage;
 mod kills;
 mod load;
+mod postgresql;
 mod scale;
 mod server;
 mod talk;
@@ -20,14 +21,18 @@ const HELP: &str = "\
 trials: the served desk tried out
 
   trials faults --program PATH [--kills N] [--torn N] [--seed N]
+  trials database --program PATH [--kills N] [--seed N] [--only WHAT]
   trials load --program PATH [--seconds N] [--docs FOLDER]
+  trials stores --program PATH [--seconds N]
   trials ratio --program PATH --before PATH [--seconds N]
   trials memory --program PATH [--requests N]
   trials desks --program PATH [--seconds N]
 
   faults           kills it, fills its disk, tears its files, sends it garbage; what was answered must be there, once. Then fifteen
                    faults that an attack found, each with the outcome that is wanted
+  database         the same with the journal in PostgreSQL: a primary and a standby of its own, which are killed, cut off, filled, replaced
   load             requests a second and waits, by clients, with and without a journal
+  stores           the same of a file, of PostgreSQL with and without a standby, and of no journal, in one run; and many desks
   ratio            the same of two programs in turn, five times: how many requests a second the first answers, by those of the other
   memory           the server's memory over ten million requests
   desks            what many desks in one server take and give
@@ -37,9 +42,10 @@ trials: the served desk tried out
   --seconds N      how long each figure is measured; 3 where it is missing
   --docs FOLDER    where load.md and load.svg are written
   --requests N     10000000 where it is missing
-  --kills N        how often it is killed under load; 1000 where it is missing
+  --kills N        how often it is killed under load; 1000 where it is missing, and 200 with PostgreSQL
   --torn N         how many torn files of each sort are tried; 200 where it is missing
-  --only WHAT      kills, full, torn, garbage, attacks (faults 1 to 15) or the number of one of these; several with commas between: kills,torn,3
+  --only WHAT      kills, full, torn, garbage, attacks (faults 1 to 15) or the number of one of these; several with commas between: kills,torn,3.
+                   With PostgreSQL kills, cuts, paused, races, promotion, cancelled or disk
   --seed N         other random numbers
 
 Exit status: 0 every promise was kept; 1 one was not; 2 wrong use. tools/faults builds and runs it.
@@ -48,7 +54,7 @@ Exit status: 0 every promise was kept; 1 one was not; 2 wrong use. tools/faults 
 struct Options {
     program: PathBuf,
     before: Option<PathBuf>,
-    kills: usize,
+    kills: Option<usize>,
     torn: usize,
     seed: u64,
     seconds: u64,
@@ -65,7 +71,8 @@ const TRIALS: [&str; 5] = ["kills", "full", "torn", "garbage", "attacks"];
 fn only(words: &str) -> Result<Vec<String>, String> {
     let known = |word: &str| {
         let numbered = |fault: &attacks::Fault| fault.0.to_string() == word;
-        TRIALS.contains(&word) || attacks::FAULTS.iter().any(numbered)
+        let of_database = postgresql::TRIALS.iter().any(|trial| trial.0 == word);
+        TRIALS.contains(&word) || attacks::FAULTS.iter().any(numbered) || of_database
     };
     let words: Vec<String> = words.split(',').map(String::from).collect();
     match words.iter().find(|word| !known(word)) {
@@ -86,7 +93,7 @@ fn options(arguments: &[String]) -> Result<Options, String> {
     let mut options = Options {
         program: PathBuf::new(),
         before: None,
-        kills: 1000,
+        kills: None,
         torn: 200,
         seed: 1,
         seconds: 3,
@@ -105,7 +112,7 @@ fn options(arguments: &[String]) -> Result<Options, String> {
         match option.as_str() {
             "--program" => options.program = PathBuf::from(value),
             "--before" => options.before = Some(PathBuf::from(value)),
-            "--kills" => options.kills = number()? as usize,
+            "--kills" => options.kills = Some(number()? as usize),
             "--torn" => options.torn = number()? as usize,
             "--seed" => options.seed = number()?,
             "--seconds" => options.seconds = number()?,
@@ -130,7 +137,8 @@ fn tell(what: &str, came: Result<String, String>) {
 }
 
 fn killed(program: &Path, options: &Options) -> Result<String, String> {
-    let k = kills::kills(program, options.kills, options.seed)?;
+    let count = options.kills.unwrap_or(1000);
+    let k = kills::kills(program, count, options.seed)?;
     Ok(format!(
         "{} kills in {} s, {} of them before anyone could connect; {} requests answered, none lost, none twice; of those not answered yet {} are in the journal and {} are not; a start takes {:.1} ms",
         k.kills, k.seconds, k.early, k.met.answered, k.met.kept, k.met.gone, k.starts.as_secs_f64() * 1e3
@@ -189,6 +197,29 @@ fn faults(options: &Options) -> bool {
     kept
 }
 
+/// The faults of a journal in PostgreSQL.
+fn of_database(options: &Options) -> bool {
+    if postgresql::programs().is_none() {
+        println!("not tried: there is no PostgreSQL here (apt-get install postgresql)");
+        return true;
+    }
+    println!("| Fault | What came of it |\n|---|---|");
+    let mut kept = true;
+    for (name, what, trial) in postgresql::TRIALS {
+        if options.wants(&[name]) {
+            eprintln!("{name}: {what}");
+            let came = trial(&postgresql::Given {
+                program: &options.program,
+                count: options.kills.unwrap_or(200),
+                seed: options.seed,
+            });
+            kept &= came.is_ok();
+            tell(what, came);
+        }
+    }
+    kept
+}
+
 fn measured(what: &str, options: &Options) -> Result<(), String> {
     let (program, time) = (&options.program, Duration::from_secs(options.seconds));
     match what {
@@ -198,6 +229,7 @@ fn measured(what: &str, options: &Options) -> Result<(), String> {
             let before = before.ok_or("--before PATH is missing")?;
             load::ratio(program, before, time)
         }
+        "stores" => postgresql::stores(program, time),
         "memory" => {
             let (sizes, rate, bytes) = load::memory(program, options.requests)?;
             let sizes: Vec<String> = sizes.iter().map(|kb| load::grouped(*kb as f64)).collect();
@@ -219,7 +251,15 @@ fn measured(what: &str, options: &Options) -> Result<(), String> {
 fn done(arguments: &[String]) -> Result<bool, String> {
     match arguments.split_first() {
         Some((what, rest)) if what == "faults" => options(rest).map(|options| faults(&options)),
-        Some((what, rest)) if matches!(what.as_str(), "load" | "ratio" | "memory" | "desks") => {
+        Some((what, rest)) if what == "database" => {
+            options(rest).map(|options| of_database(&options))
+        }
+        Some((what, rest))
+            if matches!(
+                what.as_str(),
+                "load" | "ratio" | "memory" | "desks" | "stores"
+            ) =>
+        {
             let options = options(rest)?;
             let kept = measured(what, &options);
             if let Err(why) = &kept {
@@ -227,7 +267,7 @@ fn done(arguments: &[String]) -> Result<bool, String> {
             }
             Ok(kept.is_ok())
         }
-        _ => Err("faults, load, ratio, memory or desks".to_string()),
+        _ => Err("faults, database, load, stores, ratio, memory or desks".to_string()),
     }
 }
 

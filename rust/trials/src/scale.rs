@@ -2,8 +2,9 @@
 
 use crate::client::{Client, Requests};
 use crate::load::grouped;
-use crate::server::{room, How};
+use crate::server::{room, How, Server};
 use std::io::{BufRead, BufReader, Write};
+use std::os::unix::net::UnixStream;
 use std::path::Path;
 use std::sync::atomic::{AtomicBool, Ordering};
 use std::sync::Arc;
@@ -12,9 +13,9 @@ use std::time::{Duration, Instant};
 const CLIENTS: usize = 16;
 
 /// One client of a desk, which asks until it is over.
-fn asked(stream: std::os::unix::net::UnixStream, desk: usize, seed: u64, over: &AtomicBool) -> u64 {
+fn asked(stream: UnixStream, desk: &str, seed: u64, over: &AtomicBool) -> u64 {
     let mut stream = stream;
-    writeln!(stream, "desk d{desk}").expect("a server that takes clients");
+    writeln!(stream, "desk {desk}").expect("a server that takes clients");
     let mut line = String::new();
     let mut reader = BufReader::with_capacity(1, stream.try_clone().expect("a connection"));
     reader.read_line(&mut line).expect("a desk");
@@ -29,6 +30,29 @@ fn asked(stream: std::os::unix::net::UnixStream, desk: usize, seed: u64, over: &
         count += 1;
     }
     count
+}
+
+/// Requests a second of one client a desk, of all desks of several servers together.
+pub fn rate(servers: &[(Server, Vec<String>)], time: Duration) -> Result<f64, String> {
+    let over = Arc::new(AtomicBool::new(false));
+    let mut threads = Vec::new();
+    for (server, desks) in servers {
+        for desk in desks {
+            let stream = server.connect().map_err(|why| why.to_string())?;
+            let (desk, over, seed) = (desk.clone(), over.clone(), threads.len() as u64);
+            threads.push(std::thread::spawn(move || {
+                asked(stream, &desk, seed, &over)
+            }));
+        }
+    }
+    let began = Instant::now();
+    std::thread::sleep(time);
+    over.store(true, Ordering::Relaxed);
+    let mut sum = 0;
+    for thread in threads {
+        sum += thread.join().map_err(|_| "a client failed".to_string())?;
+    }
+    Ok(sum as f64 / began.elapsed().as_secs_f64())
 }
 
 pub fn desks(program: &Path, time: Duration) -> Result<(), String> {
@@ -51,7 +75,8 @@ pub fn desks(program: &Path, time: Duration) -> Result<(), String> {
         let threads: Vec<_> = (0..CLIENTS)
             .map(|at| {
                 let (stream, over) = (server.connect().expect("a server"), over.clone());
-                std::thread::spawn(move || asked(stream, at % count, at as u64, &over))
+                let desk = format!("d{}", at % count);
+                std::thread::spawn(move || asked(stream, &desk, at as u64, &over))
             })
             .collect();
         let began = Instant::now();

@@ -40,6 +40,8 @@ pub struct How {
     /// The journal; none is the desk without one.
     pub journal: Option<PathBuf>,
     pub folder: PathBuf,
+    /// The socket's name in the folder.
+    pub socket: String,
     pub more: Vec<String>,
     /// What a shell does before it becomes the server, as `ulimit -n 64`; empty without a shell.
     pub shell: String,
@@ -52,6 +54,7 @@ impl How {
             program: program.to_path_buf(),
             journal: Some(folder.join("desk.db")),
             folder: folder.to_path_buf(),
+            socket: "desk.sock".to_string(),
             more: Vec::new(),
             shell: String::new(),
             envs: Vec::new(),
@@ -71,7 +74,7 @@ impl How {
 
     /// Begins one, and does not wait for it.
     pub fn spawn(&self) -> Server {
-        let socket = self.folder.join("desk.sock");
+        let socket = self.folder.join(&self.socket);
         let mut command = match self.shell.as_str() {
             "" => Command::new(&self.program),
             shell => {

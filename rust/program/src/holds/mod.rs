@@ -23,13 +23,12 @@ pub use measure::End;
 pub use objects::object;
 pub use text::csv;
 
-use crate::journal::{self, Unfit};
+use crate::journal::{self, Store, Unfit};
 use crate::stop::{wrong, Done, Stop, WELL};
 use measure::{Asked, Measure};
 use pairs::Pairs;
 use progress::Progress;
 use report::Report;
-use rusqlite::Connection;
 use std::fs;
 use std::io::Write;
 
@@ -58,30 +57,28 @@ pub enum Form {
 
 /// Measures a journal.
 pub fn measured(file: &str, options: &Options) -> Result<Report, Stop> {
-    let refused = |Unfit(why): Unfit| Stop::Refused(vec![format!("{file}: {why}")]);
-    journal::there(file)?;
-    let connection = journal::reading(file).map_err(|why| refused(why.into()))?;
-    let policy = journal::head(&connection, file).map_err(refused)?.policy;
+    let refused =
+        |Unfit(why): Unfit| Stop::Refused(vec![format!("{}: {why}", journal::shown(file))]);
+    let store = &*journal::reading(file)?;
+    let policy = store.head().map_err(refused)?.policy;
     let asked = Asked {
         pairs: Pairs::read(options.from, options.to, &policy.records(), &policy.names)?,
         end: options.end,
-        since: journal::time_of(&connection, options.since, i64::MIN)?,
-        until: journal::time_of(&connection, options.until, i64::MAX)?,
+        since: journal::time_of(options.since, i64::MIN)?,
+        until: journal::time_of(options.until, i64::MAX)?,
         zone: options.zone,
         worst: options.worst,
     };
-    let report = replayed(&connection, file, &asked, &options.by).map_err(refused)?;
+    let report = replayed(store, &asked, &options.by).map_err(refused)?;
     Ok(report)
 }
 
-fn replayed(connection: &Connection, file: &str, asked: &Asked, by: &By) -> Result<Report, Unfit> {
-    let last = "SELECT coalesce(max(number), 0) FROM request";
-    let last = connection.query_row(last, [], |r| r.get(0))?;
-    let mut progress = Progress::new("holds", last);
+fn replayed(store: &dyn Store, asked: &Asked, by: &By) -> Result<Report, Unfit> {
+    let mut progress = Progress::new("holds", store.last()?);
     let mut at = |number| progress.at(number);
-    let names = journal::head(connection, file)?.policy.names;
+    let names = store.head()?.policy.names;
     let mut measure = Measure::new(asked, names, &mut at);
-    let found = journal::of(connection, file, true, &mut measure);
+    let found = journal::of(store, true, &mut measure);
     measure.finish();
     let Measure {
         holds,
@@ -93,8 +90,8 @@ fn replayed(connection: &Connection, file: &str, asked: &Asked, by: &By) -> Resu
     progress.end();
     let mut report = Report::new(found?, names, asked, by, holds, totals, worst);
     for name in report.wanted() {
-        let named = journal::name_of_opening(connection, name)?;
-        report.name(name, named);
+        let named = store.name_of_opening(name)?;
+        report.name(name, named.map(|name| crate::names::shown(&name)));
     }
     Ok(report)
 }

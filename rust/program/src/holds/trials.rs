@@ -404,8 +404,8 @@ fn measured(file: &str, pairs: Vec<Pair>, end: End, since: i64, until: i64) -> R
         zone: Zone(0),
         worst: usize::MAX,
     };
-    let connection = reading(file).unwrap();
-    let report = super::replayed(&connection, file, &asked, &By::Day);
+    let store = reading(file).unwrap_or_else(|why| panic!("{why:?}"));
+    let report = super::replayed(&*store, &asked, &By::Day);
     report.unwrap_or_else(|unfit| panic!("{}", unfit.0))
 }
 

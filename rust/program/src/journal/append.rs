@@ -3,11 +3,13 @@
 use super::begin::{fields, now, PROGRAM};
 use super::chain::{Chain, Note, Start, Sum};
 use super::clock::{Clock, Jump};
+use super::file::reading;
 use super::files::{self, Identity, Locks, Reserve};
-use super::found::{reading, Unfit};
+use super::found::Unfit;
 use super::links::{Kept, Links};
 use super::rows::record;
 use super::snapshot::Snapshot;
+use super::store::Writes;
 use super::{
     found, head, renew, tables, Barred, Bytes, Found, Known, Live, Recorded, Row, Whose, VERSION,
 };
@@ -26,6 +28,8 @@ pub enum Saved {
     Full,
     /// The system has it: nothing answered is lost when the program is killed; the last of it may be when the power fails.
     Normal,
+    /// As `Full`, and a standby of the database has it too: nothing answered is lost with a machine.
+    Replicated,
 }
 
 /// Why a group was not written.
@@ -75,6 +79,11 @@ impl Journal {
         policy: Option<&Policy>,
     ) -> Result<(Journal, Found), Stop> {
         let refused = |why: String| Stop::Refused(vec![format!("{file}: {why}")]);
+        if saved == Saved::Replicated {
+            return Err(Stop::Wrong(vec![format!(
+                "{file}: --saved replicated: a file has no standby; a journal in PostgreSQL has (docs/SCALE.md)"
+            )]));
+        }
         let path = Path::new(file);
         // Where it is none, no file is made beside it.
         let read = reading(file);
@@ -84,12 +93,7 @@ impl Journal {
         drop(read);
         // What an earlier version wrote is asked anew from its load on before it is written anew.
         let found = found(file, version < VERSION)?;
-        if let Some(given) = policy.filter(|given| given.bytes != found.policy.bytes) {
-            let (given, begun) = (&given.file, &found.policy.file);
-            return Err(refused(format!(
-                "it is of another policy than {given}: it was begun with {begun}"
-            )));
-        }
+        found.of_policy(policy).map_err(refused)?;
         let unwritten = |why: String| refused(format!("it cannot be written: {why}"));
         guarded(path).map_err(unwritten)?;
         let opened = opened(file, saved);
@@ -153,30 +157,6 @@ impl Journal {
         }
         act.commit()?;
         self.chain.note(&Note::Start(start));
-        Ok(())
-    }
-
-    /// The time of a group that is written now.
-    pub fn time(&mut self) -> i64 {
-        let (time, jump) = self.clock.time();
-        if let Some(jump) = jump {
-            // Two jumps between two groups are one.
-            let expected = self.jump.map_or(jump.expected, |before| before.expected);
-            self.jump = Some(Jump { expected, ..jump });
-        }
-        time
-    }
-
-    /// Writes a group. Where the disk is full, the log is moved into the journal with the room of the reserve, and the group tried once more.
-    pub fn write(&mut self, group: &Group) -> Result<(), Failed> {
-        let mut done = self.tried(group);
-        if matches!(done, Err(Failed::NotDone(_))) && self.freed() {
-            done = self.tried(group);
-        }
-        done?;
-        // What was written into files that are no longer the journal's is lost, and nobody is answered.
-        let log = self.identity.kept().map_err(Failed::Lost)?;
-        self.watched(log);
         Ok(())
     }
 
@@ -305,18 +285,6 @@ impl Journal {
         }
     }
 
-    /// What these accounts were answered under these keys since a time.
-    pub fn known(&mut self, keyed: &[Whose], since: i64) -> Result<Known, Failed> {
-        let mut known = Known::new();
-        for whose in keyed {
-            let recorded = self.recorded(whose, since);
-            if let Some(recorded) = recorded.map_err(|why| failed(&why))? {
-                known.insert(whose.clone(), recorded);
-            }
-        }
-        Ok(known)
-    }
-
     /// The last request that an account sent with a key: here, or in the journal that the desk was moved from.
     fn recorded(&self, (account, key): &Whose, since: i64) -> rusqlite::Result<Option<Recorded>> {
         let mut select = self.connection.prepare_cached(tables::KNOWN)?;
@@ -336,9 +304,47 @@ impl Journal {
         });
         found.optional()
     }
+}
+
+impl Writes for Journal {
+    /// The time of a group that is written now.
+    fn time(&mut self) -> i64 {
+        let (time, jump) = self.clock.time();
+        if let Some(jump) = jump {
+            // Two jumps between two groups are one.
+            let expected = self.jump.map_or(jump.expected, |before| before.expected);
+            self.jump = Some(Jump { expected, ..jump });
+        }
+        time
+    }
+
+    /// Writes a group. Where the disk is full, the log is moved into the journal with the room of the reserve, and the group tried once more.
+    fn write(&mut self, group: &Group) -> Result<(), Failed> {
+        let mut done = self.tried(group);
+        if matches!(done, Err(Failed::NotDone(_))) && self.freed() {
+            done = self.tried(group);
+        }
+        done?;
+        // What was written into files that are no longer the journal's is lost, and nobody is answered.
+        let log = self.identity.kept().map_err(Failed::Lost)?;
+        self.watched(log);
+        Ok(())
+    }
+
+    /// What these accounts were answered under these keys since a time.
+    fn known(&mut self, keyed: &[Whose], since: i64) -> Result<Known, Failed> {
+        let mut known = Known::new();
+        for whose in keyed {
+            let recorded = self.recorded(whose, since);
+            if let Some(recorded) = recorded.map_err(|why| failed(&why))? {
+                known.insert(whose.clone(), recorded);
+            }
+        }
+        Ok(known)
+    }
 
     /// What is to be looked at while nobody asks: the files, and the log.
-    pub fn looked_after(&mut self) -> Result<(), Failed> {
+    fn looked_after(&mut self) -> Result<(), Failed> {
         let log = self.identity.kept().map_err(Failed::Lost)?;
         if log > 2 * self.reserve.bytes() && self.truncated() {
             self.large = 4 * self.reserve.bytes();
@@ -347,7 +353,7 @@ impl Journal {
     }
 
     /// Takes a snapshot of the desk as it stands, and moves the log into the journal: what comes last at an end that was asked for.
-    pub fn finish(&mut self, state: &State, live: &Live) -> Result<(), Failed> {
+    fn finish(&mut self, state: &State, live: &Live) -> Result<(), Failed> {
         let done = match self.last > self.snapshot {
             true => self.keep(self.last, self.chain.head(), state, live),
             false => Ok(()),
@@ -453,7 +459,7 @@ fn opened(file: &str, saved: Saved) -> rusqlite::Result<Connection> {
         None,
         "synchronous",
         match saved {
-            Saved::Full => "FULL",
+            Saved::Full | Saved::Replicated => "FULL",
             Saved::Normal => "NORMAL",
         },
     )?;

@@ -1,6 +1,7 @@
 //! A journal whose requests come at times that the caller chooses: what simulated desks leave, and what tests read.
 
 use super::append::Failed;
+use super::store::Writes;
 use super::{begin, user_of, Bytes, Group, Journal, Live, Row, Saved};
 use crate::names::Naming;
 use crate::source::Policy;

@@ -3,8 +3,8 @@
 use super::about::about;
 use super::chain::Sum;
 use super::files::{self, Locks};
-use super::head;
 use super::views::VIEWS;
+use super::{head, postgres};
 use super::{tables, APPLICATION, VERSION};
 use crate::desk::Desk;
 use crate::names::{Naming, Sort};
@@ -36,7 +36,7 @@ pub fn now() -> i64 {
 /// The longest name that a journal takes, in bytes.
 pub const LONGEST_NAME: usize = 64;
 
-/// Makes a journal of an accepted policy, where there is none. A refused policy is told by the caller.
+/// Makes a journal of an accepted policy, where there is none, in a file or in a database. A refused policy is told by the caller.
 pub fn begin(file: &str, policy: &Policy) -> Result<Result<(), Refused>, Stop> {
     if let Err(refused) = Desk::open(policy) {
         return Ok(Err(refused));
@@ -47,6 +47,13 @@ pub fn begin(file: &str, policy: &Policy) -> Result<Result<(), Refused>, Stop> {
             "{}: the name of {word} {number} has {length} bytes: a journal takes {LONGEST_NAME}",
             policy.file
         ));
+    }
+    if postgres::is_database(file) {
+        let made = postgres::Place::of(file).and_then(|place| postgres::begin(&place, policy));
+        let shown = postgres::shown(file);
+        return made
+            .map(Ok)
+            .map_err(|why| Stop::Wrong(vec![format!("{shown}: it cannot be made: {why}")]));
     }
     let (place, new) = (Path::new(file), beside(Path::new(file), ".new"));
     // Whoever begins one at the same time waits for none of it.
@@ -154,6 +161,17 @@ pub fn sealed(act: &Connection) -> rusqlite::Result<Sum> {
     Ok(sum)
 }
 
+/// The kinds of requests: each with its line, and which fields are the subject, the order and the task.
+pub fn kinds() -> impl Iterator<Item = (u8, String, [Option<&'static str>; 3])> {
+    let requests = FORMS.into_iter().filter(|&(kind, _)| kind >= 32);
+    requests.map(|(kind, pattern)| {
+        let line: Vec<String> = parts(pattern).map(|part| part.to_string()).collect();
+        let of = |sort| about(kind).column(sort);
+        let columns = [of(Sort::Subject), of(Sort::Order), of(Sort::Task)];
+        (kind, line.join(" "), columns)
+    })
+}
+
 /// The replies' names and the kinds' lines, for those who read with SQL.
 fn words(act: &Connection) -> rusqlite::Result<()> {
     for reply in Reply::ALL {
@@ -162,18 +180,10 @@ fn words(act: &Connection) -> rusqlite::Result<()> {
             params![reply.number(), reply.name()],
         )?;
     }
-    for (kind, pattern) in FORMS.into_iter().filter(|&(kind, _)| kind >= 32) {
-        let line: Vec<String> = parts(pattern).map(|part| part.to_string()).collect();
-        let of = |sort| about(kind).column(sort);
+    for (kind, line, [subject, order, task]) in kinds() {
         act.execute(
             "INSERT OR REPLACE INTO kind VALUES (?1, ?2, ?3, ?4, ?5)",
-            params![
-                kind,
-                line.join(" "),
-                of(Sort::Subject),
-                of(Sort::Order),
-                of(Sort::Task)
-            ],
+            params![kind, line, subject, order, task],
         )?;
     }
     Ok(())

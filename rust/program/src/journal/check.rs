@@ -4,17 +4,16 @@
 
 use super::found::{self, unfit, Found, Unfit};
 use super::seal::{Seal, UNCHAINED};
-use super::snapshot::snapshot_after;
-use super::Row;
+use super::store::{reading, Store};
+use super::{shown, Row};
 use crate::stop::{Done, Stop, WELL};
 use mishantral::Engine;
-use rusqlite::Connection;
 use std::io::Write;
 
 pub fn check(file: &str, seal: Option<&Seal>, out: &mut dyn Write) -> Done {
-    found::there(file)?;
-    let checked = found::reading(file).map_err(Unfit::from);
-    let checked = checked.and_then(|connection| whole(&connection, file, seal));
+    let store = reading(file)?;
+    let file = &shown(file);
+    let checked = whole(&*store, seal);
     let Checked {
         requests,
         snapshots,
@@ -47,28 +46,21 @@ struct Checked {
     other: usize,
 }
 
-fn whole(connection: &Connection, file: &str, seal: Option<&Seal>) -> Result<Checked, Unfit> {
-    let sound: String = connection.query_row("PRAGMA integrity_check(1)", [], |r| r.get(0))?;
-    if sound != "ok" {
-        return unfit(format!("it is damaged: {sound}"));
-    }
+fn whole(store: &dyn Store, seal: Option<&Seal>) -> Result<Checked, Unfit> {
+    store.sound()?;
     if let Some(seal) = seal {
-        begins(connection, file, seal)?;
+        begins(store, seal)?;
     }
-    let kept: Vec<i64> = {
-        let mut select = connection.prepare("SELECT after FROM snapshot ORDER BY after")?;
-        let rows = select.query_map([], |r| r.get(0))?;
-        rows.collect::<Result<_, _>>()?
-    };
+    let kept = store.snapshots()?;
     let mut next = kept.iter().copied().peekable();
     let (mut same, mut other) = (0, 0);
-    let found = found::of(connection, file, true, &mut |row: &Row, found: &Found| {
+    let found = found::of(store, true, &mut |row: &Row, found: &Found| {
         if seal.and_then(|seal| seal.met(row.number, &found.links)) == Some(false) {
             return unfit(changed(row.number));
         }
         if next.peek() == Some(&row.number) {
             next.next();
-            match compared(connection, row.number, found)? {
+            match compared(store, row.number, found)? {
                 true => same += 1,
                 false => other += 1,
             }
@@ -96,8 +88,8 @@ fn changed(number: i64) -> String {
 }
 
 /// A seal of a journal without requests is of its head.
-fn begins(connection: &Connection, file: &str, seal: &Seal) -> Result<(), Unfit> {
-    let head = super::head(connection, file)?;
+fn begins(store: &dyn Store, seal: &Seal) -> Result<(), Unfit> {
+    let head = store.head()?;
     if head.links.head().is_none() {
         return unfit(UNCHAINED);
     }
@@ -109,11 +101,11 @@ fn begins(connection: &Connection, file: &str, seal: &Seal) -> Result<(), Unfit>
 
 /// The snapshot after a request must be the desk there: the engine's state as the tables read, the names and the openings. One of another
 /// layout is not compared.
-fn compared(connection: &Connection, after: i64, found: &Found) -> Result<bool, Unfit> {
-    let Some(taken) = snapshot_after(connection, after)? else {
+fn compared(store: &dyn Store, after: i64, found: &Found) -> Result<bool, Unfit> {
+    let Some(taken) = store.snapshot_after(after)? else {
         return Ok(false);
     };
-    taken.bound(connection)?;
+    taken.bound(store)?;
     let fits = taken.fits();
     let live = taken.live()?;
     let same = (!fits || Engine::from_state(taken.state()?) == found.engine)

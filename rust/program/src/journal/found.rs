@@ -2,15 +2,15 @@
 //! written here: a journal that is refused stays as it is.
 
 use super::about::user_of;
-use super::head::{head, Head};
+use super::head::Head;
 use super::links::{Kept, Links};
-use super::rows::{self, Step};
-use super::snapshot::{snapshot_before, Snapshot};
-use super::{Live, Row};
+use super::rows::Step;
+use super::snapshot::Snapshot;
+use super::store::{reading, Store};
+use super::{shown, Live, Row};
 use crate::source::Policy;
 use crate::stop::Stop;
 use mishantral::Engine;
-use rusqlite::{Connection, OpenFlags};
 
 /// A desk as its journal leaves it.
 pub struct Found {
@@ -50,14 +50,6 @@ pub fn unfit<T>(why: impl Into<String>) -> Result<T, Unfit> {
     Err(Unfit(why.into()))
 }
 
-/// Opens a journal for reading alone.
-pub fn reading(file: &str) -> rusqlite::Result<Connection> {
-    let flags = OpenFlags::SQLITE_OPEN_READ_ONLY | OpenFlags::SQLITE_OPEN_NO_MUTEX;
-    let connection = Connection::open_with_flags(file, flags)?;
-    connection.busy_timeout(std::time::Duration::from_secs(10))?;
-    Ok(connection)
-}
-
 /// Reads a journal: from its last snapshot, or where `whole` from the load on.
 pub fn found(file: &str, whole: bool) -> Result<Found, Stop> {
     read(file, whole, &mut |_: &Row, _: &Found| Ok(()))
@@ -72,10 +64,9 @@ pub fn replay(file: &str, look: &mut dyn FnMut(&Row, &Found)) -> Result<Found, S
 }
 
 fn read(file: &str, whole: bool, look: &mut dyn Look) -> Result<Found, Stop> {
-    there(file)?;
-    let read = reading(file).map_err(Unfit::from);
-    let read = read.and_then(|connection| of(&connection, file, whole, look));
-    read.map_err(|Unfit(why)| Stop::Refused(vec![format!("{file}: {why}")]))
+    let store = reading(file)?;
+    let read = of(&*store, whole, look);
+    read.map_err(|Unfit(why)| Stop::Refused(vec![format!("{}: {why}", shown(file))]))
 }
 
 /// Whoever looks on while a journal is asked anew.
@@ -106,22 +97,14 @@ pub fn there(file: &str) -> Result<(), Stop> {
 }
 
 /// The same of an open one; `look` sees each row that is asked anew.
-pub fn of(
-    connection: &Connection,
-    file: &str,
-    whole: bool,
-    look: &mut dyn Look,
-) -> Result<Found, Unfit> {
-    // One reading of one state, whatever is written meanwhile.
-    let act = connection.unchecked_transaction()?;
-    let mut found = Found::loaded(head(&act, file)?)?;
+pub fn of(store: &dyn Store, whole: bool, look: &mut dyn Look) -> Result<Found, Unfit> {
+    let mut found = Found::loaded(store.head()?)?;
     if !whole {
-        found.skip(&act)?;
+        found.skip(store)?;
     }
-    found.behind(&act, look)?;
+    found.behind(store, look)?;
     if found.replayed == 0 && found.last > 0 {
-        let at = "SELECT at FROM request WHERE number = ?1";
-        found.at = act.query_row(at, [found.last], |r| r.get(0))?;
+        found.at = store.kept(found.last)?.map_or(0, |(_, at)| at);
     }
     Ok(found)
 }
@@ -153,11 +136,11 @@ impl Found {
     }
 
     /// Goes on from the last snapshot, where its layout is the library's.
-    fn skip(&mut self, act: &Connection) -> Result<(), Unfit> {
-        let Some(taken) = snapshot_before(act, i64::MAX)? else {
+    fn skip(&mut self, store: &dyn Store) -> Result<(), Unfit> {
+        let Some(taken) = store.snapshot_before(i64::MAX)? else {
             return Ok(());
         };
-        taken.bound(act)?;
+        taken.bound(store)?;
         if !taken.fits() {
             self.relaid = true;
             return Ok(());
@@ -171,9 +154,8 @@ impl Found {
     }
 
     /// Asks every request anew that is behind this one.
-    fn behind(&mut self, act: &Connection, look: &mut dyn Look) -> Result<(), Unfit> {
-        let of = (self.version, "request");
-        let known = rows::each(act, of, self.last, &mut |step| match step {
+    fn behind(&mut self, store: &dyn Store, look: &mut dyn Look) -> Result<(), Unfit> {
+        let known = store.each(self.version, self.last, &mut |step| match step {
             Step::Note(note) => {
                 self.links.note(&note);
                 Ok(())
@@ -190,6 +172,18 @@ impl Found {
             None => Ok(()),
             Some(known) => unfit(format!(
                 "it was cut: it ends with request {last}, and its other tables know of request {known}"
+            )),
+        }
+    }
+
+    /// It must be of a policy, where one is given; or what is told.
+    pub fn of_policy(&self, policy: Option<&Policy>) -> Result<(), String> {
+        let other = |given: &&Policy| given.bytes != self.policy.bytes;
+        match policy.filter(other) {
+            None => Ok(()),
+            Some(given) => Err(format!(
+                "it is of another policy than {}: it was begun with {}",
+                given.file, self.policy.file
             )),
         }
     }

@@ -2,11 +2,11 @@
 //! as it was at the time of the row.
 
 use super::about::about;
-use super::found::{self, Unfit};
-use super::head::{head, Head};
-use super::rows::{given, moved, row, select};
-use super::snapshot::snapshot_before;
-use super::{Live, Row};
+use super::found::Unfit;
+use super::head::Head;
+use super::rows::Step;
+use super::store::{reading, Store};
+use super::{shown, Barred, Live, Row};
 use crate::names::{name_of, Names, Sort};
 use crate::stop::{Done, Stop, WELL};
 use crate::writer;
@@ -115,12 +115,17 @@ struct Lines<'a> {
     out: &'a mut dyn Write,
     last: Option<usize>,
     kept: VecDeque<String>,
+    failed: Option<std::io::Error>,
 }
 
 impl Lines<'_> {
-    fn put(&mut self, line: String) -> std::io::Result<()> {
+    /// A line that cannot be written ends the listing; why is kept for its end.
+    fn put(&mut self, line: String) -> Result<(), Unfit> {
         let Some(count) = self.last else {
-            return writeln!(self.out, "{line}");
+            return writeln!(self.out, "{line}").map_err(|why| {
+                self.failed = Some(why);
+                Unfit("the output could not be written".to_string())
+            });
         };
         self.kept.push_back(line);
         if self.kept.len() > count {
@@ -136,76 +141,58 @@ impl Lines<'_> {
 }
 
 pub fn list(file: &str, filter: &Filter, out: &mut dyn Write) -> Done {
-    let stop = |Unfit(why): Unfit| Stop::Refused(vec![format!("{file}: {why}")]);
-    found::there(file)?;
-    let connection = found::reading(file).map_err(|why| stop(why.into()))?;
+    let stop = |Unfit(why): Unfit| Stop::Refused(vec![format!("{}: {why}", shown(file))]);
+    let store = &*reading(file)?;
     let Head {
         policy, version, ..
-    } = head(&connection, file).map_err(stop)?;
-    let picked = picked(&connection, filter, &policy.names)?;
+    } = store.head().map_err(stop)?;
+    let picked = picked(store, filter, &policy.names)?;
     let mut lines = Lines {
         out,
         last: filter.last,
         kept: VecDeque::new(),
+        failed: None,
     };
     let listing = Listing {
-        connection: &connection,
+        store,
         version,
         picked,
         filter,
     };
-    match filter.barred {
+    let listed = match filter.barred {
         true => listing.barred(&mut lines),
         false => listing.requests(Live::new(policy.names), &mut lines),
+    };
+    if let Some(why) = lines.failed.take() {
+        return Err(why.into());
     }
-    .map_err(|why| match why {
-        Ended::Unfit(why) => stop(why),
-        Ended::Out(why) => why.into(),
-    })?;
+    listed.map_err(stop)?;
     lines.end()?;
     Ok(WELL)
 }
 
-/// Why a listing ended early.
-enum Ended {
-    Unfit(Unfit),
-    Out(std::io::Error),
-}
-
-impl<T: Into<Unfit>> From<T> for Ended {
-    fn from(why: T) -> Ended {
-        Ended::Unfit(why.into())
-    }
-}
-
 struct Listing<'a> {
-    connection: &'a Connection,
+    store: &'a dyn Store,
     version: i64,
     picked: Picked,
     filter: &'a Filter,
 }
 
 impl Listing<'_> {
-    fn requests(&self, policy: Live, lines: &mut Lines) -> Result<(), Ended> {
-        // One reading of one state, whatever is written meanwhile.
-        let act = self.connection.unchecked_transaction()?;
-        let first = self.first(&act)?;
-        let before = snapshot_before(&act, first)?;
+    fn requests(&self, policy: Live, lines: &mut Lines) -> Result<(), Unfit> {
+        let first = self.first()?;
+        let before = self.store.snapshot_before(first)?;
         let after = before.as_ref().map_or(0, |taken| taken.after);
         let mut live = before.map_or(Ok(policy), |taken| taken.live())?;
-        let mut given = given(&act, after)?;
-        let mut jumps = self.jumps(&act)?;
-        let mut moved = moved(&act, self.version, after)?;
-        let mut select = act.prepare(&select(self.version, "request"))?;
-        let mut rows = select.query([after])?;
-        while let Some(columns) = rows.next()? {
-            let (mut row, _) = row(columns)?;
-            row.namings = given.remove(&row.number).unwrap_or_default();
-            row.moved = moved.remove(&row.number);
+        let mut jumps = self.jumps()?;
+        self.store.each(self.version, after, &mut |step| {
+            let Step::Row(row, _) = step else {
+                return Ok(());
+            };
             while jumps.front().is_some_and(|jump| jump.0 < row.number) {
                 let jump = jumps.pop_front().unwrap_or_default();
                 if jump.0 + 1 >= first {
-                    lines.put(self.jump(jump)).map_err(Ended::Out)?;
+                    lines.put(self.jump(jump))?;
                 }
             }
             // A name that this request gives holds in its own line, and so does one that it ends.
@@ -223,40 +210,36 @@ impl Listing<'_> {
                     true => object(&row, &live.names),
                     false => line(&row, &live.names),
                 };
-                lines.put(text).map_err(Ended::Out)?;
+                lines.put(text)?;
             }
             if !begins {
                 follow(&mut live);
             }
-        }
+            Ok(())
+        })?;
         Ok(())
     }
 
     /// The first request that may be shown.
-    fn first(&self, act: &Connection) -> Result<i64, Unfit> {
+    fn first(&self) -> Result<i64, Unfit> {
         if self.filter.since.is_some() {
-            let first = "SELECT min(number) FROM request WHERE at >= ?1";
-            let first: Option<i64> = act.query_row(first, [self.picked.since], |r| r.get(0))?;
+            let first = self.store.first_since(self.picked.since)?;
             return Ok(first.unwrap_or(i64::MAX));
         }
         match self.filter.last {
             Some(count) if self.picked.is_all() => {
-                let last = "SELECT coalesce(max(number), 0) FROM request";
-                let last: i64 = act.query_row(last, [], |r| r.get(0))?;
-                Ok((last - count as i64 + 1).max(1))
+                Ok((self.store.last()? - count as i64 + 1).max(1))
             }
             _ => Ok(1),
         }
     }
 
     /// When the clock was set: behind which request, and from which time to which. Only a listing of everything has them.
-    fn jumps(&self, act: &Connection) -> Result<VecDeque<(i64, i64, i64)>, Unfit> {
-        if !self.picked.is_all() {
-            return Ok(VecDeque::new());
+    fn jumps(&self) -> Result<VecDeque<(i64, i64, i64)>, Unfit> {
+        match self.picked.is_all() {
+            true => Ok(self.store.jumps()?.into()),
+            false => Ok(VecDeque::new()),
         }
-        let mut select = act.prepare("SELECT after, expected, found FROM clock ORDER BY id")?;
-        let rows = select.query_map([], |r| Ok((r.get(0)?, r.get(1)?, r.get(2)?)))?;
-        Ok(rows.collect::<Result<_, _>>()?)
     }
 
     fn jump(&self, (after, expected, found): (i64, i64, i64)) -> String {
@@ -267,29 +250,36 @@ impl Listing<'_> {
         }
     }
 
-    fn barred(&self, lines: &mut Lines) -> Result<(), Ended> {
-        let mut select = self.connection.prepare(
-            "SELECT at, after, client, account, via, asked, why FROM barred WHERE at >= ?1 AND at < ?2 ORDER BY id",
-        )?;
-        let mut rows = select.query([self.picked.since, self.picked.until])?;
-        while let Some(r) = rows.next()? {
-            let (at, after, client): (i64, i64, i64) = (r.get(0)?, r.get(1)?, r.get(2)?);
-            let (account, via): (String, Option<String>) = (r.get(3)?, r.get(4)?);
-            let (asked, why): (String, String) = (r.get(5)?, r.get(6)?);
-            if self.picked.account.as_ref().is_some_and(|a| *a != account) {
-                continue;
+    fn barred(&self, lines: &mut Lines) -> Result<(), Unfit> {
+        let (since, until) = (self.picked.since, self.picked.until);
+        self.store.barred(since, until, &mut |after, barred| {
+            let Barred {
+                at,
+                client,
+                account,
+                via,
+                asked,
+                why,
+                ..
+            } = barred;
+            if self
+                .picked
+                .account
+                .as_ref()
+                .is_some_and(|a| **a != *account)
+            {
+                return Ok(());
             }
             let text = match self.filter.json {
                 true => json!({
                     "at": at, "time": time(at), "after": after, "client": client,
-                    "account": account, "via": via, "asked": asked, "barred": why,
+                    "account": &*account, "via": via.as_deref(), "asked": asked, "barred": why,
                 })
                 .to_string(),
                 false => format!("{}  {account:<12}  {asked}  (barred: {why})", time(at)),
             };
-            lines.put(text).map_err(Ended::Out)?;
-        }
-        Ok(())
+            lines.put(text)
+        })
     }
 }
 
@@ -297,14 +287,10 @@ fn wrong(text: String) -> Stop {
     Stop::Wrong(vec![text])
 }
 
-fn picked(connection: &Connection, filter: &Filter, policy: &Names) -> Result<Picked, Stop> {
-    let failed = |why: rusqlite::Error| wrong(format!("the journal cannot be read: {why}"));
-    // The requests that gave a name to one of a sort.
-    let gave = |sort: Sort, name: &[u8]| -> Result<BTreeSet<i64>, Stop> {
-        let select = "SELECT request FROM name WHERE sort = ?1 AND name = ?2";
-        let mut select = connection.prepare(select).map_err(failed)?;
-        let rows = select.query_map((sort.word(), name), |r| r.get(0));
-        rows.and_then(Iterator::collect).map_err(failed)
+fn picked(store: &dyn Store, filter: &Filter, policy: &Names) -> Result<Picked, Stop> {
+    let gave = |sort: Sort, name: &[u8]| {
+        let gave = store.gave(sort, name);
+        gave.map_err(|Unfit(why)| wrong(why))
     };
     let whose = |sort: Sort, word: &Option<String>| -> Result<Option<Whose>, Stop> {
         let Some(word) = word else {
@@ -341,31 +327,23 @@ fn picked(connection: &Connection, filter: &Filter, policy: &Names) -> Result<Pi
                 Some(replies(word).ok_or_else(|| wrong(format!("there is no reply {word:?}")))?)
             }
         },
-        since: time_of(connection, filter.since.as_deref(), i64::MIN)?,
-        until: time_of(connection, filter.until.as_deref(), i64::MAX)?,
+        since: time_of(filter.since.as_deref(), i64::MIN)?,
+        until: time_of(filter.until.as_deref(), i64::MAX)?,
     })
 }
 
 /// A time as people write it, UTC, in microseconds since 1970.
 pub fn moment(word: &str) -> Result<i64, Stop> {
-    let failed = |why: rusqlite::Error| Stop::Wrong(vec![format!("{word}: {why}")]);
-    let connection = Connection::open_in_memory().map_err(failed)?;
-    time_of(&connection, Some(word), i64::MIN)
-}
-
-/// The name that an opening of an order was given, by the request that opened it.
-pub fn name_of_opening(connection: &Connection, opening: i64) -> Result<Option<String>, Unfit> {
-    let sql = "SELECT name FROM name WHERE request = ?1 AND sort = 'order'";
-    let mut select = connection.prepare_cached(sql)?;
-    let name: Option<Vec<u8>> = select.query_row([opening], |r| r.get(0)).optional()?;
-    Ok(name.map(|name| crate::names::shown(&name)))
+    time_of(Some(word), i64::MIN)
 }
 
 /// A time as SQLite reads it, in microseconds since 1970; `else_at` where none is given.
-pub fn time_of(connection: &Connection, word: Option<&str>, else_at: i64) -> Result<i64, Stop> {
+pub fn time_of(word: Option<&str>, else_at: i64) -> Result<i64, Stop> {
     let Some(word) = word else {
         return Ok(else_at);
     };
+    let failed = |why: rusqlite::Error| wrong(format!("{word}: {why}"));
+    let connection = Connection::open_in_memory().map_err(failed)?;
     let read = "SELECT CAST((julianday(?1) - 2440587.5) * 86400000.0 + 0.5 AS INTEGER) * 1000";
     let at: Option<Option<i64>> = connection
         .query_row(read, [word], |r| r.get(0))
@@ -377,35 +355,6 @@ pub fn time_of(connection: &Connection, word: Option<&str>, else_at: i64) -> Res
             "{word:?} is no time: write 2026-11-15, or 2026-11-15 20:31:07"
         ))
     })
-}
-
-/// Rows of a select behind the columns of a request.
-fn rows_of(file: &str, behind: &str, parameter: i64) -> Result<Vec<Row>, Unfit> {
-    let connection = found::reading(file)?;
-    // Keys are not wanted here: so it is the same whatever the version.
-    let all = select(2, "request");
-    let columns = all.split(" WHERE ").next().unwrap_or_default();
-    let mut select = connection.prepare(&format!("{columns} {behind}"))?;
-    let mut rows = select.query([parameter])?;
-    let mut all = Vec::new();
-    while let Some(columns) = rows.next()? {
-        all.push(row(columns)?.0);
-    }
-    Ok(all)
-}
-
-/// The granted requests from this one on that open, end or work on orders, without the names that they give.
-pub fn worked(file: &str, first: i64) -> Result<Vec<Row>, Unfit> {
-    let behind = "WHERE number >= ?1 AND reply = 0 AND kind BETWEEN 48 AND 52 ORDER BY number";
-    rows_of(file, behind, first)
-}
-
-/// The last so many requests that were refused, in their order.
-pub fn refused(file: &str, count: usize) -> Result<Vec<Row>, Unfit> {
-    let behind = "WHERE reply <> 0 ORDER BY number DESC LIMIT ?1";
-    let mut rows = rows_of(file, behind, count as i64)?;
-    rows.reverse();
-    Ok(rows)
 }
 
 fn replies(word: &str) -> Option<Replies> {

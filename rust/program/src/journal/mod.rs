@@ -1,4 +1,4 @@
-//! The journal of a desk: an SQLite file with the policy, every request with its reply, and snapshots of the state (docs/SERVE.md).
+//! The journal of a desk: an SQLite file, or tables of PostgreSQL, with the policy, every request with its reply, and snapshots of the state (docs/SERVE.md).
 //! A request is in it before its reply is sent; who starts again reads it and is where the desk was.
 
 mod about;
@@ -9,16 +9,19 @@ mod chain;
 mod check;
 mod checksums;
 mod clock;
+mod file;
 mod files;
 mod found;
 mod head;
 mod links;
 mod listing;
 mod live;
+mod postgres;
 mod renew;
 mod rows;
 mod seal;
 mod snapshot;
+mod store;
 mod tables;
 mod views;
 
@@ -28,15 +31,15 @@ pub use author::Author;
 pub use begin::{begin, LONGEST_NAME};
 pub use check::check;
 pub use files::{lock, private};
-pub use found::{found, of, reading, replay, said, there, Found, Look, Unfit};
-pub use head::head;
-pub use listing::{list, moment, name_of_opening, refused, time, time_of, worked, Filter};
+pub use found::{found, of, replay, said, there, Found, Look, Unfit};
+pub use listing::{list, moment, time, time_of, Filter};
 pub use live::Live;
+pub use postgres::{is_database, shown, with_desk, Sight, Takeover, Watch};
 pub use seal::{print as print_seal, Seal};
+pub use store::{is_there, open, reading, How, Known, Store, Whose, Writes};
 
 use crate::names::Naming;
 use records::{Record, LENGTH};
-use std::collections::HashMap;
 use std::sync::Arc;
 
 /// The version of the tables that is written.
@@ -141,12 +144,6 @@ impl Recorded {
         }
     }
 }
-
-/// An account and a key of its own.
-pub type Whose = (Arc<str>, Arc<str>);
-
-/// What accounts were answered under their keys.
-pub type Known = HashMap<Whose, Recorded>;
 
 /// What an account may not ask: it was not put to the engine.
 #[derive(Clone, PartialEq, Eq, Debug)]

@@ -63,7 +63,7 @@ pub fn each(
 }
 
 /// The requests behind one, as `row` takes them.
-pub fn select(version: i64, table: &str) -> String {
+fn select(version: i64, table: &str) -> String {
     let key = if version < 3 { "NULL" } else { "key" };
     format!(
         "SELECT number, at, client, account, via, user, kind, n, a, b, c, m, cut, reply, place, opening, {key}, sum \
@@ -71,8 +71,21 @@ pub fn select(version: i64, table: &str) -> String {
     )
 }
 
+/// The rows that a condition picks, without their keys: so it is the same whatever the version.
+pub fn rows_of(act: &Connection, picked: &str, value: i64) -> Result<Vec<Row>, Unfit> {
+    let all = select(2, "request");
+    let columns = all.split(" WHERE ").next().unwrap_or_default();
+    let mut select = act.prepare(&format!("{columns} WHERE {picked}"))?;
+    let mut rows = select.query([value])?;
+    let mut all = Vec::new();
+    while let Some(columns) = rows.next()? {
+        all.push(row(columns)?.0);
+    }
+    Ok(all)
+}
+
 /// A row of `select`, without its namings and what it was moved from, and the sum that it has.
-pub fn row(columns: &rusqlite::Row) -> Result<(Row, Kept), Unfit> {
+fn row(columns: &rusqlite::Row) -> Result<(Row, Kept), Unfit> {
     let cut: Option<Vec<u8>> = columns.get(12)?;
     let bytes = match cut {
         Some(cut) => Bytes::of(&cut),
@@ -121,17 +134,6 @@ fn naming_of(rows: &mut Rows) -> Result<Option<(i64, Naming)>, Unfit> {
     Ok(Some((columns.get(0)?, naming(columns)?)))
 }
 
-/// The names that requests behind this one gave, by request; those of the policy are under 0, behind -1.
-pub fn given(act: &Connection, after: i64) -> Result<BTreeMap<i64, Vec<Naming>>, Unfit> {
-    let mut all: BTreeMap<i64, Vec<Naming>> = BTreeMap::new();
-    let mut rows = act.prepare(GIVEN)?;
-    let mut rows = rows.query([after])?;
-    while let Some((request, naming)) = naming_of(&mut rows)? {
-        all.entry(request).or_default().push(naming);
-    }
-    Ok(all)
-}
-
 pub fn naming(columns: &rusqlite::Row) -> Result<Naming, Unfit> {
     let word: String = columns.get(1)?;
     let Some(sort) = Sort::of_word(&word) else {
@@ -146,7 +148,7 @@ pub fn naming(columns: &rusqlite::Row) -> Result<Naming, Unfit> {
 }
 
 /// What requests behind one were moved from, by request: a move's requests alone, which are a desk's present.
-pub fn moved(act: &Connection, version: i64, after: i64) -> Result<BTreeMap<i64, Moved>, Unfit> {
+fn moved(act: &Connection, version: i64, after: i64) -> Result<BTreeMap<i64, Moved>, Unfit> {
     let mut all = BTreeMap::new();
     if version < 3 {
         return Ok(all);
@@ -173,8 +175,11 @@ UNION ALL SELECT after, 1, id, at, account, client, via, record, asked, why FROM
 UNION ALL SELECT after, 2, id, expected, NULL, found, NULL, NULL, NULL, NULL FROM clock WHERE after >= ?1
 ORDER BY after, sort, id";
 
+/// What was barred from one time to another, as `note_of` takes it.
+pub const BARRED: &str = "SELECT after, 1, id, at, account, client, via, record, asked, why FROM barred WHERE at >= ?1 AND at < ?2 ORDER BY id";
+
 /// The next note, with the request that it is behind.
-fn note_of(rows: &mut Rows) -> Result<Option<(i64, Note)>, Unfit> {
+pub fn note_of(rows: &mut Rows) -> Result<Option<(i64, Note)>, Unfit> {
     let Some(columns) = rows.next()? else {
         return Ok(None);
     };

@@ -3,6 +3,7 @@
 use super::chain::{hex, Sum};
 use super::found::{self, Found};
 use super::links::Links;
+use super::shown;
 use crate::stop::{Done, Stop, WELL};
 use std::io::Write;
 
@@ -58,7 +59,7 @@ pub const UNCHAINED: &str =
 pub fn print(file: &str, out: &mut dyn Write) -> Done {
     let found = found::found(file, false)?;
     let Some(seal) = Seal::of(&found) else {
-        return Err(Stop::Refused(vec![format!("{file}: {UNCHAINED}")]));
+        return Err(Stop::Refused(vec![format!("{}: {UNCHAINED}", shown(file))]));
     };
     writeln!(out, "{seal}")?;
     Ok(WELL)

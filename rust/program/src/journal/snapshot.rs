@@ -6,9 +6,10 @@ use super::chain::{Hash, Of};
 use super::checksums::Checksum;
 use super::found::{unfit, Unfit};
 use super::links::Kept;
+use super::store::Store;
 use super::{Live, LAYOUT};
 use mishantral::State;
-use rusqlite::{Connection, OptionalExtension};
+use rusqlite::Connection;
 
 pub struct Snapshot {
     pub after: i64,
@@ -117,16 +118,14 @@ impl Snapshot {
     }
 
     /// It must be bound to the request that it is after.
-    pub fn bound(&self, act: &Connection) -> Result<(), Unfit> {
+    pub fn bound(&self, store: &dyn Store) -> Result<(), Unfit> {
         let after = self.after;
-        let mut select = act.prepare_cached("SELECT sum FROM request WHERE number = ?1")?;
-        let kept = select.query_row([after], |r| Ok(Kept::of(r.get_ref(0)?)));
-        let Some(kept) = kept.optional()? else {
+        let Some((kept, _)) = store.kept(after)? else {
             return unfit(format!(
                 "it was cut: there is a snapshot after request {after}, and no such request"
             ));
         };
-        match kept? == self.row_sum {
+        match kept == self.row_sum {
             true => Ok(()),
             false => unfit(format!(
                 "it is damaged: the snapshot after request {after} is of another request"

@@ -31,6 +31,8 @@ pub struct Door {
 struct Inside {
     /// Why the desk has ended.
     ended: Option<String>,
+    /// The server that has it, where that is another.
+    elsewhere: Option<String>,
     /// The clients that are there, by number.
     clients: BTreeMap<i64, Arc<UnixStream>>,
     /// When the journal last kept that an account without authority came.
@@ -39,6 +41,11 @@ struct Inside {
 
 /// How often it is kept that the same stranger came, so that nobody fills a disk by coming.
 const MINUTE: Duration = Duration::from_secs(60);
+
+/// What is told of a desk that another server has.
+fn served_by(name: &str, server: &str) -> String {
+    format!("desk {name} is served by {server}")
+}
 
 /// A client that is at a desk as long as this lives.
 pub struct Entered {
@@ -94,9 +101,24 @@ impl Door {
         if let Some(why) = &inside.ended {
             return Err(why.clone());
         }
+        if let Some(server) = &inside.elsewhere {
+            return Err(served_by(&self.name, server));
+        }
         inside.clients.insert(number, stream.clone());
         let door = self.clone();
         Ok(Entered { door, number })
+    }
+
+    /// Another server has the desk, or this one has it from now on.
+    pub fn is_at(&self, server: Option<String>) {
+        self.inside().elsewhere = server;
+    }
+
+    /// Where the desk is, as those are told who ask for it here; none where it is here.
+    pub fn elsewhere(&self) -> Option<String> {
+        let inside = self.inside();
+        let server = inside.elsewhere.as_ref()?;
+        Some(served_by(&self.name, server))
     }
 
     pub fn ended(&self) -> Option<String> {

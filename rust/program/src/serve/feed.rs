@@ -2,7 +2,7 @@
 //! It decides nothing: what is allowed is asked of the engine.
 
 use super::meter::{Meter, OfDesk};
-use crate::journal::{self, Failed, Live, Row};
+use crate::journal::{self, Failed, Found, Live, Row};
 use crate::names::Names;
 use crate::writer;
 use std::collections::VecDeque;
@@ -60,10 +60,13 @@ impl Seen {
         let mut seen = Seen::default();
         let first = live.openings.iter().copied().filter(|&o| o != 0).min();
         // A journal that cannot be read here fails elsewhere, and says so there.
-        if let Ok(rows) = journal::worked(file, first.unwrap_or(i64::MAX)) {
+        let Ok(store) = journal::reading(file) else {
+            return seen;
+        };
+        if let Ok(rows) = store.worked(first.unwrap_or(i64::MAX)) {
             rows.iter().for_each(|row| seen.granted(row));
         }
-        if let Ok(rows) = journal::refused(file, REFUSALS) {
+        if let Ok(rows) = store.refused(REFUSALS as i64) {
             seen.refusals = rows.iter().map(|row| refusal(row, &live.names)).collect();
         }
         seen
@@ -157,6 +160,15 @@ impl Feed {
             figures: Mutex::new(figures),
             seen: seen.map(Mutex::new),
         }
+    }
+
+    /// The desk was taken over: what is seen of it is what its journal tells.
+    pub fn taken(&self, place: Option<&str>, found: &Found) {
+        if let (Some(mut seen), Some(place)) = (self.seen(), place) {
+            *seen = Seen::read(place, &found.live);
+        }
+        self.figures().last.set(found.last);
+        self.last.send_replace(found.last);
     }
 
     fn figures(&self) -> MutexGuard<'_, OfDesk> {

@@ -119,6 +119,12 @@ pub fn greeted(
                 Ok(())
             }
         };
+        // Whoever says the form goes on to its requests: not where another server has the desk.
+        let elsewhere = form.and(door.as_ref()).and_then(|door| door.elsewhere());
+        let done = match elsewhere {
+            Some(why) => Err(Told::Wrong(why)),
+            None => done,
+        };
         match done {
             Ok(()) => writeln!(out, "{said}")?,
             Err(told) => {

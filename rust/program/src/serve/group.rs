@@ -6,7 +6,7 @@ use super::feed::Feed;
 use super::form;
 use super::keys::{self, Remembered};
 use crate::journal::{
-    user_of, Barred, Bytes, Failed, Group, Journal, Known, Live, Recorded, Row, Whose,
+    user_of, Barred, Bytes, Failed, Group, Known, Live, Recorded, Row, Whose, Writes,
 };
 use crate::names::{Naming, Sort};
 use crate::writer;
@@ -120,7 +120,7 @@ pub enum Waiting {
 pub struct Served {
     pub engine: Engine,
     /// None where nothing is to survive.
-    pub journal: Option<Journal>,
+    pub journal: Option<Box<dyn Writes>>,
     /// The names and openings as of the last request that was asked.
     pub live: Live,
     /// The names as of the last answered request, which clients' lines are read with.
@@ -131,6 +131,8 @@ pub struct Served {
     pub last: i64,
     /// How many requests this and other desks have answered since the start.
     pub answered: Arc<AtomicU64>,
+    /// How often the journal is looked after.
+    pub pulse: Duration,
     /// For how long a key is honoured, in microseconds.
     pub keys: i64,
     /// The keys of a desk without a journal.
@@ -138,9 +140,6 @@ pub struct Served {
     /// What those who look on are told.
     pub feed: Arc<Feed>,
 }
-
-/// How often the journal's files are looked at while nobody asks.
-const IDLE: Duration = Duration::from_secs(1);
 
 /// What waits, taken at once.
 #[derive(Default)]
@@ -174,14 +173,15 @@ impl Taken {
 
 /// Serves until it is asked to end, or until the journal fails; then it says why.
 pub fn work(mut desk: Served, waiting: Receiver<Waiting>) -> Result<(), String> {
-    let mut taken = Taken::default();
+    let (mut taken, mut looked) = (Taken::default(), Instant::now());
     loop {
-        let first = match waiting.recv_timeout(IDLE) {
+        if looked.elapsed() >= desk.pulse {
+            desk.looked_after()?;
+            looked = Instant::now();
+        }
+        let first = match waiting.recv_timeout(desk.pulse) {
             Ok(first) => first,
-            Err(RecvTimeoutError::Timeout) => {
-                desk.looked_after()?;
-                continue;
-            }
+            Err(RecvTimeoutError::Timeout) => continue,
             Err(RecvTimeoutError::Disconnected) => Waiting::End,
         };
         let (mut next, mut count) = (Some(first), 0);
@@ -203,6 +203,18 @@ pub fn work(mut desk: Served, waiting: Receiver<Waiting>) -> Result<(), String> 
         if taken.ends {
             return desk.end(&waiting);
         }
+    }
+}
+
+/// Tells whoever asks a desk that is not here why it is not answered.
+pub fn refused(one: Waiting, why: &str) {
+    match one {
+        Waiting::Requests(mut batch) => {
+            batch.failed = Some(why.to_string());
+            batch.hand_back();
+        }
+        Waiting::Barred(_, to) => drop(to.send(false)),
+        Waiting::Look(_) | Waiting::End => {}
     }
 }
 
@@ -249,7 +261,7 @@ impl Served {
     }
 
     fn looked_after(&mut self) -> Result<(), String> {
-        match self.journal.as_mut().map(Journal::looked_after) {
+        match self.journal.as_mut().map(|journal| journal.looked_after()) {
             Some(Err(Failed::Lost(why) | Failed::NotDone(why))) => Err(why),
             _ => Ok(()),
         }
@@ -281,7 +293,7 @@ impl Served {
         let kept = self.journal.is_some();
         let before = kept.then(|| (self.engine.clone(), self.live.openings));
         let changes = self.live.changes;
-        let at = self.journal.as_mut().map_or(0, Journal::time);
+        let at = self.journal.as_mut().map_or(0, |journal| journal.time());
         let mut known = self.known(group, part, at)?;
         let mut again: Vec<(usize, usize, Recorded)> = Vec::new();
         let mut rows: Vec<Row> = Vec::with_capacity(part.len());

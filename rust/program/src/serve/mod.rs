@@ -16,18 +16,19 @@ mod keys;
 mod listen;
 mod meter;
 mod question;
+mod standby;
 
 pub use http::Wanted as Http;
 pub use listen::Socket;
 pub use question::Allowed;
 
-use crate::journal::{self, Journal, Live, Saved};
+use crate::journal::{self, Found, How, Live, Saved, Sight, Takeover, Watch, Writes};
 use crate::names::Sort;
 use crate::report::{self, report};
 use crate::source::Policy;
 use crate::stop::{wrong, Done, Stop, REFUSED, WELL};
 use accept::{House, Limits};
-use access::{Access, Whose};
+use access::{Access, Whose as User};
 use account::Gate;
 use door::Door;
 use feed::{Feed, Seen};
@@ -37,9 +38,9 @@ use mishantral::Engine;
 use nix::sys::signal::{SigSet, Signal};
 use nix::unistd::Uid;
 use question::Pool;
+use standby::Standby;
 use std::collections::BTreeMap;
 use std::io::Write;
-use std::path::Path;
 use std::sync::atomic::{AtomicU64, Ordering};
 use std::sync::mpsc::{channel, Receiver};
 use std::sync::{Arc, RwLock};
@@ -51,6 +52,8 @@ pub struct Wanted {
     pub name: String,
     /// None where nothing is to survive; then the policy says what is served.
     pub journal: Option<String>,
+    /// It is the only one.
+    pub alone: bool,
 }
 
 pub struct Options {
@@ -66,6 +69,10 @@ pub struct Options {
     /// After how many requests a snapshot is taken.
     pub snapshot: i64,
     pub saved: Saved,
+    /// How desks are taken that another server had.
+    pub takeover: Takeover,
+    /// Desks that another server has are watched, and taken over when that is silent.
+    pub standby: bool,
     /// For how long a key is honoured, in microseconds.
     pub keys: i64,
     /// How many clients there may be at once, and of one account.
@@ -109,7 +116,21 @@ pub fn serve(options: &Options, out: &mut dyn Write) -> Done {
     for (door, desk, waiting) in served {
         let ended = ended.clone();
         let work = move || {
-            let why = group::work(desk, waiting);
+            let why = match desk {
+                Desk::Here(served) => group::work(*served, waiting),
+                Desk::Elsewhere(standing) => {
+                    let (standby, begin) = *standing;
+                    match standby.until_taken(&waiting) {
+                        Ok(Some((journal, found))) => {
+                            let served = begin.served(door.journal.as_deref(), journal, found);
+                            door.is_at(None);
+                            group::work(served, waiting)
+                        }
+                        Ok(None) => Ok(()),
+                        Err(why) => Err(why),
+                    }
+                }
+            };
             let _ = ended.send((door, why));
         };
         started(work)?;
@@ -213,7 +234,7 @@ fn unknown_users(gate: &Gate, door: &Door) {
     };
     let names = door.names();
     for (account, whose) in access.users() {
-        let Whose::Name(name) = whose else {
+        let User::Name(name) = whose else {
             continue;
         };
         if names.number(Sort::User, name).is_none() {
@@ -233,7 +254,48 @@ fn threads(why: &std::io::Error) -> Stop {
     cannot("a thread cannot be started", why)
 }
 
-type Opened = (Arc<Door>, Served, Receiver<Waiting>, String);
+/// A desk's work: at once, or when it was taken over.
+enum Desk {
+    Here(Box<Served>),
+    Elsewhere(Box<(Standby, Begin)>),
+}
+
+/// What a desk's work begins with, beside its journal.
+struct Begin {
+    shared: Arc<RwLock<Live>>,
+    most: usize,
+    answered: Arc<AtomicU64>,
+    pulse: Duration,
+    keys: i64,
+    feed: Arc<Feed>,
+}
+
+impl Begin {
+    /// The work at a desk that was taken over.
+    fn served(self, place: Option<&str>, journal: Box<dyn Writes>, found: Found) -> Served {
+        *self.shared.write().unwrap_or_else(|e| e.into_inner()) = found.live.clone();
+        self.feed.taken(place, &found);
+        self.of(found.engine, Some(journal), found.live, found.last)
+    }
+
+    fn of(self, engine: Engine, journal: Option<Box<dyn Writes>>, live: Live, last: i64) -> Served {
+        Served {
+            engine,
+            journal,
+            live,
+            shared: self.shared,
+            most: self.most,
+            last,
+            answered: self.answered,
+            pulse: self.pulse,
+            keys: self.keys,
+            remembered: Default::default(),
+            feed: self.feed,
+        }
+    }
+}
+
+type Opened = (Arc<Door>, Desk, Receiver<Waiting>, String);
 
 /// Reads a desk's journal, which is begun where there is none.
 fn opened(
@@ -242,56 +304,96 @@ fn opened(
     answered: &Arc<AtomicU64>,
     meter: &Meter,
 ) -> Result<Opened, Stop> {
-    let (policy, live, engine, journal, last, line) = match &wanted.journal {
-        Some(file) => from_journal(options, wanted, file)?,
+    let start = match &wanted.journal {
+        Some(place) => from_journal(options, wanted, place)?,
         None => without(options)?,
     };
-    let shared = Arc::new(RwLock::new(live.clone()));
+    let shared = Arc::new(RwLock::new(start.live.clone()));
+    let last = match &start.whose {
+        Whose::Ours(_, _, last) => *last,
+        Whose::Anothers(..) => 0,
+    };
     let seen = options.http.as_ref().map(|_| match &wanted.journal {
-        Some(file) => Seen::read(file, &live),
+        Some(place) => Seen::read(place, &start.live),
         None => Seen::default(),
     });
     let feed = Arc::new(Feed::new(http::shown(&wanted.name), meter, last, seen));
-    let served = Served {
-        engine,
-        journal,
-        live,
+    let begin = Begin {
         shared: shared.clone(),
         most: options.group,
-        last,
         answered: answered.clone(),
+        pulse: (options.takeover.silent / 4).min(Duration::from_secs(1)),
         keys: options.keys,
-        remembered: Default::default(),
         feed: feed.clone(),
     };
     let (to, waiting) = channel();
-    let (name, file) = (wanted.name.clone(), wanted.journal.clone());
-    let door = Door::new(name, to, shared, policy, file, feed);
-    Ok((Arc::new(door), served, waiting, line))
+    let (name, place) = (wanted.name.clone(), wanted.journal.clone());
+    let door = Arc::new(Door::new(name, to, shared, start.policy, place, feed));
+    let desk = match start.whose {
+        Whose::Ours(engine, journal, last) => {
+            Desk::Here(Box::new(begin.of(*engine, journal, start.live, last)))
+        }
+        Whose::Anothers(watch, how, server) => {
+            door.is_at(Some(server));
+            let door = door.clone();
+            let standby = Standby {
+                watch: *watch,
+                how,
+                door,
+            };
+            Desk::Elsewhere(Box::new((standby, begin)))
+        }
+    };
+    Ok((door, desk, waiting, start.line))
 }
 
-type Start = (Policy, Live, Engine, Option<Journal>, i64, String);
+/// A desk as it is found at a start.
+struct Start {
+    policy: Policy,
+    live: Live,
+    whose: Whose,
+    /// What is told of it.
+    line: String,
+}
 
-fn from_journal(options: &Options, wanted: &Wanted, file: &str) -> Result<Start, Stop> {
-    let begun = !Path::new(file).exists();
+enum Whose {
+    Ours(Box<Engine>, Option<Box<dyn Writes>>, i64),
+    /// Another server's, of this name.
+    Anothers(Box<Watch>, How, String),
+}
+
+fn from_journal(options: &Options, wanted: &Wanted, place: &str) -> Result<Start, Stop> {
+    let begun = !journal::is_there(place)?;
     if begun {
         let Some(policy) = &options.policy else {
             return wrong(format!(
-                "{file}: there is no journal, and no policy to begin one with"
+                "{}: there is no journal, and no policy to begin one with",
+                journal::shown(place)
             ));
         };
-        if let Err(refused) = journal::begin(file, policy)? {
+        if let Err(refused) = journal::begin(place, policy)? {
             return Err(Stop::Refused(crate::check::refusal(policy, refused)));
         }
     }
-    let (every, saved) = (options.snapshot, options.saved);
     // Of several desks, those that are there may have policies of their own: POLICY is for the missing ones.
-    let policy = options.policy.as_ref().filter(|_| wanted.name.is_empty());
-    let (journal, found) = Journal::open(file, every, saved, policy)?;
+    let alone = wanted.name.is_empty() || wanted.alone;
+    let how = How {
+        every: options.snapshot,
+        saved: options.saved,
+        policy: options.policy.clone().filter(|_| alone),
+        takeover: options.takeover.clone(),
+    };
     let name = if wanted.name.is_empty() {
-        file
+        place
     } else {
         &wanted.name
+    };
+    let (journal, found) = match options.standby {
+        false => journal::open(place, &how)?,
+        true => match stood_by(place, name, how)? {
+            Ok(here) => here,
+            Err(start) => return Ok(*start),
+        },
     };
     let line = match begun {
         true => format!("{name}: begun"),
@@ -300,14 +402,39 @@ fn from_journal(options: &Options, wanted: &Wanted, file: &str) -> Result<Start,
             found.last, found.replayed
         ),
     };
-    Ok((
-        found.policy,
-        found.live,
-        found.engine,
-        Some(journal),
-        found.last,
+    Ok(Start {
+        policy: found.policy,
+        live: found.live,
+        whose: Whose::Ours(Box::new(found.engine), Some(journal), found.last),
         line,
-    ))
+    })
+}
+
+/// Takes a desk that nobody serves; one that another server has is watched from now on.
+fn stood_by(place: &str, name: &str, how: How) -> Result<Result<standby::Here, Box<Start>>, Stop> {
+    if !journal::is_database(place) {
+        return wrong(format!(
+            "{place}: --standby: a journal in a file has one server; one in PostgreSQL may have more (docs/SCALE.md)"
+        ));
+    }
+    let mut watch = Watch::new(place)?;
+    let refused = |why: String| Stop::Refused(vec![format!("{}: {why}", journal::shown(place))]);
+    let server = match watch.look(&how)? {
+        Sight::Taken(taken) => {
+            let (journal, found) = *taken;
+            return Ok(Ok((Box::new(journal), found)));
+        }
+        Sight::Nothing(why) => return Err(refused(why)),
+        Sight::Elsewhere(server) => server,
+    };
+    let head = journal::reading(place)?.head();
+    let policy = head.map_err(|journal::Unfit(why)| refused(why))?.policy;
+    Ok(Err(Box::new(Start {
+        live: Live::new(policy.names.clone()),
+        policy,
+        line: format!("{name}: standing by; it is served by {server}"),
+        whose: Whose::Anothers(Box::new(watch), how, server),
+    })))
 }
 
 fn without(options: &Options) -> Result<Start, Stop> {
@@ -318,7 +445,10 @@ fn without(options: &Options) -> Result<Start, Stop> {
     if let Err(refused) = engine.load(&policy.bytes) {
         return Err(Stop::Refused(crate::check::refusal(policy, refused)));
     }
-    let line = format!("{}: without a journal: nothing survives", policy.file);
-    let live = Live::new(policy.names.clone());
-    Ok((policy.clone(), live, engine, None, 0, line))
+    Ok(Start {
+        policy: policy.clone(),
+        live: Live::new(policy.names.clone()),
+        whose: Whose::Ours(Box::new(engine), None, 0),
+        line: format!("{}: without a journal: nothing survives", policy.file),
+    })
 }

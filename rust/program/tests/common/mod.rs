@@ -249,7 +249,7 @@ impl Place {
             Some(desk) => {
                 let lines = self.psql(&format!(
                     "SELECT to_json(x) FROM ({}) AS q (x)",
-                    select.replace(" FROM request", &format!(" FROM (SELECT * FROM mishantral.request WHERE desk = '{desk}') AS request"))
+                    of_desk(select, desk)
                 ));
                 let one = |line: &str| serde_json::from_str(line).unwrap();
                 lines.lines().map(one).collect()
@@ -266,4 +266,11 @@ impl Place {
         assert!(output.status.success(), "{sql}: {told}");
         String::from_utf8(output.stdout).unwrap().trim().to_string()
     }
+}
+
+/// A select of a file's table, as a database has it.
+fn of_desk(select: &str, desk: &str) -> String {
+    let (before, behind) = select.split_once(" FROM ").unwrap();
+    let (table, behind) = behind.split_once(' ').unwrap_or((behind, ""));
+    format!("{before} FROM (SELECT * FROM mishantral.{table} WHERE desk = '{desk}') AS {table} {behind}")
 }
