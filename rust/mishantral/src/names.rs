@@ -101,7 +101,9 @@ impl Names {
         for (space, name) in (Tags { rest: xml }) {
             declared[space as usize].push(name);
         }
-        for line in tasks.split(|&b| b == b'\n').filter(|line| !line.is_empty()) {
+        let lines = tasks.strip_prefix(b"\xef\xbb\xbf").unwrap_or(tasks);
+        for line in lines.split(|&b| b == b'\n').filter(|line| !line.is_empty()) {
+            let line = line.strip_suffix(b"\r").unwrap_or(line);
             let mut names = line.split(|&b| b == b' ');
             for space in [Space::Task, Space::Template] {
                 declared[space as usize].extend(names.next());
@@ -235,7 +237,10 @@ mod tests {
             record(6, 0, 0),
             record(6, 2, 1),
         ];
-        let names = Names::told(b"", b"z t\ny t\nz t\nx s", &records.concat());
+        let records = records.concat();
+        let marked = Names::told(b"", b"\xef\xbb\xbfz t\r\ny t\nz t\r\nx s\r\n", &records);
+        let names = Names::told(b"", b"z t\ny t\nz t\nx s", &records);
+        assert_eq!(names, marked);
         assert_eq!(names.name(Space::Task, 1), Some(&b"y"[..]));
         assert_eq!(names.all(Space::Task).len(), 3);
         assert_eq!(names.number(Space::Task, b"x"), Some(2));

@@ -71,6 +71,8 @@ pub struct Place {
 impl Place {
     fn of(text: Text, bytes: &[u8], byte: usize) -> Place {
         let before = &bytes[..byte.saturating_sub(1).min(bytes.len())];
+        // A byte order mark is no character of the first line.
+        let before = before.strip_prefix(b"\xef\xbb\xbf").unwrap_or(before);
         let line = before.rsplit(|&b| b == b'\n').next().unwrap_or(&[]);
         let begins = |b: &&u8| !(0x80..0xc0).contains(*b);
         Place {
@@ -145,7 +147,8 @@ pub struct Policy {
 }
 
 impl Policy {
-    /// Reads a dealer's OPL/XML and its task lines, a line a task: its name, one space and its template's name.
+    /// Reads a dealer's OPL/XML and its task lines, a line a task: its name, one space and its template's name. Lines end with a line feed or with
+    /// a carriage return before it.
     ///
     /// Whether the policy loads is the load's affair: [`Policy::bytes`] is what `Engine::load` takes.
     pub fn from_opl(xml: &[u8], tasks: &[u8]) -> Result<Policy, NotRead> {

@@ -1,7 +1,7 @@
 //! What people want to know of accepted texts and no program does: the element or line that each record comes from, and modules
 //! that are said to be active and are not there. Texts that are refused have no such answer.
 
-use crate::refusal::{is_name, Text};
+use crate::refusal::{is_name, Text, MARK};
 
 /// Where a record comes from.
 #[derive(Clone, Copy, PartialEq, Eq, Debug)]
@@ -94,8 +94,9 @@ pub fn origins(policy: &[u8], tasks: &[u8]) -> Vec<Origin> {
         let text = Text::Policy;
         by_kind[kind.unwrap_or(0)].extend(kind.map(|_| Origin { text, place }));
     }
-    let mut place = 1;
-    for line in tasks.split(|&byte| byte == b'\n') {
+    let lines = tasks.strip_prefix(MARK).unwrap_or(tasks);
+    let mut place = 1 + tasks.len() - lines.len();
+    for line in lines.split(|&byte| byte == b'\n') {
         let text = Text::Tasks;
         by_kind[6].extend((!line.is_empty()).then_some(Origin { text, place }));
         place += line.len() + 1;
@@ -105,7 +106,7 @@ pub fn origins(policy: &[u8], tasks: &[u8]) -> Vec<Origin> {
 
 /// Whether an accepted text has a declaration that tells its encoding, which is UTF-8 then.
 pub fn has_encoding(policy: &[u8]) -> bool {
-    let text = policy.strip_prefix(b"\xef\xbb\xbf").unwrap_or(policy);
+    let text = policy.strip_prefix(MARK).unwrap_or(policy);
     let end = text.windows(2).position(|window| window == b"?>");
     let declaration = &text[..end.unwrap_or(0)];
     let word = b"encoding";

@@ -4,7 +4,7 @@
 use crate::elements::{Element, Progress, Sort, Tag, ATTRIBUTES};
 use crate::names::{Met, Space};
 use crate::policy::{Name, Policy};
-use crate::refusal::{is_name, Fault, Text, Why};
+use crate::refusal::{is_name, Fault, Text, Why, MARK};
 use crate::Sections;
 
 type Read<T> = Result<T, Box<Fault>>;
@@ -232,14 +232,20 @@ impl<'t> Reader<'t> {
         Ok(Value { start, end })
     }
 
-    /// A value that must be this one.
-    fn literal_value(&mut self, literal: &'static str) -> Read<()> {
+    /// A word, and a value that may stand there: in words, and of which bytes.
+    fn pseudo(
+        &mut self,
+        word: &'static str,
+        value: &'static str,
+        may: fn(&[u8]) -> bool,
+    ) -> Read<()> {
+        self.literal(word)?;
         self.equals()?;
         let Value { start, end } = self.value()?;
-        if &self.text[start..end] == literal.as_bytes() {
+        if may(&self.text[start..end]) {
             return Ok(());
         }
-        self.fault(start, Why::Literal(literal))
+        self.fault(start, Why::Literal(value))
     }
 
     /// A comment from its `<!--` on.
@@ -276,11 +282,18 @@ impl Reader<'_> {
     /// From behind `<?xml`.
     fn declaration(&mut self) -> Read<()> {
         self.some_white()?;
-        self.literal("version")?;
-        self.literal_value("1.0")?;
-        if self.white() && self.peek() == Some(b'e') {
-            self.literal("encoding")?;
-            self.literal_value("UTF-8")?;
+        self.pseudo("version", "1.0", |value| value == b"1.0")?;
+        let mut apart = self.white();
+        if apart && self.peek() == Some(b'e') {
+            self.pseudo("encoding", "UTF-8", |value| {
+                value.eq_ignore_ascii_case(b"UTF-8")
+            })?;
+            apart = self.white();
+        }
+        if apart && self.peek() == Some(b's') {
+            self.pseudo("standalone", "yes or no", |value| {
+                value == b"yes" || value == b"no"
+            })?;
             self.white();
         }
         self.literal("?>")
@@ -301,9 +314,12 @@ impl Reader<'_> {
     fn prolog(&mut self) -> Read<()> {
         const XML: &[u8] = b"<?xml";
         const DOCTYPE: &[u8] = b"<!DOCTYPE";
-        let behind = self.text.get(XML.len());
+        if self.begins(MARK) {
+            self.at = MARK.len();
+        }
+        let behind = self.text.get(self.at + XML.len());
         if self.begins(XML) && behind.is_some_and(|&byte| is(byte, WHITE)) {
-            self.at = XML.len();
+            self.at += XML.len();
             self.declaration()?;
         }
         self.misc()?;

@@ -1,6 +1,6 @@
 //! Why something is refused that XML or OPL would have: what is left out on purpose, and what to do about it.
 
-use crate::refusal::{is_name, Fault, Text, Why};
+use crate::refusal::{is_name, Fault, Text, Why, MARK};
 
 /// What no part of this crate reads, by the section of document 000 that has it.
 const OTHER_SECTIONS: [(&str, &[&str]); 3] = [
@@ -88,6 +88,9 @@ pub(crate) fn reason(text: &[u8], fault: &Fault) -> Option<String> {
         let empty = matches!(rest, [b'\n', ..] | [b'\r', b'\n', ..]);
         let begins = fault.why == Why::Expected("a task name");
         return (empty && begins).then(|| "there are no empty lines".to_string());
+    }
+    if rest.starts_with(MARK) {
+        return Some("it stands at the very start of a text, once".to_string());
     }
     if rest.first() == Some(&b'&') {
         return Some("references to characters and entities are not read".to_string());

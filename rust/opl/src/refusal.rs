@@ -195,6 +195,9 @@ impl Display for NameWhy {
     }
 }
 
+/// The byte order mark, which may stand at the very start of either text.
+pub(crate) const MARK: &[u8] = b"\xef\xbb\xbf";
+
 /// A byte of an XML name, as the grammar takes it.
 pub(crate) const fn is_name(byte: u8) -> bool {
     byte.is_ascii_alphanumeric() || matches!(byte, b'_' | b'-' | b'.' | b':' | 0x80..)
@@ -226,6 +229,7 @@ pub fn found(text: &[u8], place: usize) -> String {
         [0xff, 0xfe, ..] | [0xfe, 0xff, ..] if place == 1 => {
             "the byte order mark of UTF-16".to_string()
         }
+        [0xef, 0xbb, 0xbf, ..] => "a byte order mark".to_string(),
         [b'<', b'!' | b'?', ..] => format!("\"{}\"", shown(&rest[..run(2)])),
         [b'<', b'/', ..] => format!("{}>", shown(&rest[..run(2)])),
         [b'<', ..] if run(1) > 1 => format!("{}>", shown(&rest[..run(1)])),
@@ -240,9 +244,10 @@ pub fn found(text: &[u8], place: usize) -> String {
     }
 }
 
-/// The line and column of a place, all from 1. A character is one column, of however many bytes.
+/// The line and column of a place, all from 1. A character is one column, of however many bytes; a byte order mark at the start is none.
 pub fn line_and_column(text: &[u8], place: usize) -> (usize, usize) {
     let before = &text[..(place - 1).min(text.len())];
+    let before = before.strip_prefix(MARK).unwrap_or(before);
     let line = before.split(|&b| b == b'\n').next_back().unwrap_or(&[]);
     let lines = before.iter().filter(|&&b| b == b'\n').count();
     let begins = |b: &&u8| !(0x80..0xc0).contains(*b);

@@ -1,8 +1,8 @@
-//! The second text: lines of task name, one space, template name.
+//! The second text: lines of task name, one space, template name; they end as on any system, behind a byte order mark or not.
 
 use crate::names::Space;
 use crate::policy::{Name, Policy};
-use crate::refusal::{Fault, Refusal, Text, Why};
+use crate::refusal::{Fault, Refusal, Text, Why, MARK};
 
 struct Lines<'t> {
     text: &'t [u8],
@@ -39,17 +39,28 @@ impl<'t> Lines<'t> {
         }
         self.at += 1;
         let template = self.name("a template name")?;
+        self.end()?;
+        Ok((task, template))
+    }
+
+    /// A line feed, with a carriage return before it or not; or the text's end.
+    fn end(&mut self) -> Result<(), Refusal> {
+        let returned = self.text.get(self.at) == Some(&b'\r');
+        self.at += usize::from(returned);
         match self.text.get(self.at) {
             Some(b'\n') => self.at += 1,
-            Some(_) => return self.fault("the end of the line"),
-            None => {}
+            None if !returned => {}
+            _ if returned => return self.fault("a line feed behind the carriage return"),
+            _ => return self.fault("the end of the line"),
         }
-        Ok((task, template))
+        Ok(())
     }
 }
 
 pub(crate) fn read_tasks<'t>(text: &'t [u8], policy: &mut Policy<'t>) -> Result<(), Refusal> {
-    let mut lines = Lines { text, at: 0 };
+    let marked = text.starts_with(MARK);
+    let at = if marked { MARK.len() } else { 0 };
+    let mut lines = Lines { text, at };
     while lines.at < text.len() {
         let (task, template) = lines.line()?;
         let task = policy.declared(Space::Task, task);

@@ -209,7 +209,7 @@ impl Judge {
                 _ => None,
             };
             if let Some(why) = other {
-                let why = format!("{why}, which Ask 4's sections do not have");
+                let why = format!("{why}, which is left out");
                 return Some((why, Some(Remedy::AllSections)));
             }
         }

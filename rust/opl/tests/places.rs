@@ -63,6 +63,14 @@ fn forms_that_are_accepted() {
     for text in [
         with(SMALL),
         format!("<?xml version='1.0'?>{}", with(SMALL)),
+        format!("\u{feff}{}", with(SMALL)),
+        format!("\u{feff} {}", with(SMALL)),
+        format!(
+            "\u{feff}<?xml version=\"1.0\" encoding=\"utf-8\" standalone=\"yes\"?>\r\n{}",
+            with(SMALL)
+        ),
+        format!("<?xml version='1.0' standalone = 'no' ?>{}", with(SMALL)),
+        format!("<?xml version='1.0' encoding='Utf-8'?>{}", with(SMALL)),
         format!(
             "<?xml  version = \"1.0\"\n encoding='UTF-8' ?>\n{}\r\n\t",
             with(SMALL)
@@ -123,7 +131,8 @@ fn the_text_ends_too_early() {
 
 #[test]
 fn a_byte_that_cannot_stand_there() {
-    marked("|\u{feff}<policy_object>");
+    marked("\u{feff}|\u{feff}<policy_object>");
+    marked(" |\u{feff}<policy_object>");
     marked("|x<policy_object>");
     marked("<policy_object|=>");
     marked("<policy_object>|text</policy_object>");
@@ -183,10 +192,16 @@ fn prolog_pieces_that_go_wrong() {
     marked("<?xml version='|'?>");
     marked("<?xml version='1.0|<'?>");
     marked("<?xml version='1.0'|encoding='UTF-8'?>");
-    marked("<?xml version='1.0' encoding='|utf-8'?>");
     marked("<?xml version='1.0' enc|?>");
-    marked("<?xml version='1.0' |standalone='yes'?>");
-    marked("<?xml version='1.0' encoding='UTF-8' |standalone='yes'?>");
+    marked("<?xml version='1.0' encoding='UTF-8' standalone='|Yes'?>");
+    marked("<?xml version='1.0' encoding='UTF-8' standalone='|'?>");
+    marked("<?xml version='1.0' encoding='UTF-8'|standalone='yes'?>");
+    marked("<?xml version='1.0' standalone='yes' |encoding='UTF-8'?>");
+    marked("<?xml version='1.0' st|op='yes'?>");
+    marked("\u{feff}<?xml version='|1.1'?>");
+    marked("\u{feff}|<?xml?>");
+    marked("<?xml version='1.0' encoding='|utf8'?>");
+    marked("<?xml version='1.0' encoding='|UTF-16'?>");
     marked("<?xml version='1.0' ?|?>");
     marked("<!DOCTYPE|x policy_object SYSTEM 'a'>");
     marked("<!DOCTYPE policy|-object SYSTEM 'a'>");
@@ -317,7 +332,17 @@ fn comments() {
 #[test]
 fn task_lines() {
     let policy = with(SMALL);
-    for (lines, reply) in [("", 0), ("a b", 0), ("a b\n", 0), ("a b\na c\nd c", 0)] {
+    for (lines, reply) in [
+        ("", 0),
+        ("a b", 0),
+        ("a b\n", 0),
+        ("a b\na c\nd c", 0),
+        ("a b\r\n", 0),
+        ("a b\r\na c\nd c", 0),
+        ("a b\na c\r\n", 0),
+        ("\u{feff}", 0),
+        ("\u{feff}a b\r\n", 0),
+    ] {
         assert_eq!(answer(&policy, lines).reply, reply, "{lines:?}");
     }
     for marked in [
@@ -329,7 +354,14 @@ fn task_lines() {
         "a |\n",
         "a | b",
         "a b| ",
-        "a b|\r\n",
+        "a b\r|",
+        "\u{feff}a|",
+        "\u{feff}|\n",
+        "a b\r|\r\n",
+        "a b\r|c d",
+        "a b\r\n|\r\n",
+        "|\r\n",
+        "a|\r\n",
         "a|\tb",
         "a b\n|\n",
         "a b\n|\nc d",

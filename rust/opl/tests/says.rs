@@ -290,8 +290,8 @@ fn refusals_in_words() {
     let policy = policy("<module_sep_duty_policy/>");
     for (lines, message) in [
         (
-            "a b\r\n",
-            "line 1, column 4: TEXT: expected the end of the line, found a carriage return",
+            "a b\rc d",
+            "line 1, column 5: TEXT: expected a line feed behind the carriage return, found \"c\"",
         ),
         (
             "a b\n\n",
@@ -338,4 +338,32 @@ fn what_is_left_out_on_purpose_says_why() {
         refusal.element(text.as_bytes()),
         Some("module_chinese_wall_policy")
     );
+}
+
+/// Names and places do not depend on how lines end, nor on a byte order mark.
+#[test]
+fn texts_as_other_programs_write_them() {
+    let plain = policy(&core(&["a"], &[], &[], NO_ASSIGNMENTS));
+    let marked =
+        format!("\u{feff}<?xml version=\"1.0\" encoding=\"utf-8\" standalone=\"yes\"?>\r\n{plain}");
+    let one = read(plain.as_bytes(), b"t w\nu w").unwrap();
+    let other = read(marked.as_bytes(), b"\xef\xbb\xbft w\r\nu w\r\n").unwrap();
+    assert_eq!(one.records(), other.records());
+    for space in Space::ALL {
+        assert_eq!(one.names(space), other.names(space));
+    }
+    let wrong = "\u{feff}<policy_objekt>";
+    let said = read(wrong.as_bytes(), b"")
+        .unwrap_err()
+        .message(wrong.as_bytes());
+    assert_eq!(
+        said,
+        "line 1, column 1: TEXT: expected <policy_object>, found <policy_objekt>"
+    );
+    let twice = "\u{feff}\u{feff}<policy_object>";
+    let said = read(twice.as_bytes(), b"")
+        .unwrap_err()
+        .message(twice.as_bytes());
+    let message = "line 1, column 1: TEXT: expected <policy_object>, found a byte order mark: it stands at the very start of a text, once";
+    assert_eq!(said, message);
 }

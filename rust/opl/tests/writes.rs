@@ -304,11 +304,11 @@ fn what_cannot_be_said_is_told() {
     for (bad, why) in [
         (
             record(17, 0, [0; 3], 0),
-            "senior roles are of section 6.2, which Ask 4's sections do not have",
+            "senior roles are of section 6.2, which is left out",
         ),
         (
             record(18, 0, [0; 3], 0),
-            "walls are of section 6.6, which Ask 4's sections do not have",
+            "walls are of section 6.6, which is left out",
         ),
     ] {
         let told = one(bad);

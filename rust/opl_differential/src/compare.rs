@@ -275,7 +275,12 @@ pub fn compare_names(texts: &Texts, sections: Sections) -> Result<(), String> {
     }
     let begins = |origin: &opl::Origin| match origin.text {
         opl::Text::Policy => texts.policy[origin.place - 1] == b'<',
-        opl::Text::Tasks => origin.place == 1 || texts.tasks[origin.place - 2] == b'\n',
+        opl::Text::Tasks => match origin.place {
+            1 => !texts.tasks.starts_with(b"\xef\xbb\xbf"),
+            place => {
+                texts.tasks[place - 2] == b'\n' || &texts.tasks[..place - 1] == b"\xef\xbb\xbf"
+            }
+        },
     };
     let origins = opl::origins(&texts.policy, &texts.tasks);
     if origins.len() != read.count() || !origins.iter().all(begins) {

@@ -3,7 +3,7 @@
 use random::Random;
 
 /// What a byte is replaced with, besides random bytes: all that the grammar looks at, and near misses.
-const BYTES: &[u8] = b"<>/=\"'&!?- \n\tA_.:[1e\0\x1f\x7f\x80";
+const BYTES: &[u8] = b"<>/=\"'&!?- \n\t\rA_.:[1es\0\x1f\x7f\x80\xef\xbb\xbf";
 
 /// One byte at a place deleted, doubled, or replaced; or the text cut before it.
 #[derive(Clone, Copy, Debug)]
@@ -96,7 +96,12 @@ const ATTRIBUTES: [&str; 8] = [
 ];
 
 /// What a tag and a prolog are made of, put where it does not belong.
-const CRUMBS: [&str; 40] = [
+const CRUMBS: [&str; 45] = [
+    "\u{feff}",
+    "encoding='UTF-16'",
+    "standalone='yes'",
+    "standalone=\"Yes\"",
+    "\r",
     " ",
     "\n",
     "=",

@@ -98,13 +98,22 @@ impl Grammar<'_> {
         self.value(self.blank(at))
     }
 
-    fn equals_this_value(self, at: usize, value: &str) -> Result<usize, usize> {
+    fn equals_one_of(self, at: usize, values: &[&str]) -> Result<usize, usize> {
         let (found, end) = self.equals_value(at)?;
-        if found == value.as_bytes() {
+        if values.iter().any(|value| found == value.as_bytes()) {
             Ok(end)
         } else {
             Err(end - 1 - found.len())
         }
+    }
+
+    /// White space, a word and one of these values; or nothing, where no white space with the word's first letter behind it follows.
+    fn optional(self, at: usize, word: &str, values: &[&str]) -> Result<usize, usize> {
+        let behind = self.blank(at);
+        if behind == at || self.at(behind) != word.bytes().next() {
+            return Ok(at);
+        }
+        self.equals_one_of(self.literal(behind, word)?, values)
     }
 
     fn comment(self, at: usize) -> Result<usize, usize> {
@@ -130,19 +139,26 @@ impl Grammar<'_> {
         Ok(at)
     }
 
-    fn declaration(self) -> Result<usize, usize> {
-        let at = "<?xml".len();
-        if !self.has(0, b"<?xml") || self.some_blank(at).is_err() {
-            return Ok(0);
+    fn mark(self) -> usize {
+        let mark = "\u{feff}";
+        if self.has(0, mark.as_bytes()) {
+            mark.len()
+        } else {
+            0
+        }
+    }
+
+    fn declaration(self, start: usize) -> Result<usize, usize> {
+        let at = start + "<?xml".len();
+        if !self.has(start, b"<?xml") || self.some_blank(at).is_err() {
+            return Ok(start);
         }
         let at = self.literal(self.blank(at), "version")?;
-        let at = self.equals_this_value(at, "1.0")?;
-        let behind = self.blank(at);
-        if behind == at || self.at(behind) != Some(b'e') {
-            return self.literal(behind, "?>");
-        }
-        let at = self.literal(behind, "encoding")?;
-        let at = self.equals_this_value(at, "UTF-8")?;
+        let at = self.equals_one_of(at, &["1.0"])?;
+        let encodings: Vec<String> = (0..8).map(utf_8).collect();
+        let encodings: Vec<&str> = encodings.iter().map(String::as_str).collect();
+        let at = self.optional(at, "encoding", &encodings)?;
+        let at = self.optional(at, "standalone", &["yes", "no"])?;
         self.literal(self.blank(at), "?>")
     }
 
@@ -155,7 +171,7 @@ impl Grammar<'_> {
     }
 
     fn document(self) -> Result<Node, usize> {
-        let mut at = self.misc(self.declaration()?)?;
+        let mut at = self.misc(self.declaration(self.mark())?)?;
         if self.has(at, b"<!DOCTYPE") {
             at = self.misc(self.doctype(at)?)?;
         }
@@ -263,18 +279,28 @@ impl Grammar<'_> {
     fn tasks(self) -> Result<Vec<[Vec<u8>; 2]>, usize> {
         let in_line = |byte: u8| byte > 0x20;
         let mut lines = Vec::new();
-        let mut at = 0;
+        let mut at = self.mark();
         while at < self.0.len() {
             let (task, behind) = self.word(at, in_line)?;
             let (template, behind) = self.word(self.literal(behind, " ")?, in_line)?;
             lines.push([task, template]);
             at = match self.at(behind) {
                 None => behind,
+                Some(b'\r') => self.literal(behind, "\r\n")?,
                 Some(_) => self.literal(behind, "\n")?,
             };
         }
         Ok(lines)
     }
+}
+
+/// UTF-8, with a small letter for each bit of a number.
+fn utf_8(small: usize) -> String {
+    let letter = |(at, letter): (usize, char)| match small >> at & 1 {
+        0 => letter,
+        _ => letter.to_ascii_lowercase(),
+    };
+    "UTF-8".chars().enumerate().map(letter).collect()
 }
 
 fn cardinality(value: &[u8]) -> Option<u8> {

@@ -634,6 +634,9 @@ impl Writer<'_> {
     }
 
     fn prolog(&mut self) {
+        if self.random.chance(1, 8) {
+            self.put("\u{feff}");
+        }
         if self.random.chance(1, 2) {
             self.put("<?xml");
             self.some_white();
@@ -644,7 +647,15 @@ impl Writer<'_> {
                 self.some_white();
                 self.put("encoding");
                 self.equals();
-                self.value(b"UTF-8");
+                let encoding = self.random.pick(&["UTF-8", "utf-8", "Utf-8", "uTF-8"]);
+                self.value(encoding.as_bytes());
+            }
+            if self.random.chance(1, 3) {
+                self.some_white();
+                self.put("standalone");
+                self.equals();
+                let alone = self.random.pick(&["yes", "no"]);
+                self.value(alone.as_bytes());
             }
             self.white();
             self.put("?>");
@@ -683,7 +694,7 @@ impl Writer<'_> {
         });
     }
 
-    /// Each task on a line, in the order of the pool; some twice; the last line's end may be left out.
+    /// Each task on a line, in the order of the pool; some twice; lines end as on any system, the last perhaps not.
     fn lines(&mut self) -> Vec<u8> {
         let mut lines: Vec<Vec<u8>> = Vec::new();
         for place in 0..self.tasks.declared {
@@ -698,9 +709,22 @@ impl Writer<'_> {
                 lines.push(line);
             }
         }
-        let mut text = lines.join(&b'\n');
-        if !text.is_empty() && self.random.chance(4, 5) {
-            text.push(b'\n');
+        let returned = self.random.pick(&[0, 0, 50, 100]);
+        let mut text = Vec::new();
+        if self.random.chance(1, 10) {
+            text.extend("\u{feff}".bytes());
+        }
+        let count = lines.len();
+        for (place, line) in (1..).zip(lines) {
+            text.extend(line);
+            if place < count || self.random.chance(4, 5) {
+                let end = if self.random.chance(returned, 100) {
+                    "\r\n"
+                } else {
+                    "\n"
+                };
+                text.extend(end.bytes());
+            }
         }
         text
     }

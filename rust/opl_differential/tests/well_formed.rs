@@ -90,6 +90,13 @@ fn accepted(
     texts
 }
 
+/// A text that stands alone may have no white space between elements, by XML's rules of validity, since the DTD is another file.
+fn may_be_valid(text: &[u8]) -> bool {
+    let end = text.windows(2).position(|window| window == b"?>");
+    let declaration = String::from_utf8_lossy(&text[..end.unwrap_or(0)]);
+    has_no_empty_system(text) && !declaration.contains("yes")
+}
+
 /// xmllint takes an empty system literal for the text itself, which is no DTD.
 fn has_no_empty_system(text: &[u8]) -> bool {
     let text = String::from_utf8_lossy(text);
@@ -123,7 +130,7 @@ fn accepted_texts_are_valid() {
     fs::write(folder.0.join("policy-object.dtd"), DTD).unwrap();
     put(
         &folder,
-        &accepted(6, 400, |style| !style.loose, has_no_empty_system),
+        &accepted(6, 400, |style| !style.loose, may_be_valid),
     );
     succeeds(xmllint(
         &folder.0,

@@ -177,7 +177,7 @@ fn what_opl_cannot_say_is_told_and_nothing_is_written() {
     let (out, said, status) = run(&to_opl);
     let expected = format!(
         "mishantral: {text}: OPL/XML cannot say it: 1 of 1 users: a reader numbers users from 0 on in the order of their declarations, and these have other numbers\n\
-         mishantral: {text}: line 4: OPL/XML cannot say it: role lead above role clerk: senior roles are of section 6.2, which Ask 4's sections do not have\n\
+         mishantral: {text}: line 4: OPL/XML cannot say it: role lead above role clerk: senior roles are of section 6.2, which is left out\n\
          mishantral: --renumber writes it with its names, and lets a reader give the numbers\n"
     );
     assert_eq!((format!("{out}{said}"), status), (expected, 1));
@@ -211,4 +211,32 @@ fn wrong_use_of_the_way_back() {
         "{said}"
     );
     assert_eq!(fs::read(root().join(LOAN[2])).unwrap(), before);
+}
+
+/// As an editor on another system saves them: a byte order mark, an encoding in small letters, lines that end with two bytes.
+#[test]
+fn texts_as_other_programs_write_them() {
+    let room = room("saved");
+    let xml = policy("", "").replace(
+        "encoding=\"UTF-8\"",
+        "encoding=\"utf-8\" standalone=\"yes\"",
+    );
+    let xml = file(
+        &room,
+        "policy.xml",
+        format!("\u{feff}{}", xml.replace('\n', "\r\n")),
+    );
+    let tasks = file(&room, "tasks.txt", TASKS.replace('\n', "\r\n").trim_end());
+    let (told, said, status) = run(&["convert", &xml, "--tasks", &tasks, "--to", "text"]);
+    assert_eq!((&said[..], status), ("", 0));
+    assert!(
+        told.contains("user 1 bert\n") && told.contains("task 2 sign of template repair\n"),
+        "{told}"
+    );
+    // A mark in front of the lines is no part of their first name.
+    let marked = file(&room, "marked.txt", format!("\u{feff}{TASKS}"));
+    let modules = "<module_wf_prereq_step_policy><prereq_steps><prereq_step task_id='test' prereq_task_id='fix'/></prereq_steps></module_wf_prereq_step_policy>";
+    let uses = file(&room, "uses.xml", policy("", modules));
+    let (told, _, status) = run(&["check", &uses, "--tasks", &marked]);
+    assert!(status == 0 && told.contains("1 rule; 3 warnings"), "{told}");
 }
