@@ -15,10 +15,14 @@ pub enum Colour {
     Green,
     /// A fifth.
     Purple,
+    /// With green for verdicts: it holds, and hardly; pictures that use it name it (`Svg::with`).
+    Amber,
+    /// It does not hold.
+    Red,
 }
 
 impl Colour {
-    /// All of them.
+    /// Those that every picture has.
     pub const ALL: [Colour; 5] = [
         Colour::Orange,
         Colour::Blue,
@@ -34,6 +38,8 @@ impl Colour {
             Colour::Grey => "grey",
             Colour::Green => "green",
             Colour::Purple => "purple",
+            Colour::Amber => "amber",
+            Colour::Red => "red",
         }
     }
 
@@ -45,6 +51,8 @@ impl Colour {
             Colour::Grey => ["#a3a29c", "#767d86"],
             Colour::Green => ["#2f8f68", "#4fc497"],
             Colour::Purple => ["#7d3c98", "#bb87d3"],
+            Colour::Amber => ["#d9a521", "#e8bd4f"],
+            Colour::Red => ["#b3261e", "#e0665f"],
         }
     }
 }
@@ -66,12 +74,12 @@ const PAGES: [[&str; 4]; 2] = [
     ["#14171a", "#e8e6e3", "#a4a9ae", "#30363c"],
 ];
 
-fn sheet(page: usize) -> String {
+fn sheet(page: usize, more: &[Colour]) -> String {
     let [paper, ink, soft, grid] = PAGES[page];
     let mut sheet = format!(
         ".paper {{ fill: {paper}; }}\n.ink {{ fill: {ink}; }}\n.soft {{ fill: {soft}; }}\n.grid {{ stroke: {grid}; }}\n.tick {{ stroke: {soft}; }}\n.mark {{ stroke: {ink}; }}\n.dot {{ fill: {ink}; stroke: {paper}; }}\n"
     );
-    for colour in Colour::ALL {
+    for colour in Colour::ALL.iter().chain(more) {
         let (class, shade) = (colour.class(), colour.shades()[page]);
         let _ = writeln!(
             sheet,
@@ -97,7 +105,12 @@ fn escaped(words: &str) -> String {
 impl Svg {
     /// An empty picture; `title` is what a reader who does not see it is told.
     pub fn new(width: f64, height: f64, title: &str) -> Svg {
-        let (light, dark, title) = (sheet(0), sheet(1), escaped(title));
+        Svg::with(width, height, title, &[])
+    }
+
+    /// An empty picture that has further colours.
+    pub fn with(width: f64, height: f64, title: &str, more: &[Colour]) -> Svg {
+        let (light, dark, title) = (sheet(0, more), sheet(1, more), escaped(title));
         Svg {
             text: format!(
                 "<svg xmlns=\"http://www.w3.org/2000/svg\" role=\"img\" viewBox=\"0 0 {width} {height}\" width=\"{width}\" height=\"{height}\">\n<title>{title}</title>\n<style>\n{FIXED}{light}@media (prefers-color-scheme: dark) {{\n{dark}}}\n</style>\n<rect class=\"paper\" width=\"{width}\" height=\"{height}\"/>\n"
@@ -193,5 +206,11 @@ mod tests {
             assert!(colour.shades().iter().all(|shade| style.contains(shade)));
         }
         assert!(style.contains("prefers-color-scheme: dark") && !shapes.contains('#'));
+        assert!(!style.contains(".red"));
+        let text = Svg::with(1.0, 1.0, "", &[Colour::Red]).whole();
+        assert!(Colour::Red
+            .shades()
+            .iter()
+            .all(|shade| text.contains(shade)));
     }
 }

@@ -622,42 +622,79 @@ fn minutes(word: &str) -> Result<f64, String> {
 
 fn staff() -> Command {
     Command::new("staff")
-        .about("Play a roster through before anybody waits: orders come in, and clerks claim what the engine grants")
+        .about("What each shift can finish, who must be there, how many may be away; or a roster played through")
         .long_about(
-            "Plays the orders of a file through a policy and a roster, and writes what happens as a journal: `holds` then says how long they would lie, \
-             and why. Clerks sign in when their shift begins, within five minutes, with all roles that they may have active together, and sign out when \
-             it ends and what they are at is done. Whoever is free longest claims the first task that the engine grants: first come first served, \
-             or as --prefer says. A task takes its minutes, from half of them to half as much again, and so it is with the time until somebody notices it. A claim that a rule of the policy refuses is in the \
-             journal once. Every answer is the engine's own; the same seed gives the same requests and answers.",
+            "Tells, for each template and shift, whether the clerks of the shift can finish every order, from nothing: the smallest crews, the largest K such \
+             that any K of them may be away, and a smallest absence that stops it; a plan (--plan), each request of which a copy of the engine grants. Where \
+             they cannot: which task nobody can do, which rules clash, without which of them it could be finished, and whom or which role one would need. With \
+             --journal the same of each open order, from where it stands. A clerk signs in once and keeps the session, so that dynamic sets hold for all \
+             of an order. The search is exhaustive up to a bound of claims tried; where that is reached it says \"not settled\".\n\n\
+             A file of shifts has a line each, `night 22:00-06:00: 300-303 dirk role:signer`: a name, hours, and clerks by name, number, range or role.\n\n\
+             With --simulate, the orders of a file are played through the policy and the roster, and what happens is written as a journal: `holds` then says how \
+             long they would lie, and why. Clerks sign in when their shift begins, within five minutes, with all roles that they may have active together, and \
+             sign out when it ends and what they are at is done. Whoever is free longest claims the first task that the engine grants: first come first \
+             served, or as --prefer says. A task takes its minutes, from half of them to half as much again, and so it is with the time until somebody notices \
+             it. A claim that a rule of the policy refuses is in the journal once. Every answer is the engine's own; the same seed gives the same requests and answers.",
         )
-        .args([policy(), tasks(), format()])
+        .args([policy().required(false).required_unless_present("journal"), tasks(), format()])
         .arg(
-            value("simulate", "ORDERS", "The orders, as CSV: columns time (2026-11-15 20:31, UTC) and template, where wanted name, and tasks with the minutes that they take")
-                .required(true)
+            value("shift", "NAME=CLERKS", "A shift: night=300-319,325,dirk,role:signer; again for more. All clerks where neither it nor --shifts is there")
+                .action(ArgAction::Append)
+                .conflicts_with("simulate"),
+        )
+        .arg(
+            value("shifts", "FILE", "The shifts, a line each: `night 22:00-06:00: 300-303 dirk role:signer`")
+                .value_hint(ValueHint::FilePath)
+                .conflicts_with("simulate"),
+        )
+        .arg(value("template", "TEMPLATE", "This template alone, by number or name").conflicts_with("simulate"))
+        .arg(
+            number("absent", "Ask whether any K may be away, and no further; exit with 1 where they may not")
+                .value_name("K")
+                .conflicts_with("simulate"),
+        )
+        .arg(flag("plan", "Tell the plans too").conflicts_with("simulate"))
+        .arg(number("tries", "How many claims are tried at most for each of verdict, crews, absence, clash and remedy; 5000000 where it is missing").conflicts_with("simulate"))
+        .arg(
+            value("plot", "FILE", "Write a picture too, as SVG: what is to be finished, by shifts")
+                .value_hint(ValueHint::FilePath)
+                .conflicts_with("simulate"),
+        )
+        .arg(flag("json", "One object for each template or order and shift").conflicts_with("simulate"))
+        .arg(
+            value("simulate", "ORDERS", "Play these orders: CSV with columns time (2026-11-15 20:31, UTC) and template, where wanted name, and tasks with the minutes that they take")
+                .requires("policy")
+                .requires("roster")
+                .requires("journal")
                 .value_hint(ValueHint::FilePath),
         )
         .arg(
-            value("roster", "FILE", "The shifts, a line each: `night 22:00-06:00: 300-303 dirk role:signer`")
-                .required(true)
+            value("roster", "FILE", "The shifts to play, in the form of --shifts")
+                .requires("simulate")
                 .value_hint(ValueHint::FilePath),
         )
-        .arg(journal_file().required(true).help("The journal to write; there must be none yet"))
-        .arg(value("minutes", "MINUTES", "How long tasks take, where ORDERS does not say it: test=20,sign=6; else 10 minutes"))
+        .arg(journal_file().help("The desk whose open orders are asked about; its policy is taken where POLICY is missing. With --simulate: the journal to write; there must be none yet"))
+        .arg(value("minutes", "MINUTES", "How long tasks take, where ORDERS does not say it: test=20,sign=6; else 10 minutes").requires("simulate"))
         .arg(
             value("notice", "MINUTES", "How long it takes until somebody notices that an order came in or went on; 2 where it is missing")
-                .value_parser(minutes),
+                .value_parser(minutes)
+                .requires("simulate"),
         )
-        .arg(value("prefer", "WHAT", "oldest order first (where it is missing), newest, or tasks that come before all others: sign"))
+        .arg(value("prefer", "WHAT", "oldest order first (where it is missing), newest, or tasks that come before all others: sign").requires("simulate"))
         .arg(
             value("seed", "N", "Another course of chance; 1 where it is missing")
-                .value_parser(clap::value_parser!(u64)),
+                .value_parser(clap::value_parser!(u64))
+                .requires("simulate"),
         )
         .after_help(concat!(
-            "Example:\n",
+            "Examples:\n",
+            "  mishantral staff policy.txt --shift night=300-303,556 --plan\n",
+            "  mishantral staff policy.txt --shifts roster.txt --plot staff.svg\n",
+            "  mishantral staff --journal desk.db --shifts roster.txt --absent 1\n",
             "  mishantral staff policy.txt --simulate orders.csv --roster roster.txt --journal played.db\n",
-            "  mishantral holds --journal played.db --from test --to sign --by shift --shifts 'day 08:00-16:00, night 16:00-08:00'\n",
             "\n",
-            "Exit status: 0 played; 1 the policy was refused; 2 wrong use, or a file that cannot be read or written.",
+            "Exit status: 0 every shift can finish all (with --absent: and any K may be away), or played; 1 one cannot, or is not settled, or the policy or the ",
+            "journal was refused; 2 wrong use, or a file that cannot be read or written.",
         ))
 }
 

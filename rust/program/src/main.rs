@@ -3,6 +3,7 @@
 mod ask;
 mod carry;
 mod check;
+mod clash;
 mod command;
 mod convert;
 mod desk;
@@ -502,8 +503,37 @@ fn holds(given: &ArgMatches, out: &mut dyn Write) -> Done {
     holds::holds(&journal_of(given, "journal")?, &options, out)
 }
 
+fn planned(given: &ArgMatches, out: &mut dyn Write) -> Done {
+    let desk = match text(given, "journal") {
+        Some(_) => Some(stood(given)?),
+        None => None,
+    };
+    let own = match (text(given, "policy"), &desk) {
+        (None, Some(desk)) => desk.policy.clone(),
+        _ => policy(given)?,
+    };
+    let shift = words(given, "shift");
+    let options = staff::Planning {
+        shift: &shift,
+        shifts: text(given, "shifts"),
+        template: text(given, "template"),
+        absent: given.get_one::<u64>("absent").map(|&count| count as usize),
+        tries: given
+            .get_one::<u64>("tries")
+            .copied()
+            .unwrap_or(finish::TRIES),
+        plan: given.get_flag("plan"),
+        json: given.get_flag("json"),
+        plot: text(given, "plot"),
+    };
+    staff::planned(&own, desk.as_ref(), &options, out)
+}
+
 fn staff(given: &ArgMatches, out: &mut dyn Write) -> Done {
     let word = |name| text(given, name);
+    if word("simulate").is_none() {
+        return planned(given, out);
+    }
     let options = staff::Options {
         orders: word("simulate").unwrap_or_default(),
         roster: word("roster").unwrap_or_default(),

@@ -514,8 +514,10 @@ fn check_warns_of_what_planning_would_want_to_know() {
     let (told, _, status) = run(&["check", stuck]);
     let expected = format!(
         "{stuck}: line 12: warning: template 0: prerequisites that go in a circle leave task 0 and task 1 waiting for ever\n\
-         {stuck}: line 20: warning: template 1: its rules together let the clerks there are finish no order; left over: task 3\n\
-         {stuck}: line 28: warning: template 2: its rules together let the clerks there are finish no order; left over: task 7\n\
+         {stuck}: line 24: warning: task 2 bound to task 3 clashes with task set 1 of 2 3 (line 25): a binding inside a task set of 1: \
+         one clerk must do task 2 and task 3, and may do one of them; no order of template 1 can be finished\n\
+         {stuck}: line 32: warning: lone-worker ban on template 2: a lone worker's template: one clerk alone has roles for its tasks, and may \
+         not do all; no order of template 2 can be finished\n\
          {stuck}: line 36: warning: task 6 is open to no role, so nobody can claim it\n\
          {stuck}: accepted: 2 users, 2 roles, 8 tasks of 4 templates, 5 rules; 4 warnings\n"
     );
@@ -531,8 +533,10 @@ fn check_warns_of_what_planning_would_want_to_know() {
     let expected = format!(
         "{name}: line 5: warning: no user has nobody\n\
          {name}: line 12: warning: d is open to nobody alone, which no user has, so nobody can claim it\n\
-         {name}: line 17: warning: task set 1 of a b: the clerks who may take its tasks cannot satisfy it (anna); left over: b\n\
-         {name}: line 18: warning: block of partitioning 0: a: the clerks who may take its tasks cannot satisfy it (anna); left over: b\n\
+         {name}: line 17: warning: task set 1 of a b: a limit below what a set needs: 2 tasks, 1 for one clerk, take 2 clerks or more with roles \
+         for them; no order of template 0 can be finished\n\
+         {name}: line 18: warning: block of partitioning 0: a clashes with block of partitioning 0: b (line 19): the blocks need more clerks with these \
+         roles than there are; no order of template 0 can be finished\n\
          {name}: accepted: 2 users, 3 roles, 4 tasks of 1 template, 5 rules; 4 warnings\n"
     );
     assert_eq!((told, status), (expected, 0));

@@ -16,6 +16,8 @@ pub enum Spent {
     Room(usize),
     /// Nobody waits for the answer any more.
     Gone,
+    /// There are too few free subjects for all who would have to sign in.
+    Subjects,
 }
 
 /// How long a search works before it looks whether others are at work, and how often as long it rests then.
@@ -95,6 +97,42 @@ impl Budget {
         }
         self.slice
             .set((Instant::now(), answered.load(Ordering::Relaxed)));
+    }
+}
+
+/// How many claims are tried between two looks at the budget.
+const BETWEEN: u64 = 16;
+
+/// What a search has taken so far.
+pub struct Meter<'a> {
+    pub tries: u64,
+    bound: u64,
+    budget: &'a Budget,
+    /// How many bytes it keeps.
+    pub kept: usize,
+}
+
+impl<'a> Meter<'a> {
+    pub fn new(bound: u64, budget: &'a Budget) -> Meter<'a> {
+        Meter {
+            tries: 0,
+            bound,
+            budget,
+            kept: 0,
+        }
+    }
+
+    /// One claim more.
+    pub fn one(&mut self) -> Result<(), Spent> {
+        self.tries += 1;
+        if self.tries > self.bound {
+            return Err(Spent::Tries);
+        }
+        let look = self.tries.is_multiple_of(BETWEEN);
+        match look.then(|| self.budget.spent(self.kept)).flatten() {
+            Some(spent) => Err(spent),
+            None => Ok(()),
+        }
     }
 }
 

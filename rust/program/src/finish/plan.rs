@@ -1,49 +1,58 @@
 //! A plan: what is held first, then the tasks as their prerequisites let them, each step granted by a copy of the engine.
 
-use super::people::{active, create, People};
-use super::search::{Choice, Held};
-use mishantral::Engine;
-use records::{Record, Reply};
+use super::people::{create, free_subjects, People};
+use super::search::Part;
+use super::Held;
+use crate::desk::Desk;
+use mishantral::{Answer, Engine};
+use records::{Record, Reply, Set};
+
+/// A copy of the engine on which steps are made, and the steps.
+#[derive(Clone)]
+pub struct Making {
+    pub engine: Engine,
+    pub steps: Vec<Record>,
+    order: u16,
+}
+
+/// The subjects of those at work; one who signs in has a new one. Nothing where no subject is free.
+pub fn subjects(desk: &Desk, people: &People, parts: &[Part]) -> Option<Vec<Vec<u16>>> {
+    let mut free = free_subjects(&desk.told);
+    let of = |part: &Part| {
+        let live = people.all[part.person].subjects.clone();
+        match live.is_empty() {
+            true => free.next().map(|subject| vec![subject]),
+            false => Some(live),
+        }
+    };
+    parts.iter().map(of).collect()
+}
 
 /// The requests that finish the order, every one of them granted on a copy; none where a step is not.
 pub fn plan(
-    engine: &Engine,
+    desk: &Desk,
     people: &People,
     order: u16,
     held: &[Held],
-    choices: &[Choice],
+    parts: &[Part],
 ) -> Option<Vec<Record>> {
-    let mut making = Making {
-        engine: engine.clone(),
-        steps: Vec::new(),
-    };
-    for person in people.all.iter().filter(|person| person.signs_in) {
-        let working = choices
-            .iter()
-            .any(|choice| people.all[choice.person].user == person.user);
-        if working {
-            making.step(create(person.subjects[0], person.user))?;
-        }
+    let mut making = Making::new(desk.engine().clone(), order);
+    let subjects = subjects(desk, people, parts)?;
+    making.begin(people, held, parts, &subjects)?;
+    let mut left: Vec<(usize, u16)> = Vec::new();
+    for (place, part) in parts.iter().enumerate() {
+        let tasks = Set(part.tasks).members();
+        left.extend(tasks.map(|task| (place, u16::from(task))));
     }
-    for &Held {
-        task,
-        subject,
-        done,
-        ..
-    } in held
-    {
-        making.step(match done {
-            true => Record::done(subject, order, task),
-            false => Record::release(subject, order, task),
-        })?;
-    }
-    let mut left = choices.to_vec();
+    left.sort_by_key(|&(_, task)| task);
     while !left.is_empty() {
         let before = left.len();
         let mut waiting = Vec::new();
-        for choice in left {
-            if !making.worked(people, order, choice)? {
-                waiting.push(choice);
+        for (place, task) in left {
+            match making.worked(&subjects[place], parts[place].roles, task) {
+                Ok(()) => {}
+                Err((answer, _)) if answer == Reply::Before => waiting.push((place, task)),
+                Err(_) => return None,
             }
         }
         left = waiting;
@@ -56,60 +65,100 @@ pub fn plan(
     Some(making.steps)
 }
 
-struct Making {
-    engine: Engine,
-    steps: Vec<Record>,
-}
-
 impl Making {
+    pub fn new(engine: Engine, order: u16) -> Making {
+        Making {
+            engine,
+            steps: Vec::new(),
+            order,
+        }
+    }
+
     fn step(&mut self, record: Record) -> Option<()> {
         self.engine.request(&record).is_granted().then_some(())?;
         self.steps.push(record);
         Some(())
     }
 
-    /// Has a task done as it was chosen; false where its prerequisites are not done yet.
-    fn worked(&mut self, people: &People, order: u16, choice: Choice) -> Option<bool> {
-        let Choice {
-            task,
-            mut subject,
-            role,
-            person,
-        } = choice;
-        let claim = |subject| Record::claim(subject, order, task);
-        let mut answer = self.engine.clone().request(&claim(subject));
-        if answer == Reply::NoRole {
-            let person = &people.all[person];
-            subject = person.subjects[0];
-            let role = self.role(role, person.user, subject, claim(subject))?;
-            let mut copy = self.engine.clone();
-            let _ = copy.request(&Record::activate_role(subject, role));
-            answer = copy.request(&claim(subject));
-            if answer.is_granted() {
-                self.step(Record::activate_role(subject, role))?;
+    /// Those at work sign in, and what is held is done or released.
+    pub fn begin(
+        &mut self,
+        people: &People,
+        held: &[Held],
+        parts: &[Part],
+        subjects: &[Vec<u16>],
+    ) -> Option<()> {
+        for (part, subjects) in parts.iter().zip(subjects) {
+            let person = &people.all[part.person];
+            if person.subjects.is_empty() {
+                self.step(create(subjects[0], person.user))?;
             }
         }
-        if answer == Reply::Before {
-            return Some(false);
+        for held in held {
+            self.step(match held.done {
+                true => Record::done(held.subject, self.order, held.task),
+                false => Record::release(held.subject, self.order, held.task),
+            })?;
         }
-        self.step(claim(subject))?;
-        self.step(Record::done(subject, order, task))?;
-        Some(true)
+        Some(())
     }
 
-    /// The role to make active: the one chosen, or one that no rule minds and that opens the task.
-    fn role(&self, chosen: Option<u16>, user: u16, subject: u16, claim: Record) -> Option<u16> {
-        if chosen.is_some() {
-            return chosen;
+    /// Has a task claimed and done in one of these subjects, with one of these roles made active where that is needed; or the request that is
+    /// refused, with its answer, and then nothing has changed.
+    pub fn worked(
+        &mut self,
+        subjects: &[u16],
+        roles: u64,
+        task: u16,
+    ) -> Result<(), (Answer, Record)> {
+        let first = *subjects.first().unwrap_or(&0);
+        let mut refused = (
+            Answer::from(Reply::NoRole),
+            Record::claim(first, self.order, task),
+        );
+        for &subject in subjects {
+            match self.done(subject, None, task) {
+                Err((answer, _)) if answer == Reply::NoRole => {}
+                done => return done,
+            }
         }
-        let state = self.engine.state();
-        let assigned = super::people::assigned(state, user).0 & !active(state, subject).0;
-        let opens = |role: &u8| {
-            let mut copy = self.engine.clone();
-            copy.request(&Record::activate_role(subject, (*role).into()))
-                .is_granted()
-                && copy.request(&claim) != Reply::NoRole
-        };
-        records::Set(assigned).members().find(opens).map(u16::from)
+        for role in Set(roles).members().map(u16::from) {
+            match self.done(first, Some(role), task) {
+                Err((answer, step)) => match answer.reply {
+                    Reply::NoRole | Reply::Taken | Reply::NotAssigned => {}
+                    Reply::Dynamic => refused = (answer, step),
+                    _ => return Err((answer, step)),
+                },
+                Ok(()) => return Ok(()),
+            }
+        }
+        Err(refused)
+    }
+
+    fn done(&mut self, subject: u16, role: Option<u16>, task: u16) -> Result<(), (Answer, Record)> {
+        let mut copy = self.clone();
+        let activate = role.map(|role| Record::activate_role(subject, role));
+        let work = [
+            Record::claim(subject, self.order, task),
+            Record::done(subject, self.order, task),
+        ];
+        for step in activate.into_iter().chain(work) {
+            let answer = copy.engine.request(&step);
+            if !answer.is_granted() {
+                return Err((answer, step));
+            }
+            copy.steps.push(step);
+        }
+        *self = copy;
+        Ok(())
+    }
+
+    /// Makes those of these roles active that are not.
+    pub fn activate(&mut self, subject: u16, roles: u64) {
+        for role in Set(roles).members() {
+            let _ = self
+                .engine
+                .request(&Record::activate_role(subject, role.into()));
+        }
     }
 }

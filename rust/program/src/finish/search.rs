@@ -1,367 +1,419 @@
-//! Whether some people can finish an order: every choice of who does which task is tried on copies of the engine, up to a bound.
+//! Whether some people can finish an order: every way to give the tasks out is tried, up to a bound. Two questions decide a way, and the engine
+//! answers both: which tasks one user may have together, whoever that is (`probe`), and which tasks are open to whom (`people`).
 //!
-//! What is left out changes no answer, by the rules of claims (docs/RULES.md): all of them but BEFORE are about the entries that there
-//! are, and an entry more never makes a refused claim a granted one. So a task that is done is not done again; a claim is
-//! followed by done at once; what is held is done or released first; and the order in which tasks are done is left to BEFORE, which
-//! the copies are without and the plan is made for (`plan`). Of those who are alike to every rule (`people`) one is tried.
+//! So the search builds shares, each the tasks of one clerk who is not named yet, and looks for clerks for all shares together
+//! (`seats`). What is left out changes no answer, by the rules of claims (docs/RULES.md):
+//! - all of them but BEFORE are about the entries that there are, and an entry more never makes a refused claim a granted one. So a task that is
+//!   done is not done again, a claim is followed by done at once, and the order in which tasks are done is left to BEFORE, for which the plan is made;
+//! - an entry changes what others may claim through bindings alone. Tasks bound together are given out as one;
+//! - a rule tells users apart by their entries alone. So clerks without an entry are named when the shares are known;
+//! - where the search stood before, as far as the rules and clerks that are left can tell, it does not go again.
 
-use super::budget::{Budget, Spent};
-use super::people::{active, assigned, People, Person};
-use mishantral::{Answer, Engine};
-use records::{Record, Reply, Set};
-use std::collections::HashSet;
+use super::budget::{Meter, Spent};
+use super::people::{Class, People};
+use super::probe::Probe;
+use super::seats::Seats;
+use crate::told::Told;
+use records::Set;
+use std::collections::{HashMap, HashSet};
 
-/// Where prerequisites are counted in the policy buffer (docs/STATE.md): a copy with 0 there is without them.
-const PREREQUISITES: usize = 6;
-
-/// Who does a task: a person, by index, in a subject, with a role made active for it.
-#[derive(Clone, Copy, Debug)]
-pub struct Choice {
-    pub task: u16,
+/// What one person does.
+#[derive(Clone, Debug)]
+pub struct Part {
     pub person: usize,
-    pub subject: u16,
-    pub role: Option<u16>,
+    pub tasks: u64,
+    /// The roles that the person has active for it.
+    pub roles: u64,
 }
 
-/// What is done with a task that is held now.
-#[derive(Clone, Copy, Debug)]
-pub struct Held {
-    pub task: u16,
-    pub subject: u16,
-    pub user: u16,
-    /// Else it is released.
-    pub done: bool,
-}
-
-/// Why nobody can do a task, where the search came furthest.
-#[derive(Clone)]
-pub struct Lack {
-    pub order: u16,
-    pub task: u16,
-    /// The tasks that are left over there, this one among them.
+/// Where the search came furthest: these tasks, which go together, nobody can take beside what has been given out.
+#[derive(Clone, Debug)]
+pub struct Dead {
+    pub tasks: u64,
     pub left: u64,
-    /// The copy there, without prerequisites.
-    pub engine: Engine,
-    /// What those who could be asked are answered: the answer, one of them by subject, and how many.
-    pub refused: Vec<(Answer, u16, usize)>,
+    pub parts: Vec<Part>,
 }
 
 pub enum Outcome {
-    Plan(Vec<Held>, Vec<Choice>),
-    Never(Option<Lack>),
-    /// What it may take was spent.
+    Plan(Vec<Part>),
+    Never(Option<Dead>),
     Open(Spent),
 }
 
-pub struct Search<'a> {
-    order: u16,
-    /// The tasks of the order's template, and those of them that are done.
-    tasks: u64,
-    finished: u64,
-    held: Vec<Held>,
-    people: Vec<Person>,
-    /// Roles whose activation no rule minds.
-    free: u64,
-    pub tries: u64,
-    bound: u64,
-    budget: &'a Budget,
-    /// Where it stood when it failed, since what is held was settled; and the tasks that people had then.
-    failed: HashSet<Vec<u64>>,
-    /// How many bytes that takes.
-    kept: usize,
-    start: Vec<u64>,
-    lack: Option<Lack>,
-    path: Vec<Choice>,
+/// What the search is about: the tasks that are left, and the clerks.
+pub struct Task<'a> {
+    pub told: &'a Told,
+    pub template: u16,
+    /// All tasks of the template, and those that are not done.
+    pub tasks: u64,
+    pub left: u64,
+    pub people: &'a People,
+    /// How many of each class may be asked, and how many clerks may be at work.
+    pub counts: &'a [usize],
+    pub most: usize,
 }
 
-/// What the search may take is spent.
-struct Bound(Spent);
+/// The tasks of one clerk.
+#[derive(Clone)]
+struct Share {
+    /// Who stands for the clerk in the probe.
+    user: u16,
+    /// The class of a clerk who has entries already.
+    fixed: Option<usize>,
+    units: u64,
+    /// The units that the rules leave to it, and those that some clerk for all of it has open.
+    allowed: u64,
+    able: u64,
+    /// The skills that have all of it, by a number of their list: what is left to its clerk depends on them.
+    fits: u32,
+}
 
-/// How many claims are tried between two looks at the budget.
-const BETWEEN: u64 = 16;
+pub struct Search<'a, 'b> {
+    task: Task<'a>,
+    /// Tasks that go together, as they are bound.
+    units: Vec<u64>,
+    /// For each unit, the units that a task set or a partitioning names with it.
+    near: Vec<u64>,
+    banned: bool,
+    /// The units that each skill of each class opens whole.
+    skills: Vec<Vec<u64>>,
+    strangers: Vec<u16>,
+    seats: Seats,
+    failed: HashSet<Vec<u64>>,
+    lists: HashMap<Vec<u32>, u32>,
+    /// How often the search ended at a unit: such units are given out early.
+    weight: Vec<u64>,
+    dead: Option<(Dead, u32)>,
+    pub meter: &'a mut Meter<'b>,
+}
 
-impl<'a> Search<'a> {
-    pub fn new(
-        people: &People,
-        order: u16,
-        tasks: u64,
-        held: Vec<Held>,
-        free: u64,
-        (bound, budget): (u64, &'a Budget),
-    ) -> Search<'a> {
-        Search {
-            order,
-            tasks,
-            finished: people.engine.state().orders[132 + usize::from(order)] & tasks,
-            held,
-            people: people.all.clone(),
-            free,
-            tries: 0,
-            bound,
-            budget,
-            failed: HashSet::new(),
-            kept: 0,
-            start: Vec::new(),
-            lack: None,
-            path: Vec::new(),
-        }
+/// Tasks that bindings hold together.
+fn units(told: &Told, left: u64) -> Vec<u64> {
+    let mut units: Vec<u64> = Set(left).members().map(|task| 1 << task).collect();
+    for (_, rule) in told.rules_of(15) {
+        let both = 1u64 << rule.a() | 1 << rule.b();
+        let (meet, mut apart): (Vec<u64>, Vec<u64>) =
+            units.into_iter().partition(|unit| unit & both != 0);
+        apart.extend(meet.into_iter().reduce(|one, other| one | other));
+        units = apart;
     }
+    units.sort();
+    units
+}
 
-    pub fn run(&mut self, engine: &Engine) -> Outcome {
-        let mut state = engine.state().clone();
-        state.policy[PREREQUISITES] = 0;
-        let mut engine = Engine::from_state(state);
-        self.activate_free(&mut engine);
-        match self.holders(&engine, 0) {
-            Ok(true) => Outcome::Plan(self.held.clone(), self.path.clone()),
-            Ok(false) => Outcome::Never(self.lack.take()),
-            Err(Bound(spent)) => Outcome::Open(spent),
-        }
+/// For each unit those that some task set or partitioning has beside it.
+fn near(told: &Told, units: &[u64]) -> Vec<u64> {
+    let sets = told.rules_of(11).map(|(_, rule)| rule.m());
+    let mut rules: Vec<u64> = sets.collect();
+    for partitioning in 0..16 {
+        let blocks = told.rules_of(12).filter(|(_, b)| b.a() == partitioning);
+        rules.push(blocks.fold(0, |all, (_, block)| all | block.m()));
     }
+    let named = |rule: u64| {
+        let met = units
+            .iter()
+            .enumerate()
+            .filter(|(_, unit)| *unit & rule != 0);
+        met.fold(0u64, |all, (place, _)| all | 1 << place)
+    };
+    let named: Vec<u64> = rules.into_iter().map(named).collect();
+    let beside = |place: usize| {
+        let with = named.iter().filter(|rule| *rule & 1 << place != 0);
+        with.fold(0, |all, rule| all | rule)
+    };
+    (0..units.len()).map(beside).collect()
+}
 
-    /// Roles that no rule minds are made active at once; the plan does so where a task needs them.
-    fn activate_free(&self, engine: &mut Engine) {
-        for person in &self.people {
-            let roles = Set(assigned(engine.state(), person.user).0 & self.free);
-            for role in roles.members() {
-                let _ = engine.request(&Record::activate_role(person.subjects[0], role.into()));
-            }
-        }
-    }
-
-    /// What is held is done, or else released, each in turn; then the rest is given out.
-    fn holders(&mut self, engine: &Engine, at: usize) -> Result<bool, Bound> {
-        let Some(&Held {
-            task,
-            subject,
-            user,
-            ..
-        }) = self.held.get(at)
-        else {
-            let left = self.tasks & !self.finished;
-            self.start = self.people.iter().map(|person| person.has).collect();
-            self.failed.clear();
-            self.kept = 0;
-            return self.given_out(engine, left);
+impl<'a, 'b> Search<'a, 'b> {
+    pub fn new(task: Task<'a>, meter: &'a mut Meter<'b>) -> Search<'a, 'b> {
+        let units = units(task.told, task.left);
+        let whole = |opens: u64| {
+            let open = units
+                .iter()
+                .enumerate()
+                .filter(|(_, unit)| *unit & !opens == 0);
+            open.fold(0u64, |all, (place, _)| all | 1 << place)
         };
-        let (bit, before) = (1u64 << task, self.finished);
-        let whose = self.people.iter().position(|person| person.user == user);
-        let has = whose.map_or(0, |whose| self.people[whose].has);
-        for done in [true, false] {
-            let mut copy = engine.clone();
-            let record = match done {
-                true => Record::done(subject, self.order, task),
-                false => Record::release(subject, self.order, task),
-            };
-            if !copy.request(&record).is_granted() {
+        let skills = |class: &Class| class.skills.iter().map(|s| whole(s.opens)).collect();
+        let skills: Vec<Vec<u64>> = task.people.classes.iter().map(skills).collect();
+        let mut bans = task.told.rules_of(13);
+        Search {
+            near: near(task.told, &units),
+            banned: bans.any(|(_, ban)| ban.a() == task.template),
+            seats: Seats::of(&task.people.classes, task.counts, &skills),
+            skills,
+            weight: vec![1; units.len()],
+            units,
+            task,
+            strangers: Vec::new(),
+            failed: HashSet::new(),
+            lists: HashMap::new(),
+            dead: None,
+            meter,
+        }
+    }
+
+    pub fn run(&mut self, probe: Probe, strangers: Vec<u16>) -> Outcome {
+        self.strangers = strangers;
+        match self.begun(probe) {
+            Ok(Some(parts)) => Outcome::Plan(parts),
+            Ok(None) => Outcome::Never(self.dead.take().map(|(dead, _)| dead)),
+            Err(spent) => Outcome::Open(spent),
+        }
+    }
+
+    fn begun(&mut self, mut probe: Probe) -> Result<Option<Vec<Part>>, Spent> {
+        let all = match self.units.len() {
+            64 => u64::MAX,
+            some => (1 << some) - 1,
+        };
+        let mut shares = Vec::new();
+        for (place, class) in self.task.people.classes.iter().enumerate() {
+            if class.has == 0 || self.task.counts[place] == 0 {
                 continue;
             }
-            self.held[at].done = done;
-            self.finished = if done { before | bit } else { before };
-            if let (false, Some(whose)) = (done, whose) {
-                self.people[whose].has = has & !bit | (self.entry(&copy, user) & bit);
-            }
-            if self.holders(&copy, at + 1)? {
-                return Ok(true);
-            }
-            self.finished = before;
-            if let Some(whose) = whose {
-                self.people[whose].has = has;
-            }
+            let user = self.task.people.all[class.people[0]].user;
+            let allowed = probe.allowed(user, &self.units, all, self.meter)?;
+            let able = self.skills[place]
+                .iter()
+                .fold(0, |able, skill| able | skill);
+            shares.push(Share {
+                user,
+                fixed: Some(place),
+                units: 0,
+                allowed,
+                able,
+                fits: 0,
+            });
         }
-        Ok(false)
-    }
-
-    /// The tasks of the order that a user has entries in.
-    fn entry(&self, engine: &Engine, user: u16) -> u64 {
-        let told = crate::told::Told::read(&[], engine.state());
-        let mine = told.entries(self.order).iter().filter(|e| e.user == user);
-        mine.fold(0, |has, entry| has | 1 << entry.task)
-    }
-
-    /// Where the search stands, so that it is not searched again: the tasks left, and what those have taken who have taken any.
-    fn standing(&self, left: u64) -> Vec<u64> {
-        let taken = |(person, &start): (&Person, &u64)| {
-            let moved = person.has != start || person.activated != 0;
-            moved.then_some([person.class as u64, start, person.has, person.activated])
+        let allowed = match self.strangers.first() {
+            Some(&user) => probe.allowed(user, &self.units, all, self.meter)?,
+            None => 0,
         };
-        let people = self.people.iter().zip(&self.start);
-        let mut people: Vec<[u64; 4]> = people.filter_map(taken).collect();
-        people.sort();
-        let mut all = vec![left];
-        all.extend(people.into_iter().flatten());
-        all
+        let new = Share {
+            user: 0,
+            fixed: None,
+            units: 0,
+            allowed,
+            able: self.seats.able(0),
+            fits: 0,
+        };
+        self.given_out(&probe, shares, &new, Seats::none(), all)
     }
 
-    /// Gives out the tasks that are left, the one first that fewest can do.
-    fn given_out(&mut self, engine: &Engine, left: u64) -> Result<bool, Bound> {
-        if left == 0 {
-            return Ok(true);
+    fn tasks_of(&self, units: u64) -> u64 {
+        let members = Set(units).members().map(usize::from);
+        members.fold(0, |all, unit| all | self.units[unit])
+    }
+
+    /// Where the search stands, as far as what is left can tell.
+    fn standing(&self, shares: &[Share], left: u64) -> Vec<u64> {
+        let members = Set(left).members().map(usize::from);
+        let touched = members.fold(0, |all, unit| all | self.near[unit]);
+        let tasks = self.tasks_of(left);
+        let mut all: Vec<[u64; 2]> = Vec::with_capacity(shares.len());
+        for share in shares.iter().filter(|share| share.units != 0) {
+            let has = share
+                .fixed
+                .map_or(0, |class| self.task.people.classes[class].has);
+            let has = has | self.tasks_of(share.units);
+            // A lone worker is one who can still come to have every task.
+            let alone = self.banned && self.task.tasks & !(has | tasks) == 0;
+            let seen = if alone {
+                share.units
+            } else {
+                share.units & touched
+            };
+            let who = share.fixed.map_or(0, |class| class as u64 + 1);
+            all.push([seen, u64::from(share.fits) << 16 | who]);
         }
-        let standing = self.standing(left);
-        if self.failed.contains(&standing) {
-            return Ok(false);
-        }
-        let mut asked = engine.clone();
-        let mut fewest: Option<Vec<Choice>> = None;
-        for task in Set(left).members().map(u16::from) {
-            let choices = self.choices(&mut asked, task, left)?;
-            let fewer = fewest.as_ref().is_none_or(|few| choices.len() < few.len());
-            if fewer {
-                fewest = Some(choices);
+        all.sort_unstable();
+        let mut standing = vec![left];
+        standing.extend(all.into_iter().flatten());
+        standing
+    }
+
+    /// The unit to give out next, few ways and many failures first; and how many ways there are for it.
+    fn next(&self, shares: &[Share], new: &Share, left: u64) -> (usize, u64) {
+        let at_work = shares.iter().filter(|share| share.units != 0).count();
+        let more = at_work < self.task.most;
+        let mut best: Option<(usize, u64)> = None;
+        for unit in Set(left).members().map(usize::from) {
+            let bit = 1 << unit;
+            let open = |share: &&Share| {
+                share.allowed & share.able & bit != 0 && (share.units != 0 || more)
+            };
+            let ways = shares.iter().filter(open).count() as u64;
+            let ways = ways + u64::from(more && new.allowed & new.able & bit != 0);
+            let better = best
+                .is_none_or(|(than, fewest)| ways * self.weight[than] < fewest * self.weight[unit]);
+            if better {
+                best = Some((unit, ways));
             }
-            if fewest.as_ref().is_some_and(Vec::is_empty) {
+            if ways == 0 {
                 break;
             }
         }
-        for choice in fewest.unwrap_or_default() {
-            let Some(after) = self.after(engine, choice) else {
+        best.unwrap_or((0, 0))
+    }
+
+    /// Gives out the units that are left.
+    fn given_out(
+        &mut self,
+        probe: &Probe,
+        shares: Vec<Share>,
+        new: &Share,
+        seated: Vec<usize>,
+        left: u64,
+    ) -> Result<Option<Vec<Part>>, Spent> {
+        if left == 0 {
+            return Ok(Some(self.parts(&shares, &seated)));
+        }
+        let standing = self.standing(&shares, left);
+        if self.failed.contains(&standing) {
+            return Ok(None);
+        }
+        let (unit, ways) = self.next(&shares, new, left);
+        let mut tried = 0;
+        for place in self
+            .order(&shares, new, unit, left)
+            .into_iter()
+            .take(ways as usize)
+        {
+            let Some(more) = self.given(&shares, new, &seated, unit, place) else {
                 continue;
             };
-            let person = self.people[choice.person].clone();
-            let now = &mut self.people[choice.person];
-            now.has |= 1 << choice.task;
-            now.activated |= choice.role.map_or(0, |role| 1 << role);
-            self.path.push(choice);
-            if self.given_out(&after, left & !(1 << choice.task))? {
-                return Ok(true);
+            let (mut shares, place, seated) = more;
+            tried += 1;
+            let left = left & !(1 << unit);
+            let user = shares[place].user;
+            let Some(mut after) = probe.taken(user, self.units[unit]) else {
+                continue;
+            };
+            let asked = shares[place].allowed & shares[place].able & left;
+            shares[place].allowed = after.allowed(user, &self.units, asked, self.meter)?;
+            let found = self.given_out(&after, shares, new, seated, left)?;
+            if found.is_some() {
+                return Ok(found);
             }
-            self.path.pop();
-            self.people[choice.person] = person;
         }
-        self.kept += 64 + 8 * standing.len();
+        if tried == 0 {
+            self.weight[unit] += 1;
+            self.keep(unit, &shares, &seated, left);
+        }
+        self.meter.kept += 64 + 8 * standing.len();
         self.failed.insert(standing);
-        Ok(false)
+        Ok(None)
     }
 
-    /// The copy after a choice.
-    fn after(&self, engine: &Engine, choice: Choice) -> Option<Engine> {
-        let mut copy = engine.clone();
-        let Choice {
-            task,
-            subject,
-            role,
-            person,
-        } = choice;
-        let first = self.people[person].subjects[0];
-        let activate = role.map(|role| Record::activate_role(first, role));
-        let work = [
-            Record::claim(subject, self.order, task),
-            Record::done(subject, self.order, task),
-        ];
-        let mut steps = activate.into_iter().chain(work);
-        steps
-            .all(|step| copy.request(&step).is_granted())
-            .then_some(copy)
-    }
-
-    /// Who could do a task now, one of those who are alike; where nobody can, why is kept.
-    fn choices(&mut self, engine: &mut Engine, task: u16, left: u64) -> Result<Vec<Choice>, Bound> {
-        let mut tried: HashSet<(usize, u64, u64)> = HashSet::new();
-        let (mut all, mut refused) = (Vec::new(), Vec::new());
-        for person in 0..self.people.len() {
-            let alike = &self.people[person];
-            if !tried.insert((alike.class, alike.has, alike.activated)) {
-                continue;
-            }
-            let before = all.len();
-            let answer = self.asked(engine, task, person, &mut all)?;
-            if all.len() == before {
-                refused.push((answer, self.people[person].subjects[0]));
+    /// The places of the shares that a unit may go to; one past the last is a share more. Where there are clerks for every unit, a clerk
+    /// more is tried first: what is each in other hands no separation minds.
+    fn order(&self, shares: &[Share], new: &Share, unit: usize, left: u64) -> Vec<usize> {
+        let at_work = shares.iter().filter(|share| share.units != 0).count();
+        let more = at_work < self.task.most;
+        let bit = 1 << unit;
+        let open = |share: &Share| share.allowed & share.able & bit != 0;
+        let some = shares.iter().enumerate();
+        let some = some.filter(|(_, share)| open(share) && (share.units != 0 || more));
+        let mut places: Vec<usize> = some.map(|(place, _)| place).collect();
+        let people: usize = self.task.counts.iter().sum();
+        let plenty = people.min(self.task.most) >= at_work + left.count_ones() as usize;
+        if more && open(new) {
+            match plenty {
+                true => places.insert(0, shares.len()),
+                false => places.push(shares.len()),
             }
         }
-        if all.is_empty() {
-            self.keep(engine, task, left, refused);
-        }
-        Ok(all)
+        places
     }
 
-    /// Asks whether a person could do the task: in a subject as it is, else with one role more made active.
-    fn asked(
+    /// The shares with a unit more in one of them, where there are clerks for all of them.
+    fn given(
         &mut self,
-        engine: &mut Engine,
-        task: u16,
-        person: usize,
-        all: &mut Vec<Choice>,
-    ) -> Result<Answer, Bound> {
-        let subjects = self.people[person].subjects.clone();
-        let mut answer = Answer::from(Reply::NoRole);
-        for &subject in &subjects {
-            let now = self.claimed(engine, subject, task)?;
-            if now.is_granted() {
-                all.push(Choice {
-                    task,
-                    person,
-                    subject,
-                    role: None,
-                });
-                return Ok(now);
+        shares: &[Share],
+        new: &Share,
+        seated: &[usize],
+        unit: usize,
+        place: usize,
+    ) -> Option<(Vec<Share>, usize, Vec<usize>)> {
+        let mut shares = shares.to_vec();
+        let mut seated = seated.to_vec();
+        if place == shares.len() {
+            let strangers = shares.iter().filter(|share| share.fixed.is_none()).count();
+            shares.push(Share {
+                user: *self.strangers.get(strangers)?,
+                ..new.clone()
+            });
+        }
+        seated.resize(shares.len(), Seats::STANDS);
+        let share = &mut shares[place];
+        share.units |= 1 << unit;
+        let units = share.units;
+        match share.fixed {
+            Some(class) => {
+                let skills = self.skills[class].iter().enumerate();
+                let fitting = skills.filter(|(_, skill)| units & !**skill == 0);
+                let (list, opens): (Vec<u32>, Vec<u64>) =
+                    fitting.map(|(at, &skill)| (at as u32, skill)).unzip();
+                share.able = opens.into_iter().fold(0, |able, skill| able | skill);
+                share.fits = self.listed(list);
+                (share.able != 0).then_some(())?;
             }
-            if now != Reply::NoRole {
-                return Ok(now);
+            None => {
+                share.able = self.seats.able(units);
+                share.fits = self.listed(self.seats.fitting(units));
+                let wants: Vec<Option<u64>> = shares
+                    .iter()
+                    .map(|share| share.fixed.is_none().then_some(share.units))
+                    .collect();
+                self.seats.seat(&wants, &mut seated, place).then_some(())?;
             }
         }
-        let (first, user) = (subjects[0], self.people[person].user);
-        let more = assigned(engine.state(), user).0 & !active(engine.state(), first).0 & !self.free;
-        for role in Set(more).members().map(u16::from) {
-            let mut copy = engine.clone();
-            let activated = copy.request(&Record::activate_role(first, role));
-            if !activated.is_granted() {
-                answer = activated;
+        Some((shares, place, seated))
+    }
+
+    /// The number of a list of those who fit: the same list, the same number.
+    fn listed(&mut self, list: Vec<u32>) -> u32 {
+        let next = self.lists.len() as u32;
+        self.meter.kept += 4 * list.len();
+        *self.lists.entry(list).or_insert(next)
+    }
+
+    /// Who does what: the clerks of each class are taken as they come.
+    fn parts(&self, shares: &[Share], seated: &[usize]) -> Vec<Part> {
+        let mut used = vec![0; self.task.people.classes.len()];
+        let mut parts = Vec::new();
+        for (place, share) in shares.iter().enumerate() {
+            if share.units == 0 {
                 continue;
             }
-            let now = self.claimed(&mut copy, first, task)?;
-            if now.is_granted() {
-                all.push(Choice {
-                    task,
-                    person,
-                    subject: first,
-                    role: Some(role),
-                });
-            } else if now != Reply::NoRole {
-                answer = now;
-            }
+            let class = share.fixed.unwrap_or_else(|| seated[place]);
+            let skills = self.skills[class].iter();
+            let skill = skills.clone().position(|skill| share.units & !skill == 0);
+            let of = &self.task.people.classes[class];
+            let person = of.people[used[class]];
+            used[class] += 1;
+            parts.push(Part {
+                person,
+                tasks: self.tasks_of(share.units),
+                roles: skill.map_or(0, |skill| of.skills[skill].roles),
+            });
         }
-        Ok(answer)
+        parts
     }
 
-    /// The answer to a claim, which is undone.
-    fn claimed(&mut self, engine: &mut Engine, subject: u16, task: u16) -> Result<Answer, Bound> {
-        self.tries += 1;
-        if self.tries > self.bound {
-            return Err(Bound(Spent::Tries));
-        }
-        if self.tries.is_multiple_of(BETWEEN) {
-            self.budget
-                .spent(self.kept)
-                .map_or(Ok(()), |s| Err(Bound(s)))?;
-        }
-        let answer = engine.request(&Record::claim(subject, self.order, task));
-        if answer.is_granted() {
-            let _ = engine.request(&Record::release(subject, self.order, task));
-        }
-        Ok(answer)
-    }
-
-    /// Keeps why nobody can, where fewer tasks are left than where it was kept before.
-    fn keep(&mut self, engine: &Engine, task: u16, left: u64, refused: Vec<(Answer, u16)>) {
-        let further = |lack: &Lack| left.count_ones() < lack.left.count_ones();
-        if !self.lack.as_ref().is_none_or(further) {
+    /// Keeps where nobody can go on, where fewer tasks are left than where it was kept before.
+    fn keep(&mut self, unit: usize, shares: &[Share], seated: &[usize], left: u64) {
+        let over = self.tasks_of(left);
+        let count = over.count_ones();
+        if self.dead.as_ref().is_some_and(|(_, least)| *least <= count) {
             return;
         }
-        let mut counted: Vec<(Answer, u16, usize)> = Vec::new();
-        for (answer, subject) in refused {
-            match counted.iter_mut().find(|(of, _, _)| *of == answer) {
-                Some((_, _, count)) => *count += 1,
-                None => counted.push((answer, subject, 1)),
-            }
-        }
-        self.lack = Some(Lack {
-            order: self.order,
-            task,
-            left,
-            engine: engine.clone(),
-            refused: counted,
-        });
+        let dead = Dead {
+            tasks: self.units[unit],
+            left: over,
+            parts: self.parts(shares, seated),
+        };
+        self.dead = Some((dead, count));
     }
 }

@@ -1,7 +1,7 @@
 //! What `who` and `finish` say, in words and as objects.
 
+use super::lack::{Lack, Refusal};
 use super::people::People;
-use super::search::Lack;
 use super::{Asked, Budget, Spent, Verdict, Why};
 use crate::desk::{joined, Desk};
 use crate::names::Sort;
@@ -15,7 +15,7 @@ use std::io::Write;
 /// As many names as one reads.
 const FEW: usize = 6;
 
-fn few(desk: &Desk, sort: Sort, numbers: &[u16]) -> String {
+pub fn few(desk: &Desk, sort: Sort, numbers: &[u16]) -> String {
     let mut all: Vec<String> = numbers
         .iter()
         .take(FEW)
@@ -58,19 +58,7 @@ impl Finding {
             }
             Verdict::Open(spent) => {
                 finding.verdict = "open";
-                let why = match spent {
-                    Spent::Tries => "which is the bound (--tries)".to_string(),
-                    Spent::Time(seconds) => {
-                        format!("and the {seconds} s that a question has are over")
-                    }
-                    Spent::Room(bytes) => {
-                        format!("and the {bytes} bytes that a question has are used")
-                    }
-                    Spent::Gone => "and nobody waits for the answer any more".to_string(),
-                };
-                finding.because = vec![format!(
-                    "{tries} claims were tried, {why}: whether it can be finished is not settled"
-                )];
+                finding.because = vec![not_settled(spent, tries)];
             }
             Verdict::Closed => {
                 finding.because = vec![format!(
@@ -118,8 +106,36 @@ impl Finding {
     }
 }
 
+/// Why it is not settled.
+pub fn not_settled(spent: Spent, tries: u64) -> String {
+    let why = match spent {
+        Spent::Tries => "which is the bound (--tries)".to_string(),
+        Spent::Time(seconds) => format!("and the {seconds} s that a question has are over"),
+        Spent::Room(bytes) => format!("and the {bytes} bytes that a question has are used"),
+        Spent::Gone => "and nobody waits for the answer any more".to_string(),
+        Spent::Subjects => "and too few subjects are free for all to sign in".to_string(),
+    };
+    format!("{tries} claims were tried, {why}: whether it can be finished is not settled")
+}
+
+/// The same in few words: `nobody can do sign`.
+pub fn in_short(desk: &Desk, why: &Why) -> String {
+    match why {
+        Why::Lack(lack) => {
+            let tasks: Vec<u16> = Set(lack.tasks).members().map(u16::from).collect();
+            let both = if tasks.len() > 1 {
+                " for one clerk"
+            } else {
+                ""
+            };
+            format!("nobody can do {}{both}", few(desk, Sort::Task, &tasks))
+        }
+        _ => because(desk, why).join("; "),
+    }
+}
+
 /// Why nobody can: which task, which rule, and what it met.
-fn because(desk: &Desk, why: &Why) -> Vec<String> {
+pub fn because(desk: &Desk, why: &Why) -> Vec<String> {
     match why {
         Why::Circle(tasks) => {
             let tasks = few(desk, Sort::Task, tasks);
@@ -132,41 +148,51 @@ fn because(desk: &Desk, why: &Why) -> Vec<String> {
             desk.say(Sort::Task, *task),
             desk.say_subject(*subject)
         )],
+        Why::Full => vec!["the ledger has no entries left for the tasks of this order".to_string()],
         Why::Nobody => vec!["nobody is there to do it".to_string()],
         Why::Lack(lack) => lacking(desk, lack),
     }
 }
 
 fn lacking(desk: &Desk, lack: &Lack) -> Vec<String> {
-    let task = desk.say(Sort::Task, lack.task);
-    let others: Vec<u16> = Set(lack.left)
-        .members()
-        .map(u16::from)
-        .filter(|&t| t != lack.task)
-        .collect();
+    let members = |tasks: u64| Set(tasks).members().map(u16::from).collect::<Vec<u16>>();
+    let others = members(lack.left & !lack.tasks);
     let left = match others[..] {
         [] => String::new(),
         _ => format!(", with {} left over too", few(desk, Sort::Task, &others)),
     };
+    let tasks = few(desk, Sort::Task, &members(lack.tasks));
+    let bound = match lack.tasks.count_ones() {
+        1 => "",
+        _ => ", which are bound together",
+    };
     let mut lines = vec![format!(
-        "nobody of them can do {task}, however the rest is given out{left}"
+        "nobody of them can do {tasks}{bound}, however the rest is given out{left}"
     )];
-    let there = Desk::at(&desk.policy, desk.names.clone(), lack.engine.clone());
-    for &(answer, subject, count) in &lack.refused {
-        let claim = Record::claim(subject, lack.order, lack.task);
-        let mut met = why(&there, &claim.0, answer);
-        met.could = None;
-        let whose = there.say_subject(subject);
-        let alike = if count > 1 {
-            format!(" and {} more", count - 1)
-        } else {
-            String::new()
-        };
-        let reasons = met.lines(&there).join("; ");
-        let reply = answer.reply;
-        lines.push(format!("{whose}{alike}: {reply}: {reasons}"));
-    }
+    lines.extend(
+        lack.refused
+            .iter()
+            .map(|refusal| refused(desk, lack, refusal)),
+    );
     lines
+}
+
+fn refused(desk: &Desk, lack: &Lack, refusal: &Refusal) -> String {
+    let there = Desk::at(&desk.policy, desk.names.clone(), refusal.engine.clone());
+    let answer = refusal.answer;
+    let mut met = why(&there, &refusal.record.0, answer);
+    met.could = None;
+    let whose = there.say_subject(refusal.record.a());
+    let alike = match refusal.count {
+        1 => String::new(),
+        count => format!(" and {} more", count - 1),
+    };
+    let task = match lack.tasks.count_ones() {
+        1 => String::new(),
+        _ => format!(", {}", desk.say(Sort::Task, refusal.task)),
+    };
+    let reasons = met.lines(&there).join("; ");
+    format!("{whose}{alike}{task}: {}: {reasons}", answer.reply)
 }
 
 /// Whom one would need.

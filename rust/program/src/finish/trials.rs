@@ -14,16 +14,16 @@ use std::io::Write;
 use std::process::{Command, Stdio};
 
 /// So many desks, or as many times that as MISHANTRAL_ROUNDS says.
-fn rounds(few: usize) -> usize {
+pub fn rounds(few: usize) -> usize {
     let times = std::env::var("MISHANTRAL_ROUNDS").ok();
     few * times.and_then(|times| times.parse().ok()).unwrap_or(1)
 }
 
 /// How large a desk may be.
-struct Size {
-    users: usize,
-    roles: usize,
-    tasks: usize,
+pub struct Size {
+    pub users: usize,
+    pub roles: usize,
+    pub tasks: usize,
 }
 
 fn set(random: &mut Random, of: usize) -> Set {
@@ -31,7 +31,7 @@ fn set(random: &mut Random, of: usize) -> Set {
 }
 
 /// A policy with one template; records that a load would refuse are left out.
-fn policy(random: &mut Random, size: &Size) -> Vec<Record> {
+pub fn policy(random: &mut Random, size: &Size) -> Vec<Record> {
     let (users, roles, tasks) = (size.users as u16, size.roles as u16, size.tasks as u16);
     let mut all: Vec<Record> = (0..users).map(Record::user).collect();
     all.extend((0..roles).map(Record::role));
@@ -42,6 +42,10 @@ fn policy(random: &mut Random, size: &Size) -> Vec<Record> {
                 .filter(|_| random.chance(1, 2))
                 .map(|role| Record::user_has_role(user, role)),
         );
+    }
+    if random.chance(1, 3) {
+        let (senior, junior) = (random.below(size.roles), random.below(size.roles));
+        all.push(Record::role_above(senior as u16, junior as u16));
     }
     for task in 0..tasks {
         all.extend(
@@ -140,7 +144,7 @@ fn is_finished(told: &Told) -> bool {
 }
 
 /// Whether these users can finish the order by any sequence of requests; nothing where there are too many.
-fn by_force(desk: &Desk, users: &[u16]) -> Option<bool> {
+pub fn by_force(desk: &Desk, users: &[u16]) -> Option<bool> {
     let policy = desk.policy.records();
     let mut engine = desk.engine().clone();
     for (&user, free) in users.iter().zip(100..) {
@@ -187,7 +191,7 @@ fn by_force(desk: &Desk, users: &[u16]) -> Option<bool> {
     Some(false)
 }
 
-fn told(desk: &Desk, users: &[u16]) -> String {
+pub fn told(desk: &Desk, users: &[u16]) -> String {
     let lines: Vec<String> = desk
         .policy
         .records()
@@ -260,15 +264,20 @@ fn verdicts_are_those_of_every_sequence() {
 }
 
 /// The desk as facts, and what finishing means, for an answer-set solver: who does what is left, and nothing else.
-fn program(desk: &Desk, users: &[u16]) -> String {
+pub fn program(desk: &Desk, users: &[u16]) -> String {
     let told = &desk.told;
     let mut text = String::from(RULES);
     let mut fact = |line: String| text += &(line + ".\n");
     for &user in users {
         fact(format!("user({user})"));
-        told.roles_of(user)
+        told.may_activate(user)
             .members()
             .for_each(|role| fact(format!("has({user},{role})")));
+    }
+    for role in told.roles.members() {
+        told.down(Set::of(&[role]))
+            .members()
+            .for_each(|below| fact(format!("below({role},{below})")));
     }
     for session in told.subjects.values() {
         session
@@ -278,7 +287,7 @@ fn program(desk: &Desk, users: &[u16]) -> String {
     }
     for &task in told.tasks.keys() {
         fact(format!("task({task})"));
-        told.open_to(task)
+        told.opening(told.roles, task)
             .members()
             .for_each(|role| fact(format!("opens({task},{role})")));
     }
@@ -322,7 +331,7 @@ entry(T,U) :- done(T,U).
 entry(T,U) :- keep(T,U).
 entry(T,U) :- does(T,U).
 on(U,R) :- by(_,U,R).
-:- limit(S,10,N), user(U), #count { R : on(U,R), of(S,R) } > N.
+:- limit(S,10,N), user(U), #count { J : on(U,R), below(R,J), of(S,J) } > N.
 :- limit(S,11,N), user(U), #count { T : entry(T,U), of(S,T) } > N.
 :- block(P,B,T), block(P,C,V), B != C, entry(T,U), entry(V,U).
 :- ban, user(U), #count { T : task(T) } > 1, entry(T,U) : task(T).
@@ -331,15 +340,20 @@ waits(T) :- task(T), not isdone(T).
 1 { at(T,1..N) } 1 :- waits(T), N = #count { V : task(V) }.
 :- before(A,B), waits(A), waits(B), at(A,X), at(B,Y), X >= Y.
 #defined held/2. #defined done/2. #defined limit/3. #defined of/2. #defined block/3. #defined ban/0. #defined bound/2.
-#defined before/2. #defined has/2. #defined opens/2. #defined user/1. #defined on/2.
+#defined before/2. #defined has/2. #defined opens/2. #defined user/1. #defined on/2. #defined below/2.
 #show.
 ";
 
 /// Whether the solver finds an answer; nothing where there is no solver.
-fn solved(program: &str) -> Option<bool> {
+pub fn solved(program: &str) -> Option<bool> {
+    solved_within(program, 0)
+}
+
+/// The same, and nothing where it takes longer than so many seconds; 0 is no limit.
+pub fn solved_within(program: &str, seconds: u64) -> Option<bool> {
     let mut clingo = Command::new("clingo");
     clingo
-        .args(["--verbose=0", "-"])
+        .args(["--verbose=0", &format!("--time-limit={seconds}"), "-"])
         .stdin(Stdio::piped())
         .stdout(Stdio::piped())
         .stderr(Stdio::piped());
@@ -349,6 +363,9 @@ fn solved(program: &str) -> Option<bool> {
     let text = String::from_utf8_lossy(&output.stdout).into_owned();
     if text.contains("UNSATISFIABLE") {
         return Some(false);
+    }
+    if seconds > 0 && !text.contains("SATISFIABLE") {
+        return None;
     }
     assert!(
         text.contains("SATISFIABLE"),

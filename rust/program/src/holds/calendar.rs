@@ -190,6 +190,13 @@ pub fn shifts(text: Option<&str>) -> Result<Vec<Shift>, String> {
 }
 
 impl Shift {
+    /// `22:00-06:00`.
+    pub fn hours(&self) -> String {
+        let minutes = |time: i64| time / (60 * SECOND);
+        let clock = |time: i64| format!("{:02}:{:02}", minutes(time) / 60, minutes(time) % 60);
+        format!("{}-{}", clock(self.from), clock(self.to))
+    }
+
     pub fn has(&self, zone: Zone, at: i64) -> bool {
         let time = zone.local(at).rem_euclid(DAY);
         match self.from < self.to {

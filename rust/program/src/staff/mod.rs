@@ -1,8 +1,19 @@
-//! `staff`: a roster and a policy tried out before anybody waits. `--simulate` plays orders that come in, and leaves a journal.
+//! `staff`: a roster and a policy tried out before anybody waits. It tells what the clerks of each shift can finish and how many of them may be
+//! away (docs/STAFF.md); `--simulate` plays orders that come in, and leaves a journal.
 
+mod chart;
 mod orders;
+mod outlook;
+mod planning;
 mod roster;
 mod simulate;
+mod tell;
+#[cfg(test)]
+mod trials;
+
+pub use planning::planned;
+/// What is asked of a plan.
+pub use planning::Options as Planning;
 
 use crate::holds::length;
 use crate::journal::Author;

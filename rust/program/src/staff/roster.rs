@@ -48,14 +48,20 @@ fn duty(line: &str, policy: &[Record], names: &Names) -> Result<Duty, String> {
     let at = at.ok_or("NAME HH:MM-HH:MM: CLERKS is expected")?;
     let (shift, clerks) = (&line[..at], &line[at + 1..]);
     let shift = shifts(Some(shift))?.remove(0);
-    let mut all = Vec::new();
-    for word in clerks.split([' ', ',']).filter(|word| !word.is_empty()) {
-        all.extend(users(word, policy, names)?);
-    }
+    let all = self::clerks(clerks, policy, names)?;
     match all.is_empty() {
         true => Err(format!("nobody comes for {}", shift.name)),
         false => Ok(Duty { shift, clerks: all }),
     }
+}
+
+/// Clerks by name, number, range or role, with spaces or commas between.
+pub fn clerks(words: &str, policy: &[Record], names: &Names) -> Result<Vec<u16>, String> {
+    let mut all = Vec::new();
+    for word in words.split([' ', ',']).filter(|word| !word.is_empty()) {
+        all.extend(users(word, policy, names)?);
+    }
+    Ok(all)
 }
 
 /// A name, a number, a range of numbers, or `role:NAME` for all who have that role in the policy.
