@@ -14,7 +14,7 @@ fn the_readers_agree() {
 #[test]
 fn the_readers_of_all_sections_agree() {
     let readers = readers_of(Sections::All);
-    let met = run_sections(&readers, 17, 50_000, Sections::All);
+    let met = run_sections(&readers, 17, 100_000, Sections::All);
     let met = met.unwrap_or_else(|difference| panic!("{difference}"));
     assert!(met.everything(Sections::All), "{met}");
 }
