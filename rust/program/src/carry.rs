@@ -1,10 +1,11 @@
 //! A desk's present brought under another policy, by ordinary requests, each asked of the engine and granted: users and their roles, what the
 //! walls bind them to, the open orders with their entries, the sessions.
 //!
-//! The order of the requests leaves nothing to a search. Done entries come first, each by a subject of its own that is destroyed at once, so that
-//! dynamic sets meet one role alone; then the sessions with all roles that they have had; then what they hold. Of the claim rules only BEFORE looks at
-//! the order, and more done entries never make it refuse: so entries are entered, again and again, as long as one is granted, and what is left
-//! then no order of entry would grant.
+//! Done entries come first, each by a subject of its own that is destroyed at once, so that dynamic sets meet one role alone; then the sessions with
+//! all roles that they have had; then what they hold. The order of entry on the old desk may be no order of entry under the new rules. Of the claim
+//! rules only BEFORE looks at the order, and more done entries never make it refuse: so entries are entered, again and again, as long as one is
+//! granted, and what a claim rule refuses then no order of entry would grant. Roles that a user has no longer are lent for a moment, in a few
+//! ways; where static sets stand in the way of each of these, other ways may be left, and the obstacle is told as not settled.
 
 use crate::desk::Desk;
 use crate::names::{Names, Sort};
@@ -25,10 +26,39 @@ pub struct Obstacle {
     pub words: String,
 }
 
+/// What a request brings over.
+#[derive(Clone, Copy, PartialEq, Eq, PartialOrd, Ord, Debug)]
+pub enum Thing {
+    User(u16),
+    /// What a user is bound to by a commit to an object.
+    Commit(u16, u16),
+    Opening(u16),
+    Session(u16),
+    /// An entry of an order, by its place among the order's entries.
+    Claim(u16, usize),
+    Done(u16, usize),
+}
+
+/// A request that was granted; those that only prepare another bring nothing over.
+#[derive(Clone, Copy, PartialEq, Eq, Debug)]
+pub struct Request {
+    pub record: Record,
+    pub of: Option<Thing>,
+}
+
+/// Whose users and roles the new desk has.
+#[derive(Clone, Copy, PartialEq, Eq, Debug)]
+pub enum Users {
+    /// Those of the old desk, with all that was changed since its load.
+    AsNow,
+    /// Those of the new policy.
+    FromPolicy,
+}
+
 /// The desk under the other policy, and how it came there.
 pub struct Carried {
     pub desk: Desk,
-    pub requests: Vec<Record>,
+    pub requests: Vec<Request>,
     pub obstacles: Vec<Obstacle>,
 }
 
@@ -41,15 +71,18 @@ pub fn carry(
     loaded: &Told,
     names: &Names,
     policy: &Policy,
+    users: Users,
 ) -> Result<Carried, Refused> {
     let mut carried = Carried {
         desk: Desk::open(policy)?,
         requests: Vec::new(),
         obstacles: Vec::new(),
     };
+    if users == Users::AsNow {
+        carried.users(present, names);
+        carried.permissions(present, loaded);
+    }
     carried.keep_names(names);
-    carried.users(present);
-    carried.permissions(present, loaded);
     carried.commits(present);
     for (&number, order) in &present.orders {
         carried.done(number, order);
@@ -82,10 +115,10 @@ impl Carried {
     }
 
     /// Asks; what is refused stands in the way.
-    fn ask(&mut self, record: Record, of: (Sort, u16)) -> bool {
+    fn ask(&mut self, record: Record, of: (Sort, u16), thing: Option<Thing>) -> bool {
         let answer = self.desk.ask(&record.0);
         if answer.is_granted() {
-            self.requests.push(record);
+            self.requests.push(Request { record, of: thing });
             return true;
         }
         let lines = why(&self.desk, &record.0, answer).lines(&self.desk);
@@ -93,7 +126,14 @@ impl Carried {
         let because = lines
             .first()
             .map_or(String::new(), |line| format!(": {line}"));
-        self.hinder(of, format!("{line} is refused, {}{because}", answer.reply));
+        let settled = match answer.reply {
+            Reply::Static => NOT_SETTLED,
+            _ => "",
+        };
+        self.hinder(
+            of,
+            format!("{line} is refused, {}{because}{settled}", answer.reply),
+        );
         false
     }
 
@@ -103,15 +143,20 @@ impl Carried {
         self.obstacles.push(Obstacle { of, words });
     }
 
-    /// Asks the first of these ways that is granted whole; else tells the refusal that came furthest.
-    fn first_way(&mut self, ways: Vec<Vec<Record>>) -> Result<(), Option<Answer>> {
+    /// Asks the first of these ways that is granted whole; else tells the refusal that came furthest. `thing` says what a request brings over.
+    fn first_way(
+        &mut self,
+        ways: impl IntoIterator<Item = Vec<Record>>,
+        thing: &dyn Fn(&Record) -> Option<Thing>,
+    ) -> Result<(), Option<Answer>> {
         let mut furthest: Option<Answer> = None;
         for way in ways {
             let answer = self.desk.tried(&way);
             if answer.is_granted() {
                 for record in way {
                     let _ = self.desk.ask(&record.0);
-                    self.requests.push(record);
+                    let of = thing(&record);
+                    self.requests.push(Request { record, of });
                 }
                 return Ok(());
             }
@@ -122,26 +167,31 @@ impl Carried {
         Err(furthest)
     }
 
-    /// The users of the present, each with the roles that it has.
-    fn users(&mut self, present: &Told) {
+    /// The users of the present, each with the roles that it has. One that the new policy has without the name that it has on the desk is deleted
+    /// and added again, since only the request that adds a user names it.
+    fn users(&mut self, present: &Told, names: &Names) {
         let there: Vec<u16> = self.desk.told.users.keys().copied().collect();
-        for user in there
-            .into_iter()
-            .filter(|user| !present.users.contains_key(user))
-        {
-            self.ask(Record::delete_user(user), (Sort::User, user));
+        let nameless = |new: &Names, user: u16| {
+            let name = names.name(Sort::User, user);
+            let free = |name: &[u8]| new.number(Sort::User, name).is_none();
+            new.name(Sort::User, user).is_none() && name.is_some_and(free)
+        };
+        for user in there {
+            if !present.users.contains_key(&user) || nameless(&self.desk.names, user) {
+                self.ask(Record::delete_user(user), (Sort::User, user), None);
+            }
         }
         for (&user, &roles) in &present.users {
-            let of = (Sort::User, user);
+            let (of, thing) = ((Sort::User, user), Some(Thing::User(user)));
             let Some(&has) = self.desk.told.users.get(&user) else {
-                self.ask(Record::add_user_with(user, roles), of);
+                self.ask(Record::add_user_with(user, roles), of, thing);
                 continue;
             };
             for role in without(has, roles) {
-                self.ask(Record::take_role(user, role), of);
+                self.ask(Record::take_role(user, role), of, None);
             }
             for role in without(roles, has) {
-                self.ask(Record::assign_role(user, role), of);
+                self.ask(Record::assign_role(user, role), of, None);
             }
         }
     }
@@ -154,17 +204,20 @@ impl Carried {
             self.ask(
                 Record::give_permission(role, permission),
                 (Sort::Role, role),
+                None,
             );
         }
         for &(role, permission) in then.difference(&now).filter(|pair| new.contains(pair)) {
             self.ask(
                 Record::take_permission(role, permission),
                 (Sort::Role, role),
+                None,
             );
         }
     }
 
-    /// Requests by a subject of its own, with one role of the user's, or with one that is lent for that alone.
+    /// Requests by a subject of its own, with one role of the user's; or with one that is lent for that alone; or with one that is lent while the
+    /// user's own are put aside, where a static set does not allow it beside them.
     fn by_hand(
         &self,
         user: u16,
@@ -173,18 +226,19 @@ impl Carried {
     ) -> Vec<Vec<Record>> {
         let may = self.desk.told.may_activate(user);
         let way = |role: u8| {
-            let create = Record::create_subject(HAND, user, Set::of(&[role]));
-            let mut way = vec![create];
+            let mut way = vec![Record::create_subject(HAND, user, Set::of(&[role]))];
             way.extend(requests);
             way.push(Record::destroy_subject(HAND));
-            if !may.has(role) {
-                way.insert(0, Record::assign_role(user, role.into()));
-                way.push(Record::take_role(user, role.into()));
-            }
             way
         };
         let (own, lent): (Vec<u8>, Vec<u8>) = roles.partition(|&role| may.has(role));
-        own.into_iter().chain(lent).map(way).collect()
+        let mut ways: Vec<Vec<Record>> = own.into_iter().map(way).collect();
+        ways.extend(lent.iter().map(|&role| lending(user, role, way(role))));
+        ways.extend(lent.iter().map(|&role| {
+            let own = self.desk.told.roles_of(user);
+            aside(user, own, lending(user, role, way(role)))
+        }));
+        ways
     }
 
     /// By each role and each permission on the object; where the role has not got that permission any more, it is lent for that alone.
@@ -219,7 +273,9 @@ impl Carried {
                 continue;
             }
             let ways = self.ways_to_commit(user, object);
-            if let Err(answer) = self.first_way(ways) {
+            let thing =
+                |record: &Record| (record.kind() == 59).then_some(Thing::Commit(user, object));
+            if let Err(answer) = self.first_way(ways, &thing) {
                 let object = self.desk.say(Sort::Object, object);
                 let reply = refused_with(answer);
                 self.hinder(
@@ -235,59 +291,91 @@ impl Carried {
         if !self.ask(
             Record::open_order(number, order.template),
             (Sort::Order, number),
+            Some(Thing::Opening(number)),
         ) {
             return;
         }
-        let done = order.entries.iter().filter(|entry| entry.holder.is_none());
-        let mut left: Vec<&Entry> = done.collect();
+        let done = order.entries.iter().enumerate();
+        let mut left: Vec<(usize, &Entry)> = done.filter(|(_, e)| e.holder.is_none()).collect();
         let mut refused = BTreeMap::new();
         loop {
             let before = left.len();
-            left.retain(|entry| {
-                let task = entry.task;
-                let requests = [
-                    Record::claim(HAND, number, task),
-                    Record::done(HAND, number, task),
-                ];
-                let all = self.desk.told.roles;
-                let opening = self.desk.told.opening(all, task);
-                let ways = self.by_hand(entry.user, opening.members(), &requests);
-                match self.first_way(ways) {
-                    Ok(()) => false,
-                    Err(answer) => {
-                        refused.insert((entry.user, task), answer);
-                        true
-                    }
+            left.retain(|&(at, entry)| match self.entered(number, at, entry) {
+                Ok(()) => false,
+                Err(answer) => {
+                    refused.insert(at, answer);
+                    true
                 }
             });
             if left.len() == before {
                 break;
             }
         }
-        for entry in left {
-            let answer = refused.get(&(entry.user, entry.task)).copied().flatten();
-            self.not_entered(number, entry, answer);
+        for (at, entry) in left {
+            self.not_entered(number, entry, refused.get(&at).copied().flatten());
         }
     }
 
-    /// A session with every role that it has had, of which those that are not active now are put down again.
+    /// One done entry.
+    fn entered(&mut self, order: u16, at: usize, entry: &Entry) -> Result<(), Option<Answer>> {
+        let task = entry.task;
+        let requests = [
+            Record::claim(HAND, order, task),
+            Record::done(HAND, order, task),
+        ];
+        let opening = self.desk.told.opening(self.desk.told.roles, task);
+        let ways = self.by_hand(entry.user, opening.members(), &requests);
+        self.first_way(ways, &|record| match record.kind() {
+            50 => Some(Thing::Claim(order, at)),
+            52 => Some(Thing::Done(order, at)),
+            _ => None,
+        })
+    }
+
+    /// A session with every role that it has had, of which those that are not active now are put down again: all at once, or one after the other
+    /// with the user's own roles put aside meanwhile.
     fn session(&mut self, subject: u16, session: &Session) {
         let (user, of) = (session.user, (Sort::Subject, subject));
-        let may = self.desk.told.may_activate(user);
-        let lent: Vec<u16> = without(session.had, may).collect();
-        for &role in &lent {
-            self.ask(Record::assign_role(user, role), of);
+        let thing = |record: &Record| (record.kind() == 40).then_some(Thing::Session(subject));
+        let told = &self.desk.told;
+        let lent: Vec<u16> = without(session.had, told.may_activate(user)).collect();
+        let former = without(session.had, session.active);
+        let mut at_once: Vec<Record> = lent.iter().map(|&r| Record::assign_role(user, r)).collect();
+        at_once.push(Record::create_subject(subject, user, session.had));
+        at_once.extend(former.map(|role| Record::deactivate_role(subject, role)));
+        at_once.extend(lent.iter().map(|&role| Record::take_role(user, role)));
+        let ways = [at_once.clone(), self.one_by_one(subject, session)];
+        if self.first_way(ways, &thing).is_ok() {
+            return;
         }
-        if self.ask(Record::create_subject(subject, user, session.had), of) {
-            for role in without(session.had, session.active) {
-                self.ask(Record::deactivate_role(subject, role), of);
+        // What is refused is told, and what is granted of it is there for what comes after.
+        for record in at_once {
+            let there = self.desk.told.subjects.contains_key(&subject);
+            let has = self.desk.told.roles_of(user).has(record.b() as u8);
+            match record.kind() {
+                43 if !there => {}
+                35 if !has => {}
+                _ => drop(self.ask(record, of, thing(&record))),
             }
         }
-        for &role in &lent {
-            if self.desk.told.roles_of(user).has(role as u8) {
-                self.ask(Record::take_role(user, role), of);
-            }
+    }
+
+    fn one_by_one(&self, subject: u16, session: &Session) -> Vec<Record> {
+        let user = session.user;
+        let own = self.desk.told.roles_of(user);
+        let mut formerly = vec![Record::create_subject(subject, user, Set::EMPTY)];
+        for role in without(session.had, session.active) {
+            formerly.extend([
+                Record::assign_role(user, role),
+                Record::activate_role(subject, role),
+                Record::deactivate_role(subject, role),
+                Record::take_role(user, role),
+            ]);
         }
+        let mut way = aside(user, own, formerly);
+        let active = session.active.members().map(u16::from);
+        way.extend(active.map(|role| Record::activate_role(subject, role)));
+        way
     }
 
     /// What is held in an order, each by its holder: with a role that it has had, where none that is active opens the task any more.
@@ -295,29 +383,38 @@ impl Carried {
         if !self.desk.told.orders.contains_key(&of) {
             return;
         }
-        for entry in &order.entries {
+        for (at, entry) in order.entries.iter().enumerate() {
             let Some(holder) = entry.holder else { continue };
             let claim = Record::claim(holder, of, entry.task);
             let mut ways = vec![vec![claim]];
             if let Some(session) = self.desk.told.subjects.get(&holder) {
-                let had = Set(session.had.0 & !session.active.0);
-                let opening = self.desk.told.opening(had, entry.task);
-                let may = self.desk.told.may_activate(session.user);
-                ways.extend(opening.members().map(|role| {
-                    let (user, number) = (session.user, u16::from(role));
-                    let (up, down) = (Record::activate_role, Record::deactivate_role);
-                    let mut way = vec![up(holder, number), claim, down(holder, number)];
-                    if !may.has(role) {
-                        way.insert(0, Record::assign_role(user, number));
-                        way.push(Record::take_role(user, number));
-                    }
-                    way
-                }));
+                ways.extend(self.taken_up(holder, session, claim));
             }
-            if let Err(answer) = self.first_way(ways) {
+            let thing = |record: &Record| (record.kind() == 50).then_some(Thing::Claim(of, at));
+            if let Err(answer) = self.first_way(ways, &thing) {
                 self.not_entered(of, entry, answer);
             }
         }
+    }
+
+    /// A claim with a role that a session has had, taken up for that alone.
+    fn taken_up(&self, holder: u16, session: &Session, claim: Record) -> Vec<Vec<Record>> {
+        let told = &self.desk.told;
+        let had = Set(session.had.0 & !session.active.0);
+        let may = told.may_activate(session.user);
+        let way = |role: u8| {
+            let number = u16::from(role);
+            let way = vec![
+                Record::activate_role(holder, number),
+                claim,
+                Record::deactivate_role(holder, number),
+            ];
+            match may.has(role) {
+                true => way,
+                false => lending(session.user, role, way),
+            }
+        };
+        told.opening(had, claim.c()).members().map(way).collect()
     }
 
     fn not_entered(&mut self, order: u16, entry: &Entry, answer: Option<Answer>) {
@@ -329,13 +426,36 @@ impl Carried {
             let policy = &self.desk.policy;
             policy.rule(answer.reply, answer.place)
         });
-        let because = match rule {
-            Some(rule) => format!(" would break {rule}"),
-            None => format!(" is refused{}", refused_with(answer)),
+        let because = match (rule, answer.map(|answer| answer.reply)) {
+            (Some(rule), _) => format!(" would break {rule}"),
+            (_, Some(Reply::Static)) => format!(" is refused{}{NOT_SETTLED}", refused_with(answer)),
+            _ => format!(" is refused{}", refused_with(answer)),
         };
         let words = format!("the entry of {user} for {task}{because}");
         self.hinder((Sort::Order, order), words);
     }
+}
+
+/// What is told where the ways that were tried are not all there are.
+const NOT_SETTLED: &str = " (not settled: another order of requests may get there)";
+
+/// These requests, with a role that the user has meanwhile.
+fn lending(user: u16, role: u8, requests: Vec<Record>) -> Vec<Record> {
+    let role = role.into();
+    let mut all = vec![Record::assign_role(user, role)];
+    all.extend(requests);
+    all.push(Record::take_role(user, role));
+    all
+}
+
+/// These requests, while the user has none of these roles.
+fn aside(user: u16, roles: Set, requests: Vec<Record>) -> Vec<Record> {
+    let roles = || roles.members().map(u16::from);
+    let taken = roles().map(|role| Record::take_role(user, role));
+    let mut all: Vec<Record> = taken.collect();
+    all.extend(requests);
+    all.extend(roles().map(|role| Record::assign_role(user, role)));
+    all
 }
 
 /// `, 11 NO ROLE`; where there was no way to ask, nobody's role opens it.
@@ -345,4 +465,4 @@ fn refused_with(answer: Option<Answer>) -> String {
 }
 
 #[cfg(test)]
-mod tests;
+pub mod tests;

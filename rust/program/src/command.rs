@@ -543,6 +543,50 @@ fn whatif() -> Command {
         ))
 }
 
+fn moving() -> Command {
+    Command::new("move")
+        .about("A desk with open orders brought under another policy, into a new journal")
+        .long_about(
+            "Begins a journal with another policy and brings the desk's present into it by ordinary requests, each asked of the engine and granted: \
+             users and roles, what walls bind users to, open orders with their entries, and sessions with all roles that they have had active. Names, \
+             keys, openings and the time of each entry come along, so that `holds` and the audit trail cross the move. The order in which entries can be \
+             entered under the new rules is searched for.\n\n\
+             All of it moves, or nothing is written: what stands in the way is told in words, with the rule and its line. --leave keeps orders behind on \
+             the old journal, which stays as it is. The old desk must not be served meanwhile; with --dry-run it may be. Killed at any moment, the new \
+             journal is whole or absent.",
+        )
+        .arg(journal_file().required(true).help("The desk's journal"))
+        .arg(policy().long("policy").help("The other policy: records, text, or OPL/XML"))
+        .args([tasks(), format()])
+        .arg(
+            Arg::new("into")
+                .long("to")
+                .value_name("FILE")
+                .value_hint(ValueHint::FilePath)
+                .required_unless_present("dry-run")
+                .help("The new journal, which must not be there yet"),
+        )
+        .arg(flag("dry-run", "Tell what would be moved, and what stands in the way; nothing is written"))
+        .arg(value("leave", "ORDERS", "Leave these orders behind: numbers or names, with commas between"))
+        .arg(
+            value("users", "WHOSE", "as-now: users and roles as the desk has them now, with all changes since its load; from-policy: as the new policy has them")
+                .value_parser(["as-now", "from-policy"])
+                .default_value("as-now"),
+        )
+        .arg(flag("json", "One object"))
+        .after_help(concat!(
+            "Examples:\n",
+            "  mishantral move --journal desk.db --policy new.txt --dry-run\n",
+            "  mishantral move --journal desk.db --policy new.txt --to new.db --leave 7,mill_9\n",
+            "\n",
+            "  desk.db cannot be moved under new.txt: one thing stands in the way; nothing was written\n",
+            "    mill_7: the entry of anna for sign would break task set 1 of repair sign (new.txt, line 12)\n",
+            "    --leave 7 would leave these orders on desk.db\n",
+            "\n",
+            "Exit status: 0 moved, or could be; 1 something stands in the way, or the policy or the journal is refused; 2 wrong use.",
+        ))
+}
+
 /// A number of hours above 0.
 fn hours(word: &str) -> Result<f64, String> {
     let hours = word.parse::<f64>().ok();
@@ -748,6 +792,7 @@ pub fn command() -> Command {
             who(),
             finish(),
             whatif(),
+            moving(),
             holds(),
             staff(),
             generate(),

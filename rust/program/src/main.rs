@@ -14,6 +14,8 @@ mod finish;
 mod holds;
 mod journal;
 mod manual;
+mod moving;
+mod progress;
 mod prompt;
 mod report;
 mod run;
@@ -210,6 +212,24 @@ fn whatif(given: &ArgMatches, out: &mut dyn Write) -> Done {
         json: given.get_flag("json"),
     };
     whatif::whatif(&options, &policy, out)
+}
+
+fn moving(given: &ArgMatches, out: &mut dyn Write) -> Done {
+    let format = text(given, "from").and_then(Format::of_name);
+    let file = text(given, "policy").unwrap_or_default();
+    let policy = source::policy(file, text(given, "tasks"), format)?;
+    let options = moving::Options {
+        journal: text(given, "journal").unwrap_or_default(),
+        to: text(given, "into"),
+        dry_run: given.get_flag("dry-run"),
+        leave: text(given, "leave"),
+        users: match text(given, "users") {
+            Some("from-policy") => carry::Users::FromPolicy,
+            _ => carry::Users::AsNow,
+        },
+        json: given.get_flag("json"),
+    };
+    moving::moving(&options, &policy, out)
 }
 
 fn mend(given: &ArgMatches, out: &mut dyn Write) -> Done {
@@ -572,6 +592,7 @@ fn done(out: &mut dyn Write) -> Done {
         Some(("convert", given)) => convert(given, out),
         Some(("diff", given)) => diff(given, out),
         Some(("whatif", given)) => whatif(given, out),
+        Some(("move", given)) => moving(given, out),
         Some(("write", given)) => write(given, out),
         Some(("mend", given)) => mend(given, out),
         Some(("serve", given)) => serve(given, out),

@@ -14,7 +14,7 @@ fn set(random: &mut Random, of: usize) -> Set {
 }
 
 /// A policy with two templates, walls, seniors and rules of every kind; records that a load would refuse are left out.
-fn policy(random: &mut Random) -> Policy {
+pub fn policy(random: &mut Random) -> Policy {
     let mut all: Vec<Record> = (0..USERS as u16).map(Record::user).collect();
     all.extend((0..ROLES as u16).map(Record::role));
     all.extend((0..TASKS as u16).map(|task| Record::task(task, task % 2)));
@@ -54,7 +54,7 @@ fn policy(random: &mut Random) -> Policy {
     }
 }
 
-fn request(random: &mut Random) -> Record {
+pub fn request(random: &mut Random) -> Record {
     let below = |random: &mut Random, of: usize| random.below(of) as u16;
     let (user, role, subject) = (
         below(random, USERS + 1),
@@ -99,7 +99,7 @@ fn worked(random: &mut Random, policy: &Policy) -> Desk {
 
 fn carried(desk: &Desk, policy: &Policy) -> Carried {
     let loaded = Told::loaded(&desk.policy.records());
-    carry(&desk.told, &loaded, &desk.names, policy).expect("the policy loads")
+    carry(&desk.told, &loaded, &desk.names, policy, Users::AsNow).expect("the policy loads")
 }
 
 /// Entries in an order that does not tell when each was entered.
@@ -111,7 +111,7 @@ fn sorted(order: &Order) -> Vec<(u16, u16, Option<u16>)> {
 }
 
 /// What a desk would answer, on copies, to everything that the random requests are about.
-fn answers(desk: &Desk) -> Vec<(Record, Reply)> {
+pub fn answers(desk: &Desk) -> Vec<(Record, Reply)> {
     let mut all = Vec::new();
     for subject in 0..5 {
         for order in 0..4 {
@@ -194,7 +194,7 @@ fn under_another_policy_what_is_carried_is_as_it_was_or_told() {
         let carried = carried(&desk, &other);
         // The requests are granted once more, in their order, and lead to the same.
         let mut again = Desk::open(&other).unwrap();
-        for record in &carried.requests {
+        for Request { record, .. } in &carried.requests {
             assert!(again.ask(&record.0).is_granted(), "round {round}");
         }
         assert_eq!(again.told.orders, carried.desk.told.orders);

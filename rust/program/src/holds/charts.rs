@@ -2,7 +2,7 @@
 
 use super::calendar::{length, short_length, HOUR, SECOND};
 use super::figures::{By, Figures};
-use super::hold::{Ended, Hold, Part};
+use super::hold::{Ended, Hold, Part, PARTS};
 use super::report::Report;
 use plot::{Colour, Scale, Svg, Time};
 
@@ -55,6 +55,7 @@ fn colour(part: Part) -> Colour {
         Part::Somebody => Colour::Blue,
         Part::Absent => Colour::Grey,
         Part::Held => Colour::Green,
+        Part::Before => Colour::Purple,
     }
 }
 
@@ -109,7 +110,7 @@ fn head(svg: &mut Svg, report: &Report, top: f64, title: &str, unit: &str, with_
 }
 
 /// The means of some holds' parts, in seconds: stacked they are the mean hold.
-fn means(figures: &Figures) -> [f64; 4] {
+fn means(figures: &Figures) -> [f64; PARTS] {
     let count = figures.count().max(1) as f64;
     figures.parts.map(|part| seconds(part) / count)
 }

@@ -1,7 +1,7 @@
 //! Holds by period, clerk or shift: how many, how long, and the parts of their time.
 
 use super::calendar::{Shift, Zone, WEEKDAYS};
-use super::hold::{Ended, Hold};
+use super::hold::{Ended, Hold, PARTS};
 use crate::names::{Names, Sort};
 use std::collections::BTreeMap;
 
@@ -71,7 +71,7 @@ pub struct Figures {
     /// The lengths, rising.
     lengths: Vec<i64>,
     /// Of the holds that ended, by `Part`.
-    pub parts: [i64; 4],
+    pub parts: [i64; PARTS],
     pub lying: usize,
     pub longest_lying: i64,
     pub unclaimed: usize,
@@ -153,7 +153,7 @@ mod tests {
             end: length,
             clerk: None,
             ended,
-            parts: [length, 0, 0, 0],
+            parts: [length, 0, 0, 0, 0],
         }
     }
 

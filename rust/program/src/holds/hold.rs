@@ -13,10 +13,21 @@ pub enum Part {
     Absent,
     /// Somebody held the task: with `--end done`, or where the claim was released later.
     Held,
+    /// It lay on the desk that this one was moved from, whose journal tells more.
+    Before,
 }
 
+/// How many parts there are.
+pub const PARTS: usize = Part::ALL.len();
+
 impl Part {
-    pub const ALL: [Part; 4] = [Part::Nobody, Part::Somebody, Part::Absent, Part::Held];
+    pub const ALL: [Part; 5] = [
+        Part::Nobody,
+        Part::Somebody,
+        Part::Absent,
+        Part::Held,
+        Part::Before,
+    ];
 
     pub fn words(self) -> &'static str {
         match self {
@@ -24,6 +35,7 @@ impl Part {
             Part::Somebody => "somebody could",
             Part::Absent => "nobody signed in",
             Part::Held => "held",
+            Part::Before => "before the move",
         }
     }
 
@@ -34,6 +46,7 @@ impl Part {
             Part::Somebody => "somebody_could",
             Part::Absent => "nobody_signed_in",
             Part::Held => "held",
+            Part::Before => "before_move",
         }
     }
 }
@@ -63,7 +76,7 @@ pub struct Hold {
     pub clerk: Option<u16>,
     pub ended: Ended,
     /// By `Part`.
-    pub parts: [i64; 4],
+    pub parts: [i64; PARTS],
 }
 
 impl Hold {
@@ -91,9 +104,19 @@ pub struct View {
 }
 
 impl View {
+    /// The task is held.
     pub fn held() -> View {
+        View::of(Part::Held)
+    }
+
+    /// The order lay on the desk before the move.
+    pub fn before() -> View {
+        View::of(Part::Before)
+    }
+
+    fn of(part: Part) -> View {
         View {
-            part: Part::Held,
+            part,
             could: Vec::new(),
             met: Vec::new(),
         }
@@ -117,7 +140,7 @@ pub struct Detail {
     pub met: Sums<(Refusal, u16)>,
     pub refused: Sums<(Refusal, Option<u16>)>,
     /// The time by part and hour of the day.
-    pub hours: [[i64; 24]; 4],
+    pub hours: [[i64; 24]; PARTS],
 }
 
 /// A hold under way.
@@ -128,7 +151,7 @@ pub struct Lie {
     pub request: i64,
     /// Up to here its time is split.
     pub since: i64,
-    pub parts: [i64; 4],
+    pub parts: [i64; PARTS],
     pub detail: Detail,
 }
 
@@ -138,7 +161,7 @@ impl Lie {
             start,
             request,
             since: start,
-            parts: [0; 4],
+            parts: [0; PARTS],
             detail: Detail::default(),
         }
     }

@@ -115,6 +115,15 @@ impl Track {
         }
     }
 
+    /// The time up to a moment was on the desk before the move.
+    fn before(&mut self, at: i64, zone: Zone) {
+        if self.waits() {
+            if let Some(now) = &mut self.now {
+                now.until(at, &View::before(), zone);
+            }
+        }
+    }
+
     /// Asks what is stale, and makes the view of it.
     fn look(&mut self, engine: &mut Engine, seats: &Seats, task: u16) -> Result<(), Unfit> {
         for subject in members(self.stale & seats.live) {
@@ -179,6 +188,17 @@ impl Track {
     }
 }
 
+/// A claim or a done that a move brought, as it was on the desk before.
+struct Earlier {
+    /// Its number there.
+    number: i64,
+    at: i64,
+    /// Its number here.
+    row: i64,
+    record: Record,
+    user: Option<u16>,
+}
+
 /// The measuring of one journal.
 pub struct Measure<'a> {
     asked: &'a Asked,
@@ -191,6 +211,8 @@ pub struct Measure<'a> {
     in_use: usize,
     /// Whether some order that lies is not fresh.
     stale: bool,
+    /// What a move brought, which is looked at when all of it is there.
+    earlier: Vec<Earlier>,
     pub holds: Vec<Hold>,
     pub totals: Totals,
     pub worst: Worst,
@@ -213,6 +235,7 @@ impl<'a> Measure<'a> {
             entries: [0; 64],
             in_use: 0,
             stale: false,
+            earlier: Vec::new(),
             holds: Vec::new(),
             totals: Totals::default(),
             worst: Worst::new(asked.worst),
@@ -268,9 +291,29 @@ impl<'a> Measure<'a> {
         self.holds.push(hold);
     }
 
+    /// What a move brought counts by its time on the desk before, in the order of that desk: entries may have been entered here in another.
+    fn moved(&mut self) {
+        let mut earlier = std::mem::take(&mut self.earlier);
+        if earlier.is_empty() {
+            return;
+        }
+        earlier.sort_by_key(|one| one.number);
+        let zone = self.asked.zone;
+        for one in earlier {
+            if let Some(Some(track)) = self.tracks.get_mut(usize::from(one.record.b())) {
+                track.before(one.at, zone);
+            }
+            self.worked(&one.record, one.at, one.user, one.row);
+        }
+        let moved_at = self.clock;
+        for track in self.tracks.iter_mut().flatten() {
+            track.before(moved_at, zone);
+        }
+    }
+
     /// A granted claim, release or done.
-    fn worked(&mut self, record: &Record, row: &Row) {
-        let (order, task, at) = (record.b(), record.c(), self.clock);
+    fn worked(&mut self, record: &Record, at: i64, user: Option<u16>, number: i64) {
+        let (order, task) = (record.b(), record.c());
         let count = self.entries[usize::from(order)];
         match record.kind() {
             50 => self.entered(order, count + 1, at),
@@ -285,12 +328,12 @@ impl<'a> Measure<'a> {
         let pair = self.asked.pairs.0[track.pair];
         if task == pair.to && !track.measured {
             match record.kind() {
-                50 => track.claim = Some(Claim { at, user: row.user }),
+                50 => track.claim = Some(Claim { at, user }),
                 51 => track.released(at, zone),
                 _ => self.reached(&mut track, at),
             }
         } else if task == pair.from && record.kind() == 52 && !track.measured {
-            let lie = Some(Lie::new(at, row.number));
+            let lie = Some(Lie::new(at, number));
             match track.claim {
                 None => track.now = lie,
                 Some(_) => track.next = lie,
@@ -368,13 +411,23 @@ impl<'a> Measure<'a> {
                 }
                 self.entered(a, 0, at);
             }
-            50..=52 => self.worked(record, row),
+            50..=52 => match &row.moved {
+                Some(moved) => self.earlier.push(Earlier {
+                    number: moved.number,
+                    at: moved.at,
+                    row: row.number,
+                    record: *record,
+                    user: row.user,
+                }),
+                None => self.worked(record, at, row.user, row.number),
+            },
             _ => {}
         }
     }
 
     /// The journal is at its end: what lies, lies up to its last request.
     pub fn finish(&mut self) {
+        self.moved();
         let last = self.clock;
         for order in 0..self.tracks.len() {
             let Some(mut track) = self.tracks[order].take() else {
@@ -402,6 +455,10 @@ impl Look for Measure<'_> {
     /// Time has passed since the last change: what the orders that lie have stood at meanwhile is asked now.
     fn before(&mut self, row: &Row, engine: &mut Engine) -> Result<(), Unfit> {
         (self.progress)(row.number);
+        // The requests of a move come from no client.
+        if row.client != 0 {
+            self.moved();
+        }
         if row.at <= self.clock {
             return Ok(());
         }

@@ -1,13 +1,13 @@
 //! The report as one JSON object. Times are microseconds.
 
 use super::figures::{By, Figures};
-use super::hold::{Detail, Hold, Part, Refusal};
+use super::hold::{Detail, Hold, Part, Refusal, PARTS};
 use super::report::{by_refusal, reply_name, Report};
 use super::text::end;
 use crate::names::Sort;
 use serde_json::{json, Map, Value};
 
-fn parts(parts: &[i64; 4]) -> Value {
+fn parts(parts: &[i64; PARTS]) -> Value {
     let all = Part::ALL
         .into_iter()
         .map(|part| (format!("{}_us", part.key()), json!(parts[part as usize])));

@@ -2,7 +2,7 @@
 
 use super::calendar::{length, SECOND};
 use super::figures::{By, Figures};
-use super::hold::{Detail, Ended, Hold, Part};
+use super::hold::{Detail, Ended, Hold, Part, PARTS};
 use super::report::{by_refusal, Report};
 use crate::desk::joined;
 use std::io::{self, Write};
@@ -23,14 +23,15 @@ fn of(time: Option<i64>) -> String {
 
 /// The parts that the report's holds have at all.
 fn parts(report: &Report) -> Vec<Part> {
-    let held = |part: &Part| {
-        *part != Part::Held
-            || report
-                .holds
-                .iter()
-                .any(|hold| hold.parts[Part::Held as usize] > 0)
+    let some = |part: Part| {
+        report
+            .holds
+            .iter()
+            .any(|hold| hold.parts[part as usize] > 0)
     };
-    Part::ALL.into_iter().filter(held).collect()
+    let always = |part: &Part| !matches!(part, Part::Held | Part::Before);
+    let all = Part::ALL.into_iter();
+    all.filter(|part| always(part) || some(*part)).collect()
 }
 
 fn row(name: &str, figures: &Figures, parts: &[Part]) -> Vec<String> {
@@ -257,7 +258,7 @@ fn refused(report: &Report, out: &mut dyn Write) -> io::Result<()> {
 }
 
 /// `nobody could 15 h 20 min, somebody could 20 min 00 s`.
-fn say_parts(parts: &[i64; 4]) -> String {
+fn say_parts(parts: &[i64; PARTS]) -> String {
     let some = Part::ALL
         .into_iter()
         .filter(|&part| parts[part as usize] > 0);

@@ -1,6 +1,6 @@
 //! Sums over all holds, and the longest of them with their own.
 
-use super::hold::{Detail, Hold, Refusal};
+use super::hold::{Detail, Hold, Refusal, PARTS};
 use std::cmp::Reverse;
 use std::collections::{BTreeMap, BinaryHeap};
 
@@ -10,7 +10,7 @@ pub struct Totals {
     pub could: BTreeMap<u16, i64>,
     pub met: BTreeMap<(Refusal, u16), i64>,
     pub refused: BTreeMap<(Refusal, Option<u16>), i64>,
-    pub hours: [[i64; 24]; 4],
+    pub hours: [[i64; 24]; PARTS],
 }
 
 impl Totals {

@@ -142,7 +142,8 @@ impl Journal {
             params![start.at, self.last, start.program],
         )?;
         if (found.relaid || found.version < VERSION) && self.last > 0 {
-            self.keep(
+            keep(
+                &self.connection,
                 self.last,
                 self.chain.head(),
                 found.engine.state(),
@@ -186,7 +187,13 @@ impl Journal {
         let last = group.rows.last().map_or(self.last, |row| row.number);
         let taken = last - self.snapshot >= self.every;
         if taken {
-            self.keep(last, chain.head(), group.state, group.live)?;
+            keep(
+                &self.connection,
+                last,
+                chain.head(),
+                group.state,
+                group.live,
+            )?;
         }
         run("COMMIT")?;
         Ok((last, chain, if taken { last } else { self.snapshot }))
@@ -214,24 +221,6 @@ impl Journal {
             insert.execute(params![self.last, jump.expected, jump.found])?;
             chain.note(&Note::Clock(jump));
         }
-        Ok(())
-    }
-
-    fn keep(&self, after: i64, sum: Sum, state: &State, live: &Live) -> rusqlite::Result<()> {
-        let taken = Snapshot::of(after, Kept::Sum(sum), state, live);
-        let [policy, sessions, orders, openings] = &taken.blobs;
-        let mut insert = self.connection.prepare_cached(tables::INSERT_SNAPSHOT)?;
-        insert.execute(params![
-            after,
-            taken.layout,
-            &sum[..],
-            policy,
-            sessions,
-            orders,
-            openings,
-            taken.names,
-            &taken.sum()[..]
-        ])?;
         Ok(())
     }
 
@@ -355,7 +344,7 @@ impl Writes for Journal {
     /// Takes a snapshot of the desk as it stands, and moves the log into the journal: what comes last at an end that was asked for.
     fn finish(&mut self, state: &State, live: &Live) -> Result<(), Failed> {
         let done = match self.last > self.snapshot {
-            true => self.keep(self.last, self.chain.head(), state, live),
+            true => keep(&self.connection, self.last, self.chain.head(), state, live),
             false => Ok(()),
         };
         done.map_err(|why| failed(&why))?;
@@ -364,8 +353,33 @@ impl Writes for Journal {
     }
 }
 
+/// Takes a snapshot of the desk after a request.
+pub fn keep(
+    connection: &Connection,
+    after: i64,
+    sum: Sum,
+    state: &State,
+    live: &Live,
+) -> rusqlite::Result<()> {
+    let taken = Snapshot::of(after, Kept::Sum(sum), state, live);
+    let [policy, sessions, orders, openings] = &taken.blobs;
+    let mut insert = connection.prepare_cached(tables::INSERT_SNAPSHOT)?;
+    insert.execute(params![
+        after,
+        taken.layout,
+        &sum[..],
+        policy,
+        sessions,
+        orders,
+        openings,
+        taken.names,
+        &taken.sum()[..]
+    ])?;
+    Ok(())
+}
+
 /// Writes rows, each with its sum.
-fn rows(connection: &Connection, rows: &[Row], chain: &mut Chain) -> rusqlite::Result<()> {
+pub fn rows(connection: &Connection, rows: &[Row], chain: &mut Chain) -> rusqlite::Result<()> {
     let mut insert = connection.prepare_cached(tables::INSERT)?;
     let mut before: Option<&Row> = None;
     for row in rows {

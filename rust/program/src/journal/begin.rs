@@ -1,11 +1,12 @@
 //! A new journal: made whole beside its place, and put there by its name alone, so that a journal that is there is whole.
 
 use super::about::about;
-use super::chain::Sum;
+use super::append::{keep, rows};
+use super::chain::{Chain, Sum};
 use super::files::{self, Locks};
 use super::views::VIEWS;
 use super::{head, postgres};
-use super::{tables, APPLICATION, VERSION};
+use super::{tables, Live, Row, APPLICATION, VERSION};
 use crate::desk::Desk;
 use crate::names::{Naming, Sort};
 use crate::source::Policy;
@@ -36,11 +37,46 @@ pub fn now() -> i64 {
 /// The longest name that a journal takes, in bytes.
 pub const LONGEST_NAME: usize = 64;
 
+/// What a move brings into a new journal, behind its head.
+pub struct Brought<'a> {
+    /// The journal that the desk was moved from, its last request, and the sum of that where rows are chained there.
+    pub from: &'a str,
+    pub number: i64,
+    pub sum: Option<Sum>,
+    pub keys: &'a [Key],
+    pub rows: &'a [Row],
+    /// The desk after these rows.
+    pub state: &'a State,
+    pub live: &'a Live,
+}
+
+/// A key that a request of another journal had, with what that one was answered.
+#[derive(Clone, PartialEq, Eq, Debug)]
+pub struct Key {
+    pub account: String,
+    pub key: String,
+    pub number: i64,
+    pub at: i64,
+    pub record: Vec<u8>,
+    pub reply: u8,
+    pub place: u16,
+}
+
 /// Makes a journal of an accepted policy, where there is none, in a file or in a database. A refused policy is told by the caller.
 pub fn begin(file: &str, policy: &Policy) -> Result<Result<(), Refused>, Stop> {
     if let Err(refused) = Desk::open(policy) {
         return Ok(Err(refused));
     }
+    whole(file, policy, None).map(Ok)
+}
+
+/// Makes a journal with what a move brings, where there is none.
+pub fn brought(file: &str, policy: &Policy, brought: &Brought) -> Result<(), Stop> {
+    whole(file, policy, Some(brought))
+}
+
+/// Whole, or not there.
+fn whole(file: &str, policy: &Policy, brought: Option<&Brought>) -> Result<(), Stop> {
     if let Some(long) = namings(policy).iter().find(|n| n.name.len() > LONGEST_NAME) {
         let (word, number, length) = (long.sort.word(), long.number, long.name.len());
         return wrong(format!(
@@ -51,9 +87,7 @@ pub fn begin(file: &str, policy: &Policy) -> Result<Result<(), Refused>, Stop> {
     if postgres::is_database(file) {
         let made = postgres::Place::of(file).and_then(|place| postgres::begin(&place, policy));
         let shown = postgres::shown(file);
-        return made
-            .map(Ok)
-            .map_err(|why| Stop::Wrong(vec![format!("{shown}: it cannot be made: {why}")]));
+        return made.map_err(|why| Stop::Wrong(vec![format!("{shown}: it cannot be made: {why}")]));
     }
     let (place, new) = (Path::new(file), beside(Path::new(file), ".new"));
     // Whoever begins one at the same time waits for none of it.
@@ -67,9 +101,8 @@ pub fn begin(file: &str, policy: &Policy) -> Result<Result<(), Refused>, Stop> {
         }
     };
     away();
-    let done = made(&new, policy).and_then(|()| put(&new, place));
-    done.map(Ok).map_err(|why| {
-        // Whole, or not there.
+    let done = made(&new, policy, brought).and_then(|()| put(&new, place));
+    done.map_err(|why| {
         away();
         Stop::Wrong(vec![format!("{file}: it cannot be made: {why}")])
     })
@@ -85,9 +118,9 @@ fn put(new: &Path, place: &Path) -> Result<(), String> {
     folder.map_err(failed)
 }
 
-fn made(new: &Path, policy: &Policy) -> Result<(), String> {
+fn made(new: &Path, policy: &Policy, brought: Option<&Brought>) -> Result<(), String> {
     files::private(new).map_err(|why| why.to_string())?;
-    filled(new, policy).map_err(|why| why.to_string())?;
+    filled(new, policy, brought).map_err(|why| why.to_string())?;
     // What is in a log beside it would be lost with the name.
     match fs::metadata(beside(new, "-wal")).map_or(0, |log| log.len()) {
         0 => Ok(()),
@@ -96,16 +129,33 @@ fn made(new: &Path, policy: &Policy) -> Result<(), String> {
 }
 
 /// Without a log as long as it is filled: a disk that gets full then shows at once. The log's mode comes last, and is one page.
-fn filled(new: &Path, policy: &Policy) -> rusqlite::Result<()> {
+fn filled(new: &Path, policy: &Policy, brought: Option<&Brought>) -> rusqlite::Result<()> {
     let mut connection = Connection::open(new)?;
     connection.pragma_update(None, "synchronous", "FULL")?;
     let act = connection.transaction()?;
     act.pragma_update(None, "application_id", APPLICATION)?;
     act.pragma_update(None, "user_version", VERSION)?;
+    declared(&act, policy)?;
+    match brought {
+        None => drop(sealed(&act)?),
+        Some(brought) => moved_in(&act, brought)?,
+    }
+    act.commit()?;
+    let sound: String = connection.query_row("PRAGMA integrity_check(1)", [], |r| r.get(0))?;
+    let mode: String = connection.query_row("PRAGMA journal_mode = WAL", [], |r| r.get(0))?;
+    if (sound.as_str(), mode.as_str()) != ("ok", "wal") {
+        let why = format!("{sound}; the log's mode is {mode}");
+        return Err(rusqlite::Error::InvalidParameterName(why));
+    }
+    connection.close().map_err(|(_, why)| why)
+}
+
+/// Tables, views and the policy.
+fn declared(act: &Connection, policy: &Policy) -> rusqlite::Result<()> {
     act.execute_batch(tables::NEW)?;
     act.execute_batch(tables::KEPT)?;
     act.execute_batch(VIEWS)?;
-    words(&act)?;
+    words(act)?;
     let [policy_words, sessions_words, orders_words] = lengths();
     act.execute(
         "INSERT INTO journal VALUES (1, ?1, ?2, ?3, ?4, ?5, ?6, ?7, NULL, NULL, NULL, x'')",
@@ -143,15 +193,36 @@ fn filled(new: &Path, policy: &Policy) -> rusqlite::Result<()> {
         } = &naming;
         act.execute(tables::INSERT_NAME, params![0, sort.word(), number, name])?;
     }
-    sealed(&act)?;
-    act.commit()?;
-    let sound: String = connection.query_row("PRAGMA integrity_check(1)", [], |r| r.get(0))?;
-    let mode: String = connection.query_row("PRAGMA journal_mode = WAL", [], |r| r.get(0))?;
-    if (sound.as_str(), mode.as_str()) != ("ok", "wal") {
-        let why = format!("{sound}; the log's mode is {mode}");
-        return Err(rusqlite::Error::InvalidParameterName(why));
+    Ok(())
+}
+
+/// What a move brings: where from, the keys, and requests that were granted, with a snapshot behind them.
+fn moved_in(act: &Connection, brought: &Brought) -> rusqlite::Result<()> {
+    let sum = brought.sum.as_ref().map(|sum| &sum[..]);
+    act.execute(
+        "UPDATE journal SET moved_from = ?1, moved_number = ?2, moved_sum = ?3",
+        params![brought.from, brought.number, sum],
+    )?;
+    for one in brought.keys {
+        act.execute(
+            "INSERT OR IGNORE INTO moved_key VALUES (?1, ?2, ?3, ?4, ?5, ?6, ?7)",
+            params![
+                one.account,
+                one.key,
+                one.number,
+                one.at,
+                one.record,
+                one.reply,
+                one.place
+            ],
+        )?;
     }
-    connection.close().map_err(|(_, why)| why)
+    let mut chain = Chain::behind(sealed(act)?);
+    rows(act, brought.rows, &mut chain)?;
+    match brought.rows.last() {
+        None => Ok(()),
+        Some(last) => keep(act, last.number, chain.head(), brought.state, brought.live),
+    }
 }
 
 /// Gives the head its sum, which the sums of all requests are behind.

@@ -69,6 +69,12 @@ fn read(file: &str, whole: bool, look: &mut dyn Look) -> Result<Found, Stop> {
     read.map_err(|Unfit(why)| Stop::Refused(vec![format!("{}: {why}", shown(file))]))
 }
 
+/// The number of the last request; nothing is asked anew for that.
+pub fn last(file: &str) -> Result<i64, Stop> {
+    let last = reading(file)?.last();
+    last.map_err(|Unfit(why)| Stop::Refused(vec![format!("{}: {why}", shown(file))]))
+}
+
 /// Whoever looks on while a journal is asked anew.
 pub trait Look {
     /// A row is about to be asked. The engine is as the rows before it left it; what is tried out on it must be taken back.

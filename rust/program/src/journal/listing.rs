@@ -447,6 +447,10 @@ fn behind(row: &Row, names: &Names) -> String {
         Some(via) => format!("by {} via {via}", row.account),
         None => format!("by {}", row.account),
     });
+    all.extend(row.moved.as_ref().map(|moved| {
+        let (number, time, account) = (moved.number, time(moved.at), &moved.account);
+        format!("moved from request {number} at {time} by {account}")
+    }));
     all.join(", ")
 }
 
@@ -473,6 +477,14 @@ fn object(row: &Row, names: &Names) -> String {
     }
     if let Some(opening) = row.opening {
         object["opening"] = json!(opening);
+    }
+    if let Some(key) = &row.key {
+        object["key"] = json!(**key);
+    }
+    if let Some(moved) = &row.moved {
+        object["moved_from"] = json!({
+            "number": moved.number, "at": moved.at, "time": time(moved.at), "account": &*moved.account, "opening": moved.opening,
+        });
     }
     let numbers = [Sort::Subject, Sort::Order, Sort::Task].map(|sort| (sort, number(row, sort)));
     for (sort, number) in [(Sort::User, row.user)].into_iter().chain(numbers) {

@@ -28,13 +28,14 @@ mod views;
 pub use about::{user_of, user_of_subject};
 pub use append::{Failed, Group, Journal, Saved};
 pub use author::Author;
-pub use begin::{begin, LONGEST_NAME};
+pub use begin::{begin, brought, now, Brought, Key, LONGEST_NAME};
 pub use check::check;
-pub use files::{lock, private};
-pub use found::{found, of, replay, said, there, Found, Look, Unfit};
+pub use files::{lock, private, Locks};
+pub use found::{found, last, of, replay, said, there, Found, Look, Unfit};
 pub use listing::{list, moment, time, time_of, Filter};
 pub use live::Live;
 pub use postgres::{is_database, shown, with_desk, Sight, Takeover, Watch};
+pub use rows::moved_keys;
 pub use seal::{print as print_seal, Seal};
 pub use store::{is_there, open, reading, How, Known, Store, Whose, Writes};
 
@@ -111,6 +112,22 @@ pub struct Row {
     pub moved: Option<Moved>,
     /// The names that its line gave, where it was granted.
     pub namings: Vec<Naming>,
+}
+
+impl Row {
+    /// What a move would bring of it: a row that was moved already keeps its first time and account.
+    pub fn origin(&self) -> Moved {
+        let (at, account) = match &self.moved {
+            Some(moved) => (moved.at, &moved.account),
+            None => (self.at, &self.account),
+        };
+        Moved {
+            number: self.number,
+            at,
+            account: account.clone(),
+            opening: self.opening,
+        }
+    }
 }
 
 /// A row of the journal that a desk was moved from.

@@ -1,10 +1,12 @@
 //! Rows as the tables have them, of any version: requests, with the names that they gave and what they were moved from, and notes.
 
+use super::begin::Key;
 use super::chain::{Note, Start};
 use super::clock::Jump;
+use super::file::reading;
 use super::found::{unfit, Unfit};
 use super::links::Kept;
-use super::{Barred, Bytes, Moved, Row};
+use super::{head, Barred, Bytes, Moved, Row};
 use crate::names::{Naming, Sort};
 use records::Record;
 use rusqlite::{Connection, Rows};
@@ -166,6 +168,28 @@ fn moved(act: &Connection, version: i64, after: i64) -> Result<BTreeMap<i64, Mov
         all.insert(columns.get(0)?, moved);
     }
     Ok(all)
+}
+
+/// The keys that a move brought into a journal.
+pub fn moved_keys(file: &str) -> Result<Vec<Key>, Unfit> {
+    let act = reading(file)?;
+    if head::version(&act)? < 3 {
+        return Ok(Vec::new());
+    }
+    let select = "SELECT account, key, number, at, record, reply, place FROM moved_key";
+    let mut select = act.prepare(select)?;
+    let rows = select.query_map([], |r| {
+        Ok(Key {
+            account: r.get(0)?,
+            key: r.get(1)?,
+            number: r.get(2)?,
+            at: r.get(3)?,
+            record: r.get(4)?,
+            reply: r.get(5)?,
+            place: r.get(6)?,
+        })
+    })?;
+    Ok(rows.collect::<Result<_, _>>()?)
 }
 
 /// What stands between requests, from behind one on, as `note` takes it: each sort in its order.

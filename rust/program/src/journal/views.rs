@@ -31,15 +31,17 @@ CREATE VIEW answered AS
 CREATE VIEW opening AS
     SELECT began.number AS opening, began.a AS ordr, CAST(named.name AS TEXT) AS name, began.b AS template,
         (SELECT CAST(name.name AS TEXT) FROM name WHERE name.sort = 'template' AND name.number = began.b AND name.request = 0) AS template_name,
-        strftime('%Y-%m-%d %H:%M:%f', began.at / 1e6, 'unixepoch') AS opened,
+        strftime('%Y-%m-%d %H:%M:%f', coalesce(moved.at, began.at) / 1e6, 'unixepoch') AS opened,
         strftime('%Y-%m-%d %H:%M:%f', ended.at / 1e6, 'unixepoch') AS ended,
-        began.at AS opened_at, ended.at AS ended_at
+        coalesce(moved.at, began.at) AS opened_at, ended.at AS ended_at
     FROM request AS began
+    LEFT JOIN moved_from AS moved ON moved.request = began.number
     LEFT JOIN name AS named ON named.request = began.number AND named.sort = 'order'
     LEFT JOIN request AS ended ON ended.opening = began.number AND ended.kind = 49 AND ended.reply = 0
     WHERE began.kind = 48 AND began.reply = 0;
 CREATE VIEW hold AS
-    WITH work AS (SELECT number, at, user, kind, c AS task, opening FROM request WHERE kind BETWEEN 50 AND 52 AND reply = 0),
+    WITH work AS (SELECT request.number, coalesce(moved.at, request.at) AS at, user, kind, c AS task, request.opening
+        FROM request LEFT JOIN moved_from AS moved ON moved.request = request.number WHERE kind BETWEEN 50 AND 52 AND reply = 0),
     done AS (SELECT opening, task, min(number) AS number FROM work WHERE kind = 52 GROUP BY opening, task),
     claim AS (SELECT work.opening, work.task, max(work.number) AS number, work.kind, work.at, work.user
         FROM work LEFT JOIN done ON done.opening = work.opening AND done.task = work.task

@@ -34,6 +34,11 @@ pub fn peer(stream: &impl AsRawFd) -> nix::Result<Uid> {
     Ok(Uid::from_raw(credentials.uid()))
 }
 
+/// The account that this program runs as.
+pub fn own_account() -> String {
+    login(Uid::current())
+}
+
 /// The login name of a user's number; `uid:1234` where the system has none for it.
 fn login(uid: Uid) -> String {
     match User::from_uid(uid) {

@@ -18,6 +18,7 @@ mod meter;
 mod question;
 mod standby;
 
+pub use account::own_account;
 pub use http::Wanted as Http;
 pub use listen::Socket;
 pub use question::Allowed;

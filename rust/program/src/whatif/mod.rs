@@ -4,10 +4,11 @@
 mod apart;
 mod tell;
 
-use crate::carry::carry;
+use crate::carry::{carry, Users};
 use crate::check::refusal;
 use crate::journal::{self, Found, Row};
 use crate::names::Names;
+use crate::progress::Progress;
 use crate::source::Policy;
 use crate::stop::{Done, Stop, REFUSED, WELL};
 use crate::told::Told;
@@ -115,7 +116,7 @@ impl Comparison<'_> {
 
     /// Brings the desk as it is by now under the other policy.
     fn bring(&mut self, now: &Told, loaded: &Told, names: &Names) {
-        let Ok(carried) = carry(now, loaded, names, self.policy) else {
+        let Ok(carried) = carry(now, loaded, names, self.policy, Users::AsNow) else {
             return;
         };
         self.engine = carried.desk.engine().clone();
@@ -184,9 +185,13 @@ pub fn whatif(options: &Options, policy: &Policy, out: &mut dyn Write) -> Done {
         apart: Apart::default(),
         outcome: Outcome::default(),
     };
+    let mut progress = Progress::over(options.journal, "whatif")?;
     let found = journal::replay(options.journal, &mut |row, found| {
+        progress.at(row.number);
         comparison.row(row, found);
-    })?;
+    });
+    progress.end();
+    let found = found?;
     if options.present {
         let tables = || Told::loaded(&found.policy.records());
         let before = comparison.before.take();

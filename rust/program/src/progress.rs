@@ -1,5 +1,7 @@
 //! How far a replay is, as one line on a terminal; nothing where standard error is no terminal.
 
+use crate::journal;
+use crate::stop::Stop;
 use std::io::{stderr, IsTerminal, Write};
 use std::time::{Duration, Instant};
 
@@ -26,6 +28,11 @@ impl Progress {
             next,
             drawn: false,
         }
+    }
+
+    /// Over all requests of a journal.
+    pub fn over(file: &str, what: &'static str) -> Result<Progress, Stop> {
+        Ok(Progress::new(what, journal::last(file)?))
     }
 
     pub fn at(&mut self, number: i64) {
