@@ -1,21 +1,21 @@
 -- Laws of blocks of walls: the planes of a word, bits picked from two words, and blocks that are others.
 use Prim.Native.Nat.{ℕ, zero, suc, _+_, _*_, _/_, _%_, _^_, _<_, _≤_, min}
-use mathlib.Core.Bool.{Bool, true, false, not, cond, _&&_, _||_}
+use mathlib.Core.Bool.{Bool, true, false, not, cond, _&&_, _||_, false≢true}
 use mathlib.Core.Logic.{⊎-elim}
 use mathlib.Core.Path.{_≡_, refl, sym, ap, ap₂, fun-ext, _∙_}
 use native.Mathlib.Omega.{arith}
 use borrow.Author.Tests.{eq-eqb, ne-eqb, eqb-true, eqb-false, ltb-true, ltb-false}
-use native.Mathlib.Nat.{zero-mul, one-mul}
+use native.Mathlib.Nat.{zero-mul, one-mul, add-mul, mul-assoc}
 use lib.Bits.{bitAnd, bitOr, bitXor, differ, and-shr, or-shr, xor-shr, and-mod, or-mod, xor-mod}
 use lib.Dec.{eqb, ltb}
-use lib.Pow.{pow-lt}
+use lib.Pow.{pow-lt, shl-exact}
 use Rattle.paper_lower.specs.Sets.{Set, has, union, collect}
 use Rattle.paper_lower.specs.Lists.{someBelow, holds, orElse}
 use Rattle.paper_lower.specs.Lists.Maybe.{none, just}
 use Rattle.paper_lower.specs.Policy.{another}
 use Rattle.sets.proofs.Bits.{bit-and, bit-xor, bit-one, bit-other, one-shl, same-or-other}
 use Rattle.sets.proofs.SetLaws.{digit, digit-has, has-digit, bit-has, bit-hasnt, has-empty, has-union, has-above, union-lt, same-members, some-collected, collect-below, collect-above}
-use Rattle.blocks.specs.Reading.{told, blockIn, blocksIn, only, over, apart}
+use Rattle.blocks.specs.Reading.{told, blockIn, blocksIn, only, spread, over, apart}
 
 -- ---- members
 differs : Bool → Bool → Bool
@@ -197,11 +197,8 @@ below-power : (wall : ℕ) → wall < 16 → 2 ^ wall < 65536
 below-power wall h = let s : 2 ^ wall < 2 ^ 16 = pow-lt h in s
 
 -- `1 << wall` in the code
-pub one-wall : (wall : ℕ) → wall < 16 → (1 * 2 ^ wall) % 2 ^ 64 ≡ 2 ^ wall
+one-wall : (wall : ℕ) → wall < 16 → (1 * 2 ^ wall) % 2 ^ 64 ≡ 2 ^ wall
 one-wall wall h = one-shl wall (omega arith)
-
-pub small-wall : (wall : ℕ) → wall < 16 → (1 * 2 ^ wall) % 2 ^ 64 < 65536
-small-wall wall h = rw (one-wall wall h) (below-power wall h)
 
 -- the wall's bit, or none
 digit-times : (digit one : ℕ) → digit < 2 → digit * one ≡ cond (eqb digit 1) one 0
@@ -209,14 +206,14 @@ digit-times zero one h = zero-mul one
 digit-times (suc zero) one h = one-mul one
 digit-times (suc (suc d)) one h = let z : ⊥ = omega arith in absurd z
 
-pub digit-plane : (digit one : ℕ) → digit < 2 → (digit * one ≡ cond (eqb digit 1) one 0) × (digit * one ≤ one)
+digit-plane : (digit one : ℕ) → digit < 2 → (digit * one ≡ cond (eqb digit 1) one 0) × (digit * one ≤ one)
 digit-plane digit one h = (digit-times digit one h, rw (digit-times digit one h) (go (eqb digit 1)))
   where
     go : (t : Bool) → cond t one 0 ≤ one
     go true = omega arith
     go false = omega arith
 
-pub single-words : (wall block one p₀ p₁ p₂ p₃ : ℕ) → wall < 16 → block < 16 → one ≡ 2 ^ wall
+single-words : (wall block one p₀ p₁ p₂ p₃ : ℕ) → wall < 16 → block < 16 → one ≡ 2 ^ wall
     → p₀ ≡ cond (eqb (block % 2) 1) one 0 → p₁ ≡ cond (eqb (block / 2 % 2) 1) one 0
     → p₂ ≡ cond (eqb (block / 4 % 2) 1) one 0 → p₃ ≡ cond (eqb (block / 8 % 2) 1) one 0
     → p₀ ≤ one → p₁ ≤ one → p₂ ≤ one → p₃ ≤ one
@@ -254,6 +251,52 @@ single-words wall block one p₀ p₁ p₂ p₃ h k o e₀ e₁ e₂ e₃ l₀ l
         go : (t : Bool) → eqb wall w ≡ t → cond t (just (blockIn (p₀ + 65536 * p₁ + 4294967296 * p₂ + 281474976710656 * p₃) w)) none ≡ cond t (just block) none
         go true e = ap just (ap (blockIn (p₀ + 65536 * p₁ + 4294967296 * p₂ + 281474976710656 * p₃)) (sym (eqb-true wall w e)) ∙ block-in)
         go false e = refl
+
+-- ---- a block's number spread over the planes
+both : (x y : Bool) → x && y ≡ true → (x ≡ true) × (y ≡ true)
+both true y e = (refl, e)
+both false y e = absurd (false≢true e)
+
+sameBelow : ℕ → (ℕ → ℕ) → (ℕ → ℕ) → Bool
+sameBelow zero f g = true
+sameBelow (suc n) f g = eqb (f n) (g n) && sameBelow n f g
+
+same-below : (n : ℕ) (f g : ℕ → ℕ) → sameBelow n f g ≡ true → (i : ℕ) → i < n → f i ≡ g i
+unfolding sameBelow
+same-below zero f g e i h = let z : ⊥ = omega arith in absurd z
+same-below (suc n) f g e i h = at (eqb i n) refl (λ k. same-below n f g (both (eqb (f n) (g n)) (sameBelow n f g) e .1) i k)
+  where
+    at : (b : Bool) → eqb i n ≡ b → (i < n → f i ≡ g i) → f i ≡ g i
+    at true q less = let p = eqb-true i n q in ap f p ∙ eqb-true (f n) (g n) (both (eqb (f n) (g n)) (sameBelow n f g) e .0) ∙ sym (ap g p)
+    at false q less = let p = eqb-false i n q in less (omega arith)
+
+pub spread-word : (x : ℕ) → x < 16 → bitAnd (x * 35185445863425) 281479271743489 ≡ spread x
+unfolding spread sameBelow
+spread-word x h = same-below 16 (λ y. bitAnd (y * 35185445863425) 281479271743489) spread refl x h
+
+spread-small : (x : ℕ) → spread x < 2 ^ 49
+unfolding spread
+spread-small x = omega arith
+
+each-plane : (a b c d one : ℕ) →
+    (a + 65536 * b + 4294967296 * c + 281474976710656 * d) * one ≡ a * one + 65536 * (b * one) + 4294967296 * (c * one) + 281474976710656 * (d * one)
+each-plane a b c d one = simp (add-mul, mul-assoc)
+
+pub spread-single : (wall block n : ℕ) → wall < 16 → block < 16 → n ≡ spread block →
+    blocksIn ((1 * 2 ^ wall) % 2 ^ 64) ((n * 2 ^ wall) % 2 ^ 64) ≡ only wall block
+unfolding spread
+spread-single wall block n h k e =
+    let one = 2 ^ wall in
+    let d₀ = digit-plane (block % 2) one (omega arith) in
+    let d₁ = digit-plane (block / 2 % 2) one (omega arith) in
+    let d₂ = digit-plane (block / 4 % 2) one (omega arith) in
+    let d₃ = digit-plane (block / 8 % 2) one (omega arith) in
+    let word =
+    ap (λ (x : ℕ). (x * one) % 2 ^ 64) e
+    ∙ shl-exact 49 wall 64 (spread-small block) (omega arith)
+    ∙ each-plane (block % 2) (block / 2 % 2) (block / 4 % 2) (block / 8 % 2) one in
+    (λ i. blocksIn (one-wall wall h i) (word i))
+    ∙ single-words wall block one _ _ _ _ h k refl (d₀ .0) (d₁ .0) (d₂ .0) (d₃ .0) (d₀ .1) (d₁ .1) (d₂ .1) (d₃ .1)
 
 -- ---- blocks that are others
 same-sums : (d n m : ℕ) → eqb (d + 2 * n) (d + 2 * m) ≡ eqb n m

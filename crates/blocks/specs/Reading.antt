@@ -30,6 +30,10 @@ nowhere w = none
 unfoldable pub only : ℕ → ℕ → ℕ → Maybe ℕ
 only wall block w = cond (eqb wall w) (just block) none
 
+-- bit k of a block's number at the lowest place of plane k
+unfoldable pub spread : ℕ → ℕ
+spread x = x % 2 + 65536 * (x / 2 % 2) + 4294967296 * (x / 4 % 2) + 281474976710656 * (x / 8 % 2)
+
 abbrev pub over : (ℕ → Maybe ℕ) → (ℕ → Maybe ℕ) → ℕ → Maybe ℕ
 over f g w = orElse (f w) (g w)
 

@@ -1,11 +1,9 @@
 // Blocks of walls (document 02, Ask 11): the block of each wall that an object stands in, or that a user is bound to, as two words (docs/STATE.md).
 // The second word has four planes of sixteen bits, a bit for each wall, so that all walls are asked and joined at once.
 ghost use mathlib.Core.Path.{_≡_};
-ghost use mathlib.Core.Bool.{cond};
-ghost use Prim.Native.Nat.{_<_, _≤_};
-ghost use lib.Dec.{eqb};
+ghost use Prim.Native.Nat.{_<_};
 ghost use Rattle.paper_lower.specs.Lists.{someBelow};
-ghost use Rattle.blocks.specs.Reading.{blocksOf, nowhere, only, over, apart};
+ghost use Rattle.blocks.specs.Reading.{blocksOf, nowhere, only, spread, over, apart};
 
 pub struct Blocks {
     pub walls: u64,
@@ -36,26 +34,21 @@ pub fn over(a: Blocks, b: Blocks) -> Blocks
     }
 }
 
-// One plane of a single block: the wall's bit, if the block's number has the plane's.
-fn plane(one: u64, digit: u64) -> u64
-    requires { ⌜ (one < 65536) × (digit < 2) ⌝ }
-    ensures { λ r. ⌜ (r ≡ cond (eqb digit 1) one 0) × (r ≤ one) ⌝ }
+// Bit k of a block's number at the lowest place of plane k: the number beside itself, 15, 30 and 45 places higher, has it there.
+fn spread(block: u64) -> u64
+    requires { ⌜ block < 16 ⌝ }
+    ensures { λ r. ⌜ r ≡ spread block ⌝ }
 {
-    digit * one
+    (block * 35185445863425) & EVERY_PLANE
 }
 
 fn single(wall: u64, block: u64) -> Blocks
     requires { ⌜ (wall < 16) × (block < 16) ⌝ }
     ensures { λ r. ⌜ blocksOf r ≡ only wall block ⌝ }
 {
-    let one = 1 << wall;
-    let p0 = plane(one, block % 2);
-    let p1 = plane(one, block / 2 % 2);
-    let p2 = plane(one, block / 4 % 2);
-    let p3 = plane(one, block / 8 % 2);
     Blocks {
-        walls: one,
-        blocks: p0 + 65536 * p1 + 4294967296 * p2 + 281474976710656 * p3,
+        walls: 1 << wall,
+        blocks: spread(block) << wall,
     }
 }
 

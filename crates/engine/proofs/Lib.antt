@@ -5,3 +5,4 @@ pub mod PlaceLaws
 pub mod Ways
 pub mod EmptyLaws
 pub mod SettleLaws
+pub mod QuickLaws

@@ -40,6 +40,14 @@ pub record SettledRequest (bytes : Bytes) (x x′ : Buffers) (j : Judged) : Type
   pub kept : (numberOf (j .reply) ≡ 0 → ⊥) → x′ ≡ x
   pub sound : soundOf (x .orders) ≡ true → Requested bytes x x′ j × (soundOf (x′ .orders) ≡ true)
 
+-- the reply of no rule, as a judge gives it
+abbrev pub placeless : Reply → Judged
+placeless r = record { reply = r; place = 0 }
+
+-- a request that was answered before anything was written; ROOM tells nothing
+abbrev pub QuickRequest : Bytes → Buffers → Reply → Type 0
+QuickRequest bytes x r = (numberOf r ≡ ROOM → ⊥) → SettledRequest bytes x x (placeless r)
+
 -- the same as one number, the reply + 256 times the place
 abbrev pub SettledExported : Bytes → Buffers → Buffers → ℕ → Type 0
 SettledExported bytes x x′ number = (j : Judged) × (number ≡ numberOf (j .reply) + 256 * j .place) × SettledRequest bytes x x′ j

@@ -10,7 +10,7 @@ ghost use Rattle.order_links.specs.Chains.{ordersWords, soundOf};
 ghost use Rattle.engine.specs.Buffers.{buffers, noEngine, tablesOf};
 ghost use Rattle.engine.specs.Step.{AnyStep, SettlingStep};
 ghost use Rattle.engine.specs.Answers.{Requested, LoadDone};
-ghost use Rattle.engine.specs.Settling.{Settled, SettledAs, SettledRequest};
+ghost use Rattle.engine.specs.Settling.{Settled, SettledAs, SettledRequest, QuickRequest};
 ghost use Rattle.engine.specs.Exports.{LoadExported, RequestExported, wordsOf};
 use order_links::ORDERS_WORDS;
 use order_rules::Judged;
@@ -125,6 +125,25 @@ pub fn settled_request(
         return plain(r);
     }
     step(records::decode(bytes), policy, sessions, orders)
+}
+
+// The number of the reply, ROOM, by which `quick` tells nothing.
+pub const UNTOLD: u64 = 1;
+
+// The reply to a check that the lower part tells at once; else ROOM: then a request is to be made of the bytes. It writes nothing,
+// and compiled it needs no room on the stack.
+pub fn quick(bytes: &[u8], policy: &[u64], sessions: &[u64], orders: &[u64]) -> Reply
+    ensures { λ r. ⌜ QuickRequest (now (bytes .entry)) (buffers (now (policy .entry)) (now (sessions .entry)) (now (orders .entry))) r ⌝ }
+{
+    if (policy.len() != POLICY_WORDS)
+        | (sessions.len() != SESSIONS_WORDS)
+        | (orders.len() != ORDERS_WORDS)
+        | !records::is_check(bytes)
+    {
+        return Reply::Room;
+    }
+    let r = records::decode(bytes);
+    session_subjects::quick_reply(policy, sessions, r.a, r.b, r.c)
 }
 
 // Any bytes as a policy: no subject is live afterwards, no order open, no entry in use.

@@ -4,3 +4,4 @@ pub mod Lines
 pub mod Fields
 pub mod Judging
 pub mod Passing
+pub mod Checking

@@ -10,6 +10,7 @@ ghost use Rattle.replies.specs.Replies.{numberOf};
 ghost use Rattle.records.specs.Reading.{Decoded};
 ghost use Rattle.records.specs.Table.{bitOf, tableAt, misshapes, outranges};
 ghost use Rattle.records.specs.Calls.{formsOf};
+ghost use Rattle.records.specs.Check.{isCheck};
 use replies::Reply;
 
 pub struct Record {
@@ -213,4 +214,15 @@ pub fn judge(call: Call, s: &[u8]) -> Reply
         return Reply::Range;
     }
     Reply::Granted
+}
+
+// Whether the bytes are a check that the two let pass: its first word is compared at once.
+pub fn is_check(s: &[u8]) -> bool
+    ensures { λ r. ⌜ r ≡ isCheck (now (s .entry)) ⌝ }
+{
+    if s.len() != 16 {
+        return false;
+    }
+    let r = decode(s);
+    (r.kind == 56) & (r.n == 0) & (r.a < 128) & (r.m == 0)
 }

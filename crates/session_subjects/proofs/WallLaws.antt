@@ -1,19 +1,23 @@
--- No wall stands where none is kept; the blocks that a commit stores are those of the definition; and a check stores nothing.
-use Prim.Native.Nat.{ℕ, zero, suc}
-use mathlib.Core.Bool.{Bool, true, false, not, cond, _||_, true≢false}
+-- No wall stands where none is kept; the blocks that a commit stores are those of the definition; the checks before WALL; and a check stores nothing.
+use Prim.Native.Nat.{ℕ}
+use mathlib.Core.Bool.{Bool, true, false, not, cond}
 use mathlib.Core.List.{List, []}
-use mathlib.Core.Path.{_≡_, refl, ap, ap₂, _∙_}
+use mathlib.Core.Path.{_≡_, refl, sym, ap, ap₂, _∙_}
+use native.Mathlib.Omega.{arith}
+use borrow.Author.Tests.{ne-eqb, not-true, not-false}
 use lib.Dec.{eqb}
-use Rattle.paper_lower.specs.Checks.{granted}
+use lib.ListN.{take}
+use Rattle.paper_lower.specs.Checks.{first, UNKNOWN, DENIED, WALL}
 use Rattle.paper_lower.specs.Lists.{Maybe, someBelow, holds}
 use Rattle.paper_lower.specs.Tables.{Walled, Sessions, Lower}
-use Rattle.paper_lower.specs.Policy.{blockOf}
-use Rattle.paper_lower.specs.Sessions.{wallBetween, commitNext}
+use Rattle.paper_lower.specs.Policy.{blockOf, down}
+use Rattle.paper_lower.specs.Sessions.{allowed, wallBetween, checkChecks, commitNext}
 use Rattle.replies.specs.Cells.{rows, rowsFrom}
 use Rattle.replies.specs.Replies.{numberOf}
 use Rattle.replies.specs.declared.Reply.{Reply}
+use Rattle.replies.specs.declared.Reply.the-variants.{Granted, Wall}
 use Rattle.replies.specs.Done.{Done}
-use Rattle.replies.proofs.DoneLaws.{refused, done}
+use Rattle.replies.proofs.ReplyLaws.{is-zero, not-zero}
 use Rattle.policy.specs.Layout.{wallCount, walledAt}
 use Rattle.policy.specs.Reading.{policyOf}
 use Rattle.policy.proofs.RuleLaws.{walls-are}
@@ -45,22 +49,40 @@ committed t a object u f g h e d k m =
     ap (boundAnew (t .sessions) u) (m ∙ ap₂ over d k)
     ∙ ap (λ (n : ℕ). boundAnew (t .sessions) n (over (blockOf (t .policy .walls) object) (t .sessions .boundTo n))) e
 
--- ---- 56 or 59, with the judge's reply r and what `accepted` says of it.
-module _ {reply : ℕ} {r : Reply} {b : Bool} (kind : ℕ) (l : List ℕ) (next : Sessions) (e : numberOf r ≡ reply) (a : b ≡ eqb (numberOf r) 0) where
-  pub asked-only : eqb kind 56 || not b ≡ true → Done sessionsOf reply (cond (eqb kind 56) (sessionsOf l) next) l l r
-  asked-only n = at (eqb kind 56) n
-    where
-      same : (k : ℕ) → sessionsOf l ≡ granted k (sessionsOf l) (sessionsOf l)
-      same zero = refl
-      same (suc k) = refl
+-- not one of the subject's roles, or of those below them, may do it
+abbrev shut : Lower → ℕ → ℕ → ℕ → Bool
+shut t a operation object = not (allowed (t .policy .permissions) (down (t .policy .seniority) (t .sessions .active a)) operation object)
 
-      at : (t : Bool) → t || not b ≡ true → Done sessionsOf reply (cond t (sessionsOf l) next) l l r
-      at true n = record { replies = e; tables = same reply; kept = λ _. refl }
-      at false n = refused e a n
+-- ---- The checks before WALL, with the judge's reply r of them and what `accepted` says of it.
+module _ (t : Lower) (a operation object : ℕ) where
+  module _ (r : Reply) {b : Bool} (e : numberOf r ≡ first (take 2 (checkChecks t a operation object))) (is : b ≡ eqb (numberOf r) 0) where
+    pub stopped : not b ≡ true → numberOf r ≡ first (checkChecks t a operation object)
+    unfolding checkChecks
+    stopped n = e ∙ go (not (t .sessions .live a)) (shut t a operation object) (λ z. not-zero r is (not-true b n) (e ∙ z))
+      where
+        go : (x y : Bool) → (cond x UNKNOWN (cond y DENIED 0) ≡ 0 → ⊥)
+            → cond x UNKNOWN (cond y DENIED 0) ≡ cond x UNKNOWN (cond y DENIED (cond (wallBetween t (t .sessions .user a) object) WALL 0))
+        go true y h = refl
+        go false true h = refl
+        go false false h = absurd (h refl)
 
-  pub asked-bound : {l′ : List ℕ} → eqb kind 56 || not b ≡ false → sessionsOf l′ ≡ next → Done sessionsOf reply (cond (eqb kind 56) (sessionsOf l) next) l l′ r
-  asked-bound {l′} n t = at (eqb kind 56) n
-    where
-      at : (t : Bool) → t || not b ≡ false → Done sessionsOf reply (cond t (sessionsOf l) next) l l′ r
-      at true n = absurd (true≢false n)
-      at false n = done e a n t
+    pub walled : {wall : Bool} → not b ≡ false → wall ≡ wallBetween t (t .sessions .user a) object → first (checkChecks t a operation object) ≡ cond wall WALL 0
+    unfolding checkChecks
+    walled {wall} n w = rw (← w) (go (not (t .sessions .live a)) (shut t a operation object) (sym e ∙ is-zero r is (not-false b n)))
+      where
+        go : (x y : Bool) → cond x UNKNOWN (cond y DENIED 0) ≡ 0 → cond x UNKNOWN (cond y DENIED (cond wall WALL 0)) ≡ cond wall WALL 0
+        go true y h = absurd (omega arith)
+        go false true h = absurd (omega arith)
+        go false false h = refl
+
+-- ---- 56 or 59: refused by a wall, granted to a check, granted to a commit that binds.
+module _ {reply : ℕ} (kind : ℕ) (l : List ℕ) (next : Sessions) where
+  pub refused-wall : reply ≡ WALL → Done sessionsOf reply next l l Wall
+  refused-wall e = record { replies = sym e; tables = rw e; kept = λ _. refl }
+
+  pub asked : reply ≡ 0 → kind ≡ 56 → Done sessionsOf reply (cond (eqb kind 56) (sessionsOf l) next) l l Granted
+  asked e k = record { replies = sym e; tables = rw (e, k); kept = λ _. refl }
+
+  pub committed-all : {l′ : List ℕ} → reply ≡ 0 → (kind ≡ 56 → ⊥) → sessionsOf l′ ≡ next
+      → Done sessionsOf reply (cond (eqb kind 56) (sessionsOf l) next) l l′ Granted
+  committed-all e k t = record { replies = sym e; tables = rw (e, ne-eqb kind 56 k) t; kept = λ h. absurd (h refl) }

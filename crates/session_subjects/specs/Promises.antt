@@ -5,7 +5,8 @@ use mathlib.Core.Bool.{cond}
 use mathlib.Core.List.{List}
 use mathlib.Core.Path.{_≡_}
 use lib.Dec.{eqb}
-use Rattle.paper_lower.specs.Checks.{first}
+use lib.ListN.{take}
+use Rattle.paper_lower.specs.Checks.{first, ROOM}
 use Rattle.paper_lower.specs.Tables.{Policy, Lower}
 use Rattle.paper_lower.specs.Sessions.{createChecks, createNext, destroyChecks, destroyNext, activateChecks, activateNext, deactivateChecks, deactivateNext, checkChecks, commitNext}
 use Rattle.replies.specs.Replies.{numberOf}
@@ -45,9 +46,13 @@ DeactivateJudged p s a b r = numberOf r ≡ first (deactivateChecks (lowerTables
 abbrev pub Deactivated : List ℕ → List ℕ → List ℕ → ℕ → ℕ → Reply → Type 0
 Deactivated p s s′ a b r = Done sessionsOf (first (deactivateChecks (lowerTables p s) a b)) (deactivateNext (sessionsOf s) a b) s s′ r
 
--- ---- 56
-abbrev pub CheckJudged : List ℕ → List ℕ → ℕ → ℕ → ℕ → Reply → Type 0
-CheckJudged p s a operation object r = numberOf r ≡ first (checkChecks (lowerTables p s) a operation object)
+-- ---- 56: its checks before WALL
+abbrev pub OpenJudged : List ℕ → List ℕ → ℕ → ℕ → ℕ → Reply → Type 0
+OpenJudged p s a operation object r = numberOf r ≡ first (take 2 (checkChecks (lowerTables p s) a operation object))
+
+-- and all of them, or ROOM, which is none of them: then nothing is told
+abbrev pub QuickJudged : List ℕ → List ℕ → ℕ → ℕ → ℕ → Reply → Type 0
+QuickJudged p s a operation object r = (numberOf r ≡ ROOM → ⊥) → numberOf r ≡ first (checkChecks (lowerTables p s) a operation object)
 
 -- ---- 59; and 56, which is judged the same and stores nothing
 abbrev pub Asked : List ℕ → List ℕ → List ℕ → ℕ → ℕ → ℕ → ℕ → Reply → Type 0

@@ -4,10 +4,8 @@ ghost use mathlib.Core.Path.{_≡_};
 ghost use Prim.Native.Nat.{_<_};
 ghost use lib.ListN.{length};
 ghost use Rattle.policy.specs.Layout.{policyWords};
-ghost use Rattle.paper_lower.specs.Sessions.{wallBetween, commitNext};
-ghost use Rattle.sessions.specs.Reading.{sessionsWords, sessionsOf};
-ghost use Rattle.sessions.specs.Lower.{lowerTables};
-ghost use Rattle.session_subjects.specs.Promises.{CreateJudged, Created, DestroyJudged, Destroyed, ActivateJudged, Activated, DeactivateJudged, Deactivated, CheckJudged, Asked};
+ghost use Rattle.sessions.specs.Reading.{sessionsWords};
+ghost use Rattle.session_subjects.specs.Promises.{CreateJudged, Created, DestroyJudged, Destroyed, ActivateJudged, Activated, DeactivateJudged, Deactivated, OpenJudged, QuickJudged, Asked};
 use replies::Reply;
 use replies::accepted;
 use sets::Set;
@@ -143,22 +141,10 @@ pub fn deactivate(p: &[u64], s: &mut [u64], a: u64, b: u64) -> Reply
 
 // ---- 56: may subject a do the operation on the object? It changes nothing.
 
-// Whether the user is bound in some wall to another block than the object's. Without walls it reads one word.
-fn wall_between(p: &[u64], s: &[u64], user: u64, object: u64) -> bool
-    requires { ⌜ (length (now p) ≡ policyWords) × ((length (now s) ≡ sessionsWords) × ((user < 1024) × (object < 65536))) ⌝ }
-    ensures { λ r. ⌜ r ≡ wallBetween (lowerTables (now (p .entry)) (now (s .entry))) user object ⌝ }
-{
-    if policy::wall_count(p) == 0 {
-        return false;
-    }
-    let own = policy_walls::blocks_of(p, object);
-    let bound = sessions::bound_to(s, user as usize);
-    blocks::between(own, bound)
-}
-
-fn check_reply(p: &[u64], s: &[u64], a: u64, operation: u64, object: u64) -> Reply
+// The checks before WALL.
+fn open_reply(p: &[u64], s: &[u64], a: u64, operation: u64, object: u64) -> Reply
     requires { ⌜ (length (now p) ≡ policyWords) × ((length (now s) ≡ sessionsWords) × ((a < 128) × ((operation < 65536) × (object < 65536)))) ⌝ }
-    ensures { λ r. ⌜ CheckJudged (now (p .entry)) (now (s .entry)) a operation object r ⌝ }
+    ensures { λ r. ⌜ OpenJudged (now (p .entry)) (now (s .entry)) a operation object r ⌝ }
 {
     if !sessions::live(s, a as usize) {
         return Reply::Unknown;
@@ -167,35 +153,50 @@ fn check_reply(p: &[u64], s: &[u64], a: u64, operation: u64, object: u64) -> Rep
     if !policy_permissions::allowed(p, roles, operation, object) {
         return Reply::Denied;
     }
-    let user = sessions::user(s, a as usize);
-    if wall_between(p, s, user, object) {
-        return Reply::Wall;
+    Reply::Granted
+}
+
+// The whole reply where the policy has no walls, and else ROOM, which no check is given: then `ask` tells. The two tests stand
+// here again, since a function with two callers would be a call of its own to the compiled code.
+pub fn quick_reply(p: &[u64], s: &[u64], a: u64, operation: u64, object: u64) -> Reply
+    requires { ⌜ (length (now p) ≡ policyWords) × ((length (now s) ≡ sessionsWords) × ((a < 128) × ((operation < 65536) × (object < 65536)))) ⌝ }
+    ensures { λ r. ⌜ QuickJudged (now (p .entry)) (now (s .entry)) a operation object r ⌝ }
+{
+    if policy::wall_count(p) != 0 {
+        return Reply::Room;
+    }
+    if !sessions::live(s, a as usize) {
+        return Reply::Unknown;
+    }
+    let acting = policy_seniors::down(p, sessions::active(s, a as usize));
+    if !policy_permissions::allowed(p, acting, operation, object) {
+        return Reply::Denied;
     }
     Reply::Granted
 }
 
 // ---- 59: the same, and if granted, the subject's user is bound to the object's block in every wall that has it.
 
-fn bind(p: &[u64], s: &mut [u64], a: u64, object: u64)
-    requires { ⌜ (length (now p) ≡ policyWords) × ((length (now s) ≡ sessionsWords) × ((a < 128) × (object < 65536))) ⌝ }
-    ensures { λ _. ⌜ sessionsOf (now (s .exit)) ≡ commitNext (lowerTables (now (p .entry)) (now (s .entry))) a object ⌝ }
-{
-    let user = sessions::user(s, a as usize);
-    let own = policy_walls::blocks_of(p, object);
-    let bound = sessions::bound_to(s, user as usize);
-    let all = blocks::over(own, bound);
-    sessions::set_bound_to(s, user as usize, all);
-}
-
-// Kind 56 or 59. Both are judged at one place, so that the check is not a call of its own to the compiled code.
+// Kind 56 or 59. Both are judged at one place, where the object's blocks are looked up once, so that neither is a call of its own
+// to the compiled code.
 pub fn ask(p: &[u64], s: &mut [u64], kind: u64, a: u64, operation: u64, object: u64) -> Reply
     requires { ⌜ (length (now p) ≡ policyWords) × ((length (now s) ≡ sessionsWords) × ((a < 128) × ((operation < 65536) × (object < 65536)))) ⌝ }
     ensures { λ r. ⌜ Asked (now (p .entry)) (now (s .entry)) (now (s .exit)) kind a operation object r ⌝ }
 {
-    let r = check_reply(p, s, a, operation, object);
-    if (kind == 56) | !accepted(r) {
+    let r = open_reply(p, s, a, operation, object);
+    if !accepted(r) {
         return r;
     }
-    bind(p, s, a, object);
-    r
+    let user = sessions::user(s, a as usize);
+    let own = policy_walls::blocks_of(p, object);
+    let bound = sessions::bound_to(s, user as usize);
+    if blocks::between(own, bound) {
+        return Reply::Wall;
+    }
+    if kind == 56 {
+        return Reply::Granted;
+    }
+    let all = blocks::over(own, bound);
+    sessions::set_bound_to(s, user as usize, all);
+    Reply::Granted
 }
