@@ -11,8 +11,10 @@ ghost use Rattle.order_links.specs.Chains.{soundOf};
 ghost use Rattle.engine.specs.Answers.{Requested};
 ghost use Rattle.call_pile.specs.Pile.{pileChecks};
 ghost use Rattle.call_pile.specs.Promises.{PileDone, Answers};
+use engine::UNTOLD;
 use order_links::ORDERS_WORDS;
 use order_rules::Judged;
+use order_rules::plain;
 use policy::POLICY_WORDS;
 use replies::Reply;
 use sessions::SESSIONS_WORDS;
@@ -20,7 +22,7 @@ use sessions::SESSIONS_WORDS;
 // How many records one call takes.
 pub const MOST: usize = 4096;
 
-// One request, without a look at the links where they are sound.
+// One request, without a look at the links where they are sound. Checks are looked for first, as by the settled request.
 fn ask(
     bytes: &[u8],
     sound: bool,
@@ -32,6 +34,10 @@ fn ask(
     ensures { λ j. ⌜ Requested (now (bytes .entry)) (buffers (now (policy .entry)) (now (sessions .entry)) (now (orders .entry))) (buffers (now (policy .exit)) (now (sessions .exit)) (now (orders .exit))) j ⌝ }
 {
     if sound {
+        let r = engine::quick(bytes, policy, sessions, orders);
+        if replies::number(r) != UNTOLD {
+            return plain(r);
+        }
         return engine::settled_request(bytes, policy, sessions, orders);
     }
     engine::request(bytes, policy, sessions, orders)
