@@ -345,6 +345,14 @@ fn serve() -> Command {
         .arg(number("question-megabytes", "How much memory a question may take; 32 where it is missing"))
         .arg(flag("together", "Where one desk's journal fails, end all desks"))
         .arg(
+            value("log", "FORM", "How facts are told on standard error, a line each: as text, as pairs or as objects; text where it is missing")
+                .value_parser(PossibleValuesParser::new(crate::report::Form::NAMES)),
+        )
+        .arg(
+            value("log-level", "LEVEL", "Which facts are told: info adds starts, ends and what is barred, debug every response of HTTP; warn where it is missing")
+                .value_parser(PossibleValuesParser::new(crate::report::Level::NAMES)),
+        )
+        .arg(
             Arg::new("saved")
                 .long("saved")
                 .value_name("HOW")

@@ -381,6 +381,14 @@ fn serve(given: &ArgMatches, out: &mut dyn Write) -> Done {
             bytes: number("question-megabytes", 32) as usize * 1_000_000,
         },
         together: given.get_flag("together"),
+        log: report::How {
+            level: text(given, "log-level")
+                .and_then(report::Level::of_name)
+                .unwrap_or(report::Level::Warn),
+            form: text(given, "log")
+                .and_then(report::Form::of_name)
+                .unwrap_or(report::Form::Text),
+        },
     };
     serve::serve(&options, out)
 }

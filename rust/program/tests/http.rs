@@ -757,6 +757,21 @@ fn health_figures_and_the_end() {
     has("mishantral_requests_total{desk=\"desk\",kind=\"open_order\",reply=\"TAKEN\"} 1");
     has("mishantral_barred_total{desk=\"desk\"} 1");
     has("mishantral_http_responses_total{method=\"POST\",route=\"/v1/desks/{desk}/requests\",status=\"200\"} 1");
+    // The example of a dashboard asks for figures that there are.
+    for file in ["dashboard.json", "alerts.yml"] {
+        let asked = fs::read_to_string(common::root().join("examples/monitor").join(file)).unwrap();
+        let names: Vec<&str> = asked
+            .split(|c: char| !(c.is_ascii_alphanumeric() || c == '_'))
+            .filter(|word| word.starts_with("mishantral_"))
+            .collect();
+        assert!(names.len() >= 3, "{file}");
+        for name in names {
+            let there = |line: &str| {
+                line.starts_with(&format!("{name}{{")) || line.starts_with(&format!("{name} "))
+            };
+            assert!(metrics.text().lines().any(there), "{file}: {name}");
+        }
+    }
     // News as they come, and that the server ends.
     let mut events = BufReader::new(at.connect());
     events
@@ -777,4 +792,104 @@ fn health_figures_and_the_end() {
     kill(Pid::from_raw(server.child.id() as i32), Signal::SIGTERM).unwrap();
     until("event: ended");
     assert_eq!(server.child.wait().unwrap().code(), Some(0));
+}
+
+#[test]
+fn facts_are_told_a_line_each() {
+    let room = room("log");
+    let told = room.join("told");
+    let (access, journal) = (room.join("access"), room.join("desk.db"));
+    fs::write(&access, ACCESS).unwrap();
+    let mut all = vec!["serve", POLICY, "--journal", journal.to_str().unwrap()];
+    all.extend(["--access", access.to_str().unwrap()]);
+    all.extend(["--http", "127.0.0.1:0", "--account-header", "X-Account"]);
+    all.extend(["--log", "json", "--log-level", "debug"]);
+    let mut command = mishantral(&all);
+    command.stderr(fs::File::create(&told).unwrap());
+    let mut server = Server::started(&mut command, journal);
+    let at = at(&server);
+    at.lines("anna", "add user 9\n");
+    assert_eq!(at.get("anna", "/nowhere").status, 404);
+    kill(Pid::from_raw(server.child.id() as i32), Signal::SIGTERM).unwrap();
+    server.child.wait().unwrap();
+    let text = fs::read_to_string(&told).unwrap();
+    let facts: Vec<serde_json::Value> = text
+        .lines()
+        .map(|line| serde_json::from_str(line).unwrap())
+        .collect();
+    let of = |event: &str| {
+        facts
+            .iter()
+            .find(|fact| fact["event"] == event)
+            .unwrap_or_else(|| panic!("{event}: {text}"))
+    };
+    assert_eq!(
+        (&of("barred")["account"], &of("barred")["level"]),
+        (&json!("anna"), &json!("info"))
+    );
+    assert_eq!(of("desk")["last"], 0);
+    let http = facts
+        .iter()
+        .find(|fact| fact["path"] == "/nowhere")
+        .unwrap();
+    assert_eq!(
+        (&http["status"], &http["method"]),
+        (&json!(404), &json!("GET"))
+    );
+    assert_eq!(of("ended")["status"], 0);
+}
+
+/// Requests with bytes changed, cut, doubled and put in: each is answered or left, and the desk goes on.
+#[test]
+fn garbage_harms_nobody() {
+    let rounds: u64 =
+        std::env::var("MISHANTRAL_ROUNDS").map_or(1500, |rounds| rounds.parse().unwrap());
+    let room = room("garbage");
+    let (_server, at) = served(&room, &["--question-seconds", "1"]);
+    let body = "{\"requests\": [\"open order mill of template breakdown\", {\"record\": \"3200000000000000\", \"id\": 7}]}";
+    let seeds = [
+        format!("POST {REQUESTS}?why=1 HTTP/1.1\r\nHost: localhost\r\nX-Account: router\r\nContent-Type: application/json\r\nContent-Length: {}\r\n\r\n{body}", body.len()),
+        format!("POST {REQUESTS} HTTP/1.1\r\nHost: localhost\r\nX-Account: anna\r\nContent-Type: text/plain\r\nTransfer-Encoding: chunked\r\n\r\n5\r\nend o\r\n6\r\nrder 7\r\n0\r\n\r\n"),
+        "GET /v1/desks/desk/journal?order=mill&last=3 HTTP/1.1\r\nHost: localhost\r\nX-Account: revision\r\nAccept: text/csv;q=0.5, */*\r\n\r\n".to_string(),
+        "GET /v1/desks/desk/orders/mill%207/tasks/sign/who HTTP/1.1\r\nHost: localhost\r\nX-Account: anna\r\n\r\n".to_string(),
+    ];
+    let mut seed = 7u64;
+    let mut below = |end: usize| {
+        seed = seed
+            .wrapping_mul(6364136223846793005)
+            .wrapping_add(1442695040888963407);
+        (seed >> 33) as usize % end.max(1)
+    };
+    for round in 0..rounds {
+        let mut bytes = seeds[below(seeds.len())].clone().into_bytes();
+        for _ in 0..1 + below(6) {
+            let at = below(bytes.len());
+            match below(5) {
+                0 => bytes[at] = below(256) as u8,
+                1 => bytes.truncate(at),
+                2 => bytes.insert(at, b"\r\n %/?&=:{}[]\"\\0\xff"[below(17)]),
+                3 => drop(bytes.remove(at.min(bytes.len().saturating_sub(1)))),
+                _ => bytes.extend_from_within(at..),
+            }
+            if bytes.is_empty() {
+                bytes.push(b'\n');
+            }
+        }
+        let At::Tcp(address) = &at else {
+            unreachable!()
+        };
+        let mut stream = std::net::TcpStream::connect(address).unwrap();
+        let _ = stream.write_all(&bytes);
+        let _ = stream.shutdown(std::net::Shutdown::Write);
+        let mut answer = Vec::new();
+        let _ = std::io::Read::read_to_end(&mut stream, &mut answer);
+        assert!(
+            answer.is_empty() || answer.starts_with(b"HTTP/1."),
+            "{bytes:?}"
+        );
+        if round % 250 == 0 {
+            assert_eq!(at.get("", "/healthz").status, 200);
+        }
+    }
+    assert_eq!(at.get("anna", "/v1/desks/desk/board").status, 200);
 }

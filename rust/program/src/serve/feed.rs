@@ -2,9 +2,11 @@
 //! It decides nothing: what is allowed is asked of the engine.
 
 use super::meter::{Meter, OfDesk};
-use crate::journal::{self, Failed, Found, Live, Row};
+use crate::journal::{self, Barred, Failed, Found, Live, Row};
 use crate::names::Names;
+use crate::report::{log, Level};
 use crate::writer;
+use serde_json::json;
 use std::collections::VecDeque;
 use std::sync::{Arc, Mutex, MutexGuard, PoisonError};
 use std::time::Duration;
@@ -144,6 +146,7 @@ fn refusal(row: &Row, names: &Names) -> Refusal {
 }
 
 pub struct Feed {
+    name: String,
     /// The number of the last request that was answered: whoever watches it is woken.
     pub last: watch::Sender<i64>,
     figures: Mutex<OfDesk>,
@@ -156,6 +159,7 @@ impl Feed {
         let figures = meter.of_desk(name);
         figures.last.set(last);
         Feed {
+            name: name.to_string(),
             last: watch::channel(last).0,
             figures: Mutex::new(figures),
             seen: seen.map(Mutex::new),
@@ -189,10 +193,20 @@ impl Feed {
         }
     }
 
-    /// These were answered, and so many were barred.
-    pub fn answered(&self, rows: &[Row], barred: usize, names: &Names) {
+    /// These were answered, and these barred.
+    pub fn answered(&self, rows: &[Row], barred: &[Barred], names: &Names) {
+        for one in barred {
+            let fields = [
+                ("desk", json!(self.name)),
+                ("account", json!(&*one.account)),
+                ("via", json!(one.via.as_deref())),
+                ("asked", json!(one.asked)),
+                ("why", json!(one.why)),
+            ];
+            log(Level::Info, "barred", &fields);
+        }
         let mut figures = self.figures();
-        figures.barred.inc_by(barred as u64);
+        figures.barred.inc_by(barred.len() as u64);
         let Some(last) = rows.last() else {
             return;
         };
@@ -245,7 +259,7 @@ mod tests {
             row(5, Record::claim(1, 7, 1), 15),
             row(6, Record::release(1, 7, 2), 0),
         ];
-        feed.answered(&rows, 0, &Names::default());
+        feed.answered(&rows, &[], &Names::default());
         assert_eq!(*watched.borrow(), 6);
         let seen = feed.seen().unwrap();
         assert_eq!((seen.opened(7), seen.opened(8)), (Some(10), None));
@@ -259,8 +273,8 @@ mod tests {
         let many: Vec<Row> = (7..200)
             .map(|n| row(n, Record::claim(1, 7, 1), 15))
             .collect();
-        feed.answered(&many, 0, &Names::default());
-        feed.answered(&[row(200, Record::end_order(7), 0)], 0, &Names::default());
+        feed.answered(&many, &[], &Names::default());
+        feed.answered(&[row(200, Record::end_order(7), 0)], &[], &Names::default());
         let seen = feed.seen().unwrap();
         assert_eq!((seen.refusals.len(), seen.opened(7)), (REFUSALS, None));
         assert_eq!(seen.refusals.back().unwrap().number, 199);

@@ -246,7 +246,8 @@ impl Served {
             return Ok(true);
         };
         barred.at = journal.time();
-        self.feed.answered(&[], 1, &self.live.names);
+        let kept = std::slice::from_ref(&barred);
+        self.feed.answered(&[], kept, &self.live.names);
         let group = Group {
             rows: &[],
             barred: &[barred],
@@ -385,7 +386,7 @@ impl Served {
         if self.live.changes != changes {
             self.publish(&rows);
         }
-        self.feed.answered(&rows, barred.len(), &self.live.names);
+        self.feed.answered(&rows, &barred, &self.live.names);
         for (batch, request, recorded) in again {
             keys::answered(
                 &mut group[batch].asked[request],

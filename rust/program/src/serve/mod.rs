@@ -25,7 +25,7 @@ pub use question::Allowed;
 
 use crate::journal::{self, Found, How, Live, Saved, Sight, Takeover, Watch, Writes};
 use crate::names::Sort;
-use crate::report::{self, report};
+use crate::report::{self, failed, log, report, Level};
 use crate::source::Policy;
 use crate::stop::{wrong, Done, Stop, REFUSED, WELL};
 use accept::{House, Limits};
@@ -39,6 +39,7 @@ use mishantral::Engine;
 use nix::sys::signal::{SigSet, Signal};
 use nix::unistd::Uid;
 use question::Pool;
+use serde_json::json;
 use standby::Standby;
 use std::collections::BTreeMap;
 use std::io::Write;
@@ -83,12 +84,15 @@ pub struct Options {
     pub questions: Allowed,
     /// Where one desk ends, all do.
     pub together: bool,
+    /// What is told on standard error, and how.
+    pub log: report::How,
 }
 
 pub fn serve(options: &Options, out: &mut dyn Write) -> Done {
     // Nobody may read what is told here; that ends nothing.
     let mut tell = |line: &str| drop(writeln!(out, "{line}").and_then(|()| out.flush()));
     let ends = ends_asked_for().map_err(|why| cannot("the signals cannot be waited for", &why))?;
+    report::written(options.log);
     report::in_background().map_err(|why| threads(&why))?;
     let pool = Pool::new(options.questions).map_err(|why| threads(&why))?;
     let meter = Meter::new().map_err(|why| cannot("the figures cannot be kept", &why))?;
@@ -156,10 +160,21 @@ pub fn serve(options: &Options, out: &mut dyn Write) -> Done {
         }
     })?;
     at.extend(options.socket.as_ref().map(|socket| socket.path.clone()));
+    for (name, door) in &house.desks {
+        let last = *door.feed.last.borrow();
+        let fields = [
+            ("desk", json!(http::shown(name))),
+            ("journal", json!(door.journal)),
+            ("last", json!(last)),
+        ];
+        log(Level::Info, "desk", &fields);
+    }
+    log(Level::Info, "serving", &[("at", json!(at.join(" and ")))]);
     tell(&format!("serving on {}", at.join(" and ")));
     let status = until_all_end(&house, &came, options.together);
     serving.iter().for_each(|serving| serving.close());
     answered(&house, serving.as_deref());
+    log(Level::Info, "ended", &[("status", json!(status))]);
     Ok(status)
 }
 
@@ -193,7 +208,7 @@ fn until_all_end(house: &Arc<House>, came: &Receiver<Ended>, together: bool) -> 
             Err(why) => {
                 status = REFUSED;
                 let why = format!("{called} has ended, since its journal failed: {why}");
-                report(&why);
+                failed(&why);
                 door.end(&why);
                 if together {
                     close(house);

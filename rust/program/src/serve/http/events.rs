@@ -67,5 +67,8 @@ pub async fn events(call: Asked) -> Result<Reply, Problem> {
             let _ = timeout(BEAT, either(last.changed(), closing.changed())).await;
         }
     });
-    Ok(Reply::of("text/event-stream", body))
+    let mut reply = Reply::of("text/event-stream", body);
+    // A proxy that keeps events until it has many would keep them for ever.
+    reply.headers = vec![("x-accel-buffering", "no")];
+    Ok(reply)
 }

@@ -79,7 +79,8 @@ pub async fn asked<T: Send + 'static>(
     let (door, inside) = (call.door.clone(), gone.clone());
     pool.put(turn, gone, move |pool| {
         let budget = pool.budget(&inside);
-        let desk = Pool::look(&door).map_err(Problem::ended);
+        let gone = |why| Problem::ended(door.elsewhere().or(door.ended()).unwrap_or(why));
+        let desk = Pool::look(&door).map_err(gone);
         let desk = desk.map(|engine| Desk::at(&door.policy, door.names(), engine));
         let _ = to.send(desk.and_then(|desk| work(desk, &budget)));
     });
@@ -173,10 +174,10 @@ pub async fn board(call: &Asked) -> Result<Reply, Problem> {
 }
 
 async fn look(door: &Arc<Door>) -> Result<mishantral::Engine, Problem> {
-    let door = door.clone();
-    let looked = spawn_blocking(move || Pool::look(&door)).await;
+    let asked = door.clone();
+    let looked = spawn_blocking(move || Pool::look(&asked)).await;
     let looked = looked.unwrap_or_else(|_| Err("the desk has ended".to_string()));
-    looked.map_err(Problem::ended)
+    looked.map_err(|why| Problem::ended(door.elsewhere().or(door.ended()).unwrap_or(why)))
 }
 
 /// The last refusals: a clerk's own, or for who may read the journal all.
@@ -546,54 +547,58 @@ fn is_there(door: &Door) -> bool {
     asked.is_ok() && from.recv_timeout(HEALTHY).is_ok()
 }
 
-/// The state of each desk, and whether all are well.
-async fn states(hall: &Hall) -> (Map<String, Value>, bool) {
-    let (mut all, mut well) = (Map::new(), true);
+/// The state of each desk: whether all are well, and whether all are here.
+async fn states(hall: &Hall) -> (Map<String, Value>, bool, bool) {
+    let (mut all, mut well, mut here) = (Map::new(), true, true);
     for (name, door) in &hall.house.desks {
         let asked = door.clone();
-        let there = spawn_blocking(move || is_there(&asked))
-            .await
-            .unwrap_or(false);
-        let state = match (there, door.ended()) {
-            (true, _) => "serving",
-            (false, Some(_)) => "ended",
-            (false, None) => "silent",
+        let there = spawn_blocking(move || is_there(&asked)).await;
+        let (there, elsewhere) = (there.unwrap_or(false), door.elsewhere());
+        let state = match (there, &elsewhere, door.ended()) {
+            (true, ..) => "serving",
+            (false, _, Some(_)) => "ended",
+            // Another server has the desk, and this one waits for it.
+            (false, Some(_), None) => "standby",
+            (false, None, None) => "silent",
         };
-        well &= there;
+        well &= matches!(state, "serving" | "standby");
+        here &= state == "serving";
         let last = *door.feed.last.borrow();
-        all.insert(
-            shown(name).to_string(),
-            json!({ "state": state, "last": last }),
-        );
+        let mut object = json!({ "state": state, "last": last });
+        if let ("standby", Some(told)) = (state, elsewhere) {
+            object["elsewhere"] = json!(told);
+        }
+        all.insert(shown(name).to_string(), object);
     }
-    (all, well)
+    (all, well, here)
 }
 
-/// 200 while every desk answers.
-pub async fn health(hall: &Hall) -> Result<Reply, Problem> {
-    let (desks, well) = states(hall).await;
-    let mut reply =
-        Reply::json(json!({ "status": if well { "ok" } else { "failing" }, "desks": desks }));
-    if !well {
+fn with_status(status: &str, desks: Map<String, Value>, is_well: bool) -> Reply {
+    let mut reply = Reply::json(json!({ "status": status, "desks": desks }));
+    if !is_well {
         reply.status = hyper::StatusCode::SERVICE_UNAVAILABLE;
     }
-    Ok(reply)
+    reply
 }
 
-/// 200 while requests are taken: not when the server ends.
+/// 200 while every desk answers, or is watched by a standby.
+pub async fn health(hall: &Hall) -> Result<Reply, Problem> {
+    let (desks, well, _) = states(hall).await;
+    let status = if well { "ok" } else { "failing" };
+    Ok(with_status(status, desks, well))
+}
+
+/// 200 while requests are taken here: not by a standby, and not when the server ends.
 pub async fn ready(hall: &Hall) -> Result<Reply, Problem> {
-    let (desks, well) = states(hall).await;
+    let (desks, well, here) = states(hall).await;
     let closing = *hall.closing.borrow();
-    let status = match (well, closing) {
-        (_, true) => "ending",
-        (true, _) => "ready",
+    let status = match (closing, well, here) {
+        (true, ..) => "ending",
+        (_, true, true) => "ready",
+        (_, true, false) => "standby",
         _ => "failing",
     };
-    let mut reply = Reply::json(json!({ "status": status, "desks": desks }));
-    if status != "ready" {
-        reply.status = hyper::StatusCode::SERVICE_UNAVAILABLE;
-    }
-    Ok(reply)
+    Ok(with_status(status, desks, status == "ready"))
 }
 
 pub fn metrics(hall: &Hall) -> Reply {

@@ -7,6 +7,7 @@ mod board;
 mod body;
 mod events;
 mod look;
+mod page;
 mod problem;
 mod requests;
 mod route;

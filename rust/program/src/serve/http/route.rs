@@ -2,10 +2,11 @@
 
 use super::account::{is_meant, who, Peer, Sayer};
 use super::problem::Problem;
-use super::{authzen, body, events, look, requests, Hall, HEADER};
+use super::{authzen, body, events, look, page, requests, Hall, HEADER};
+use crate::report::{is_written, log, Level};
 use crate::serve::account::Who;
 use crate::serve::door::Door;
-use hyper::header::{HeaderMap, HeaderName, HeaderValue, ALLOW, CACHE_CONTROL, CONTENT_TYPE};
+use hyper::header::{HeaderMap, HeaderName, HeaderValue, CACHE_CONTROL};
 use hyper::{Body, Method, Request, Response, StatusCode};
 use serde_json::{json, Value};
 use std::sync::Arc;
@@ -27,6 +28,7 @@ pub struct Asked {
 pub struct Reply {
     pub status: StatusCode,
     pub kind: &'static str,
+    pub headers: Vec<(&'static str, &'static str)>,
     pub body: Body,
 }
 
@@ -39,6 +41,7 @@ impl Reply {
         Reply {
             status: StatusCode::OK,
             kind,
+            headers: Vec::new(),
             body: body.into(),
         }
     }
@@ -47,6 +50,7 @@ impl Reply {
 /// Everything that has a path.
 #[derive(Clone, Copy, PartialEq, Eq, Debug)]
 pub enum Route {
+    Page,
     Health,
     Ready,
     Metrics,
@@ -72,7 +76,8 @@ pub enum Route {
 use Route::*;
 
 /// Paths; a word in braces stands for something. The first word is the desk's, where there is one.
-const PATHS: [(Route, &str); 25] = [
+const PATHS: [(Route, &str); 26] = [
+    (Page, "/"),
     (Health, "/healthz"),
     (Ready, "/readyz"),
     (Metrics, "/metrics"),
@@ -151,6 +156,7 @@ pub async fn answered(
     let began = Instant::now();
     let id = request.headers().get("x-request-id").cloned();
     let method = request.method().clone();
+    let path = request.uri().path().to_string();
     let found = route(request.uri().path());
     let name = found.as_ref().map_or("none", |(_, pattern, _)| pattern);
     let meter = hall.house.meter.clone();
@@ -177,8 +183,20 @@ pub async fn answered(
     if let Some(id) = id {
         headers.insert(HeaderName::from_static("x-request-id"), id);
     }
-    let (status, took) = (response.status().as_u16(), began.elapsed().as_secs_f64());
-    meter.responded(name, known(&method), status, took);
+    let (status, took) = (response.status().as_u16(), began.elapsed());
+    meter.responded(name, known(&method), status, took.as_secs_f64());
+    if is_written(Level::Debug) {
+        let id = response.headers().get("x-request-id");
+        let fields = [
+            ("client", json!(client)),
+            ("method", json!(method.as_str())),
+            ("path", json!(path)),
+            ("status", json!(status)),
+            ("microseconds", json!(took.as_micros() as u64)),
+            ("id", json!(id.and_then(|id| id.to_str().ok()))),
+        ];
+        log(Level::Debug, "http", &fields);
+    }
     response
 }
 
@@ -207,26 +225,18 @@ fn is_allowed(route: Route, method: &Method) -> bool {
 }
 
 fn options(route: Route) -> Reply {
-    Reply {
-        status: StatusCode::NO_CONTENT,
-        kind: route.allowed(),
-        body: Body::empty(),
-    }
+    let mut reply = Reply::of("", Body::empty());
+    reply.status = StatusCode::NO_CONTENT;
+    reply.headers = vec![("allow", route.allowed())];
+    reply
 }
 
 fn response(reply: Reply) -> Response<Body> {
     let mut response = Response::new(reply.body);
     *response.status_mut() = reply.status;
-    // An answer to OPTIONS has no type, and says what is allowed.
-    let name = match reply.status {
-        StatusCode::NO_CONTENT => ALLOW,
-        _ => CONTENT_TYPE,
-    };
-    let value = HeaderValue::from_static(reply.kind);
-    response.headers_mut().insert(name, value);
-    if reply.kind == "text/event-stream" {
-        // A proxy that keeps events until it has many would keep them for ever.
-        let (name, value) = ("x-accel-buffering", HeaderValue::from_static("no"));
+    let kind = Some(("content-type", reply.kind)).filter(|(_, kind)| !kind.is_empty());
+    for (name, value) in reply.headers.into_iter().chain(kind) {
+        let value = HeaderValue::from_static(value);
         response
             .headers_mut()
             .insert(HeaderName::from_static(name), value);
@@ -245,6 +255,7 @@ async fn called(
     let (head, body) = request.into_parts();
     // What tells nothing about anybody is answered without an account.
     match route {
+        Page => return Ok(page::page()),
         Health => return look::health(&hall).await,
         Ready => return look::ready(&hall).await,
         Metrics => return Ok(look::metrics(&hall)),
@@ -352,6 +363,24 @@ pub fn desk(hall: &Hall, name: &str) -> Result<Arc<Door>, Problem> {
 mod tests {
     use super::*;
 
+    /// The contract has every path, with its method, and no other.
+    #[test]
+    fn the_contract_has_these_paths() {
+        let contract: Value = serde_json::from_str(CONTRACT).unwrap();
+        let told: std::collections::BTreeSet<(String, String)> = contract["paths"]
+            .as_object()
+            .unwrap()
+            .iter()
+            .flat_map(|(path, methods)| {
+                let methods = methods.as_object().unwrap().keys();
+                methods.map(|method| (path.clone(), method.to_uppercase()))
+            })
+            .collect();
+        let there = PATHS.map(|(route, path)| (path.to_string(), route.method().to_string()));
+        assert_eq!(told, there.into_iter().collect());
+        assert_eq!(contract["info"]["version"], env!("CARGO_PKG_VERSION"));
+    }
+
     #[test]
     fn paths_have_their_routes() {
         let words = |path: &str| route(path).map(|(route, _, words)| (route, words));
@@ -366,7 +395,6 @@ mod tests {
         );
         for none in [
             "",
-            "/",
             "/v1/desks/",
             "/v1/desks//board",
             "/v1/desks/desk/board/",
