@@ -75,6 +75,9 @@ fn again(options: &Options) -> Result<Asked, Stop> {
 fn greeted(options: &Options, socket: &str) -> Result<Asked, String> {
     let failed = |why: io::Error| why.to_string();
     let stream = UnixStream::connect(socket).map_err(failed)?;
+    // A server that is stopped takes connections, and says nothing: another one may have the desk.
+    let patience = (options.sockets.len() > 1).then_some(Duration::from_secs(5));
+    stream.set_read_timeout(patience).map_err(failed)?;
     let mut replies = BufReader::new(stream.try_clone().map_err(failed)?);
     let account = options.account.map(|account| format!("as {account}"));
     let desk = options.desk.map(|desk| format!("desk {desk}"));
@@ -93,6 +96,7 @@ fn greeted(options: &Options, socket: &str) -> Result<Asked, String> {
             });
         }
     }
+    stream.set_read_timeout(None).map_err(failed)?;
     Ok(Asked { stream, replies })
 }
 

@@ -361,6 +361,7 @@ fn serve() -> Command {
         )
         .arg(flag("standby", "Desks that another server has are watched, and taken over when that is silent; a database as --journal"))
         .arg(number("takeover", "With a database: a server that is silent for so many seconds has lost its desks; 5 where it is missing"))
+        .arg(value("share", "K/N", "With --standby: this is server K of N, which share the desks by their numbers; each takes its own at once, and others' when nobody does").requires("standby"))
         .arg(value("server", "NAME", "How clients find this server, as those are told who reach another one; host and socket where it is missing"))
         .after_help(concat!(
             "Examples:\n",

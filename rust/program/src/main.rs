@@ -311,6 +311,20 @@ fn journal_of(given: &ArgMatches, option: &str) -> Result<String, Stop> {
     }
 }
 
+/// Which of several servers this is, `1/2`, and how many there are.
+fn share(given: &ArgMatches) -> Result<Option<(i64, i64)>, Stop> {
+    let Some(word) = text(given, "share") else {
+        return Ok(None);
+    };
+    let numbers = word.split_once('/').map(|(a, b)| (a.parse(), b.parse()));
+    match numbers {
+        Some((Ok(which), Ok(of))) if 1 <= which && which <= of => Ok(Some((which, of))),
+        _ => wrong(format!(
+            "--share {word}: which of how many servers is expected, as 1/2"
+        )),
+    }
+}
+
 /// How clients find this server, as those are told who reach another one.
 fn server(given: &ArgMatches) -> String {
     let host = std::fs::read_to_string("/proc/sys/kernel/hostname").unwrap_or_default();
@@ -369,6 +383,7 @@ fn serve(given: &ArgMatches, out: &mut dyn Write) -> Done {
         takeover: journal::Takeover {
             server: server(given),
             silent: Duration::from_secs(number("takeover", 5)),
+            share: share(given)?,
         },
         standby: given.get_flag("standby"),
         keys: number("keys", 30) as i64 * 86_400_000_000,

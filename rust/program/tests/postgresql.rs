@@ -393,3 +393,47 @@ fn desks_of_one_database_are_apart_and_shared_by_servers() {
     });
     assert_eq!(say(&second, &yard, "end order 2"), "2 0 GRANTED");
 }
+
+#[test]
+fn servers_share_the_desks_by_their_numbers() {
+    let Some(place) = place("shares") else {
+        return;
+    };
+    let id = std::process::id();
+    let desks: Vec<String> = (0..4).map(|n| format!("share{n}-{id}")).collect();
+    let serve = |socket: &str, more: &[&str]| {
+        let socket = place.room.join(socket);
+        let mut command = mishantral(&["serve", POLICY, "--journal", &place.journal, "--socket"]);
+        command.arg(&socket).args(more).args(["--takeover", "4"]);
+        for desk in &desks {
+            command.args(["--desk", desk]);
+        }
+        Server::started(&mut command, socket)
+    };
+    let say = |server: &Server, desk: &str, line: &str| {
+        let said = server.lines(&format!("desk {desk}\nlines\n{line}\n"));
+        said.last().unwrap().clone()
+    };
+    // The first one makes the desks; then each of two takes those that are its own.
+    drop(serve("all.sock", &[]));
+    let first = serve("a.sock", &["--standby", "--share", "1/2"]);
+    let second = serve("b.sock", &["--standby", "--share", "2/2"]);
+    let here = |server: &Server| {
+        let is = |desk: &&String| say(server, desk, "end order 1").contains("UNKNOWN");
+        desks.iter().filter(is).count()
+    };
+    waited("shares", || (here(&first), here(&second)) == (2, 2));
+    drop(first);
+    waited("a takeover", || here(&second) == 4);
+    let socket = place.room.join("c.sock");
+    let wrong = [
+        "serve",
+        "--share",
+        "3/2",
+        "--standby",
+        "--socket",
+        socket.to_str().unwrap(),
+    ];
+    let (_, why, status) = run(&[&wrong[..], &place.options()].concat());
+    assert_eq!((why.contains("as 1/2"), status), (true, 2), "{why}");
+}

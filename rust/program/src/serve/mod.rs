@@ -349,14 +349,11 @@ fn opened(
         Whose::Ours(engine, journal, last) => {
             Desk::Here(Box::new(begin.of(*engine, journal, start.live, last)))
         }
-        Whose::Anothers(watch, how, server) => {
+        Whose::Anothers(watched, server) => {
+            let (watch, how) = *watched;
             door.is_at(Some(server));
             let door = door.clone();
-            let standby = Standby {
-                watch: *watch,
-                how,
-                door,
-            };
+            let standby = Standby { watch, how, door };
             Desk::Elsewhere(Box::new((standby, begin)))
         }
     };
@@ -375,7 +372,7 @@ struct Start {
 enum Whose {
     Ours(Box<Engine>, Option<Box<dyn Writes>>, i64),
     /// Another server's, of this name.
-    Anothers(Box<Watch>, How, String),
+    Anothers(Box<(Watch, How)>, String),
 }
 
 fn from_journal(options: &Options, wanted: &Wanted, place: &str) -> Result<Start, Stop> {
@@ -449,7 +446,7 @@ fn stood_by(place: &str, name: &str, how: How) -> Result<Result<standby::Here, B
         live: Live::new(policy.names.clone()),
         policy,
         line: format!("{name}: standing by; it is served by {server}"),
-        whose: Whose::Anothers(Box::new(watch), how, server),
+        whose: Whose::Anothers(Box::new((watch, how)), server),
     })))
 }
 

@@ -27,7 +27,7 @@ pub struct Sent {
 #[derive(Default)]
 pub struct Told {
     pub sent: Vec<Sent>,
-    /// How often it connected anew, and how many requests it sent again.
+    /// How often it connected, and how many requests it sent again.
     pub connected: u64,
     pub again: u64,
     /// The longest that an answer took.
@@ -87,10 +87,12 @@ fn connected(sockets: &[PathBuf]) -> io::Result<UnixStream> {
     let mut why = io::Error::other("no socket");
     for socket in sockets {
         let asked = UnixStream::connect(socket).and_then(|mut stream| {
-            stream.set_read_timeout(Some(Duration::from_secs(60)))?;
+            // A server that is stopped takes connections, and says nothing.
+            stream.set_read_timeout(Some(Duration::from_millis(500)))?;
             stream.write_all(b"keyed\n")?;
             let mut told = [0; 6];
             stream.read_exact(&mut told)?;
+            stream.set_read_timeout(Some(Duration::from_secs(2)))?;
             match &told == b"keyed\n" {
                 true => Ok(stream),
                 false => Err(io::Error::other("it is not there")),
@@ -130,13 +132,20 @@ fn lived(
             if began.elapsed() > PATIENCE {
                 return Err(format!("{} was never answered", told.sent[next].key));
             }
-            let done = asked(&mut stream, sockets, &mut told.sent[next..]);
-            next += done.unwrap_or(0);
             if stream.is_none() {
+                let Ok(there) = connected(sockets) else {
+                    thread::sleep(Duration::from_millis(5));
+                    continue;
+                };
+                stream = Some(there);
+                // Whoever connects for the first time sends nothing again.
+                if told.connected > 0 {
+                    told.again += (told.sent.len() - next) as u64;
+                }
                 told.connected += 1;
-                told.again += (told.sent.len() - next) as u64;
-                thread::sleep(Duration::from_millis(5));
             }
+            let done = asked(&mut stream, &mut told.sent[next..]);
+            next += done.unwrap_or(0);
         }
         told.worst = told.worst.max(began.elapsed());
         *last.lock().unwrap_or_else(PoisonError::into_inner) = Instant::now();
@@ -145,14 +154,9 @@ fn lived(
 }
 
 /// Sends requests and takes their answers, as many as come; the connection is gone where it broke.
-fn asked(
-    stream: &mut Option<UnixStream>,
-    sockets: &[PathBuf],
-    all: &mut [Sent],
-) -> io::Result<usize> {
-    let mut there = match stream.take() {
-        Some(there) => there,
-        None => connected(sockets)?,
+fn asked(stream: &mut Option<UnixStream>, all: &mut [Sent]) -> io::Result<usize> {
+    let Some(mut there) = stream.take() else {
+        return Ok(0);
     };
     let mut bytes = Vec::new();
     for one in all.iter() {

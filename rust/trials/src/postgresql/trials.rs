@@ -128,7 +128,7 @@ fn signal(server: &Server, signal: &str) {
 fn paused(given: &Given) -> Result<String, String> {
     let mut scene = Scene::new(given.program, "paused", true)?;
     let takeover = ["--standby", "--takeover", "1"];
-    let mut times: Vec<Duration> = Vec::new();
+    let mut times: [Vec<Duration>; 2] = Default::default();
     let turns = (given.count / 4).max(2);
     let mut has = scene.started("s0.sock", &takeover[1..])?;
     for turn in 1..=turns {
@@ -144,7 +144,8 @@ fn paused(given: &Given) -> Result<String, String> {
         // Its last answers are on their way.
         sleep(Duration::from_millis(50));
         let took = crowd.answered_after(began + Duration::from_millis(50));
-        times.push(took.ok_or("nobody took the desk over")? + Duration::from_millis(50));
+        let took = took.ok_or("nobody took the desk over")?;
+        times[usize::from(stops)].push(took + Duration::from_millis(50));
         if stops {
             signal(&has, "-CONT");
             let status = has.ended().ok_or("it did not end")?;
@@ -161,12 +162,15 @@ fn paused(given: &Given) -> Result<String, String> {
     eprintln!();
     drop(has);
     scene.checked(Which::Primary)?;
-    times.sort();
-    let seconds = |at: usize| times[at].as_secs_f64();
+    let middle = |times: &mut Vec<Duration>| {
+        times.sort();
+        times[times.len() / 2].as_secs_f64()
+    };
+    let [killed, stopped] = &mut times;
     Ok(format!(
-        "{turns} takeovers with --takeover 1: from the stop or the kill to the next answer {:.2} s in the median, {:.2} s at most; whoever was continued wrote nothing, said so and ended with exit status 1; {}",
-        seconds(times.len() / 2),
-        seconds(times.len() - 1),
+        "{turns} takeovers with --takeover 1: from a kill to the next answer {:.2} s in the median, from a stop {:.2} s, of which clients wait 2.5 s before they try the other server; whoever was continued wrote nothing, said so and ended with exit status 1; {}",
+        middle(killed),
+        middle(stopped),
         scene.said()
     ))
 }
@@ -215,9 +219,8 @@ fn promotion(given: &Given) -> Result<String, String> {
         scene.room.join("a").display(),
         scene.room.join("b").display()
     );
-    let address = format!(
-        "postgresql://postgres@/postgres?host={hosts}&port=5432,5432&target_session_attrs=read-write"
-    );
+    let address =
+        format!("postgresql://postgres@/postgres?host={hosts}&target_session_attrs=read-write");
     let server = scene
         .how("desk.sock", &address)
         .with(&["--saved", "replicated"])
@@ -230,6 +233,7 @@ fn promotion(given: &Given) -> Result<String, String> {
     // The new primary has no standby yet: who promotes one decides that it need not wait for another.
     standby.set("synchronous_standby_names = ''\n")?;
     standby.promote()?;
+    standby.psql("SELECT pg_reload_conf()")?;
     let took = crowd.answered_after(began + Duration::from_millis(100));
     let took = took.ok_or("nobody was answered after the promotion")?;
     sleep(Duration::from_millis(300));

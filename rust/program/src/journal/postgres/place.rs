@@ -76,13 +76,29 @@ impl Place {
                 "--desk {desk:?}: a name of 1 to {LONGEST} bytes without blanks is expected"
             ));
         }
-        let config = Config::from_str(address).map_err(|why| said(&why))?;
+        let config = Config::from_str(&spread(address)).map_err(|why| said(&why))?;
         Ok(Place {
             config: completed(config)?,
             desk: desk.to_string(),
             shown: shown(word),
         })
     }
+}
+
+/// Several hosts, as libpq takes them with commas between, one by one.
+fn spread(address: &str) -> String {
+    let Some((before, options)) = address.split_once('?') else {
+        return address.to_string();
+    };
+    let one = |option: &str| match option.strip_prefix("host=") {
+        Some(hosts) => hosts
+            .split(',')
+            .map(|host| format!("host={host}"))
+            .collect(),
+        None => vec![option.to_string()],
+    };
+    let options: Vec<String> = options.split('&').flat_map(one).collect();
+    format!("{before}?{}", options.join("&"))
 }
 
 /// What libpq takes from the system where an address does not say it: the user, the socket, the password.
@@ -164,6 +180,14 @@ mod tests {
         assert_eq!(with_desk("desk.db", Some("mill")), "desk.db");
         assert!(Place::of(address).err().unwrap().contains("--desk NAME"));
         assert!(Place::of(&with_desk(address, Some("a b"))).is_err());
+    }
+
+    #[test]
+    fn several_hosts_are_tried_in_turn() {
+        let word = "postgresql:///db?host=/run/a,/run/b&target_session_attrs=read-write#mill";
+        let place = Place::of(word).ok().unwrap();
+        let hosts = ["/run/a", "/run/b"].map(|path| Host::Unix(path.into()));
+        assert_eq!(place.config.get_hosts(), hosts);
     }
 
     #[test]

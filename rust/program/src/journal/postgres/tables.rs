@@ -3,7 +3,10 @@
 //! They change by migrations, each run once, in its order. A migration that has landed is never changed: its sum is compared.
 
 /// What makes or changes the tables, from 1 on.
-pub const MIGRATIONS: [&str; 1] = [TABLES];
+pub const MIGRATIONS: [&str; 2] = [TABLES, NUMBERS];
+
+/// A number for each desk, by which servers share them.
+const NUMBERS: &str = "ALTER TABLE writer ADD COLUMN number bigint GENERATED ALWAYS AS IDENTITY";
 
 const TABLES: &str = r#"
 CREATE TABLE journal (
@@ -224,7 +227,7 @@ RETURNING last, groups";
 
 /// Who has a desk, for how many microseconds nothing came from there, and whether its session is gone.
 pub const WHO: &str = "
-SELECT start, server, ended, (extract(epoch FROM clock_timestamp() - beat) * 1000000)::bigint,
+SELECT start, server, ended, number, (extract(epoch FROM clock_timestamp() - beat) * 1000000)::bigint,
     NOT EXISTS (SELECT 1 FROM pg_stat_activity WHERE pid = backend AND application_name = 'mishantral')
 FROM writer WHERE desk = $1";
 

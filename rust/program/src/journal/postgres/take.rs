@@ -13,6 +13,8 @@ pub struct Takeover {
     pub server: String,
     /// A server that is silent for so long has lost its desks.
     pub silent: Duration,
+    /// Which of several servers this is, and how many there are: each has a share of the desks, by their numbers.
+    pub share: Option<(i64, i64)>,
 }
 
 /// Who has a desk now.
@@ -22,6 +24,8 @@ pub struct Having {
     pub server: String,
     /// It ended as it was asked to.
     pub ended: bool,
+    /// The desk's number.
+    pub number: i64,
     /// For how long nothing came from there.
     pub silent: Duration,
     /// Its session with the database is gone.
@@ -33,14 +37,26 @@ impl Having {
         let Some(row) = wire.row(WHO, &[&desk])? else {
             return Err(Fault::Doubt("nobody is said to have it".to_string()));
         };
-        let silent: i64 = row.get(3);
+        let silent: i64 = row.get(4);
         Ok(Having {
             start: row.get(0),
             server: row.get(1),
             ended: row.get(2),
+            number: row.get(3),
             silent: Duration::from_micros(silent.max(0) as u64),
-            gone: row.get(4),
+            gone: row.get(5),
         })
+    }
+
+    /// For how long it must be silent before this server takes the desk: none where it has ended and the desk is of this server's share. Those
+    /// of the others' shares are left to them for as long again.
+    pub fn patience(&self, takeover: &Takeover) -> Duration {
+        let own = |(which, of): (i64, i64)| self.number.rem_euclid(of) == which % of;
+        match (takeover.share.is_none_or(own), self.ended) {
+            (true, true) => Duration::ZERO,
+            (true, false) => takeover.silent,
+            (false, _) => 2 * takeover.silent,
+        }
     }
 }
 
@@ -85,4 +101,35 @@ pub fn take(
         last: row.get(0),
         groups: row.get(1),
     }))
+}
+
+#[cfg(test)]
+mod tests {
+    use super::*;
+
+    #[test]
+    fn desks_of_others_are_left_to_them_for_a_while() {
+        let having = |number: i64, ended: bool| Having {
+            start: 1,
+            server: String::new(),
+            ended,
+            number,
+            silent: Duration::ZERO,
+            gone: false,
+        };
+        let second = Duration::from_secs(1);
+        let of = |share: Option<(i64, i64)>| Takeover {
+            server: String::new(),
+            silent: second,
+            share,
+        };
+        let all = of(None);
+        assert_eq!(having(7, true).patience(&all), Duration::ZERO);
+        assert_eq!(having(7, false).patience(&all), second);
+        let (first, last) = (of(Some((1, 3))), of(Some((3, 3))));
+        assert_eq!(having(7, true).patience(&first), Duration::ZERO);
+        assert_eq!(having(7, true).patience(&last), 2 * second);
+        assert_eq!(having(6, false).patience(&last), second);
+        assert_eq!(having(6, false).patience(&first), 2 * second);
+    }
 }

@@ -58,8 +58,8 @@ impl Watch {
         how: &How,
     ) -> Result<Result<super::take::Taken, Having>, Fault> {
         let having = Having::of(wire, &self.place.desk)?;
-        let silent = how.takeover.silent;
-        if !having.ended && having.silent < silent {
+        let silent = having.patience(&how.takeover);
+        if having.silent < silent {
             return Ok(Err(having));
         }
         let taken = take(wire, &self.place, &having, &how.takeover, silent)?;
