@@ -27,9 +27,9 @@ extern "C" {
 #endif
 
 /* This header's version; the project's CHANGELOG.md says what changed with each. */
-#define MISHANTRAL_VERSION "0.1.0"
+#define MISHANTRAL_VERSION "0.2.0"
 #define MISHANTRAL_VERSION_MAJOR 0
-#define MISHANTRAL_VERSION_MINOR 1
+#define MISHANTRAL_VERSION_MINOR 2
 #define MISHANTRAL_VERSION_PATCH 0
 
 /* How many 64-bit words each buffer has, where a constant is wanted: uint64_t policy[MISHANTRAL_POLICY_WORDS]. The

@@ -41,4 +41,4 @@ __all__ = [
     "records_from_opl",
 ]
 
-__version__ = "0.1.0"
+__version__ = "0.2.0"
