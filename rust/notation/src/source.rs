@@ -119,6 +119,30 @@ impl Policy {
         spot.map(|spot| spot.column)
     }
 
+    /// The policy of some of its records, counted from 0: each is told where it stood.
+    pub fn keeping(&self, stays: impl Fn(usize) -> bool) -> Policy {
+        fn kept<T: Copy>(all: &[T], stays: impl Fn(usize) -> bool) -> Vec<T> {
+            let all = all.iter().enumerate();
+            all.filter(|(at, _)| stays(*at))
+                .map(|(_, one)| *one)
+                .collect()
+        }
+        let dealt = self.dealt.as_ref().map(|dealt| {
+            Arc::new(Dealt {
+                spots: kept(&dealt.spots, &stays),
+                ..Dealt::clone(dealt)
+            })
+        });
+        let records: Vec<&[u8]> = self.bytes.chunks(LENGTH).collect();
+        Policy {
+            file: self.file.clone(),
+            bytes: kept(&records, &stays).concat(),
+            lines: kept(&self.lines, &stays),
+            names: self.names.clone(),
+            dealt,
+        }
+    }
+
     /// Where a record stands, counted from 0: `policy.txt, line 14`.
     pub fn place(&self, before: usize) -> String {
         format!("{}, {}", self.file_of(before), self.within(before))
@@ -313,4 +337,32 @@ pub fn requests_of(file: &str, bytes: &[u8], names: &Names) -> Result<Requests, 
         return Ok(read.lines.into_iter().map(|(_, line)| line).collect());
     }
     Ok(bytes.chunks(LENGTH).map(Line::of).collect())
+}
+
+#[cfg(test)]
+mod tests {
+    use super::*;
+
+    #[test]
+    fn records_that_are_kept_are_told_where_they_stood() {
+        let xml = b"<policy_object><policy_object_attributes/><active_modules/><policy_object_modules>\n<module_rbac_core_policy>\n\
+            <users>\n<user user_id='anna'/>\n<user user_id='bert'/></users><roles/><permissions/><user_assignments/>\n\
+            <permission_assignments/></module_rbac_core_policy></policy_object_modules></policy_object>";
+        let dealt = opl_policy("policy.xml", xml, None).unwrap();
+        assert_eq!(dealt.place(1), "policy.xml, line 5, column 1");
+        let kept = dealt.keeping(|at| at != 0);
+        assert_eq!(
+            (kept.line(0), kept.place(0)),
+            (
+                "user bert".to_string(),
+                "policy.xml, line 5, column 1".to_string()
+            )
+        );
+        let text = text_policy("policy.txt", b"user 1\nuser 2\n\nuser 3\n").unwrap();
+        let kept = text.keeping(|at| at != 1);
+        assert_eq!(
+            (kept.place(1), kept.line(1)),
+            ("policy.txt, line 4".to_string(), "user 3".to_string())
+        );
+    }
 }

@@ -64,19 +64,7 @@ pub fn without(desk: &Desk, places: &BTreeSet<usize>) -> Option<Desk> {
     engine.load_records(&kept).ok()?;
     let mut state = desk.engine().state().clone();
     state.policy = engine.state().policy.clone();
-    let stays = |at: &usize| !places.contains(at);
-    let lines = desk.policy.lines.iter().enumerate();
-    let policy = Policy {
-        bytes: (0..records.len())
-            .filter(stays)
-            .flat_map(|at| records[at].0)
-            .collect(),
-        lines: lines
-            .filter(|(at, _)| stays(at))
-            .map(|(_, line)| *line)
-            .collect(),
-        ..desk.policy.clone()
-    };
+    let policy = desk.policy.keeping(|at| !places.contains(&at));
     Some(Desk::at(
         &policy,
         desk.names.clone(),
