@@ -123,15 +123,25 @@ pub fn measured_of(
     }
     let took = began.elapsed().as_secs_f64();
     drop(server);
+    Ok(waits_of(waits, count, took, clients))
+}
+
+/// The figures of so many requests in so many seconds, by their waits in nanoseconds.
+pub fn waits_of(mut waits: Vec<u64>, count: u64, took: f64, clients: usize) -> Measured {
     waits.sort_unstable();
-    let part = |part: f64| waits[((waits.len() - 1) as f64 * part) as usize] as f64 / 1e3;
-    Ok(Measured {
+    let last = waits.len().saturating_sub(1) as f64;
+    let part = |part: f64| {
+        waits
+            .get((last * part) as usize)
+            .map_or(0.0, |&wait| wait as f64 / 1e3)
+    };
+    Measured {
         clients,
         a_second: count as f64 / took,
         median: part(0.5),
         most: part(0.99),
         worst: part(1.0),
-    })
+    }
 }
 
 /// The desk's memory in kilobytes, after each tenth of so many requests.

@@ -12,6 +12,7 @@ mod server;
 mod talk;
 mod torn;
 mod truth;
+mod web;
 
 use std::path::{Path, PathBuf};
 use std::process::ExitCode;
@@ -24,6 +25,7 @@ trials: the served desk tried out
   trials database --program PATH [--kills N] [--seed N] [--only WHAT]
   trials load --program PATH [--seconds N] [--docs FOLDER]
   trials stores --program PATH [--seconds N]
+  trials http --program PATH [--seconds N]
   trials ratio --program PATH --before PATH [--seconds N]
   trials memory --program PATH [--requests N]
   trials desks --program PATH [--seconds N]
@@ -33,6 +35,7 @@ trials: the served desk tried out
   database         the same with the journal in PostgreSQL: a primary and a standby of its own, which are killed, cut off, filled, replaced
   load             requests a second and waits, by clients, with and without a journal
   stores           the same of a file, of PostgreSQL with and without a standby, and of no journal, in one run; and many desks
+  http             the same by HTTP, beside the socket's figures
   ratio            the same of two programs in turn, five times: how many requests a second the first answers, by those of the other
   memory           the server's memory over ten million requests
   desks            what many desks in one server take and give
@@ -224,6 +227,7 @@ fn measured(what: &str, options: &Options) -> Result<(), String> {
     let (program, time) = (&options.program, Duration::from_secs(options.seconds));
     match what {
         "load" => load::load(program, time, options.docs.as_deref()),
+        "http" => web::load(program, time),
         "ratio" => {
             let before = options.before.as_deref();
             let before = before.ok_or("--before PATH is missing")?;
@@ -257,7 +261,7 @@ fn done(arguments: &[String]) -> Result<bool, String> {
         Some((what, rest))
             if matches!(
                 what.as_str(),
-                "load" | "ratio" | "memory" | "desks" | "stores"
+                "load" | "http" | "ratio" | "memory" | "desks" | "stores"
             ) =>
         {
             let options = options(rest)?;
@@ -267,7 +271,7 @@ fn done(arguments: &[String]) -> Result<bool, String> {
             }
             Ok(kept.is_ok())
         }
-        _ => Err("faults, database, load, stores, ratio, memory or desks".to_string()),
+        _ => Err("faults, database, load, stores, http, ratio, memory or desks".to_string()),
     }
 }
 
