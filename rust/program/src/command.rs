@@ -727,6 +727,7 @@ fn staff() -> Command {
                 .value_hint(ValueHint::FilePath),
         )
         .arg(journal_file().help("The desk whose open orders are asked about; its policy is taken where POLICY is missing. With --simulate: the journal to write; there must be none yet"))
+        .arg(desk_of_database().conflicts_with("simulate"))
         .arg(value("minutes", "MINUTES", "How long tasks take, where ORDERS does not say it: test=20,sign=6; else 10 minutes").requires("simulate"))
         .arg(
             value("notice", "MINUTES", "How long it takes until somebody notices that an order came in or went on; 2 where it is missing")
