@@ -556,8 +556,17 @@ fn slow_and_silent_clients_delay_nobody() {
     let raw = format!("POST {REQUESTS} HTTP/1.1\r\nHost: a\r\nX-Account: anna\r\nContent-Type: text/plain\r\nContent-Length: 11\r\n\r\nend");
     body.write_all(raw.as_bytes()).unwrap();
     assert_eq!(at.get("anna", "/v1/desks/desk/board").status, 200);
-    // A fifth one is told that there is no room; when one goes there is.
-    let kept = at.connect();
+    // A fifth one is told that there is no room; when one goes there is. The fourth is asked for until it is answered: the server may
+    // not have seen yet that the one before it has gone.
+    let kept = loop {
+        let mut one = BufReader::new(at.connect());
+        let _ = one
+            .get_mut()
+            .write_all(b"GET /healthz HTTP/1.1\r\nHost: a\r\n\r\n");
+        if read(&mut one, false).status == 200 {
+            break one;
+        }
+    };
     let mut told = BufReader::new(at.connect());
     let answer = read(&mut told, false);
     assert_eq!(
