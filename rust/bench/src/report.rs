@@ -139,10 +139,11 @@ fn space(figures: &Figures) -> String {
 | stack, the deepest of all loads | {load} | 2,048 |
 | stack, the deepest of all requests | {requests} | 2,048 |
 | stack, the deepest of all readings of OPL/XML | {reading} | 2,048 |
-| state lent by the caller: policy {policy}, sessions {sessions}, orders {orders} | {all} | |
+| state, in the caller's buffers: policy {policy}, sessions {sessions}, orders {orders} | {all} | |
 
-The stack below the calls is painted, and the deepest byte sought that they painted over; so the frames of the wrapper
-`mishantral::Engine` and of the loop that asks are counted too. Reading OPL/XML is lent a scratch besides, of 7,374,272 bytes.
+The stack below the calls is filled with a pattern, and the deepest byte that they overwrote is looked for. So the frames
+of the wrapper `mishantral::Engine` and of the calling loop are counted too. Reading OPL/XML also takes a scratch buffer
+of 7,374,272 bytes from the caller.
 "
     )
 }
@@ -155,28 +156,37 @@ fn head(effort: Effort) -> String {
 
 # How fast it is
 
-The proved library, called through `mishantral::Engine`, against two engines in plain Rust. \"index\", in rust/bench/src/index, is as fast as we can
-write it: a pair of operation and object is found by one probe of a perfect hash, and what a request needs is kept ready. It tells how far the proved
-engine is from the limit. \"plain\", in `rust/plain`, is the oracle of the tests, and fast as well. All ran in one process, natively, on one core of
-a {processor}; the library is compiled at -O3, the Rust side in release mode with all crates optimized as one.
+This page compares the proved library, called through `mishantral::Engine`, with two engines in plain Rust:
 
-Times are nanoseconds a record: the best of {repeats} passes over a stream of some thousand records, the engines in turn in every pass, all
-in cache. Every reply of every pass is compared, and a difference ends the run. Compare times within a run: machines differ, and the ratio
-says more. \"plain\" keeps a list of entries for each order, as the proved engine does; \"plain, flat ledger\" keeps one list of all entries.
+- \"index\", in rust/bench/src/index, is as fast as we can write it: it finds a pair of operation and object by one probe
+  of a perfect hash, and keeps everything that a request needs at hand. It shows how far the proved engine is from the
+  limit.
+- \"plain\", in `rust/plain`, is the reference engine of the tests, and fast as well. It keeps a list of entries for each
+  order, as the proved engine does; \"plain, flat ledger\" keeps one list of all entries.
+
+All ran in one process, natively, on one core of a {processor}. The library is compiled at -O3, the Rust side in
+release mode with all crates optimized as one.
+
+Times are nanoseconds per record: the best of {repeats} passes over a stream of some thousand records, the engines in
+turn in every pass, everything in the cache. Every reply of every pass is compared, and a difference ends the run.
+Machines differ, so compare times within one run only; the ratio says more.
 "
     )
 }
 
 const MAIN_NOTES: &str = "\
-- Checks: 1,024 users, 64 roles, 128 subjects with one to three active roles; a tenth of the pairs of operation and object are not declared.
-- Orders: opened, claimed, released, done and ended by teams of eight, on a template of five tasks with a task set, a binding, two
-  prerequisites and a limit. Some clerks are careless, so that every one of these rules refuses someone.
+- Checks: 1,024 users, 64 roles, 128 subjects with one to three active roles; a tenth of the pairs of operation and
+  object are not declared.
+- Orders: opened, claimed, released, done and ended by teams of eight, on a template of five tasks with a task set, a
+  binding, two prerequisites and a limit. Some clerks are careless, so each of these rules refuses someone.
 - Load: users, roles, permissions, assignments, tasks and rules of every kind, as many records as the desk program takes.
 ";
 
-const AGAIN: &str = "    \
+const AGAIN: &str = "\
+```sh not run: it measures for half a minute, on a quiet machine
 tools/bench            # builds what is missing, measures for half a minute, writes this page and bench.svg
-    tools/bench --quick    # a few passes, printed only
+tools/bench --quick    # a few passes, printed only
+```
 ";
 
 /// Requests in piles, beside the same ones alone.
@@ -196,9 +206,10 @@ The same requests by `mishantral_pile`, 4,096 in a call, and by the plain engine
 }
 
 const READING_NOTES: &str = "\
-Nanoseconds a byte of both texts, the best of many readings, the readers in turn. \"plain\" is the reader of `rust/opl`, written for speed and apart from the
-proved one; all records are compared. libxml2 is asked for none of its events: it sees that the text is well-formed, and makes nothing of it.
-In the last text 65,536 permissions declare as many operations and objects, under 256 names.
+Nanoseconds per byte of both texts: the best of many readings, the readers in turn. \"plain\" is the reader of `rust/opl`,
+written for speed and separately from the proved one; all records are compared. libxml2 is asked for no events: it only
+checks that the text is well-formed. In the last text 65,536 permissions declare as many operations and objects, under
+256 names.
 ";
 
 /// Requests by the call that takes any content.
@@ -211,17 +222,19 @@ fn checked(figures: &Figures) -> String {
         "
 ## Any content
 
-`mishantral::Engine` settles its state once and then asks `mishantral_settled_request`. The same requests by `mishantral_request`, which takes any content of the
-state and looks through the links of the orders buffer at each call:
+`mishantral::Engine` settles its state once and then calls `mishantral_settled_request`. These are the same requests by
+`mishantral_request`, which takes any content of the state and checks the links of the orders buffer at each call:
 
 {table}"
     )
 }
 
 const LOAD_NOTES: &str = "\
-`tools/load` measures the program `mishantral serve` (docs/SERVE.md) with its clients on one machine: each sends a request, as a record, waits for its reply and sends the next; in the last
-rows it sends 64 at once. \"one request a transaction\" is without groups (`--group 1`), \"saved normal\" does not wait for the disk, \"no journal\" keeps nothing. This table was measured on two cores of an Arm
-machine with nothing else at work: take the ratios. Memory over ten million requests and many desks are in docs/SCALE.md.
+`tools/load` measures the program `mishantral serve` (docs/SERVE.md) with its clients on one machine. Each client sends a
+request, as a record, waits for its reply and sends the next; in the last rows it sends 64 at once. \"one request a
+transaction\" is without groups (`--group 1`), \"saved normal\" does not wait for the disk, \"no journal\" keeps nothing.
+This table was measured on two cores of an otherwise idle Arm machine: look at the ratios. docs/SCALE.md has the memory
+over ten million requests, and many desks.
 ";
 
 /// docs/BENCH.md

@@ -854,40 +854,6 @@ fn a_reader_who_stops_is_no_fault() {
     assert_eq!(String::from_utf8(output.stderr).unwrap(), "");
 }
 
-/// The first policy of docs/PROGRAM.md is accepted without a warning, and its session goes as it is told there.
-#[test]
-fn the_first_policy_of_the_documentation_is_as_told() {
-    let page = std::fs::read_to_string(root().join("docs/PROGRAM.md")).unwrap();
-    let block = |name: &str| {
-        let behind = page.split_once(&format!("```{name}\n")).unwrap().1;
-        behind.split_once("```").unwrap().0.to_string()
-    };
-    let room = room("first");
-    file(&room, "first.txt", block("policy"));
-    let session = block("session");
-    let (typed, shown): (Vec<&str>, Vec<&str>) =
-        session.lines().partition(|line| line.starts_with("> "));
-    let typed: String = typed
-        .iter()
-        .map(|line| format!("{}\n", &line[2..]))
-        .collect();
-    file(&room, "requests.txt", typed);
-    let in_room = |arguments: &[&str]| {
-        let output = mishantral(arguments).current_dir(&room).output().unwrap();
-        said(output)
-    };
-    let (told, _, status) = in_room(&["run", "first.txt", "requests.txt"]);
-    assert_eq!(
-        (told.lines().skip(1).collect::<Vec<&str>>(), status),
-        (shown, 0)
-    );
-    let accepted = "first.txt: accepted: 2 users, 1 role, 2 tasks of 1 template, 2 rules\n";
-    assert_eq!(
-        in_room(&["check", "first.txt"]),
-        (accepted.to_string(), String::new(), 0)
-    );
-}
-
 /// On a terminal, which `script` gives: words are completed with Tab, refusals explained, lines kept in a history.
 #[test]
 fn the_prompt_completes_explains_and_remembers() {
