@@ -564,16 +564,17 @@ fn moving() -> Command {
              the old journal, which stays as it is. The old desk must not be served meanwhile; with --dry-run it may be. Killed at any moment, the new \
              journal is whole or absent.",
         )
-        .arg(journal_file().required(true).help("The desk's journal"))
+        .arg(journal_file().required(true).help("The desk's journal: a file, or postgresql://.."))
+        .arg(desk_of_database())
         .arg(policy().long("policy").help("The other policy: records, text, or OPL/XML"))
         .args([tasks(), format()])
         .arg(
             Arg::new("into")
                 .long("to")
-                .value_name("FILE")
+                .value_name("JOURNAL")
                 .value_hint(ValueHint::FilePath)
                 .required_unless_present("dry-run")
-                .help("The new journal, which must not be there yet"),
+                .help("The new journal, which must not be there yet: a file, or postgresql://..#NAME"),
         )
         .arg(flag("dry-run", "Tell what would be moved, and what stands in the way; nothing is written"))
         .arg(value("leave", "ORDERS", "Leave these orders behind: numbers or names, with commas between"))
@@ -587,6 +588,7 @@ fn moving() -> Command {
             "Examples:\n",
             "  mishantral move --journal desk.db --policy new.txt --dry-run\n",
             "  mishantral move --journal desk.db --policy new.txt --to new.db --leave 7,mill_9\n",
+            "  mishantral move --journal postgresql:///desks --desk mill --policy new.txt --to postgresql:///desks#mill-2\n",
             "\n",
             "  desk.db cannot be moved under new.txt: one thing stands in the way; nothing was written\n",
             "    mill_7: the entry of anna for sign would break task set 1 of repair sign (new.txt, line 12)\n",
@@ -727,7 +729,7 @@ fn staff() -> Command {
                 .value_hint(ValueHint::FilePath),
         )
         .arg(journal_file().help("The desk whose open orders are asked about; its policy is taken where POLICY is missing. With --simulate: the journal to write; there must be none yet"))
-        .arg(desk_of_database().conflicts_with("simulate"))
+        .arg(desk_of_database())
         .arg(value("minutes", "MINUTES", "How long tasks take, where ORDERS does not say it: test=20,sign=6; else 10 minutes").requires("simulate"))
         .arg(
             value("notice", "MINUTES", "How long it takes until somebody notices that an order came in or went on; 2 where it is missing")

@@ -219,7 +219,7 @@ fn moving(given: &ArgMatches, out: &mut dyn Write) -> Done {
     let file = text(given, "policy").unwrap_or_default();
     let policy = source::policy(file, text(given, "tasks"), format)?;
     let options = moving::Options {
-        journal: text(given, "journal").unwrap_or_default(),
+        journal: &journal_of(given, "journal")?,
         to: text(given, "into"),
         dry_run: given.get_flag("dry-run"),
         leave: text(given, "leave"),
@@ -580,7 +580,7 @@ fn staff(given: &ArgMatches, out: &mut dyn Write) -> Done {
     let options = staff::Options {
         orders: word("simulate").unwrap_or_default(),
         roster: word("roster").unwrap_or_default(),
-        journal: word("journal").unwrap_or_default(),
+        journal: &journal_of(given, "journal")?,
         minutes: word("minutes"),
         prefer: word("prefer"),
         notice: given.get_one::<f64>("notice").copied().unwrap_or(2.0),

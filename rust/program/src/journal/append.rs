@@ -2,7 +2,7 @@
 
 use super::begin::{fields, now, PROGRAM};
 use super::chain::{Chain, Note, Start, Sum};
-use super::clock::{Clock, Jump};
+use super::clock::Clock;
 use super::file::reading;
 use super::files::{self, Identity, Locks, Reserve};
 use super::found::Unfit;
@@ -52,8 +52,6 @@ pub struct Journal {
     last: i64,
     chain: Chain,
     clock: Clock,
-    /// A jump of the clock that no group has told yet.
-    jump: Option<Jump>,
     /// A snapshot is taken after so many requests.
     every: i64,
     snapshot: i64,
@@ -109,7 +107,6 @@ impl Journal {
         none.iter().for_each(report);
         let limits = limited(&connection, &reserve);
         limits.map_err(|why| unwritten(why.to_string()))?;
-        let (clock, jump) = Clock::after(found.at);
         let mut journal = Journal {
             connection,
             file: path.to_path_buf(),
@@ -119,8 +116,7 @@ impl Journal {
             _locks: locks,
             last: found.last,
             chain,
-            clock,
-            jump,
+            clock: Clock::after(found.at),
             every,
             snapshot: found.snapshot,
         };
@@ -165,7 +161,7 @@ impl Journal {
         match self.wrote(group) {
             Ok((last, chain, snapshot)) => {
                 (self.last, self.chain, self.snapshot) = (last, chain, snapshot);
-                self.jump = None;
+                self.clock.jump = None;
                 Ok(())
             }
             Err(why) => {
@@ -216,7 +212,7 @@ impl Journal {
             ])?;
             chain.note(&Note::Barred(one.clone()));
         }
-        if let Some(jump) = self.jump {
+        if let Some(jump) = self.clock.jump {
             let mut insert = self.connection.prepare_cached(tables::INSERT_CLOCK)?;
             insert.execute(params![self.last, jump.expected, jump.found])?;
             chain.note(&Note::Clock(jump));
@@ -298,13 +294,7 @@ impl Journal {
 impl Writes for Journal {
     /// The time of a group that is written now.
     fn time(&mut self) -> i64 {
-        let (time, jump) = self.clock.time();
-        if let Some(jump) = jump {
-            // Two jumps between two groups are one.
-            let expected = self.jump.map_or(jump.expected, |before| before.expected);
-            self.jump = Some(Jump { expected, ..jump });
-        }
-        time
+        self.clock.time()
     }
 
     /// Writes a group. Where the disk is full, the log is moved into the journal with the room of the reserve, and the group tried once more.

@@ -1,14 +1,16 @@
 //! A journal whose requests come at times that the caller chooses: what simulated desks leave, and what tests read.
 
 use super::append::Failed;
-use super::store::Writes;
-use super::{begin, user_of, Bytes, Group, Journal, Live, Row, Saved};
+use super::postgres;
+use super::store::{open, How, Writes};
+use super::{begin, is_database, shown, user_of, Bytes, Group, Live, Row, Saved, Takeover};
 use crate::names::Naming;
 use crate::source::Policy;
 use crate::stop::{wrong, Stop};
 use mishantral::{Answer, Engine};
 use records::Record;
 use std::sync::Arc;
+use std::time::Duration;
 
 /// So many requests go into one transaction.
 const GROUP: usize = 4_096;
@@ -18,7 +20,7 @@ const ACCOUNT: &str = "simulated";
 
 pub struct Author {
     file: String,
-    journal: Journal,
+    journal: Box<dyn Writes>,
     engine: Engine,
     live: Live,
     account: Arc<str>,
@@ -36,9 +38,19 @@ impl Author {
                 "{file}: the policy is refused: {refused}"
             )]));
         }
-        let (journal, found) = Journal::open(file, SNAPSHOT, Saved::Normal, None)?;
+        let how = How {
+            every: SNAPSHOT,
+            saved: Saved::Normal,
+            policy: None,
+            takeover: Takeover {
+                server: ACCOUNT.to_string(),
+                silent: Duration::from_secs(5),
+                share: None,
+            },
+        };
+        let (journal, found) = open(file, &how)?;
         Ok(Author {
-            file: file.to_string(),
+            file: shown(file),
             journal,
             engine: found.engine,
             live: found.live,
@@ -95,6 +107,10 @@ impl Author {
 
     /// Removes a journal that was not finished.
     pub fn discard(file: &str) {
+        if is_database(file) {
+            let _ = postgres::Place::of(file).and_then(|place| postgres::discard(&place));
+            return;
+        }
         for behind in ["", "-wal", "-shm", "-reserve", ".lock"] {
             let _ = std::fs::remove_file(format!("{file}{behind}"));
         }
@@ -112,6 +128,10 @@ impl Author {
             live: &self.live,
         });
         self.rows.clear();
+        self.done(written)
+    }
+
+    fn done(&self, written: Result<(), Failed>) -> Result<(), Stop> {
         match written {
             Ok(()) => Ok(()),
             Err(Failed::NotDone(why) | Failed::Lost(why)) => {
@@ -123,6 +143,8 @@ impl Author {
     /// Writes what is left; how many requests there were.
     pub fn finish(mut self) -> Result<i64, Stop> {
         self.write()?;
+        let finished = self.journal.finish(self.engine.state(), &self.live);
+        self.done(finished)?;
         Ok(self.last)
     }
 }

@@ -85,7 +85,8 @@ fn whole(file: &str, policy: &Policy, brought: Option<&Brought>) -> Result<(), S
         ));
     }
     if postgres::is_database(file) {
-        let made = postgres::Place::of(file).and_then(|place| postgres::begin(&place, policy));
+        let made =
+            postgres::Place::of(file).and_then(|place| postgres::begin(&place, policy, brought));
         let shown = postgres::shown(file);
         return made.map_err(|why| Stop::Wrong(vec![format!("{shown}: it cannot be made: {why}")]));
     }

@@ -16,29 +16,33 @@ pub struct Jump {
 pub struct Clock {
     wall: i64,
     steady: Instant,
+    /// A jump that no group has told yet.
+    pub jump: Option<Jump>,
 }
 
 impl Clock {
     /// A clock that goes on behind a last known time.
-    pub fn after(last: i64) -> (Clock, Option<Jump>) {
-        let clock = Clock {
-            wall: now(),
+    pub fn after(last: i64) -> Clock {
+        let (expected, found) = (last, now());
+        Clock {
+            wall: found,
             steady: Instant::now(),
-        };
-        let (expected, found) = (last, clock.wall);
-        // How long nobody looked is not known: only a time before the last one is a jump for certain.
-        let back = (found < expected - JUMP).then_some(Jump { expected, found });
-        (clock, back)
+            // How long nobody looked is not known: only a time before the last one is a jump for certain.
+            jump: (found < expected - JUMP).then_some(Jump { expected, found }),
+        }
     }
 
-    /// The time now, and whether the clock was set since it was last asked.
-    pub fn time(&mut self) -> (i64, Option<Jump>) {
+    /// The time now. That the clock was set since it was last asked is kept until a group has told it; two jumps between two groups are one.
+    pub fn time(&mut self) -> i64 {
         let (found, steady) = (now(), Instant::now());
         let passed = steady.duration_since(self.steady).as_micros() as i64;
         let expected = self.wall + passed;
         (self.wall, self.steady) = (found, steady);
-        let far = (found - expected).abs() > JUMP;
-        (found, far.then_some(Jump { expected, found }))
+        if (found - expected).abs() > JUMP {
+            let expected = self.jump.map_or(expected, |before| before.expected);
+            self.jump = Some(Jump { expected, found });
+        }
+        found
     }
 }
 
@@ -48,13 +52,20 @@ mod tests {
 
     #[test]
     fn a_clock_that_was_set_shows() {
-        let (mut clock, jump) = Clock::after(now());
-        assert_eq!((jump, clock.time().1), (None, None));
+        let mut clock = Clock::after(now());
+        clock.time();
+        assert_eq!(clock.jump, None);
         clock.wall -= 10 * 365 * 86_400 * JUMP;
-        let jump = clock.time().1.unwrap();
+        clock.time();
+        let jump = clock.jump.unwrap();
         assert!(jump.found - jump.expected > 9 * 365 * 86_400 * JUMP);
-        assert_eq!(clock.time().1, None);
-        let (_, jump) = Clock::after(now() + 60 * JUMP);
-        assert!(jump.is_some());
+        // A second one before the first was told: what was expected at first stays.
+        clock.wall -= 100 * JUMP;
+        clock.time();
+        assert_eq!(clock.jump.unwrap().expected, jump.expected);
+        clock.jump = None;
+        clock.time();
+        assert_eq!(clock.jump, None);
+        assert!(Clock::after(now() + 60 * JUMP).jump.is_some());
     }
 }

@@ -3,10 +3,10 @@
 use super::found::{unfit, Unfit};
 use super::head::{head, Head};
 use super::links::Kept;
-use super::rows::{each, note_of, rows_of, BARRED};
+use super::rows::{each, moved_keys, note_of, rows_of, BARRED};
 use super::snapshot::{snapshot_after, snapshot_before, Snapshot};
 use super::store::{Steps, Store};
-use super::{chain::Note, Barred, Row};
+use super::{chain::Note, Barred, Key, Row};
 use crate::names::Sort;
 use rusqlite::{Connection, OpenFlags, OptionalExtension};
 use std::collections::BTreeSet;
@@ -126,6 +126,10 @@ impl Store for File {
         let mut rows = rows_of(&self.connection, behind, count)?;
         rows.reverse();
         Ok(rows)
+    }
+
+    fn moved_keys(&self) -> Result<Vec<Key>, Unfit> {
+        moved_keys(&self.connection)
     }
 
     fn sound(&self) -> Result<(), Unfit> {

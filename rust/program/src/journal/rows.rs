@@ -3,7 +3,6 @@
 use super::begin::Key;
 use super::chain::{Note, Start};
 use super::clock::Jump;
-use super::file::reading;
 use super::found::{unfit, Unfit};
 use super::links::Kept;
 use super::{head, Barred, Bytes, Moved, Row};
@@ -171,9 +170,8 @@ fn moved(act: &Connection, version: i64, after: i64) -> Result<BTreeMap<i64, Mov
 }
 
 /// The keys that a move brought into a journal.
-pub fn moved_keys(file: &str) -> Result<Vec<Key>, Unfit> {
-    let act = reading(file)?;
-    if head::version(&act)? < 3 {
+pub fn moved_keys(act: &Connection) -> Result<Vec<Key>, Unfit> {
+    if head::version(act)? < 3 {
         return Ok(Vec::new());
     }
     let select = "SELECT account, key, number, at, record, reply, place FROM moved_key";

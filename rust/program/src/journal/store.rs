@@ -6,7 +6,7 @@ use super::links::Kept;
 use super::postgres::{self, is_database, Place, Takeover};
 use super::rows::Step;
 use super::snapshot::Snapshot;
-use super::{file, Barred, Failed, Group, Journal, Live, Recorded, Row, Saved};
+use super::{file, Barred, Failed, Group, Journal, Key, Live, Recorded, Row, Saved};
 use crate::names::Sort;
 use crate::source::Policy;
 use crate::stop::Stop;
@@ -66,6 +66,9 @@ pub trait Store {
 
     /// The last so many requests that were refused, in their order.
     fn refused(&self, count: i64) -> Result<Vec<Row>, Unfit>;
+
+    /// The keys that a move brought.
+    fn moved_keys(&self) -> Result<Vec<Key>, Unfit>;
 
     /// Whether the store finds its own tables sound.
     fn sound(&self) -> Result<(), Unfit>;

@@ -8,7 +8,7 @@ mod trials;
 
 use crate::carry::{carry, Carried, Request, Thing, Users};
 use crate::check::refusal;
-use crate::journal::{self, user_of, Brought, Bytes, Found, Key, Live, Locks, Row, Seal, Unfit};
+use crate::journal::{self, user_of, Brought, Bytes, Found, Key, Live, Row, Seal, Still, Unfit};
 use crate::names::{Naming, Sort};
 use crate::progress::Progress;
 use crate::source::Policy;
@@ -16,9 +16,9 @@ use crate::stop::{wrong, Done, Stop, REFUSED, WELL};
 use crate::told::Told;
 use mishantral::Engine;
 use origins::Origins;
+use std::cmp::Reverse;
 use std::collections::BTreeSet;
 use std::io::Write;
-use std::path::Path;
 use std::sync::Arc;
 
 pub struct Options<'a> {
@@ -60,11 +60,14 @@ impl Present {
         let found = found?;
         let loaded = || Told::loaded(&found.policy.records());
         let (loaded, now) = tables.unwrap_or_else(|| (loaded(), loaded()));
-        if !journal::is_database(file) {
-            let keys = journal::moved_keys(file);
-            let refused = |Unfit(why): Unfit| Stop::Refused(vec![format!("{file}: {why}")]);
-            origins.keys.extend(keys.map_err(refused)?);
-        }
+        let keys = journal::reading(file)?.moved_keys();
+        let refused =
+            |Unfit(why): Unfit| Stop::Refused(vec![format!("{}: {why}", journal::shown(file))]);
+        origins.keys.extend(keys.map_err(refused)?);
+        // Of a key that was used again, the last use counts: whoever writes them takes the first.
+        origins
+            .keys
+            .sort_by_key(|key| Reverse((key.at, key.number)));
         Ok(Present {
             found,
             loaded,
@@ -102,20 +105,12 @@ pub fn moving(options: &Options, policy: &Policy, out: &mut dyn Write) -> Done {
         return Err(Stop::Refused(refusal(policy, refused)));
     }
     let (file, to) = (options.journal, options.to.unwrap_or_default());
-    if journal::is_database(to) || journal::is_database(file) && !options.dry_run {
-        return wrong(
-            "a desk is moved from a file to a file: a desk in a database can be looked at with --dry-run",
-        );
-    }
-    if Path::new(to).exists() && !options.dry_run {
-        return wrong(format!("{to}: it is there already"));
+    if !options.dry_run && journal::is_there(to)? {
+        return wrong(format!("{}: it is there already", journal::shown(to)));
     }
     // Whoever serves the old desk meanwhile would answer what is not moved.
-    let locks = (!options.dry_run).then(|| Locks::take(Path::new(file)));
-    let _locks = locks.transpose().map_err(|why| {
-        let why = format!("{file}: {why}: end it first, or try with --dry-run");
-        Stop::Refused(vec![why])
-    })?;
+    let still = (!options.dry_run).then(|| Still::take(file));
+    let still = still.transpose()?;
     let present = Present::read(file)?;
     let left = present.orders(options.leave.unwrap_or_default())?;
     let mut now = present.now.clone();
@@ -131,8 +126,10 @@ pub fn moving(options: &Options, policy: &Policy, out: &mut dyn Write) -> Done {
         carried,
     };
     let stays = !outcome.carried.obstacles.is_empty();
-    if !stays && !options.dry_run {
+    if let Some(mut still) = still.filter(|_| !stays) {
+        still.holds(present.found.last)?;
         outcome.write(to)?;
+        still.end()?;
     }
     match options.json {
         true => outcome.object(out)?,
@@ -204,7 +201,7 @@ impl Outcome<'_> {
             to,
             self.policy,
             &Brought {
-                from: self.options.journal,
+                from: &journal::shown(self.options.journal),
                 number: self.present.found.last,
                 sum: Seal::of(&self.present.found).map(|seal| seal.sum),
                 keys,

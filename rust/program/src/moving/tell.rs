@@ -2,6 +2,7 @@
 
 use super::Outcome;
 use crate::carry::Users;
+use crate::journal;
 use crate::names::Sort;
 use crate::told::Told;
 use records::Set;
@@ -76,7 +77,7 @@ impl Outcome<'_> {
     }
 
     pub fn words(&self, out: &mut dyn Write) -> io::Result<()> {
-        let (old, new) = (self.options.journal, &self.policy.file);
+        let (old, new) = (journal::shown(self.options.journal), &self.policy.file);
         let obstacles = &self.carried.obstacles;
         if !obstacles.is_empty() {
             let stand = match obstacles.len() {
@@ -99,7 +100,10 @@ impl Outcome<'_> {
             let told = &self.carried.desk.told;
             let moved = match self.options.dry_run {
                 true => "can be moved".to_string(),
-                false => format!("was moved into {}", self.options.to.unwrap_or_default()),
+                false => {
+                    let into = journal::shown(self.options.to.unwrap_or_default());
+                    format!("was moved into {into}")
+                }
             };
             let (orders, sessions) = (told.orders.len(), told.subjects.len());
             writeln!(
@@ -136,7 +140,7 @@ impl Outcome<'_> {
             writeln!(
                 out,
                 "{order} stays on {}: serve it until that is ended",
-                self.options.journal
+                journal::shown(self.options.journal)
             )?;
         }
         Ok(())
@@ -163,7 +167,7 @@ impl Outcome<'_> {
             .collect();
         let moved = obstacles.is_empty() && !self.options.dry_run;
         let whole = json!({
-            "from": self.options.journal, "to": self.options.to, "policy": self.policy.file, "moved": moved,
+            "from": journal::shown(self.options.journal), "to": self.options.to.map(journal::shown), "policy": self.policy.file, "moved": moved,
             "orders": told.orders.keys().collect::<Vec<_>>(), "sessions": told.subjects.len(), "users": told.users.len(),
             "requests": self.carried.requests.len(), "left": self.left, "obstacles": obstacles,
             "differences": self.differences(), "names_lost": self.names_lost(),

@@ -19,7 +19,7 @@ mod question;
 mod standby;
 
 pub use account::own_account;
-pub use http::Wanted as Http;
+pub use http::{decoded, Wanted as Http};
 pub use listen::Socket;
 pub use question::Allowed;
 

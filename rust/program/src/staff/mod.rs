@@ -16,7 +16,7 @@ pub use planning::planned;
 pub use planning::Options as Planning;
 
 use crate::holds::length;
-use crate::journal::Author;
+use crate::journal::{shown, Author};
 use crate::names::Sort;
 use crate::source::{self, Policy};
 use crate::stop::{wrong, Done, Stop, WELL};
@@ -99,7 +99,7 @@ fn report(
 ) -> std::io::Result<()> {
     let (orders, requests) = (plan.arrivals.len(), played.requests);
     let (ended, lying) = (played.ended, played.lying);
-    writeln!(out, "{}: {orders} orders, {ended} ended, {lying} still open; {requests} requests, each answered by the engine", options.journal)?;
+    writeln!(out, "{}: {orders} orders, {ended} ended, {lying} still open; {requests} requests, each answered by the engine", shown(options.journal))?;
     if played.waited > 0 {
         writeln!(
             out,

@@ -190,6 +190,62 @@ impl Place {
         all
     }
 
+    /// The same in one word.
+    pub fn word(&self) -> String {
+        let desk = self.desk.as_ref();
+        desk.map_or(self.journal.clone(), |desk| {
+            format!("{}#{desk}", self.journal)
+        })
+    }
+
+    /// Another one in the same store.
+    pub fn beside(&self, name: &str) -> Place {
+        let file = self.room.join(format!("{name}.db"));
+        Place {
+            room: self.room.clone(),
+            journal: match self.desk {
+                Some(_) => self.journal.clone(),
+                None => file.to_str().unwrap().to_string(),
+            },
+            desk: self.desk.as_ref().map(|desk| format!("{desk}-{name}")),
+        }
+    }
+
+    /// Whether there is a journal.
+    pub fn is_there(&self) -> bool {
+        match &self.desk {
+            None => Path::new(&self.journal).exists(),
+            Some(_) => self.rows("SELECT desk FROM journal").len() == 1,
+        }
+    }
+
+    /// All that a journal is, to be compared.
+    pub fn content(&self) -> String {
+        let Some(desk) = &self.desk else {
+            return format!("{:?}", fs::read(&self.journal).unwrap());
+        };
+        let one = |table: &str| {
+            self.psql(&format!(
+                "SELECT json_agg(t ORDER BY t::text) FROM mishantral.{table} AS t WHERE desk = '{desk}'"
+            ))
+        };
+        let tables = "journal policy request name start barred clock snapshot moved_from moved_key";
+        tables.split(' ').map(one).collect()
+    }
+
+    /// One number, by SQL that both stores understand.
+    pub fn number(&self, select: &str) -> i64 {
+        let rows = self.rows(select);
+        rows[0]
+            .as_i64()
+            .unwrap_or_else(|| panic!("{select}: {rows:?}"))
+    }
+
+    /// A command over it, and what it prints.
+    pub fn run(&self, command: &str, more: &[&str]) -> (String, String, i32) {
+        run(&[&[command], &self.options()[..], more].concat())
+    }
+
     pub fn start(&self, more: &[&str]) -> Server {
         self.start_at("desk.sock", more)
     }
@@ -248,7 +304,7 @@ impl Place {
             }
             Some(desk) => {
                 let lines = self.psql(&format!(
-                    "SELECT to_json(x) FROM ({}) AS q (x)",
+                    "SELECT coalesce(to_json(x), 'null') FROM ({}) AS q (x)",
                     of_desk(select, desk)
                 ));
                 let one = |line: &str| serde_json::from_str(line).unwrap();

@@ -8,14 +8,16 @@ mod read;
 mod replicated;
 mod tables;
 mod take;
+mod tls;
+mod views;
 mod watch;
 mod wire;
 mod write;
 
-pub use begin::begin;
+pub use begin::{begin, discard};
 pub use place::{is_database, shown, with_desk, Place};
 pub use read::Reading;
-pub use take::Takeover;
+pub use take::{Held, Takeover};
 pub use watch::{Sight, Watch};
 pub use write::Journal;
 

@@ -11,7 +11,7 @@ use crate::journal::links::{Kept, Links};
 use crate::journal::rows::Step;
 use crate::journal::snapshot::Snapshot;
 use crate::journal::store::{Steps, Store};
-use crate::journal::{Barred, Bytes, Moved, Row, VERSION};
+use crate::journal::{Barred, Bytes, Key, Moved, Row, VERSION};
 use crate::names::{Naming, Sort};
 use crate::reader;
 use crate::source::Policy;
@@ -427,6 +427,24 @@ impl Store for Reading {
         let rows = self.rows(REFUSED, &[&self.desk, &count])?;
         let rows = rows.iter().rev();
         rows.map(|columns| Ok(row(columns)?.0)).collect()
+    }
+
+    fn moved_keys(&self) -> Result<Vec<Key>, Unfit> {
+        let select =
+            "SELECT account, key, number, at, record, reply, place FROM moved_key WHERE desk = $1";
+        let rows = self.rows(select, &[&self.desk])?;
+        let one = |row: &Columns| {
+            Ok(Key {
+                account: row.get(0),
+                key: row.get(1),
+                number: row.get(2),
+                at: row.get(3),
+                record: row.get(4),
+                reply: small(row.get::<_, i16>(5).into())?,
+                place: small(row.get::<_, i32>(6).into())?,
+            })
+        };
+        rows.iter().map(one).collect()
     }
 
     fn sound(&self) -> Result<(), Unfit> {

@@ -2,8 +2,10 @@
 //!
 //! They change by migrations, each run once, in its order. A migration that has landed is never changed: its sum is compared.
 
+use super::views::VIEWS;
+
 /// What makes or changes the tables, from 1 on.
-pub const MIGRATIONS: [&str; 2] = [TABLES, NUMBERS];
+pub const MIGRATIONS: [&str; 3] = [TABLES, NUMBERS, VIEWS];
 
 /// A number for each desk, by which servers share them.
 const NUMBERS: &str = "ALTER TABLE writer ADD COLUMN number bigint GENERATED ALWAYS AS IDENTITY";
@@ -224,6 +226,12 @@ SELECT last, groups FROM w";
 pub const RETAKE: &str = "
 UPDATE writer SET start = $3, beat = clock_timestamp(), backend = pg_backend_pid() WHERE desk = $1 AND start = ANY ($2)
 RETURNING last, groups";
+
+/// Keeps a desk from being served until the transaction ends, and takes it from the server that had it when it commits.
+pub const HOLD: &str = "
+UPDATE writer SET start = nextval('fence'), ended = true
+WHERE desk = $1 AND start = $2 AND (ended OR beat <= clock_timestamp() - $3::bigint * interval '1 microsecond')
+RETURNING last";
 
 /// Who has a desk, for how many microseconds nothing came from there, and whether its session is gone.
 pub const WHO: &str = "

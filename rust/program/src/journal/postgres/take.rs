@@ -1,7 +1,7 @@
 //! Who has a desk, and how another server takes it: it first makes itself the one whose groups are written, and only then reads.
 
 use super::place::Place;
-use super::tables::{NEXT, TAKE, WHO};
+use super::tables::{HOLD, NEXT, TAKE, WHO};
 use super::wire::{Fault, Wire};
 use crate::journal::begin::{now, PROGRAM};
 use std::time::Duration;
@@ -102,6 +102,87 @@ pub fn take(
         groups: row.get(1),
     }))
 }
+
+/// How often a server is looked for.
+pub const PAUSE: Duration = Duration::from_millis(50);
+
+/// Takes a desk, in the way that is given, from nobody, from a server that has ended or whose session is gone; one that was killed is waited for.
+pub fn free<T>(
+    wire: &mut Wire,
+    desk: &str,
+    patience: Duration,
+    remedy: &str,
+    mut taken: impl FnMut(&mut Wire, &Having, Duration) -> Result<Option<T>, Fault>,
+) -> Result<T, String> {
+    let told = |why: Fault| why.text();
+    let first = Having::of(wire, desk).map_err(told)?;
+    loop {
+        let having = Having::of(wire, desk).map_err(told)?;
+        let silent = match having.gone {
+            true => Duration::ZERO,
+            false => patience,
+        };
+        if having.ended || having.silent >= silent {
+            if let Some(taken) = taken(wire, &having, silent).map_err(told)? {
+                return Ok(taken);
+            }
+            continue;
+        }
+        // Whoever has it is heard of.
+        if having.start != first.start || having.silent < first.silent {
+            let server = having.server;
+            return Err(format!("another server has it: {server}; {remedy}"));
+        }
+        std::thread::sleep(PAUSE);
+    }
+}
+
+/// A desk that nobody serves as long as this lives. Nothing of it is changed until the end.
+pub struct Held {
+    wire: Wire,
+    pub last: i64,
+}
+
+impl Held {
+    /// Locks the row that says who has the desk: whoever wants it meanwhile waits.
+    pub fn take(place: &Place) -> Result<Held, String> {
+        let mut wire = Wire::connect(place).map_err(|why| why.text())?;
+        let set = wire.batch("SET idle_in_transaction_session_timeout = 0");
+        set.map_err(|why| why.text())?;
+        let remedy = "end it first, or try with --dry-run";
+        let last = free(
+            &mut wire,
+            &place.desk,
+            SILENT,
+            remedy,
+            |wire, having, silent| {
+                let silent = silent.as_micros() as i64;
+                wire.batch("BEGIN")?;
+                let held = wire.row(HOLD, &[&place.desk, &having.start, &silent])?;
+                if held.is_none() {
+                    wire.batch("ROLLBACK")?;
+                }
+                Ok(held.map(|row| row.get(0)))
+            },
+        )?;
+        Ok(Held { wire, last })
+    }
+
+    /// That it is held still.
+    pub fn still(&mut self) -> Result<(), String> {
+        self.wire.batch("SELECT 1").map_err(|why| why.text())
+    }
+
+    /// Lets go of it: from now on whoever had it before can write nothing, and the next server need not wait.
+    pub fn end(self) -> Result<(), String> {
+        self.wire.warned();
+        self.wire.batch("COMMIT").map_err(|why| why.text())?;
+        self.wire.warned().map_or(Ok(()), Err)
+    }
+}
+
+/// A server that is silent for so long has lost a desk that is to be moved.
+const SILENT: Duration = Duration::from_secs(5);
 
 #[cfg(test)]
 mod tests {

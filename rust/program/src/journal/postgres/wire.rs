@@ -11,8 +11,9 @@ use std::sync::{Arc, Mutex, PoisonError};
 use std::time::Duration;
 use tokio::runtime::{Builder, Runtime};
 use tokio_postgres::error::{DbError, SqlState};
+use tokio_postgres::tls::MakeTlsConnect;
 use tokio_postgres::types::ToSql;
-use tokio_postgres::{AsyncMessage, Client, Error, NoTls, Row, Statement};
+use tokio_postgres::{AsyncMessage, Client, Config, Error, NoTls, Row, Socket, Statement};
 
 /// How long an answer is waited for.
 const PATIENCE: Duration = Duration::from_secs(30);
@@ -49,10 +50,13 @@ impl From<Error> for Fault {
     }
 }
 
+/// What the database has warned of.
+type Warnings = Arc<Mutex<Vec<DbError>>>;
+
 pub struct Wire {
     runtime: Runtime,
     client: Client,
-    warnings: Arc<Mutex<Vec<DbError>>>,
+    warnings: Warnings,
     prepared: HashMap<&'static str, Statement>,
 }
 
@@ -64,23 +68,12 @@ impl Wire {
         let failed = |why: std::io::Error| Fault::Doubt(why.to_string());
         let mut builder = Builder::new_current_thread();
         let runtime = builder.enable_io().enable_time().build().map_err(failed)?;
-        let connecting = place.config.connect(NoTls);
-        let (client, mut connection) = waited(&runtime, connecting)?;
-        let warnings: Arc<Mutex<Vec<DbError>>> = Arc::default();
-        let kept = warnings.clone();
-        runtime.spawn(async move {
-            loop {
-                let message = poll_fn(|context| Pin::new(&mut connection).poll_message(context));
-                match message.await {
-                    Some(Ok(AsyncMessage::Notice(notice))) => {
-                        let mut kept = kept.lock().unwrap_or_else(PoisonError::into_inner);
-                        kept.push(notice);
-                    }
-                    Some(Ok(_)) => {}
-                    Some(Err(_)) | None => return,
-                }
-            }
-        });
+        let warnings = Warnings::default();
+        let one = |host: &Config| match &place.tls {
+            None => connected(&runtime, host, NoTls, &warnings),
+            Some(tls) => connected(&runtime, host, tls.clone(), &warnings),
+        };
+        let client = first(&place.hosts, one)?;
         let wire = Wire {
             runtime,
             client,
@@ -145,17 +138,68 @@ impl Wire {
     }
 }
 
+/// What the first host gives that gives it; or what each of them said.
+fn first<T>(hosts: &[Config], one: impl Fn(&Config) -> Result<T, Fault>) -> Result<T, Fault> {
+    let mut told: Vec<String> = Vec::new();
+    for host in hosts {
+        match one(host) {
+            Ok(given) => return Ok(given),
+            Err(why) if hosts.len() == 1 => return Err(why),
+            Err(why) => told.push(format!("{:?}: {}", host.get_hosts(), why.text())),
+        }
+    }
+    Err(Fault::Doubt(told.join("; ")))
+}
+
+/// Connects to a host, and keeps the connection's warnings.
+fn connected<T>(
+    runtime: &Runtime,
+    host: &Config,
+    tls: T,
+    warnings: &Warnings,
+) -> Result<Client, Fault>
+where
+    T: MakeTlsConnect<Socket>,
+    T::Stream: Send + 'static,
+{
+    let patience = host.get_connect_timeout().copied().unwrap_or(PATIENCE);
+    let (client, mut connection) = within(runtime, patience, host.connect(tls))?;
+    let kept = warnings.clone();
+    runtime.spawn(async move {
+        loop {
+            let message = poll_fn(|context| Pin::new(&mut connection).poll_message(context));
+            match message.await {
+                Some(Ok(AsyncMessage::Notice(notice))) => {
+                    let mut kept = kept.lock().unwrap_or_else(PoisonError::into_inner);
+                    kept.push(notice);
+                }
+                Some(Ok(_)) => {}
+                Some(Err(_)) | None => return,
+            }
+        }
+    });
+    Ok(client)
+}
+
 /// What a future comes to, if it does in time.
 fn waited<T>(
     runtime: &Runtime,
     future: impl Future<Output = Result<T, Error>>,
 ) -> Result<T, Fault> {
+    within(runtime, PATIENCE, future)
+}
+
+fn within<T>(
+    runtime: &Runtime,
+    patience: Duration,
+    future: impl Future<Output = Result<T, Error>>,
+) -> Result<T, Fault> {
     runtime.block_on(async {
-        match tokio::time::timeout(PATIENCE, future).await {
+        match tokio::time::timeout(patience, future).await {
             Ok(done) => done.map_err(Fault::from),
             Err(_) => Err(Fault::Doubt(format!(
                 "the database has not answered for {} s",
-                PATIENCE.as_secs()
+                patience.as_secs()
             ))),
         }
     })

@@ -7,11 +7,11 @@ use super::columns::{Columns, More, Sealed};
 use super::place::Place;
 use super::read::{bytes, Reading};
 use super::tables::{BEAT, END, KNOWN, NEXT, RETAKE, WRITE, WRITE_ALL};
-use super::take::{take, Having, Taken, Takeover};
+use super::take::{free, take, Having, Taken, PAUSE};
 use super::wire::{Fault, Wire};
 use super::{migrate, replicated};
 use crate::journal::chain::{Chain, Note, Sum};
-use crate::journal::clock::{Clock, Jump};
+use crate::journal::clock::Clock;
 use crate::journal::found::{self, Unfit};
 use crate::journal::links::{Kept, Links};
 use crate::journal::snapshot::Snapshot;
@@ -27,9 +27,6 @@ use tokio_postgres::types::ToSql;
 /// How long a database that is gone is waited for; then the desk ends.
 const PATIENCE: Duration = Duration::from_secs(60);
 
-/// How often it is tried.
-const PAUSE: Duration = Duration::from_millis(50);
-
 pub struct Journal {
     wire: Wire,
     place: Place,
@@ -41,8 +38,6 @@ pub struct Journal {
     groups: i64,
     chain: Chain,
     clock: Clock,
-    /// A jump of the clock that no group has told yet.
-    jump: Option<Jump>,
     /// A snapshot is taken after so many requests.
     every: i64,
     snapshot: i64,
@@ -57,12 +52,48 @@ pub fn connected(place: &Place, saved: Saved) -> Result<Wire, String> {
     Ok(wire)
 }
 
+/// Writes a group with its sums behind a request, where the desk is of this start: whether the fence let it through.
+pub fn written(
+    wire: &mut Wire,
+    desk: &str,
+    (start, before): (i64, i64),
+    group: &Sealed,
+) -> Result<bool, Fault> {
+    let Sealed { last, rows, .. } = group;
+    let columns = Columns::of(rows);
+    let mut values: Vec<&(dyn ToSql + Sync)> = vec![&desk, &start, &before, last];
+    columns.add(&mut values);
+    let more = More::of(group);
+    let sql = match more.is_empty() {
+        true => WRITE,
+        false => {
+            more.add(&mut values);
+            WRITE_ALL
+        }
+    };
+    let counts = wire.committed(sql, &values)?;
+    let counts = counts.first().map(|row| (row.get(0), row.get(1)));
+    match counts {
+        Some((1i64, inserted)) if inserted == rows.len() as i64 => Ok(true),
+        Some((0, 0)) => Ok(false),
+        other => Err(Fault::Doubt(format!(
+            "{} rows were to be written, and the database says {other:?}",
+            rows.len()
+        ))),
+    }
+}
+
 impl Journal {
     /// Takes a desk that nobody serves, and reads it. A server that had it and is gone without a word is waited for as long as it may be silent.
     pub fn open(place: &Place, how: &How) -> Result<(Journal, Found), Stop> {
         let refused = |why: String| Stop::Refused(vec![format!("{}: {why}", place.shown)]);
         let mut wire = connected(place, how.saved).map_err(refused)?;
-        let taken = waited(&mut wire, place, &how.takeover).map_err(refused)?;
+        let (desk, silent) = (&place.desk, how.takeover.silent);
+        let remedy = "--standby waits until that is silent";
+        let taken = free(&mut wire, desk, silent, remedy, |wire, having, silent| {
+            take(wire, place, having, &how.takeover, silent)
+        });
+        let taken = taken.map_err(refused)?;
         Journal::taken(wire, place, how, taken)
     }
 
@@ -95,7 +126,6 @@ impl Journal {
                 return Err(why);
             }
         };
-        let (clock, jump) = Clock::after(found.at);
         let mut journal = Journal {
             wire,
             place: place.clone(),
@@ -104,8 +134,7 @@ impl Journal {
             last: taken.last,
             groups: taken.groups,
             chain,
-            clock,
-            jump,
+            clock: Clock::after(found.at),
             every: how.every,
             snapshot: found.snapshot,
         };
@@ -120,29 +149,12 @@ impl Journal {
 
     /// The group with its sums, as the tables take it: whether the fence let it through.
     fn wrote(&mut self, group: &Sealed) -> Result<bool, Fault> {
-        let Sealed { last, rows, .. } = group;
-        let columns = Columns::of(rows);
-        let (desk, start, before) = (self.place.desk.clone(), self.start, self.last);
-        let mut values: Vec<&(dyn ToSql + Sync)> = vec![&desk, &start, &before, last];
-        columns.add(&mut values);
-        let more = More::of(group);
-        let sql = match more.is_empty() {
-            true => WRITE,
-            false => {
-                more.add(&mut values);
-                WRITE_ALL
-            }
-        };
-        let counts = self.wire.committed(sql, &values)?;
-        let counts = counts.first().map(|row| (row.get(0), row.get(1)));
-        match counts {
-            Some((1i64, inserted)) if inserted == rows.len() as i64 => Ok(true),
-            Some((0, 0)) => Ok(false),
-            other => Err(Fault::Doubt(format!(
-                "{} rows were to be written, and the database says {other:?}",
-                rows.len()
-            ))),
-        }
+        written(
+            &mut self.wire,
+            &self.place.desk,
+            (self.start, self.last),
+            group,
+        )
     }
 
     /// Writes a group until it is there, or is known not to be.
@@ -242,12 +254,7 @@ impl Journal {
 
 impl Writes for Journal {
     fn time(&mut self) -> i64 {
-        let (time, jump) = self.clock.time();
-        if let Some(jump) = jump {
-            let expected = self.jump.map_or(jump.expected, |before| before.expected);
-            self.jump = Some(Jump { expected, ..jump });
-        }
-        time
+        self.clock.time()
     }
 
     fn write(&mut self, group: &Group) -> Result<(), Failed> {
@@ -255,7 +262,7 @@ impl Writes for Journal {
         for one in group.barred {
             chain.note(&Note::Barred(one.clone()));
         }
-        if let Some(jump) = self.jump {
+        if let Some(jump) = self.clock.jump {
             chain.note(&Note::Clock(jump));
         }
         let rows: Vec<(&Row, Sum)> = group.rows.iter().map(|r| (r, chain.row(r))).collect();
@@ -266,12 +273,12 @@ impl Writes for Journal {
             last,
             rows,
             barred: group.barred.iter().collect(),
-            jump: self.jump,
+            jump: self.clock.jump,
             chain,
             snapshot: taken.then(|| Snapshot::of(last, sum, group.state, group.live)),
         };
         self.put(&sealed)?;
-        self.jump = None;
+        self.clock.jump = None;
         Ok(())
     }
 
@@ -326,33 +333,6 @@ impl Writes for Journal {
         let values: [&(dyn ToSql + Sync); 2] = [&self.place.desk.clone(), &self.start];
         let ended = self.wire.committed(END, &values);
         ended.map(drop).map_err(|why| Failed::Lost(why.text()))
-    }
-}
-
-/// Takes a desk from nobody, from a server that has ended or whose session is gone; one that was killed is waited for.
-fn waited(wire: &mut Wire, place: &Place, takeover: &Takeover) -> Result<Taken, String> {
-    let told = |why: Fault| why.text();
-    let first = Having::of(wire, &place.desk).map_err(told)?;
-    loop {
-        let having = Having::of(wire, &place.desk).map_err(told)?;
-        let silent = match having.gone {
-            true => Duration::ZERO,
-            false => takeover.silent,
-        };
-        if having.ended || having.silent >= silent {
-            if let Some(taken) = take(wire, place, &having, takeover, silent).map_err(told)? {
-                return Ok(taken);
-            }
-            continue;
-        }
-        // Whoever has it is heard of.
-        if having.start != first.start || having.silent < first.silent {
-            return Err(format!(
-                "another server has it: {}; --standby waits until that is silent",
-                having.server
-            ));
-        }
-        std::thread::sleep(PAUSE);
     }
 }
 

@@ -20,6 +20,7 @@ use super::listen::{self, Listening, Socket};
 use crate::report::report;
 use crate::stop::{wrong, Stop};
 use account::{Peer, Sayer};
+pub use body::decoded;
 use hyper::server::conn::Http;
 use hyper::service::service_fn;
 use hyper::{Body, Request};
