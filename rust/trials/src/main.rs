@@ -24,6 +24,7 @@ trials: the served desk tried out
   trials faults --program PATH [--kills N] [--torn N] [--seed N]
   trials database --program PATH [--kills N] [--seed N] [--only WHAT]
   trials load --program PATH [--seconds N] [--docs FOLDER]
+  trials cluster --program PATH [--kills N]
   trials stores --program PATH [--seconds N]
   trials http --program PATH [--seconds N]
   trials ratio --program PATH --before PATH [--seconds N]
@@ -33,6 +34,7 @@ trials: the served desk tried out
   faults           kills it, fills its disk, tears its files, sends it garbage; what was answered must be there, once. Then fifteen
                    faults that an attack found, each with the outcome that is wanted
   database         the same with the journal in PostgreSQL: a primary and a standby of its own, which are killed, cut off, filled, replaced
+  cluster          a desk on two PostgreSQL nodes under Patroni with etcd, whose primary is moved under load
   load             requests a second and waits, by clients, with and without a journal
   stores           the same of a file, of PostgreSQL with and without a standby, and of no journal, in one run; and many desks
   http             the same by HTTP, beside the socket's figures
@@ -45,7 +47,8 @@ trials: the served desk tried out
   --seconds N      how long each figure is measured; 3 where it is missing
   --docs FOLDER    where load.md and load.svg are written
   --requests N     10000000 where it is missing
-  --kills N        how often it is killed under load; 1000 where it is missing, and 200 with PostgreSQL
+  --kills N        how often it is killed under load; 1000 where it is missing, and 200 with PostgreSQL; with cluster how often the primary
+                   is moved in each way, 3 where it is missing
   --torn N         how many torn files of each sort are tried; 200 where it is missing
   --only WHAT      kills, full, torn, garbage, attacks (faults 1 to 15) or the number of one of these; several with commas between: kills,torn,3.
                    With PostgreSQL kills, cuts, paused, races, promotion, cancelled or disk
@@ -234,6 +237,7 @@ fn measured(what: &str, options: &Options) -> Result<(), String> {
             load::ratio(program, before, time)
         }
         "stores" => postgresql::stores(program, time),
+        "cluster" => postgresql::failover(program, options.kills.unwrap_or(3)),
         "memory" => {
             let (sizes, rate, bytes) = load::memory(program, options.requests)?;
             let sizes: Vec<String> = sizes.iter().map(|kb| load::grouped(*kb as f64)).collect();
@@ -261,7 +265,7 @@ fn done(arguments: &[String]) -> Result<bool, String> {
         Some((what, rest))
             if matches!(
                 what.as_str(),
-                "load" | "http" | "ratio" | "memory" | "desks" | "stores"
+                "load" | "http" | "ratio" | "memory" | "desks" | "stores" | "cluster"
             ) =>
         {
             let options = options(rest)?;
@@ -271,7 +275,9 @@ fn done(arguments: &[String]) -> Result<bool, String> {
             }
             Ok(kept.is_ok())
         }
-        _ => Err("faults, database, load, stores, http, ratio, memory or desks".to_string()),
+        _ => {
+            Err("faults, database, cluster, load, stores, http, ratio, memory or desks".to_string())
+        }
     }
 }
 

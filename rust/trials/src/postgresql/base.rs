@@ -3,7 +3,7 @@
 use std::fs;
 use std::os::unix::fs::PermissionsExt;
 use std::path::{Path, PathBuf};
-use std::process::{Command, Stdio};
+use std::process::{Child, Command, Stdio};
 use std::time::{Duration, Instant};
 
 /// The programs of the newest PostgreSQL that is here.
@@ -36,6 +36,74 @@ fn account() -> &'static str {
     }
 }
 
+/// A program run as an account that PostgreSQL runs as, which is asked to end when the trial is gone, however that ended.
+pub fn as_account(program: &Path) -> Command {
+    let mut command = Command::new("setpriv");
+    command.args(["--pdeathsig", "TERM"]);
+    if is_root() {
+        let account = account();
+        command.arg(format!("--reuid={account}"));
+        command.arg(format!("--regid={account}"));
+        command.arg("--clear-groups");
+    }
+    command.arg(program);
+    command
+}
+
+/// A folder that this account has.
+pub fn folder_of_account(folder: &Path) -> Result<(), String> {
+    let failed = |why: std::io::Error| why.to_string();
+    fs::create_dir_all(folder).map_err(failed)?;
+    fs::set_permissions(folder, fs::Permissions::from_mode(0o755)).map_err(failed)?;
+    if is_root() {
+        let owned = Command::new("chown").arg(account()).arg(folder).status();
+        owned.map_err(failed)?;
+    }
+    Ok(())
+}
+
+/// What psql prints, of the database at an address.
+pub fn psql(address: &str, sql: &str) -> Result<String, String> {
+    let mut command = Command::new("psql");
+    command
+        .arg(address)
+        .args(["-X", "-q", "-A", "-t", "-c", sql]);
+    let output = command.output().map_err(|why| why.to_string())?;
+    match output.status.success() {
+        true => Ok(String::from_utf8_lossy(&output.stdout).trim().to_string()),
+        false => Err(String::from_utf8_lossy(&output.stderr).trim().to_string()),
+    }
+}
+
+/// Processes, and all that they started.
+pub fn family(ids: &[String]) -> Vec<String> {
+    let mut all: Vec<String> = ids.to_vec();
+    let mut next = 0;
+    while next < all.len() {
+        let children = Command::new("pgrep").args(["-P", &all[next]]).output();
+        let children = children.map_or(Vec::new(), |found| found.stdout);
+        let children = String::from_utf8_lossy(&children).into_owned();
+        all.extend(children.split_whitespace().map(String::from));
+        next += 1;
+    }
+    all
+}
+
+/// kill -9 of processes and all that they started, and waits until they are gone. One that the trial itself started is looked after meanwhile:
+/// as long as nobody did, the system says that it is there.
+pub fn killed(ids: &[String], own: Option<Child>) {
+    let all = family(ids);
+    let _ = Command::new("kill").arg("-9").args(&all).output();
+    if let Some(mut own) = own {
+        let _ = own.wait();
+    }
+    let began = Instant::now();
+    let there = |id: &String| Path::new("/proc").join(id).exists();
+    while began.elapsed() < Duration::from_secs(10) && all.iter().any(there) {
+        std::thread::sleep(Duration::from_millis(5));
+    }
+}
+
 /// One server.
 pub struct Base {
     programs: PathBuf,
@@ -44,18 +112,7 @@ pub struct Base {
 
 impl Base {
     fn command(&self, program: &str) -> Command {
-        let program = self.programs.join(program);
-        let mut command = match is_root() {
-            false => Command::new(program),
-            true => {
-                let account = account();
-                let mut command = Command::new("setpriv");
-                command.arg(format!("--reuid={account}"));
-                command.arg(format!("--regid={account}"));
-                command.arg("--clear-groups").arg(program);
-                command
-            }
-        };
+        let mut command = as_account(&self.programs.join(program));
         command.current_dir(&self.folder).stdin(Stdio::null());
         command
     }
@@ -77,13 +134,7 @@ impl Base {
     /// A folder that its account has.
     fn of(folder: &Path) -> Result<Base, String> {
         let programs = programs().ok_or("there is no PostgreSQL here")?;
-        let failed = |why: std::io::Error| why.to_string();
-        fs::create_dir_all(folder).map_err(failed)?;
-        fs::set_permissions(folder, fs::Permissions::from_mode(0o755)).map_err(failed)?;
-        if is_root() {
-            let owned = Command::new("chown").arg(account()).arg(folder).status();
-            owned.map_err(failed)?;
-        }
+        folder_of_account(folder)?;
         Ok(Base {
             programs,
             folder: folder.to_path_buf(),
@@ -163,18 +214,7 @@ impl Base {
         let Some(id) = self.id() else {
             return;
         };
-        let children = Command::new("pgrep").args(["-P", &id]).output();
-        let children = children.map_or(Vec::new(), |found| found.stdout);
-        let children = String::from_utf8_lossy(&children).into_owned();
-        let all: Vec<&str> = std::iter::once(id.as_str())
-            .chain(children.split_whitespace())
-            .collect();
-        let _ = Command::new("kill").arg("-9").args(&all).output();
-        let began = Instant::now();
-        let there = |id: &&&str| Path::new("/proc").join(id).exists();
-        while began.elapsed() < Duration::from_secs(10) && all.iter().any(|id| there(&id)) {
-            std::thread::sleep(Duration::from_millis(5));
-        }
+        killed(&[id], None);
         let _ = fs::remove_file(self.folder.join("data/postmaster.pid"));
     }
 
@@ -186,15 +226,7 @@ impl Base {
 
     /// What psql prints.
     pub fn psql(&self, sql: &str) -> Result<String, String> {
-        let mut command = Command::new("psql");
-        command
-            .arg(self.address())
-            .args(["-X", "-q", "-A", "-t", "-c", sql]);
-        let output = command.output().map_err(|why| why.to_string())?;
-        match output.status.success() {
-            true => Ok(String::from_utf8_lossy(&output.stdout).trim().to_string()),
-            false => Err(String::from_utf8_lossy(&output.stderr).trim().to_string()),
-        }
+        psql(&self.address(), sql)
     }
 
     /// As `--journal` takes it.

@@ -1,6 +1,6 @@
 //! Clients that send again what was not answered, with its key, to whichever server has the desk; and what the journal must have of them.
 
-use super::base::Base;
+use super::base::psql;
 use crate::client::Requests;
 use records::{Record, LENGTH};
 use std::collections::BTreeMap;
@@ -190,6 +190,19 @@ pub struct Met {
 }
 
 impl Met {
+    /// In words.
+    pub fn said(&self) -> String {
+        let Met {
+            answered,
+            again,
+            worst,
+        } = self;
+        format!(
+            "{answered} requests answered, each in the journal once, in order and with its reply; {again} were sent again with their keys; the longest wait was {:.1} s",
+            worst.as_secs_f64()
+        )
+    }
+
     pub fn add(&mut self, other: Met) {
         self.answered += other.answered;
         self.again += other.again;
@@ -199,11 +212,11 @@ impl Met {
 
 /// Each request that was answered is in the journal once, with the answer that was given, and a client's requests are there in their order.
 /// Whatever else is there was sent by nobody. It is read with SQL, by psql.
-pub fn compared(base: &Base, desk: &str, after: i64, all: &[Told]) -> Result<(Met, i64), String> {
+pub fn compared(address: &str, desk: &str, after: i64, all: &[Told]) -> Result<(Met, i64), String> {
     let sql = format!(
         "SELECT key, number, kind, n, a, b, c, m, reply, place FROM mishantral.request WHERE desk = '{desk}' AND number > {after} ORDER BY number"
     );
-    let text = base.psql(&sql)?;
+    let text = psql(address, &sql)?;
     let mut rows: BTreeMap<&str, (Record, (i64, u8, u16))> = BTreeMap::new();
     let mut last = after;
     for line in text.lines() {

@@ -2,12 +2,15 @@
 //! replaced under load. Every client sends again what was not answered, with its key: each request must be in the journal once.
 
 mod base;
+mod cluster;
+mod failover;
 mod keyed;
 mod load;
 mod proxy;
 mod trials;
 
 pub use base::{programs, Base};
+pub use failover::failover;
 pub use load::stores;
 pub use trials::{Given, TRIALS};
 
@@ -83,7 +86,7 @@ impl Scene {
             Which::Primary => &self.primary,
             Which::Standby => self.standby.as_ref().ok_or("there is no standby")?,
         };
-        let (met, last) = compared(base, DESK, self.after, &told)?;
+        let (met, last) = compared(&base.address(), DESK, self.after, &told)?;
         self.after = last;
         self.met.add(met);
         Ok(())
@@ -95,26 +98,12 @@ impl Scene {
             Which::Primary => self.primary.address(),
             Which::Standby => self.standby.as_ref().map_or(String::new(), Base::address),
         };
-        let mut command = Command::new(&self.program);
-        command.args(["journal", &address, "--desk", DESK, "--check"]);
-        let output = command.output().map_err(|why| why.to_string())?;
-        match output.status.success() {
-            true => Ok(()),
-            false => Err(String::from_utf8_lossy(&output.stderr).into_owned()),
-        }
+        checked(&self.program, &address)
     }
 
     /// What was met, in words.
     pub fn said(&self) -> String {
-        let Met {
-            answered,
-            again,
-            worst,
-        } = self.met;
-        format!(
-            "{answered} requests answered, each in the journal once, in order and with its reply; {again} were sent again with their keys; the longest wait was {:.1} s",
-            worst.as_secs_f64()
-        )
+        self.met.said()
     }
 }
 
@@ -122,6 +111,17 @@ impl Drop for Scene {
     fn drop(&mut self) {
         self.standby = None;
         let _ = std::fs::remove_dir_all(&self.room);
+    }
+}
+
+/// The whole journal at an address asked anew, by the program.
+fn checked(program: &Path, address: &str) -> Result<(), String> {
+    let mut command = Command::new(program);
+    command.args(["journal", address, "--desk", DESK, "--check"]);
+    let output = command.output().map_err(|why| why.to_string())?;
+    match output.status.success() {
+        true => Ok(()),
+        false => Err(String::from_utf8_lossy(&output.stderr).into_owned()),
     }
 }
 

@@ -57,6 +57,41 @@ impl Proxy {
     }
 }
 
+/// The statements of a connection that write a group, by the names under which they were prepared.
+#[derive(Default)]
+struct Writes {
+    names: Vec<Vec<u8>>,
+}
+
+impl Writes {
+    /// Whether one of these is run by a message of this part. What is prepared in it is kept.
+    fn has(&mut self, part: &[u8]) -> bool {
+        if let Some(name) = prepared(part) {
+            self.names.push(name);
+        }
+        // A portal without a name, and the statement's name, each with a zero behind it.
+        let run = |name: &Vec<u8>| {
+            let bound = [&[0], &name[..], &[0]].concat();
+            part.first() == Some(&b'B') && part.windows(bound.len()).any(|bytes| bytes == bound)
+        };
+        self.names.iter().any(run)
+    }
+}
+
+/// The name of the statement that a message prepares, where that one writes requests: `P`, a length, the name, the statement.
+fn prepared(part: &[u8]) -> Option<Vec<u8>> {
+    let is_write = |bytes: &[u8]| {
+        let words = b"INSERT INTO request ";
+        bytes.windows(words.len()).any(|some| some == words)
+    };
+    match part {
+        [b'P', _, _, _, _, rest @ ..] if is_write(rest) => {
+            rest.split(|&byte| byte == 0).next().map(<[u8]>::to_vec)
+        }
+        _ => None,
+    }
+}
+
 fn passed(client: UnixStream, base: UnixStream, armed: &Arc<AtomicU8>, cuts: &Arc<AtomicU64>) {
     let (Ok(from), Ok(to)) = (client.try_clone(), base.try_clone()) else {
         return;
@@ -65,13 +100,18 @@ fn passed(client: UnixStream, base: UnixStream, armed: &Arc<AtomicU8>, cuts: &Ar
     let lose = Arc::new(AtomicU8::new(0));
     let (losing, armed, cuts) = (lose.clone(), armed.clone(), cuts.clone());
     thread::spawn(move || {
+        let mut writes = Writes::default();
         let close = || {
             let _ = from.shutdown(Shutdown::Both);
             let _ = to.shutdown(Shutdown::Both);
         };
         let mut room = vec![0; 1 << 20];
         while let Ok(count @ 1..) = (&from).read(&mut room) {
-            let cut = armed.swap(0, Ordering::SeqCst);
+            // A group is one statement, which commits by itself: the message that runs it is the commit.
+            let cut = match writes.has(&room[..count]) {
+                true => armed.swap(0, Ordering::SeqCst),
+                false => 0,
+            };
             if cut != 0 {
                 cuts.fetch_add(1, Ordering::SeqCst);
             }

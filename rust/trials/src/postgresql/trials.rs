@@ -102,10 +102,19 @@ fn cuts(given: &Given) -> Result<String, String> {
     );
     let server = scene.how("desk.sock", &address).start()?;
     let crowd = scene.crowd(&["desk.sock"], CLIENTS);
-    for cut in 1..=5 * given.count {
+    let cuts = given.count;
+    for cut in 1..=cuts {
         sleep(Duration::from_millis(5 + random.below(30) as u64));
         proxy.arm(random.pick(&CUTS));
-        eprint!("\rcut: {cut} of {}", 5 * given.count);
+        // The next group that is written meets it.
+        let began = Instant::now();
+        while proxy.cuts.load(Ordering::SeqCst) < cut as u64 {
+            if began.elapsed() > Duration::from_secs(60) {
+                return Err("no group was written for a minute".to_string());
+            }
+            sleep(Duration::from_millis(1));
+        }
+        eprint!("\rcut: {cut} of {cuts}");
     }
     eprintln!();
     a_while(&mut random, 50);
@@ -114,7 +123,7 @@ fn cuts(given: &Given) -> Result<String, String> {
     scene.checked(Which::Primary)?;
     let cut = proxy.cuts.load(Ordering::SeqCst);
     Ok(format!(
-        "{cut} connections cut before, during and after the commit; the server lived on; {}",
+        "{cut} connections cut exactly at a commit: before the database had it, while it was at it, and before its answer; the server lived on; {}",
         scene.said()
     ))
 }
@@ -227,6 +236,8 @@ fn promotion(given: &Given) -> Result<String, String> {
         .start()?;
     let crowd = scene.crowd(&["desk.sock"], CLIENTS);
     sleep(Duration::from_millis(500));
+    // Whoever reads a whole journal reads it from the standby, while the desk works.
+    scene.checked(Which::Standby)?;
     let began = Instant::now();
     scene.primary.kill();
     let standby = scene.standby.as_ref().ok_or("there is no standby")?;
@@ -241,7 +252,7 @@ fn promotion(given: &Given) -> Result<String, String> {
     drop(server);
     scene.checked(Which::Standby)?;
     Ok(format!(
-        "the primary killed, its standby promoted: answers again after {:.1} s; nothing that was answered is missing on the new primary; {}",
+        "the journal checked on the standby; the primary killed, its standby promoted: answers again after {:.1} s; nothing that was answered is missing on the new primary; {}",
         took.as_secs_f64() + 0.1,
         scene.said()
     ))
