@@ -1,7 +1,10 @@
 // The desk program (docs/RULES.md): loads the file policy.rec, then answers the request records of standard input, one line a request,
 // each as soon as it is there. It rests on the crate engine for every decision, and on io, libc and os for files and numbers as text.
+use order_links::ORDERS_WORDS;
+use policy::POLICY_WORDS;
 use policy_loading::Loaded;
 use replies::Reply;
+use sessions::SESSIONS_WORDS;
 ghost use Prim.Native.Nat.{_+_, _%_, _<_, _≤_, min};
 ghost use mathlib.Core.Path.{_≡_};
 ghost use lib.ListN.{length};
@@ -55,33 +58,34 @@ fn read_policy(buffer: &mut [u8]) -> Got {
     got
 }
 
-fn no_policy() -> Loaded {
-    Loaded {
-        reply: Reply::Room,
-        place: 0,
-    }
+// The three buffers. They go from function to function by value: a proof about a value is far cheaper than one about what is lent.
+struct State {
+    policy: [u64; POLICY_WORDS],
+    sessions: [u64; SESSIONS_WORDS],
+    orders: [u64; ORDERS_WORDS],
 }
 
-fn load_front(
-    buffer: &[u8],
-    n: usize,
-    policy: &mut [u64],
-    sessions: &mut [u64],
-    orders: &mut [u64],
-) -> Loaded {
-    if n <= buffer.len() && n <= 65536 {
-        return engine::load(&buffer[0..n], policy, sessions, orders);
-    }
-    no_policy()
+// What the load answered, and the state after it.
+struct Begun {
+    loaded: Loaded,
+    state: State,
 }
 
-// The buffer has one byte more than a policy file may have, which tells a larger file.
-fn load_file(policy: &mut [u64], sessions: &mut [u64], orders: &mut [u64]) -> Loaded {
-    let mut buffer = [0u8; 65537];
-    let Got::Bytes(n) = read_policy(&mut buffer) else {
-        return no_policy();
-    };
-    load_front(&buffer, n, policy, sessions, orders)
+fn load_bytes(bytes: &[u8]) -> Begun
+    ensures { λ r. ⌜ Settling (buffers (r .state .policy) (r .state .sessions) (r .state .orders)) ⌝ }
+{
+    let mut policy = [0u64; POLICY_WORDS];
+    let mut sessions = [0u64; SESSIONS_WORDS];
+    let mut orders = [0u64; ORDERS_WORDS];
+    let loaded = engine::load(bytes, &mut policy, &mut sessions, &mut orders);
+    Begun {
+        loaded,
+        state: State {
+            policy,
+            sessions,
+            orders,
+        },
+    }
 }
 
 // The digits of a number, at most 20, and then one more byte; answers the place behind them.
@@ -172,24 +176,37 @@ fn write_lines(out: &[u8; 16384], n: usize) -> bool {
     write_front(out, n)
 }
 
-// Answers the first n bytes of the buffer; whether the lines were written.
-fn serve_front(
-    buffer: &[u8],
-    n: usize,
-    first: u64,
-    policy: &mut [u64],
-    sessions: &mut [u64],
-    orders: &mut [u64],
-) -> bool
-    requires { ⌜ (length (now buffer) ≤ 4096) × ((first < 1152921504606846976) × Settling (buffers (now policy) (now sessions) (now orders))) ⌝ }
-    ensures { λ _. ⌜ Settling (buffers (now (policy .exit)) (now (sessions .exit)) (now (orders .exit))) ⌝ }
+// Whether the lines of the answers were written, and the state after them.
+struct Served {
+    written: bool,
+    state: State,
+}
+
+// Answers the first n bytes of the buffer.
+fn serve_front(buffer: &[u8], n: usize, first: u64, state: State) -> Served
+    requires { ⌜ (n ≤ length (now buffer)) × ((length (now buffer) ≤ 4096) × ((first < 1152921504606846976) × Settling (buffers (state .policy) (state .sessions) (state .orders)))) ⌝ }
+    ensures { λ r. ⌜ Settling (buffers (r .state .policy) (r .state .sessions) (r .state .orders)) ⌝ }
 {
-    if buffer.len() < n {
-        return false;
-    }
+    let mut policy = state.policy;
+    let mut sessions = state.sessions;
+    let mut orders = state.orders;
     let mut out = [0u8; 16384];
-    let length = answer(&buffer[0..n], first, policy, sessions, orders, &mut out);
-    write_lines(&out, length)
+    let length = answer(
+        &buffer[0..n],
+        first,
+        &mut policy,
+        &mut sessions,
+        &mut orders,
+        &mut out,
+    );
+    Served {
+        written: write_lines(&out, length),
+        state: State {
+            policy,
+            sessions,
+            orders,
+        },
+    }
 }
 
 // How many of the bytes are answered now: the whole records, and at the end of the input, where nothing came, also a cut one.
@@ -215,65 +232,87 @@ fn keep_rest(buffer: &mut [u8; 4096], from: usize, to: usize)
     }
 }
 
-// Reads what is there, behind the bytes that are kept, and answers what can be answered now. How many bytes have been seen
-// then: as many as before where nothing more is to come.
-fn serve_some(
-    buffer: &mut [u8; 4096],
+// How many bytes have been seen, and the state after them.
+struct Turn {
     seen: u64,
-    policy: &mut [u64],
-    sessions: &mut [u64],
-    orders: &mut [u64],
-) -> u64
-    requires { ⌜ (seen < 1152921504606846976) × Settling (buffers (now policy) (now sessions) (now orders)) ⌝ }
-    ensures { λ r. ⌜ (r ≤ seen + 4096) × Settling (buffers (now (policy .exit)) (now (sessions .exit)) (now (orders .exit))) ⌝ }
+    state: State,
+}
+
+// Reads what is there, behind the bytes that are kept, and answers what can be answered now. Where nothing more is to come, as many bytes have been seen as before.
+fn serve_some(buffer: &mut [u8; 4096], seen: u64, state: State) -> Turn
+    requires { ⌜ (seen < 1152921504606846976) × Settling (buffers (state .policy) (state .sessions) (state .orders)) ⌝ }
+    ensures { λ r. ⌜ (r .seen ≤ seen + 4096) × Settling (buffers (r .state .policy) (r .state .sessions) (r .state .orders)) ⌝ }
 {
     let kept = (seen % 16) as usize;
     let Got::Bytes(n) = read_some(0, buffer, kept) else {
-        return seen;
+        return Turn { seen, state };
     };
     if 4096 - kept < n {
-        return seen;
+        return Turn { seen, state };
     }
     let bytes = kept + n;
     let now = answered(bytes, n);
-    if !serve_front(buffer, now, seen / 16 + 1, policy, sessions, orders) {
-        return seen;
+    let served = serve_front(buffer, now, seen / 16 + 1, state);
+    let after = served.state;
+    if !served.written {
+        return Turn { seen, state: after };
     }
     keep_rest(buffer, now, bytes);
-    seen + n as u64
+    Turn {
+        seen: seen + n as u64,
+        state: after,
+    }
 }
 
-// The links are looked at once, before the first request. The bound on the bytes seen, 2^60, makes the end of the loop plain; no input is that long.
-fn serve(policy: &mut [u64], sessions: &mut [u64], orders: &mut [u64]) {
-    let r = engine::settle(policy, sessions, orders);
-    if !replies::accepted(r) {
-        return;
-    }
+// The bound on the bytes seen, 2^60, makes the end of the loop plain; no input is that long.
+fn serve(begun: State)
+    requires { ⌜ Settling (buffers (begun .policy) (begun .sessions) (begun .orders)) ⌝ }
+{
     let mut buffer = [0u8; 4096];
+    let mut state = begun;
     let mut seen = 0;
     while seen < 1152921504606846976 {
-        let next = serve_some(&mut buffer, seen, policy, sessions, orders);
-        if next <= seen {
+        let turn = serve_some(&mut buffer, seen, state);
+        if turn.seen <= seen {
             return;
         }
-        seen = next;
+        seen = turn.seen;
+        state = turn.state;
     }
 }
 
-fn write_load(number: u64, place: u64) -> bool {
+fn write_load(reply: u64, place: u64) -> bool {
     let mut out = [0u8; 16384];
-    let length = put_line(&mut out, 0, number, place);
+    let length = put_line(&mut out, 0, reply, place);
     io::write_all(1, b"load ") && write_lines(&out, length)
 }
 
-fn main() {
-    let mut policy = [0u64; policy::POLICY_WORDS];
-    let mut sessions = [0u64; sessions::SESSIONS_WORDS];
-    let mut orders = [0u64; order_links::ORDERS_WORDS];
-    let loaded = load_file(&mut policy, &mut sessions, &mut orders);
+// Where the policy file is missing, is larger than a policy may be, or cannot be read.
+fn refuse() {
+    write_load(replies::number(Reply::Room), 0);
+}
+
+fn run(policy_file: &[u8]) {
+    let begun = load_bytes(policy_file);
+    let loaded = begun.loaded;
+    let state = begun.state;
     let reply = loaded.reply;
     let number = replies::number(reply);
     if write_load(number, loaded.place) && number == 0 {
-        serve(&mut policy, &mut sessions, &mut orders);
+        serve(state);
+    }
+}
+
+// The buffer has one byte more than a policy file may have, which tells a larger file.
+fn main() {
+    let mut buffer = [0u8; 65537];
+    let Got::Bytes(n) = read_policy(&mut buffer) else {
+        refuse();
+        return;
+    };
+    if n <= 65536 {
+        run(&buffer[0..n]);
+    } else {
+        refuse();
     }
 }

@@ -32,17 +32,8 @@ add-serve-front c = search needs
 
 serve-front-requires : tie.Need-serve-front-requires
 serve-front-requires c κs =
-    let pre = c .before .before .before .before .before .before .before .before .before .before .before .before .before .before .before .pre in
-    (search needs, (search needs, pre .1))
-
-same-length : tie.Need-same-length
-same-length c = search needs
-
-same-length-2 : tie.Need-same-length-2
-same-length-2 c = search needs
-
-same-length-3 : tie.Need-same-length-3
-same-length-3 c = search needs
+    let pre = c .before .before .before .before .before .before .before .before .before .pre in
+    (search needs, (search needs, (search needs, pre .1)))
 
 returns-3 : tie.Need-returns-3
 returns-3 c = search needs
@@ -50,17 +41,8 @@ returns-3 c = search needs
 keep-rest-requires : tie.Need-keep-rest-requires
 keep-rest-requires c κs = search needs
 
-add-result : tie.Need-add-result
-add-result c = search needs
-
-same-length-4 : tie.Need-same-length-4
-same-length-4 c = search needs
-
-same-length-5 : tie.Need-same-length-5
-same-length-5 c = search needs
-
-same-length-6 : tie.Need-same-length-6
-same-length-6 c = search needs
+add-t10 : tie.Need-add-t10
+add-t10 c = search needs
 
 returns-4 : tie.Need-returns-4
 returns-4 c = search needs
@@ -79,13 +61,7 @@ serve-some-spec =
     answered-requires
     add-serve-front
     serve-front-requires
-    same-length
-    same-length-2
-    same-length-3
     returns-3
     keep-rest-requires
-    add-result
-    same-length-4
-    same-length-5
-    same-length-6
+    add-t10
     returns-4)
