@@ -1,6 +1,6 @@
 -- Rows that their bucket lists: what such a row answers, rows emptied that a bucket does not list, and one row listed anew.
-use Prim.Native.Nat.{ℕ, _+_, _*_, _/_, _%_, _<_}
-use mathlib.Core.Bool.{Bool, true, false, cond, _&&_, true≢false, false≢true}
+use Prim.Native.Nat.{ℕ, _+_, _-_, _*_, _/_, _%_, _<_}
+use mathlib.Core.Bool.{Bool, true, false, cond, _&&_, _||_, true≢false, false≢true}
 use mathlib.Core.List.{List}
 use mathlib.Core.Path.{_≡_, refl, sym, ap, _∙_, fun-ext}
 use native.Mathlib.Omega.{arith}
@@ -12,10 +12,10 @@ use Rattle.paper_lower.specs.Lists.{Maybe, upd, holds, there}
 use Rattle.paper_lower.specs.Lists.Maybe.{none, just}
 use Rattle.paper_lower.specs.Tables.{Permission}
 use Rattle.paper_lower.specs.Policy.{isFor}
-use Rattle.paper_lower.proofs.ListLaws.{both, and-false, upd-same, upd-other}
+use Rattle.paper_lower.proofs.ListLaws.{both, or-true, and-false, upd-same, upd-other}
 use Rattle.sets.proofs.SetLaws.{has-new, has-other}
 use Rattle.replies.proofs.CellLaws.{column-at}
-use Rattle.policy.specs.Layout.{permissionOf, tableIn, permissionTable, bucketTable, bucketOf, lists, listed, foursFor, rowIs, inBucket, unlessIn}
+use Rattle.policy.specs.Layout.{permissionOf, tableIn, permissionTable, bucketTable, bucketOf, firstIn, secondIn, eightsIn, firstAnew, secondAnew, eightsAnew, among, lists, listed, listingFor, rowIs, inBucket, unlessIn, unlessStray}
 use Rattle.policy.specs.Reading.{permissionsIn, policyOf, valueOf}
 use Rattle.policy.proofs.WordLaws.{permission-holds, permission-is, permission-value}
 
@@ -24,11 +24,11 @@ abbrev its : Permission → ℕ
 its x = bucketOf (x .operation) (x .object)
 
 -- what a row k reads as, the buckets being these
-abbrev counted : (ℕ → Set) → ℕ → Maybe Permission → Maybe Permission
+abbrev counted : (ℕ → ℕ) → ℕ → Maybe Permission → Maybe Permission
 counted buckets k r = cond (holds (λ x. lists buckets (its x) k) r) r none
 
 -- ---- What a row answers.
-module _ (rows : ℕ → Maybe Permission) (buckets : ℕ → Set) (b : ℕ) where
+module _ (rows : ℕ → Maybe Permission) (buckets : ℕ → ℕ) (b : ℕ) where
   listed-there : there (listed rows buckets b) ≡ holds (λ x. lists buckets (its x) b) (rows b)
   unfolding listed holds
   listed-there = go (rows b)
@@ -72,24 +72,28 @@ module _ (rows : ℕ → Maybe Permission) (buckets : ℕ → Set) (b : ℕ) whe
         go none = sym (and-false (lists buckets (bucketOf operation object) b))
         go (just x) = at x (isFor operation object x) refl (lists buckets (its x) b) refl
 
--- A permission for the pair: its four is one of the pair's, and its row is for the pair.
+-- A permission for the pair: the pair's word lists it, and its row is for the pair.
 pub declared-for : (l : List ℕ) (operation object b : ℕ) →
-    holds (isFor operation object) (policyOf l .permissions .declared b) ≡ has (foursFor l operation object) (b / 4) && rowIs l operation object b
-unfolding policyOf permissionsIn foursFor rowIs lists
+    holds (isFor operation object) (policyOf l .permissions .declared b) ≡ among (listingFor l operation object) b && rowIs l operation object b
+unfolding policyOf permissionsIn listingFor rowIs lists
 declared-for l operation object b = listed-for (tableIn permissionTable l) (tableIn bucketTable l) b operation object
 
 -- ---- A getter's words.
-pub lists-bit : (buckets : ℕ → Set) (h b : ℕ) {bucket : ℕ} {m : Set} {t : Bool} → bucket ≡ h → m ≡ buckets bucket → t ≡ has m (b / 4) → t ≡ lists buckets h b
+pub lists-word : (buckets : ℕ → ℕ) (h b : ℕ) {bucket w : ℕ} {t : Bool} → bucket ≡ h → w ≡ buckets bucket → t ≡ among w b → t ≡ lists buckets h b
 unfolding lists
-lists-bit buckets h b p q r = r ∙ (λ z. has (q z) (b / 4)) ∙ (λ z. has (buckets (p z)) (b / 4))
+lists-word buckets h b p q r = r ∙ (λ z. among (q z) b) ∙ (λ z. among (buckets (p z)) b)
+
+pub among-splits : (w b : ℕ) → among w b ≡ (eqb (firstIn w) b || eqb (secondIn w) b) || has (eightsIn w) (b / 8)
+unfolding among
+among-splits w b = refl
 
 module _ (l : List ℕ) (b : ℕ) (room : b < 256) where
   pub declared-there : {t : Bool} →
       t ≡ lists (tableIn bucketTable l) (bucketOf (getD l (permissionTable .first + b) 0 % 65536) (getD l (permissionTable .first + b) 0 / 65536 % 65536)) b
-      → eqb (getD l (permissionTable .first + b) 0 / 4294967296 % 2) 1 && t ≡ there (permissionsIn l .declared b)
+      → eqb (getD l (permissionTable .first + b) 0 / 4294967296) 1 && t ≡ there (permissionsIn l .declared b)
   unfolding permissionsIn
   declared-there e =
-      ap (_&&_ (eqb (getD l (permissionTable .first + b) 0 / 4294967296 % 2) 1)) e
+      ap (_&&_ (eqb (getD l (permissionTable .first + b) 0 / 4294967296) 1)) e
       ∙ permission-holds (getD l (permissionTable .first + b) 0) (λ x. lists (tableIn bucketTable l) (its x) b)
       ∙ sym (listed-there (tableIn permissionTable l) (tableIn bucketTable l) b ∙
       ap (holds (λ x. lists (tableIn bucketTable l) (its x) b)) (column-at permissionOf none (permissionTable .first) 256 l b room))
@@ -105,7 +109,7 @@ module _ (l : List ℕ) (b : ℕ) (room : b < 256) where
       permission-value (getD l (permissionTable .first + b) 0) f (sym (ap there row) ∙ h) ∙ sym (ap (valueOf f) row)
 
   pub row-word : (operation object : ℕ) → operation < 65536 → object < 65536 →
-      eqb (getD l (permissionTable .first + b) 0 % 8589934592) (4294967296 + operation + 65536 * object) ≡ rowIs l operation object b
+      eqb (getD l (permissionTable .first + b) 0) (4294967296 + operation + 65536 * object) ≡ rowIs l operation object b
   unfolding rowIs
   row-word operation object h k =
       permission-is (getD l (permissionTable .first + b) 0) operation object h k ∙
@@ -125,7 +129,7 @@ module _ (h : ℕ) where
   module _ (w : ℕ) where
     pub word-in : bucketOf (w % 65536) (w / 65536 % 65536) ≡ h → unlessIn h (permissionOf w) ≡ none
     unfolding permissionOf inBucket unlessIn holds
-    word-in e = at (eqb (w / 4294967296 % 2) 1)
+    word-in e = at (eqb (w / 4294967296) 1)
       where
         at : (t : Bool) → unlessIn h (cond t (just (record { operation = w % 65536; object = w / 65536 % 65536 })) none) ≡ none
         at true = rw (eq-eqb _ _ e)
@@ -133,7 +137,7 @@ module _ (h : ℕ) where
 
     pub word-out : (bucketOf (w % 65536) (w / 65536 % 65536) ≡ h → ⊥) → unlessIn h (permissionOf w) ≡ permissionOf w
     unfolding permissionOf inBucket unlessIn holds
-    word-out n = at (eqb (w / 4294967296 % 2) 1)
+    word-out n = at (eqb (w / 4294967296) 1)
       where
         at : (t : Bool) →
             unlessIn h (cond t (just (record { operation = w % 65536; object = w / 65536 % 65536 })) none) ≡
@@ -142,72 +146,163 @@ module _ (h : ℕ) where
         at false = refl
 
   -- it did not count
-  pub listed-emptied : (rows : ℕ → Maybe Permission) (buckets : ℕ → Set) (b : ℕ) → has (buckets h) (b / 4) ≡ false →
-      listed (upd rows b (unlessIn h (rows b))) buckets ≡ listed rows buckets
+  pub listed-emptied : (rows : ℕ → Maybe Permission) (buckets : ℕ → ℕ) (b : ℕ) (found : Bool) → found ≡ among (buckets h) b →
+      listed (upd rows b (unlessStray h found (rows b))) buckets ≡ listed rows buckets
   unfolding listed lists holds inBucket unlessIn
-  listed-emptied rows buckets b out = fun-ext (λ k. at k (eqb k b) refl)
+  listed-emptied rows buckets b found is = fun-ext (λ k. at k (eqb k b) refl)
     where
-      row : (x : Permission) (t : Bool) → eqb (its x) h ≡ t → counted buckets b (cond t none (just x)) ≡ counted buckets b (just x)
-      row x true e = sym (ap (λ t. cond t (just x) none) ((λ z. has (buckets (eqb-true (its x) h e z)) (b / 4)) ∙ out))
-      row x false e = refl
+      row : (x : Permission) (t : Bool) → among (buckets h) b ≡ false → eqb (its x) h ≡ t → counted buckets b (cond t none (just x)) ≡ counted buckets b (just x)
+      row x true out e = sym (ap (λ t. cond t (just x) none) ((λ z. among (buckets (eqb-true (its x) h e z)) b) ∙ out))
+      row x false out e = refl
 
-      here : (r : Maybe Permission) → counted buckets b (unlessIn h r) ≡ counted buckets b r
-      here none = refl
-      here (just x) = row x (eqb (its x) h) refl
+      here : (t : Bool) → t ≡ among (buckets h) b → (r : Maybe Permission) → counted buckets b (unlessStray h t r) ≡ counted buckets b r
+      here true e r = refl
+      here false e none = refl
+      here false e (just x) = row x (eqb (its x) h) (sym e) refl
 
-      at : (k : ℕ) (t : Bool) → eqb k b ≡ t → counted buckets k (upd rows b (unlessIn h (rows b)) k) ≡ counted buckets k (rows k)
-      at k true e = let one = eqb-true k b e in ap (counted buckets k) (upd-same rows b k (unlessIn h (rows b)) one) ∙ rw one (here (rows b))
-      at k false e = ap (counted buckets k) (upd-other rows b k (unlessIn h (rows b)) (eqb-false k b e))
+      at : (k : ℕ) (t : Bool) → eqb k b ≡ t → counted buckets k (upd rows b (unlessStray h found (rows b)) k) ≡ counted buckets k (rows k)
+      at k true e = let one = eqb-true k b e in ap (counted buckets k) (upd-same rows b k (unlessStray h found (rows b)) one) ∙ rw one (here found is (rows b))
+      at k false e = ap (counted buckets k) (upd-other rows b k (unlessStray h found (rows b)) (eqb-false k b e))
 
--- ---- A row listed anew.
-
--- the buckets that list a under its pair
-abbrev pub listing : (ℕ → Set) → Permission → ℕ → ℕ → Set
-listing buckets x a = upd buckets (its x) (plus (buckets (its x)) (a / 4))
-
-module _ (rows : ℕ → Maybe Permission) (buckets : ℕ → Set) (x : Permission) (a : ℕ) (strays : has (buckets (its x)) (a / 4) ≡ false → (b : ℕ) → b / 4 ≡ a / 4 → inBucket (its x) (rows b) ≡ false) where
-  new-listed : lists (listing buckets x a) (its x) a ≡ true
+-- ---- A row listed anew: the bucket of its pair has the word w, which lists it, and of the other rows of that bucket those that were listed.
+module _ (rows : ℕ → Maybe Permission) (buckets : ℕ → ℕ) (x : Permission) (a w : ℕ) (own : among w a ≡ true) (others : (b : ℕ) → (b ≡ a → ⊥) → inBucket (its x) (rows b) ≡ true → among w b ≡ among (buckets (its x)) b) where
+  new-listed : lists (upd buckets (its x) w) (its x) a ≡ true
   unfolding lists
-  new-listed = ap (λ m. has m (a / 4)) (upd-same buckets (its x) (its x) (plus (buckets (its x)) (a / 4)) refl) ∙ has-new (buckets (its x)) (a / 4)
+  new-listed = ap (λ v. among v a) (upd-same buckets (its x) (its x) w refl) ∙ own
 
-  -- no other row counts that did not: one of the same four and bucket did already, or is none
-  old-listed : (y : Permission) (k : ℕ) → rows k ≡ just y → lists (listing buckets x a) (its y) k ≡ lists buckets (its y) k
+  old-listed : (y : Permission) (k : ℕ) → (k ≡ a → ⊥) → rows k ≡ just y → lists (upd buckets (its x) w) (its y) k ≡ lists buckets (its y) k
   unfolding lists inBucket holds
-  old-listed y k is = at (eqb (its y) (its x)) refl (eqb (k / 4) (a / 4)) refl (has (buckets (its x)) (a / 4)) refl
+  old-listed y k other is = at (eqb (its y) (its x)) refl
     where
-      at : (t : Bool) → eqb (its y) (its x) ≡ t → (u : Bool) → eqb (k / 4) (a / 4) ≡ u → (v : Bool) → has (buckets (its x)) (a / 4) ≡ v →
-          has (listing buckets x a (its y)) (k / 4) ≡ has (buckets (its y)) (k / 4)
-      at true e true f true g =
-          ap (λ m. has m (k / 4)) (upd-same buckets (its x) (its y) (plus (buckets (its x)) (a / 4)) (eqb-true (its y) (its x) e))
-          ∙ ap (has (plus (buckets (its x)) (a / 4))) (eqb-true (k / 4) (a / 4) f)
-          ∙ has-new (buckets (its x)) (a / 4)
-          ∙ sym ((λ z. has (buckets (eqb-true (its y) (its x) e z)) (eqb-true (k / 4) (a / 4) f z)) ∙ g)
-      at true e true f false g = absurd (true≢false (sym e ∙ sym (ap (inBucket (its x)) is) ∙ strays g k (eqb-true (k / 4) (a / 4) f)))
-      at true e false f v g =
-          ap (λ m. has m (k / 4)) (upd-same buckets (its x) (its y) (plus (buckets (its x)) (a / 4)) (eqb-true (its y) (its x) e))
-          ∙ has-other (buckets (its x)) (a / 4) (k / 4) (eqb-false (k / 4) (a / 4) f)
-          ∙ (λ z. has (buckets (sym (eqb-true (its y) (its x) e) z)) (k / 4))
-      at false e u f v g = ap (λ m. has m (k / 4)) (upd-other buckets (its x) (its y) (plus (buckets (its x)) (a / 4)) (eqb-false (its y) (its x) e))
+      at : (t : Bool) → eqb (its y) (its x) ≡ t → among (upd buckets (its x) w (its y)) k ≡ among (buckets (its y)) k
+      at true e =
+          ap (λ v. among v k) (upd-same buckets (its x) (its y) w (eqb-true (its y) (its x) e))
+          ∙ others k other (ap (inBucket (its x)) is ∙ e)
+          ∙ (λ z. among (buckets (sym (eqb-true (its y) (its x) e) z)) k)
+      at false e = ap (λ v. among v k) (upd-other buckets (its x) (its y) w (eqb-false (its y) (its x) e))
 
-  pub listed-set : listed (upd rows a (just x)) (listing buckets x a) ≡ upd (listed rows buckets) a (just x)
+  pub listed-set : listed (upd rows a (just x)) (upd buckets (its x) w) ≡ upd (listed rows buckets) a (just x)
   unfolding listed holds
   listed-set = fun-ext (λ k. at k (eqb k a) refl)
     where
-      kept : (k : ℕ) (r : Maybe Permission) → rows k ≡ r → counted (listing buckets x a) k r ≡ counted buckets k r
-      kept k none is = refl
-      kept k (just y) is = ap (λ t. cond t (just y) none) (old-listed y k is)
+      kept : (k : ℕ) → (k ≡ a → ⊥) → (r : Maybe Permission) → rows k ≡ r → counted (upd buckets (its x) w) k r ≡ counted buckets k r
+      kept k other none is = refl
+      kept k other (just y) is = ap (λ t. cond t (just y) none) (old-listed y k other is)
 
-      at : (k : ℕ) (t : Bool) → eqb k a ≡ t → listed (upd rows a (just x)) (listing buckets x a) k ≡ upd (listed rows buckets) a (just x) k
+      at : (k : ℕ) (t : Bool) → eqb k a ≡ t → listed (upd rows a (just x)) (upd buckets (its x) w) k ≡ upd (listed rows buckets) a (just x) k
       at k true e =
           let one = eqb-true k a e in
-          ap (counted (listing buckets x a) k) (upd-same rows a k (just x) one)
-          ∙ ap (λ t. cond t (just x) none) (ap (lists (listing buckets x a) (its x)) one ∙ new-listed)
+          ap (counted (upd buckets (its x) w) k) (upd-same rows a k (just x) one)
+          ∙ ap (λ t. cond t (just x) none) (ap (lists (upd buckets (its x) w) (its x)) one ∙ new-listed)
           ∙ sym (upd-same (listed rows buckets) a k (just x) one)
       at k false e =
           let other = eqb-false k a e in
-          ap (counted (listing buckets x a) k) (upd-other rows a k (just x) other)
-          ∙ kept k (rows k) refl
+          ap (counted (upd buckets (its x) w) k) (upd-other rows a k (just x) other)
+          ∙ kept k other (rows k) refl
           ∙ sym (upd-other (listed rows buckets) a k (just x) other)
+
+-- ---- The word by which a bucket lists one permission more.
+any-first : (x y z : Bool) → x ≡ true → (x || y) || z ≡ true
+any-first x y z e = λ i. (e i || y) || z
+
+any-second : (x y z : Bool) → y ≡ true → (x || y) || z ≡ true
+any-second true y z e = refl
+any-second false y z e = λ i. e i || z
+
+any-last : (x y z : Bool) → z ≡ true → (x || y) || z ≡ true
+any-last x y z e = ap (λ t. (x || y) || t) e ∙ or-true (x || y)
+
+or-same : (x : Bool) → x || x ≡ x
+or-same true = refl
+or-same false = refl
+
+module _ (w a : ℕ) (room : a < 256) where
+  first-first : firstIn (firstAnew w a) ≡ a
+  first-first = omega arith
+
+  first-second : secondIn (firstAnew w a) ≡ secondIn w
+  first-second = omega arith
+
+  first-eights : eightsIn (firstAnew w a) ≡ eightsIn w
+  first-eights = omega arith
+
+  second-first : firstIn (secondAnew w a) ≡ firstIn w
+  second-first = omega arith
+
+  second-second : secondIn (secondAnew w a) ≡ a
+  second-second = omega arith
+
+  second-eights : eightsIn (secondAnew w a) ≡ eightsIn w
+  second-eights = omega arith
+
+  eights-first : firstIn (eightsAnew w a) ≡ firstIn w
+  eights-first = omega arith
+
+  eights-second : secondIn (eightsAnew w a) ≡ secondIn w
+  eights-second = omega arith
+
+  eights-eights : eightsIn (eightsAnew w a) ≡ plus (eightsIn w) (a / 8)
+  eights-eights = omega arith
+
+  pub first-own : among (firstAnew w a) a ≡ true
+  unfolding among
+  first-own = any-first (eqb (firstIn (firstAnew w a)) a) (eqb (secondIn (firstAnew w a)) a) (has (eightsIn (firstAnew w a)) (a / 8)) (eq-eqb _ _ first-first)
+
+  pub second-own : among (secondAnew w a) a ≡ true
+  unfolding among
+  second-own = any-second (eqb (firstIn (secondAnew w a)) a) (eqb (secondIn (secondAnew w a)) a) (has (eightsIn (secondAnew w a)) (a / 8)) (eq-eqb _ _ second-second)
+
+  pub eights-own : among (eightsAnew w a) a ≡ true
+  unfolding among
+  eights-own =
+      any-last (eqb (firstIn (eightsAnew w a)) a) (eqb (secondIn (eightsAnew w a)) a) (has (eightsIn (eightsAnew w a)) (a / 8))
+      (ap (λ m. has m (a / 8)) eights-eights ∙ has-new (eightsIn w) (a / 8))
+
+  module _ (k : ℕ) (other : k ≡ a → ⊥) where
+    pub first-others : firstIn w ≡ secondIn w → among (firstAnew w a) k ≡ among w k
+    unfolding among
+    first-others e =
+        let gone : eqb (firstIn (firstAnew w a)) k ≡ false = ne-eqb _ _ (λ z. other (sym z ∙ first-first)) in
+        (λ z. (gone z || eqb (first-second z) k) || has (first-eights z) (k / 8))
+        ∙ sym ((λ z. (eqb (e z) k || eqb (secondIn w) k) || has (eightsIn w) (k / 8)) ∙ ap (λ t. t || has (eightsIn w) (k / 8)) (or-same (eqb (secondIn w) k)))
+
+    pub second-others : (k ≡ secondIn w → ⊥) → among (secondAnew w a) k ≡ among w k
+    unfolding among
+    second-others n =
+        let new : eqb (secondIn (secondAnew w a)) k ≡ false = ne-eqb _ _ (λ z. other (sym z ∙ second-second)) in
+        let old : eqb (secondIn w) k ≡ false = ne-eqb _ _ (λ z. n (sym z)) in
+        (λ z. (eqb (second-first z) k || new z) || has (second-eights z) (k / 8)) ∙ sym (λ z. (eqb (firstIn w) k || old z) || has (eightsIn w) (k / 8))
+
+    -- a row of the same eight that was listed is listed still
+    pub eights-others : (k / 8 ≡ a / 8 → among w k ≡ true) → among (eightsAnew w a) k ≡ among w k
+    unfolding among
+    eights-others same =
+        (λ z. (eqb (eights-first z) k || eqb (eights-second z) k) || has (eights-eights z) (k / 8)) ∙ at (eqb (k / 8) (a / 8)) refl
+      where
+        at : (t : Bool) → eqb (k / 8) (a / 8) ≡ t → (eqb (firstIn w) k || eqb (secondIn w) k) || has (plus (eightsIn w) (a / 8)) (k / 8) ≡
+            (eqb (firstIn w) k || eqb (secondIn w) k) || has (eightsIn w) (k / 8)
+        at true e =
+            let one = eqb-true (k / 8) (a / 8) e in
+            any-last (eqb (firstIn w) k) (eqb (secondIn w) k) (has (plus (eightsIn w) (a / 8)) (k / 8)) (ap (has (plus (eightsIn w) (a / 8))) one ∙ has-new (eightsIn w) (a / 8)) ∙ sym (same one)
+        at false e =
+            ap (λ t. (eqb (firstIn w) k || eqb (secondIn w) k) || t) (has-other (eightsIn w) (a / 8) (k / 8) (eqb-false (k / 8) (a / 8) e))
+
+pub among-word : (w b : ℕ) {f s : ℕ} {m : Set} {t : Bool} → f ≡ firstIn w → s ≡ secondIn w → m ≡ eightsIn w → t ≡ has m (b / 8) →
+    (eqb f b || eqb s b) || t ≡ among w b
+unfolding among
+among-word w b p q r e = λ z. (eqb (p z) b || eqb (q z) b) || (e ∙ ap (λ m. has m (b / 8)) r) z
+
+pub in-word : (w h : ℕ) {r : ℕ} → r ≡ bucketOf (w % 65536) (w / 65536 % 65536) → eqb (w / 4294967296) 1 && eqb r h ≡ inBucket h (permissionOf w)
+unfolding inBucket
+in-word w h e = ap (λ k. eqb (w / 4294967296) 1 && eqb k h) e ∙ permission-holds w (λ x. eqb (its x) h)
+
+-- ---- A row emptied, or left where it is listed.
+module _ (h : ℕ) (r : Maybe Permission) where
+  pub stray-kept : {t : Bool} → t ≡ true → r ≡ unlessStray h t r
+  stray-kept e = sym (λ z. cond (e z) r (unlessIn h r))
+
+  pub stray-gone : {t : Bool} → t ≡ false → unlessIn h r ≡ unlessStray h t r
+  stray-gone e = sym (λ z. cond (e z) r (unlessIn h r))
 
 pub bucket-small : (operation object : ℕ) → bucketOf operation object < 1024
 unfolding bucketOf

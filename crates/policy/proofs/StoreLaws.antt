@@ -15,10 +15,10 @@ use Rattle.paper_lower.specs.Tables.{Permission, Policy, withSeniority, withPer
 use Rattle.paper_lower.proofs.ListLaws.{upd-same, upd-other}
 use Rattle.sets.proofs.SetLaws.{has-new, has-other}
 use Rattle.replies.proofs.CellLaws.{column-at}
-use Rattle.policy.specs.Layout.{policyWords, flagOf, Table, behind, tableIn, rolesWord, userTable, assignedTable, permissionTable, holderTable, carrierTable, templateTable, openToTable, mostTable, bannedTable, bucketTable, juniorTable, belowTable, seniorsWord, seniorsIn, belowIn, permissionOf, bucketOf, listed, inBucket, unlessIn}
-use Rattle.policy.specs.Reading.{peopleIn, seniorityIn, permissionsIn, tasksIn, policyOf, Ready, rolesAnew, userAnew, assignedAnew, juniorsAnew, belowAnew, permissionAnew, holdersAnew, carriersAnew, templateAnew, openToAnew, bannedAnew, mostAnew}
+use Rattle.policy.specs.Layout.{policyWords, flagOf, Table, behind, tableIn, rolesWord, userTable, assignedTable, permissionTable, holderTable, carrierTable, templateTable, openToTable, mostTable, bannedTable, bucketTable, juniorTable, belowTable, seniorsWord, seniorsIn, belowIn, permissionOf, bucketOf, firstIn, secondIn, firstAnew, secondAnew, eightsAnew, among, listed, inBucket, unlessIn, unlessStray}
+use Rattle.policy.specs.Reading.{peopleIn, seniorityIn, permissionsIn, tasksIn, policyOf, Ready, Tidied, rolesAnew, userAnew, assignedAnew, juniorsAnew, belowAnew, permissionAnew, holdersAnew, carriersAnew, templateAnew, openToAnew, bannedAnew, mostAnew}
 use Rattle.policy.proofs.WordLaws.{permission-word, template-word, most-word}
-use Rattle.policy.proofs.BucketLaws.{emptied-out, listed-emptied, listing, listed-set, bucket-small}
+use Rattle.policy.proofs.BucketLaws.{emptied-out, listed-emptied, listed-set, first-own, first-others, second-own, second-others, eights-own, eights-others, stray-gone, bucket-small}
 use Rattle.policy.proofs.TableLaws.{Outside, narrow, table-same, table-off, people-off, below-off, seniority-off, declared-off, permissions-off, tasks-off, rules-off, walls-off}
 
 -- the word b + i is the table's row i if the table starts at b, and else none of its words
@@ -245,63 +245,95 @@ in-declared l j v h = λ x.
       walls = walls-off l j v (omega arith) x;
     }
 
--- rows of four t up to b emptied that have a pair of bucket h
-pub record ReadyTo (l : List ℕ) (t h b : ℕ) (after : List ℕ) : Type 0 where
-  pub words : length after ≡ policyWords
-  pub tables : policyOf after ≡ policyOf l
-  pub buckets : tableIn bucketTable after ≡ tableIn bucketTable l
-  pub strays : (k : ℕ) → 4 * t ≤ k → k < b → inBucket h (tableIn permissionTable after k) ≡ false
-
+-- ---- The rows of eight t that bucket h does not list, emptied where they have a pair of that bucket.
 module _ (l : List ℕ) (t h : ℕ) where
-  pub ready-listed : has (tableIn bucketTable l h) t ≡ true → Ready l t h l
-  ready-listed e = record { tables = refl; buckets = refl; strays = λ out. absurd (true≢false (sym e ∙ out)) }
+  pub tidied-none : length l ≡ policyWords → Tidied l t h (8 * t) l
+  tidied-none room = record { words = room; tables = refl; buckets = refl; strays = λ k a z out. let no : ⊥ = omega arith in absurd no }
 
-  pub ready-none : length l ≡ policyWords → ReadyTo l t h (4 * t) l
-  ready-none room = record { words = room; tables = refl; buckets = refl; strays = λ k a z. let no : ⊥ = omega arith in absurd no }
-
-  module _ (p : List ℕ) (b : ℕ) where
-    pub ready-all : ReadyTo l t h b p → 4 * t + 4 ≤ b → Ready l t h p
-    ready-all r end = record { tables = r .tables; buckets = r .buckets; strays = λ out k is. r .strays k (omega arith) (omega arith) }
-
-    module _ (v : ℕ) (high : b < 256) (is : permissionOf v ≡ unlessIn h (permissionOf (getD p (permissionTable .first + b) 0))) (room : length p ≡ policyWords) where
-      emptied : tableIn permissionTable (set p (permissionTable .first + b) v) ≡ upd (tableIn permissionTable p) b (unlessIn h (tableIn permissionTable p b))
+  module _ (p : List ℕ) (b : ℕ) (found : Bool) where
+    module _ (v : ℕ) (high : b < 256) (is : permissionOf v ≡ unlessStray h found (permissionOf (getD p (permissionTable .first + b) 0))) (room : length p ≡ policyWords) where
+      emptied : tableIn permissionTable (set p (permissionTable .first + b) v) ≡ upd (tableIn permissionTable p) b (unlessStray h found (tableIn permissionTable p b))
       emptied =
           table-same permissionTable p b v high (omega arith)
-          ∙ ap (upd (tableIn permissionTable p) b) (is ∙ ap (unlessIn h) (sym (column-at permissionOf none (permissionTable .first) 256 p b high)))
+          ∙ ap (upd (tableIn permissionTable p) b) (is ∙ ap (unlessStray h found) (sym (column-at permissionOf none (permissionTable .first) 256 p b high)))
 
-      kept : has (tableIn bucketTable p h) (b / 4) ≡ false → policyOf (set p (permissionTable .first + b) v) ≡ policyOf p
+      kept : found ≡ among (tableIn bucketTable p h) b → policyOf (set p (permissionTable .first + b) v) ≡ policyOf p
       unfolding policyOf permissionsIn
-      kept out =
+      kept listed-here =
           in-declared p (permissionTable .first + b) v (omega arith)
           ∙ ap (declaredAnew (policyOf p))
           ((λ x. listed (emptied x) (table-off bucketTable p (permissionTable .first + b) v (omega arith) x)) ∙
-          listed-emptied h (tableIn permissionTable p) (tableIn bucketTable p) b out)
+          listed-emptied h (tableIn permissionTable p) (tableIn bucketTable p) b found listed-here)
 
-      stray : (k : ℕ) → 4 * t ≤ k → k < b + 1 → ((k : ℕ) → 4 * t ≤ k → k < b → inBucket h (tableIn permissionTable p k) ≡ false) →
+      stray : (k : ℕ) → k < b + 1 → (k ≡ b → found ≡ false) → (k < b → inBucket h (tableIn permissionTable p k) ≡ false) →
           inBucket h (tableIn permissionTable (set p (permissionTable .first + b) v) k) ≡ false
-      stray k a z below = ap (λ f. inBucket h (f k)) emptied ∙ at (eqb k b) refl
+      stray k z out below = ap (λ f. inBucket h (f k)) emptied ∙ at (eqb k b) refl
         where
-          at : (here : Bool) → eqb k b ≡ here → inBucket h (upd (tableIn permissionTable p) b (unlessIn h (tableIn permissionTable p b)) k) ≡ false
+          at : (here : Bool) → eqb k b ≡ here → inBucket h (upd (tableIn permissionTable p) b (unlessStray h found (tableIn permissionTable p b)) k) ≡ false
           at true e =
-              ap (inBucket h) (upd-same (tableIn permissionTable p) b k (unlessIn h (tableIn permissionTable p b)) (eqb-true k b e)) ∙
-              emptied-out h (tableIn permissionTable p b)
+              let one = eqb-true k b e in
+              ap (inBucket h) (upd-same (tableIn permissionTable p) b k (unlessStray h found (tableIn permissionTable p b)) one)
+              ∙ ap (inBucket h) (sym (stray-gone h (tableIn permissionTable p b) (out one)))
+              ∙ emptied-out h (tableIn permissionTable p b)
           at false e =
               let other = eqb-false k b e in
-              ap (inBucket h) (upd-other (tableIn permissionTable p) b k (unlessIn h (tableIn permissionTable p b)) other) ∙ below k a (omega arith)
+              ap (inBucket h) (upd-other (tableIn permissionTable p) b k (unlessStray h found (tableIn permissionTable p b)) other) ∙ below (omega arith)
 
-    pub ready-more : (v : ℕ) → ReadyTo l t h b p → has (tableIn bucketTable l h) t ≡ false → t < 64 → 4 * t ≤ b → b < 4 * t + 4 →
-        permissionOf v ≡ unlessIn h (permissionOf (getD p (permissionTable .first + b) 0)) → ReadyTo l t h (b + 1) (set p (permissionTable .first + b) v)
-    ready-more v r out room low high is =
-        let four : b / 4 ≡ t = omega arith in
+    pub tidied-more : (v : ℕ) → Tidied l t h b p → found ≡ among (tableIn bucketTable l h) b → t < 32 → 8 * t ≤ b → b < 8 * t + 8 →
+        permissionOf v ≡ unlessStray h found (permissionOf (getD p (permissionTable .first + b) 0)) → Tidied l t h (b + 1) (set p (permissionTable .first + b) v)
+    tidied-more v r here room low high is =
         record {
           words = rw length-set (r .words);
-          tables = kept v (omega arith) is (r .words) (rw (four, r .buckets) out) ∙ r .tables;
+          tables = kept v (omega arith) is (r .words) (here ∙ ap (λ f. among (f h) b) (sym (r .buckets))) ∙ r .tables;
           buckets = table-off bucketTable p (permissionTable .first + b) v (omega arith) ∙ r .buckets;
-          strays = λ k a z. stray v (omega arith) is (r .words) k a z (r .strays);
+          strays = λ k a z out.
+              stray v (omega arith) is (r .words) k z (λ one. here ∙ ap (among (tableIn bucketTable l h)) (sym one) ∙ out) (λ less. r .strays k a less out);
         }
 
--- A permission: its row, and its four in the bucket of its pair.
-module _ (l after : List ℕ) (room : length after ≡ policyWords) (i operation object v : ℕ) (h : i < 256) (small : operation < 65536) (too : object < 65536) (ready : Ready l (i / 4) (bucketOf operation object) after) (more : v ≡ plus (tableIn bucketTable after (bucketOf operation object)) (i / 4)) where
+-- ---- A bucket's word made ready.
+module _ (l : List ℕ) (a h w : ℕ) (is : w ≡ tableIn bucketTable l h) (room : a < 256) (r : ℕ) where
+  pub ready-first : {first second : ℕ} → first ≡ firstIn w → second ≡ secondIn w → first ≡ second → r ≡ firstAnew w a → Ready l a h l r
+  ready-first p q e n =
+      record {
+        tables = refl;
+        buckets = refl;
+        own = ap (λ v. among v a) n ∙ first-own w a room;
+        others = λ b other in-it. ap (λ v. among v b) n ∙ first-others w a room b other (sym p ∙ e ∙ q) ∙ ap (λ v. among v b) is;
+      }
+
+  pub ready-second : {second : ℕ} → second ≡ secondIn w → inBucket h (permissionOf (getD l (permissionTable .first + second) 0)) ≡ false → r ≡ secondAnew w a → Ready l a h l r
+  ready-second {second} q out n =
+      let small : second < 256 = omega arith in
+      let gone : inBucket h (tableIn permissionTable l second) ≡ false =
+      ap (inBucket h) (column-at permissionOf none (permissionTable .first) 256 l second small) ∙ out in
+      record {
+        tables = refl;
+        buckets = refl;
+        own = ap (λ v. among v a) n ∙ second-own w a room;
+        others = λ b other in-it.
+            ap (λ v. among v b) n
+            ∙ second-others w a room b other (λ e. true≢false (sym in-it ∙ ap (λ k. inBucket h (tableIn permissionTable l k)) (e ∙ sym q) ∙ gone))
+            ∙ ap (λ v. among v b) is;
+      }
+
+  pub ready-eight : {after : List ℕ} → Tidied l (a / 8) h (8 * (a / 8) + 8) after → r ≡ eightsAnew w a → Ready l a h after r
+  ready-eight {after} d n =
+      record {
+        tables = d .tables;
+        buckets = d .buckets;
+        own = ap (λ v. among v a) n ∙ eights-own w a room;
+        others = λ b other in-it.
+            ap (λ v. among v b) n
+            ∙ eights-others w a room b other (λ e. listed-still b e in-it (among w b) refl)
+            ∙ ap (λ v. among v b) is;
+      }
+    where
+      listed-still : (b : ℕ) → b / 8 ≡ a / 8 → inBucket h (tableIn permissionTable after b) ≡ true → (t : Bool) → among w b ≡ t → among w b ≡ true
+      listed-still b e in-it true f = f
+      listed-still b e in-it false f = absurd (true≢false (sym in-it ∙ d .strays b (omega arith) (omega arith) (ap (λ v. among v b) (sym is) ∙ f)))
+
+-- A permission: its row, and the word of the bucket of its pair.
+module _ (l after : List ℕ) (room : length after ≡ policyWords) (i operation object v : ℕ) (h : i < 256) (small : operation < 65536) (too : object < 65536) (ready : Ready l i (bucketOf operation object) after v) where
   declared-set : permissionsIn
       (set (set after (permissionTable .first + i) (4294967296 + operation + 65536 * object)) (bucketTable .first + bucketOf operation object) v) .declared ≡
       upd (permissionsIn after .declared) i (just (record { operation = operation; object = object }))
@@ -317,12 +349,12 @@ module _ (l after : List ℕ) (room : length after ≡ policyWords) (i operation
       ∙ table-same permissionTable after i w h (omega arith)
       ∙ ap (upd (tableIn permissionTable after) i) (permission-word operation object small too) in
       let buckets : tableIn bucketTable (set (set after (permissionTable .first + i) w) (bucketTable .first + bucket) v) ≡
-      listing (tableIn bucketTable after) (record { operation = operation; object = object }) i =
+      upd (tableIn bucketTable after) bucket v =
       table-same bucketTable (set after (permissionTable .first + i) w) bucket v (omega arith) (omega arith)
-      ∙ (λ x. upd (table-off bucketTable after (permissionTable .first + i) w (omega arith) x) bucket (more x)) in
+      ∙ (λ x. upd (table-off bucketTable after (permissionTable .first + i) w (omega arith) x) bucket v) in
       (λ x. listed (rows x) (buckets x))
-      ∙ listed-set (tableIn permissionTable after) (tableIn bucketTable after) (record { operation = operation; object = object }) i
-      (λ out. ready .strays (ap (λ f. has (f bucket) (i / 4)) (sym (ready .buckets)) ∙ out))
+      ∙ listed-set (tableIn permissionTable after) (tableIn bucketTable after) (record { operation = operation; object = object }) i v (ready .own)
+      (λ b other in-it. ready .others b other in-it ∙ ap (λ f. among (f bucket) b) (sym (ready .buckets)))
 
   pub permission-set : policyOf
       (set (set after (permissionTable .first + i) (4294967296 + operation + 65536 * object)) (bucketTable .first + bucketOf operation object) v) ≡

@@ -56,20 +56,20 @@ module _ (w : ℕ) where
   pub permission-value : (f : Permission → ℕ) → there (permissionOf w) ≡ true →
       f (record { operation = w % 65536; object = w / 65536 % 65536 }) ≡ valueOf f (permissionOf w)
   unfolding permissionOf
-  permission-value f h = sym (value-there f (eqb (w / 4294967296 % 2) 1) (record { operation = w % 65536; object = w / 65536 % 65536 }) h)
+  permission-value f h = sym (value-there f (eqb (w / 4294967296) 1) (record { operation = w % 65536; object = w / 65536 % 65536 }) h)
 
   pub permission-holds : (p : Permission → Bool) →
-      eqb (w / 4294967296 % 2) 1 && p (record { operation = w % 65536; object = w / 65536 % 65536 }) ≡ holds p (permissionOf w)
+      eqb (w / 4294967296) 1 && p (record { operation = w % 65536; object = w / 65536 % 65536 }) ≡ holds p (permissionOf w)
   unfolding permissionOf
-  permission-holds p = holds-if p (eqb (w / 4294967296 % 2) 1) (record { operation = w % 65536; object = w / 65536 % 65536 })
+  permission-holds p = holds-if p (eqb (w / 4294967296) 1) (record { operation = w % 65536; object = w / 65536 % 65536 })
 
   pub permission-is : (operation object : ℕ) → operation < 65536 → object < 65536 →
-      eqb (w % 8589934592) (4294967296 + operation + 65536 * object) ≡ holds (isFor operation object) (permissionOf w)
+      eqb w (4294967296 + operation + 65536 * object) ≡ holds (isFor operation object) (permissionOf w)
   unfolding permissionOf isFor
   permission-is operation object h k =
-      two-parts (w % 8589934592) (4294967296 + operation + 65536 * object) (w / 4294967296 % 2) 1 (w % 4294967296) (operation + 65536 * object) (omega arith)
+      two-parts w (4294967296 + operation + 65536 * object) (w / 4294967296) 1 (w % 4294967296) (operation + 65536 * object) (omega arith)
       (omega arith)
-      ∙ ap (_&&_ (eqb (w / 4294967296 % 2) 1))
+      ∙ ap (_&&_ (eqb (w / 4294967296) 1))
       (two-parts (w % 4294967296) (operation + 65536 * object) (w % 65536) operation (w / 65536 % 65536) object (omega arith) (omega arith))
       ∙ permission-holds (isFor operation object)
 
@@ -107,7 +107,7 @@ pub permission-word : (operation object : ℕ) → operation < 65536 → object 
 unfolding permissionOf
 permission-word operation object h k =
     let w = 4294967296 + operation + 65536 * object in
-    let bit : w / 4294967296 % 2 ≡ 1 = omega arith in
+    let bit : w / 4294967296 ≡ 1 = omega arith in
     let high : w / 65536 ≡ 65536 + object = omega arith in
     let low : w % 65536 ≡ operation = omega arith in
     let mid : (65536 + object) % 65536 ≡ object = omega arith in

@@ -1,12 +1,12 @@
 -- The words of the policy buffer: where each table stands, and how one word of it reads. Every word reads as something.
-use Prim.Native.Nat.{ℕ, _+_, _*_, _/_, _%_, min}
-use mathlib.Core.Bool.{Bool, false, not, cond}
+use Prim.Native.Nat.{ℕ, _+_, _-_, _*_, _/_, _%_, min}
+use mathlib.Core.Bool.{Bool, false, not, cond, _||_}
 use mathlib.Core.List.{List}
 use lib.Dec.{eqb}
 use lib.ListN.{getD}
 use Rattle.paper_lower.specs.Lists.{Maybe, holds}
 use Rattle.paper_lower.specs.Lists.Maybe.{none, just}
-use Rattle.paper_lower.specs.Sets.{Set, empty, has}
+use Rattle.paper_lower.specs.Sets.{Set, empty, has, plus}
 use Rattle.paper_lower.specs.Tables.{Permission, Limit, Block, Pair, Walled}
 use Rattle.paper_lower.specs.Policy.{isFor}
 use Rattle.replies.specs.Cells.{column, rows}
@@ -18,9 +18,9 @@ same w = w
 abbrev pub flagOf : ℕ → Bool
 flagOf w = eqb (w % 2) 1
 
--- bit 32 set: the operation in the lowest 16 bits, the object in the next 16
+-- 1 in the upper half: the operation in the lowest 16 bits, the object in the next 16
 unfoldable pub permissionOf : ℕ → Maybe Permission
-permissionOf w = cond (eqb (w / 4294967296 % 2) 1) (just (record { operation = w % 65536; object = w / 65536 % 65536 })) none
+permissionOf w = cond (eqb (w / 4294967296) 1) (just (record { operation = w % 65536; object = w / 65536 % 65536 })) none
 
 -- bit 4 set: the template in the lowest 4 bits
 unfoldable pub templateOf : ℕ → Maybe ℕ
@@ -135,25 +135,50 @@ blocksIn l = rows (blockAt l) (blockCount l)
 abbrev pub pairsIn : ℕ → List ℕ → List Pair
 pairsIn which l = rows (pairAt which l) (pairCount which l)
 
--- ---- Permissions by their pair. Four t is the permissions 4 t to 4 t + 3. Each pair has one of 1024 buckets; a bucket is a set of fours.
-abbrev pub bucketTable : Table Set
-bucketTable = record { first = behind (pairTable 1 same); height = 1024; read = same; past = empty }
+-- ---- Permissions by their pair. Each pair has one of 1024 buckets. A bucket's word lists two permissions by their numbers and others by eights:
+-- eight t is the permissions 8 t to 8 t + 7.
+abbrev pub bucketTable : Table ℕ
+bucketTable = record { first = behind (pairTable 1 same); height = 1024; read = same; past = 0 }
 
 -- the factor spreads near pairs over all buckets
 unfoldable pub bucketOf : ℕ → ℕ → ℕ
 bucketOf operation object = (operation + 65536 * object) * 2654435761 / 4194304 % 1024
 
+-- the two numbers in the lowest 16 bits, the set of eights in the upper half
+abbrev pub firstIn : ℕ → ℕ
+firstIn w = w % 256
+
+abbrev pub secondIn : ℕ → ℕ
+secondIn w = w / 256 % 256
+
+abbrev pub eightsIn : ℕ → Set
+eightsIn w = w / 4294967296
+
+-- the word with another first or second number, and with one eight more: that of permission a
+abbrev pub firstAnew : ℕ → ℕ → ℕ
+firstAnew w a = w - firstIn w + a
+
+abbrev pub secondAnew : ℕ → ℕ → ℕ
+secondAnew w a = w - 256 * secondIn w + 256 * a
+
+abbrev pub eightsAnew : ℕ → ℕ → ℕ
+eightsAnew w a = w % 4294967296 + 4294967296 * plus (eightsIn w) (a / 8)
+
+-- a bucket of this word lists permission b
+unfoldable pub among : ℕ → ℕ → Bool
+among w b = (eqb (firstIn w) b || eqb (secondIn w) b) || has (eightsIn w) (b / 8)
+
 -- bucket h lists permission b
-unfoldable pub lists : (ℕ → Set) → ℕ → ℕ → Bool
-lists buckets h b = has (buckets h) (b / 4)
+unfoldable pub lists : (ℕ → ℕ) → ℕ → ℕ → Bool
+lists buckets h b = among (buckets h) b
 
 -- A row counts if the bucket of its pair lists it. So a pair is looked for in its bucket alone, whatever the buffer has in it.
-unfoldable pub listed : (ℕ → Maybe Permission) → (ℕ → Set) → ℕ → Maybe Permission
+unfoldable pub listed : (ℕ → Maybe Permission) → (ℕ → ℕ) → ℕ → Maybe Permission
 listed rows buckets b = cond (holds (λ x. lists buckets (bucketOf (x .operation) (x .object)) b) (rows b)) (rows b) none
 
--- a pair is looked for in these fours, by this test of a row
-unfoldable pub foursFor : List ℕ → ℕ → ℕ → Set
-foursFor l operation object = tableIn bucketTable l (bucketOf operation object)
+-- a pair is looked for in the permissions that this word lists, by this test of a row
+unfoldable pub listingFor : List ℕ → ℕ → ℕ → ℕ
+listingFor l operation object = tableIn bucketTable l (bucketOf operation object)
 
 unfoldable pub rowIs : List ℕ → ℕ → ℕ → ℕ → Bool
 rowIs l operation object b = holds (isFor operation object) (tableIn permissionTable l b)
@@ -164,6 +189,10 @@ inBucket h r = holds (λ x. eqb (bucketOf (x .operation) (x .object)) h) r
 
 unfoldable pub unlessIn : ℕ → Maybe Permission → Maybe Permission
 unlessIn h r = cond (inBucket h r) none r
+
+-- emptied so where no bucket lists it
+abbrev pub unlessStray : ℕ → Bool → Maybe Permission → Maybe Permission
+unlessStray h found r = cond found r (unlessIn h r)
 
 -- ---- Senior roles (02, Ask 7): of each role, the roles put below it by name, and all roles below it.
 abbrev pub juniorTable : Table Set

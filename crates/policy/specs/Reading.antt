@@ -1,15 +1,15 @@
 -- The policy buffer as the policy's tables, and those tables with one row anew: what each setter leaves.
-use Prim.Native.Nat.{ℕ, _/_}
+use Prim.Native.Nat.{ℕ, _*_, _≤_, _<_}
 use mathlib.Core.Bool.{Bool, true, false, cond}
 use mathlib.Core.List.{List}
 use mathlib.Core.Path.{_≡_}
 use lib.Dec.{eqb}
 use lib.ListN.{getD, length}
-use Rattle.paper_lower.specs.Sets.{Set, empty, has}
+use Rattle.paper_lower.specs.Sets.{Set}
 use Rattle.paper_lower.specs.Lists.{Maybe, upd, add}
 use Rattle.paper_lower.specs.Lists.Maybe.{none, just}
 use Rattle.paper_lower.specs.Tables.{People, Seniority, Permissions, Tasks, Limit, Pair, Rules, Policy, noPolicy, withPeople, withSeniority, withPermissions, withTasks, withRules, withWalls, withAssigned, withHolders, withBlocks}
-use Rattle.policy.specs.Layout.{policyWords, rolesWord, tableIn, userTable, assignedTable, permissionTable, holderTable, carrierTable, templateTable, openToTable, mostTable, bannedTable, bucketTable, juniorTable, belowIn, listed, inBucket, limitsIn, blocksIn, pairsIn, wallsIn}
+use Rattle.policy.specs.Layout.{policyWords, rolesWord, tableIn, userTable, assignedTable, permissionTable, holderTable, carrierTable, templateTable, openToTable, mostTable, bannedTable, bucketTable, juniorTable, belowIn, among, listed, inBucket, limitsIn, blocksIn, pairsIn, wallsIn}
 
 unfoldable pub peopleIn : List ℕ → People
 peopleIn l = record { users = tableIn userTable l; roles = getD l rolesWord 0; assigned = tableIn assignedTable l }
@@ -40,12 +40,20 @@ pub record Cleared (l : List ℕ) : Type 0 where
   pub words : length l ≡ policyWords
   pub zeros : (i : ℕ) → getD l i 0 ≡ 0
 
--- The buffer l after it was made ready for bucket h to list four t: it reads as before, and if the bucket does not list the four yet, no row
--- of the four has a pair of that bucket. Such a row did not count, and would from then on.
-pub record Ready (l : List ℕ) (t h : ℕ) (after : List ℕ) : Type 0 where
+-- The buffer l after it was made ready for bucket h to have the word w, which lists permission a: it reads as before, and w lists of the other rows with a
+-- pair of that bucket those that the bucket listed. A row that the bucket did not list did not count, and may not count from then on.
+pub record Ready (l : List ℕ) (a h : ℕ) (after : List ℕ) (w : ℕ) : Type 0 where
   pub tables : policyOf after ≡ policyOf l
   pub buckets : tableIn bucketTable after ≡ tableIn bucketTable l
-  pub strays : has (tableIn bucketTable l h) t ≡ false → (b : ℕ) → b / 4 ≡ t → inBucket h (tableIn permissionTable after b) ≡ false
+  pub own : among w a ≡ true
+  pub others : (b : ℕ) → (b ≡ a → ⊥) → inBucket h (tableIn permissionTable after b) ≡ true → among w b ≡ among (tableIn bucketTable l h) b
+
+-- The rows of eight t from there to before row e emptied that bucket h does not list though their pair is one of its pairs.
+pub record Tidied (l : List ℕ) (t h e : ℕ) (after : List ℕ) : Type 0 where
+  pub words : length after ≡ policyWords
+  pub tables : policyOf after ≡ policyOf l
+  pub buckets : tableIn bucketTable after ≡ tableIn bucketTable l
+  pub strays : (b : ℕ) → 8 * t ≤ b → b < e → among (tableIn bucketTable l h) b ≡ false → inBucket h (tableIn permissionTable after b) ≡ false
 
 -- ---- The rules of a kind by its number: static sets 0, dynamic sets 1, task sets 2; bindings 0, prerequisites 1.
 abbrev pub limitsOf : Rules → ℕ → List Limit

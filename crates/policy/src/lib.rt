@@ -1,12 +1,14 @@
 // The policy buffer, word by word: getters and setters of its tables, one row a word. specs/Layout.antt has the layout.
 ghost use mathlib.Core.Path.{_≡_};
-ghost use Prim.Native.Nat.{_<_, _≤_, min};
+ghost use Prim.Native.Nat.{_+_, _*_, _<_, _≤_, min};
+ghost use mathlib.Core.Bool.{true};
 ghost use lib.Dec.{leb};
 ghost use lib.ListN.{length};
+ghost use Rattle.paper_lower.specs.Sets.{has};
 ghost use Rattle.paper_lower.specs.Lists.{holds, there, is};
 ghost use Rattle.paper_lower.specs.Policy.{together};
-ghost use Rattle.policy.specs.Layout.{policyWords, same, seniorsIn, flagOf, permissionOf, tableIn, bucketTable, bucketOf, foursFor, rowIs, unlessIn, limitCount, limitAt, blockCount, blockAt, pairCount, pairAt, wallWord, wallCount, walledAt, wallRows, walledIs};
-ghost use Rattle.policy.specs.Reading.{policyOf, valueOf, Cleared, Ready, rolesAnew, userAnew, assignedAnew, juniorsAnew, belowAnew, permissionAnew, holdersAnew, carriersAnew, templateAnew, openToAnew, bannedAnew, mostAnew, limitAdded, blockAdded, pairAdded, wallAdded};
+ghost use Rattle.policy.specs.Layout.{policyWords, same, seniorsIn, flagOf, permissionOf, tableIn, bucketTable, bucketOf, firstIn, secondIn, eightsIn, firstAnew, secondAnew, eightsAnew, among, listingFor, rowIs, inBucket, unlessIn, unlessStray, limitCount, limitAt, blockCount, blockAt, pairCount, pairAt, wallWord, wallCount, walledAt, wallRows, walledIs};
+ghost use Rattle.policy.specs.Reading.{policyOf, valueOf, Cleared, Ready, Tidied, rolesAnew, userAnew, assignedAnew, juniorsAnew, belowAnew, permissionAnew, holdersAnew, carriersAnew, templateAnew, openToAnew, bannedAnew, mostAnew, limitAdded, blockAdded, pairAdded, wallAdded};
 use sets::Set;
 
 // ---- Where each table starts: word 0 has the declared roles, the next ones the numbers of kept rules, word 7 the roles with some role below
@@ -147,6 +149,14 @@ pub fn below(p: &[u64], r: usize) -> Set
     if !seniors(p).has(r as u64) {
         return Set::EMPTY;
     }
+    below_senior(p, r)
+}
+
+// The same of a role that is known to have some.
+pub fn below_senior(p: &[u64], r: usize) -> Set
+    requires { ⌜ (length (now p) ≡ policyWords) × ((r < 64) × (has (seniorsIn (now p)) r ≡ true)) ⌝ }
+    ensures { λ x. ⌜ x .bits ≡ policyOf (now (p .entry)) .seniority .below r ⌝ }
+{
     Set { bits: p[BELOW + r] }
 }
 
@@ -169,14 +179,41 @@ fn bucket_of(operation: u64, object: u64) -> usize
     ((operation + 65536 * object) * 2654435761 / 4194304 % 1024) as usize
 }
 
-// The fours that the bucket lists: four t is the permissions 4 t to 4 t + 3.
-fn fours_in(p: &[u64], bucket: usize) -> Set
+// What the bucket lists, as one word.
+fn listing_in(p: &[u64], bucket: usize) -> u64
     requires { ⌜ (length (now p) ≡ policyWords) × (bucket < 1024) ⌝ }
-    ensures { λ r. ⌜ r .bits ≡ tableIn bucketTable (now (p .entry)) bucket ⌝ }
+    ensures { λ r. ⌜ r ≡ tableIn bucketTable (now (p .entry)) bucket ⌝ }
+{
+    p[BUCKETS + bucket]
+}
+
+// The permissions that a bucket's word lists: two by their numbers, and eights of them. Eight t is the permissions 8 t to 8 t + 7.
+pub fn first_in(w: u64) -> usize
+    ensures { λ r. ⌜ (r ≡ firstIn w) × (r < 256) ⌝ }
+{
+    (w % 256) as usize
+}
+
+pub fn second_in(w: u64) -> usize
+    ensures { λ r. ⌜ (r ≡ secondIn w) × (r < 256) ⌝ }
+{
+    (w / 256 % 256) as usize
+}
+
+pub fn eights_in(w: u64) -> Set
+    ensures { λ r. ⌜ (r .bits ≡ eightsIn w) × (r .bits < 4294967296) ⌝ }
 {
     Set {
-        bits: p[BUCKETS + bucket],
+        bits: w / 4294967296,
     }
+}
+
+fn among(w: u64, b: usize) -> bool
+    requires { ⌜ b < 256 ⌝ }
+    ensures { λ r. ⌜ r ≡ among w b ⌝ }
+{
+    let far = eights_in(w).has((b / 8) as u64);
+    (first_in(w) == b) | (second_in(w) == b) | far
 }
 
 pub fn permission_declared(p: &[u64], b: usize) -> bool
@@ -185,8 +222,8 @@ pub fn permission_declared(p: &[u64], b: usize) -> bool
 {
     let word = p[PERMISSIONS + b];
     let bucket = bucket_of(word % 65536, word / 65536 % 65536);
-    let listed = fours_in(p, bucket).has((b / 4) as u64);
-    (word / 4294967296 % 2 == 1) & listed
+    let listed = among(listing_in(p, bucket), b);
+    (word / 4294967296 == 1) & listed
 }
 
 // The operation of permission b, and its object: 0 if it is not declared.
@@ -210,20 +247,20 @@ pub fn permission_object(p: &[u64], b: usize) -> u64
     p[PERMISSIONS + b] / 65536 % 65536
 }
 
-// The fours in which every permission for this operation on this object is.
-pub fn fours_for(p: &[u64], operation: u64, object: u64) -> Set
+// The word that lists every permission for this operation on this object.
+pub fn listing_for(p: &[u64], operation: u64, object: u64) -> u64
     requires { ⌜ (length (now p) ≡ policyWords) × ((operation < 65536) × (object < 65536)) ⌝ }
-    ensures { λ r. ⌜ r .bits ≡ foursFor (now (p .entry)) operation object ⌝ }
+    ensures { λ r. ⌜ r ≡ listingFor (now (p .entry)) operation object ⌝ }
 {
-    fours_in(p, bucket_of(operation, object))
+    listing_in(p, bucket_of(operation, object))
 }
 
-// Whether row b is for this operation on this object: one compare of its word. It counts if its four is one of fours_for.
+// Whether row b is for this operation on this object: one compare of its word. It counts if listing_for lists it.
 pub fn row_is(p: &[u64], b: usize, operation: u64, object: u64) -> bool
     requires { ⌜ (length (now p) ≡ policyWords) × ((b < 256) × ((operation < 65536) × (object < 65536))) ⌝ }
     ensures { λ r. ⌜ r ≡ rowIs (now (p .entry)) operation object b ⌝ }
 {
-    p[PERMISSIONS + b] % 8589934592 == 4294967296 + operation + 65536 * object
+    p[PERMISSIONS + b] == 4294967296 + operation + 65536 * object
 }
 
 // A row's word, or 0 if its pair has this bucket.
@@ -237,32 +274,88 @@ fn unless_in(word: u64, bucket: usize) -> u64
     }
 }
 
-// Empties the rows of a four that would count too once the bucket lists the four. No load leaves such rows, but every content must read as
-// before.
-fn empty_strays(p: &mut [u64], four: usize, bucket: usize)
-    requires { ⌜ (length (now p) ≡ policyWords) × ((four < 64) × (bucket < 1024)) ⌝ }
-    ensures { λ _. ⌜ Ready (now (p .entry)) four bucket (now (p .exit)) ⌝ }
+// And where its bucket lists it, the word itself.
+fn unless_stray(word: u64, bucket: usize, listed: bool) -> u64
+    ensures { λ r. ⌜ permissionOf r ≡ unlessStray bucket listed (permissionOf word) ⌝ }
 {
-    if fours_in(p, bucket).has(four as u64) {
-        return;
+    if listed {
+        return word;
     }
-    let mut b = 4 * four;
-    while b < 4 * four + 4 {
-        p[PERMISSIONS + b] = unless_in(p[PERMISSIONS + b], bucket);
+    unless_in(word, bucket)
+}
+
+// Whether a row's pair has this bucket.
+fn is_in(word: u64, bucket: usize) -> bool
+    ensures { λ r. ⌜ r ≡ inBucket bucket (permissionOf word) ⌝ }
+{
+    (word / 4294967296 == 1) & (bucket_of(word % 65536, word / 65536 % 65536) == bucket)
+}
+
+// Empties the rows of an eight that would count too once the bucket lists the eight. No load leaves such rows, but every content must read as
+// before.
+fn empty_strays(p: &mut [u64], eight: usize, bucket: usize)
+    requires { ⌜ (length (now p) ≡ policyWords) × ((eight < 32) × (bucket < 1024)) ⌝ }
+    ensures { λ _. ⌜ Tidied (now (p .entry)) eight bucket (8 * eight + 8) (now (p .exit)) ⌝ }
+{
+    let w = listing_in(p, bucket);
+    let mut b = 8 * eight;
+    while b < 8 * eight + 8 {
+        p[PERMISSIONS + b] = unless_stray(p[PERMISSIONS + b], bucket, among(w, b));
         b += 1;
     }
 }
 
-// The permission's row, and its four in the bucket of its pair.
+// A bucket's word with permission a as its first or second number, or with the eight of a.
+fn first_anew(w: u64, a: usize) -> u64
+    requires { ⌜ a < 256 ⌝ }
+    ensures { λ r. ⌜ r ≡ firstAnew w a ⌝ }
+{
+    w - w % 256 + a as u64
+}
+
+fn second_anew(w: u64, a: usize) -> u64
+    requires { ⌜ a < 256 ⌝ }
+    ensures { λ r. ⌜ r ≡ secondAnew w a ⌝ }
+{
+    w - 256 * (w / 256 % 256) + 256 * (a as u64)
+}
+
+fn eights_anew(w: u64, a: usize) -> u64
+    requires { ⌜ a < 256 ⌝ }
+    ensures { λ r. ⌜ r ≡ eightsAnew w a ⌝ }
+{
+    let eights = eights_in(w).with((a / 8) as u64);
+    w % 4294967296 + 4294967296 * eights.bits
+}
+
+// The word by which the bucket lists permission a too. The first number gives way where the second is the same, the second where its row is of another
+// bucket; else the eight is listed.
+fn listing_with(p: &mut [u64], a: usize, bucket: usize) -> u64
+    requires { ⌜ (length (now p) ≡ policyWords) × ((a < 256) × (bucket < 1024)) ⌝ }
+    ensures { λ w. ⌜ Ready (now (p .entry)) a bucket (now (p .exit)) w ⌝ }
+{
+    let w = listing_in(p, bucket);
+    let first = first_in(w);
+    let second = second_in(w);
+    if first == second {
+        return first_anew(w, a);
+    }
+    if is_in(p[PERMISSIONS + second], bucket) {
+        empty_strays(p, a / 8, bucket);
+        return eights_anew(w, a);
+    }
+    second_anew(w, a)
+}
+
+// The permission's row, and its number among those that the bucket of its pair lists.
 pub fn set_permission(p: &mut [u64], a: usize, operation: u64, object: u64)
     requires { ⌜ (length (now p) ≡ policyWords) × ((a < 256) × ((operation < 65536) × (object < 65536))) ⌝ }
     ensures { λ _. ⌜ policyOf (now (p .exit)) ≡ permissionAnew (policyOf (now (p .entry))) a operation object ⌝ }
 {
     let bucket = bucket_of(operation, object);
-    empty_strays(p, a / 4, bucket);
-    let fours = fours_in(p, bucket).with((a / 4) as u64);
+    let w = listing_with(p, a, bucket);
     p[PERMISSIONS + a] = 4294967296 + operation + 65536 * object;
-    p[BUCKETS + bucket] = fours.bits;
+    p[BUCKETS + bucket] = w;
 }
 
 pub fn holders(p: &[u64], b: usize) -> Set

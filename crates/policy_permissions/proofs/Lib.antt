@@ -1,1 +1,1 @@
-mod Fours
+mod Eights

@@ -1,6 +1,6 @@
 -- Roles counted with those below them: where one test tells, and where one role was put above another. And how many pairs were.
 use Prim.Native.Nat.{ℕ, _+_, _≤_, _<_, min}
-use mathlib.Core.Bool.{Bool, true, false, not, cond, _&&_}
+use mathlib.Core.Bool.{Bool, true, false, not, cond, _&&_, false≢true}
 use mathlib.Core.List.{List}
 use mathlib.Core.Logic.{⊎-elim}
 use mathlib.Core.Path.{_≡_, refl, sym, ap, ap₂, fun-ext, _∙_}
@@ -8,12 +8,12 @@ use native.Mathlib.Numerals.{add-one}
 use native.Mathlib.Omega.{arith}
 use borrow.Author.Tests.{not-true, not-false}
 use lib.Bits.{bitAnd, differ}
-use Rattle.paper_lower.specs.Sets.{Set, empty, has, plus, union, unionBelow, size, cut, meets, without}
+use Rattle.paper_lower.specs.Sets.{Set, empty, has, plus, union, unionBelow, size, cut, meets, within, without}
 use Rattle.paper_lower.specs.Lists.{sumBelow}
 use Rattle.paper_lower.specs.Tables.{Seniority}
 use Rattle.paper_lower.specs.Policy.{down, raised, raisings}
 use Rattle.sets.proofs.Bits.{bit-and, bit-xor}
-use Rattle.sets.proofs.SetLaws.{in-or-out, none-common, digit, digit-has, has-digit}
+use Rattle.sets.proofs.SetLaws.{in-or-out, none-common, digit, digit-has, has-digit, has-within}
 use Rattle.sets.proofs.DownLaws.{belowAll, down-alone, down-raised, walk-start}
 use Rattle.policy.specs.Layout.{seniorsIn}
 use Rattle.policy.specs.Reading.{policyOf}
@@ -39,15 +39,29 @@ has-without m k x =
     has-digit _ x _
     (bit-xor x m (bitAnd m k) ∙ ap₂ differ (digit-has m x) (bit-and x m k ∙ ap₂ min (digit-has m x) (digit-has k x)) ∙ differ-digit (has m x) (has k x))
 
+inner : (p q : Bool) → p && not (p && not q) ≡ true → q ≡ true
+inner true true h = refl
+inner true false h = h
+inner false q h = absurd (false≢true h)
+
+-- which roles that are
+seniors-left : (l : List ℕ) (m : Set) {k low left : Set} → k ≡ seniorsIn l → low ≡ without m k → left ≡ without m low
+    → (r : ℕ) → has left r ≡ (has m r && not (has m r && not (has (seniorsIn l) r)))
+seniors-left l m {k} {low} {left} is e f r =
+    ap (λ (x : Set). has x r) f ∙ has-without m low r
+    ∙ ap (λ (x : Bool). has m r && not x) (ap (λ (x : Set). has x r) e ∙ has-without m k r ∙ ap (λ (x : Set). has m r && not (has x r)) is)
+
+pub seniors-alone : (l : List ℕ) (m : Set) {k low left : Set} → k ≡ seniorsIn l → low ≡ without m k → left ≡ without m low → within left (seniorsIn l) ≡ true
+seniors-alone l m {left = left} is e f =
+    has-within left (seniorsIn l) (λ r h. inner (has m r) (has (seniorsIn l) r) (sym (seniors-left l m is e f r) ∙ h))
+
 pub seniors-start : (l : List ℕ) (m : Set) {k low left : Set} → k ≡ seniorsIn l → low ≡ without m k → left ≡ without m low
     → down (policyOf l .seniority) m ≡ union m (belowAll (policyOf l .seniority) left)
 seniors-start l m {k} {low} {left} is e f =
     walk-start (policyOf l .seniority) m ∙ ap (λ g. union m (unionBelow 64 g)) (fun-ext (λ r. at r (has m r) (has (seniorsIn l) r) refl refl))
   where
     both : (r : ℕ) → has left r ≡ (has m r && not (has m r && not (has (seniorsIn l) r)))
-    both r =
-        ap (λ (x : Set). has x r) f ∙ has-without m low r
-        ∙ ap (λ (x : Bool). has m r && not x) (ap (λ (x : Set). has x r) e ∙ has-without m k r ∙ ap (λ (x : Set). has m r && not (has x r)) is)
+    both = seniors-left l m is e f
 
     at : (r : ℕ) (p q : Bool) → has m r ≡ p → has (seniorsIn l) r ≡ q
         → cond (has m r) (policyOf l .seniority .below r) empty ≡ cond (has left r) (policyOf l .seniority .below r) empty

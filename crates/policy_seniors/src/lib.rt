@@ -19,7 +19,7 @@ fn gathered(p: &[u64], m: Set) -> Set
     let mut left = m.beyond(lowest);
     while left.bits != 0 {
         let role = left.member();
-        all = all.union(policy::below(p, role as usize));
+        all = all.union(policy::below_senior(p, role as usize));
         left = left.without(role);
     }
     all

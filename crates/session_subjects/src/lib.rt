@@ -156,7 +156,7 @@ fn open_reply(p: &[u64], s: &[u64], a: u64, operation: u64, object: u64) -> Repl
     Reply::Granted
 }
 
-// The whole reply where the policy has no walls, and else ROOM, which no check is given: then `ask` tells. The two tests stand
+// The whole reply where the policy has no walls and the pair's word lists no eight, and else ROOM, which no check is given: then `ask` tells. The tests stand
 // here again, since a function with two callers would be a call of its own to the compiled code.
 pub fn quick_reply(p: &[u64], s: &[u64], a: u64, operation: u64, object: u64) -> Reply
     requires { ⌜ (length (now p) ≡ policyWords) × ((length (now s) ≡ sessionsWords) × ((a < 128) × ((operation < 65536) × (object < 65536)))) ⌝ }
@@ -168,8 +168,12 @@ pub fn quick_reply(p: &[u64], s: &[u64], a: u64, operation: u64, object: u64) ->
     if !sessions::live(s, a as usize) {
         return Reply::Unknown;
     }
+    let w = policy::listing_for(p, operation, object);
+    if 4294967295 < w {
+        return Reply::Room;
+    }
     let acting = policy_seniors::down(p, sessions::active(s, a as usize));
-    if !policy_permissions::allowed(p, acting, operation, object) {
+    if !policy_permissions::allowed_by_two(p, w, acting, operation, object) {
         return Reply::Denied;
     }
     Reply::Granted

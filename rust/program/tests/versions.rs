@@ -143,7 +143,7 @@ fn snapshots_of_another_layout_are_left_aside() {
         server.told
     );
     drop(server);
-    let of_this_layout = "SELECT count(*) FROM snapshot WHERE version = 2 AND after = 13";
+    let of_this_layout = "SELECT count(*) FROM snapshot WHERE version = 3 AND after = 13";
     assert_eq!(number(&file, of_this_layout), 1);
     // The next start goes on from the new one.
     let server = Server::start(&room, &[]);

@@ -1,9 +1,7 @@
--- The four made ready; then one row anew, and its four listed in the bucket of its pair.
-use mathlib.Core.Path.{ap, _∙_}
-use Prim.Native.Nat.{_/_}
+-- Written from Proof.tmpl by 'prove expand': edit that file.
+-- The bucket's word made ready; then one row anew, and the word stored.
 use native.Mathlib.Omega.{arith}
 use lib.ListN.{length-set}
-use Rattle.paper_lower.specs.Sets.{plus}
 use Rattle.policy.proofs.StoreLaws.{permission-set}
 use borrow.Author.Needs.{needs}
 use Rattle.policy.proofs.set_permission.Statement.{statement}
@@ -12,14 +10,8 @@ use Rattle.policy.proofs.set_permission.Tie as tie
 bucket-of-requires : tie.Need-bucket-of-requires
 bucket-of-requires c κs = search needs
 
-empty-strays-requires : tie.Need-empty-strays-requires
-empty-strays-requires c κs = search needs
-
-fours-in-requires : tie.Need-fours-in-requires
-fours-in-requires c κs = search needs
-
-with-requires : tie.Need-with-requires
-with-requires c κs = search needs
+listing-with-requires : tie.Need-listing-with-requires
+listing-with-requires c κs = search needs
 
 add-p : tie.Need-add-p
 add-p c = search needs
@@ -53,22 +45,15 @@ same-length c = search needs
 
 returns : tie.Need-returns
 returns c =
-    let pre = c .before .before .before .before .before .before .before .before .before .pre in
-    let args = c .before .before .before .before .before .before .before .before .before .args in
-    let bucket-of = c .before .before .before .before .before .before .before .bucket-of in
-    let empty-strays = c .before .before .before .before .before .empty-strays in
-    rw (bucket-of .ensures .0) (permission-set _ (empty-strays .last .0) (omega arith) _ _ _ _ (pre .1 .0) (pre .1 .1 .0) (pre .1 .1 .1)
-    (rw (bucket-of .ensures .0) at (empty-strays .ensures))
-    (c .with .ensures ∙ ap (λ m. plus m (args .a / 4)) (rw (bucket-of .ensures .0) at (c .before .fours-in .ensures))))
+    rw (c .before .before .before .before .bucket-of .ensures .0) (permission-set _ (c .before .before .listing-with .last .0) (omega arith) _ _ _ _ (c .before .before .before .before .before .before .pre .1 .0) (c .before .before .before .before .before .before .pre .1 .1 .0) (c .before .before .before .before .before .before .pre .1 .1 .1)
+    (rw (c .before .before .before .before .bucket-of .ensures .0) at (c .before .before .listing-with .ensures)))
 
 pub set-permission-spec : {M : Type 1} → statement M
 set-permission-spec =
     tie.close
     (tie.spec
     bucket-of-requires
-    empty-strays-requires
-    fours-in-requires
-    with-requires
+    listing-with-requires
     add-p
     mul-p
     add-p-2

@@ -1,45 +1,61 @@
--- Over the fours of the pair; one that was passed has no such row.
+-- Written from Proof.tmpl by 'prove expand': edit that file.
+-- The two rows, then the eights of the pair; one that was passed has no such row.
 use borrow.Author.Needs.{needs}
-use mathlib.Core.Path.{_≡_, sym, _∙_}
+use Prim.Native.Nat.{_<_}
+use mathlib.Core.Bool.{_||_, _&&_}
+use mathlib.Core.Path.{_≡_, refl, sym, ap, _∙_}
 use native.Mathlib.Omega.{arith}
-use mathlib.Core.Bool.{_&&_}
 use Rattle.paper_lower.specs.Sets.{has}
 use Rattle.paper_lower.specs.Lists.{someBelow, holds}
 use Rattle.paper_lower.specs.Policy.{isFor}
+use Rattle.policy.specs.Layout.{eightsIn}
 use Rattle.policy.specs.Reading.{policyOf}
 use Rattle.policy_permissions.specs.Rows.{bears}
-use Rattle.policy_permissions.proofs.Fours.{inFours, four-found, four-past, no-fours, more-by-fours}
-use Rattle.sets.proofs.SetLaws.{minus-less}
+use Rattle.policy_permissions.proofs.Eights.{inEights, eight-found, eight-past, no-eights, more-by-word}
+use Rattle.sets.proofs.SetLaws.{minus-less, minus-lt, member-below}
 use Rattle.policy_permissions.proofs.carried.Statement.{statement}
 use Rattle.policy_permissions.proofs.carried.Tie as tie
 
 abbrev Inv-loop : tie.InvT-loop
-Inv-loop p t operation object left₀ left =
-    someBelow 256 (λ i. holds (isFor operation object) (policyOf p .permissions .declared i) && has (policyOf p .permissions .carriers i) t) ≡
-    inFours (left .bits) (bears p t operation object)
+Inv-loop p t operation object w left₀ left =
+    (someBelow 256 (λ i. holds (isFor operation object) (policyOf p .permissions .declared i) && has (policyOf p .permissions .carriers i) t) ≡
+    inEights (left .bits) (bears p t operation object)) ×
+    (left .bits < 4294967296)
 
 abbrev μ-loop : tie.MeasureT-loop
-μ-loop p t operation object left₀ left = left .bits
+μ-loop p t operation object w left₀ left = left .bits
 
-fours-for-requires : tie.Need-fours-for-requires Inv-loop μ-loop
-fours-for-requires c κs = search needs
+listing-for-requires : tie.Need-listing-for-requires Inv-loop μ-loop
+listing-for-requires c κs = search needs
+
+two-bear-requires : tie.Need-two-bear-requires Inv-loop μ-loop
+two-bear-requires c κs = search needs
+
+returns : tie.Need-returns Inv-loop μ-loop
+returns c =
+    sym (more-by-word _ _ _ (c .before .before .listing-for .ensures) (λ b. has (policyOf (c .before .before .before .before .args .p .now) .permissions .carriers b) (c .before .before .before .before .args .t)) (c .before .two-bear .ensures) refl
+    ∙ ap (λ t. t || inEights (eightsIn (c .before .before .listing-for .result)) (bears (c .before .before .before .before .args .p .now) (c .before .before .before .before .args .t) (c .before .before .before .before .args .operation) (c .before .before .before .before .args .object))) (c .if1 .taken))
+
+eights-in-requires : tie.Need-eights-in-requires Inv-loop μ-loop
+eights-in-requires c κs = search needs
 
 loop-holds : tie.Need-loop-holds Inv-loop μ-loop
-loop-holds c =
-    let args = c .before .before .args in
-    more-by-fours _ _ _ (c .fours-for .ensures) (λ b. has (policyOf (args .p .now) .permissions .carriers b) (args .t))
+loop-holds c = (
+  more-by-word _ _ _ (c .before .before .before .listing-for .ensures) (λ b. has (policyOf (c .before .before .before .before .before .args .p .now) .permissions .carriers b) (c .before .before .before .before .before .args .t)) (c .before .before .two-bear .ensures) (c .eights-in .ensures .0)
+      ∙ ap (λ t. t || inEights (c .eights-in .result .bits) (bears (c .before .before .before .before .before .args .p .now) (c .before .before .before .before .before .args .t) (c .before .before .before .before .before .args .operation) (c .before .before .before .before .before .args .object))) (c .before .if1 .left),
+  c .eights-in .ensures .1,
+)
 
 member-requires : tie.Need-member-requires Inv-loop μ-loop
 member-requires c κs = search needs
 
-four-bears-requires : tie.Need-four-bears-requires Inv-loop μ-loop
-four-bears-requires c κs = search needs
+eight-bear-requires : tie.Need-eight-bear-requires Inv-loop μ-loop
+eight-bear-requires c κs = let h = member-below 32 _ _ (c .before .before .before .loop .inv .1) (c .member .ensures .0) in search needs
 
-returns : tie.Need-returns Inv-loop μ-loop
-returns c =
-    let loop = c .before .before .before .before .before .loop in
-    let member = c .before .before .member in
-    sym (loop .inv ∙ four-found _ _ (member .result) (member .ensures .1) (member .ensures .0) (sym (c .before .four-bears .ensures) ∙ c .if2 .taken))
+returns-2 : tie.Need-returns-2 Inv-loop μ-loop
+returns-2 c =
+    sym (c .before .before .before .before .before .loop .inv .0 ∙ eight-found _ _ (c .before .before .member .result) (member-below 32 _ _ (c .before .before .before .before .before .loop .inv .1) (c .before .before .member .ensures .0)) (c .before .before .member .ensures .0)
+    (sym (c .before .eight-bear .ensures) ∙ c .if3 .taken))
 
 without-requires : tie.Need-without-requires Inv-loop μ-loop
 without-requires c κs = search needs
@@ -48,13 +64,13 @@ loop-less : tie.Need-loop-less Inv-loop μ-loop
 loop-less c = rw (c .without .ensures) (minus-less _ _ (c .before .before .before .member .ensures .0))
 
 loop-again : tie.Need-loop-again Inv-loop μ-loop
-loop-again c =
-    let loop = c .before .before .before .before .before .before .loop in
-    let member = c .before .before .before .member in
-    rw (c .without .ensures) (loop .inv ∙ four-past _ _ (member .result) (sym (c .before .before .four-bears .ensures) ∙ c .before .if2 .left))
+loop-again c = (
+  rw (c .without .ensures) (c .before .before .before .before .before .before .loop .inv .0 ∙ eight-past _ _ (c .before .before .before .member .result) (sym (c .before .before .eight-bear .ensures) ∙ c .before .if3 .left)),
+  rw (c .without .ensures) (minus-lt 32 _ _ (c .before .before .before .before .before .before .loop .inv .1)),
+)
 
-returns-2 : tie.Need-returns-2 Inv-loop μ-loop
-returns-2 c = sym (c .before .before .loop .inv ∙ no-fours _ _ (omega arith))
+returns-3 : tie.Need-returns-3 Inv-loop μ-loop
+returns-3 c = sym (c .before .before .loop .inv .0 ∙ no-eights _ _ (omega arith))
 
 pub carried-spec : {M : Type 1} → statement M
 carried-spec =
@@ -62,12 +78,15 @@ carried-spec =
     (tie.spec
     Inv-loop
     μ-loop
-    fours-for-requires
+    listing-for-requires
+    two-bear-requires
+    returns
+    eights-in-requires
     loop-holds
     member-requires
-    four-bears-requires
-    returns
+    eight-bear-requires
+    returns-2
     without-requires
     loop-less
     loop-again
-    returns-2)
+    returns-3)

@@ -1,40 +1,60 @@
--- Over the fours of the pair; one that was passed has no such row.
+-- Written from Proof.tmpl by 'prove expand': edit that file.
+-- The two rows, then the eights of the pair; one that was passed has no such row.
 use borrow.Author.Needs.{needs}
-use mathlib.Core.Path.{_≡_, sym, _∙_}
+use Prim.Native.Nat.{_<_}
+use mathlib.Core.Bool.{_||_, _&&_}
+use mathlib.Core.Path.{_≡_, refl, sym, ap, _∙_}
 use native.Mathlib.Omega.{arith}
+use Rattle.paper_lower.specs.Sets.{has}
 use Rattle.paper_lower.specs.Lists.{someBelow, holds}
 use Rattle.paper_lower.specs.Policy.{isFor}
-use Rattle.policy.specs.Layout.{rowIs}
+use Rattle.policy.specs.Layout.{eightsIn, rowIs}
 use Rattle.policy.specs.Reading.{policyOf}
-use Rattle.policy_permissions.proofs.Fours.{inFours, four-found, four-past, no-fours, suits-by-fours}
-use Rattle.sets.proofs.SetLaws.{minus-less}
+use Rattle.policy_permissions.proofs.Eights.{inEights, eight-found, eight-past, no-eights, suits-by-word}
+use Rattle.sets.proofs.SetLaws.{minus-less, minus-lt, member-below}
 use Rattle.policy_permissions.proofs.pair_declared.Statement.{statement}
 use Rattle.policy_permissions.proofs.pair_declared.Tie as tie
 
 abbrev Inv-loop : tie.InvT-loop
-Inv-loop p operation object left₀ left =
-    someBelow 256 (λ i. holds (isFor operation object) (policyOf p .permissions .declared i)) ≡ inFours (left .bits) (rowIs p operation object)
+Inv-loop p operation object w left₀ left =
+    (someBelow 256 (λ i. holds (isFor operation object) (policyOf p .permissions .declared i)) ≡
+    inEights (left .bits) (rowIs p operation object)) ×
+    (left .bits < 4294967296)
 
 abbrev μ-loop : tie.MeasureT-loop
-μ-loop p operation object left₀ left = left .bits
+μ-loop p operation object w left₀ left = left .bits
 
-fours-for-requires : tie.Need-fours-for-requires Inv-loop μ-loop
-fours-for-requires c κs = search needs
+listing-for-requires : tie.Need-listing-for-requires Inv-loop μ-loop
+listing-for-requires c κs = search needs
+
+two-suit-requires : tie.Need-two-suit-requires Inv-loop μ-loop
+two-suit-requires c κs = search needs
+
+returns : tie.Need-returns Inv-loop μ-loop
+returns c =
+    sym (suits-by-word _ _ _ (c .before .before .listing-for .ensures) (c .before .two-suit .ensures) refl
+    ∙ ap (λ t. t || inEights (eightsIn (c .before .before .listing-for .result)) (rowIs (c .before .before .before .before .args .p .now) (c .before .before .before .before .args .operation) (c .before .before .before .before .args .object))) (c .if1 .taken))
+
+eights-in-requires : tie.Need-eights-in-requires Inv-loop μ-loop
+eights-in-requires c κs = search needs
 
 loop-holds : tie.Need-loop-holds Inv-loop μ-loop
-loop-holds c = suits-by-fours _ _ _ (c .fours-for .ensures)
+loop-holds c = (
+  suits-by-word _ _ _ (c .before .before .before .listing-for .ensures) (c .before .before .two-suit .ensures) (c .eights-in .ensures .0)
+      ∙ ap (λ t. t || inEights (c .eights-in .result .bits) (rowIs (c .before .before .before .before .before .args .p .now) (c .before .before .before .before .before .args .operation) (c .before .before .before .before .before .args .object))) (c .before .if1 .left),
+  c .eights-in .ensures .1,
+)
 
 member-requires : tie.Need-member-requires Inv-loop μ-loop
 member-requires c κs = search needs
 
-four-suits-requires : tie.Need-four-suits-requires Inv-loop μ-loop
-four-suits-requires c κs = search needs
+eight-suit-requires : tie.Need-eight-suit-requires Inv-loop μ-loop
+eight-suit-requires c κs = let h = member-below 32 _ _ (c .before .before .before .loop .inv .1) (c .member .ensures .0) in search needs
 
-returns : tie.Need-returns Inv-loop μ-loop
-returns c =
-    let loop = c .before .before .before .before .before .loop in
-    let member = c .before .before .member in
-    sym (loop .inv ∙ four-found _ _ (member .result) (member .ensures .1) (member .ensures .0) (sym (c .before .four-suits .ensures) ∙ c .if2 .taken))
+returns-2 : tie.Need-returns-2 Inv-loop μ-loop
+returns-2 c =
+    sym (c .before .before .before .before .before .loop .inv .0 ∙ eight-found _ _ (c .before .before .member .result) (member-below 32 _ _ (c .before .before .before .before .before .loop .inv .1) (c .before .before .member .ensures .0)) (c .before .before .member .ensures .0)
+    (sym (c .before .eight-suit .ensures) ∙ c .if3 .taken))
 
 without-requires : tie.Need-without-requires Inv-loop μ-loop
 without-requires c κs = search needs
@@ -43,13 +63,13 @@ loop-less : tie.Need-loop-less Inv-loop μ-loop
 loop-less c = rw (c .without .ensures) (minus-less _ _ (c .before .before .before .member .ensures .0))
 
 loop-again : tie.Need-loop-again Inv-loop μ-loop
-loop-again c =
-    let loop = c .before .before .before .before .before .before .loop in
-    let member = c .before .before .before .member in
-    rw (c .without .ensures) (loop .inv ∙ four-past _ _ (member .result) (sym (c .before .before .four-suits .ensures) ∙ c .before .if2 .left))
+loop-again c = (
+  rw (c .without .ensures) (c .before .before .before .before .before .before .loop .inv .0 ∙ eight-past _ _ (c .before .before .before .member .result) (sym (c .before .before .eight-suit .ensures) ∙ c .before .if3 .left)),
+  rw (c .without .ensures) (minus-lt 32 _ _ (c .before .before .before .before .before .before .loop .inv .1)),
+)
 
-returns-2 : tie.Need-returns-2 Inv-loop μ-loop
-returns-2 c = sym (c .before .before .loop .inv ∙ no-fours _ _ (omega arith))
+returns-3 : tie.Need-returns-3 Inv-loop μ-loop
+returns-3 c = sym (c .before .before .loop .inv .0 ∙ no-eights _ _ (omega arith))
 
 pub pair-declared-spec : {M : Type 1} → statement M
 pair-declared-spec =
@@ -57,12 +77,15 @@ pair-declared-spec =
     (tie.spec
     Inv-loop
     μ-loop
-    fours-for-requires
+    listing-for-requires
+    two-suit-requires
+    returns
+    eights-in-requires
     loop-holds
     member-requires
-    four-suits-requires
-    returns
+    eight-suit-requires
+    returns-2
     without-requires
     loop-less
     loop-again
-    returns-2)
+    returns-3)

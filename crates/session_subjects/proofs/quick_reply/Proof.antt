@@ -1,6 +1,8 @@
 -- Written from Proof.tmpl by 'prove expand': edit that file.
--- Nothing is told where walls are kept; where none is, no wall stands between, and each way out is the first check of the definition that applies.
+-- Nothing is told where walls are kept or an eight is listed; where none is, no wall stands between, and each way out is the first check of the definition
+-- that applies.
 use mathlib.Core.Path.{refl, sym, _∙_}
+use native.Mathlib.Omega.{arith}
 use borrow.Author.Needs.{needs}
 use Rattle.paper_lower.specs.Sessions.{checkChecks}
 use Rattle.sessions.specs.Reading.{sessionsOf}
@@ -21,40 +23,37 @@ returns-2 : tie.Need-returns-2
 unfolding checkChecks
 returns-2 c = λ _. simp (← c .before .live .ensures, c .if2 .taken)
 
+listing-for-requires : tie.Need-listing-for-requires
+listing-for-requires c κs = search needs
+
+returns-3 : tie.Need-returns-3
+returns-3 c = λ h. absurd (h refl)
+
 active-requires : tie.Need-active-requires
 active-requires c κs = search needs
 
 down-requires : tie.Need-down-requires
 down-requires c κs = search needs
 
-allowed-requires : tie.Need-allowed-requires
-allowed-requires c κs = search needs
-
-returns-3 : tie.Need-returns-3
-unfolding checkChecks
-returns-3 c =
-    let live = c .before .before .before .before .before .live in
-    let if2 = c .before .before .before .before .if2 in
-    let active = c .before .before .before .active in
-    λ _. simp (← live .ensures, if2 .left, ← active .ensures, ← c .before .before .down .ensures, ← c .before .allowed .ensures, c .if3 .taken)
+allowed-by-two-requires : tie.Need-allowed-by-two-requires
+allowed-by-two-requires c κs = ((c .before .before .before .before .before .before .before .before .before .before .pre .0, c .before .before .before .before .before .before .before .before .before .before .pre .1 .1 .1), (c .before .before .before .listing-for .ensures, omega arith))
 
 returns-4 : tie.Need-returns-4
 unfolding checkChecks
-returns-4 c =
-    let wall-count = c .before .before .before .before .before .before .before .wall-count in
-    let if1 = c .before .before .before .before .before .before .if1 in
-    let live = c .before .before .before .before .before .live in
-    let if2 = c .before .before .before .before .if2 in
-    let active = c .before .before .before .active in
-    let z = c .before .before .before .before .before .before .before .before .before .before .args in
+returns-4 c = λ _. simp (← c .before .before .before .before .before .before .before .live .ensures, c .before .before .before .before .before .before .if2 .left, ← c .before .before .before .active .ensures, ← c .before .before .down .ensures, ← c .before .allowed-by-two .ensures, c .if4 .taken)
+
+returns-5 : tie.Need-returns-5
+unfolding checkChecks
+returns-5 c =
+    let z = c .before .before .before .before .before .before .before .before .before .before .before .before .args in
     λ _. simp (
-      ← live .ensures,
-      if2 .left,
-      ← active .ensures,
+      ← c .before .before .before .before .before .before .before .live .ensures,
+      c .before .before .before .before .before .before .if2 .left,
+      ← c .before .before .before .active .ensures,
       ← c .before .before .down .ensures,
-      ← c .before .allowed .ensures,
-      c .if3 .left,
-      no-walls (z .p .now) (z .s .now) (sessionsOf (z .s .now) .user (z .a)) (z .object) (sym (wall-count .ensures .0) ∙ if1 .left),
+      ← c .before .allowed-by-two .ensures,
+      c .if4 .left,
+      no-walls (z .p .now) (z .s .now) (sessionsOf (z .s .now) .user (z .a)) (z .object) (sym (c .before .before .before .before .before .before .before .before .before .wall-count .ensures .0) ∙ c .before .before .before .before .before .before .before .before .if1 .left),
     )
 
 pub quick-reply-spec : {M : Type 1} → statement M
@@ -65,8 +64,10 @@ quick-reply-spec =
     returns
     live-requires
     returns-2
+    listing-for-requires
+    returns-3
     active-requires
     down-requires
-    allowed-requires
-    returns-3
-    returns-4)
+    allowed-by-two-requires
+    returns-4
+    returns-5)

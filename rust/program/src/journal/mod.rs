@@ -51,7 +51,7 @@ pub const VERSION: i64 = 3;
 pub const OLDEST: i64 = 2;
 
 /// The layout of the snapshots' buffers (docs/STATE.md): another one is another number.
-pub const LAYOUT: i64 = 2;
+pub const LAYOUT: i64 = 3;
 
 /// What marks an SQLite file as a journal: "MISH".
 pub const APPLICATION: i64 = 0x4d49_5348;
