@@ -2,7 +2,7 @@
 // blocks that the user is bound to.
 ghost use mathlib.Core.Path.{_≡_};
 ghost use mathlib.Core.Bool.{cond};
-ghost use Prim.Native.Nat.{_+_, _<_};
+ghost use Prim.Native.Nat.{_+_, _<_, _≤_};
 ghost use lib.ListN.{length};
 ghost use Rattle.paper_lower.specs.Sets.{empty};
 ghost use Rattle.paper_lower.specs.Lists.{someBelow};
@@ -129,19 +129,30 @@ pub fn set_bound_to(s: &mut [u64], u: usize, to: Blocks)
     s[BLOCKS + u] = to.blocks;
 }
 
-// Whether user u has a live subject. It asks all of them, side by side.
-pub fn has_subject(s: &[u64], u: u64) -> bool
-    requires { ⌜ (length (now s) ≡ sessionsWords) × (u < 1024) ⌝ }
-    ensures { λ r. ⌜ r ≡ someBelow 128 (subjectOf (sessionsOf (now (s .entry))) u) ⌝ }
+// Whether one of the 64 subjects from there on is a live one of user u. It asks all of them, side by side.
+fn has_among(s: &[u64], u: u64, from: usize) -> bool
+    requires { ⌜ (length (now s) ≡ sessionsWords) × ((u < 1024) × (from ≤ 64)) ⌝ }
+    ensures { λ r. ⌜ r ≡ someBelow 64 (λ k. subjectOf (sessionsOf (now (s .entry))) u (from + k)) ⌝ }
 {
     let mut a = 0;
     let mut hits: u16 = 0;
-    while a < SUBJECTS {
-        let hit = quarter_of(s, u as u16, a);
+    while a < 64 {
+        let hit = quarter_of(s, u as u16, from + a);
         hits = one_more(hit, hits);
         a += 1;
     }
     0 < hits
+}
+
+// Whether user u has a live subject. By halves: all at once would take registers that a callee saves, and every request would pay for them.
+pub fn has_subject(s: &[u64], u: u64) -> bool
+    requires { ⌜ (length (now s) ≡ sessionsWords) × (u < 1024) ⌝ }
+    ensures { λ r. ⌜ r ≡ someBelow 128 (subjectOf (sessionsOf (now (s .entry))) u) ⌝ }
+{
+    if has_among(s, u, 0) {
+        return true;
+    }
+    has_among(s, u, 64)
 }
 
 // The active roles of subject a where it is a live one of user u, else none: both words are read before the choice.

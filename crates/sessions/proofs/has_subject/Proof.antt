@@ -1,84 +1,49 @@
--- What was hit is what the subjects passed have.
-use Prim.Native.Nat.{ℕ, _+_, _≤_, _-_}
-use mathlib.Core.Bool.{Bool, true, false, cond, _||_}
-use mathlib.Core.Path.{_≡_, refl, sym, ap, ap₂, _∙_}
-use native.Mathlib.Numerals.{add-one}
+-- Written from Proof.tmpl by 'prove expand': edit that file.
+-- One half after the other.
+use Prim.Native.Nat.{ℕ, zero, suc, _+_}
+use mathlib.Core.Bool.{Bool, true, false, _||_}
+use mathlib.Core.Path.{_≡_, refl, sym, ap, _∙_, fun-ext}
 use native.Mathlib.Omega.{arith}
 use borrow.Author.Needs.{needs}
-use borrow.Author.Tests.{lt-ltb}
-use lib.Dec.{ltb}
 use Rattle.paper_lower.specs.Lists.{someBelow}
 use Rattle.paper_lower.specs.Roles.{subjectOf}
+use Rattle.paper_lower.proofs.ListLaws.{or-true, or-false}
 use Rattle.sessions.specs.Reading.{sessionsOf}
 use Rattle.sessions.proofs.has_subject.Statement.{statement}
 use Rattle.sessions.proofs.has_subject.Tie as tie
 
-below-up : (f : ℕ → Bool) (k : ℕ) → someBelow (k + 1) f ≡ f k || someBelow k f
+or-assoc : (a b c : Bool) → (a || b) || c ≡ a || (b || c)
+or-assoc true b c = refl
+or-assoc false b c = refl
+
+below-split : (n m : ℕ) (f : ℕ → Bool) → someBelow (m + n) f ≡ someBelow n (λ k. f (m + k)) || someBelow m f
 unfolding someBelow
-below-up f k = rw add-one
+below-split zero m f = let e : m + zero ≡ m = omega arith in ap (λ k. someBelow k f) e
+below-split (suc n) m f =
+    let e : m + suc n ≡ suc (m + n) = omega arith in
+    ap (λ k. someBelow k f) e ∙ ap (λ t. f (m + n) || t) (below-split n m f) ∙ sym (or-assoc (f (m + n)) (someBelow n (λ k. f (m + k))) (someBelow m f))
 
-more-some : (hit : Bool) (n : ℕ) → ltb 0 (cond hit (n + 1) n) ≡ hit || ltb 0 n
-more-some true n = lt-ltb 0 (n + 1) (omega arith)
-more-some false n = refl
+in-halves : (f : ℕ → Bool) {x y : Bool} → x ≡ someBelow 64 (λ k. f (0 + k)) → y ≡ someBelow 64 (λ k. f (64 + k)) → y || x ≡ someBelow 128 f
+in-halves f p q =
+    let same : (λ (k : ℕ). f (0 + k)) ≡ f = fun-ext (λ k. let e : 0 + k ≡ k = omega arith in ap f e) in
+    (λ z. q z || (p ∙ ap (someBelow 64) same) z) ∙ sym (below-split 64 64 f)
 
-more-le : (hit : Bool) (n k : ℕ) → n ≤ k → cond hit (n + 1) n ≤ k + 1
-more-le true n k h = omega arith
-more-le false n k h = omega arith
+has-among-requires : tie.Need-has-among-requires
+has-among-requires c κs = search needs
 
-hit-more : (f : ℕ → Bool) (k n n′ : ℕ) (hit : Bool) → hit ≡ f k → n′ ≡ cond hit (n + 1) n → ltb 0 n ≡ someBelow k f → ltb 0 n′ ≡ someBelow (k + 1) f
-hit-more f k n n′ hit eh en e = ap (ltb 0) en ∙ more-some hit n ∙ ap₂ _||_ eh e ∙ sym (below-up f k)
+returns : tie.Need-returns
+returns c =
+    let f = subjectOf (sessionsOf (c .before .before .before .args .s .now)) (c .before .before .before .args .u) in
+    let high = someBelow 64 (λ k. f (64 + k)) in
+    sym (or-true high) ∙ ap (λ t. high || t) (sym (c .if1 .taken)) ∙ in-halves f (c .before .has-among .ensures) refl
 
-abbrev Inv-loop : tie.InvT-loop
-Inv-loop s u a₀ hits₀ a hits = (a ≤ 128) × ((hits ≤ a) × (ltb 0 hits ≡ someBelow a (subjectOf (sessionsOf s) u)))
+has-among-requires-2 : tie.Need-has-among-requires-2
+has-among-requires-2 c κs = search needs
 
-abbrev μ-loop : tie.MeasureT-loop
-μ-loop s u a₀ hits₀ a hits = 128 - a
-
-loop-holds : tie.Need-loop-holds Inv-loop μ-loop
-unfolding someBelow
-loop-holds c = (search needs, (search needs, refl))
-
-cast-quarter-of : tie.Need-cast-quarter-of Inv-loop μ-loop
-cast-quarter-of c = search needs
-
-quarter-of-requires : tie.Need-quarter-of-requires Inv-loop μ-loop
-quarter-of-requires c κs = search needs
-
-one-more-requires : tie.Need-one-more-requires Inv-loop μ-loop
-one-more-requires c κs = omega arith
-
-add-a : tie.Need-add-a Inv-loop μ-loop
-add-a c = search needs
-
-loop-less : tie.Need-loop-less Inv-loop μ-loop
-loop-less c = search needs
-
-loop-again : tie.Need-loop-again Inv-loop μ-loop
-loop-again c =
-    let args = c .before .before .before .before .before .args in
-    let loop = c .before .before .before .loop in (
-      search needs,
-      (
-        rw (c .one-more .ensures) (more-le (c .before .quarter-of .result) (loop .hits) (loop .a) (loop .inv .1 .0)),
-        hit-more (subjectOf (sessionsOf (args .s .now)) (args .u)) (loop .a) (loop .hits) (c .one-more .result) (c .before .quarter-of .result)
-            (c .before .quarter-of .ensures) (c .one-more .ensures) (loop .inv .1 .1),
-      ),
-    )
-
-returns : tie.Need-returns Inv-loop μ-loop
-returns c = let e : 128 ≡ c .before .loop .a = omega arith in rw e (c .before .loop .inv .1 .1)
+returns-2 : tie.Need-returns-2
+returns-2 c =
+    let f = subjectOf (sessionsOf (c .before .before .before .before .args .s .now)) (c .before .before .before .before .args .u) in
+    sym (or-false (c .has-among2 .result)) ∙ ap (λ t. c .has-among2 .result || t) (sym (c .before .if1 .left)) ∙ in-halves f (c .before .before .has-among .ensures) (c .has-among2 .ensures)
 
 pub has-subject-spec : {M : Type 1} → statement M
-has-subject-spec =
-    tie.close
-    (tie.spec
-    Inv-loop
-    μ-loop
-    loop-holds
-    cast-quarter-of
-    quarter-of-requires
-    one-more-requires
-    add-a
-    loop-less
-    loop-again
-    returns)
+has-subject-spec = tie.close (tie.spec has-among-requires returns has-among-requires-2 returns-2)
