@@ -147,7 +147,7 @@ fn warnings(xml: &[u8]) -> Vec<(Spot, String)> {
         let at = why.valid_up_to();
         let says = match opl::has_encoding(xml) {
             true => "the text says that it is UTF-8",
-            false => "a text that tells no encoding is UTF-8",
+            false => "a text without a declared encoding is UTF-8",
         };
         let byte = xml[at];
         let text = format!(

@@ -235,7 +235,7 @@ pub fn policy(file: &str, tasks: Option<&str>, format: Option<Format>) -> Result
     if tasks.is_some() && format != Format::Opl {
         let file = shown(file);
         return Err(vec![format!(
-            "{file}: task lines go with OPL/XML, and this is none"
+            "{file}: task lines go with OPL/XML, and this is no OPL/XML"
         )]);
     }
     match format {
@@ -299,7 +299,7 @@ fn opl_policy(file: &str, xml: &[u8], tasks: Option<&str>) -> Result<Policy, Wro
         };
         let mut lines = vec![format!("{of}: {}", fault.message)];
         if tasks.is_none() && fault.message.contains("that the task lines do not have") {
-            lines.push("--tasks tells the file of the task lines".to_string());
+            lines.push("--tasks names the file of the task lines".to_string());
         }
         lines
     })?;

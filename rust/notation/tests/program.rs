@@ -95,7 +95,7 @@ fn a_dealer_s_refusal_names_the_file_the_line_and_what_was_found() {
     let unknown = "line 156, column 46: NAMES: a task that the task lines do not have, \"task:1_input_customer_data\"";
     assert!(said.contains(unknown), "{said}");
     assert!(
-        said.contains("--tasks tells the file of the task lines"),
+        said.contains("--tasks names the file of the task lines"),
         "{said}"
     );
 }
@@ -107,7 +107,7 @@ fn names_of_any_bytes_stand_on_one_line() {
         <user_assignments/><permission_assignments/></module_rbac_core_policy>\
         </policy_object_modules></policy_object>";
     let (words, said, status) = run(&["words"], text);
-    let warned = "mishantral-notation: standard input: line 2, column 1: warning: a text that tells no encoding is UTF-8, \
+    let warned = "mishantral-notation: standard input: line 2, column 1: warning: a text without a declared encoding is UTF-8, \
         and the byte 0xff here is not; names are compared byte by byte\n";
     assert_eq!((&said[..], status), (warned, 0));
     assert_eq!(words, "user 0 \"a\\\"\\\\ \\x0a\\xffé\"\n");

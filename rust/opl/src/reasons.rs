@@ -80,7 +80,7 @@ pub(crate) fn reason(text: &[u8], fault: &Fault) -> Option<String> {
     let rest = &text[(fault.place - 1).min(text.len())..];
     if is_utf16(text) && fault.place <= 4 {
         return Some(
-            "the text is UTF-16, and UTF-8 alone is read: iconv -f UTF-16 -t UTF-8 turns it"
+            "the text is UTF-16, and only UTF-8 is read: convert it with iconv -f UTF-16 -t UTF-8"
                 .to_string(),
         );
     }
@@ -99,8 +99,8 @@ pub(crate) fn reason(text: &[u8], fault: &Fault) -> Option<String> {
         Why::Literal("UTF-8") => {
             let encoding = String::from_utf8_lossy(name_of(rest));
             Some(format!(
-                "names are compared byte by byte, so that UTF-8 alone is read: iconv -f {encoding} -t UTF-8 turns a text, whose \
-                 declaration has to say so then"
+                "only UTF-8 is read, because names are compared byte by byte: convert the text with iconv -f {encoding} -t UTF-8, \
+                 and change its declaration"
             ))
         }
         Why::Expected(">") if rest.first() == Some(&b'[') => Some(

@@ -50,7 +50,7 @@ impl<'t> Lines<'t> {
         match self.text.get(self.at) {
             Some(b'\n') => self.at += 1,
             None if !returned => {}
-            _ if returned => return self.fault("a line feed behind the carriage return"),
+            _ if returned => return self.fault("a line feed after the carriage return"),
             _ => return self.fault("the end of the line"),
         }
         Ok(())

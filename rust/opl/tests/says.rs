@@ -285,13 +285,13 @@ fn refusals_in_words() {
     }
     let utf16 = b"\xff\xfe<\0p\0";
     let refusal = read(utf16, b"").unwrap_err();
-    let message = "line 1, column 1: TEXT: expected <policy_object>, found the byte order mark of UTF-16: the text is UTF-16, and UTF-8 alone is read: iconv -f UTF-16 -t UTF-8 turns it";
+    let message = "line 1, column 1: TEXT: expected <policy_object>, found the byte order mark of UTF-16: the text is UTF-16, and only UTF-8 is read: convert it with iconv -f UTF-16 -t UTF-8";
     assert_eq!(refusal.message(utf16), message);
     let policy = policy("<module_sep_duty_policy/>");
     for (lines, message) in [
         (
             "a b\rc d",
-            "line 1, column 5: TEXT: expected a line feed behind the carriage return, found \"c\"",
+            "line 1, column 5: TEXT: expected a line feed after the carriage return, found \"c\"",
         ),
         (
             "a b\n\n",
@@ -313,11 +313,11 @@ fn what_is_left_out_on_purpose_says_why() {
     let head = "<policy_object><policy_object_attributes/><active_modules/><policy_object_modules>";
     let separation = format!("{head}<module_sep_duty_policy>");
     for (text, why) in [
-        ("<\0?\0x\0", "the text is UTF-16, and UTF-8 alone is read: iconv -f UTF-16 -t UTF-8 turns it"),
-        ("\0<\0?", "the text is UTF-16, and UTF-8 alone is read: iconv -f UTF-16 -t UTF-8 turns it"),
+        ("<\0?\0x\0", "the text is UTF-16, and only UTF-8 is read: convert it with iconv -f UTF-16 -t UTF-8"),
+        ("\0<\0?", "the text is UTF-16, and only UTF-8 is read: convert it with iconv -f UTF-16 -t UTF-8"),
         (
             "<?xml version='1.0' encoding='ISO-8859-1'?>",
-            "names are compared byte by byte, so that UTF-8 alone is read: iconv -f ISO-8859-1 -t UTF-8 turns a text, whose declaration has to say so then",
+            "only UTF-8 is read, because names are compared byte by byte: convert the text with iconv -f ISO-8859-1 -t UTF-8, and change its declaration",
         ),
         (
             "<!DOCTYPE policy_object SYSTEM 'a' [<!ENTITY b 'c'>]>",

@@ -10,7 +10,7 @@ fn policy() -> Arg {
         .value_name("POLICY")
         .required(true)
         .value_hint(ValueHint::FilePath)
-        .help("The policy: records, text, or OPL/XML; which of them its content tells")
+        .help("The policy: records, text or OPL/XML, recognised by its content")
 }
 
 fn tasks() -> Arg {
@@ -26,7 +26,7 @@ fn format() -> Arg {
         .long("from")
         .value_name("FORMAT")
         .value_parser(PossibleValuesParser::new(Format::NAMES))
-        .help("What the policy is, where its content does not tell")
+        .help("The form of the policy, if its content does not show it")
 }
 
 fn flag(name: &'static str, help: &'static str) -> Arg {
@@ -38,15 +38,15 @@ fn flag(name: &'static str, help: &'static str) -> Arg {
 
 fn check() -> Command {
     Command::new("check")
-        .about("Judge a policy: accepted, with warnings, or refused, and why")
+        .about("Check a policy: accepted, with warnings, or refused, and why")
         .long_about(
-            "Loads a policy and tells whether it is accepted. Text that is not in the notation is told with file, line and column, every \
-             error; a refused record with its line, its reply and what it clashes with. Of an accepted policy it tells what planning would \
-             want to know: tasks that are open to no role, roles that no user has, tasks that wait for each other, task sets and \
-             partitionings that the clerks there are cannot satisfy, and templates whose orders they cannot finish.",
+            "Loads a policy and says whether it is accepted. Every error of a text is reported with file, line and column; a \
+             refused record with its line, its reply and what it clashes with. For an accepted policy it warns of what a planner \
+             should know: tasks that are open to no role, roles that no user has, tasks that wait for each other, task sets and \
+             partitionings that the clerks cannot satisfy, and templates whose orders they cannot finish.",
         )
         .args([policy(), tasks(), format()])
-        .arg(flag("strict", "Exit with 1 where there is a warning"))
+        .arg(flag("strict", "Exit with 1 if there is a warning"))
         .arg(flag("json", "One object"))
         .after_help(concat!(
             "Example:\n",
@@ -58,23 +58,25 @@ fn check() -> Command {
 
 fn run() -> Command {
     Command::new("run")
-        .about("The desk: load a policy and answer requests, one line a request")
+        .about("The desk: load a policy and answer requests, one line per request")
         .long_about(
-            "Loads a policy and answers requests, each as soon as it is there, on a line of its own: its place, its reply and the request \
-             in words. A refusal is explained: the rule, with its place in the policy, the entries that it met and whose they are, and who \
-             could claim now, which copies of the engine are asked. A granted question is followed by its figures.\n\n\
-             On a terminal, without REQUESTS, there is a prompt with editing, history and completion (Tab); \"help\" there tells more.",
+            "Loads a policy and answers requests, each as soon as it arrives, on a line of its own: its place, its reply and the \
+             request in words. A refusal is explained: the rule, with its place in the policy, the entries that it met and whose \
+             they are, and who could claim now, which copies of the engine are asked. A granted question is followed by its \
+             figures.\n\n\
+             On a terminal, without REQUESTS, there is a prompt with editing, history and completion (Tab); type \"help\" there for \
+             more.",
         )
         .args([policy()])
         .arg(
             Arg::new("requests")
                 .value_name("REQUESTS")
                 .value_hint(ValueHint::FilePath)
-                .help("The requests, text or records; standard input where it is missing or is -"),
+                .help("The requests, text or records; standard input if it is missing or is -"),
         )
         .args([tasks(), format()])
         .arg(flag("brief", "Leave out the explanations"))
-        .arg(flag("json", "One object a line").conflicts_with("plain"))
+        .arg(flag("json", "One object per line").conflicts_with("plain"))
         .arg(flag("plain", "The listing of the desk program, byte for byte"))
         .after_help(concat!(
             "Examples:\n",
@@ -91,12 +93,14 @@ fn test() -> Command {
     Command::new("test")
         .about("Run files of requests with the replies expected of them")
         .long_about(
-            "Runs test files. A file has a policy, as lines of its own or by `policy FILE` (for OPL/XML `policy FILE tasks FILE`; file names \
-             are taken from the test file's folder), then requests, each with the reply expected of it behind `=>`: by number, by name or both, \
-             and `, rule N` where the rule's place matters; behind that of a question its figures, as `, 2 entries, done 0 3` or `, stuck none, free 0 3`. A request without one is expected to be granted. `load => REPLY, record N` says \
-             what the load is expected to answer. A policy behind requests begins anew. Lines between `pile` and `end pile` are requests made in one call, those between \
-             `written` and `end written` the policy that is expected to be written out, and those between `mend` and `end mend` a file to mend, with the refusal of each \
-             line that is dropped behind `=>`.",
+            "Runs test files. A file has a policy, as lines of its own or by `policy FILE` (for OPL/XML `policy FILE tasks FILE`; \
+             file names are relative to the test file's folder), and then requests. The expected reply of a request follows `=>`: \
+             by number, by name or both, and `, rule N` if the rule's place matters; for a question its figures follow, as `, 2 \
+             entries, done 0 3` or `, stuck none, free 0 3`. A request without `=>` is expected to be granted. `load => REPLY, \
+             record N` is the expected answer to the load. A policy after requests starts a new desk. Lines between `pile` and `end \
+             pile` are requests made in one call; those between `written` and `end written` are the policy that is expected to be \
+             written out; those between `mend` and `end mend` are a file to mend, in which `=>` and a refusal follow each line that \
+             is dropped.",
         )
         .arg(
             Arg::new("files")
@@ -107,8 +111,8 @@ fn test() -> Command {
                 .value_hint(ValueHint::FilePath)
                 .help("Test files"),
         )
-        .arg(flag("update", "Write what was answered into the files, in the place of what was expected"))
-        .arg(flag("json", "One object a failure, and a last one with the counts"))
+        .arg(flag("update", "Write the answers into the files, in place of what was expected"))
+        .arg(flag("json", "One object per failure, and a last one with the counts"))
         .after_help(concat!(
             "Example:\n",
             "  mishantral test examples/*.test examples/asks/*.test\n",
@@ -124,11 +128,11 @@ fn convert() -> Command {
     Command::new("convert")
         .about("Write a policy or requests in another form: records, text or OPL/XML")
         .long_about(
-            "Writes a policy (records, text or OPL/XML) as text, as records, or as OPL/XML with its task lines. Text has the names that the policy \
-             gives, or with --numbers numbers alone, as the notation has them. With --requests, a file of requests is written instead, with the \
-             policy's names.\n\n\
-             OPL/XML and its task lines are read back to the same records. What OPL/XML cannot say (senior roles, walls, numbers that a reader \
-             would not give) is told, all of it, and then nothing is written.",
+            "Writes a policy (records, text or OPL/XML) as text, as records, or as OPL/XML with its task lines. Text has the names \
+             that the policy gives, or only numbers with --numbers. With --requests, a file of requests is written instead, with \
+             the policy's names.\n\n\
+             OPL/XML and its task lines are read back to the same records before they are written. If OPL/XML cannot say something \
+             (senior roles, walls, numbers that a reader would not give), all of that is reported and nothing is written.",
         )
         .args([policy(), tasks(), format()])
         .arg(
@@ -141,7 +145,7 @@ fn convert() -> Command {
         )
         .arg(flag("numbers", "Text without names; OPL/XML with names made from numbers"))
         .arg(value("tasks-to", "FILE", "With --to opl, where the task lines go").value_hint(ValueHint::FilePath))
-        .arg(flag("renumber", "With --to opl, also where a reader gives other numbers than the policy has"))
+        .arg(flag("renumber", "With --to opl, write it even if a reader gives other numbers than the policy has"))
         .arg(
             Arg::new("requests")
                 .long("requests")
@@ -149,7 +153,7 @@ fn convert() -> Command {
                 .value_hint(ValueHint::FilePath)
                 .help("Write these requests, which use the policy's names"),
         )
-        .arg(output("Where to; standard output where it is missing"))
+        .arg(output("The file to write (default: standard output)"))
         .after_help(concat!(
             "Examples:\n",
             "  mishantral convert policy.xml --tasks tasks.txt --to text\n",
@@ -166,7 +170,7 @@ fn form() -> Arg {
         .long("to")
         .value_name("FORM")
         .value_parser(PossibleValuesParser::new(["text", "records"]))
-        .help("What to write; where it is missing, text to a file whose name ends in .txt and to standard output, else records")
+        .help("What to write (default: text to standard output and to files whose name ends in .txt, otherwise records)")
 }
 
 fn output(help: &'static str) -> Arg {
@@ -182,22 +186,22 @@ fn write() -> Command {
     Command::new("write")
         .about("Write a policy out as it is after requests, or as a served desk has it now")
         .long_about(
-            "Loads a policy, makes the requests, and writes the policy as it is then: users, roles and permissions that came or went since the load \
-             are in it or are not, sessions and orders are left out. Kinds rise, what is declared and assigned goes by its numbers, rules stay in their \
-             order; so the same policy always gives the same file, and what is written loads to the same policy. Bindings to walls are left out \
-             too. Text has the names that policy and requests give.\n\n\
-             With --journal, the desk is as its journal leaves it; a server may be at work meanwhile.",
+            "Loads a policy, makes the requests, and writes the policy as it is then. Users, roles and permissions that were added \
+             or removed since the load are in it or not; sessions, orders and bindings to walls are left out. Records are sorted by \
+             kind, declarations and assignments by number, and rules keep their order; so the same policy always gives the same \
+             file, and what is written loads to the same policy. Text has the names that policy and requests give.\n\n\
+             With --journal, the desk is as its journal leaves it; a server may be running meanwhile.",
         )
         .args([policy().required(false).required_unless_present("journal")])
         .arg(
             Arg::new("requests")
                 .value_name("REQUESTS")
                 .value_hint(ValueHint::FilePath)
-                .help("The requests, text or records; none where it is missing"),
+                .help("The requests, text or records (default: none)"),
         )
         .args([tasks(), format(), form(), flag("numbers", "Text without names")])
-        .arg(output("Where to; standard output where it is missing"))
-        .arg(journal_file().conflicts_with("policy").help("A served desk's journal, in the place of POLICY"))
+        .arg(output("The file to write (default: standard output)"))
+        .arg(journal_file().conflicts_with("policy").help("A served desk's journal, instead of POLICY"))
         .arg(desk_of_database())
         .after_help(concat!(
             "Examples:\n",
@@ -220,20 +224,20 @@ fn diff() -> Command {
     Command::new("diff")
         .about("What changes from one policy to another, in words")
         .long_about(
-            "Compares two policies of any form. Each difference is a line: + a record that came, - one that went, ~ one that gives the same thing \
-             another value, > a rule whose place among the rules of its kind is another (replies tell that place), = a name or a number \
-             that is another. The order of other records has no meaning and is not told. Where a load refuses one of the policies, that is told \
-             too, behind a !.",
+            "Compares two policies of any form. Each difference is a line: + a record that was added, - one that was removed, ~ one \
+             that gives the same thing another value, > a rule whose place among the rules of its kind changed (replies give that \
+             place), = a name or a number that changed. The order of other records has no meaning and is not compared. If a load \
+             refuses one of the policies, that is listed too, after a !.",
         )
         .arg(file("old", "OLD", "The policy as it was"))
         .arg(file("new", "NEW", "The policy as it is to be"))
-        .args([tasks().help("The task lines of OLD, where it is OPL/XML"), format()])
-        .arg(value("new-tasks", "FILE", "The task lines of NEW, where it is OPL/XML").value_hint(ValueHint::FilePath))
+        .args([tasks().help("The task lines of OLD, if it is OPL/XML"), format()])
+        .arg(value("new-tasks", "FILE", "The task lines of NEW, if it is OPL/XML").value_hint(ValueHint::FilePath))
         .arg(
-            value("by", "WHAT", "By what records are the same: numbers, which journals know, or names; names where both are OPL/XML")
+            value("by", "WHAT", "Compare records by numbers, which journals know, or by names (default: numbers; names if both are OPL/XML)")
                 .value_parser(PossibleValuesParser::new(crate::diff::By::NAMES)),
         )
-        .arg(flag("json", "One object a line"))
+        .arg(flag("json", "One object per line"))
         .after_help(concat!(
             "Example:\n",
             "  mishantral diff policy.txt policy.new.txt\n",
@@ -247,11 +251,12 @@ fn diff() -> Command {
 
 fn mend() -> Command {
     Command::new("mend")
-        .about("Mend a damaged policy file: what a load would accept is kept, the rest is told")
+        .about("Mend a damaged policy file: keep what a load would accept, and report the rest")
         .long_about(
-            "Reads a policy file in order, keeps each record that a load would accept after those kept before it, and drops the rest, each of which is \
-             told with its place and its refusal. What is kept always loads; a file that loads comes out the same, with nothing dropped. An incomplete \
-             last record is told as SHAPE. The damaged file itself is never written to.",
+            "Reads a policy file in order, keeps each record that a load would accept after those kept before it, and drops the \
+             rest. Each dropped record is reported with its place and its refusal. What is kept always loads; a file that loads \
+             comes out unchanged, with nothing dropped. An incomplete last record is reported as SHAPE. The damaged file itself is \
+             never written to.",
         )
         .arg(
             Arg::new("file")
@@ -261,8 +266,8 @@ fn mend() -> Command {
                 .help("The damaged policy: records, or text"),
         )
         .args([format(), form(), flag("numbers", "Text without names")])
-        .arg(output("Where the mended file goes; without it only the report is made, and - is standard output, the report going to standard error"))
-        .arg(flag("json", "The report as one object a line"))
+        .arg(output("Where the mended file goes; without it there is only the report; - is standard output, and then the report goes to standard error"))
+        .arg(flag("json", "The report as one object per line"))
         .after_help(concat!(
             "Examples:\n",
             "  mishantral mend examples/mend/damaged.rec\n",
@@ -286,7 +291,7 @@ fn desk_of_database() -> Arg {
     value(
         "desk",
         "NAME",
-        "Which desk, where the journal is in PostgreSQL (--journal postgresql://..)",
+        "Which desk, if the journal is in PostgreSQL (--journal postgresql://..)",
     )
 }
 
@@ -304,52 +309,53 @@ fn value(name: &'static str, value: &'static str, help: &'static str) -> Arg {
 
 fn serve() -> Command {
     Command::new("serve")
-        .about("A desk on a socket, for many clients, that survives: every request is in its journal before it is answered")
+        .about("Serve a desk to many clients; every request is in its journal before it is answered")
         .long_about(
-            "Answers the requests of many clients by one engine. Each request and its reply are in the journal, an SQLite file, before the \
-             reply is sent. At its start it takes the journal's last snapshot and asks what follows anew: every reply must be the one given \
-             then. A journal of another version or policy, or a damaged one, is refused and stays as it is. It ends when it is killed, at any \
-             moment: docs/SERVE.md tells the forms of requests, the journal's tables and what is promised.",
+            "Answers the requests of many clients with one engine. Each request and its reply are in the journal, an SQLite file, \
+             before the reply is sent. At its start the server loads the journal's last snapshot and asks the later requests again: \
+             every reply must be the one given then. A journal of another version or policy, or a damaged one, is refused and stays \
+             unchanged. The server may be killed at any moment. docs/SERVE.md describes the forms of requests, the journal's tables \
+             and what is promised.",
         )
         .args([policy().required(false), tasks(), format()])
-        .arg(journal_file().help("The journal; it is begun with POLICY where there is none. A file, or a database: postgresql://user@host/database, with --desk"))
+        .arg(journal_file().help("The journal: a file, or a database (postgresql://user@host/database, with --desk). If there is none yet, it is begun with POLICY"))
         .arg(
-            value("desk", "NAME[=JOURNAL]", "A desk of several, each with an engine, a policy and a journal of its own; with a database as --journal its name there")
+            value("desk", "NAME[=JOURNAL]", "One of several desks, each with its own engine, policy and journal; with a database as --journal, the desk's name there")
                 .action(ArgAction::Append),
         )
         .arg(
-            socket("Where clients come: a Unix socket")
+            socket("The Unix socket that clients connect to")
                 .required(false)
                 .required_unless_present("http"),
         )
-        .arg(value("socket-mode", "MODE", "The socket's mode in octal digits; 0600, its owner alone, where it is missing"))
+        .arg(value("socket-mode", "MODE", "The socket's mode in octal digits (default 0600: only its owner)"))
         .arg(value("socket-group", "GROUP", "The socket's group"))
-        .arg(value("http", "ADDRESS", "Answer by HTTP too: at a loopback address, as 127.0.0.1:8080, or a Unix socket, as unix:desk.http (docs/HTTP.md)"))
+        .arg(value("http", "ADDRESS", "Also answer by HTTP, at a loopback address such as 127.0.0.1:8080 or a Unix socket such as unix:desk.http (docs/HTTP.md)"))
         .arg(
-            value("account-header", "NAME", "The header in which a proxy names the account that it has signed in; without it the system says whose a Unix socket's connection is")
+            value("account-header", "NAME", "The header in which a proxy names the account that it has signed in; without it the account is that of the process at the other end of the Unix socket")
                 .requires("http"),
         )
-        .arg(value("http-mode", "MODE", "The mode of HTTP's Unix socket; 0600 where it is missing").requires("http"))
+        .arg(value("http-mode", "MODE", "The mode of HTTP's Unix socket (default 0600)").requires("http"))
         .arg(value("http-group", "GROUP", "The group of HTTP's Unix socket").requires("http"))
-        .arg(number("http-connections", "How many connections of HTTP there may be at once; 1024 where it is missing").requires("http"))
+        .arg(number("http-connections", "The most HTTP connections at once (default 1024)").requires("http"))
         .arg(
-            value("access", "FILE", "Which account may ask what; without it the server's own account and root ask everything, and nobody else comes in")
+            value("access", "FILE", "Which account may ask what; without it only the server's own account and root may connect, and may ask everything")
                 .value_hint(ValueHint::FilePath),
         )
-        .arg(number("group", "How many requests go into one transaction at most; 4096 where it is missing"))
-        .arg(number("snapshot", "Take a snapshot after so many requests; 100000 where it is missing"))
-        .arg(number("keys", "For how many days a request that is sent again with its key is answered from the journal; 30 where it is missing"))
-        .arg(number("clients", "How many clients there may be at once; 1000 where it is missing"))
-        .arg(number("account-clients", "How many clients of one account there may be at once; half of all where it is missing"))
-        .arg(number("question-seconds", "How many seconds a question (who, finish, why) may take; 5 where it is missing"))
-        .arg(number("question-megabytes", "How much memory a question may take; 32 where it is missing"))
-        .arg(flag("together", "Where one desk's journal fails, end all desks"))
+        .arg(number("group", "The most requests in one transaction (default 4096)"))
+        .arg(number("snapshot", "Take a snapshot after this many requests (default 100000)"))
+        .arg(number("keys", "For how many days a request that is sent again with its key is answered from the journal (default 30)"))
+        .arg(number("clients", "The most clients at once (default 1000)"))
+        .arg(number("account-clients", "The most clients of one account at once (default: half of all)"))
+        .arg(number("question-seconds", "The most seconds that a question (who, finish, why) may take (default 5)"))
+        .arg(number("question-megabytes", "The most memory that a question may take, in megabytes (default 32)"))
+        .arg(flag("together", "If one desk's journal fails, end all desks"))
         .arg(
-            value("log", "FORM", "How facts are told on standard error, a line each: as text, as pairs or as objects; text where it is missing")
+            value("log", "FORM", "The form of the log on standard error, one line per event: text, pairs or JSON objects (default text)")
                 .value_parser(PossibleValuesParser::new(crate::report::Form::NAMES)),
         )
         .arg(
-            value("log-level", "LEVEL", "Which facts are told: info adds starts, ends and what is barred, debug every response of HTTP; warn where it is missing")
+            value("log-level", "LEVEL", "Which events are logged: info adds starts, ends and what is barred, debug every HTTP response (default warn)")
                 .value_parser(PossibleValuesParser::new(crate::report::Level::NAMES)),
         )
         .arg(
@@ -357,12 +363,12 @@ fn serve() -> Command {
                 .long("saved")
                 .value_name("HOW")
                 .value_parser(PossibleValuesParser::new(["full", "normal", "replicated"]))
-                .help("full: what is answered survives a failure of power; normal: it survives the program's end; replicated: a synchronous standby of the database has it too"),
+                .help("full: what was answered survives a power failure; normal: it survives the end of the program; replicated: a synchronous standby of the database has it too (default full)"),
         )
-        .arg(flag("standby", "Desks that another server has are watched, and taken over when that is silent; a database as --journal"))
-        .arg(number("takeover", "With a database: a server that is silent for so many seconds has lost its desks; 5 where it is missing"))
-        .arg(value("share", "K/N", "With --standby: this is server K of N, which share the desks by their numbers; each takes its own at once, and others' when nobody does").requires("standby"))
-        .arg(value("server", "NAME", "How clients find this server, as those are told who reach another one; host and socket where it is missing"))
+        .arg(flag("standby", "With a database: watch desks that another server has, and take them over when it is silent"))
+        .arg(number("takeover", "With a database: a server that is silent for this many seconds loses its desks (default 5)"))
+        .arg(value("share", "K/N", "With --standby: this is server K of N, which share the desks by their numbers; each takes its own desks at once, and others if nobody serves them").requires("standby"))
+        .arg(value("server", "NAME", "The name of this server that clients of another server are given (default: host and socket)"))
         .after_help(concat!(
             "Examples:\n",
             "  mishantral serve examples/named.txt --journal desk.db --socket desk.sock     # the first time\n",
@@ -390,35 +396,34 @@ fn ask() -> Command {
     Command::new("ask")
         .about("Send requests to a desk that is served, and print its replies")
         .long_about(
-            "Sends lines to a desk and prints a reply for each: its number, the reply, and the figures of a question. A line may be a \
-             request, or one of the questions `who ORDER TASK`, `finish ORDER`, `finish all`, `why REQUEST` and `journal`. Whom the desk \
-             takes the sender for is the system's word: the account that runs this program. Each request has a key: where the \
-             connection is lost, what was not answered is sent again, and nothing is done twice.",
+            "Sends lines to a served desk and prints the reply to each: its number, the reply, and the figures of a question. A \
+             line is a request, or one of the questions `who ORDER TASK`, `finish ORDER`, `finish all`, `why REQUEST` and \
+             `journal`. The desk knows the sender by the account that runs this program. Each request has a key: if the connection \
+             is lost, requests that were not answered are sent again, and nothing is done twice.",
         )
-        .arg(socket("The server's socket; of several, given one by one, the one that has the desk answers").action(ArgAction::Append))
+        .arg(socket("The server's socket; may be given several times, and the server that has the desk answers").action(ArgAction::Append))
         .arg(
-            value("retry", "SECONDS", "How long a server that is gone is looked for again; 10 where it is missing, and 0 for not at all")
+            value("retry", "SECONDS", "How long to try to reach a server that is gone (default 10, 0: do not try again)")
                 .value_parser(clap::value_parser!(u64)),
         )
-        .arg(value("desk", "NAME", "Which desk, where there are several"))
-        .arg(value("as", "ACCOUNT", "The account that is spoken for: allowed to accounts that speak for everyone"))
+        .arg(value("desk", "NAME", "Which desk, if there are several"))
+        .arg(value("as", "ACCOUNT", "Speak for this account; only accounts that speak for everyone may do so"))
         .arg(flag("why", "Explain each refusal, as `run` does"))
-        .arg(flag("strict", "Exit status 1 where a request is refused"))
-        .arg(flag("json", "One object a line"))
+        .arg(flag("strict", "Exit with 1 if a request is refused"))
+        .arg(flag("json", "One object per line"))
         .arg(
             Arg::new("lines")
                 .value_name("LINE")
                 .action(ArgAction::Append)
                 .num_args(0..)
-                .help("Requests, a line each; standard input where there is none"),
+                .help("Requests, one line each (default: standard input)"),
         )
         .after_help(concat!(
             "Examples:\n",
             "  mishantral ask --socket desk.sock 'claim 1 7 sign' 'done 1 7 sign'\n",
             "  mishantral ask --socket desk.sock --why 'claim 1 7 sign'\n",
             "\n",
-            "Exit status: 0 answered, whatever the replies; 1 with --strict, where one is a refusal; 2 where a line is wrong, barred or not \
-             done, or the desk cannot be reached.",
+            "Exit status: 0 answered, whatever the replies; 1 with --strict, if one is a refusal; 2 if a line is wrong, barred or not done, or the desk cannot be reached.",
         ))
 }
 
@@ -426,10 +431,10 @@ fn journal() -> Command {
     Command::new("journal")
         .about("Print a desk's journal, check it, or seal it")
         .long_about(
-            "Prints the requests of a journal with their replies, those that meet every option given. With --check, the whole journal is \
-             asked anew from its load on, and every reply, sum and snapshot compared. With --seal, the number of the last request and its sum \
-             are printed: kept where nobody who can write the journal can write, they show with --check --seal whatever was changed or cut \
-             before them. A server may be at work meanwhile.",
+            "Prints the requests of a journal with their replies, if they meet every option given. With --check, all requests are \
+             asked again from the load on, and every reply, sum and snapshot is compared. With --seal, the number of the last \
+             request and its sum are printed. Keep them where nobody who can write the journal can write: then --check --seal shows \
+             whatever was changed or cut before that request. A server may be running meanwhile.",
         )
         .arg(
             Arg::new("file")
@@ -439,23 +444,23 @@ fn journal() -> Command {
                 .help("The journal: a file, or a database with --desk"),
         )
         .arg(
-            socket("Read it through the desk that is served here: for accounts that may read it, and cannot open its file")
+            socket("Read it through the desk that is served here, for accounts that may read it but cannot open its file")
                 .required(false)
                 .conflicts_with_all(["file", "check"]),
         )
-        .arg(value("desk", "NAME", "Which desk: with --socket where there are several, or of a journal in PostgreSQL"))
-        .arg(value("order", "ORDER", "Requests about this order: by number, or every opening that had the name"))
+        .arg(value("desk", "NAME", "Which desk: with --socket if there are several, or of a journal in PostgreSQL"))
+        .arg(value("order", "ORDER", "Requests about this order: by number, or by name, for every opening that had it"))
         .arg(number("opening", "Requests about the order that this request opened"))
         .arg(value("user", "USER", "Requests about this user, or one of the user's subjects"))
         .arg(value("task", "TASK", "Requests about this task"))
         .arg(value("account", "ACCOUNT", "Requests of this account"))
-        .arg(flag("barred", "What accounts asked and may not, in the place of requests"))
-        .arg(value("reply", "REPLY", "With this reply, by number or name; `refused`: all but GRANTED"))
+        .arg(flag("barred", "What accounts asked and may not ask, instead of requests"))
+        .arg(value("reply", "REPLY", "Requests with this reply, by number or name; `refused`: all but GRANTED"))
         .arg(value("since", "TIME", "From this time on, UTC: 2026-11-15, or '2026-11-15 20:31'"))
         .arg(value("until", "TIME", "Before this time"))
-        .arg(number("last", "The last so many of these"))
-        .arg(flag("json", "One object a line"))
-        .arg(flag("check", "Ask everything anew and compare"))
+        .arg(number("last", "Only the last N of these"))
+        .arg(flag("json", "One object per line"))
+        .arg(flag("check", "Ask everything again and compare"))
         .arg(
             value("seal", "SEAL", "Print the journal's seal; with --check, the seal that it must have")
                 .num_args(0..=1)
@@ -478,8 +483,8 @@ fn who() -> Command {
     Command::new("who")
         .about("Who of those signed in could claim a task of an order now")
         .long_about(
-            "Prints the live subjects whose claim would be granted now, which copies of the engine are asked. The desk is as its journal leaves \
-             it; a server may be at work meanwhile.",
+            "Prints the live subjects whose claim would be granted now, as copies of the engine answer. The desk is as its journal \
+             leaves it; a server may be running meanwhile.",
         )
         .arg(Arg::new("order").value_name("ORDER").required(true).help("The order, by number or name"))
         .arg(Arg::new("task").value_name("TASK").required(true).help("The task, by number or name"))
@@ -498,19 +503,20 @@ fn finish() -> Command {
     Command::new("finish")
         .about("Whether those signed in can still finish an order: a plan, or why there is none")
         .long_about(
-            "Searches for a plan by which those signed in, or the users of a list, finish an order: every task of it done, and the order ended. \
-             Every step of a plan is granted by a copy of the engine. A plan may activate further roles of theirs and release what is \
-             held; it signs nobody out, and signs in those of a list who are not. Where there is none it is said which task nobody can do, which \
-             rules stand in the way, and with whom it could be done. The search is exhaustive up to a bound of claims tried; where that is \
-             reached it is said. With --all, every open order is looked at, each by itself, and those are named that will lie.",
+            "Searches for a plan by which those signed in, or the users of a list, finish an order: every task of it done, and the \
+             order ended. Every step of a plan is granted by a copy of the engine. A plan may activate more of their roles and \
+             release what is held; it signs nobody out, and signs in users of the list who are not signed in. If there is no plan, \
+             it says which task nobody can do, which rules are in the way, and with whom it could be done. The search is exhaustive \
+             up to a bound of claims tried; if that is reached, it says so. With --all, it looks at every open order by itself, and \
+             names those that will be stuck.",
         )
         .arg(Arg::new("order").value_name("ORDER").required_unless_present("all").help("The order, by number or name"))
         .arg(flag("all", "Every open order").conflicts_with("order"))
         .arg(journal_file().required(true).help("The desk's journal: a file, or postgresql://.."))
         .arg(desk_of_database())
-        .arg(value("with", "USERS", "These users, by number or name with commas between, in the place of those signed in"))
-        .arg(number("tries", "How many claims are tried at most; 5000000 where it is missing"))
-        .arg(flag("json", "One object an order"))
+        .arg(value("with", "USERS", "These users, by number or name, separated by commas, instead of those signed in"))
+        .arg(number("tries", "The most claims to try (default 5000000)"))
+        .arg(flag("json", "One object per order"))
         .after_help(concat!(
             "Examples:\n",
             "  mishantral finish mill_7 --journal desk.db\n",
@@ -522,12 +528,13 @@ fn finish() -> Command {
 
 fn whatif() -> Command {
     Command::new("whatif")
-        .about("The requests of a journal under another policy: which replies would be others")
+        .about("The requests of a journal under another policy: which replies would differ")
         .long_about(
-            "Asks every request of a journal once more, of an engine with another policy, and tells which replies would be others: by the kind of the \
-             requests, the reply that was given, the one that would be, and the rules of both, with the first examples and the clerks whom that \
-             concerns; and which orders would not have been opened. A request about a user, a subject or an order that an earlier difference has \
-             made another is told as one that follows. Nothing is written, and a server may be at work meanwhile.",
+            "Asks every request of a journal again, of an engine with another policy, and says which replies would differ: by the \
+             kind of the requests, the reply that was given, the one that would be, and the rules of both, with the first examples \
+             and the clerks concerned; and which orders would not have been opened. A request about a user, a subject or an order \
+             that an earlier difference changed counts as one that follows. Nothing is written, and a server may be running \
+             meanwhile.",
         )
         .arg(journal_file().required(true).help("The desk's journal: a file, or postgresql://.."))
         .arg(desk_of_database())
@@ -538,8 +545,8 @@ fn whatif() -> Command {
             flag("present", "Compare no request: tell whether the desk as it is now, with its users, sessions and open orders, fits under the other policy")
                 .conflicts_with("since"),
         )
-        .arg(number("examples", "How many examples of each are told; 3 where it is missing"))
-        .arg(flag("json", "One object for each, and one for all"))
+        .arg(number("examples", "The most examples of each (default 3)"))
+        .arg(flag("json", "One object for each difference, and one for all"))
         .after_help(concat!(
             "Example:\n",
             "  mishantral whatif --journal desk.db --policy policy.new.txt\n",
@@ -548,21 +555,21 @@ fn whatif() -> Command {
             "    would be refused by task set 1 of repair sign (policy.new.txt, line 12)\n",
             "    request 1523, 2026-11-03 07:12:44, anna: claim am mill_7 sign\n",
             "\n",
-            "Exit status: 0 told; 1 the policy or the journal is refused, or with --present something does not fit; 2 wrong use.",
+            "Exit status: 0 done; 1 the policy or the journal is refused, or with --present something does not fit; 2 wrong use.",
         ))
 }
 
 fn moving() -> Command {
     Command::new("move")
-        .about("A desk with open orders brought under another policy, into a new journal")
+        .about("Bring a desk with open orders under another policy, into a new journal")
         .long_about(
-            "Begins a journal with another policy and brings the desk's present into it by ordinary requests, each asked of the engine and granted: \
-             users and roles, what walls bind users to, open orders with their entries, and sessions with all roles that they have had active. Names, \
-             keys, openings and the time of each entry come along, so that `holds` and the audit trail cross the move. The order in which entries can be \
-             entered under the new rules is searched for.\n\n\
-             All of it moves, or nothing is written: what stands in the way is told in words, with the rule and its line. --leave keeps orders behind on \
-             the old journal, which stays as it is. The old desk must not be served meanwhile; with --dry-run it may be. Killed at any moment, the new \
-             journal is whole or absent.",
+            "Begins a journal with another policy and brings what the desk holds now into it by ordinary requests, each granted by \
+             the engine: users and roles, what walls bind users to, open orders with their entries, and sessions with all roles \
+             that they have had active. Names, keys, openings and the time of each entry come along, so `holds` and the audit trail \
+             continue across the move. The order in which entries can be entered under the new rules is searched for.\n\n\
+             Either all of it moves, or nothing is written and the obstacles are listed, with the rule and its line. --leave keeps \
+             orders behind on the old journal, which stays unchanged. The old desk must not be served meanwhile; with --dry-run it \
+             may be. If the move is killed at any moment, the new journal is complete or absent.",
         )
         .arg(journal_file().required(true).help("The desk's journal: a file, or postgresql://.."))
         .arg(desk_of_database())
@@ -576,8 +583,8 @@ fn moving() -> Command {
                 .required_unless_present("dry-run")
                 .help("The new journal, which must not be there yet: a file, or postgresql://..#NAME"),
         )
-        .arg(flag("dry-run", "Tell what would be moved, and what stands in the way; nothing is written"))
-        .arg(value("leave", "ORDERS", "Leave these orders behind: numbers or names, with commas between"))
+        .arg(flag("dry-run", "Say what would be moved, and what is in the way; nothing is written"))
+        .arg(value("leave", "ORDERS", "Leave these orders behind: numbers or names, separated by commas"))
         .arg(
             value("users", "WHOSE", "as-now: users and roles as the desk has them now, with all changes since its load; from-policy: as the new policy has them")
                 .value_parser(["as-now", "from-policy"])
@@ -594,7 +601,7 @@ fn moving() -> Command {
             "    mill_7: the entry of anna for sign would break task set 1 of repair sign (new.txt, line 12)\n",
             "    --leave 7 would leave these orders on desk.db\n",
             "\n",
-            "Exit status: 0 moved, or could be; 1 something stands in the way, or the policy or the journal is refused; 2 wrong use.",
+            "Exit status: 0 moved, or could be; 1 something is in the way, or the policy or the journal is refused; 2 wrong use.",
         ))
 }
 
@@ -607,43 +614,44 @@ fn hours(word: &str) -> Result<f64, String> {
 
 fn holds() -> Command {
     Command::new("holds")
-        .about("How long orders lie between two tasks, and why")
+        .about("How long orders wait between two tasks, and why")
         .long_about(
-            "Measures, for each opening of an order, the hold between two of its tasks: from the moment at which the first is done to the moment at \
-             which the second is claimed. The journal is asked anew from its load on, and the time of each hold is split, exactly, into: nobody could \
-             (some were signed in, and the engine would have refused each of them; by which rule), somebody could (who, and for how long), nobody signed \
-             in, and held.\n\n\
-             What counts:\n\
-             - The claim that ends a hold is the one by which the second task is first done, or by which it is held at the end of the journal. A \
-             claim that is released ends nothing; the time until its release is part of the hold, as held.\n\
-             - Where the first task was done more than once, the hold begins with the last time before that claim.\n\
-             - An opening has one hold at most. Order numbers come again: an opening is known by the request that opened it.\n\
-             - Orders that still lie are counted apart, with the time up to the journal's last request; so are orders that were ended unclaimed. Medians \
-             and the like are of the holds that ended with a claim: each is the length of a hold that was measured, the shortest that at least half \
-             of them do not exceed.\n\
+            "Measures, for each opening of an order, the hold between two of its tasks: from the moment at which the first is done \
+             to the moment at which the second is claimed. The journal is replayed from its load on, and the time of each hold is \
+             split, exactly, into: nobody could (some were signed in, and the engine would have refused each of them; by which \
+             rule), somebody could (who, and for how long), nobody signed in, and held.\n\n\
+             What counts:\n\n\
+             - The claim that ends a hold is the one with which the second task is first done, or with which it is held at the end \
+             of the journal. A claim that is released does not end it; the time until its release is part of the hold, as held.\n\
+             - If the first task was done more than once, the hold begins with the last time before that claim.\n\
+             - An opening has at most one hold. Order numbers are used again, so an opening is identified by the request that \
+             opened it.\n\
+             - Orders that are still waiting are counted separately, with the time up to the journal's last request; so are orders \
+             that were ended unclaimed. Medians and other figures are about the holds that ended with a claim: each is the length \
+             of a hold that was measured, the shortest that at least half of them do not exceed.\n\
              - A hold belongs to the period in which it began.\n\n\
-             A server may be at work meanwhile. What is read is the journal as it was when the command began.",
+             A server may be running meanwhile. The journal is measured as it was when the command began.",
         )
         .arg(journal_file().required(true).help("The desk's journal: a file, or postgresql://.."))
         .arg(desk_of_database())
-        .arg(value("from", "TASKS", "The task that is done first, by name or number; with several templates one task of each, with commas between").required(true))
+        .arg(value("from", "TASKS", "The task that is done first, by name or number; with several templates one task of each, separated by commas").required(true))
         .arg(value("to", "TASKS", "The task that is claimed next, of the same template; the same number of them").required(true))
         .arg(
-            value("end", "WHEN", "What ends a hold: the claim of the second task (where it is missing), or that it is done")
+            value("end", "WHEN", "What ends a hold: the claim of the second task (default), or that it is done")
                 .value_parser(PossibleValuesParser::new(["claim", "done"])),
         )
         .arg(
-            value("by", "WHAT", "By what holds are put together: by when they began (month where it is missing), by the clerk whose claim ended them, or each opening by itself")
+            value("by", "WHAT", "How holds are grouped: by when they began (default: month), by the clerk whose claim ended them, or each opening by itself")
                 .value_parser(PossibleValuesParser::new(crate::holds::By::NAMES)),
         )
         .arg(value("shifts", "SHIFTS", "The shifts: 'day 06:00-14:00, late 14:00-22:00, night 22:00-06:00'"))
-        .arg(value("zone", "OFFSET", "Days and hours at this distance from UTC: +01:00; UTC where it is missing").allow_hyphen_values(true))
+        .arg(value("zone", "OFFSET", "Days and hours at this offset from UTC, such as +01:00 (default UTC)").allow_hyphen_values(true))
         .arg(value("since", "TIME", "Holds that began at this time or later, UTC: 2026-11-15, or '2026-11-15 20:31'"))
         .arg(value("until", "TIME", "Holds that began before this time"))
-        .arg(number("worst", "How many of the longest holds are shown; 10 where it is missing"))
-        .arg(value("plot", "FILE", "Write a picture too, as SVG: holds by period with their parts, orders that lie by hour of the day, and the longest holds").value_hint(ValueHint::FilePath))
+        .arg(number("worst", "How many of the longest holds are shown (default 10)"))
+        .arg(value("plot", "FILE", "Also write a picture, as SVG: holds by period with their parts, waiting orders by hour of the day, and the longest holds").value_hint(ValueHint::FilePath))
         .arg(
-            value("panels", "PANELS", "Which panels the picture has, with commas between; all where it is missing")
+            value("panels", "PANELS", "Which panels the picture has, separated by commas (default: all)")
                 .value_parser(PossibleValuesParser::new(crate::holds::Panel::NAMES))
                 .value_delimiter(',')
                 .action(ArgAction::Append)
@@ -651,11 +659,11 @@ fn holds() -> Command {
         )
         .arg(value("title", "TEXT", "The picture's title").requires("plot"))
         .arg(
-            value("top", "HOURS", "The picture's axis of time goes up to so many hours, so that two pictures compare")
+            value("top", "HOURS", "The time axis of the picture ends at this many hours, so that two pictures can be compared")
                 .value_parser(hours)
                 .requires("plot"),
         )
-        .arg(flag("csv", "CSV: a row a group, with --by opening a row a hold; times in seconds").conflicts_with("json"))
+        .arg(flag("csv", "CSV: one row per group, with --by opening one row per hold; times in seconds").conflicts_with("json"))
         .arg(flag("json", "One object; times in microseconds"))
         .after_help(concat!(
             "Examples:\n",
@@ -677,47 +685,51 @@ fn minutes(word: &str) -> Result<f64, String> {
 
 fn staff() -> Command {
     Command::new("staff")
-        .about("What each shift can finish, who must be there, how many may be away; or a roster played through")
+        .about("What each shift can finish, who must be there, how many may be away; or orders played through a roster")
         .long_about(
-            "Tells, for each template and shift, whether the clerks of the shift can finish every order, from nothing: the smallest crews, the largest K such \
-             that any K of them may be away, and a smallest absence that stops it; a plan (--plan), each request of which a copy of the engine grants. Where \
-             they cannot: which task nobody can do, which rules clash, without which of them it could be finished, and whom or which role one would need. With \
-             --journal the same of each open order, from where it stands. A clerk signs in once and keeps the session, so that dynamic sets hold for all \
-             of an order. The search is exhaustive up to a bound of claims tried; where that is reached it says \"not settled\".\n\n\
-             A file of shifts has a line each, `night 22:00-06:00: 300-303 dirk role:signer`: a name, hours, and clerks by name, number, range or role.\n\n\
-             With --simulate, the orders of a file are played through the policy and the roster, and what happens is written as a journal: `holds` then says how \
-             long they would lie, and why. Clerks sign in when their shift begins, within five minutes, with all roles that they may have active together, and \
-             sign out when it ends and what they are at is done. Whoever is free longest claims the first task that the engine grants: first come first \
-             served, or as --prefer says. A task takes its minutes, from half of them to half as much again, and so it is with the time until somebody notices \
-             it. A claim that a rule of the policy refuses is in the journal once. Every answer is the engine's own; the same seed gives the same requests and answers.",
+            "Says, for each template and shift, whether the clerks of the shift can finish every order from its start: the smallest \
+             crews, the largest K such that any K of them may be away, and a smallest absence that is too much; with --plan a plan, \
+             each request of which a copy of the engine grants. If they cannot: which task nobody can do, which rules clash, \
+             without which of them it could be finished, and whom or which role would be needed. With --journal it says the same of \
+             each open order, from where it stands. A clerk signs in once and keeps the session, so dynamic sets count for the \
+             whole order. The search is exhaustive up to a bound of claims tried; if that is reached, the answer is \"not settled\".\n\n\
+             A file of shifts has one line per shift, `night 22:00-06:00: 300-303 dirk role:signer`: a name, hours, and clerks by \
+             name, number, range or role.\n\n\
+             With --simulate, the orders of a file are played through the policy and the roster, and what happens is written as a \
+             journal: `holds` then says how long they would wait, and why. Clerks sign in within five minutes of the beginning of \
+             their shift, with all roles that they may have active together, and sign out when it ends and their current task is \
+             done. The clerk who has been free longest claims the first task that the engine grants: of the oldest order first, or \
+             as --prefer says. The time that a task takes, and the time until somebody notices it, vary randomly between half and \
+             one and a half times the given one. A claim that a rule of the policy refuses is in the journal once. Every answer is \
+             the engine's own; the same seed gives the same requests and answers.",
         )
         .args([policy().required(false).required_unless_present("journal"), tasks(), format()])
         .arg(
-            value("shift", "NAME=CLERKS", "A shift: night=300-319,325,dirk,role:signer; again for more. All clerks where neither it nor --shifts is there")
+            value("shift", "NAME=CLERKS", "A shift: night=300-319,325,dirk,role:signer; may be given several times (default: all clerks, if there is no --shifts either)")
                 .action(ArgAction::Append)
                 .conflicts_with("simulate"),
         )
         .arg(
-            value("shifts", "FILE", "The shifts, a line each: `night 22:00-06:00: 300-303 dirk role:signer`")
+            value("shifts", "FILE", "The shifts, one line each: `night 22:00-06:00: 300-303 dirk role:signer`")
                 .value_hint(ValueHint::FilePath)
                 .conflicts_with("simulate"),
         )
-        .arg(value("template", "TEMPLATE", "This template alone, by number or name").conflicts_with("simulate"))
+        .arg(value("template", "TEMPLATE", "Only this template, by number or name").conflicts_with("simulate"))
         .arg(
-            number("absent", "Ask whether any K may be away, and no further; exit with 1 where they may not")
+            number("absent", "Only ask whether any K may be away; exit with 1 if they may not")
                 .value_name("K")
                 .conflicts_with("simulate"),
         )
-        .arg(flag("plan", "Tell the plans too").conflicts_with("simulate"))
-        .arg(number("tries", "How many claims are tried at most for each of verdict, crews, absence, clash and remedy; 5000000 where it is missing").conflicts_with("simulate"))
+        .arg(flag("plan", "Print the plans too").conflicts_with("simulate"))
+        .arg(number("tries", "The most claims to try for each of verdict, crews, absence, clash and remedy (default 5000000)").conflicts_with("simulate"))
         .arg(
-            value("plot", "FILE", "Write a picture too, as SVG: what is to be finished, by shifts")
+            value("plot", "FILE", "Also write a picture, as SVG: what can be finished, by shift")
                 .value_hint(ValueHint::FilePath)
                 .conflicts_with("simulate"),
         )
         .arg(flag("json", "One object for each template or order and shift").conflicts_with("simulate"))
         .arg(
-            value("simulate", "ORDERS", "Play these orders: CSV with columns time (2026-11-15 20:31, UTC) and template, where wanted name, and tasks with the minutes that they take")
+            value("simulate", "ORDERS", "Play these orders: CSV with the columns time (2026-11-15 20:31, UTC) and template, optionally name, and tasks with the minutes that they take")
                 .requires("policy")
                 .requires("roster")
                 .requires("journal")
@@ -728,17 +740,17 @@ fn staff() -> Command {
                 .requires("simulate")
                 .value_hint(ValueHint::FilePath),
         )
-        .arg(journal_file().help("The desk whose open orders are asked about; its policy is taken where POLICY is missing. With --simulate: the journal to write; there must be none yet"))
+        .arg(journal_file().help("The desk whose open orders are looked at; its policy is used if POLICY is missing. With --simulate: the journal to write, which must not exist yet"))
         .arg(desk_of_database())
-        .arg(value("minutes", "MINUTES", "How long tasks take, where ORDERS does not say it: test=20,sign=6; else 10 minutes").requires("simulate"))
+        .arg(value("minutes", "MINUTES", "How many minutes tasks take, if ORDERS does not say it: test=20,sign=6 (default 10)").requires("simulate"))
         .arg(
-            value("notice", "MINUTES", "How long it takes until somebody notices that an order came in or went on; 2 where it is missing")
+            value("notice", "MINUTES", "How many minutes until somebody notices that an order arrived or moved on (default 2)")
                 .value_parser(minutes)
                 .requires("simulate"),
         )
-        .arg(value("prefer", "WHAT", "oldest order first (where it is missing), newest, or tasks that come before all others: sign").requires("simulate"))
+        .arg(value("prefer", "WHAT", "oldest order first (default), newest, or tasks that come before all others: sign").requires("simulate"))
         .arg(
-            value("seed", "N", "Another course of chance; 1 where it is missing")
+            value("seed", "N", "The seed of the random numbers (default 1)")
                 .value_parser(clap::value_parser!(u64))
                 .requires("simulate"),
         )
@@ -777,7 +789,7 @@ fn generate() -> Command {
 pub fn command() -> Command {
     Command::new("mishantral")
         .version(env!("CARGO_PKG_VERSION"))
-        .about("Policies judged, requests answered and refusals explained, over a policy engine in which every answer is proved")
+        .about("Checks policies, answers requests and explains refusals, with a policy engine whose every answer is proved")
         .subcommand_required(true)
         .arg_required_else_help(true)
         .max_term_width(110)
@@ -785,7 +797,7 @@ pub fn command() -> Command {
             "Example:\n",
             "  mishantral run examples/listing/policy.txt examples/listing/requests.txt\n",
             "\n",
-            "`mishantral help COMMAND` tells more of a command.\n",
+            "`mishantral help COMMAND` describes a command in full.\n",
             "\n",
             "Exit status: 0 all well; 1 a policy refused or a test failed; 2 wrong use, text errors, or a file that cannot be read ",
             "or written.",

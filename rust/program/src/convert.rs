@@ -76,10 +76,16 @@ pub fn opl(policy: &Policy, numbers: bool, way: Way) -> Result<Written, Stop> {
 /// What cannot be said, a line each, and what would help.
 fn untold(policy: &Policy, unsaid: &[Unsaid]) -> Vec<String> {
     let line = |unsaid: &Unsaid| match unsaid.record {
-        None => format!("{}: OPL/XML cannot say it: {}", policy.file, unsaid.why),
+        None => format!(
+            "{}: OPL/XML cannot express this: {}",
+            policy.file, unsaid.why
+        ),
         Some(at) => {
             let (head, line) = (policy.head(at), policy.line(at));
-            format!("{head}: OPL/XML cannot say it: {line}: {}", unsaid.why)
+            format!(
+                "{head}: OPL/XML cannot express this: {line}: {}",
+                unsaid.why
+            )
         }
     };
     let mut lines: Vec<String> = unsaid.iter().map(line).collect();

@@ -50,7 +50,7 @@ pub fn mended(_: &[u8]) -> Result<Mended, Stop> {
 #[cfg(not(all(mishantral_write, mishantral_mend)))]
 fn older<T>(call: &str) -> Result<T, Stop> {
     wrong(format!(
-        "the proved library that this program is built with has no call that {call}: tools/program builds both anew"
+        "the proved library that this program is built with has no call that {call}: tools/program builds both again"
     ))
 }
 

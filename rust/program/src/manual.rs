@@ -104,8 +104,8 @@ fn section(command: &Command) -> String {
 }
 
 const DESCRIPTION: &str = "Mishantral decides who may hold which roles, who may act in which session, and who may take which task of \
-which order. A policy is records of sixteen bytes, text in the notation (one line a record; names where a policy gives them), or a dealer's \
-OPL/XML with its task lines. docs/PROGRAM.md of the sources tells the notation and more examples.";
+which order. A policy is a file of records (sixteen bytes each), text in the notation (one line per record, with names), or a dealer's OPL/XML \
+with its task lines. docs/PROGRAM.md in the sources describes the notation and has more examples.";
 
 /// The page, in section 1.
 pub fn manual(command: &mut Command) -> String {

@@ -152,7 +152,7 @@ pub fn talk(desk: &mut Desk, listing: &mut Listing) -> Done {
     }
     writeln!(
         listing.out,
-        "Requests, one a line; \"help\" tells more, Tab completes, Ctrl-D ends."
+        "Requests, one per line; \"help\" explains more, Tab completes, Ctrl-D ends."
     )?;
     loop {
         listing.out.flush()?;

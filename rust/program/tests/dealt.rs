@@ -176,8 +176,8 @@ fn what_opl_cannot_say_is_told_and_nothing_is_written() {
     let to_opl = ["convert", &text, "--to", "opl", "-o", xml.to_str().unwrap()];
     let (out, said, status) = run(&to_opl);
     let expected = format!(
-        "mishantral: {text}: OPL/XML cannot say it: 1 of 1 users: a reader numbers users from 0 on in the order of their declarations, and these have other numbers\n\
-         mishantral: {text}: line 4: OPL/XML cannot say it: role lead above role clerk: senior roles are of section 6.2, which is left out\n\
+        "mishantral: {text}: OPL/XML cannot express this: 1 of 1 users: a reader numbers users from 0 on in the order of their declarations, and these have other numbers\n\
+         mishantral: {text}: line 4: OPL/XML cannot express this: role lead above role clerk: senior roles are of section 6.2, which is left out\n\
          mishantral: --renumber writes it with its names, and lets a reader give the numbers\n"
     );
     assert_eq!((format!("{out}{said}"), status), (expected, 1));

@@ -19,7 +19,7 @@ impl Kept {
             ValueRef::Blob(bytes) => Sum::try_from(bytes).ok().map(Kept::Sum),
             _ => None,
         };
-        kept.map_or_else(|| unfit("it is damaged: a sum is none"), Ok)
+        kept.map_or_else(|| unfit("it is damaged: a sum does not have 32 bytes"), Ok)
     }
 }
 

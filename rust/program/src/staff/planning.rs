@@ -269,7 +269,7 @@ fn words(
     }
     writeln!(
         out,
-        "K: so many clerks of the shift may be away, whoever they are"
+        "K: how many clerks of the shift may be away, whoever they are"
     )?;
     for (row, fields) in rows.iter().zip(found) {
         for (shift, outlook) in shifts.iter().zip(fields) {

@@ -94,7 +94,7 @@ fn yes(desk: &Desk, able: &Able, with_plan: bool) -> Vec<String> {
     );
     if crews.least && !crews.whole {
         lines.push(match crews.all.len() {
-            CREWS => format!("  and more: {CREWS} are told"),
+            CREWS => format!("  and more: only {CREWS} are listed"),
             _ => "  whether there are more is not settled".to_string(),
         });
     }

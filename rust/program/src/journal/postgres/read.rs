@@ -215,7 +215,7 @@ fn row(columns: &Columns) -> Result<(Row, Kept), Unfit> {
 }
 
 fn sum(bytes: Vec<u8>) -> Result<Sum, Unfit> {
-    Sum::try_from(&bytes[..]).or_else(|_| unfit("it is damaged: a sum is none"))
+    Sum::try_from(&bytes[..]).or_else(|_| unfit("it is damaged: a sum does not have 32 bytes"))
 }
 
 fn naming(row: &Columns) -> Result<Naming, Unfit> {
