@@ -71,10 +71,23 @@ fn again(options: &Options) -> Result<Asked, Stop> {
     }
 }
 
+/// Why a socket cannot be reached, and what helps.
+fn unreached(why: io::Error) -> String {
+    match why.kind() {
+        io::ErrorKind::PermissionDenied => format!(
+            "{why}: the socket's mode lets only its owner connect, unless `serve` has --socket-mode and --socket-group"
+        ),
+        io::ErrorKind::NotFound | io::ErrorKind::ConnectionRefused => {
+            format!("{why}: no desk is served there")
+        }
+        _ => why.to_string(),
+    }
+}
+
 /// Connects, and says who, which desk and in which form.
 fn greeted(options: &Options, socket: &str) -> Result<Asked, String> {
     let failed = |why: io::Error| why.to_string();
-    let stream = UnixStream::connect(socket).map_err(failed)?;
+    let stream = UnixStream::connect(socket).map_err(unreached)?;
     // A server that is stopped takes connections, and says nothing: another one may have the desk.
     let patience = (options.sockets.len() > 1).then_some(Duration::from_secs(5));
     stream.set_read_timeout(patience).map_err(failed)?;

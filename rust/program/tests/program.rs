@@ -854,6 +854,18 @@ fn a_reader_who_stops_is_no_fault() {
     assert_eq!(String::from_utf8(output.stderr).unwrap(), "");
 }
 
+/// Whoever asks where no desk is served is told so, and not only the system's words.
+#[test]
+fn a_desk_that_is_not_served_is_told() {
+    let socket = room("unserved").join("desk.sock");
+    let socket = socket.to_str().unwrap();
+    let (_, said, status) = run(&["ask", "--socket", socket, "--retry", "0", "finish all"]);
+    let expected = format!(
+        "mishantral: {socket}: No such file or directory (os error 2): no desk is served there\n"
+    );
+    assert_eq!((said, status), (expected, 2));
+}
+
 /// On a terminal, which `script` gives: words are completed with Tab, refusals explained, lines kept in a history.
 #[test]
 fn the_prompt_completes_explains_and_remembers() {
