@@ -69,7 +69,7 @@ pub struct Figures {
     pub permissions: Growth,
     /// A line for each kind of request.
     pub kinds: Vec<Line>,
-    /// Requests in piles, where the library takes them, each behind the same in calls of their own.
+    /// Requests in piles, where the library takes them, each after the same in calls of their own.
     pub piles: Vec<Line>,
     /// Requests by the call that takes any content, where the library has another for settled states.
     pub checked: Vec<Line>,

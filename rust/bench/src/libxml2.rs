@@ -14,7 +14,7 @@ const NOW: c_int = 2;
 
 type Parse = unsafe extern "C" fn(*mut Handler, *mut c_void, *const c_char, c_int) -> c_int;
 
-/// `xmlSAXHandler`: 27 functions, a mark, four pointers; with some room behind.
+/// `xmlSAXHandler`: 27 functions, a mark, four pointers; with some room after.
 #[repr(C)]
 struct Handler {
     functions: [usize; 27],
@@ -56,7 +56,7 @@ impl Libxml2 {
         };
         let mut handler = NO_FUNCTIONS;
         let nobody = std::ptr::null_mut();
-        // SAFETY: the text has this length, and what is lent outlives the call.
+        // SAFETY: the text has this length, and what is passed outlives the call.
         let error = unsafe { (self.0)(&mut handler, nobody, text.as_ptr().cast(), length) };
         error == 0
     }

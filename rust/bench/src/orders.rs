@@ -145,7 +145,7 @@ impl Run {
     }
 }
 
-/// A run over the orders below `orders`, of about so many records, for a desk that was set up so.
+/// A run over the orders below `orders`, of about that many records, for a desk that was set up so.
 pub fn run(
     seed: u64,
     orders: usize,

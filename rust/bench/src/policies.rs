@@ -39,7 +39,7 @@ impl Policy {
         records.into_iter().for_each(|record| self.add(record));
     }
 
-    /// Adds records of so many numbers below `end`, at random, where they are accepted: the numbers.
+    /// Adds records of that many numbers below `end`, at random, where they are accepted: the numbers.
     fn some(
         &mut self,
         random: &mut Random,
@@ -92,7 +92,7 @@ fn scattered_pairs(random: &mut Random, count: u16) -> Vec<(u16, u16)> {
 }
 
 impl People {
-    /// All users and roles, and eight static sets; so many permissions, of which each role has a sixteenth;
+    /// All users and roles, and eight static sets; that many permissions, of which each role has a sixteenth;
     /// users with a subject have three roles, the others one.
     pub fn new(random: &mut Random, permissions: u16) -> People {
         let mut policy = Policy::default();

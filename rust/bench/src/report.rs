@@ -12,7 +12,7 @@ const HISTORY: &str = include_str!("../history.md");
 /// The served desk's figures, which tools/load writes.
 const LOAD: &str = include_str!("../../../docs/load.md");
 
-/// The processor's model, as far as the system tells it.
+/// The processor's model, as far as the system says it.
 fn processor() -> String {
     let kind = std::env::consts::ARCH;
     let told = Command::new("lscpu").env("LC_ALL", "C").output();

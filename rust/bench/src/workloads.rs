@@ -186,7 +186,7 @@ pub fn day() -> Workload {
     }
 }
 
-/// The same with eight orders, while others have so many entries.
+/// The same with eight orders, while others have that many entries.
 pub fn day_among(count: usize) -> Workload {
     let (policy, setup) = (desk().records, [clerks(SUBJECTS), entries(count)].concat());
     let stream = orders::run(SEED, usize::from(WORKED_ON), LENGTH, &policy, &setup);

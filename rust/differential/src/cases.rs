@@ -18,7 +18,7 @@ pub enum Step {
     Pile(Pile),
     /// A question for its figures.
     Question(Question),
-    /// The policy written out, with so many bytes to spare behind the last record; below 0, so many are lacking.
+    /// The policy written out, with that many bytes to spare after the last record; below 0, that many are lacking.
     Write(i64),
     /// A damaged file mended.
     Mend(Mend),
@@ -150,7 +150,7 @@ impl Policy {
         bad.collect()
     }
 
-    /// The refused record, seldom cut or with the good ones behind it.
+    /// The refused record, seldom cut or with the good ones after it.
     fn bad_load(&self, random: &mut Random, refused: &Refused) -> Step {
         let (before, behind) = self.accepted.split_at(refused.after);
         let mut bytes = Policy::bytes(before);

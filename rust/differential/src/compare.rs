@@ -47,7 +47,7 @@ fn unlike(what: &'static str, found: String) -> Result<(), Difference> {
     Err(Difference(vec![(what, found)]))
 }
 
-/// All that the policy is written as, with so many bytes to spare; the output is as long as that makes it.
+/// All that the policy is written as, with that many bytes to spare; the output is as long as that makes it.
 fn written(panel: &Panel, spare: i64) -> Result<(Answer, Vec<u8>), Difference> {
     let mut room = 1 << 14;
     let needed = loop {
@@ -95,7 +95,7 @@ fn loads_to(panel: &Panel, bytes: &[u8], policy: &[u8]) -> Result<(), Difference
 }
 
 /// Has all engines mend a file. What they keep loads to what they hold; a file that loads comes out the same, and no other does; nothing
-/// behind what is written is touched.
+/// after what is written is touched.
 fn mend(panel: &mut Panel, mend: &Mend, coverage: &mut Coverage) -> Result<Answer, Difference> {
     let loads = panel.copy().load(&mend.file)? == (0, 0);
     let no_room =

@@ -67,7 +67,7 @@ fn twice(engine: &mut Engine, step: &Step) -> Answer {
     answer
 }
 
-/// Runs one case over garbage. A panic or a crash is the failure; a difference after a load is told.
+/// Runs one case over garbage. A panic or a crash is the failure; a difference after a load is reported.
 pub fn garbage(seed: u64, number: u64) -> Result<(), String> {
     let mut random = Random::new(seed ^ number.wrapping_mul(0x9e37_79b9_7f4a_7c15));
     let case = Case::random(seed, number);

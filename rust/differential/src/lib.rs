@@ -1,5 +1,5 @@
 //! Engines compared over random cases: every reply, every place of a load, and what a walk through the
-//! public calls tells of the tables afterwards.
+//! public calls says of the tables afterwards.
 //!
 //! The plain engine with both of its ledgers and a slow one always take part, and the proved library does
 //! where its archive was found when the crate `mishantral` was built.

@@ -1,5 +1,5 @@
 //! The orders buffer (docs/STATE.md) read plainly, from its words to orders and entries, or to nothing where its links are broken; and
-//! contents that a day left, laid out anew or broken in one place, on which the proved library must answer by that reading.
+//! contents that a day left, laid out again or broken in one place, on which the proved library must answer by that reading.
 
 use crate::cases::{Case, Step};
 use crate::compare::compare;
@@ -13,10 +13,10 @@ const OPEN: usize = 1;
 const TEMPLATES: usize = 2;
 const CHAINS: usize = 66;
 const DONE: usize = 132;
-/// Entry 1 stands behind this word.
+/// Entry 1 stands after this word.
 const BEFORE: usize = 195;
 
-/// The chains behind those of the instances: of the free entries, and of those set aside.
+/// The chains after those of the instances: of the free entries, and of those set aside.
 const FREE: usize = 64;
 const ASIDE: usize = 65;
 
@@ -108,7 +108,7 @@ fn word(random: &mut Random, e: &Entry, link: u64) -> u64 {
     instance | done << 6 | task << 7 | subject << 13 | user << 20 | link << 32 | junk
 }
 
-/// The same orders and entries laid out anew: in other places and another order of entry, with free entries between them, and with junk
+/// The same orders and entries laid out again: in other places and another order of entry, with free entries between them, and with junk
 /// wherever nothing is read. Some entries are such as no request enters.
 fn laid_out_anew(random: &mut Random, words: &mut [u64], now: Read) {
     let Read { orders, entries } = now;
@@ -299,8 +299,8 @@ pub struct Links {
     pub sound: bool,
 }
 
-/// Runs a case on, over an orders buffer that was laid out anew or damaged. A difference from a slow engine with what the words say, or with
-/// nothing, is told.
+/// Runs a case on, over an orders buffer that was laid out again or damaged. A difference from a slow engine with what the words say, or with
+/// nothing, is reported.
 pub fn links(seed: u64, number: u64) -> Result<Links, String> {
     let mut random = Random::new(seed ^ number.wrapping_mul(0x2545_f491_4f6c_dd1d));
     let case = Case::random(seed, number);

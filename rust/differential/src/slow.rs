@@ -26,7 +26,7 @@ pub enum Place {
     Loop,
     /// Static sets when a role is raised (17).
     Raise,
-    /// A static set that comes behind the assignments (9).
+    /// A static set that comes after the assignments (9).
     StaticSet,
     /// Static sets of those who are assigned a role, or join with roles (4, 32, 34).
     Assign,
@@ -387,7 +387,7 @@ impl Slow {
         first(&[(Unknown, unknown)])
     }
 
-    /// The words of a question that is granted, but for zeros behind them.
+    /// The words of a question that is granted, but for zeros after them.
     fn figures(&self, r: Record) -> Vec<u64> {
         if r.kind() == 60 {
             return self.stuck_and_free(r.a());

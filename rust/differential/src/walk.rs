@@ -6,7 +6,7 @@ use crate::desks::{Difference, Panel};
 use crate::pools::Pools;
 use records::{Record, Set};
 
-/// What the engines answered differently, behind what was asked before it on the same copies.
+/// What the engines answered differently, after what was asked before it on the same copies.
 pub struct Found {
     pub asked: Vec<Step>,
     pub difference: Difference,

@@ -314,7 +314,7 @@ fn a_pile_that_is_answered_wrongly_is_found() {
             0 => rightly(desk, records, answers, at),
             _ => 2,
         },
-        // A byte written behind the last reply.
+        // A byte written after the last reply.
         |desk, records, answers, at| {
             let reply = rightly(desk, records, answers, at);
             if let Some(byte) = answers.get_mut(at + records.len() / 16) {
@@ -357,7 +357,7 @@ fn a_question_that_is_answered_wrongly_is_found() {
             }
             reply
         },
-        // A held task is told as done.
+        // A held task is reported as done.
         |engine, record, answer| {
             let reply = engine.question(record, answer);
             if reply == Reply::Granted && record[0] == 58 {
@@ -366,7 +366,7 @@ fn a_question_that_is_answered_wrongly_is_found() {
             }
             reply
         },
-        // Words behind the figures stay.
+        // Words after the figures stay.
         |engine, record, answer| {
             let before = answer.to_vec();
             let reply = engine.question(record, answer);
@@ -562,7 +562,7 @@ fn a_file_that_is_mended_wrongly_is_found() {
             }
             (reply, kept)
         },
-        // The output behind the last record is emptied.
+        // The output after the last record is emptied.
         |engine, file, output, report| {
             let (reply, kept) = engine.mend(file, output, report);
             if reply == Reply::Granted {

@@ -50,10 +50,10 @@ fn rows(first: &str) -> Vec<Vec<String>> {
     rows
 }
 
-/// A request, the answer that its line tells, and what the line says to it.
+/// A request, the answer that its line says, and what the line says to it.
 type Told = (Vec<u8>, String, String);
 
-/// The policy's records and the requests, each with what stands behind its `#`.
+/// The policy's records and the requests, each with what stands after its `#`.
 fn example(text: &str) -> (Vec<u8>, Vec<Told>) {
     let (mut policy, mut requests) = (Vec::new(), Vec::new());
     for line in text.lines() {

@@ -129,7 +129,7 @@ pub struct Figures {
 pub struct StuckTasks {
     /// The tasks that can never be claimed because of prerequisites: those that wait for each other, and those that wait for these.
     pub stuck: Set,
-    /// The others, in an order in which they can be claimed: each behind its prerequisites, and at each place the lowest number that may
+    /// The others, in an order in which they can be claimed: each after its prerequisites, and at each place the lowest number that may
     /// stand there.
     pub free: Vec<u8>,
 }

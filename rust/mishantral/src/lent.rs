@@ -57,7 +57,7 @@ pub(crate) fn bytes(policy: &[Record]) -> Vec<u8> {
     policy.iter().flat_map(|record| record.0).collect()
 }
 
-/// The bytes of records that stand one behind the other.
+/// The bytes of records that stand one after the other.
 #[cfg(mishantral_pile)]
 pub(crate) fn flat(records: &[Record]) -> &[u8] {
     let length = core::mem::size_of_val(records);
@@ -65,7 +65,7 @@ pub(crate) fn flat(records: &[Record]) -> &[u8] {
     unsafe { core::slice::from_raw_parts(records.as_ptr().cast(), length) }
 }
 
-/// A buffer of so many words, all zero.
+/// A buffer of that many words, all zero.
 pub(crate) fn zeroed(words: u64) -> Box<[u64]> {
     let words = usize::try_from(words).expect("a buffer's length fits a usize");
     vec![0; words].into_boxed_slice()

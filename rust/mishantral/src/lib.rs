@@ -2,7 +2,7 @@
 //!
 //! [`Record`] has a constructor for each kind (docs/RULES.md), and [`Reply`] each reply's number and name.
 //! `Engine` owns the state that the library works on: it loads a policy and answers requests with an [`Answer`], the reply and, for a
-//! claim that a rule refuses, which rule it is; `Engine::figures` tells what it keeps of an order,
+//! claim that a rule refuses, which rule it is; `Engine::figures` says what it keeps of an order,
 //! `Engine::stuck_tasks` which tasks of a template can never be claimed. `Engine::write_policy` writes the policy out as it is now, `Engine::mend` mends a
 //! damaged policy file. `lower::Engine` is the lower part alone, without orders. `Policy` is a dealer's OPL/XML as
 //! records, with the dealer's names by number.

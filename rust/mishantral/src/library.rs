@@ -55,7 +55,7 @@ macro_rules! functions {
             pub(crate) fn $name($($slice: $type,)* $($number: u64, $($further: $rest),*)?) -> u64 {
                 $(let $slice = $slice.arguments();)*
                 $($(let $further = $further.arguments();)*)?
-                // SAFETY: each pointer is a slice's own, with its length in elements behind it; what is written to is borrowed mutably
+                // SAFETY: each pointer is a slice's own, with its length in elements after it; what is written to is borrowed mutably
                 // and so apart from all others; and the library keeps none of them.
                 unsafe {
                     declared::$name(

@@ -45,8 +45,8 @@ pub struct Mended {
 }
 
 impl State {
-    /// Mends a file: how many records were kept, and written to the front of `output`; the others are told by as many entries of `report`, from
-    /// its front on, and bytes and entries behind the last one stay. The state holds the kept policy afterwards.
+    /// Mends a file: how many records were kept, and written to the front of `output`; the others are reported by as many entries of `report`, from
+    /// its front on, and bytes and entries after the last one stay. The state holds the kept policy afterwards.
     ///
     /// ROOM where a buffer of the state has not its length, the output is shorter than the file, or the report has fewer entries
     /// than the file's length / 16, rounded down, plus one. Then nothing is written.

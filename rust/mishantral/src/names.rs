@@ -165,7 +165,7 @@ fn declares(element: &[u8]) -> Option<Space> {
         .find(|space| space.word().as_bytes() == element)
 }
 
-/// The value of an attribute `.._id` from behind the element's name on; of those that declare names each has one.
+/// The value of an attribute `.._id` from after the element's name on; of those that declare names each has one.
 fn id(tag: &[u8]) -> Option<&[u8]> {
     let mut rest = tag;
     loop {

@@ -1,4 +1,4 @@
-//! A dealer's OPL/XML and its task lines into a policy, by the proved reader: texts, an output and a scratch are lent to one call.
+//! A dealer's OPL/XML and its task lines into a policy, by the proved reader: texts, an output and a scratch are passed to one call.
 //!
 //! It is there where the archive has the reader's function.
 
@@ -39,7 +39,7 @@ pub fn scratch_words() -> usize {
 }
 
 /// The library's call as it is: reads both texts, and writes records to the front of the output. A refusal writes nothing there. The
-/// scratch may hold anything; [`scratch_words`] tells its length, and with another one the answer is `Text` or `Room`.
+/// scratch may hold anything; [`scratch_words`] gives its length, and with another one the answer is `Text` or `Room`.
 ///
 /// [`Policy::from_opl`] is the same call with an output and a scratch of its own.
 pub fn translate(xml: &[u8], tasks: &[u8], output: &mut [u8], scratch: &mut [u64]) -> Answer {
@@ -60,7 +60,7 @@ pub fn translate(xml: &[u8], tasks: &[u8], output: &mut [u8], scratch: &mut [u64
 pub struct Place {
     /// The text.
     pub text: Text,
-    /// The byte; behind the last one where the text ends too early.
+    /// The byte; after the last one where the text ends too early.
     pub byte: usize,
     /// The line.
     pub line: usize,

@@ -49,7 +49,7 @@ impl Engine {
         written(|output| self.write_into(output))
     }
 
-    /// The same into a buffer: how many records were written to its front. The bytes behind them stay. ROOM where they do not fit, and then
+    /// The same into a buffer: how many records were written to its front. The bytes after them stay. ROOM where they do not fit, and then
     /// nothing is written; room for [`WRITTEN`](crate::WRITTEN) records is always enough.
     pub fn write_into(&self, output: &mut [u8]) -> Result<usize, Reply> {
         self.state().write_into(output)

@@ -1,5 +1,5 @@
 //! A dealer's OPL/XML and its task lines, read by the proved reader where the library has it, else by the plain one (rust/opl). What is
-//! wrong with a text is told in the plain one's words.
+//! wrong with a text is reported in the plain one's words.
 
 use crate::names::{Names, Sort};
 pub use opl::{Remedy, Unsaid, Way, Written};
@@ -125,7 +125,7 @@ impl<'t> Lines<'t> {
     }
 }
 
-/// Where the records stand. The plain walk tells it, as many places as there are records; else nothing is told.
+/// Where the records stand. The plain walk says it, as many places as there are records; else nothing is reported.
 fn spots(xml: &[u8], tasks: &[u8], records: &[u8]) -> Vec<Spot> {
     let origins = opl::origins(xml, tasks);
     if origins.len() * opl::RECORD != records.len() {

@@ -1,4 +1,4 @@
-//! What may stand next in a line, in words, and how a wrong line is told.
+//! What may stand next in a line, in words, and how a wrong line is reported.
 
 use crate::attempt::{follow, Attempt, Form};
 use crate::names::{Names, Sort};
@@ -82,13 +82,13 @@ fn expected_by(open: &[Attempt]) -> Vec<Expected> {
     all
 }
 
-/// What may stand behind these tokens in a request; nothing where they are not in the notation.
+/// What may stand after these tokens in a request; nothing where they are not in the notation.
 pub fn expected_after(tokens: &[Token], names: &Names) -> Vec<Expected> {
     let of_requests = |form: &Form| form.kind >= 32 || form.names_alone;
     follow(tokens, names, of_requests).map_or(Vec::new(), |open| expected_by(&open))
 }
 
-/// The words that may stand there; `known` tells those of a sort, its names among them.
+/// The words that may stand there; `known` says those of a sort, its names among them.
 pub fn offered(expected: &[Expected], known: impl Fn(Sort) -> Vec<String>) -> Vec<String> {
     let words = expected.iter().flat_map(|&expected| match expected {
         Expected::Word(word) => vec![word.to_string()],
@@ -188,7 +188,7 @@ fn found(expected: &[Expected], token: Token, names: &Names) -> String {
     }
 }
 
-/// A misspelt word that was taken for a name, so that the token behind it is the first that does not fit: `task 3 off template 0`.
+/// A misspelt word that was taken for a name, so that the token after it is the first that does not fit: `task 3 off template 0`.
 pub(crate) fn misspelt(
     tokens: &[Token],
     at: usize,

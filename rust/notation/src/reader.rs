@@ -135,7 +135,7 @@ fn of_two_bytes() -> Wrong {
     }
 }
 
-/// Reads a whole text; or every error with its line. In a policy a name is given once; requests may give it anew.
+/// Reads a whole text; or every error with its line. In a policy a name is given once; requests may give it again.
 pub fn read(text: &[u8], names: &Names, once: bool) -> Result<Text, Vec<Error>> {
     if text.starts_with(b"\xff\xfe") || text.starts_with(b"\xfe\xff") {
         return Err(vec![Error::new(1, of_two_bytes())]);
@@ -169,7 +169,7 @@ pub fn read(text: &[u8], names: &Names, once: bool) -> Result<Text, Vec<Error>> 
     }
 }
 
-/// Gives names, and tells the first that cannot be given.
+/// Gives names, and says the first that cannot be given.
 pub fn give(names: &mut Names, namings: &[Naming], once: bool) -> Option<Wrong> {
     for naming in namings {
         if !once {

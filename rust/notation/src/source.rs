@@ -1,5 +1,5 @@
 //! Policies and requests as files: records, text in the notation, or a dealer's OPL/XML with its task lines. What is wrong with a file
-//! is told in lines that begin with its name.
+//! is reported in lines that begin with its name.
 
 use crate::dealer::{self, Spot};
 use crate::is_text;
@@ -38,7 +38,7 @@ impl Format {
         }
     }
 
-    /// What a file looks like. No line of the notation begins with `<`; a record of that kind has a zero behind it, and one in range has
+    /// What a file looks like. No line of the notation begins with `<`; a record of that kind has a zero after it, and one in range has
     /// a byte that no text has.
     pub fn of_content(file: &str, bytes: &[u8]) -> Format {
         let text = bytes
@@ -119,7 +119,7 @@ impl Policy {
         spot.map(|spot| spot.column)
     }
 
-    /// The policy of some of its records, counted from 0: each is told where it stood.
+    /// The policy of some of its records, counted from 0: each is reported where it stood.
     pub fn keeping(&self, stays: impl Fn(usize) -> bool) -> Policy {
         fn kept<T: Copy>(all: &[T], stays: impl Fn(usize) -> bool) -> Vec<T> {
             let all = all.iter().enumerate();
@@ -245,7 +245,7 @@ pub fn policy(file: &str, tasks: Option<&str>, format: Option<Format>) -> Result
     }
 }
 
-/// A file that may be a policy or requests: names may be given anew.
+/// A file that may be a policy or requests: names may be given again.
 pub fn either(file: &str, tasks: Option<&str>) -> Result<Policy, Wrongs> {
     let bytes = bytes_of(file)?;
     match Format::of_content(file, &bytes) {
@@ -274,7 +274,7 @@ fn record_policy(file: &str, bytes: Vec<u8>) -> Policy {
     }
 }
 
-/// A policy of text, under the name that errors are told with.
+/// A policy of text, under the name that errors are reported with.
 pub fn text_policy(file: &str, text: &[u8]) -> Result<Policy, Wrongs> {
     text_of(file, text, true)
 }
@@ -330,7 +330,7 @@ pub fn requests(file: &str, names: &Names) -> Result<Requests, Wrongs> {
     requests_of(file, &bytes_of(file)?, names)
 }
 
-/// The same of bytes, under the name that errors are told with.
+/// The same of bytes, under the name that errors are reported with.
 pub fn requests_of(file: &str, bytes: &[u8], names: &Names) -> Result<Requests, Wrongs> {
     if file.ends_with(".txt") || is_text(bytes) {
         let read = reader::read(bytes, names, false).map_err(|all| told(file, &all))?;

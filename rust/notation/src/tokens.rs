@@ -38,7 +38,7 @@ impl Token<'_> {
         between_quotes(self.text)
     }
 
-    /// The column behind it.
+    /// The column after it.
     pub fn end(self) -> usize {
         self.column + self.text.chars().count()
     }

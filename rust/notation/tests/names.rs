@@ -1,4 +1,4 @@
-//! Names in the place of numbers: where they may stand, and how a wrong one is told.
+//! Names in the place of numbers: where they may stand, and how a wrong one is reported.
 
 use notation::reader::Line;
 use notation::{explain, reader, writer, Error, Names, Sort};

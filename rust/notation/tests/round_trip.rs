@@ -157,7 +157,7 @@ fn any_file_in_words_and_back() {
     }
 }
 
-/// The line with other spaces, and a comment behind it.
+/// The line with other spaces, and a comment after it.
 fn respaced(words: &str, random: &mut Random) -> String {
     let mut text = random.pick(&["", " ", "\t "]).to_string();
     for word in words.replace(':', " : ").split_whitespace() {

@@ -15,7 +15,7 @@ pub struct Origin {
 /// The last kind that an element yields.
 const KINDS: usize = 18;
 
-/// The kind of the records that an element yields, but for role sets: theirs is told by the element around them.
+/// The kind of the records that an element yields, but for role sets: theirs is reported by the element around them.
 fn kind_of(element: &[u8]) -> Option<usize> {
     Some(match element {
         b"user" => 1,
@@ -104,7 +104,7 @@ pub fn origins(policy: &[u8], tasks: &[u8]) -> Vec<Origin> {
     by_kind.concat()
 }
 
-/// Whether an accepted text has a declaration that tells its encoding, which is UTF-8 then.
+/// Whether an accepted text has a declaration that says its encoding, which is UTF-8 then.
 pub fn has_encoding(policy: &[u8]) -> bool {
     let text = policy.strip_prefix(MARK).unwrap_or(policy);
     let end = text.windows(2).position(|window| window == b"?>");
@@ -142,7 +142,7 @@ pub struct Missing<'t> {
     pub known: bool,
 }
 
-/// The value that stands between the first quotes behind a place.
+/// The value that stands between the first quotes after a place.
 fn first_value(text: &[u8]) -> &[u8] {
     let quoted = text.iter().position(|byte| b"'\"".contains(byte));
     let Some(start) = quoted else { return &[] };

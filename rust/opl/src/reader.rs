@@ -56,7 +56,7 @@ const fn eight(byte: u8) -> u64 {
     u64::from_le_bytes([byte; 8])
 }
 
-/// In the high bit of each byte up to the first that is below a bound: whether it is. Behind that nothing is told, nor by
+/// In the high bit of each byte up to the first that is below a bound: whether it is. After that nothing is reported, nor by
 /// the other bits.
 #[inline]
 fn below(word: u64, bound: u8) -> u64 {
@@ -279,7 +279,7 @@ impl<'t> Reader<'t> {
 
 /// The document around its root.
 impl Reader<'_> {
-    /// From behind `<?xml`.
+    /// From after `<?xml`.
     fn declaration(&mut self) -> Read<()> {
         self.some_white()?;
         self.pseudo("version", "1.0", |value| value == b"1.0")?;
@@ -299,7 +299,7 @@ impl Reader<'_> {
         self.literal("?>")
     }
 
-    /// From behind `<!DOCTYPE`.
+    /// From after `<!DOCTYPE`.
     fn doctype(&mut self) -> Read<()> {
         self.some_white()?;
         self.literal("policy_object")?;
@@ -353,7 +353,7 @@ impl Reader<'_> {
 
 /// Elements.
 impl<'t> Reader<'t> {
-    /// An element from behind its name on.
+    /// An element from after its name on.
     fn element(&mut self, tag: Tag) -> Read<()> {
         let element = tag.element();
         let attributes = self.attributes(element)?;
@@ -426,7 +426,7 @@ impl<'t> Reader<'t> {
         self.literal(">")
     }
 
-    /// The attributes up to the `>` or `/` behind them.
+    /// The attributes up to the `>` or `/` after them.
     #[inline]
     fn attributes(&mut self, element: &'static Element) -> Read<Attributes> {
         let mut attributes = Attributes::default();

@@ -30,7 +30,7 @@ pub enum Refusal {
 pub struct Fault {
     /// The text that is not in its grammar.
     pub text: Text,
-    /// From 1; behind the last byte where the text ends too early.
+    /// From 1; after the last byte where the text ends too early.
     pub place: usize,
     /// What was expected there.
     pub why: Why,

@@ -1,4 +1,4 @@
-//! The second text: lines of task name, one space, template name; they end as on any system, behind a byte order mark or not.
+//! The second text: lines of task name, one space, template name; they end as on any system, after a byte order mark or not.
 
 use crate::names::Space;
 use crate::policy::{Name, Policy};

@@ -1,4 +1,4 @@
-//! The way back: records and names as OPL/XML and task lines, which are read back to the same records. What cannot be said is told, all of
+//! The way back: records and names as OPL/XML and task lines, which are read back to the same records. What cannot be said is reported, all of
 //! it, and then nothing is written.
 
 use crate::names::{Space, LONGEST};
@@ -35,7 +35,7 @@ pub struct Unsaid {
     pub record: Option<usize>,
     /// Why.
     pub why: String,
-    /// Whether it could be said with sections 6.2 and 6.6, or with numbers given anew.
+    /// Whether it could be said with sections 6.2 and 6.6, or with numbers given again.
     pub remedy: Option<Remedy>,
 }
 
@@ -149,7 +149,7 @@ fn declares(kind: u8, field: usize) -> bool {
     matches!((kind, field), (1 | 2, 0) | (3, _) | (6, _) | (18, 2))
 }
 
-/// Records that can be said, in the order in which a reader tells them, and what cannot be said.
+/// Records that can be said, in the order in which a reader gives them, and what cannot be said.
 struct Judge {
     way: Way,
     all: Vec<Fields>,
@@ -235,7 +235,7 @@ impl Judge {
         above.map(|(_, _, what)| (format!("there are 16 {what}, 0 to 15"), None))
     }
 
-    /// Blocks of a partitioning stand together, and partitionings by number, since a reply tells the place of a block.
+    /// Blocks of a partitioning stand together, and partitionings by number, since a reply says the place of a block.
     fn partitionings(&mut self) {
         let mut last = 0;
         let blocks: Vec<Fields> = self.all.iter().filter(|f| f.kind == 12).copied().collect();

@@ -1,4 +1,4 @@
-//! What is written is read back to the same records and names, over random policies; and what cannot be said is told.
+//! What is written is read back to the same records and names, over random policies; and what cannot be said is reported.
 
 use opl::{read, read_sections, write, Remedy, Sections, Space, Unsaid, Way};
 use random::Random;
@@ -125,7 +125,7 @@ fn random_policy(random: &mut Random, all_sections: bool) -> (Vec<Vec<u8>>, Name
     (all, names)
 }
 
-/// The records as a reader tells them: kinds rise, declarations by number.
+/// The records as a reader gives them: kinds rise, declarations by number.
 fn sorted(mut records: Vec<Vec<u8>>) -> Vec<u8> {
     let number = |r: &Vec<u8>| u16::from_le_bytes([r[2], r[3]]);
     let key = |r: &Vec<u8>| {
@@ -206,7 +206,7 @@ fn all_sections_are_written_and_read_back() {
     assert!(seniors > 1_000 && walled > 1_000);
 }
 
-/// A policy of any numbers: with numbers given anew it is read back to what is told.
+/// A policy of any numbers: with numbers given again it is read back to what is reported.
 #[test]
 fn numbers_are_given_anew_where_that_is_asked_for() {
     let mut random = Random::new(22);

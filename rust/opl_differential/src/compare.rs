@@ -47,10 +47,10 @@ pub type Exported = unsafe extern "C" fn(
 ) -> u64;
 
 impl Reader {
-    /// A reader that a library exports. Its scratch has so many words, which hold whatever an earlier call left in them.
+    /// A reader that a library exports. Its scratch has that many words, which hold whatever an earlier call left in them.
     ///
     /// # Safety
-    /// The function reads and writes nothing but what it is lent, and keeps none of it.
+    /// The function reads and writes nothing but what it is passed, and keeps none of it.
     pub unsafe fn exported(name: &'static str, function: Exported, words: usize) -> Reader {
         let scratch = RefCell::new(vec![0x5a5a_5a5a_5a5a_5a5a_u64; words]);
         Reader::new(name, move |policy, tasks, output| {
@@ -93,7 +93,7 @@ pub fn readers_of(sections: Sections) -> Vec<Reader> {
     all
 }
 
-/// The proved reader, and the names that its wrapper tells.
+/// The proved reader, and the names that its wrapper says.
 #[cfg(mishantral_opl)]
 mod proved {
     use super::{Answer, Reader, Space, Texts};
@@ -101,7 +101,7 @@ mod proved {
     use random::Random;
     use std::cell::RefCell;
 
-    /// In how many calls one is lent a scratch of noise. In the others it holds what the call before left: the names of other texts.
+    /// In how many calls one is passed a scratch of noise. In the others it holds what the call before left: the names of other texts.
     const NOISE: usize = 50;
 
     pub fn reader() -> Option<Reader> {

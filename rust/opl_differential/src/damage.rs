@@ -144,7 +144,7 @@ const CRUMBS: [&str; 45] = [
     "\u{1}",
 ];
 
-/// Where each piece begins: at each `<`, and behind each `>`.
+/// Where each piece begins: at each `<`, and after each `>`.
 fn seams(text: &[u8]) -> Vec<usize> {
     let mut seams: Vec<usize> = vec![0, text.len()];
     for (at, &byte) in text.iter().enumerate() {
@@ -159,7 +159,7 @@ fn seams(text: &[u8]) -> Vec<usize> {
     seams
 }
 
-/// Where the first value behind a place is: its `=`, its opening quote, and its closing quote.
+/// Where the first value after a place is: its `=`, its opening quote, and its closing quote.
 fn value_behind(text: &[u8], place: usize) -> Option<[usize; 3]> {
     let equals = place + text[place..].iter().position(|&byte| byte == b'=')?;
     let rest = &text[equals..];
@@ -169,7 +169,7 @@ fn value_behind(text: &[u8], place: usize) -> Option<[usize; 3]> {
     Some([equals, open, close])
 }
 
-/// The text with the first attribute behind a place written twice.
+/// The text with the first attribute after a place written twice.
 fn attribute_twice(text: &[u8], place: usize) -> Option<Vec<u8>> {
     let [equals, _, close] = value_behind(text, place)?;
     let blank = text[..equals].iter().rposition(u8::is_ascii_whitespace)?;

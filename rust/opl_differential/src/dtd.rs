@@ -92,7 +92,7 @@ fn tokens(text: &'static str) -> Vec<&'static str> {
     tokens
 }
 
-/// A model and the tokens behind it.
+/// A model and the tokens after it.
 fn model<'a>(tokens: &'a [&'static str]) -> (Model, &'a [&'static str]) {
     let (inner, rest) = match tokens {
         ["(", rest @ ..] => group(rest),
@@ -107,7 +107,7 @@ fn model<'a>(tokens: &'a [&'static str]) -> (Model, &'a [&'static str]) {
     }
 }
 
-/// From behind a `(` to behind its `)`.
+/// From after a `(` to after its `)`.
 fn group<'a>(tokens: &'a [&'static str]) -> (Model, &'a [&'static str]) {
     let (first, rest) = model(tokens);
     match rest {

@@ -61,7 +61,7 @@ fn nanoseconds(reader: &Reader, texts: &Texts) -> f64 {
     least / bytes as f64
 }
 
-/// The least of some times that xmllint tells for a hundred readings, a byte.
+/// The least of some times that xmllint says for a hundred readings, a byte.
 fn xmllint(texts: &Texts) -> Option<f64> {
     let file = std::env::temp_dir().join(format!("opl-{}.xml", std::process::id()));
     std::fs::write(&file, &texts.policy).ok()?;

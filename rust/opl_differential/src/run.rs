@@ -153,7 +153,7 @@ impl<'r> Run<'r> {
     }
 }
 
-/// At least so many texts of Ask 4's sections; one case of 64 is damaged at each of its bytes.
+/// At least that many texts of Ask 4's sections; one case of 64 is damaged at each of its bytes.
 pub fn run(readers: &[Reader], seed: u64, texts: u64) -> Result<Met, String> {
     run_sections(readers, seed, texts, Sections::Asked)
 }

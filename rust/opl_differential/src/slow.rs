@@ -107,7 +107,7 @@ impl Grammar<'_> {
         }
     }
 
-    /// White space, a word and one of these values; or nothing, where no white space with the word's first letter behind it follows.
+    /// White space, a word and one of these values; or nothing, where no white space with the word's first letter after it follows.
     fn optional(self, at: usize, word: &str, values: &[&str]) -> Result<usize, usize> {
         let behind = self.blank(at);
         if behind == at || self.at(behind) != word.bytes().next() {
@@ -195,7 +195,7 @@ impl Grammar<'_> {
         self.name(self.literal(at, "<")?)
     }
 
-    /// From behind the name, which may stand where it stands.
+    /// From after the name, which may stand where it stands.
     fn element(self, name: Vec<u8>, at: usize) -> Step<Node> {
         let declared = dtd::element(&name, self.1).expect("a declared element");
         let mut node = Node {
@@ -221,7 +221,7 @@ impl Grammar<'_> {
         self.content(node, end + 1)
     }
 
-    /// The attributes; where the `>` or `/` stands behind them.
+    /// The attributes; where the `>` or `/` stands after them.
     fn attributes(self, node: &mut Node, at: usize) -> Result<usize, usize> {
         let behind = self.blank(at);
         match self.at(behind) {

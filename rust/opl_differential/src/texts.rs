@@ -534,7 +534,7 @@ impl Writer<'_> {
         });
     }
 
-    /// A wall of so many blocks, whose objects permissions may have too.
+    /// A wall of that many blocks, whose objects permissions may have too.
     fn wall(&mut self, blocks: usize) {
         self.within("module_chinese_wall_policy", vec![], |w| {
             w.each("cw_partitions", blocks, |w, _| {
@@ -612,7 +612,7 @@ impl Writer<'_> {
         self.misc();
     }
 
-    /// The modules: the core in two parts or whole, rules before, between and behind.
+    /// The modules: the core in two parts or whole, rules before, between and after.
     fn modules(&mut self, size: Size) {
         let split = self.random.chance(1, 3);
         for _ in 0..self.random.below(size.modules + 1) {
@@ -779,7 +779,7 @@ impl Texts {
         written(random, style, size)
     }
 
-    /// A text as a dealer would send it, with about so many bytes in its policy.
+    /// A text as a dealer would send it, with about that many bytes in its policy.
     pub fn orderly(bytes: usize) -> Texts {
         let part = |whole: usize, limit: usize| (bytes / whole).clamp(2, limit);
         let size = Size {

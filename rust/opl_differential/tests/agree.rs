@@ -30,7 +30,7 @@ unsafe extern "C" fn exported(
     scratch: *mut u64,
     scratch_words: usize,
 ) -> u64 {
-    // SAFETY: the caller lends slices.
+    // SAFETY: the caller passes slices.
     unsafe {
         let (policy, tasks) = (
             from_raw_parts(policy, policy_bytes),
@@ -42,7 +42,7 @@ unsafe extern "C" fn exported(
     }
 }
 
-/// A scratch of another length is ROOM, but behind TEXT; the output stays.
+/// A scratch of another length is ROOM, but after TEXT; the output stays.
 #[cfg(mishantral_opl)]
 #[test]
 fn the_scratch_has_one_length() {
@@ -71,7 +71,7 @@ fn the_scratch_has_one_length() {
     }
 }
 
-/// More start tags than the scratch lists, the list ending at one place and another of the loan: behind its last entry the text is read.
+/// More start tags than the scratch lists, the list ending at one place and another of the loan: after its last entry the text is read.
 #[cfg(mishantral_opl)]
 #[test]
 fn more_tags_than_the_scratch_lists() {
@@ -97,7 +97,7 @@ fn more_tags_than_the_scratch_lists() {
 #[test]
 fn a_library_takes_part() {
     let mut all = readers();
-    // SAFETY: the function keeps to what it is lent.
+    // SAFETY: the function keeps to what it is passed.
     all.push(unsafe { Reader::exported("exported", exported, 10) });
     let met = run(&all, 9, 1_000).unwrap_or_else(|difference| panic!("{difference}"));
     assert!(met.accepted > 0, "{met}");

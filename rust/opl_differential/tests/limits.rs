@@ -50,7 +50,7 @@ impl Declared {
     }
 }
 
-/// A space of names: its limit, the record that has a name's number, where in it, and a text with so many names of it.
+/// A space of names: its limit, the record that has a name's number, where in it, and a text with that many names of it.
 struct Limit {
     space: &'static str,
     names: usize,
@@ -59,7 +59,7 @@ struct Limit {
     declared: fn(usize) -> Declared,
 }
 
-/// Permissions with so many operations and objects.
+/// Permissions with that many operations and objects.
 fn permissions(permissions: usize, operations: usize, objects: usize) -> Declared {
     Declared {
         permissions,
@@ -135,7 +135,7 @@ const LIMITS: [Limit; 7] = [
     },
 ];
 
-/// The readers that read so many names in time: the slow one looks each up among all.
+/// The readers that read that many names in time: the slow one looks each up among all.
 fn for_names(names: usize) -> impl Iterator<Item = Reader> {
     readers()
         .into_iter()

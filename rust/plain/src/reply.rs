@@ -1,6 +1,6 @@
 //! The replies (docs/RULES.md, "The replies"), by name and number.
 
-/// What a record is answered with. The numbers are also the order of the checks, but for LOOP, which comes behind RULE, and WALL, behind DENIED.
+/// What a record is answered with. The numbers are also the order of the checks, but for LOOP, which comes after RULE, and WALL, after DENIED.
 #[derive(Clone, Copy, PartialEq, Eq, PartialOrd, Ord, Debug)]
 #[repr(u8)]
 pub enum Reply {

@@ -29,7 +29,7 @@ fn sets(kind: u8, rows: &[AtMost]) -> impl Iterator<Item = [u8; 16]> + '_ {
 }
 
 impl Policy {
-    /// All records, one behind the other.
+    /// All records, one after the other.
     pub fn written(&self) -> Vec<u8> {
         let alone = |kind, numbers: &mut dyn Iterator<Item = usize>| -> Vec<[u8; 16]> {
             pairs(kind, numbers.map(|a| (a, 0))).collect()

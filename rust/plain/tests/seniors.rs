@@ -49,7 +49,7 @@ fn there_may_be_64_of_them() {
         Both::new().load(&[&policy[..], &full].concat()),
         (Full, place)
     );
-    // Judged behind the others.
+    // Judged after the others.
     for (record, reply) in [
         (above(1, 2), Taken),
         (above(3, 3), Rule),

@@ -21,7 +21,7 @@ pub struct Panel {
     pub title: &'static str,
     /// The unit of what was measured.
     pub unit: &'static str,
-    /// What there are so many of.
+    /// What is counted.
     pub along: &'static str,
     /// The curves; one at least.
     pub curves: Vec<Curve>,

@@ -103,7 +103,7 @@ fn escaped(words: &str) -> String {
 }
 
 impl Svg {
-    /// An empty picture; `title` is what a reader who does not see it is told.
+    /// An empty picture; `title` is what a reader who cannot see it is told.
     pub fn new(width: f64, height: f64, title: &str) -> Svg {
         Svg::with(width, height, title, &[])
     }

@@ -4,8 +4,8 @@
 //! Done entries come first, each by a subject of its own that is destroyed at once, so that dynamic sets meet one role alone; then the sessions with
 //! all roles that they have had; then what they hold. The order of entry on the old desk may be no order of entry under the new rules. Of the claim
 //! rules only BEFORE looks at the order, and more done entries never make it refuse: so entries are entered, again and again, as long as one is
-//! granted, and what a claim rule refuses then no order of entry would grant. Roles that a user has no longer are lent for a moment, in a few
-//! ways; where static sets stand in the way of each of these, other ways may be left, and the obstacle is told as not settled.
+//! granted, and what a claim rule refuses then no order of entry would grant. Roles that a user no longer has are assigned for a moment, in a few
+//! ways; where static sets stand in the way of each of these, other ways may be left, and the obstacle is reported as not settled.
 
 use crate::desk::Desk;
 use crate::names::{Names, Sort};
@@ -143,7 +143,7 @@ impl Carried {
         self.obstacles.push(Obstacle { of, words });
     }
 
-    /// Asks the first of these ways that is granted whole; else tells the refusal that came furthest. `thing` says what a request brings over.
+    /// Asks the first of these ways that is granted whole; else says the refusal that came furthest. `thing` says what a request brings over.
     fn first_way(
         &mut self,
         ways: impl IntoIterator<Item = Vec<Record>>,
@@ -216,7 +216,7 @@ impl Carried {
         }
     }
 
-    /// Requests by a subject of its own, with one role of the user's; or with one that is lent for that alone; or with one that is lent while the
+    /// Requests by a subject of its own, with one role of the user's; or with one that is assigned only for that; or with one that is assigned while the
     /// user's own are put aside, where a static set does not allow it beside them.
     fn by_hand(
         &self,
@@ -241,7 +241,7 @@ impl Carried {
         ways
     }
 
-    /// By each role and each permission on the object; where the role has not got that permission any more, it is lent for that alone.
+    /// By each role and each permission on the object; where the role has not got that permission any more, it is given only for that.
     fn ways_to_commit(&self, user: u16, object: u16) -> Vec<Vec<Record>> {
         let told = &self.desk.told;
         let (mut own, mut lent) = (Vec::new(), Vec::new());
@@ -348,7 +348,7 @@ impl Carried {
         if self.first_way(ways, &thing).is_ok() {
             return;
         }
-        // What is refused is told, and what is granted of it is there for what comes after.
+        // What is refused is reported, and what is granted of it is there for what comes after.
         for record in at_once {
             let there = self.desk.told.subjects.contains_key(&subject);
             let has = self.desk.told.roles_of(user).has(record.b() as u8);
@@ -436,7 +436,7 @@ impl Carried {
     }
 }
 
-/// What is told where the ways that were tried are not all there are.
+/// What is reported where the ways that were tried are not all there are.
 const NOT_SETTLED: &str = " (not settled: another order of requests may get there)";
 
 /// These requests, with a role that the user has meanwhile.

@@ -13,7 +13,7 @@ use records::{Record, Reply, Set, LENGTH};
 use serde_json::{json, Value};
 use std::io::Write;
 
-/// Loads the policy and tells the verdict; with `strict` a warning is a refusal.
+/// Loads the policy and says the verdict; with `strict` a warning is a refusal.
 pub fn check(policy: Policy, strict: bool, as_json: bool, out: &mut dyn Write) -> Done {
     let desk = match Desk::open(&policy) {
         Ok(desk) => desk,

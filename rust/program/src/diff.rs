@@ -189,7 +189,7 @@ pub fn changes(old: &Policy, new: &Policy, by: By) -> Vec<Change> {
     all
 }
 
-/// Both policies, which a change is told of.
+/// Both policies, which a change is reported of.
 struct Told<'a> {
     old: &'a Policy,
     new: &'a Policy,

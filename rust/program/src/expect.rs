@@ -1,7 +1,7 @@
 //! `test`: files of requests with the replies that are expected of them.
 //!
-//! A file has a policy, as lines of its own or by `policy FILE`, and then requests, each with `=> REPLY` behind it; a request
-//! without one is expected to be granted. Behind the reply to a question may stand its figures. A policy after requests begins anew. `load => REPLY` says what the load is expected to answer.
+//! A file has a policy, as lines of its own or by `policy FILE`, and then requests, each with `=> REPLY` after it; a request
+//! without one is expected to be granted. After the reply to a question may stand its figures. A policy after requests begins again. `load => REPLY` says what the load is expected to answer.
 //! What is about many records at once is a block of lines: requests in one call (`pile`), the policy written out (`written`), a file to mend (`mend`).
 
 use crate::check::clashes;
@@ -38,7 +38,7 @@ impl Got {
     }
 }
 
-/// What is expected; the place and the figures are judged where they are told.
+/// What is expected; the place and the figures are judged where they are reported.
 #[derive(Clone, PartialEq, Eq, Debug)]
 struct Expected {
     reply: Reply,
@@ -147,7 +147,7 @@ struct Failure {
     instead: Option<String>,
 }
 
-/// How an answer is written behind `=>`; the place of a load is that of a record.
+/// How an answer is written after `=>`; the place of a load is that of a record.
 fn answer_text(got: &Got, load: bool) -> String {
     let reply = got.reply;
     let figures = got.figures.iter().map(|told| format!(", {told}"));
@@ -159,11 +159,11 @@ fn answer_text(got: &Got, load: bool) -> String {
     text + &figures.collect::<String>()
 }
 
-/// The words behind `=>`, of which some have been read.
+/// The words after `=>`, of which some have been read.
 struct Behind<'a> {
     tokens: &'a [Token<'a>],
     at: usize,
-    /// The column behind the last.
+    /// The column after the last.
     end: usize,
 }
 
@@ -310,7 +310,7 @@ impl<'a> Run<'a> {
         }
     }
 
-    /// Begins anew with this policy.
+    /// Begins again with this policy.
     fn begin(&mut self, policy: Policy, inline: bool) {
         self.policy = policy;
         self.inline = inline;
@@ -354,7 +354,7 @@ impl<'a> Run<'a> {
             ["load"] => return Ok(Some(Says::Load(judged.unwrap_or(GRANTED)))),
             _ => {}
         }
-        // A policy line behind requests begins a policy with names of its own.
+        // A policy line after requests begins a policy with names of its own.
         let unjudged = judged.is_none();
         let of_policy = |line: &Line| match &line.record {
             Some(record) => unjudged && record[0] < 32,
@@ -385,7 +385,7 @@ impl<'a> Run<'a> {
             Says::Declared(line) => return Ok(self.declared(number, &line)),
             Says::Request(line, expected) => self.asked(number, &line, expected),
             Says::Begin(block) => {
-                // A block that is about the desk is behind a load; a file to mend is its own.
+                // A block that is about the desk is after a load; a file to mend is its own.
                 if !self.loaded && block.of != Of::Mend {
                     self.load(number, GRANTED, false);
                 }
@@ -749,7 +749,7 @@ struct Count {
     updated: usize,
 }
 
-/// Runs a file, tells what failed, or writes it into the file.
+/// Runs a file, says what failed, or writes it into the file.
 fn test_file(file: &str, how: How, count: &mut Count, out: &mut dyn Write) -> Result<(), Stop> {
     let How { update, json } = how;
     let text = bytes_of(file)?;
@@ -783,7 +783,7 @@ pub struct How {
     pub json: bool,
 }
 
-/// Runs the files and tells what failed.
+/// Runs the files and says what failed.
 pub fn test(files: &[String], how: How, out: &mut dyn Write) -> Done {
     let mut count = Count::default();
     let mut wrongs = Vec::new();

@@ -121,7 +121,7 @@ pub fn write(mut desk: Desk, requests: &Requests, output: &Output, out: &mut dyn
     Ok(WELL)
 }
 
-/// Mends a file and tells what was dropped, a line each: `record 17: 5 TAKEN  user 300`.
+/// Mends a file and says what was dropped, a line each: `record 17: 5 TAKEN  user 300`.
 pub fn mend(policy: Policy, output: Option<&Output>, as_json: bool, out: &mut dyn Write) -> Done {
     let mended = mended(&policy.bytes)?;
     let (kept, dropped) = (mended.records.len() / LENGTH, mended.dropped.len());

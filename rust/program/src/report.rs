@@ -11,7 +11,7 @@ use std::sync::OnceLock;
 use std::thread;
 use std::time::{Duration, Instant, SystemTime, UNIX_EPOCH};
 
-/// Lines that wait for the thread that writes them; what does not fit is left out, and how many were is told.
+/// Lines that wait for the thread that writes them; what does not fit is left out, and how many were is reported.
 const MOST: usize = 256;
 
 static QUEUE: OnceLock<SyncSender<String>> = OnceLock::new();

@@ -145,7 +145,7 @@ impl Listing<'_> {
     }
 }
 
-/// What stands before the lines of an explanation or of figures, behind the reply's column.
+/// What stands before the lines of an explanation or of figures, after the reply's column.
 const INDENT: &str = "                          ";
 
 fn in_words(desk: &Desk, place: u64, record: &[u8], answer: Answer, brief: bool) -> String {

@@ -26,7 +26,7 @@ pub fn damaged(file: &str, format: Option<Format>) -> Result<Policy, Stop> {
     source::damaged(file, format).map_err(Stop::Wrong)
 }
 
-/// A policy of text, under the name that errors are told with.
+/// A policy of text, under the name that errors are reported with.
 #[cfg(test)]
 pub fn text_policy(file: &str, text: &[u8]) -> Result<Policy, Stop> {
     source::text_policy(file, text).map_err(Stop::Wrong)

@@ -15,7 +15,7 @@ pub enum Stop {
     Wrong(Vec<String>),
     /// What to tell of a journal that is refused; exit status 1.
     Refused(Vec<String>),
-    /// Whoever read the output has stopped reading: nothing is told.
+    /// Whoever read the output has stopped reading: nothing is reported.
     Quiet,
 }
 

@@ -1,4 +1,4 @@
-//! The tables as the buffers have them (docs/STATE.md): what a state that was kept, or copied, tells of users, subjects and orders.
+//! The tables as the buffers have them (docs/STATE.md): what a state that was kept, or copied, says of users, subjects and orders.
 
 use crate::told::{Entry, Order, Session, Told};
 use mishantral::State;

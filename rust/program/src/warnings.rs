@@ -133,7 +133,7 @@ impl Found<'_> {
         let clash = setting.clash(meter)?;
         let records = desk.policy.records();
         for core in clash.into_iter().flat_map(|clash| clash.cores) {
-            // Circles are told by the engine's own answer.
+            // Circles are reported by the engine's own answer.
             if !core.iter().all(|&place| records[place].kind() == 16) {
                 self.core(template, &core, &users);
             }

@@ -59,7 +59,7 @@ fn commands(page: &str) -> Vec<(String, String)> {
             continue;
         }
         let mut command = code.to_string();
-        // A command goes on behind a backslash, and within quotes.
+        // A command goes on after a backslash, and within quotes.
         while command.ends_with('\\') || command.matches('\'').count() % 2 == 1 {
             command += "\n";
             command += lines.next().unwrap();

@@ -228,7 +228,7 @@ impl Drop for Accounts {
     }
 }
 
-/// The program run by another account: what it writes, what it tells, its exit status.
+/// The program run by another account: what it writes, what it says, its exit status.
 fn by(account: &str, program: &Path, arguments: &[&str]) -> (String, String, i32) {
     let mut command = Command::new("runuser");
     command

@@ -134,7 +134,7 @@ fn a_key_is_its_accounts_own() {
         assert_eq!(said("anna", open), "1 0 GRANTED, order 0");
         assert_eq!(said("bert", open), "2 0 GRANTED, order 1");
         assert_eq!(said("anna", open), "1 0 GRANTED, order 0");
-        // What was barred was not answered: it is judged anew.
+        // What was barred was not answered: it is judged again.
         let create = "key=2 create subject 3 for user anna with roles none";
         assert!(said("bert", create).starts_with("barred: "));
         assert_eq!(said("anna", create), "3 0 GRANTED");

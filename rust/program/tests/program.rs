@@ -34,7 +34,7 @@ fn with_input(arguments: &[&str], input: &[u8]) -> Output {
     output
 }
 
-/// What it writes, what it tells and its exit status.
+/// What it writes, what it says and its exit status.
 fn said(output: Output) -> (String, String, i32) {
     let text = |bytes| String::from_utf8(bytes).unwrap();
     (
@@ -380,7 +380,7 @@ fn a_damaged_file_is_mended_and_its_report_is_in_words() {
     assert_eq!(objects.last().unwrap()["kept"], 19);
 }
 
-/// A text may be mended too: its lines are told by their numbers, and its names stay.
+/// A text may be mended too: its lines are reported by their numbers, and its names stay.
 #[test]
 fn a_text_is_mended_with_its_names() {
     let room = room("mend_text");
@@ -959,7 +959,7 @@ fn two_policies_are_compared_in_words_and_as_objects() {
         (&objects[0]["change"], &objects[0]["new"]["line"]),
         (&"added".into(), &3.into())
     );
-    // A policy that no load accepts is told.
+    // A policy that no load accepts is reported.
     let twice = file(&room, "twice.txt", "user 1 anna\nuser 1\n");
     let (told, _, status) = run(&["diff", &old, &twice]);
     assert!(

@@ -30,7 +30,7 @@ fn an_end_that_is_asked_for_answers_takes_a_snapshot_and_is_well() {
     let mut first = String::new();
     replies.read_line(&mut first).unwrap();
     signalled(&server, "TERM");
-    // What was sent behind the last group is not read any more, so that the connection is reset behind the last reply.
+    // What was sent after the last group is not read any more, so that the connection is reset after the last reply.
     let mut rest = Vec::new();
     let _ = replies.read_to_end(&mut rest);
     let rest = String::from_utf8(rest).unwrap();

@@ -2,7 +2,7 @@
 
 use core::fmt;
 
-/// What a record is answered with. The checks run in the order of these numbers, LOOP behind RULE and WALL behind
+/// What a record is answered with. The checks run in the order of these numbers, LOOP after RULE and WALL after
 /// DENIED, and the first that applies is the reply.
 ///
 /// Later versions may have further replies.

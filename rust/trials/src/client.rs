@@ -90,7 +90,7 @@ impl Client {
         })
     }
 
-    /// Asks until the server is gone, or `over`: so many requests at a time.
+    /// Asks until the server is gone, or `over`: that many requests at a time.
     pub fn live(
         mut self,
         id: u32,

@@ -25,7 +25,7 @@ fn disk(at: &Path) -> bool {
     mount.is_ok_and(|done| done.status.success())
 }
 
-/// Asks until so many were not done, or so many were.
+/// Asks until that many were not done, or that many were.
 fn asked(
     client: &mut Client,
     life: &mut Life,

@@ -83,7 +83,7 @@ pub fn kills(program: &Path, count: usize, seed: u64) -> Result<Kills, String> {
     })
 }
 
-/// The whole journal asked anew.
+/// The whole journal asked again.
 pub fn checked(program: &Path, journal: &Path) -> Result<(), String> {
     let output = Command::new(program)
         .arg("journal")

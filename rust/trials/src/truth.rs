@@ -34,7 +34,7 @@ type Row = (i64, Record, u8, u16);
 /// The rows of each start and connection.
 type Rows = BTreeMap<(i64, i64), Vec<Row>>;
 
-/// The rows behind a number, by start and connection.
+/// The rows after a number, by start and connection.
 fn rows(journal: &Path, after: i64) -> rusqlite::Result<(Rows, i64)> {
     let sql = Connection::open_with_flags(journal, OpenFlags::SQLITE_OPEN_READ_ONLY)?;
     let act = sql.unchecked_transaction()?;
@@ -76,7 +76,7 @@ fn rows(journal: &Path, after: i64) -> rusqlite::Result<(Rows, i64)> {
     Ok((all, last))
 }
 
-/// Compares what these lives know with the journal behind a number; the last number, or what is wrong. Nobody else was there.
+/// Compares what these lives know with the journal after a number; the last number, or what is wrong. Nobody else was there.
 pub fn compared(journal: &Path, after: i64, lives: &[Life]) -> Result<(Met, i64), String> {
     among(journal, after, lives, false)
 }

@@ -70,7 +70,7 @@ pub fn exceeds(n: u8, members: u64, roles: u64) -> bool {
     (members & roles).count_ones() > u32::from(n)
 }
 
-/// Whether n is no limit to so many members.
+/// Whether n is no limit to that many members.
 pub fn ill_made(n: u8, members: u64) -> bool {
     n == 0 || u32::from(n) >= members.count_ones()
 }

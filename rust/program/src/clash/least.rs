@@ -1,4 +1,4 @@
-//! The least of what meets every demand. A demand names sorts with numbers: so many of one of these sorts, or more, must be taken. What must be
+//! The least of what meets every demand. A demand names sorts with numbers: that many of one of these sorts, or more, must be taken. What must be
 //! met comes to light one demand after the other, as the least that meets those known is tried and is not enough.
 
 /// One of these: a sort, and how many of it.

@@ -1,5 +1,5 @@
 //! Which rules clash: where an order cannot be finished, smallest sets of records that together let nobody, the fewest records without which it
-//! could be, and whom or what one would need. Every set is tried: an engine is lent the policy without it, and the search of `finish` asks that.
+//! could be, and whom or what one would need. Every set is tried: an engine is passed the policy without it, and the search of `finish` asks that.
 
 mod kinds;
 mod least;

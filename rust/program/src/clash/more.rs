@@ -6,13 +6,13 @@ use crate::desk::Desk;
 use crate::finish::{Found, Ground, Meter, Spent};
 use records::{Record, Set};
 
-/// Clerks by class: so many of these users.
+/// Clerks by class: that many of these users.
 pub type Crew = Vec<(usize, Vec<u16>)>;
 
 /// What would be enough.
 #[derive(Default)]
 pub struct More {
-    /// Of some users so many: each list by itself is enough, and is as short as can be.
+    /// The number of users needed out of some: each list by itself is enough, and is as short as can be.
     pub clerks: Vec<Crew>,
     /// A role, and users of whom one would have to have it.
     pub roles: Vec<(u16, Vec<u16>)>,
@@ -108,7 +108,7 @@ impl Counted<'_> {
     }
 }
 
-/// A ground of those who are there and of some more, who come behind them.
+/// A ground of those who are there and of some more, who come after them.
 fn counted<'a>(
     desk: &'a Desk,
     setting: &Setting,

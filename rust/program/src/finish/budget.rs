@@ -69,7 +69,7 @@ impl Budget {
         }
     }
 
-    /// What is spent, of a search that keeps so many bytes. It is asked often, and rests where others are at work.
+    /// What is spent, of a search that keeps that many bytes. It is asked often, and rests where others are at work.
     pub fn spent(&self, kept: usize) -> Option<Spent> {
         if kept > self.room {
             return Some(Spent::Room(self.room));

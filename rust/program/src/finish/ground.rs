@@ -133,7 +133,7 @@ impl<'a> Ground<'a> {
         plan::plan(self.desk, &self.people, self.order, held, parts)
     }
 
-    /// Whether so many of each class can finish it, of whom so many may be at work.
+    /// Whether that many of each class can finish it, of whom that many may be at work.
     pub fn found(&self, counts: &[usize], most: usize, meter: &mut Meter) -> Found {
         let opened = self.opened();
         let circle = circle(self.desk, self.tasks, done_of(opened));

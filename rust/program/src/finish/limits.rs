@@ -31,7 +31,7 @@ pub struct Family {
     open: usize,
 }
 
-/// Some of so many, as a set.
+/// Some of that many, as a set.
 fn some(random: &mut Random, of: usize, count: usize) -> Set {
     let mut set = 0u64;
     while (set.count_ones() as usize) < count.min(of) {

@@ -51,7 +51,7 @@ pub enum Why {
     Lack(Box<Lack>),
     /// There is nobody.
     Nobody,
-    /// The ledger has no entries left for so many tasks.
+    /// The ledger has no entries left for that many tasks.
     Full,
 }
 

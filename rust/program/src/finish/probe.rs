@@ -1,4 +1,4 @@
-//! The rules alone: an engine that is lent the tasks of one template, one role that opens them all, and the rules about them, but no
+//! The rules alone: an engine that is passed the tasks of one template, one role that opens them all, and the rules about them, but no
 //! prerequisites. What it answers to a claim is what the rules say of the entries that there are, whoever the clerks may be.
 
 use super::budget::{Meter, Spent};
@@ -18,7 +18,7 @@ pub struct Probe {
 }
 
 impl Probe {
-    /// An engine with these entries, all of them done, and so many users more, who have none and are named. Nothing where the engine refuses
+    /// An engine with these entries, all of them done, and that many users more, who have none and are named. Nothing where the engine refuses
     /// what it was told before, which no state does that came by requests.
     pub fn of(
         told: &Told,

@@ -6,7 +6,7 @@
 //! - all of them but BEFORE are about the entries that there are, and an entry more never makes a refused claim a granted one. So a task that is
 //!   done is not done again, a claim is followed by done at once, and the order in which tasks are done is left to BEFORE, for which the plan is made;
 //! - an entry changes what others may claim through bindings alone. Tasks bound together are given out as one;
-//! - a rule tells users apart by their entries alone. So clerks without an entry are named when the shares are known;
+//! - a rule says users apart by their entries alone. So clerks without an entry are named when the shares are known;
 //! - where the search stood before, as far as the rules and clerks that are left can tell, it does not go again.
 
 use super::budget::{Meter, Spent};

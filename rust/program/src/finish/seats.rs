@@ -15,7 +15,7 @@ impl Seats {
     /// A share without a clerk that is looked for.
     pub const STANDS: usize = usize::MAX;
 
-    /// The classes without entries, of whom so many may be asked.
+    /// The classes without entries, of whom that many may be asked.
     pub fn of(classes: &[Class], counts: &[usize], skills: &[Vec<u64>]) -> Seats {
         let some = classes.iter().enumerate();
         let some = some.filter(|(place, class)| class.has == 0 && counts[*place] > 0);

@@ -105,7 +105,7 @@ impl Figures {
         self.lengths.len()
     }
 
-    /// The shortest length that at least so many hundredths of the holds do not exceed; none where there are no holds.
+    /// The shortest length that at least that many hundredths of the holds do not exceed; none where there are no holds.
     pub fn hundredths(&self, part: usize) -> Option<i64> {
         let rank = (self.lengths.len() * part).div_ceil(100);
         self.lengths.get(rank.max(1) - 1).copied()

@@ -13,7 +13,7 @@ pub enum Part {
     Absent,
     /// Somebody held the task: with `--end done`, or where the claim was released later.
     Held,
-    /// It lay on the desk that this one was moved from, whose journal tells more.
+    /// It lay on the desk that this one was moved from, whose journal says more.
     Before,
 }
 

@@ -1,7 +1,7 @@
-//! The journal asked anew, with an eye on every order that lies. What a claim would be answered is asked of the replayed engine itself, by
+//! The journal asked again, with an eye on every order that lies. What a claim would be answered is asked of the replayed engine itself, by
 //! making the claim and taking it back; no rule is judged here. It is asked only where something changed on which the answer rests:
 //!
-//! | What changed | Asked anew |
+//! | What changed | Asked again |
 //! |---|---|
 //! | a subject came, went, or changed its active roles | that subject, for every order that lies |
 //! | a claim, release or done in an order | every live subject, for that order |
@@ -249,7 +249,7 @@ impl<'a> Measure<'a> {
         (self.asked.since..self.asked.until).contains(&start)
     }
 
-    /// Subjects of the set must be asked anew, for every order that lies.
+    /// Subjects of the set must be asked again, for every order that lies.
     fn changed(&mut self, subjects: u128, at: i64) {
         for track in self.tracks.iter_mut().flatten() {
             track.until(at, self.asked.zone);

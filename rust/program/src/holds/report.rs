@@ -20,7 +20,7 @@ pub struct Report {
     pub end: End,
     pub zone: Zone,
     pub by: By,
-    /// How many requests were asked anew, and the time of the last of them.
+    /// How many requests were asked again, and the time of the last of them.
     pub requests: i64,
     pub last: i64,
     pub holds: Vec<Hold>,

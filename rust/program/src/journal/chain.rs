@@ -1,5 +1,5 @@
-//! The chain: the sum of each row is SHA-256 over all that the row says, behind the sum of the row before it. Whoever changes, removes or moves a
-//! row has to write every later sum anew, and then the last one is another: a seal that is kept elsewhere shows it (docs/SERVE.md).
+//! The chain: the sum of each row is SHA-256 over all that the row says, after the sum of the row before it. Whoever changes, removes or moves a
+//! row has to write every later sum again, and then the last one is another: a seal that is kept elsewhere shows it (docs/SERVE.md).
 //!
 //! Starts, what was barred and a clock that was set stand between two requests: the sum of the next request covers them.
 
@@ -80,7 +80,7 @@ pub enum Note {
     Clock(Jump),
 }
 
-/// The sums so far: that of the last request, and those of each sort of notes behind it.
+/// The sums so far: that of the last request, and those of each sort of notes after it.
 #[derive(Clone, Debug)]
 pub struct Chain {
     head: Sum,

@@ -1,4 +1,4 @@
-//! `journal FILE --check`: the whole journal from its load on. Every row has its sum and its place, every request is asked anew and answered
+//! `journal FILE --check`: the whole journal from its load on. Every row has its sum and its place, every request is asked again and answered
 //! as it was, every snapshot is the state that the requests before it lead to, SQLite finds its own file sound; and where a seal is
 //! given, the journal is the one that was sealed.
 

@@ -58,7 +58,7 @@ impl Checksum {
     }
 }
 
-/// A row's checksum behind the one of the row before it.
+/// A row's checksum after the one of the row before it.
 pub fn of_row(before: u32, row: &Row) -> u32 {
     let user = row.user.map_or(-1, i64::from);
     let replied = i64::from(row.reply) | i64::from(row.place) << 8;
@@ -77,7 +77,7 @@ pub fn of_row(before: u32, row: &Row) -> u32 {
     named.half()
 }
 
-/// The checksum that the first row's is behind: that of the journal's head.
+/// The checksum that the first row's is after: that of the journal's head.
 pub fn first(head: i64) -> u32 {
     Checksum(head as u64).half()
 }

@@ -22,7 +22,7 @@ pub fn private(file: &Path) -> io::Result<File> {
     Ok(made)
 }
 
-/// Takes a lock, which the system takes back from whoever ends; `whose` tells who has it.
+/// Takes a lock, which the system takes back from whoever ends; `whose` says who has it.
 pub fn lock(file: File, name: &Path, whose: &str) -> Result<File, String> {
     match file.try_lock() {
         Ok(()) => Ok(file),
@@ -167,7 +167,7 @@ pub struct Reserve {
     bytes: u64,
 }
 
-/// The log is moved into the journal when it has so many bytes; the reserve has as many, so that there is always room for it.
+/// The log is moved into the journal when it has that many bytes; the reserve has as many, so that there is always room for it.
 const LOG: u64 = 4 << 20;
 
 /// A page of the journal.

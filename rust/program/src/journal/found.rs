@@ -1,4 +1,4 @@
-//! A journal read: the last snapshot, and what follows it asked anew, every reply compared with the one that was given. Nothing is
+//! A journal read: the last snapshot, and what follows it asked again, every reply compared with the one that was given. Nothing is
 //! written here: a journal that is refused stays as it is.
 
 use super::about::user_of;
@@ -24,10 +24,10 @@ pub struct Found {
     pub last: i64,
     pub links: Links,
     pub at: i64,
-    /// The last snapshot that was used, and how many requests were asked anew behind it.
+    /// The last snapshot that was used, and how many requests were asked again after it.
     pub snapshot: i64,
     pub replayed: i64,
-    /// Whether its last snapshot has another layout, so that everything was asked anew.
+    /// Whether its last snapshot has another layout, so that everything was asked again.
     pub relaid: bool,
 }
 
@@ -55,7 +55,7 @@ pub fn found(file: &str, whole: bool) -> Result<Found, Stop> {
     read(file, whole, &mut |_: &Row, _: &Found| Ok(()))
 }
 
-/// Asks a whole journal anew from its load on; `look` sees each row, and the desk after it.
+/// Asks a whole journal again from its load on; `look` sees each row, and the desk after it.
 pub fn replay(file: &str, look: &mut dyn FnMut(&Row, &Found)) -> Result<Found, Stop> {
     read(file, true, &mut |row: &Row, found: &Found| {
         look(row, found);
@@ -69,13 +69,13 @@ fn read(file: &str, whole: bool, look: &mut dyn Look) -> Result<Found, Stop> {
     read.map_err(|Unfit(why)| Stop::Refused(vec![format!("{}: {why}", shown(file))]))
 }
 
-/// The number of the last request; nothing is asked anew for that.
+/// The number of the last request; nothing is asked again for that.
 pub fn last(file: &str) -> Result<i64, Stop> {
     let last = reading(file)?.last();
     last.map_err(|Unfit(why)| Stop::Refused(vec![format!("{}: {why}", shown(file))]))
 }
 
-/// Whoever looks on while a journal is asked anew.
+/// Whoever looks on while a journal is asked again.
 pub trait Look {
     /// A row is about to be asked. The engine is as the rows before it left it; what is tried out on it must be taken back.
     fn before(&mut self, _row: &Row, _engine: &mut Engine) -> Result<(), Unfit> {
@@ -102,7 +102,7 @@ pub fn there(file: &str) -> Result<(), Stop> {
     }
 }
 
-/// The same of an open one; `look` sees each row that is asked anew.
+/// The same of an open one; `look` sees each row that is asked again.
 pub fn of(store: &dyn Store, whole: bool, look: &mut dyn Look) -> Result<Found, Unfit> {
     let mut found = Found::loaded(store.head()?)?;
     if !whole {
@@ -159,7 +159,7 @@ impl Found {
         Ok(())
     }
 
-    /// Asks every request anew that is behind this one.
+    /// Asks every request again that is after this one.
     fn behind(&mut self, store: &dyn Store, look: &mut dyn Look) -> Result<(), Unfit> {
         let known = store.each(self.version, self.last, &mut |step| match step {
             Step::Note(note) => {
@@ -182,7 +182,7 @@ impl Found {
         }
     }
 
-    /// It must be of a policy, where one is given; or what is told.
+    /// It must be of a policy, where one is given; or what is reported.
     pub fn of_policy(&self, policy: Option<&Policy>) -> Result<(), String> {
         let other = |given: &&Policy| given.bytes != self.policy.bytes;
         match policy.filter(other) {
@@ -194,7 +194,7 @@ impl Found {
         }
     }
 
-    /// Asks one request anew: it must be the next, as it was written, and be answered as it was.
+    /// Asks one request again: it must be the next, as it was written, and be answered as it was.
     fn follow(&mut self, row: &Row, kept: Kept) -> Result<(), Unfit> {
         let number = row.number;
         if number != self.last + 1 {

@@ -51,7 +51,7 @@ pub fn sum(act: &Connection) -> rusqlite::Result<Sum> {
 pub struct Head {
     pub version: i64,
     pub policy: Policy,
-    /// What the first request's sum is behind.
+    /// What the first request's sum is after.
     pub links: Links,
 }
 

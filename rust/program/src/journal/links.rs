@@ -35,7 +35,7 @@ impl Links {
         Links::Chain(Chain::behind(head))
     }
 
-    /// Goes on behind a row that has this sum.
+    /// Goes on after a row that has this sum.
     pub fn behind(kept: Kept) -> Links {
         match kept {
             Kept::Checksum(sum) => Links::Checksums(sum),

@@ -1,5 +1,5 @@
 //! A journal of version 2 brought to this version, in one transaction: whoever is killed meanwhile leaves it as it was. Every request has been asked
-//! anew by then. The rows are the same, chained; the snapshots go, since a new one is taken at once.
+//! again by then. The rows are the same, chained; the snapshots go, since a new one is taken at once.
 
 use super::append::bound;
 use super::begin::sealed;
@@ -24,7 +24,7 @@ INSERT INTO journal SELECT id, 3, program, policy_words, sessions_words, orders_
 DROP TABLE journal_2;
 ";
 
-/// Brings it to this version; the chain behind its last request.
+/// Brings it to this version; the chain after its last request.
 pub fn renewed(connection: &Connection, found: &Found) -> Result<Chain, Unfit> {
     let act = connection.unchecked_transaction()?;
     act.execute_batch(OLD)?;

@@ -51,7 +51,7 @@ impl std::fmt::Display for Seal {
     }
 }
 
-/// What is told of a journal whose rows are not chained.
+/// What is reported of a journal whose rows are not chained.
 pub const UNCHAINED: &str =
     "it is of version 2, whose checksums show damage alone: serve it once, which brings it to this version";
 

@@ -1,4 +1,4 @@
-//! A desk as it was after a request. Requests and replies are the truth, and a snapshot saves asking them anew: one whose buffers have another
+//! A desk as it was after a request. Requests and replies are the truth, and a snapshot saves asking them again: one whose buffers have another
 //! layout than the library's is left aside.
 
 use super::begin::lengths;

@@ -3,7 +3,7 @@
 //!
 //! No index of `request` serves them: every request would pay for it when it is written. SQLite makes the indexes that a query needs while it runs.
 
-/// Every view, behind the tables that they read.
+/// Every view, after the tables that they read.
 pub const VIEWS: &str = "
 CREATE INDEX name_number ON name (sort, number, request);
 CREATE VIEW rule AS

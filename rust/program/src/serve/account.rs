@@ -116,7 +116,7 @@ impl Gate {
     }
 }
 
-/// What is told in the place of a reply.
+/// What is reported in the place of a reply.
 #[derive(Clone, PartialEq, Eq, Debug)]
 pub enum Told {
     /// The account may not ask it.

@@ -22,7 +22,7 @@ pub struct Door {
     pub policy: Policy,
     /// The journal's file; none where nothing survives.
     pub journal: Option<String>,
-    /// What the desk's thread tells.
+    /// What the desk's thread says.
     pub feed: Arc<Feed>,
     inside: Mutex<Inside>,
 }
@@ -42,7 +42,7 @@ struct Inside {
 /// How often it is kept that the same stranger came, so that nobody fills a disk by coming.
 const MINUTE: Duration = Duration::from_secs(60);
 
-/// What is told of a desk that another server has.
+/// What is reported of a desk that another server has.
 fn served_by(name: &str, server: &str) -> String {
     format!("desk {name} is served by {server}")
 }

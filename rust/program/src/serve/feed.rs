@@ -1,4 +1,4 @@
-//! What a desk's thread tells those who look on: how far it is, its figures, since when tasks are held or done, and the last refusals.
+//! What a desk's thread says those who look on: how far it is, its figures, since when tasks are held or done, and the last refusals.
 //! It decides nothing: what is allowed is asked of the engine.
 
 use super::meter::{Meter, OfDesk};
@@ -57,7 +57,7 @@ impl Default for Seen {
 }
 
 impl Seen {
-    /// What a journal tells of the orders that are open now.
+    /// What a journal says of the orders that are open now.
     pub fn read(file: &str, live: &Live) -> Seen {
         let mut seen = Seen::default();
         let first = live.openings.iter().copied().filter(|&o| o != 0).min();
@@ -166,7 +166,7 @@ impl Feed {
         }
     }
 
-    /// The desk was taken over: what is seen of it is what its journal tells.
+    /// The desk was taken over: what is seen of it is what its journal says.
     pub fn taken(&self, place: Option<&str>, found: &Found) {
         if let (Some(mut seen), Some(place)) = (self.seen(), place) {
             *seen = Seen::read(place, &found.live);
@@ -184,7 +184,7 @@ impl Feed {
         Some(seen.lock().unwrap_or_else(PoisonError::into_inner))
     }
 
-    /// The journal was asked to keep so many requests, and took so long.
+    /// The journal was asked to keep that many requests, and took so long.
     pub fn wrote(&self, took: Duration, requests: usize, how: &Result<(), Failed>) {
         let figures = self.figures();
         figures.write.observe(took.as_secs_f64());

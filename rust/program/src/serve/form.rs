@@ -58,7 +58,7 @@ pub fn choice_of(line: &[u8]) -> Option<Sort> {
     chosen(&mut reader::tokens(text).0)
 }
 
-/// Where a line opens an order or creates a subject without a number, a number is put there, which the server chooses anew:
+/// Where a line opens an order or creates a subject without a number, a number is put there, which the server chooses again:
 /// `open order mill of template repair`, `create subject for user anna with roles clerk`.
 fn chosen(tokens: &mut Vec<Token>) -> Option<Sort> {
     let words: Vec<&str> = tokens.iter().take(3).map(|token| token.text).collect();
@@ -126,7 +126,7 @@ pub enum Denied {
     NotDone(String),
 }
 
-/// What is told in the place of a reply.
+/// What is reported in the place of a reply.
 pub fn told(denied: &Denied, shown: &Shown) -> Vec<u8> {
     let (key, word, why) = match denied {
         Denied::Barred(why) => ("barred", "barred", why),
@@ -146,7 +146,7 @@ fn object(mut object: Value, id: &Option<Value>) -> Vec<u8> {
     (object.to_string() + "\n").into()
 }
 
-/// What is told of something that is no request.
+/// What is reported of something that is no request.
 pub fn wrong(why: &str, shown: &Shown) -> Vec<u8> {
     told(&Denied::Wrong(why.to_string()), shown)
 }
@@ -205,7 +205,7 @@ fn granted(asked: &Asked, live: &Live) -> Value {
     object
 }
 
-/// What stands behind a granted reply: the number that was chosen, or a question's figures.
+/// What stands after a granted reply: the number that was chosen, or a question's figures.
 fn more(asked: &Asked, live: &Live) -> String {
     let task = |task: u16| live.names.shown(Sort::Task, task);
     match &asked.more {

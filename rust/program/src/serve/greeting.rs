@@ -1,5 +1,5 @@
 //! What a client may say before its requests, a line each: `as ACCOUNT`, `desk NAME`, `lines`, `records`, `keyed`. Each is answered with the same
-//! line. Without them there is one desk, and the first byte tells the form: a letter, `{` or a byte order mark begins text; every other
+//! line. Without them there is one desk, and the first byte shows the form: a letter, `{` or a byte order mark begins text; every other
 //! byte is the kind of a record, since no kind is a letter. Text that begins with a comment or a blank says `lines` first.
 
 use super::accept::House;
@@ -17,7 +17,7 @@ use std::sync::Arc;
 pub enum Form {
     Lines,
     Records,
-    /// Records, each with its key behind it.
+    /// Records, each with its key after it.
     Keyed,
 }
 
@@ -31,7 +31,7 @@ pub struct Greeted {
     pub lines: u64,
 }
 
-/// The words that begin such a line; a line of one word ends behind it.
+/// The words that begin such a line; a line of one word ends after it.
 const WORDS: [&[u8]; 5] = [b"as ", b"desk ", b"lines", b"records", b"keyed"];
 
 /// Whether the line that comes is one of them. What is there may be too little to tell; then more is waited for.

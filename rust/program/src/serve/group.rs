@@ -112,7 +112,7 @@ pub enum Waiting {
     Look(SyncSender<Engine>),
     /// What an account may not ask is kept in the journal; then it is said whether it is there.
     Barred(Box<Barred>, SyncSender<bool>),
-    /// The desk ends: what waits behind this is not done.
+    /// The desk ends: what waits after this is not done.
     End,
 }
 
@@ -137,7 +137,7 @@ pub struct Served {
     pub keys: i64,
     /// The keys of a desk without a journal.
     pub remembered: Remembered,
-    /// What those who look on are told.
+    /// What those who look on are reported.
     pub feed: Arc<Feed>,
 }
 

@@ -26,7 +26,7 @@ pub enum Cut {
     TooLong,
 }
 
-/// A record and its key, of which there is none behind a cut one.
+/// A record and its key, of which there is none after a cut one.
 #[derive(PartialEq, Eq, Debug)]
 pub struct Keyed {
     pub record: Vec<u8>,
@@ -90,7 +90,7 @@ impl<R: Read> Input<R> {
             };
             let line = rest[..length].to_vec();
             self.at += taken;
-            // The end of a line that was told already.
+            // The end of a line that was reported already.
             if std::mem::replace(&mut self.skipping, false) {
                 continue;
             }
@@ -101,7 +101,7 @@ impl<R: Read> Input<R> {
         }
     }
 
-    /// The next record with its key behind it: a byte that has the key's length, and the key. At the end of input the last may be cut.
+    /// The next record with its key after it: a byte that has the key's length, and the key. At the end of input the last may be cut.
     pub fn keyed(&mut self) -> Option<Keyed> {
         let rest = self.rest();
         if rest.len() <= LENGTH {

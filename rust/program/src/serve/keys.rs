@@ -27,7 +27,7 @@ pub fn key_of(bytes: &[u8]) -> Result<Arc<str>, String> {
     }
 }
 
-/// The key that a line begins with, `key=4f1c claim 1 7 sign`, and the line behind it, from which columns are counted.
+/// The key that a line begins with, `key=4f1c claim 1 7 sign`, and the line after it, from which columns are counted.
 pub fn of_line(line: &[u8]) -> Result<(Option<Arc<str>>, &[u8]), String> {
     let Some(rest) = line.trim_ascii_start().strip_prefix(b"key=") else {
         return Ok((None, line));
@@ -58,7 +58,7 @@ pub fn answered(asked: &mut Asked, before: &Recorded, names: &Names) {
     (asked.number, asked.reply, asked.place) = (before.number, before.reply, before.place);
 }
 
-/// The keys of a desk without a journal, as long as it lives: the last so many.
+/// The keys of a desk without a journal, as long as it lives: the last of them.
 #[derive(Default)]
 pub struct Remembered {
     by_key: HashMap<Whose, Recorded>,

@@ -1,4 +1,4 @@
-//! A desk that another server has: whoever asks for it here is told which one that is, until it is silent and this server takes the desk.
+//! A desk that another server has: whoever asks for it here is reported which one that is, until it is silent and this server takes the desk.
 
 use super::door::Door;
 use super::group::{refused, Waiting};

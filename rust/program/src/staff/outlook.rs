@@ -9,7 +9,7 @@ use crate::finish::{
 use crate::writer;
 use std::collections::BTreeSet;
 
-/// As many smallest crews are told.
+/// As many smallest crews are reported.
 pub const CREWS: usize = 20;
 
 /// What is found of an order and a shift.
@@ -45,7 +45,7 @@ pub struct Crews {
 
 /// How many may be away.
 pub struct Away {
-    /// Any so many may be.
+    /// Any N of them may be.
     pub any: usize,
     /// A smallest absence that stops it; none where more were not asked for, or it is not settled.
     pub stops: Option<Stops>,
@@ -73,7 +73,7 @@ pub struct Unable {
 /// What is asked of each order and shift.
 pub struct Question<'a> {
     pub budget: &'a Budget,
-    /// Whether any so many may be away; all where it is missing.
+    /// Whether any N may be away; all if it is missing.
     pub absent: Option<usize>,
 }
 
@@ -264,7 +264,7 @@ impl Work<'_, '_> {
             .collect()
     }
 
-    /// Those who are left, without so many of each class.
+    /// Those who are left, without that many of each class.
     fn left(&self, absent: &[usize]) -> Vec<usize> {
         let all = self.counts.iter().zip(absent);
         all.map(|(all, absent)| all - absent).collect()

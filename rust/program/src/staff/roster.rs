@@ -40,7 +40,7 @@ pub fn read(
 }
 
 fn duty(line: &str, policy: &[Record], names: &Names) -> Result<Duty, String> {
-    // Times have a colon too: the one with a space or nothing behind it parts the clerks off.
+    // Times have a colon too: the one with a space or nothing after it parts the clerks off.
     let at = line
         .match_indices(':')
         .map(|(at, _)| at)

@@ -25,7 +25,7 @@ pub struct Options<'a> {
     pub since: i64,
     /// No request is compared; the desk as it is now is brought under the other policy.
     pub present: bool,
-    /// How many examples of each difference are told.
+    /// How many examples of each difference are reported.
     pub examples: usize,
     pub json: bool,
 }

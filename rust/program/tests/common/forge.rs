@@ -1,4 +1,4 @@
-//! What a forger writes who knows docs/SERVE.md: every sum of a journal anew, with SQL and SHA-256 alone, by none of the program's code.
+//! What a forger writes who knows docs/SERVE.md: every sum of a journal again, with SQL and SHA-256 alone, by none of the program's code.
 
 use rusqlite::types::Value;
 use rusqlite::Connection;
@@ -53,7 +53,7 @@ fn values(sql: &Connection, select: &str, number: i64) -> Vec<Vec<Value>> {
     rows.unwrap().map(|row| row.unwrap()).collect()
 }
 
-/// The sums of the notes behind a request: starts, barred, clock.
+/// The sums of the notes after a request: starts, barred, clock.
 fn notes(sql: &Connection, after: i64) -> [Option<Sum>; 3] {
     [
         "SELECT at, program FROM start WHERE after = ?1 ORDER BY id",
@@ -94,7 +94,7 @@ fn record(columns: &[Value]) -> Value {
     Value::Blob(bytes)
 }
 
-/// A request's sum behind that of the one before it.
+/// A request's sum after that of the one before it.
 fn row(sql: &Connection, number: i64, before: &[u8]) -> Sum {
     let select = "SELECT number, at, client, account, via, user, kind, n, a, b, c, m, cut, reply + 256 * place, opening, key \
          FROM request WHERE number = ?1";

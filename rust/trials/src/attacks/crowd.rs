@@ -11,7 +11,7 @@ use std::process::Command;
 
 const LINE: &str = "check 1 operation 0 object 0";
 
-/// How many of so many clients are answered and how many told why not; nobody is forgotten. Those who are answered stay.
+/// How many of that many clients are answered and how many told why not; nobody is forgotten. Those who are answered stay.
 fn came(server: &Server, count: usize) -> Result<(Vec<Talk>, usize, String), String> {
     let (mut here, mut told, mut why) = (Vec::new(), 0, String::new());
     for at in 0..count {

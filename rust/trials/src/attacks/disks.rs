@@ -40,7 +40,7 @@ impl Drop for Disk {
 
 const NOT_TRIED: &str = "not tried: no small disk could be mounted here";
 
-/// Fills a disk up to so many bytes.
+/// Fills a disk up to that many bytes.
 fn filled(file: &Path, left: u64, folder: &Path) -> Result<(), String> {
     let df = Command::new("df")
         .args(["--output=avail", "-B1"])
@@ -92,7 +92,7 @@ pub fn begun(program: &Path) -> Came {
     Ok(format!("80 disks with 4 to 320 KB free: {whole} times the journal is there and sound, {none} times it is not there"))
 }
 
-/// Asks until so many were answered or one was not done: how many were answered.
+/// Asks until that many were answered or one was not done: how many were answered.
 fn asked(client: &mut Client, requests: &mut Requests, most: usize) -> Result<usize, String> {
     let mut answered = 0;
     while answered < most {

@@ -94,7 +94,7 @@ fn one(program: &Path, behind: &str, replaced: bool) -> Result<(u64, u64), Strin
         told.contains(said),
         format!("desk.db{behind} is gone, and it said: {told}"),
     )?;
-    // The index is made anew at the next start; the journal and its log are put back.
+    // The index is made again at the next start; the journal and its log are put back.
     let _ = fs::remove_file(&file);
     if behind != "-shm" {
         fs::rename(&away, &file).map_err(text)?;

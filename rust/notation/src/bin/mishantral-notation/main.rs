@@ -38,7 +38,7 @@ read or written.
 enum Stop {
     /// What to tell, a line each; exit status 2.
     Wrong(Wrongs),
-    /// Whoever read the output has stopped reading: nothing is told.
+    /// Whoever read the output has stopped reading: nothing is reported.
     Quiet,
 }
 
@@ -117,7 +117,7 @@ impl<'a> Given<'a> {
         self.flags.contains(&option)
     }
 
-    /// The word at a place, and none behind the last one.
+    /// The word at a place, and none after the last one.
     fn word(&self, at: usize, last: usize) -> Result<Option<&'a str>, Stop> {
         match self.words.get(last + 1) {
             Some(further) => Err(usage(&format!("one argument too many: {further}"))),

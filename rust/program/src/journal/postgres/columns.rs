@@ -14,7 +14,7 @@ pub struct Sealed<'a> {
     pub rows: Vec<(&'a Row, Sum)>,
     pub barred: Vec<&'a Barred>,
     pub jump: Option<Jump>,
-    /// The sums behind it.
+    /// The sums after it.
     pub chain: Chain,
     pub snapshot: Option<Snapshot>,
 }
