@@ -1,7 +1,7 @@
 -- What an accepted call yields.
 use mathlib.Core.Path.{_≡_, refl, sym, _∙_, subst}
 use mathlib.Core.List.{List, [], _∷_}
-use mathlib.Core.Bool.{cond}
+use mathlib.Core.Bool.{Bool, true, false, cond}
 use Prim.Native.Nat.{ℕ, zero, suc, _*_}
 use native.Mathlib.Omega.{arith}
 use lib.Dec.{leb}
@@ -12,9 +12,9 @@ use Rattle.paper_lower.specs.Checks.{GRANTED}
 use Rattle.paper_lower.specs.Records.{Bytes, Record, encode}
 use Rattle.paper_opl.specs.Reading.{Text, text, same, expect, word, misc}
 use Rattle.paper_opl.specs.Reading.Read.{got}
-use Rattle.paper_opl.specs.Elements.{elements}
-use Rattle.paper_opl.specs.Tree.{Elements, opening, element, behindMark, prolog, DEPTH, document}
-use Rattle.paper_opl.specs.Naming.{Line, inLine, lineEnd, lines, taskLines, those, recordsOf, written, translate}
+use Rattle.paper_opl.specs.Elements.{elementsOf}
+use Rattle.paper_opl.specs.Tree.{Elements, opening, element, behindMark, prolog, DEPTH, documentIn}
+use Rattle.paper_opl.specs.Naming.{Line, inLine, lineEnd, lines, taskLines, those, recordsOf, written, translateIn}
 use Rattle.paper_opl.specs.Promises.{WellShaped, RisingFrom, Yield}
 use Rattle.paper_opl.proofs.Inversion.{on, on-test, on-found, bad≢got, got-rest, none≢just}
 use Rattle.paper_opl.proofs.Conforms.{root}
@@ -22,13 +22,14 @@ use Rattle.paper_opl.proofs.Tags.{same-end}
 use Rattle.paper_opl.proofs.Judging.{all-are}
 use Rattle.paper_opl.proofs.Cardinalities.{AllSmall, document-small}
 use Rattle.paper_opl.proofs.WellFormed.{Rise, all-rise}
+use Rattle.paper_opl.proofs.DocumentLaid.{read-alike}
 
 -- ---- A text is read to its end.
 
-pub document-end : (s : Text) (es : Elements) (r : Text) → document s ≡ got es r → r ≡ []
-unfolding document
-document-end s es r e =
-    on (prolog s) (λ _ u p. on (opening root u) (λ c z o. on (element elements DEPTH (c .name) z) (λ i y h. on (misc (length y) y) (λ _ x m. on-test (same x [])
+pub document-end : (all : Bool) (s : Text) (es : Elements) (r : Text) → documentIn all s ≡ got es r → r ≡ []
+unfolding documentIn
+document-end all s es r e =
+    on (prolog s) (λ _ u p. on (opening root u) (λ c z o. on (element (elementsOf all) DEPTH (c .name) z) (λ i y h. on (misc (length y) y) (λ _ x m. on-test (same x [])
     (λ f. sym (got-rest (rw (p, o, h, m, f) at e)) ∙ same-end x f)
     (λ f. absurd (bad≢got (rw (p, o, h, m, f) at e)))) (λ x m. absurd (bad≢got (rw (p, o, h, m) at e)))) (λ y h. absurd (bad≢got (rw (p, o, h) at e))))
     (λ z o. absurd (bad≢got (rw (p, o) at e)))) (λ u p. absurd (bad≢got (rw p at e)))
@@ -69,18 +70,18 @@ written-length (r ∷ rs) h = let a = h .0 .sixteen in let b = written-length rs
 
 -- ---- "Accepted text always yields a policy of well-shaped records that says what the elements say".
 
-pub accepted : (s t : Text) (out : Bytes) → translate s t out .reply ≡ GRANTED → Yield s t out
-unfolding translate
-accepted s t out e =
-    on (document s) (λ es r d. on (taskLines t) (λ ls u l. on-found (recordsOf es ls)
+pub accepted : (all : Bool) (s t : Text) (out : Bytes) → translateIn all s t out .reply ≡ GRANTED → Yield all s t out
+unfolding translateIn
+accepted all s t out e =
+    on (documentIn all s) (λ es r d. on (taskLines t) (λ ls u l. on-found (recordsOf es ls)
     (λ rs q. on-test (leb (length (written rs)) (length out))
     (λ f.
-    let w = records-rise es ls rs (document-small s es r d) q in
+    let w = records-rise es ls rs (document-small all s es r d) q in
     record {
       elements = es;
       lineList = ls;
       records = rs;
-      text-is = rw (sym (document-end s es r d)) d;
+      text-is = rw (sym (document-end all s es r d)) d;
       lines-are = rw (sym (task-lines-end t ls u l)) l;
       says = q;
       well-shaped = w .0;
@@ -101,9 +102,16 @@ accepted s t out e =
     text≢zero q = omega arith
 
 -- "Refusals, nothing written"
-pub refusal-writes-nothing : (s t : Text) (out : Bytes) → (translate s t out .reply ≡ GRANTED → ⊥) → translate s t out .output ≡ out
-unfolding translate
-refusal-writes-nothing s t out n =
-    on (document s) (λ es r d. on (taskLines t) (λ ls u l. on-found (recordsOf es ls)
+pub refusal-writes-nothing : (all : Bool) (s t : Text) (out : Bytes) → (translateIn all s t out .reply ≡ GRANTED → ⊥) → translateIn all s t out .output ≡ out
+unfolding translateIn
+refusal-writes-nothing all s t out n =
+    on (documentIn all s) (λ es r d. on (taskLines t) (λ ls u l. on-found (recordsOf es ls)
     (λ rs q. on-test (leb (length (written rs)) (length out)) (λ f. absurd (n (rw (d, l, q, f)))) (λ f. rw (d, l, q, f))) (λ q. rw (d, l, q)))
     (λ u l. rw (d, l))) (λ r d. rw d)
+
+-- A text that Ask 4's call reads is read alike by the wider one.
+pub answered-alike : (s t : Text) (out : Bytes) → translateIn false s t out .reply ≡ GRANTED → translateIn true s t out ≡ translateIn false s t out
+unfolding translateIn
+answered-alike s t out e =
+    let y = accepted false s t out e in
+    rw (y .text-is, read-alike s (y .elements) (y .text-is))

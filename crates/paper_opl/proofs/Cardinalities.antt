@@ -11,14 +11,14 @@ use Rattle.paper_lower.specs.Lists.Maybe.{just}
 use Rattle.paper_lower.proofs.ListLaws.{both, every-append}
 use Rattle.paper_opl.specs.Reading.{Text, text, same, name, value, readingOpen}
 use Rattle.paper_opl.specs.Reading.Read.{got}
-use Rattle.paper_opl.specs.Elements.{next, Class, Attribute, Child, elements, rowIn, elementsOpen}
+use Rattle.paper_opl.specs.Elements.{next, Class, Attribute, Child, elementsOf, rowIn, elementsOpen}
 use Rattle.paper_opl.specs.Elements.Class.{names, number, any, spare}
-use Rattle.paper_opl.specs.Tree.{Given, Elements, digit, decimal, fits, find, without, attributes, document}
+use Rattle.paper_opl.specs.Tree.{Given, Elements, digit, decimal, fits, find, without, attributes, documentIn}
 use Rattle.paper_opl.specs.Tree.Elements.{nothing, node}
 use Rattle.paper_opl.specs.Layout.{attributesFit, elementsFit}
 use Rattle.paper_opl.specs.Naming.{Found, those, insides, inAll, inEach, valueOf}
 use Rattle.paper_opl.proofs.Inversion.{on-test, on-found, none≢just, just-value}
-use Rattle.paper_opl.proofs.InGrammar.{document-in-grammar}
+use Rattle.paper_opl.proofs.Wider.{document-wide}
 use Rattle.paper_opl.proofs.Conforms.{same-true, root, row-has}
 
 abbrev card : Text
@@ -80,27 +80,27 @@ unfoldable pub AllSmall : Elements → Type 0
 AllSmall nothing = Unit {0}
 AllSmall (node w gs inside behind) = Every Small gs × AllSmall inside × AllSmall behind
 
-table-tested : every (λ e. every numberTest (e .attributes)) elements ≡ true
+table-tested : every (λ e. every numberTest (e .attributes)) (elementsOf true) ≡ true
 unfolding listsOpen readingOpen elementsOpen isNumber
 table-tested = refl
 
-table-small : (w : Text) → every numberTest (rowIn elements w .attributes) ≡ true
+table-small : (w : Text) → every numberTest (rowIn (elementsOf true) w .attributes) ≡ true
 unfolding every
-table-small w = row-has (λ e. every numberTest (e .attributes)) elements w (λ v. refl) table-tested
+table-small w = row-has (λ e. every numberTest (e .attributes)) (elementsOf true) w (λ v. refl) table-tested
 
-all-small : (left : List Child) (es : Elements) → elementsFit left es ≡ true → AllSmall es
+all-small : (left : List Child) (es : Elements) → elementsFit true left es ≡ true → AllSmall es
 unfolding elementsFit AllSmall
 all-small left nothing h = tt
 all-small left (node w gs i b) h =
     on-found (next left w)
     (λ cs q.
-    let m = both (attributesFit (rowIn elements w .attributes) gs && elementsFit (rowIn elements w .children) i) (elementsFit cs b) (rw q at h) in
-    let k = both (attributesFit (rowIn elements w .attributes) gs) (elementsFit (rowIn elements w .children) i) (m .0) in
-    (attributes-small (rowIn elements w .attributes) gs (table-small w) (k .0), all-small (rowIn elements w .children) i (k .1), all-small cs b (m .1)))
+    let m = both (attributesFit (rowIn (elementsOf true) w .attributes) gs && elementsFit true (rowIn (elementsOf true) w .children) i) (elementsFit true cs b) (rw q at h) in
+    let k = both (attributesFit (rowIn (elementsOf true) w .attributes) gs) (elementsFit true (rowIn (elementsOf true) w .children) i) (m .0) in
+    (attributes-small (rowIn (elementsOf true) w .attributes) gs (table-small w) (k .0), all-small (rowIn (elementsOf true) w .children) i (k .1), all-small cs b (m .1)))
     (λ q. absurd (false≢true (rw q at h)))
 
-pub document-small : (s : Text) (es : Elements) (r : Text) → document s ≡ got es r → AllSmall es
-document-small s es r e = all-small root es (document-in-grammar s es r e)
+pub document-small : (all : Bool) (s : Text) (es : Elements) (r : Text) → documentIn all s ≡ got es r → AllSmall es
+document-small all s es r e = all-small root es (document-wide all s es r e)
 
 -- ---- What is found.
 

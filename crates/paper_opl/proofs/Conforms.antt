@@ -10,7 +10,7 @@ use Rattle.paper_lower.specs.Lists.Maybe.{just}
 use Rattle.paper_lower.proofs.ListLaws.{both, or-true}
 use Rattle.paper_opl.specs.Reading.{Text, text, same, starts, expect, name}
 use Rattle.paper_opl.specs.Reading.Read.{got}
-use Rattle.paper_opl.specs.Elements.{Times, Child, Element, elements, rowIn, one, needed, follow, next}
+use Rattle.paper_opl.specs.Elements.{Times, Child, Element, elementsOf, rowIn, one, needed, follow, next}
 use Rattle.paper_opl.specs.Elements.Times.{once, perhaps, often, least}
 use Rattle.paper_opl.specs.Tree.{Elements, attributes, Opened, opening}
 use Rattle.paper_opl.specs.Tree.Elements.{nothing, node}
@@ -68,10 +68,10 @@ next-among (c ∷ cs) ds w e =
 
 -- ---- Elements.
 
--- every element stands in one whose row has it as a child
+-- every element stands in one whose row, in the wider table, has it as a child
 unfoldable pub Fits : List Child → Elements → Type 0
 Fits cs nothing = Unit {0}
-Fits cs (node w gs inside behind) = (among cs w ≡ true) × Fits (rowIn elements w .children) inside × Fits cs behind
+Fits cs (node w gs inside behind) = (among cs w ≡ true) × Fits (rowIn (elementsOf true) w .children) inside × Fits cs behind
 
 pub fits-more : (ds cs : List Child) (es : Elements) → ((v : Text) → among ds v ≡ true → among cs v ≡ true) → Fits ds es → Fits cs es
 unfolding Fits

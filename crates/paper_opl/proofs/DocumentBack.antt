@@ -12,8 +12,8 @@ use Rattle.paper_lower.specs.Lists.Maybe.{none, just}
 use Rattle.paper_lower.proofs.ListLaws.{both, and-false}
 use Rattle.paper_opl.specs.Reading.{Text, after, text, same, starts, expect, white, skip, inName, value, misc, readingOpen}
 use Rattle.paper_opl.specs.Reading.Read.{got}
-use Rattle.paper_opl.specs.Elements.{Child, elements, next, mayEnd, rowIn}
-use Rattle.paper_opl.specs.Tree.{Elements, Inside, element, DEPTH, pseudo, optional, isVersion, isEncoding, isStandalone, declaration, doctype, byteOrderMark, behindMark, declared, prolog, document}
+use Rattle.paper_opl.specs.Elements.{Child, elementsOf, next, mayEnd, rowIn}
+use Rattle.paper_opl.specs.Tree.{Elements, Inside, element, DEPTH, pseudo, optional, isVersion, isEncoding, isStandalone, declaration, doctype, byteOrderMark, behindMark, declared, prolog, documentIn}
 use Rattle.paper_opl.specs.Tree.Elements.{nothing, node}
 use Rattle.paper_opl.specs.Layout.{attributesFit, elementsFit, inGrammar, attributesText, attributesLaid, givenBy, Layout, layoutText, layoutFits, treeOf, Document, documentText, documentFits, blank, someBlank, calm, Gap, gap, gapFits, Value, quoted, quoteFits, valueText, valueFits, optionalText, optionalFits, Declaration, declarationRest, declarationText, declarationFits, Doctype, doctypeText, doctypeFits, markText}
 use Rattle.paper_opl.specs.Layout.Layout.{last, short, long}
@@ -265,82 +265,83 @@ named = refl
 root-named : (v : Text) → among root v ≡ true → aName v ≡ true
 root-named v h = child-has aName root v named h
 
-root-deep : (v : Text) → among root v ≡ true → rank v ≤ 8
-root-deep v h = let l = ltb-true (rank v) 9 (child-has (λ u. ltb (rank u) 9) root v root-rank h) in omega arith
+module _ (all : Bool) where
+  root-deep : (v : Text) → among root v ≡ true → rank all v ≤ 8
+  root-deep v h = let l = ltb-true (rank all v) 9 (child-has (λ u. ltb (rank all u) 9) root v (root-rank all) h) in omega arith
 
--- the element, and white space and comments behind it
-module _ (x : Document) (fit : documentFits x ≡ true) where
-  whole : (g : Gap) (v u : Text) (cs : List Child) (e : Inside) (h : Gap) → layoutText (x .root) [] ≡ gap g (text "<" ++ (v ++ u)) → gapFits g ≡ true →
-      gapFits h ≡ true → aName v ≡ true → stops inName u ≡ true
-      → next root v ≡ just cs → element elements DEPTH v u ≡ got e (gap h []) → document (documentText x) ≡ got (node v (e .given) (e .elements) nothing) []
-  unfolding document documentText starts text same
-  whole g v u cs e h p f i a k n r =
-      let m = both (declarationFits (x .declaration)) _ fit in
-      let o = both (doctypeFits (x .doctype)) (layoutFits (x .root)) (m .1) in
-      rw (
-        p,
-        prolog-back g (v ++ u) f (not-first 33 v u refl a) (not-first 63 v u refl a) (x .mark) (x .declaration) (x .doctype) (m .0) (o .0),
-        opening-back root cs v u a k n,
-        r,
-        gap-back (length (gap h [])) h [] i refl refl (omega arith),
-      )
+  -- the element, and white space and comments behind it
+  module _ (x : Document) (fit : documentFits x ≡ true) where
+    whole : (g : Gap) (v u : Text) (cs : List Child) (e : Inside) (h : Gap) → layoutText (x .root) [] ≡ gap g (text "<" ++ (v ++ u)) → gapFits g ≡ true →
+        gapFits h ≡ true → aName v ≡ true → stops inName u ≡ true
+        → next root v ≡ just cs → element (elementsOf all) DEPTH v u ≡ got e (gap h []) → documentIn all (documentText x) ≡ got (node v (e .given) (e .elements) nothing) []
+    unfolding documentIn documentText starts text same
+    whole g v u cs e h p f i a k n r =
+        let m = both (declarationFits (x .declaration)) _ fit in
+        let o = both (doctypeFits (x .doctype)) (layoutFits (x .root)) (m .1) in
+        rw (
+          p,
+          prolog-back g (v ++ u) f (not-first 33 v u refl a) (not-first 63 v u refl a) (x .mark) (x .declaration) (x .doctype) (m .0) (o .0),
+          opening-back root cs v u a k n,
+          r,
+          gap-back (length (gap h [])) h [] i refl refl (omega arith),
+        )
 
-last-only : (y : Layout) → elementsFit [] (treeOf y) ≡ true → layoutFits y ≡ true → (h : Gap) × (y ≡ last h) × (gapFits h ≡ true)
-unfolding elementsFit treeOf layoutFits next
-last-only (last h) e f = (h, refl, f)
-last-only (short g v xs s y) e f = absurd (false≢true e)
-last-only (long g v xs s i c y) e f = absurd (false≢true e)
+  last-only : (y : Layout) → elementsFit all [] (treeOf y) ≡ true → layoutFits y ≡ true → (h : Gap) × (y ≡ last h) × (gapFits h ≡ true)
+  unfolding elementsFit treeOf layoutFits next
+  last-only (last h) e f = (h, refl, f)
+  last-only (short g v xs s y) e f = absurd (false≢true e)
+  last-only (long g v xs s i c y) e f = absurd (false≢true e)
 
--- "a text written from any tree of the grammar, with any white space and comments where they may stand, is read back as that tree"
-pub read-back : (x : Document) → documentFits x ≡ true → inGrammar (treeOf (x .root)) ≡ true → document (documentText x) ≡ got (treeOf (x .root)) []
-unfolding elementsFit treeOf layoutFits layoutText every
-read-back x fit h = go (x .root) refl h (both (doctypeFits (x .doctype)) (layoutFits (x .root)) (both (declarationFits (x .declaration)) _ fit .1) .1)
-  where
-    go : (y : Layout) → y ≡ x .root → inGrammar (treeOf y) ≡ true → layoutFits y ≡ true → document (documentText x) ≡ got (treeOf (x .root)) []
-    go (last g) q e l = absurd (false≢true e)
-    go (short g v xs s y) q e l =
-        on-found (next root v)
-        (λ cs n.
-        let m =
-        both (attributesFit (rowIn elements v .attributes) (givenBy xs) && mayEnd (rowIn elements v .children)) (elementsFit cs (treeOf y)) (rw n at e) in
-        let i = both (attributesFit (rowIn elements v .attributes) (givenBy xs)) (mayEnd (rowIn elements v .children)) (m .0) in
-        let o = both (gapFits g && attributesLaid xs && blank s) (layoutFits y) l in
-        let j = both (gapFits g && attributesLaid xs) (blank s) (o .0) in
-        let r = both (gapFits g) (attributesLaid xs) (j .0) in
-        let k = last-only y (rw (root-next v cs n) at (m .1)) (o .1) in
-        let a = next-among root cs v n .0 in
-        whole x fit g v (attributesText xs (s ++ (text "/>" ++ gap (k .0) []))) cs (record { given = givenBy xs; elements = nothing }) (k .0)
-        (ap (λ (z : Layout). layoutText z []) (sym q) ∙
-        ap (λ (z : Layout). gap g (text "<" ++ (v ++ attributesText xs (s ++ (text "/>" ++ layoutText z []))))) (k .1)) (r .0) (k .2) (root-named v a)
-        (attributes-stop xs s _ (r .1) (j .1) (slash-stops (gap (k .0) []))) n
-        (element-short 7 v xs s (i .0) (r .1) (j .1) (gap (k .0) []) (i .1))
-        ∙ ap (λ (z : Elements). got z []) (sym (ap treeOf (sym q) ∙ ap (λ (z : Layout). node v (givenBy xs) nothing (treeOf z)) (k .1))))
-        (λ n. absurd (false≢true (rw n at e)))
-    go (long g v xs s b c y) q e l =
-        on-found (next root v)
-        (λ cs n.
-        let m =
-        both (attributesFit (rowIn elements v .attributes) (givenBy xs) && elementsFit (rowIn elements v .children) (treeOf b)) (elementsFit cs (treeOf y))
-        (rw n at e) in
-        let i = both (attributesFit (rowIn elements v .attributes) (givenBy xs)) (elementsFit (rowIn elements v .children) (treeOf b)) (m .0) in
-        let o = both (gapFits g && attributesLaid xs && blank s && layoutFits b && blank c) (layoutFits y) l in
-        let o2 = both (gapFits g && attributesLaid xs && blank s && layoutFits b) (blank c) (o .0) in
-        let o3 = both (gapFits g && attributesLaid xs && blank s) (layoutFits b) (o2 .0) in
-        let j = both (gapFits g && attributesLaid xs) (blank s) (o3 .0) in
-        let r = both (gapFits g) (attributesLaid xs) (j .0) in
-        let k = last-only y (rw (root-next v cs n) at (m .1)) (o .1) in
-        let a = next-among root cs v n .0 in
-        let d : rank v ≤ 8 = root-deep v a in
-        whole x fit g v (attributesText xs (s ++ (text ">" ++ layoutText b (text "</" ++ (v ++ (c ++ (text ">" ++ gap (k .0) []))))))) cs
-        (record { given = givenBy xs; elements = treeOf b }) (k .0)
-        (ap (λ (z : Layout). layoutText z []) (sym q)
-        ∙ ap (λ (z : Layout). gap g
-        (text "<" ++ (v ++ attributesText xs (s ++ (text ">" ++ layoutText b (text "</" ++ (v ++ (c ++ (text ">" ++ layoutText z []))))))))) (k .1)) (r .0)
-        (k .2) (root-named v a) (attributes-stop xs s _ (r .1) (j .1) (angle-stops (layoutText b (text "</" ++ (v ++ (c ++ (text ">" ++ gap (k .0) [])))))))
-        n
-        (element-long 7 v xs s (i .0) (r .1) (j .1) (layoutText b (text "</" ++ (v ++ (c ++ (text ">" ++ gap (k .0) []))))) (gap (k .0) []) (treeOf b)
-        (content-back 7 b (rowIn elements v .children) v c (gap (k .0) []) (children-named v) (λ u z. let w = child-lower v u z in omega arith) (i .1) (o3 .1)
-        (root-named v a) (o2 .1)
-        (suc (length (layoutText b (text "</" ++ (v ++ (c ++ (text ">" ++ gap (k .0) []))))))) (omega arith)))
-        ∙ ap (λ (z : Elements). got z []) (sym (ap treeOf (sym q) ∙ ap (λ (z : Layout). node v (givenBy xs) (treeOf b) (treeOf z)) (k .1))))
-        (λ n. absurd (false≢true (rw n at e)))
+  -- "a text written from any tree of the grammar, with any white space and comments where they may stand, is read back as that tree"
+  pub read-back : (x : Document) → documentFits x ≡ true → inGrammar all (treeOf (x .root)) ≡ true → documentIn all (documentText x) ≡ got (treeOf (x .root)) []
+  unfolding elementsFit treeOf layoutFits layoutText every
+  read-back x fit h = go (x .root) refl h (both (doctypeFits (x .doctype)) (layoutFits (x .root)) (both (declarationFits (x .declaration)) _ fit .1) .1)
+    where
+      go : (y : Layout) → y ≡ x .root → inGrammar all (treeOf y) ≡ true → layoutFits y ≡ true → documentIn all (documentText x) ≡ got (treeOf (x .root)) []
+      go (last g) q e l = absurd (false≢true e)
+      go (short g v xs s y) q e l =
+          on-found (next root v)
+          (λ cs n.
+          let m =
+          both (attributesFit (rowIn (elementsOf all) v .attributes) (givenBy xs) && mayEnd (rowIn (elementsOf all) v .children)) (elementsFit all cs (treeOf y)) (rw n at e) in
+          let i = both (attributesFit (rowIn (elementsOf all) v .attributes) (givenBy xs)) (mayEnd (rowIn (elementsOf all) v .children)) (m .0) in
+          let o = both (gapFits g && attributesLaid xs && blank s) (layoutFits y) l in
+          let j = both (gapFits g && attributesLaid xs) (blank s) (o .0) in
+          let r = both (gapFits g) (attributesLaid xs) (j .0) in
+          let k = last-only y (rw (root-next v cs n) at (m .1)) (o .1) in
+          let a = next-among root cs v n .0 in
+          whole x fit g v (attributesText xs (s ++ (text "/>" ++ gap (k .0) []))) cs (record { given = givenBy xs; elements = nothing }) (k .0)
+          (ap (λ (z : Layout). layoutText z []) (sym q) ∙
+          ap (λ (z : Layout). gap g (text "<" ++ (v ++ attributesText xs (s ++ (text "/>" ++ layoutText z []))))) (k .1)) (r .0) (k .2) (root-named v a)
+          (attributes-stop xs s _ (r .1) (j .1) (slash-stops (gap (k .0) []))) n
+          (element-short all 7 v xs s (i .0) (r .1) (j .1) (gap (k .0) []) (i .1))
+          ∙ ap (λ (z : Elements). got z []) (sym (ap treeOf (sym q) ∙ ap (λ (z : Layout). node v (givenBy xs) nothing (treeOf z)) (k .1))))
+          (λ n. absurd (false≢true (rw n at e)))
+      go (long g v xs s b c y) q e l =
+          on-found (next root v)
+          (λ cs n.
+          let m =
+          both (attributesFit (rowIn (elementsOf all) v .attributes) (givenBy xs) && elementsFit all (rowIn (elementsOf all) v .children) (treeOf b)) (elementsFit all cs (treeOf y))
+          (rw n at e) in
+          let i = both (attributesFit (rowIn (elementsOf all) v .attributes) (givenBy xs)) (elementsFit all (rowIn (elementsOf all) v .children) (treeOf b)) (m .0) in
+          let o = both (gapFits g && attributesLaid xs && blank s && layoutFits b && blank c) (layoutFits y) l in
+          let o2 = both (gapFits g && attributesLaid xs && blank s && layoutFits b) (blank c) (o .0) in
+          let o3 = both (gapFits g && attributesLaid xs && blank s) (layoutFits b) (o2 .0) in
+          let j = both (gapFits g && attributesLaid xs) (blank s) (o3 .0) in
+          let r = both (gapFits g) (attributesLaid xs) (j .0) in
+          let k = last-only y (rw (root-next v cs n) at (m .1)) (o .1) in
+          let a = next-among root cs v n .0 in
+          let d : rank all v ≤ 8 = root-deep v a in
+          whole x fit g v (attributesText xs (s ++ (text ">" ++ layoutText b (text "</" ++ (v ++ (c ++ (text ">" ++ gap (k .0) []))))))) cs
+          (record { given = givenBy xs; elements = treeOf b }) (k .0)
+          (ap (λ (z : Layout). layoutText z []) (sym q)
+          ∙ ap (λ (z : Layout). gap g
+          (text "<" ++ (v ++ attributesText xs (s ++ (text ">" ++ layoutText b (text "</" ++ (v ++ (c ++ (text ">" ++ layoutText z []))))))))) (k .1)) (r .0)
+          (k .2) (root-named v a) (attributes-stop xs s _ (r .1) (j .1) (angle-stops (layoutText b (text "</" ++ (v ++ (c ++ (text ">" ++ gap (k .0) [])))))))
+          n
+          (element-long all 7 v xs s (i .0) (r .1) (j .1) (layoutText b (text "</" ++ (v ++ (c ++ (text ">" ++ gap (k .0) []))))) (gap (k .0) []) (treeOf b)
+          (content-back all 7 b (rowIn (elementsOf all) v .children) v c (gap (k .0) []) (children-named all v) (λ u z. let w = child-lower all v u z in omega arith) (i .1) (o3 .1)
+          (root-named v a) (o2 .1)
+          (suc (length (layoutText b (text "</" ++ (v ++ (c ++ (text ">" ++ gap (k .0) []))))))) (omega arith)))
+          ∙ ap (λ (z : Elements). got z []) (sym (ap treeOf (sym q) ∙ ap (λ (z : Layout). node v (givenBy xs) (treeOf b) (treeOf z)) (k .1))))
+          (λ n. absurd (false≢true (rw n at e)))

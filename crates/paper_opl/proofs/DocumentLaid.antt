@@ -11,8 +11,8 @@ use Rattle.paper_lower.specs.Lists.Maybe.{none, just}
 use Rattle.paper_lower.proofs.ListLaws.{both}
 use Rattle.paper_opl.specs.Reading.{Text, after, text, same, run, starts, expect, white, skip, space, value, equals, misc}
 use Rattle.paper_opl.specs.Reading.Read.{got}
-use Rattle.paper_opl.specs.Elements.{elements}
-use Rattle.paper_opl.specs.Tree.{Elements, Inside, opening, element, DEPTH, pseudo, optional, isVersion, isEncoding, isStandalone, declaration, doctype, behindMark, declared, prolog, document}
+use Rattle.paper_opl.specs.Elements.{elementsOf}
+use Rattle.paper_opl.specs.Tree.{Elements, Inside, opening, element, DEPTH, pseudo, optional, isVersion, isEncoding, isStandalone, declaration, doctype, behindMark, declared, prolog, documentIn}
 use Rattle.paper_opl.specs.Tree.Elements.{nothing, node}
 use Rattle.paper_opl.specs.Layout.{someBlank, Gap, gap, gapFits, Value, quoted, valueText, valueFits, attributesText, Layout, layoutText, layoutFits, treeOf, optionalText, optionalFits, Declaration, declarationRest, declarationText, declarationFits, Doctype, doctypeText, doctypeFits, markText, documentText, inGrammar, WrittenFrom}
 use Rattle.paper_opl.specs.Layout.Layout.{last, short, long}
@@ -20,6 +20,7 @@ use Rattle.paper_opl.proofs.Inversion.{on, on-test, bad≢got, got-rest
 use Rattle.paper_opl.proofs.Conforms.{root}
 use Rattle.paper_opl.proofs.Tags.{begun, same-end}
 use Rattle.paper_opl.proofs.InGrammar.{document-in-grammar}
+use Rattle.paper_opl.proofs.Wider.{wider-grammar}
 use Rattle.paper_opl.proofs.TreeBack.{same-self}
 use Rattle.paper_opl.proofs.DocumentBack.{read-back}
 use Rattle.paper_opl.proofs.BytesLaid.{expect-laid, starts-laid, skip-laid, space-laid, value-laid, equals-laid, gap-laid}
@@ -218,21 +219,21 @@ root-laid v u z i g h f k e (two-tags xs b y c gs l n p q m t) = (
 )
 
 -- an accepted text is written from its tree
-pub written-from : (s : Text) (es : Elements) (r : Text) → document s ≡ got es r → WrittenFrom es s
-unfolding document documentText
-written-from s es r e =
-    on (prolog s) (λ _ u p. on (opening root u) (λ c z o. on (element elements DEPTH (c .name) z) (λ i y h. on (misc (length y) y) (λ _ x m. on-test (same x [])
+pub written-from : (all : Bool) (s : Text) (es : Elements) (r : Text) → documentIn all s ≡ got es r → WrittenFrom all es s
+unfolding documentIn documentText
+written-from all s es r e =
+    on (prolog s) (λ _ u p. on (opening root u) (λ c z o. on (element (elementsOf all) DEPTH (c .name) z) (λ i y h. on (misc (length y) y) (λ _ x m. on-test (same x [])
     (λ f.
     let w = prolog-laid s u p in
     let g = gap-laid (length y) y x m in
     let q =
     root-laid (c .name) z y i (w .gap-before) (g .0) (w .gap-fits) (g .1) (g .2 ∙ ap (gap (g .0)) (same-end x f))
-    (element-laid elements DEPTH (c .name) z i y h) in
+    (element-laid (elementsOf all) DEPTH (c .name) z i y h) in
     record {
       layout = record { mark = w .mark; declaration = w .declaration; doctype = w .doctype; root = q .0 };
       fits = rw (w .declared, w .typed) (q .1);
       tree-is = q .2 ∙ got-value (rw (p, o, h, m, f) at e);
-      in-grammar = document-in-grammar s es r e;
+      in-grammar = document-in-grammar all s es r e;
       text-is =
           w .text-is ∙
           ap (λ (n : Text). markText (w .mark) (declarationText (w .declaration) (doctypeText (w .doctype) n)))
@@ -242,8 +243,21 @@ written-from s es r e =
     (λ z o. absurd (bad≢got (rw (p, o) at e)))) (λ u p. absurd (bad≢got (rw p at e)))
 
 -- Accepted are exactly the texts that are written from a tree of the grammar, and they are read as that tree.
-pub exactly : (s : Text) (es : Elements) → document s ≡ got es [] ↔ WrittenFrom es s
-exactly s es = (
-  written-from s es [],
-  λ w. ap document (w .text-is) ∙ read-back (w .layout) (w .fits) (ap inGrammar (w .tree-is) ∙ w .in-grammar) ∙ ap (λ (x : Elements). got x []) (w .tree-is),
+pub exactly : (all : Bool) (s : Text) (es : Elements) → documentIn all s ≡ got es [] ↔ WrittenFrom all es s
+exactly all s es = (
+  written-from all s es [],
+  λ w. ap (documentIn all) (w .text-is) ∙ read-back all (w .layout) (w .fits) (ap (inGrammar all) (w .tree-is) ∙ w .in-grammar) ∙
+      ap (λ (x : Elements). got x []) (w .tree-is),
 )
+
+-- a text that is written from a tree of Ask 4's grammar is written from one of the wider, and so read alike
+pub read-alike : (s : Text) (es : Elements) → documentIn false s ≡ got es [] → documentIn true s ≡ got es []
+read-alike s es e =
+    let w = written-from false s es [] e in
+    exactly true s es .1 (record {
+      layout = w .layout;
+      fits = w .fits;
+      tree-is = w .tree-is;
+      in-grammar = wider-grammar false es (w .in-grammar);
+      text-is = w .text-is;
+    })

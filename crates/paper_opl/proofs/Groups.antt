@@ -7,7 +7,7 @@ use borrow.Author.Tests.{eqb-true, not-true, not-false}
 use Rattle.paper_lower.specs.Lists.{some, every, listsOpen}
 use Rattle.paper_lower.proofs.ListLaws.{or-none}
 use Rattle.paper_opl.specs.Reading.{Text, text, same, readingOpen}
-use Rattle.paper_opl.specs.Elements.{Child, Element, elements, rowIn, elementsOpen}
+use Rattle.paper_opl.specs.Elements.{Child, Element, elementsOf, rowIn, elementsOpen}
 use Rattle.paper_opl.specs.Tree.{Elements, Tag, tagsOf}
 use Rattle.paper_opl.specs.Tree.Elements.{nothing, node}
 use Rattle.paper_opl.specs.Walk.{Context, turn, kinds, kindIn, kindAt, innerNames, leading, Saying, saying, sayings}
@@ -21,18 +21,18 @@ abbrev pub groupTest : (Text → Bool) → (Text → Bool) → Element → Bool
 groupTest heads ins e = cond (heads (e .name) || ins (e .name)) (forNames ins (e .children)) (forNames (λ v. not (ins v)) (e .children))
 
 module _ (heads ins : Text → Bool) (w : Text) where
-  group-row : every (groupTest heads ins) elements ≡ true →
-      cond (heads w || ins w) (forNames ins (rowIn elements w .children)) (forNames (λ v. not (ins v)) (rowIn elements w .children)) ≡ true
+  group-row : every (groupTest heads ins) (elementsOf true) ≡ true →
+      cond (heads w || ins w) (forNames ins (rowIn (elementsOf true) w .children)) (forNames (λ v. not (ins v)) (rowIn (elementsOf true) w .children)) ≡ true
   unfolding every
   group-row h =
-      rw (ap (λ (v : Text). cond (heads v || ins v) (forNames ins (rowIn elements w .children)) (forNames (λ v. not (ins v)) (rowIn elements w .children)))
-      (sym (row-name elements w)))
-      (row-has (groupTest heads ins) elements w (λ v. on-test (heads v || ins v) (λ q. rw q) (λ q. rw q)) h)
+      rw (ap (λ (v : Text). cond (heads v || ins v) (forNames ins (rowIn (elementsOf true) w .children)) (forNames (λ v. not (ins v)) (rowIn (elementsOf true) w .children)))
+      (sym (row-name (elementsOf true) w)))
+      (row-has (groupTest heads ins) (elementsOf true) w (λ v. on-test (heads v || ins v) (λ q. rw q) (λ q. rw q)) h)
 
-  pub stands-in : every (groupTest heads ins) elements ≡ true → heads w || ins w ≡ true → forNames ins (rowIn elements w .children) ≡ true
+  pub stands-in : every (groupTest heads ins) (elementsOf true) ≡ true → heads w || ins w ≡ true → forNames ins (rowIn (elementsOf true) w .children) ≡ true
   stands-in h e = rw e at (group-row h)
 
-  pub stands-out : every (groupTest heads ins) elements ≡ true → heads w || ins w ≡ false → forNames (λ v. not (ins v)) (rowIn elements w .children) ≡ true
+  pub stands-out : every (groupTest heads ins) (elementsOf true) ≡ true → heads w || ins w ≡ false → forNames (λ v. not (ins v)) (rowIn (elementsOf true) w .children) ≡ true
   stands-out h e = rw e at (group-row h)
 
 -- an element that says a record, in some context
@@ -42,7 +42,7 @@ head w = not (eqb (kindIn kinds w) 0) || same w (text "critical_role_set")
 abbrev pub innerName : Text → Bool
 innerName w = some (same w) innerNames
 
-heads-group : every (groupTest head innerName) elements ≡ true
+heads-group : every (groupTest head innerName) (elementsOf true) ≡ true
 unfolding listsOpen readingOpen elementsOpen kinds kindIn innerNames head
 heads-group = refl
 
@@ -105,7 +105,7 @@ silent cs h (node w gs i b) f c rest =
     let k : kindAt c (record { name = w; given = gs }) ≡ 0 = quiet c (record { name = w; given = gs }) q in
     let m : turn c (record { name = w; given = gs }) ≡ c =
     still c (record { name = w; given = gs }) (not-true (turning w) (name-has (λ v. not (turning v)) innerNames w inner-still n)) in
-    let x = silent (rowIn elements w .children) (stands-in head innerName w heads-group (rw (q, n))) i (f .1) c (tagsOf b ++ rest) in
+    let x = silent (rowIn (elementsOf true) w .children) (stands-in head innerName w heads-group (rw (q, n))) i (f .1) c (tagsOf b ++ rest) in
     let y = silent cs h b (f .2) c rest in
     record {
       says-nothing = rw (k, m, x .says-nothing, x .turns-nothing, y .says-nothing);
@@ -135,7 +135,7 @@ told-is cs h (node w gs i b) f c rest l =
     joined _ _ (told d i) (told (turns d (tagsOf i)) b) (sayings (turns d (tagsOf i ++ tagsOf b)) rest) (sayings d ((tagsOf i ++ tagsOf b) ++ rest))
     (on-test (head w) (λ q. ap (λ (x : List Tag). cond (eqb (kindAt c t) 0) [] (saying c t x ∷ [])) (leading-all q)) (λ q. rw (quiet c t q)))
     (ap (sayings d) (append-assoc (tagsOf i) (tagsOf b) rest) ∙
-    on-test (head w) (λ q. all-in q) (λ q. told-is (rowIn elements w .children) (outer q) i (f .1) d (tagsOf b ++ rest) out)
+    on-test (head w) (λ q. all-in q) (λ q. told-is (rowIn (elementsOf true) w .children) (outer q) i (f .1) d (tagsOf b ++ rest) out)
     ∙ ap (λ (x : List Saying). told d i ++ x) (told-is cs h b (f .2) (turns d (tagsOf i)) rest l ∙
     ap (λ (x : Context). told (turns d (tagsOf i)) b ++ sayings x rest) (sym (turns-append d (tagsOf i) (tagsOf b)))))
   where
@@ -149,7 +149,7 @@ told-is cs h (node w gs i b) f c rest l =
     out = leads-out cs h b (f .2) rest l
 
     hushed : head w ≡ true → Silent d i (tagsOf b ++ rest)
-    hushed q = silent (rowIn elements w .children) (stands-in head innerName w heads-group (rw q)) i (f .1) d (tagsOf b ++ rest)
+    hushed q = silent (rowIn (elementsOf true) w .children) (stands-in head innerName w heads-group (rw q)) i (f .1) d (tagsOf b ++ rest)
 
     leading-all : head w ≡ true → leading ((tagsOf i ++ tagsOf b) ++ rest) ≡ tagsOf i
     leading-all q = ap leading (append-assoc (tagsOf i) (tagsOf b) rest) ∙ hushed q .leads ∙ ap (λ (x : List Tag). tagsOf i ++ x) out ∙ append-nil (tagsOf i)
@@ -157,5 +157,5 @@ told-is cs h (node w gs i b) f c rest l =
     all-in : head w ≡ true → sayings d (tagsOf i ++ (tagsOf b ++ rest)) ≡ told d i ++ sayings (turns d (tagsOf i)) (tagsOf b ++ rest)
     all-in q = let x = hushed q in x .adds-nothing ∙ sym (rw (x .says-nothing, x .turns-nothing))
 
-    outer : head w ≡ false → forNames (λ v. not (innerName v)) (rowIn elements w .children) ≡ true
+    outer : head w ≡ false → forNames (λ v. not (innerName v)) (rowIn (elementsOf true) w .children) ≡ true
     outer q = stands-out head innerName w heads-group (rw (q, not-true (innerName w) (child-has (λ v. not (innerName v)) cs w h (f .0))))

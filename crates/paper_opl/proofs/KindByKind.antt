@@ -9,7 +9,7 @@ use borrow.Author.Tests.{eqb-true, eq-eqb, not-true}
 use Rattle.paper_lower.specs.Lists.{some, every, many, keep, each, listsOpen}
 use Rattle.paper_lower.proofs.ListLaws.{both, or-none, many-append}
 use Rattle.paper_opl.specs.Reading.{Text, text, same, readingOpen}
-use Rattle.paper_opl.specs.Elements.{Child, elements, rowIn, elementsOpen}
+use Rattle.paper_opl.specs.Elements.{Child, elementsOf, rowIn, elementsOpen}
 use Rattle.paper_opl.specs.Tree.{Given, Elements, Tag, tagsOf}
 use Rattle.paper_opl.specs.Tree.Elements.{nothing, node}
 use Rattle.paper_opl.specs.Naming.{Found, those, insides, inAll, inEach}
@@ -156,7 +156,7 @@ partitioning = text "hdsodtp_partitioning"
 abbrev pub inPartitioning : Text → Bool
 inPartitioning w = some (same w) (partition ∷ text "partition_task" ∷ [])
 
-partitionings-group : every (groupTest (λ w. same w partitioning) inPartitioning) elements ≡ true
+partitionings-group : every (groupTest (λ w. same w partitioning) inPartitioning) (elementsOf true) ≡ true
 unfolding listsOpen readingOpen elementsOpen
 partitionings-group = refl
 
@@ -196,7 +196,7 @@ in-partitioning cs h (node w gs i b) f c s =
     let m : turn c (record { name = w; given = gs }) ≡ c = still c (record { name = w; given = gs }) q in
     let p : same w partitioning ≡ false =
     or-none (same w (text "dynamic_separation_of_duty")) (same w partitioning) (or-none (same w (text "static_separation_of_duty")) _ q .1) .1 in
-    let x = in-partitioning (rowIn elements w .children) (stands-in (λ w. same w partitioning) inPartitioning w partitionings-group (rw (p, n))) i (f .1) c s in
+    let x = in-partitioning (rowIn (elementsOf true) w .children) (stands-in (λ w. same w partitioning) inPartitioning w partitionings-group (rw (p, n))) i (f .1) c s in
     let y = in-partitioning cs h b (f .2) c s in
     record {
       found-are =
@@ -233,7 +233,7 @@ partitions cs h (node w gs i b) f c s =
     on-test (same w partitioning)
     (λ q.
     let x =
-    in-partitioning (rowIn elements w .children) (stands-in (λ w. same w partitioning) inPartitioning w partitionings-group (rw q)) i (f .1) d
+    in-partitioning (rowIn (elementsOf true) w .children) (stands-in (λ w. same w partitioning) inPartitioning w partitionings-group (rw q)) i (f .1) d
     (turn-sets c t s) in
     let y = partitions cs h b (f .2) d (turn-sets c t s) in
     let p : d .partitionings ≡ suc (c .partitionings) = turned c t ∙ rw q in
@@ -250,7 +250,7 @@ partitions cs h (node w gs i b) f c s =
     })
     (λ q.
     let x =
-    partitions (rowIn elements w .children) (stands-out (λ w. same w partitioning) inPartitioning w partitionings-group (rw (q, out))) i (f .1) d
+    partitions (rowIn (elementsOf true) w .children) (stands-out (λ w. same w partitioning) inPartitioning w partitionings-group (rw (q, out))) i (f .1) d
     (turn-sets c t s) in
     let y = partitions cs h b (f .2) (turns d (tagsOf i)) (turns-sets d (tagsOf i) (turn-sets c t s)) in
     let p : d .partitionings ≡ c .partitionings = turned c t ∙ rw q in
@@ -298,7 +298,7 @@ inSeparationNames = text "critical_role_sets" ∷ roleSet ∷ text "critical_rol
 abbrev pub inSeparation : Text → Bool
 inSeparation w = some (same w) inSeparationNames
 
-separations-group : every (groupTest separation inSeparation) elements ≡ true
+separations-group : every (groupTest separation inSeparation) (elementsOf true) ≡ true
 unfolding listsOpen readingOpen elementsOpen inSeparationNames
 separations-group = refl
 
@@ -363,7 +363,7 @@ module _ (k : ℕ) (o : Text) (above : (eqb k 0 ≡ false) × (eqb 0 k ≡ false
         let u = or-none (same w static) _ q in
         let v = or-none (same w dynamic) (same w partitioning) (u .1) in
         let p : separation w ≡ false = rw (u .0, v .0) in
-        let x = in-separation (rowIn elements w .children) (stands-in separation inSeparation w separations-group (rw (p, n))) i (f .1) c in
+        let x = in-separation (rowIn (elementsOf true) w .children) (stands-in separation inSeparation w separations-group (rw (p, n))) i (f .1) c in
         let y = in-separation cs h b (f .2) c in
         record {
           found-are =
@@ -386,13 +386,13 @@ module _ (k : ℕ) (o : Text) (above : (eqb k 0 ≡ false) × (eqb 0 k ≡ false
     role-sets cs h (node w gs i b) f c =
         on-test (separation w)
         (λ q.
-        let x = in-separation (rowIn elements w .children) (stands-in separation inSeparation w separations-group (rw q)) i (f .1) d in
+        let x = in-separation (rowIn (elementsOf true) w .children) (stands-in separation inSeparation w separations-group (rw q)) i (f .1) d in
         parts k c w gs i b [] (cond (same w o) (those roleSet 0 i) []) (inAll roleSet (insides o b)) not-own (x .found-are ∙ rw (told-apart c w gs q))
         (role-sets cs h b (f .2) (turns d (tagsOf i)))
         ∙ on-test (same w o) (λ p. rw (p, x .no-other)) (λ p. rw (p, x .no-other)))
         (λ q.
         parts k c w gs i b [] (inAll roleSet (insides o i)) (inAll roleSet (insides o b)) not-own
-        (role-sets (rowIn elements w .children) (stands-out separation inSeparation w separations-group (rw (q, out))) i (f .1) d)
+        (role-sets (rowIn (elementsOf true) w .children) (stands-out separation inSeparation w separations-group (rw (q, out))) i (f .1) d)
         (role-sets cs h b (f .2) (turns d (tagsOf i)))
         ∙ rw (is-one w q) (sym (all-append roleSet (insides o i) (insides o b))))
       where

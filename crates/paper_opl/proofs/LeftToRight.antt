@@ -1,7 +1,7 @@
 -- The walk from left to right gives the names and the records that the elements of an accepted text say.
 use mathlib.Core.Path.{_≡_, refl, sym, ap, _∙_}
 use mathlib.Core.List.{List, [], _∷_, _++_, append-nil}
-use mathlib.Core.Bool.{true, not, cond}
+use mathlib.Core.Bool.{Bool, true, not, cond}
 use Prim.Native.Nat.{ℕ, suc}
 use Prim.Native.String.{String}
 use lib.Dec.{eqb}
@@ -13,14 +13,14 @@ use Rattle.paper_lower.specs.Records.{Bytes, Record}
 use Rattle.paper_lower.proofs.ListLaws.{or-none, many-each}
 use Rattle.paper_opl.specs.Reading.{Text, text, same, readingOpen}
 use Rattle.paper_opl.specs.Reading.Read.{got}
-use Rattle.paper_opl.specs.Elements.{elements, elementsOpen}
-use Rattle.paper_opl.specs.Tree.{Given, Tag, Elements, tagsOf, document}
+use Rattle.paper_opl.specs.Elements.{elementsOf, elementsOpen}
+use Rattle.paper_opl.specs.Tree.{Given, Tag, Elements, tagsOf, documentIn}
 use Rattle.paper_opl.specs.Tree.Elements.{nothing, node}
-use Rattle.paper_opl.specs.Naming.{Line, those, insides, inAll, inEach, valueOf, declaredBy, Names, spaceOf, namesOf, Row, firstRows, lastRows, recordBy, recordsBy, recordsOf, taskLines, translate}
-use Rattle.paper_opl.specs.Walk.{called, declaredIn, namesIn, start, turn, kinds, kindIn, innerNames, leading, Saying, sayings, rowOf, recordSaid, rising, recordsIn, tags, tag, walked, kindAt, saying, inner, Context}
+use Rattle.paper_opl.specs.Naming.{Line, those, insides, inAll, inEach, valueOf, declaredBy, Names, spaceOf, namesOf, Row, firstRows, lastRows, recordBy, recordsBy, recordsOf, taskLines, translateIn}
+use Rattle.paper_opl.specs.Walk.{called, declaredIn, namesIn, start, turn, kinds, kindIn, innerNames, leading, Saying, sayings, rowOf, recordSaid, rising, recordsIn, tags, tag, walkedIn, kindAt, saying, inner, Context}
 use Rattle.paper_opl.proofs.Inversion.{on, on-test}
 use Rattle.paper_opl.proofs.Conforms.{same-true, forNames, Fits, root}
-use Rattle.paper_opl.proofs.InGrammar.{document-fits}
+use Rattle.paper_opl.proofs.Wider.{document-fits}
 use Rattle.paper_opl.proofs.Groups.{innerName, told, told-is}
 use Rattle.paper_opl.proofs.KindByKind.{keep-append, each-append, ofKind, simpleTest, simple, static, dynamic, inSeparationNames, role-sets, partitions}
 use Rattle.paper_opl.proofs.Tags.{walk, step, tags-are}
@@ -189,13 +189,13 @@ module _ (es : Elements) (f : Fits root es) where
 
 -- ---- "Accepted text": what the walk over its tags gives is what its elements say.
 
-pub walk-gives : (s : Text) (es : Elements) (r : Text) (ls : List Line) → document s ≡ got es r → recordsOf es ls ≡ recordsIn (tags s) ls
-walk-gives s es r ls e = records-are es (document-fits s es r e) ls ∙ rw (tags-are s es r e)
+pub walk-gives : (all : Bool) (s : Text) (es : Elements) (r : Text) (ls : List Line) → documentIn all s ≡ got es r → recordsOf es ls ≡ recordsIn (tags s) ls
+walk-gives all s es r ls e = records-are es (document-fits all s es r e) ls ∙ rw (tags-are all s es r e)
 
-pub walked-is : (s t : Text) (out : Bytes) → translate s t out ≡ walked s t out
-unfolding translate walked
-walked-is s t out =
-    on (document s) (λ es r d. on (taskLines t) (λ ls u l. rw (d, l, walk-gives s es r ls d)) (λ u l. rw (d, l))) (λ r d. rw d)
+pub walked-is : (all : Bool) (s t : Text) (out : Bytes) → translateIn all s t out ≡ walkedIn all s t out
+unfolding translateIn walkedIn
+walked-is all s t out =
+    on (documentIn all s) (λ es r d. on (taskLines t) (λ ls u l. rw (d, l, walk-gives all s es r ls d)) (λ u l. rw (d, l))) (λ r d. rw d)
 
 -- ---- A step of the walk, and what it says.
 

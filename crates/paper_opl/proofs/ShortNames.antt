@@ -12,8 +12,8 @@ use Rattle.paper_lower.specs.Records.{Record}
 use Rattle.paper_lower.proofs.ListLaws.{both}
 use Rattle.paper_opl.specs.Reading.{Text, text, same, readingOpen}
 use Rattle.paper_opl.specs.Reading.Read.{got}
-use Rattle.paper_opl.specs.Elements.{Child, elements, rowIn, one, next, elementsOpen}
-use Rattle.paper_opl.specs.Tree.{Given, Elements, Tag, tagsOf, document}
+use Rattle.paper_opl.specs.Elements.{Child, elementsOf, rowIn, one, next, elementsOpen}
+use Rattle.paper_opl.specs.Tree.{Given, Elements, Tag, tagsOf, documentIn}
 use Rattle.paper_opl.specs.Tree.Elements.{nothing, node}
 use Rattle.paper_opl.specs.Layout.{elementsFit, inGrammar, attributesFit}
 use Rattle.paper_opl.specs.Naming.{Line, Found, those, valueOf, Space, placeOf, numberIn, Names, namesOf, Field, the, its, Row, firstRows, lastRows, recordBy, taskRecord, recordsBy, allOf, recordsOf, row, all, ·, user, role, permission as permission-field, operation as operation-field, object as object-field}
@@ -25,7 +25,7 @@ use Rattle.paper_opl.proofs.KindByKind.{each-append}
 use Rattle.paper_opl.proofs.Judging.{every-append, every-of, all-there}
 use Rattle.paper_opl.proofs.LeftToRight.{declared-are, walk-gives}
 use Rattle.paper_opl.proofs.Tags.{tags-are}
-use Rattle.paper_opl.proofs.InGrammar.{document-in-grammar}
+use Rattle.paper_opl.proofs.Wider.{document-wide}
 
 abbrev pub short : Text → Bool
 short w = leb (length w) 64
@@ -69,11 +69,11 @@ permission = text "permission"
 abbrev inPermission : Text → Bool
 inPermission w = some (same w) (text "operation" ∷ text "object" ∷ [])
 
-permissions-group : every (groupTest (λ w. same w permission) inPermission) elements ≡ true
+permissions-group : every (groupTest (λ w. same w permission) inPermission) (elementsOf true) ≡ true
 unfolding listsOpen readingOpen elementsOpen
 permissions-group = refl
 
-nothing-inside : (w : Text) (es : Elements) → rowIn elements w .children ≡ [] → elementsFit (rowIn elements w .children) es ≡ true → es ≡ nothing
+nothing-inside : (w : Text) (es : Elements) → rowIn (elementsOf true) w .children ≡ [] → elementsFit true (rowIn (elementsOf true) w .children) es ≡ true → es ≡ nothing
 unfolding elementsFit next
 nothing-inside w nothing r h = refl
 nothing-inside w (node v gs i b) r h = absurd (false≢true (rw r at h))
@@ -86,11 +86,11 @@ one-next c cs ds w e =
     (λ q. on-test (same w (text c)) (λ p. (same-true w (text c) p, sym (just-value (rw q at e)))) (λ p. absurd (false≢true (rw p at q))))
     (λ q. absurd (none≢just (rw q at e)))
 
-empty-rows : (rowIn elements (text "operation") .children ≡ []) × (rowIn elements (text "object") .children ≡ [])
+empty-rows : (rowIn (elementsOf true) (text "operation") .children ≡ []) × (rowIn (elementsOf true) (text "object") .children ≡ [])
 unfolding readingOpen elementsOpen
 empty-rows = (refl, refl)
 
-permission-row : rowIn elements permission .children ≡ one "operation" ∷ one "object" ∷ []
+permission-row : rowIn (elementsOf true) permission .children ≡ one "operation" ∷ one "object" ∷ []
 unfolding readingOpen elementsOpen
 permission-row = refl
 
@@ -100,26 +100,26 @@ record Pair (es : Elements) : Type 0 where
   object : List Given
   are : es ≡ node (text "operation") operation nothing (node (text "object") object nothing nothing)
 
-one-fits : (c : String) (cs : List Child) (es : Elements) → rowIn elements (text c) .children ≡ [] → elementsFit (one c ∷ cs) es ≡ true →
-    (gs : List Given) × (b : Elements) × (es ≡ node (text c) gs nothing b) × (elementsFit cs b ≡ true)
+one-fits : (c : String) (cs : List Child) (es : Elements) → rowIn (elementsOf true) (text c) .children ≡ [] → elementsFit true (one c ∷ cs) es ≡ true →
+    (gs : List Given) × (b : Elements) × (es ≡ node (text c) gs nothing b) × (elementsFit true cs b ≡ true)
 unfolding elementsFit every
 one-fits c cs nothing r h = absurd (false≢true h)
 one-fits c cs (node w gs i b) r h =
     on-found (next (one c ∷ cs) w)
     (λ ds q.
     let n = one-next c cs ds w q in
-    let p = both (attributesFit (rowIn elements w .attributes) gs && elementsFit (rowIn elements w .children) i) (elementsFit ds b) (rw q at h) in
-    let o = both (attributesFit (rowIn elements w .attributes) gs) (elementsFit (rowIn elements w .children) i) (p .0) in
+    let p = both (attributesFit (rowIn (elementsOf true) w .attributes) gs && elementsFit true (rowIn (elementsOf true) w .children) i) (elementsFit true ds b) (rw q at h) in
+    let o = both (attributesFit (rowIn (elementsOf true) w .attributes) gs) (elementsFit true (rowIn (elementsOf true) w .children) i) (p .0) in
     let e = nothing-inside w i (rw (n .0) r) (o .1) in
     (gs, b, rw (n .0, e), rw (n .1) at (p .1)))
     (λ q. absurd (false≢true (rw q at h)))
 
-last-one : (es : Elements) → elementsFit [] es ≡ true → es ≡ nothing
+last-one : (es : Elements) → elementsFit true [] es ≡ true → es ≡ nothing
 unfolding elementsFit next
 last-one nothing h = refl
 last-one (node w gs i b) h = absurd (false≢true h)
 
-pair : (es : Elements) → elementsFit (rowIn elements permission .children) es ≡ true → Pair es
+pair : (es : Elements) → elementsFit true (rowIn (elementsOf true) permission .children) es ≡ true → Pair es
 pair es h =
     let x = one-fits "operation" (one "object" ∷ []) es (empty-rows .0) (rw permission-row at h) in
     let y = one-fits "object" [] (x .1) (empty-rows .1) (x .3) in
@@ -156,7 +156,7 @@ module _ (ns : Names) (r : Row) (e w : String) (space : Names → Space) (inner 
         let n = number-short (space ns) (valueOf (text w) (a .given)) (rw (a .tagged) at t) in
         rw (a .found, n)
 
-    inner-short : (left : List Child) → ((v : Text) → among left v ≡ true → inPermission v ≡ false) → (es : Elements) → elementsFit left es ≡ true
+    inner-short : (left : List Child) → ((v : Text) → among left v ≡ true → inPermission v ≡ false) → (es : Elements) → elementsFit true left es ≡ true
         → every (λ x. there (recordBy ns r x)) (those permission 0 es) ≡ true → every short (each valueIn (those (text e) 0 es)) ≡ true
     unfolding elementsFit those every each
     inner-short left out nothing f h = refl
@@ -164,8 +164,8 @@ module _ (ns : Names) (r : Row) (e w : String) (space : Names → Space) (inner 
         on-found (next left v)
         (λ cs q.
         let t = next-among left cs v q in
-        let m = both (attributesFit (rowIn elements v .attributes) gs && elementsFit (rowIn elements v .children) i) (elementsFit cs b) (rw q at f) in
-        let k = both (attributesFit (rowIn elements v .attributes) gs) (elementsFit (rowIn elements v .children) i) (m .0) in
+        let m = both (attributesFit (rowIn (elementsOf true) v .attributes) gs && elementsFit true (rowIn (elementsOf true) v .children) i) (elementsFit true cs b) (rw q at f) in
+        let k = both (attributesFit (rowIn (elementsOf true) v .attributes) gs) (elementsFit true (rowIn (elementsOf true) v .children) i) (m .0) in
         let o = out v (t .0) in
         let z : same v (text e) ≡ false =
         on-test (same v (text e)) (λ s. absurd (true≢false (sym inner ∙ ap inPermission (sym (same-true v (text e) s)) ∙ o))) (λ s. s) in
@@ -180,7 +180,7 @@ module _ (ns : Names) (r : Row) (e w : String) (space : Names → Space) (inner 
         let c = every-append (λ x. there (recordBy ns r x)) (those permission 0 i) (those permission 0 b) in
         let d = both (every (λ x. there (recordBy ns r x)) (those permission 0 i)) _ (sym c ∙ (rw s at h)) in
         each-short valueIn (those (text e) 0 i) (those (text e) 0 b)
-        (inner-short (rowIn elements v .children) (λ u x. not-true (inPermission u) (child-has (λ u. not (inPermission u)) (rowIn elements v .children) u
+        (inner-short (rowIn (elementsOf true) v .children) (λ u x. not-true (inPermission u) (child-has (λ u. not (inPermission u)) (rowIn (elementsOf true) v .children) u
         (stands-out (λ w. same w permission) inPermission v permissions-group (rw (s, o))) x)) i (k .1) (d .0))
         (inner-short cs (λ u x. out u (t .1 u x)) b (m .1) (d .1)))))
         (λ q. absurd (false≢true (rw q at f)))
@@ -252,7 +252,7 @@ abbrev permissionRow : Row
 permissionRow =
     row 3 (all "permission") · (permission-field "permission_id") (its "operation" (operation-field "operation_id")) (its "object" (object-field "object_id")) ·
 
-tree-short : (es : Elements) (ls : List Line) (rs : List Record) → inGrammar es ≡ true → recordsOf es ls ≡ just rs → ShortNames (tagsOf es) ls
+tree-short : (es : Elements) (ls : List Line) (rs : List Record) → inGrammar true es ≡ true → recordsOf es ls ≡ just rs → ShortNames (tagsOf es) ls
 unfolding firstRows readingOpen listsOpen
 tree-short es ls rs g e =
     let a = all-said es ls rs e in
@@ -287,6 +287,6 @@ tree-short es ls rs g e =
           (sym (every-of there (taskRecord (namesOf es ls)) ls) ∙ a .1);
     }
 
-pub short-names : (s : Text) (es : Elements) (r : Text) (ls : List Line) (rs : List Record) → document s ≡ got es r → recordsIn (tags s) ls ≡ just rs →
+pub short-names : (all : Bool) (s : Text) (es : Elements) (r : Text) (ls : List Line) (rs : List Record) → documentIn all s ≡ got es r → recordsIn (tags s) ls ≡ just rs →
     ShortNames (tags s) ls
-short-names s es r ls rs d e = rw (tags-are s es r d) (tree-short es ls rs (document-in-grammar s es r d) (walk-gives s es r ls d ∙ e))
+short-names all s es r ls rs d e = rw (tags-are all s es r d) (tree-short es ls rs (document-wide all s es r d) (walk-gives all s es r ls d ∙ e))

@@ -1,7 +1,7 @@
 -- The walk from tag to tag meets the elements of an accepted text, each once, in text order.
 use mathlib.Core.Path.{_≡_, refl, sym, ap, _∙_}
 use mathlib.Core.List.{List, [], _∷_, _++_, append-assoc}
-use mathlib.Core.Bool.{true, false, _&&_, _||_, false≢true, true≢false}
+use mathlib.Core.Bool.{Bool, true, false, _&&_, _||_, false≢true, true≢false}
 use Prim.Native.Nat.{ℕ, zero, suc, _<_, _≤_}
 use native.Mathlib.Omega.{arith}
 use lib.Dec.{eqb}
@@ -11,8 +11,8 @@ use Rattle.paper_lower.specs.Lists.{some}
 use Rattle.paper_lower.proofs.ListLaws.{or-none}
 use Rattle.paper_opl.specs.Reading.{Text, Read, text, same, behind, word, starts, expect, white, skip, space, inName, name, value, equals, misc}
 use Rattle.paper_opl.specs.Reading.Read.{got, bad}
-use Rattle.paper_opl.specs.Elements.{Attribute, Child, Element, elements, rowIn, one, next, mayEnd}
-use Rattle.paper_opl.specs.Tree.{Given, Elements, Tag, tagsOf, fits, required, find, without, attribute, attributes, Opened, opening, ending, Inside, content, element, prolog, DEPTH, document}
+use Rattle.paper_opl.specs.Elements.{Attribute, Child, Element, elementsOf, rowIn, one, next, mayEnd}
+use Rattle.paper_opl.specs.Tree.{Given, Elements, Tag, tagsOf, fits, required, find, without, attribute, attributes, Opened, opening, ending, Inside, content, element, prolog, DEPTH, documentIn}
 use Rattle.paper_opl.specs.Tree.Elements.{nothing}
 use Rattle.paper_opl.specs.Walk.{plain, givens, closed, startTag, endTag, tag, tagsFrom, tags}
 use Rattle.paper_opl.proofs.Inversion.{on, on-test, on-found, bad≢got, got-rest, got-value}
@@ -289,10 +289,10 @@ same-end [] e = refl
 same-end (b ∷ y) e = absurd (false≢true e)
 
 -- an accepted text's start tags are its elements in text order
-pub tags-are : (s : Text) (es : Elements) (r : Text) → document s ≡ got es r → tags s ≡ tagsOf es
-unfolding document tags tagsOf
-tags-are s es r e =
-    on (prolog s) (λ _ u p. on (opening (one "policy_object" ∷ []) u) (λ c z o. on (element elements DEPTH (c .name) z) (λ i y h. on (misc (length y) y) (λ _ x
+pub tags-are : (all : Bool) (s : Text) (es : Elements) (r : Text) → documentIn all s ≡ got es r → tags s ≡ tagsOf es
+unfolding documentIn tags tagsOf
+tags-are all s es r e =
+    on (prolog s) (λ _ u p. on (opening (one "policy_object" ∷ []) u) (λ c z o. on (element (elementsOf all) DEPTH (c .name) z) (λ i y h. on (misc (length y) y) (λ _ x
     m. on-test (same x [])
     (λ f.
     let k = rw (p, o, h, m, f) at e in
@@ -301,7 +301,7 @@ tags-are s es r e =
       p,
       sym (got-value k),
       entered u u (c .name) z i y (misc-here (length u) u (b .behind) (b .sign) (b .no-comment)) (no-end-tag u (b .behind) (c .name) z (b .sign) (b .named)) b
-          (element-walk elements DEPTH (c .name) z i y h),
+          (element-walk (elementsOf all) DEPTH (c .name) z i y h),
       nothing-left y (m ∙ ap (got tt) (same-end x f)),
     )
     )

@@ -12,7 +12,7 @@ use Rattle.paper_lower.specs.Lists.Maybe.{just}
 use Rattle.paper_lower.proofs.ListLaws.{both}
 use Rattle.paper_opl.specs.Reading.{Text, text, same, behind, starts, expect, white, inName, name, value, readingOpen}
 use Rattle.paper_opl.specs.Reading.Read.{got}
-use Rattle.paper_opl.specs.Elements.{Attribute, Child, elements, rowIn, next, mayEnd, elementsOpen}
+use Rattle.paper_opl.specs.Elements.{Attribute, Child, elementsOf, rowIn, next, mayEnd, elementsOpen}
 use Rattle.paper_opl.specs.Tree.{Elements, fits, required, find, without, attribute, attributes, opening, ending, Inside, content, element}
 use Rattle.paper_opl.specs.Tree.Elements.{nothing, node}
 use Rattle.paper_opl.specs.Layout.{attributesFit, elementsFit, blank, someBlank, Gap, gap, gapFits, Value, quoted, quoteFits, valueText, valueFits, Attributed, attributesText, attributesLaid, givenBy, Layout, layoutText, layoutFits, treeOf}
@@ -133,29 +133,23 @@ attributes-back n (x ∷ xs) left s rest m f h b t l =
 
 -- ---- The table's names are names.
 
-attribute-names : every (λ e. every (λ a. aName (a .name)) (e .attributes)) elements ≡ true
+attribute-names : (all : Bool) → every (λ e. every (λ a. aName (a .name)) (e .attributes)) (elementsOf all) ≡ true
 unfolding listsOpen readingOpen elementsOpen
-attribute-names = refl
+attribute-names false = refl
+attribute-names true = refl
 
-child-names : every (λ e. forNames aName (e .children)) elements ≡ true
+child-names : (all : Bool) → every (λ e. forNames aName (e .children)) (elementsOf all) ≡ true
 unfolding listsOpen readingOpen elementsOpen
-child-names = refl
+child-names false = refl
+child-names true = refl
 
 pub same-self : (w : Text) → same w w ≡ true
 unfolding same
 same-self [] = refl
 same-self (b ∷ w) = rw (eq-eqb b b refl, same-self w)
 
-attributes-named : (w : Text) → every (λ a. aName (a .name)) (rowIn elements w .attributes) ≡ true
-unfolding every
-attributes-named w = row-has (λ e. every (λ a. aName (a .name)) (e .attributes)) elements w (λ v. refl) attribute-names
-
 abbrev pub Named : List Child → Type 0
 Named cs = (v : Text) → among cs v ≡ true → aName v ≡ true
-
-pub children-named : (w : Text) → Named (rowIn elements w .children)
-unfolding every
-children-named w v h = child-has aName (rowIn elements w .children) v (row-has (λ e. forNames aName (e .children)) elements w (λ v. refl) child-names) h
 
 -- ---- Elements.
 
@@ -177,60 +171,6 @@ pub opening-back : (left cs : List Child) (w rest : Text) → aName w ≡ true �
 unfolding opening starts expect text
 opening-back left cs w rest n k h = rw (not-first 33 w rest refl n, not-first 63 w rest refl n, name-back w rest n k, h)
 
-module _ (d : ℕ) (v : Text) (xs : List Attributed) (s : Text) (fit : attributesFit (rowIn elements v .attributes) (givenBy xs) ≡ true) (laid : attributesLaid xs ≡ true) (b : blank s ≡ true) where
-  pub element-short : (rest : Text) → mayEnd (rowIn elements v .children) ≡ true →
-      element elements (suc d) v (attributesText xs (s ++ (text "/>" ++ rest))) ≡ got (record { given = givenBy xs; elements = nothing }) rest
-  unfolding element starts expect text
-  element-short rest m =
-      rw (
-        attributes-back (length (attributesText xs (s ++ (text "/>" ++ rest)))) xs (rowIn elements v .attributes) s (text "/>" ++ rest) (attributes-named v) fit
-            laid b refl (omega arith),
-        m,
-      )
-
-  pub element-long : (inner rest : Text) (es : Elements) → content (element elements d) (suc (length inner)) v (rowIn elements v .children) inner ≡ got es rest
-      → element elements (suc d) v (attributesText xs (s ++ (text ">" ++ inner))) ≡ got (record { given = givenBy xs; elements = es }) rest
-  unfolding element starts text
-  element-long inner rest es h =
-      rw (
-        attributes-back (length (attributesText xs (s ++ (text ">" ++ inner)))) xs (rowIn elements v .attributes) s (text ">" ++ inner) (attributes-named v) fit
-            laid b refl (omega arith),
-        row-name elements v,
-        h,
-      )
-
--- an element and those behind it
-step-back : (d n : ℕ) (g : Gap) (left cs : List Child) (w v u z r : Text) (e : Inside) (es : Elements) → gapFits g ≡ true → aName v ≡ true →
-    stops inName u ≡ true → next left v ≡ just cs
-    → element elements d v u ≡ got e z → ((m : ℕ) → length z < m → content (element elements d) m w cs z ≡ got es r) → length (gap g (text "<" ++ (v ++ u))) < n
-    → content (element elements d) n w left (gap g (text "<" ++ (v ++ u))) ≡ got (node v (e .given) (e .elements) es) r
-unfolding content starts text
-step-back d zero g left cs w v u z r e es f a k h i c l = absurd (omega arith)
-step-back d (suc n) g left cs w v u z r e es f a k h i c l =
-    let m =
-    gap-back (length (gap g (text "<" ++ (v ++ u)))) g (text "<" ++ (v ++ u)) f refl (starts-more 33 (45 ∷ 45 ∷ []) (v ++ u) (not-first 33 v u refl a))
-    (omega arith) in
-    let o = opening-back left cs v u a k h in
-    let x = below-of m (misc-below (length (gap g (text "<" ++ (v ++ u)))) (gap g (text "<" ++ (v ++ u)))) in
-    let y = below-of o (opening-below left (text "<" ++ (v ++ u))) in
-    let q = below-of i (element-below elements d v u) in
-    rw (m, not-first 47 v u refl a, o, i, c n (omega arith))
-
--- the end tag
-end-back : (d n : ℕ) (g : Gap) (left : List Child) (w e rest : Text) → gapFits g ≡ true → aName w ≡ true → blank e ≡ true → mayEnd left ≡ true →
-    length (gap g (text "</" ++ (w ++ (e ++ (text ">" ++ rest))))) < n
-    → content (element elements d) n w left (gap g (text "</" ++ (w ++ (e ++ (text ">" ++ rest))))) ≡ got nothing rest
-unfolding content ending starts expect text
-end-back d zero g left w e rest f a b m l = absurd (omega arith)
-end-back d (suc n) g left w e rest f a b m l =
-    rw (
-      gap-back (length (gap g (text "</" ++ (w ++ (e ++ (text ">" ++ rest)))))) g (text "</" ++ (w ++ (e ++ (text ">" ++ rest)))) f refl refl (omega arith),
-      name-back w (e ++ (text ">" ++ rest)) a (blank-stops e (text ">" ++ rest) b refl),
-      same-self w,
-      m,
-      behind-all white e (text ">" ++ rest) b refl,
-    )
-
 pub slash-stops : (rest : Text) → stops inName (text "/>" ++ rest) ≡ true
 unfolding text
 slash-stops rest = refl
@@ -239,54 +179,119 @@ pub angle-stops : (rest : Text) → stops inName (text ">" ++ rest) ≡ true
 unfolding text
 angle-stops rest = refl
 
--- a limit of depth that lets the children stand
-abbrev pub Deep : ℕ → List Child → Type 0
-Deep d cs = (v : Text) → among cs v ≡ true → rank v ≤ d
+-- ---- By the table of a call.
 
-pub content-back : (d : ℕ) (x : Layout) (left : List Child) (w e rest : Text) → Named left → Deep d left → elementsFit left (treeOf x) ≡ true →
-    layoutFits x ≡ true → aName w ≡ true → blank e ≡ true
-    → (n : ℕ) → length (layoutText x (text "</" ++ (w ++ (e ++ (text ">" ++ rest))))) < n
-    → content (element elements d) n w left (layoutText x (text "</" ++ (w ++ (e ++ (text ">" ++ rest))))) ≡ got (treeOf x) rest
-unfolding elementsFit layoutFits layoutText treeOf
-content-back d (last g) left w e rest k p f h a b n l = end-back d n g left w e rest h a b f l
-content-back zero (short g v xs s y) left w e rest k p f h a b n l =
-    on-found (next left v) (λ cs q. let i = p v (next-among left cs v q .0) in let j = some-height v in absurd (omega arith))
-    (λ q. absurd (false≢true (rw q at f)))
-content-back (suc d) (short g v xs s y) left w e rest k p f h a b n l =
-    on-found (next left v)
-    (λ cs q.
-    let t = next-among left cs v q in
-    let m = both (attributesFit (rowIn elements v .attributes) (givenBy xs) && mayEnd (rowIn elements v .children)) (elementsFit cs (treeOf y)) (rw q at f) in
-    let i = both (attributesFit (rowIn elements v .attributes) (givenBy xs)) (mayEnd (rowIn elements v .children)) (m .0) in
-    let o = both (gapFits g && attributesLaid xs && blank s) (layoutFits y) h in
-    let j = both (gapFits g && attributesLaid xs) (blank s) (o .0) in
-    let r = both (gapFits g) (attributesLaid xs) (j .0) in
-    step-back (suc d) n g left cs w v _ _ rest _ (treeOf y) (r .0) (k v (t .0))
-    (attributes-stop xs s _ (r .1) (j .1) (slash-stops (layoutText y (text "</" ++ (w ++ (e ++ (text ">" ++ rest))))))) q
-    (element-short d v xs s (i .0) (r .1) (j .1) (layoutText y (text "</" ++ (w ++ (e ++ (text ">" ++ rest))))) (i .1))
-    (content-back (suc d) y cs w e rest (λ u z. k u (t .1 u z)) (λ u z. p u (t .1 u z)) (m .1) (o .1) a b) l)
-    (λ q. absurd (false≢true (rw q at f)))
-content-back zero (long g v xs s i c y) left w e rest k p f h a b n l =
-    on-found (next left v) (λ cs q. let i = p v (next-among left cs v q .0) in let j = some-height v in absurd (omega arith))
-    (λ q. absurd (false≢true (rw q at f)))
-content-back (suc d) (long g v xs s i c y) left w e rest k p f h a b n l =
-    on-found (next left v)
-    (λ cs q.
-    let t = next-among left cs v q in
-    let m =
-    both (attributesFit (rowIn elements v .attributes) (givenBy xs) && elementsFit (rowIn elements v .children) (treeOf i)) (elementsFit cs (treeOf y))
-    (rw q at f) in
-    let z = both (attributesFit (rowIn elements v .attributes) (givenBy xs)) (elementsFit (rowIn elements v .children) (treeOf i)) (m .0) in
-    let o = both (gapFits g && attributesLaid xs && blank s && layoutFits i && blank c) (layoutFits y) h in
-    let o2 = both (gapFits g && attributesLaid xs && blank s && layoutFits i) (blank c) (o .0) in
-    let o3 = both (gapFits g && attributesLaid xs && blank s) (layoutFits i) (o2 .0) in
-    let j = both (gapFits g && attributesLaid xs) (blank s) (o3 .0) in
-    let r = both (gapFits g) (attributesLaid xs) (j .0) in
-    let deep : rank v ≤ suc d = p v (t .0) in
-    step-back (suc d) n g left cs w v _ _ rest _ (treeOf y) (r .0) (k v (t .0)) (attributes-stop xs s _ (r .1) (j .1)
-    (angle-stops (layoutText i (text "</" ++ (v ++ (c ++ (text ">" ++ layoutText y (text "</" ++ (w ++ (e ++ (text ">" ++ rest))))))))))) q
-    (element-long d v xs s (z .0) (r .1) (j .1) _ (layoutText y (text "</" ++ (w ++ (e ++ (text ">" ++ rest))))) (treeOf i)
-    (content-back d i (rowIn elements v .children) v c (layoutText y (text "</" ++ (w ++ (e ++ (text ">" ++ rest))))) (children-named v)
-    (λ u x. let y = child-lower v u x in omega arith) (z .1) (o3 .1) (k v (t .0)) (o2 .1) _ (omega arith)))
-    (content-back (suc d) y cs w e rest (λ u z. k u (t .1 u z)) (λ u z. p u (t .1 u z)) (m .1) (o .1) a b) l)
-    (λ q. absurd (false≢true (rw q at f)))
+module _ (all : Bool) where
+  attributes-named : (w : Text) → every (λ a. aName (a .name)) (rowIn (elementsOf all) w .attributes) ≡ true
+  unfolding every
+  attributes-named w = row-has (λ e. every (λ a. aName (a .name)) (e .attributes)) (elementsOf all) w (λ v. refl) (attribute-names all)
+
+  pub children-named : (w : Text) → Named (rowIn (elementsOf all) w .children)
+  unfolding every
+  children-named w v h = child-has aName (rowIn (elementsOf all) w .children) v (row-has (λ e. forNames aName (e .children)) (elementsOf all) w (λ v. refl) (child-names all)) h
+
+  module _ (d : ℕ) (v : Text) (xs : List Attributed) (s : Text) (fit : attributesFit (rowIn (elementsOf all) v .attributes) (givenBy xs) ≡ true) (laid : attributesLaid xs ≡ true) (b : blank s ≡ true) where
+    pub element-short : (rest : Text) → mayEnd (rowIn (elementsOf all) v .children) ≡ true →
+        element (elementsOf all) (suc d) v (attributesText xs (s ++ (text "/>" ++ rest))) ≡ got (record { given = givenBy xs; elements = nothing }) rest
+    unfolding element starts expect text
+    element-short rest m =
+        rw (
+          attributes-back (length (attributesText xs (s ++ (text "/>" ++ rest)))) xs (rowIn (elementsOf all) v .attributes) s (text "/>" ++ rest) (attributes-named v) fit
+              laid b refl (omega arith),
+          m,
+        )
+
+    pub element-long : (inner rest : Text) (es : Elements) → content (element (elementsOf all) d) (suc (length inner)) v (rowIn (elementsOf all) v .children) inner ≡ got es rest
+        → element (elementsOf all) (suc d) v (attributesText xs (s ++ (text ">" ++ inner))) ≡ got (record { given = givenBy xs; elements = es }) rest
+    unfolding element starts text
+    element-long inner rest es h =
+        rw (
+          attributes-back (length (attributesText xs (s ++ (text ">" ++ inner)))) xs (rowIn (elementsOf all) v .attributes) s (text ">" ++ inner) (attributes-named v) fit
+              laid b refl (omega arith),
+          row-name (elementsOf all) v,
+          h,
+        )
+
+  -- an element and those behind it
+  step-back : (d n : ℕ) (g : Gap) (left cs : List Child) (w v u z r : Text) (e : Inside) (es : Elements) → gapFits g ≡ true → aName v ≡ true →
+      stops inName u ≡ true → next left v ≡ just cs
+      → element (elementsOf all) d v u ≡ got e z → ((m : ℕ) → length z < m → content (element (elementsOf all) d) m w cs z ≡ got es r) → length (gap g (text "<" ++ (v ++ u))) < n
+      → content (element (elementsOf all) d) n w left (gap g (text "<" ++ (v ++ u))) ≡ got (node v (e .given) (e .elements) es) r
+  unfolding content starts text
+  step-back d zero g left cs w v u z r e es f a k h i c l = absurd (omega arith)
+  step-back d (suc n) g left cs w v u z r e es f a k h i c l =
+      let m =
+      gap-back (length (gap g (text "<" ++ (v ++ u)))) g (text "<" ++ (v ++ u)) f refl (starts-more 33 (45 ∷ 45 ∷ []) (v ++ u) (not-first 33 v u refl a))
+      (omega arith) in
+      let o = opening-back left cs v u a k h in
+      let x = below-of m (misc-below (length (gap g (text "<" ++ (v ++ u)))) (gap g (text "<" ++ (v ++ u)))) in
+      let y = below-of o (opening-below left (text "<" ++ (v ++ u))) in
+      let q = below-of i (element-below (elementsOf all) d v u) in
+      rw (m, not-first 47 v u refl a, o, i, c n (omega arith))
+
+  -- the end tag
+  end-back : (d n : ℕ) (g : Gap) (left : List Child) (w e rest : Text) → gapFits g ≡ true → aName w ≡ true → blank e ≡ true → mayEnd left ≡ true →
+      length (gap g (text "</" ++ (w ++ (e ++ (text ">" ++ rest))))) < n
+      → content (element (elementsOf all) d) n w left (gap g (text "</" ++ (w ++ (e ++ (text ">" ++ rest))))) ≡ got nothing rest
+  unfolding content ending starts expect text
+  end-back d zero g left w e rest f a b m l = absurd (omega arith)
+  end-back d (suc n) g left w e rest f a b m l =
+      rw (
+        gap-back (length (gap g (text "</" ++ (w ++ (e ++ (text ">" ++ rest)))))) g (text "</" ++ (w ++ (e ++ (text ">" ++ rest)))) f refl refl (omega arith),
+        name-back w (e ++ (text ">" ++ rest)) a (blank-stops e (text ">" ++ rest) b refl),
+        same-self w,
+        m,
+        behind-all white e (text ">" ++ rest) b refl,
+      )
+
+  -- a limit of depth that lets the children stand
+  abbrev pub Deep : ℕ → List Child → Type 0
+  Deep d cs = (v : Text) → among cs v ≡ true → rank all v ≤ d
+
+  pub content-back : (d : ℕ) (x : Layout) (left : List Child) (w e rest : Text) → Named left → Deep d left → elementsFit all left (treeOf x) ≡ true →
+      layoutFits x ≡ true → aName w ≡ true → blank e ≡ true
+      → (n : ℕ) → length (layoutText x (text "</" ++ (w ++ (e ++ (text ">" ++ rest))))) < n
+      → content (element (elementsOf all) d) n w left (layoutText x (text "</" ++ (w ++ (e ++ (text ">" ++ rest))))) ≡ got (treeOf x) rest
+  unfolding elementsFit layoutFits layoutText treeOf
+  content-back d (last g) left w e rest k p f h a b n l = end-back d n g left w e rest h a b f l
+  content-back zero (short g v xs s y) left w e rest k p f h a b n l =
+      on-found (next left v) (λ cs q. let i = p v (next-among left cs v q .0) in let j = some-height all v in absurd (omega arith))
+      (λ q. absurd (false≢true (rw q at f)))
+  content-back (suc d) (short g v xs s y) left w e rest k p f h a b n l =
+      on-found (next left v)
+      (λ cs q.
+      let t = next-among left cs v q in
+      let m = both (attributesFit (rowIn (elementsOf all) v .attributes) (givenBy xs) && mayEnd (rowIn (elementsOf all) v .children)) (elementsFit all cs (treeOf y)) (rw q at f) in
+      let i = both (attributesFit (rowIn (elementsOf all) v .attributes) (givenBy xs)) (mayEnd (rowIn (elementsOf all) v .children)) (m .0) in
+      let o = both (gapFits g && attributesLaid xs && blank s) (layoutFits y) h in
+      let j = both (gapFits g && attributesLaid xs) (blank s) (o .0) in
+      let r = both (gapFits g) (attributesLaid xs) (j .0) in
+      step-back (suc d) n g left cs w v _ _ rest _ (treeOf y) (r .0) (k v (t .0))
+      (attributes-stop xs s _ (r .1) (j .1) (slash-stops (layoutText y (text "</" ++ (w ++ (e ++ (text ">" ++ rest))))))) q
+      (element-short d v xs s (i .0) (r .1) (j .1) (layoutText y (text "</" ++ (w ++ (e ++ (text ">" ++ rest))))) (i .1))
+      (content-back (suc d) y cs w e rest (λ u z. k u (t .1 u z)) (λ u z. p u (t .1 u z)) (m .1) (o .1) a b) l)
+      (λ q. absurd (false≢true (rw q at f)))
+  content-back zero (long g v xs s i c y) left w e rest k p f h a b n l =
+      on-found (next left v) (λ cs q. let i = p v (next-among left cs v q .0) in let j = some-height all v in absurd (omega arith))
+      (λ q. absurd (false≢true (rw q at f)))
+  content-back (suc d) (long g v xs s i c y) left w e rest k p f h a b n l =
+      on-found (next left v)
+      (λ cs q.
+      let t = next-among left cs v q in
+      let m =
+      both (attributesFit (rowIn (elementsOf all) v .attributes) (givenBy xs) && elementsFit all (rowIn (elementsOf all) v .children) (treeOf i)) (elementsFit all cs (treeOf y))
+      (rw q at f) in
+      let z = both (attributesFit (rowIn (elementsOf all) v .attributes) (givenBy xs)) (elementsFit all (rowIn (elementsOf all) v .children) (treeOf i)) (m .0) in
+      let o = both (gapFits g && attributesLaid xs && blank s && layoutFits i && blank c) (layoutFits y) h in
+      let o2 = both (gapFits g && attributesLaid xs && blank s && layoutFits i) (blank c) (o .0) in
+      let o3 = both (gapFits g && attributesLaid xs && blank s) (layoutFits i) (o2 .0) in
+      let j = both (gapFits g && attributesLaid xs) (blank s) (o3 .0) in
+      let r = both (gapFits g) (attributesLaid xs) (j .0) in
+      let deep : rank all v ≤ suc d = p v (t .0) in
+      step-back (suc d) n g left cs w v _ _ rest _ (treeOf y) (r .0) (k v (t .0)) (attributes-stop xs s _ (r .1) (j .1)
+      (angle-stops (layoutText i (text "</" ++ (v ++ (c ++ (text ">" ++ layoutText y (text "</" ++ (w ++ (e ++ (text ">" ++ rest))))))))))) q
+      (element-long d v xs s (z .0) (r .1) (j .1) _ (layoutText y (text "</" ++ (w ++ (e ++ (text ">" ++ rest))))) (treeOf i)
+      (content-back d i (rowIn (elementsOf all) v .children) v c (layoutText y (text "</" ++ (w ++ (e ++ (text ">" ++ rest))))) (children-named v)
+      (λ u x. let y = child-lower all v u x in omega arith) (z .1) (o3 .1) (k v (t .0)) (o2 .1) _ (omega arith)))
+      (content-back (suc d) y cs w e rest (λ u z. k u (t .1 u z)) (λ u z. p u (t .1 u z)) (m .1) (o .1) a b) l)
+      (λ q. absurd (false≢true (rw q at f)))

@@ -1,9 +1,9 @@
 -- The elements as document 000 prints them, one line an element in the notation of its DTDs, and a reader of that notation. What is proved
--- (Promises, ElementsAsPrinted): `elements` is the table of these lines, less what Ask 4 refuses. Compare the lines with 000's listings.
+-- (Promises, ElementsAsPrinted): `elementsOf` is the table of these lines, less what the call refuses. Compare the lines with 000's listings.
 use Prim.Native.Nat.{ℕ, zero, suc, _-_}
 use Prim.Native.String.{String}
-use mathlib.Core.Bool.{Bool, not, cond}
-use mathlib.Core.List.{List, [], _∷_}
+use mathlib.Core.Bool.{Bool, true, false, not, cond, _||_}
+use mathlib.Core.List.{List, [], _∷_, _++_}
 use lib.Dec.{eqb}
 use lib.ListN.{length, drop}
 use Rattle.paper_lower.specs.Lists.{Maybe, some, many, keep, each, listsOpen}
@@ -59,9 +59,9 @@ model s =
 unfoldable pub endsIn : Text → Text → Bool
 endsIn w s = same (drop (length s - length w) s) w
 
--- a required attribute is a name if it is called `.._id`, and a number if it is called `cardinality`
+-- a required attribute is a name if it is called `.._id` or `.._role`, and a number if it is called `cardinality`
 abbrev pub classOf : Text → Class
-classOf w = cond (endsIn (text "_id") w) names (cond (same w (text "cardinality")) number any)
+classOf w = cond (endsIn (text "_id") w || endsIn (text "_role") w) names (cond (same w (text "cardinality")) number any)
 
 unfoldable pub attribute : Text → Read Attribute
 attribute s =
@@ -127,10 +127,26 @@ refusedElements =
     ∷ "strict_static_separation_of_duty"
     ∷ []
 
--- the table of some lines, less these
-abbrev pub accepted : Maybe (List Element) → Maybe (List Element)
-accepted none = none
-accepted (just es) = just (less refusedElements es)
+-- what says who has touched which object, and the sections of the wider call
+unfoldable pub refusedFurther : Bool → List String
+refusedFurther true = "uocw" ∷ []
+refusedFurther false =
+    "module_role_hierarchy_policy"
+    ∷ "role_hierarchy"
+    ∷ "inherit_role"
+    ∷ "module_sep_duty_rh_policy"
+    ∷ "module_chinese_wall_policy"
+    ∷ "cw_partitions"
+    ∷ "cw_partition"
+    ∷ "partition_object"
+    ∷ "uocws"
+    ∷ "uocw"
+    ∷ []
+
+-- the table of some lines, less what a call refuses
+abbrev pub accepted : Bool → Maybe (List Element) → Maybe (List Element)
+accepted all none = none
+accepted all (just es) = just (less (refusedElements ++ refusedFurther all) es)
 
 -- ---- The lines, by 000's sections.
 
@@ -198,9 +214,22 @@ printed =
     ∷ "<!ELEMENT module_wf_prereq_step_policy (prereq_steps)>"
     ∷ "<!ELEMENT prereq_steps (prereq_step*)>"
     ∷ "<!ELEMENT prereq_step EMPTY> <!ATTLIST prereq_step prereq_task_id CDATA #REQUIRED task_id CDATA #REQUIRED>"
+    -- 6.2, listing 6
+    ∷ "<!ELEMENT module_role_hierarchy_policy (role_hierarchy)>"
+    ∷ "<!ELEMENT role_hierarchy (inherit_role)*>"
+    ∷ "<!ELEMENT inherit_role EMPTY> <!ATTLIST inherit_role lower_role CDATA #REQUIRED upper_role CDATA #REQUIRED>"
+    -- 6.4: listing 10 is missing; "we inherit the definitions" of 6.3's module
+    ∷ "<!ELEMENT module_sep_duty_rh_policy (static_separation_of_duty?, static_separation_of_duty_attached_to_permissions?, strict_static_separation_of_duty?, dynamic_separation_of_duty?)>"
+    -- 6.6, listing 14
+    ∷ "<!ELEMENT module_chinese_wall_policy (cw_partitions, uocws)>"
+    ∷ "<!ELEMENT cw_partitions (cw_partition)*>"
+    ∷ "<!ELEMENT cw_partition (partition_object)*>"
+    ∷ "<!ELEMENT partition_object EMPTY> <!ATTLIST partition_object object_id CDATA #REQUIRED>"
+    ∷ "<!ELEMENT uocws (uocw)*>"
+    ∷ "<!ELEMENT uocw EMPTY> <!ATTLIST uocw user_id CDATA #REQUIRED object_id CDATA #REQUIRED>"
     ∷ []
 
 -- What this page defines, opened together where it is computed.
 unfoldable pub dtdOpen : Unit {0}
-unfolding listsOpen readingOpen times choice sequence model endsIn attribute attributes attlist declared table childrenAmong closed refusedElements printed
+unfolding listsOpen readingOpen times choice sequence model endsIn attribute attributes attlist declared table childrenAmong closed refusedElements refusedFurther printed
 dtdOpen = tt

@@ -8,7 +8,7 @@ use lib.Dec.{eqb}
 use Rattle.paper_lower.specs.Lists.{Maybe, some, every, each}
 use Rattle.paper_lower.specs.Lists.Maybe.{none, just}
 use Rattle.paper_opl.specs.Reading.{Text, text, same, starts, white, control, inValue}
-use Rattle.paper_opl.specs.Elements.{Attribute, Child, elements, rowIn, one, next, mayEnd}
+use Rattle.paper_opl.specs.Elements.{Attribute, Child, elementsOf, rowIn, one, next, mayEnd}
 use Rattle.paper_opl.specs.Tree.{Given, Elements, if-found, fits, required, find, without, isVersion, isEncoding, isStandalone, byteOrderMark}
 use Rattle.paper_opl.specs.Tree.Elements.{nothing, node}
 use Rattle.paper_opl.specs.Naming.{Line, inLine}
@@ -20,15 +20,16 @@ unfoldable pub attributesFit : List Attribute → List Given → Bool
 attributesFit left [] = not (some (λ a. required (a .class)) left)
 attributesFit left (g ∷ gs) = if-found (find left (g .name)) false (λ a. fits (a .class) (g .value) && attributesFit (without (g .name) left) gs)
 
--- elements: each may stand where it stands, and none that is needed is missing
-unfoldable pub elementsFit : List Child → Elements → Bool
-elementsFit left nothing = mayEnd left
-elementsFit left (node w gs inside behind) =
-    if-found (next left w) false (λ cs. attributesFit (rowIn elements w .attributes) gs && elementsFit (rowIn elements w .children) inside && elementsFit cs behind)
+-- elements, by the table of the call: each may stand where it stands, and none that is needed is missing
+unfoldable pub elementsFit : Bool → List Child → Elements → Bool
+elementsFit all left nothing = mayEnd left
+elementsFit all left (node w gs inside behind) =
+    if-found (next left w) false (λ cs.
+    attributesFit (rowIn (elementsOf all) w .attributes) gs && elementsFit all (rowIn (elementsOf all) w .children) inside && elementsFit all cs behind)
 
 -- the policy object, and all in it
-abbrev pub inGrammar : Elements → Bool
-inGrammar es = elementsFit (one "policy_object" ∷ []) es
+abbrev pub inGrammar : Bool → Elements → Bool
+inGrammar all es = elementsFit all (one "policy_object" ∷ []) es
 
 -- ---- How it is written. Each layout tells its text, put in front of the text behind it.
 
@@ -183,11 +184,11 @@ abbrev pub documentFits : Document → Bool
 documentFits x = declarationFits (x .declaration) && (doctypeFits (x .doctype) && layoutFits (x .root))
 
 -- the text is written from this tree of the grammar
-pub record WrittenFrom (es : Elements) (s : Text) : Type 0 where
+pub record WrittenFrom (all : Bool) (es : Elements) (s : Text) : Type 0 where
   pub layout : Document
   pub fits : documentFits layout ≡ true
   pub tree-is : treeOf (layout .root) ≡ es
-  pub in-grammar : inGrammar es ≡ true
+  pub in-grammar : inGrammar all es ≡ true
   pub text-is : s ≡ documentText layout
 
 -- ---- The task lines.

@@ -1,8 +1,9 @@
--- What is promised of the records that an accepted text yields, and of the texts that are accepted.
+-- What is promised of the records that an accepted text yields, and of the texts that are accepted: of both calls, Ask 4's (`all` is false)
+-- and the wider one.
 use Prim.Native.Nat.{ℕ, _<_, _≤_, _*_}
 use mathlib.Core.Path.{_≡_}
 use mathlib.Core.Logic.{_↔_}
-use mathlib.Core.Bool.{false, cond}
+use mathlib.Core.Bool.{Bool, true, false, cond}
 use mathlib.Core.List.{List, [], _∷_, _++_}
 use lib.ListN.{length, drop}
 use Rattle.paper_lower.specs.Lists.{some, many, Every}
@@ -12,11 +13,11 @@ use Rattle.paper_lower.specs.Records.{Bytes, Record, encode}
 use Rattle.paper_lower.specs.Forms.{policyForms, formChecks}
 use Rattle.paper_opl.specs.Reading.{Text, Read, after, same, misc}
 use Rattle.paper_opl.specs.Reading.Read.{got, bad}
-use Rattle.paper_opl.specs.Elements.{elements, one}
+use Rattle.paper_opl.specs.Elements.{elementsOf, one}
 use Rattle.paper_opl.specs.Dtd.{printed, table, accepted}
-use Rattle.paper_opl.specs.Tree.{Elements, opening, element, prolog, DEPTH, document}
+use Rattle.paper_opl.specs.Tree.{Elements, opening, element, prolog, DEPTH, documentIn}
 use Rattle.paper_opl.specs.Tree.Elements.{nothing, node}
-use Rattle.paper_opl.specs.Naming.{Line, taskLines, Space, Names, distinct, placeOf, numberIn, namesOf, recordsOf, written, translate}
+use Rattle.paper_opl.specs.Naming.{Line, taskLines, Space, Names, distinct, placeOf, numberIn, namesOf, recordsOf, written, translateIn}
 use Rattle.paper_opl.specs.Layout.{WrittenFrom, LinesFrom}
 
 -- ---- "Accepted text always yields a policy of well-shaped records that says what the elements say".
@@ -33,18 +34,18 @@ RisingFrom k [] = Unit {0}
 RisingFrom k (r ∷ rs) = (k ≤ r .kind) × RisingFrom (r .kind) rs
 
 -- what an accepted policy text and its task lines yield
-pub record Yield (s t : Text) (out : Bytes) : Type 0 where
+pub record Yield (all : Bool) (s t : Text) (out : Bytes) : Type 0 where
   pub elements : Elements
   pub lineList : List Line
   pub records : List Record
-  pub text-is : document s ≡ got elements []
+  pub text-is : documentIn all s ≡ got elements []
   pub lines-are : taskLines t ≡ got lineList []
   pub says : recordsOf elements lineList ≡ just records
   pub well-shaped : Every WellShaped records
   pub kinds-rise : RisingFrom 1 records
   pub sixteen-each : length (written records) ≡ 16 * many records
   pub answer-is :
-      translate s t out ≡ record { reply = GRANTED; place = 0; which = 0; count = many records; output = written records ++ drop (length (written records)) out }
+      translateIn all s t out ≡ record { reply = GRANTED; place = 0; which = 0; count = many records; output = written records ++ drop (length (written records)) out }
 
 -- ---- "NAMES (22) for a name too long, undeclared or above a limit"
 
@@ -58,29 +59,36 @@ pub record HoldsNames (n : ℕ) (sp : Space) : Type 0 where
 -- ---- "down to depth 8"
 
 -- the document with another limit of depth
-unfoldable pub documentTo : ℕ → Text → Read Elements
-documentTo depth s =
-    after (prolog s) (λ _ r. after (opening (one "policy_object" ∷ []) r) (λ c u. after (element elements depth (c .name) u) (λ e z.
+unfoldable pub documentTo : Bool → ℕ → Text → Read Elements
+documentTo all depth s =
+    after (prolog s) (λ _ r. after (opening (one "policy_object" ∷ []) r) (λ c u. after (element (elementsOf all) depth (c .name) u) (λ e z.
     after (misc (length z) z) (λ _ y. cond (same y []) (got (node (c .name) (e .given) (e .elements) nothing) y) (bad y)))))
 
 -- ---- The statements.
 
--- The table of elements is what document 000 prints, less sssod and ssodp.
+-- The tables of elements are what document 000 prints, less sssod and ssodp, and less the sections that the call does not read.
 abbrev pub ElementsAsPrinted : Type 0
-ElementsAsPrinted = accepted (table printed) ≡ just elements
+ElementsAsPrinted = (all : Bool) → accepted all (table printed) ≡ just (elementsOf all)
 
 -- "Accepted text always yields a policy of well-shaped records that says what the elements say"
 abbrev pub AcceptedYields : Type 0
-AcceptedYields = (s t : Text) (out : Bytes) → translate s t out .reply ≡ GRANTED → Yield s t out
+AcceptedYields = (all : Bool) (s t : Text) (out : Bytes) → translateIn all s t out .reply ≡ GRANTED → Yield all s t out
 
 -- "Refusals, nothing written"
 abbrev pub RefusalsWriteNothing : Type 0
-RefusalsWriteNothing = (s t : Text) (out : Bytes) → (translate s t out .reply ≡ GRANTED → ⊥) → translate s t out .output ≡ out
+RefusalsWriteNothing = (all : Bool) (s t : Text) (out : Bytes) → (translateIn all s t out .reply ≡ GRANTED → ⊥) → translateIn all s t out .output ≡ out
 
 -- Accepted are exactly the texts that are written from a tree of the grammar, with any white space and comments where they may stand,
 -- and they are read as that tree.
 abbrev pub ReadExactly : Type 0
-ReadExactly = (s : Text) (es : Elements) → document s ≡ got es [] ↔ WrittenFrom es s
+ReadExactly = (all : Bool) (s : Text) (es : Elements) → documentIn all s ≡ got es [] ↔ WrittenFrom all es s
+
+-- A text that Ask 4's call reads is read alike by the wider one, and an accepted call has the same answer.
+abbrev pub ReadAlike : Type 0
+ReadAlike = (s : Text) (es : Elements) → documentIn false s ≡ got es [] → documentIn true s ≡ got es []
+
+abbrev pub AnsweredAlike : Type 0
+AnsweredAlike = (s t : Text) (out : Bytes) → translateIn false s t out .reply ≡ GRANTED → translateIn true s t out ≡ translateIn false s t out
 
 -- The same of the task lines: "lines of task name, one space and template name".
 abbrev pub LinesReadExactly : Type 0
@@ -88,7 +96,7 @@ LinesReadExactly = (t : Text) (ls : List Line) → taskLines t ≡ got ls [] ↔
 
 -- "down to depth 8": no text is refused, or read otherwise, for that limit
 abbrev pub DepthNeverBites : Type 0
-DepthNeverBites = (d : ℕ) (s : Text) → DEPTH ≤ d → documentTo d s ≡ document s
+DepthNeverBites = (all : Bool) (d : ℕ) (s : Text) → DEPTH ≤ d → documentTo all d s ≡ documentIn all s
 
 -- "Users 0 to 1,023. Roles 0 to 63. Permissions 0 to 255. Tasks 0 to 63. Templates 0 to 15." "Operations and objects: any 16-bit number."
 pub record Limits (ns : Names) : Type 0 where

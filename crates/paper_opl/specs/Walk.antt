@@ -11,8 +11,8 @@ use Rattle.paper_lower.specs.Lists.Maybe.{none, just}
 use Rattle.paper_lower.specs.Records.{Bytes, Record}
 use Rattle.paper_opl.specs.Reading.{Text, text, Read, after, same, starts, expect, skip, space, misc, name, value, equals}
 use Rattle.paper_opl.specs.Reading.Read.{got, bad}
-use Rattle.paper_opl.specs.Tree.{Given, Tag, if-found, prolog, document}
-use Rattle.paper_opl.specs.Naming.{Line, Found, valueOf, Names, spaceOf, Row, firstRows, lastRows, recordBy, taskRecord, allOf, NAMES, Answer, taskLines, refused, writes, judged, translateOpen}
+use Rattle.paper_opl.specs.Tree.{Given, Tag, if-found, prolog, documentIn}
+use Rattle.paper_opl.specs.Naming.{Line, Found, valueOf, Names, spaceOf, Row, firstRows, lastRows, recordBy, taskRecord, allOf, NAMES, Answer, taskLines, refused, writes, judged}
 
 -- ---- Tags.
 
@@ -173,12 +173,7 @@ recordsIn ts ls =
     none
 
 -- the call, by the walk
-unfoldable pub walked : Text → Text → Bytes → Answer
-walked s t out =
-    judged 1 s (document s) out (λ _. judged 2 t (taskLines t) out (λ ls.
+unfoldable pub walkedIn : Bool → Text → Text → Bytes → Answer
+walkedIn all s t out =
+    judged 1 s (documentIn all s) out (λ _. judged 2 t (taskLines t) out (λ ls.
     if-found (recordsIn (tags s) ls) (refused NAMES 0 0 out) (λ rs. writes rs out)))
-
--- What this page defines, and those before it, opened together where a case is computed.
-unfoldable pub walkOpen : Unit {0}
-unfolding translateOpen plain givens startTag endTag tag tagsFrom tags namesIn turn kinds kindIn innerNames leading sayings rowOf recordSaid rising recordsIn walked
-walkOpen = tt
