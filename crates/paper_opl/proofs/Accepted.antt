@@ -14,7 +14,7 @@ use Rattle.paper_opl.specs.Reading.{Text, text, same, expect, word, misc
 use Rattle.paper_opl.specs.Reading.Read.{got}
 use Rattle.paper_opl.specs.Elements.{elementsOf}
 use Rattle.paper_opl.specs.Tree.{Elements, opening, element, behindMark, prolog, DEPTH, documentIn}
-use Rattle.paper_opl.specs.Naming.{Line, inLine, lineEnd, lines, taskLines, those, recordsOf, written, translateIn}
+use Rattle.paper_opl.specs.Naming.{Line, inLine, lineEnd, lines, taskLines, fewOf, recordsOf, written, translateIn}
 use Rattle.paper_opl.specs.Promises.{WellShaped, RisingFrom, Yield}
 use Rattle.paper_opl.proofs.Inversion.{on, on-test, on-found, bad≢got, got-rest, none≢just}
 use Rattle.paper_opl.proofs.Conforms.{root}
@@ -59,7 +59,7 @@ risen k (r ∷ rs) h = let q = risen (r .kind) rs (h .2) in ((h .1, q .0), (h .0
 records-rise : (es : Elements) (ls : List Line) (rs : List Record) → AllSmall es → recordsOf es ls ≡ just rs → Every WellShaped rs × RisingFrom 1 rs
 unfolding recordsOf
 records-rise es ls rs h e =
-    on-test (leb (many (those (text "hdsodtp_partitioning") 0 es)) 16)
+    on-test (fewOf es)
     (λ q. risen 1 rs (subst (λ (x : List (Maybe Record)). Rise 1 x) (all-are _ rs (rw q at e)) (all-rise es h ls)))
     (λ q. absurd (none≢just (rw q at e)))
 

@@ -16,7 +16,7 @@ use Rattle.paper_opl.specs.Elements.Class.{names, number, any, spare}
 use Rattle.paper_opl.specs.Tree.{Given, Elements, digit, decimal, fits, find, without, attributes, documentIn}
 use Rattle.paper_opl.specs.Tree.Elements.{nothing, node}
 use Rattle.paper_opl.specs.Layout.{attributesFit, elementsFit}
-use Rattle.paper_opl.specs.Naming.{Found, those, insides, inAll, inEach, valueOf}
+use Rattle.paper_opl.specs.Naming.{Found, those, insides, inAll, inEach, inWalls, valueOf}
 use Rattle.paper_opl.proofs.Inversion.{on-test, on-found, none≢just, just-value}
 use Rattle.paper_opl.proofs.Wider.{document-wide}
 use Rattle.paper_opl.proofs.Conforms.{same-true, root, row-has}
@@ -136,6 +136,16 @@ within-proper o w es h = all-proper w (insides o es) (insides-small o es h)
 
 pub numbered-proper : (o w : Text) (es : Elements) → AllSmall es → Every Proper (inEach 0 w (insides o es))
 numbered-proper o w es h = each-proper 0 w (insides o es) (insides-small o es h)
+
+walls-proper : (k : ℕ) (o w : Text) (es : List Elements) → Every AllSmall es → Every Proper (inWalls k o w es)
+unfolding inWalls
+walls-proper k o w [] h = tt
+walls-proper k o w (e ∷ es) h =
+    every-append Proper (inEach (16 * k) w (insides o e)) (inWalls (suc k) o w es) (each-proper (16 * k) w (insides o e) (insides-small o e (h .0)))
+    (walls-proper (suc k) o w es (h .1))
+
+pub walled-proper : (wall o w : Text) (es : Elements) → AllSmall es → Every Proper (inWalls 0 o w (insides wall es))
+walled-proper wall o w es h = walls-proper 0 o w (insides wall es) (insides-small wall es h)
 
 pub value-small : (gs : List Given) → Every Small gs → decimal 0 (valueOf card gs) ≤ 255
 unfolding valueOf decimal

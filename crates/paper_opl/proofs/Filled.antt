@@ -93,11 +93,11 @@ one-range (suc n) k j e =
     on-test (eqb j k) (λ q. let x = eqb-true j k q in (omega arith, omega arith))
     (λ q. let x = one-range n (suc k) j (rw q at e) in let y = x .0 in let z = x .1 in (omega arith, omega arith))
 
-tag-kind : (j : ℕ) → ofTags j ≡ true → (1 ≤ j) × (j < 17) × (j ≡ 6 → ⊥)
+tag-kind : (j : ℕ) → ofTags j ≡ true → (1 ≤ j) × (j < 19) × (j ≡ 6 → ⊥)
 tag-kind j e =
     on-test (oneOf 1 5 j)
     (λ q. let x = one-range 5 1 j q in let y = x .0 in let z = x .1 in (omega arith, omega arith, λ w. omega arith))
-    (λ q. let x = one-range 10 7 j (rw q at e) in let y = x .0 in let z = x .1 in (omega arith, omega arith, λ w. omega arith))
+    (λ q. let x = one-range 12 7 j (rw q at e) in let y = x .0 in let z = x .1 in (omega arith, omega arith, λ w. omega arith))
 
 tags-in-kinds : (ns : Names) (xs : List Saying) → every (λ x. ofTags (x .kind)) xs ≡ true →
     Every InKinds (tagsKinded ns xs) × Every (λ y. y .0 ≡ 6 → ⊥) (tagsKinded ns xs) × (keep (λ x. eqb (x .kind) 6) xs ≡ [])
@@ -158,7 +158,7 @@ written-sixteen [] = refl
 written-sixteen (r ∷ rs) = let h = written-sixteen rs in length-append (encode r) (written rs) ∙ omega arith
 
 -- task lines stand between the tags' kinds
-later : (ys : List Kinded) → gather 6 11 ys ≡ picked 6 ys ++ gather 7 10 ys
+later : (ys : List Kinded) → gather 6 13 ys ≡ picked 6 ys ++ gather 7 12 ys
 unfolding gather
 later ys = refl
 
@@ -166,7 +166,7 @@ module _ (ns : Names) (xs : List Saying) (ls : List Line) (range : every (λ x. 
   all-kinded : List Kinded
   all-kinded = linesKinded ns ls ++ tagsKinded ns xs
 
-  counted : (k : ℕ) → 1 ≤ k → k < 17 → countOf xs ls k ≡ many (picked k all-kinded)
+  counted : (k : ℕ) → 1 ≤ k → k < 19 → countOf xs ls k ≡ many (picked k all-kinded)
   unfolding all-kinded each
   counted k a b =
       on-test (eqb k 6)
@@ -185,15 +185,15 @@ module _ (ns : Names) (xs : List Saying) (ls : List Line) (range : every (λ x. 
       picked-append 6 (linesKinded ns ls) (tagsKinded ns xs)
       ∙ rw (lines-picked ns ls, tags-picked ns 6 xs, tags-in-kinds ns xs range .2) (append-nil (each valued (each (taskRecord ns) ls)))
 
-  gathered : gather 1 16 all-kinded ≡ each valued (rising ns 1 5 xs ++ each (taskRecord ns) ls ++ rising ns 7 10 xs)
+  gathered : gather 1 18 all-kinded ≡ each valued (rising ns 1 5 xs ++ each (taskRecord ns) ls ++ rising ns 7 12 xs)
   unfolding all-kinded
   gathered =
-      gather-split 5 11 1 all-kinded
+      gather-split 5 13 1 all-kinded
       ∙ ap (λ (x : List Record). gather 1 5 all-kinded ++ x) (later all-kinded)
-      ∙ rw (gather-tags ns xs ls 5 1 (λ j a b e. omega arith), six, gather-tags ns xs ls 10 7 (λ j a b e. omega arith))
-      (sym (each-append valued (rising ns 1 5 xs ++ each (taskRecord ns) ls) (rising ns 7 10 xs) ∙
-      ap (λ (x : List Record). x ++ each valued (rising ns 7 10 xs)) (each-append valued (rising ns 1 5 xs) (each (taskRecord ns) ls))
-      ∙ append-assoc (each valued (rising ns 1 5 xs)) (each valued (each (taskRecord ns) ls)) (each valued (rising ns 7 10 xs))))
+      ∙ rw (gather-tags ns xs ls 5 1 (λ j a b e. omega arith), six, gather-tags ns xs ls 12 7 (λ j a b e. omega arith))
+      (sym (each-append valued (rising ns 1 5 xs ++ each (taskRecord ns) ls) (rising ns 7 12 xs) ∙
+      ap (λ (x : List Record). x ++ each valued (rising ns 7 12 xs)) (each-append valued (rising ns 1 5 xs) (each (taskRecord ns) ls))
+      ∙ append-assoc (each valued (rising ns 1 5 xs)) (each valued (each (taskRecord ns) ls)) (each valued (rising ns 7 12 xs))))
 
 -- "Records go by kind rising, then in text order": as the pass that writes leaves them
 pub fill-writes : (ts : List Tag) (ls : List Line) (rs : List Record) (out : Bytes) → recordsIn ts ls ≡ just rs → length (written rs) ≤ length out
@@ -203,13 +203,13 @@ unfolding all-kinded
 fill-writes ts ls rs out e fits =
     let range = said-range start refl ts in
     let i = tags-in-kinds ns xs range in
-    let g : gather 1 16 (linesKinded ns ls ++ tagsKinded ns xs) ≡ rs = gathered ns xs ls range ∙ ap (each valued) (ordered ts ls rs e) ∙ valued-all rs in
+    let g : gather 1 18 (linesKinded ns ls ++ tagsKinded ns xs) ≡ rs = gathered ns xs ls range ∙ ap (each valued) (ordered ts ls rs e) ∙ valued-all rs in
     let w = written-sixteen rs in
     let z = start-first xs ls in
     let c =
-    starts-count out s (countOf xs ls) (start-step xs ls) (linesKinded ns ls ++ tagsKinded ns xs) (counted ns xs ls range) 16 1 (omega arith) (omega arith) in
+    starts-count out s (countOf xs ls) (start-step xs ls) (linesKinded ns ls ++ tagsKinded ns xs) (counted ns xs ls range) 18 1 (omega arith) (omega arith) in
     let m = ap (λ (x : List Record). many x) g in
-    let t : 16 * s 17 ≡ length (written rs) = omega arith in
+    let t : 16 * s 19 ≡ length (written rs) = omega arith in
     fill-is ns ts start s (fillLines ns (s 6) ls out)
     ∙ sym (lines-then ns ls s s (s 6) (tagsKinded ns xs) out refl (λ k o. refl) (i .1))
     ∙ places out s (countOf xs ls) (start-step xs ls) (omega arith) (linesKinded ns ls ++ tagsKinded ns xs) z (counted ns xs ls range)

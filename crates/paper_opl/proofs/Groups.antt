@@ -52,7 +52,9 @@ inner-quiet = refl
 
 -- what changes the context
 abbrev pub turning : Text → Bool
-turning w = same w (text "static_separation_of_duty") || (same w (text "dynamic_separation_of_duty") || same w (text "hdsodtp_partitioning"))
+turning w =
+    same w (text "static_separation_of_duty") || (same w (text "dynamic_separation_of_duty") || (same w (text "hdsodtp_partitioning")
+    || (same w (text "module_chinese_wall_policy") || same w (text "cw_partition"))))
 
 inner-still : every (λ w. not (turning w)) innerNames ≡ true
 unfolding listsOpen readingOpen innerNames
@@ -62,8 +64,10 @@ pub still : (c : Context) (t : Tag) → turning (t .name) ≡ false → turn c t
 unfolding turn
 still c t e =
     let a = or-none (same (t .name) (text "static_separation_of_duty")) _ e in
-    let b = or-none (same (t .name) (text "dynamic_separation_of_duty")) (same (t .name) (text "hdsodtp_partitioning")) (a .1) in
-    rw (a .0, b .0, b .1)
+    let b = or-none (same (t .name) (text "dynamic_separation_of_duty")) _ (a .1) in
+    let d = or-none (same (t .name) (text "hdsodtp_partitioning")) _ (b .1) in
+    let f = or-none (same (t .name) (text "module_chinese_wall_policy")) (same (t .name) (text "cw_partition")) (d .1) in
+    rw (a .0, b .0, d .0, f .0, f .1)
 
 pub quiet : (c : Context) (t : Tag) → head (t .name) ≡ false → kindAt c t ≡ 0
 unfolding head

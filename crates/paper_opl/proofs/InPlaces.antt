@@ -110,16 +110,16 @@ picked k (y ∷ ys) = cond (eqb (y .0) k) (y .1 ∷ picked k ys) (picked k ys)
 
 -- room for each, and the places where they go
 abbrev Room : (ℕ → ℕ) → List Kinded → (ℕ → Bytes) → (ℕ → Bytes) → Type 0
-Room next ys d l = (j k : ℕ) → j < 16 → k ≡ 1 + j → (16 * next k ≡ before 1 j d l + length (d k)) × (length (l k) ≡ 16 * many (picked k ys))
+Room next ys d l = (j k : ℕ) → j < 18 → k ≡ 1 + j → (16 * next k ≡ before 1 j d l + length (d k)) × (length (l k) ≡ 16 * many (picked k ys))
 
 abbrev pub InKinds : Kinded → Type 0
-InKinds y = (1 ≤ y .0) × (y .0 < 17)
+InKinds y = (1 ≤ y .0) × (y .0 < 19)
 
 no-bytes : (s : Bytes) → length s ≡ 0 → s ≡ []
 no-bytes [] e = refl
 no-bytes (b ∷ s) e = absurd (omega arith)
 
-module _ (next : ℕ → ℕ) (k : ℕ) (r : Record) (ys : List Kinded) (d l : ℕ → Bytes) (room : Room next ((k, r) ∷ ys) d l) (low : 1 ≤ k) (high : k < 17) where
+module _ (next : ℕ → ℕ) (k : ℕ) (r : Record) (ys : List Kinded) (d l : ℕ → Bytes) (room : Room next ((k, r) ∷ ys) d l) (low : 1 ≤ k) (high : k < 19) where
   here : (16 * next k ≡ before 1 (k - 1) d l + length (d k)) × (length (l k) ≡ 16 * suc (many (picked k ys)))
   unfolding picked many
   here = let x = room (k - 1) k (omega arith) (omega arith) in (x .0, x .1 ∙ rw (eq-eqb k k refl))
@@ -131,12 +131,12 @@ module _ (next : ℕ → ℕ) (k : ℕ) (r : Record) (ys : List Kinded) (d l : �
   left : ℕ → Bytes
   left = upd l k (drop 16 (l k))
 
-  put-one : (rest : Bytes) → putAt (body 1 16 d l rest) (next k) r ≡ body 1 16 done left rest
+  put-one : (rest : Bytes) → putAt (body 1 18 d l rest) (next k) r ≡ body 1 18 done left rest
   unfolding done left
   put-one rest = let x = here in
       let y = x .0 in
       let z = x .1 in
-      put-body 16 (k - 1) 1 k [] d l rest (next k) r (omega arith) (omega arith) (omega arith) (omega arith)
+      put-body 18 (k - 1) 1 k [] d l rest (next k) r (omega arith) (omega arith) (omega arith) (omega arith)
 
   same-bytes : (i : ℕ) → length (d i) + length (l i) ≡ length (done i) + length (left i)
   unfolding done left
@@ -184,16 +184,16 @@ module _ (next : ℕ → ℕ) (k : ℕ) (r : Record) (ys : List Kinded) (d l : �
       rw (upd-other d k i (d k ++ encode r) g, ne-eqb k i (λ h. g (sym h))))
 
 filled : (ys : List Kinded) (next : ℕ → ℕ) (d l : ℕ → Bytes) (rest : Bytes) → Room next ys d l → Every InKinds ys
-    → fillAll next ys (body 1 16 d l rest) ≡ body 1 16 (λ k. d k ++ written (picked k ys)) (λ k. []) rest
+    → fillAll next ys (body 1 18 d l rest) ≡ body 1 18 (λ k. d k ++ written (picked k ys)) (λ k. []) rest
 unfolding fillAll picked written many
 filled [] next d l rest room h =
-    body-same 1 16 d (λ k. d k ++ []) l (λ k. []) rest (λ k i j. (sym (append-nil (d k)), no-bytes (l k) (room (k - 1) k (omega arith) (omega arith) .1)))
+    body-same 1 18 d (λ k. d k ++ []) l (λ k. []) rest (λ k i j. (sym (append-nil (d k)), no-bytes (l k) (room (k - 1) k (omega arith) (omega arith) .1)))
 filled (y ∷ ys) next d l rest room h =
     ap (fillAll (upd next (y .0) (suc (next (y .0)))) ys) (put-one next (y .0) (y .1) ys d l room (h .0 .0) (h .0 .1) rest)
     ∙ filled ys (upd next (y .0) (suc (next (y .0)))) (done next (y .0) (y .1) ys d l room (h .0 .0) (h .0 .1))
     (left next (y .0) (y .1) ys d l room (h .0 .0) (h .0 .1)) rest
     (room-left next (y .0) (y .1) ys d l room (h .0 .0) (h .0 .1)) (h .1)
-    ∙ body-same 1 16 _ (λ k. d k ++ written (picked k (y ∷ ys))) (λ k. []) (λ k. []) rest
+    ∙ body-same 1 18 _ (λ k. d k ++ written (picked k (y ∷ ys))) (λ k. []) (λ k. []) rest
     (λ k i j. (pick-same next (y .0) (y .1) ys d l room (h .0 .0) (h .0 .1) k, refl))
 
 -- ---- The output before: a block for each kind.
@@ -238,7 +238,7 @@ module _ (out : Bytes) (s c : ℕ → ℕ) (steps : (k : ℕ) → 1 ≤ k → s 
       ∙ ap (λ (x : Bytes). take (16 * c a) (drop (16 * s a) out) ++ x) (drop-drop (16 * c a) (16 * s a) out ∙ ap (λ (m : ℕ). drop m out) w ∙
       split-out n (suc a) (omega arith) ∙ ap (λ (m : ℕ). body (suc a) n (λ k. []) segment (drop (16 * s m) out)) (sym z))
 
-  pub starts-count : (ys : List Kinded) → ((k : ℕ) → 1 ≤ k → k < 17 → c k ≡ many (picked k ys)) → (n a : ℕ) → 1 ≤ a → a + n ≤ 17 →
+  pub starts-count : (ys : List Kinded) → ((k : ℕ) → 1 ≤ k → k < 19 → c k ≡ many (picked k ys)) → (n a : ℕ) → 1 ≤ a → a + n ≤ 19 →
       s a + many (gather a n ys) ≡ s (a + n)
   unfolding gather many
   starts-count ys counts zero a h l = let z : a + 0 ≡ a = omega arith in rw z (omega arith)
@@ -250,18 +250,18 @@ module _ (out : Bytes) (s c : ℕ → ℕ) (steps : (k : ℕ) → 1 ≤ k → s 
       let m = many-append (picked a ys) (gather (suc a) n ys) in
       rw z (omega arith)
 
-  module _ (fits : 16 * s 17 ≤ length out) where
-    segment-length : (k : ℕ) → 1 ≤ k → k < 17 → length (segment k) ≡ 16 * c k
+  module _ (fits : 16 * s 19 ≤ length out) where
+    segment-length : (k : ℕ) → 1 ≤ k → k < 19 → length (segment k) ≡ 16 * c k
     unfolding segment
     segment-length k h l =
-        let x = rising-starts (16 - k) (suc k) (omega arith) in
-        let z : suc k + (16 - k) ≡ 17 = omega arith in
+        let x = rising-starts (18 - k) (suc k) (omega arith) in
+        let z : suc k + (18 - k) ≡ 19 = omega arith in
         let y = steps k h in
-        let x2 : s (suc k) ≤ s 17 = subst (λ (m : ℕ). s (suc k) ≤ s m) z x in
+        let x2 : s (suc k) ≤ s 19 = subst (λ (m : ℕ). s (suc k) ≤ s m) z x in
         let w = length-drop (16 * s k) out in
         length-take-le (16 * c k) (drop (16 * s k) out) (omega arith)
 
-    before-segments : (j a : ℕ) → 1 ≤ a → a + j < 17 → 16 * s a + before a j (λ k. []) segment ≡ 16 * s (a + j)
+    before-segments : (j a : ℕ) → 1 ≤ a → a + j < 19 → 16 * s a + before a j (λ k. []) segment ≡ 16 * s (a + j)
     unfolding before
     before-segments zero a h l = let z : a + 0 ≡ a = omega arith in rw z (omega arith)
     before-segments (suc j) a h l =
@@ -271,8 +271,8 @@ module _ (out : Bytes) (s c : ℕ → ℕ) (steps : (k : ℕ) → 1 ≤ k → s 
         let w = segment-length a h (omega arith) in
         rw z (omega arith)
 
-    pub places : (ys : List Kinded) → s 1 ≡ 0 → ((k : ℕ) → 1 ≤ k → k < 17 → c k ≡ many (picked k ys)) → Every InKinds ys →
-        fillAll s ys out ≡ written (gather 1 16 ys) ++ drop (16 * s 17) out
+    pub places : (ys : List Kinded) → s 1 ≡ 0 → ((k : ℕ) → 1 ≤ k → k < 19 → c k ≡ many (picked k ys)) → Every InKinds ys →
+        fillAll s ys out ≡ written (gather 1 18 ys) ++ drop (16 * s 19) out
     unfolding body
     places ys zero-start counts h =
         let room : Room s ys (λ k. []) segment
@@ -282,5 +282,5 @@ module _ (out : Bytes) (s c : ℕ → ℕ) (steps : (k : ℕ) → 1 ≤ k → s 
         let z = counts k (omega arith) (omega arith) in
         let w : 16 * s (1 + j) ≡ 16 * s k = ap (λ (m : ℕ). 16 * s m) (sym e) in
         (omega arith, omega arith) in
-        let o : out ≡ body 1 16 (λ k. []) segment (drop (16 * s 17) out) = ap (λ (m : ℕ). drop (16 * m) out) (sym zero-start) ∙ split-out 16 1 (omega arith) in
-        ap (fillAll s ys) o ∙ filled ys s (λ k. []) segment (drop (16 * s 17) out) room h ∙ body-gathers 16 1 ys (drop (16 * s 17) out)
+        let o : out ≡ body 1 18 (λ k. []) segment (drop (16 * s 19) out) = ap (λ (m : ℕ). drop (16 * m) out) (sym zero-start) ∙ split-out 18 1 (omega arith) in
+        ap (fillAll s ys) o ∙ filled ys s (λ k. []) segment (drop (16 * s 19) out) room h ∙ body-gathers 18 1 ys (drop (16 * s 19) out)

@@ -3,16 +3,16 @@ use mathlib.Core.Path.{_≡_, refl, sym, ap, _∙_}
 use mathlib.Core.List.{List, [], _∷_, _++_}
 use mathlib.Core.Bool.{Bool, true, false, not, _&&_, _||_, true≢false}
 use Prim.Native.Nat.{ℕ, zero, suc}
-use lib.Dec.{eqb, leb}
+use lib.Dec.{eqb}
 use borrow.Author.Tests.{eqb-true}
-use Rattle.paper_lower.specs.Lists.{Maybe, holds, there, every, many, keep, each, listsOpen}
+use Rattle.paper_lower.specs.Lists.{Maybe, holds, there, every, keep, each, listsOpen}
 use Rattle.paper_lower.specs.Lists.Maybe.{none, just}
 use Rattle.paper_lower.specs.Records.{Record}
 use Rattle.paper_lower.proofs.ListLaws.{both}
 use Rattle.paper_opl.specs.Reading.{Text, text, same}
 use Rattle.paper_opl.specs.Tree.{Tag}
 use Rattle.paper_opl.specs.Naming.{Line, Names, taskRecord, allOf}
-use Rattle.paper_opl.specs.Walk.{called, namesIn, Context, start, turn, kinds, kindIn, kindAt, Saying, sayings, recordSaid, rising, recordsIn}
+use Rattle.paper_opl.specs.Walk.{namesIn, Context, start, turn, fewFrom, kinds, kindIn, kindAt, Saying, sayings, recordSaid, rising, recordsIn}
 use Rattle.paper_opl.proofs.Inversion.{on-test, on-found, none≢just, just-value}
 use Rattle.paper_opl.proofs.KindByKind.{Sets, turn-sets}
 
@@ -63,7 +63,7 @@ oneOf k zero j = false
 oneOf k (suc n) j = eqb j k || oneOf (suc k) n j
 
 abbrev pub ofTags : ℕ → Bool
-ofTags j = oneOf 1 5 j || oneOf 7 10 j
+ofTags j = oneOf 1 5 j || oneOf 7 12 j
 
 either : (a b t : Bool) → (not a || t) && (not b || t) ≡ not (a || b) || t
 either true true true = refl
@@ -136,11 +136,11 @@ and-order false b false = refl
 -- "NAMES (22) for a name too long, undeclared or above a limit", looked for in text order
 pub judged : (ts : List Tag) (ls : List Line)
     → there (recordsIn ts ls)
-    ≡ leb (many (keep (called "hdsodtp_partitioning") ts)) 16
+    ≡ fewFrom start ts
     && (every (λ l. there (taskRecord (namesIn ts ls) l)) ls && every (λ x. there (recordSaid (namesIn ts ls) x)) (sayings start ts))
 unfolding recordsIn holds
 judged ts ls =
-    on-test (leb (many (keep (called "hdsodtp_partitioning") ts)) 16) (λ q. rw q (all-there _ ∙ together)) (λ q. rw q)
+    on-test (fewFrom start ts) (λ q. rw q (all-there _ ∙ together)) (λ q. rw q)
   where
     ns : Names
     ns = namesIn ts ls
@@ -148,17 +148,17 @@ judged ts ls =
     xs : List Saying
     xs = sayings start ts
 
-    together : every there (rising ns 1 5 xs ++ each (taskRecord ns) ls ++ rising ns 7 10 xs) ≡
+    together : every there (rising ns 1 5 xs ++ each (taskRecord ns) ls ++ rising ns 7 12 xs) ≡
         every (λ l. there (taskRecord ns l)) ls && every (λ x. there (recordSaid ns x)) xs
     together =
-        every-append there (rising ns 1 5 xs ++ each (taskRecord ns) ls) (rising ns 7 10 xs)
-        ∙ ap (λ (b : Bool). b && every there (rising ns 7 10 xs)) (every-append there (rising ns 1 5 xs) (each (taskRecord ns) ls))
-        ∙ rw (every-of there (taskRecord ns) ls, risen ns 1 5 xs, risen ns 7 10 xs)
+        every-append there (rising ns 1 5 xs ++ each (taskRecord ns) ls) (rising ns 7 12 xs)
+        ∙ ap (λ (b : Bool). b && every there (rising ns 7 12 xs)) (every-append there (rising ns 1 5 xs) (each (taskRecord ns) ls))
+        ∙ rw (every-of there (taskRecord ns) ls, risen ns 1 5 xs, risen ns 7 12 xs)
         (and-order (every (λ x. not (oneOf 1 5 (x .kind)) || there (recordSaid ns x)) xs)
-        (every (λ x. not (oneOf 7 10 (x .kind)) || there (recordSaid ns x)) xs) (every (λ l. there (taskRecord ns l)) ls)
+        (every (λ x. not (oneOf 7 12 (x .kind)) || there (recordSaid ns x)) xs) (every (λ l. there (taskRecord ns l)) ls)
         ∙ ap (λ (b : Bool). every (λ l. there (taskRecord ns l)) ls && b)
-        (every-and (λ x. not (oneOf 1 5 (x .kind)) || there (recordSaid ns x)) (λ x. not (oneOf 7 10 (x .kind)) || there (recordSaid ns x)) xs
-        ∙ every-same _ _ xs (λ x. either (oneOf 1 5 (x .kind)) (oneOf 7 10 (x .kind)) (there (recordSaid ns x)))
+        (every-and (λ x. not (oneOf 1 5 (x .kind)) || there (recordSaid ns x)) (λ x. not (oneOf 7 12 (x .kind)) || there (recordSaid ns x)) xs
+        ∙ every-same _ _ xs (λ x. either (oneOf 1 5 (x .kind)) (oneOf 7 12 (x .kind)) (there (recordSaid ns x)))
         ∙ every-given (λ x. ofTags (x .kind)) (λ x. there (recordSaid ns x)) xs (said-range start refl ts)))
 
 pub all-are : (xs : List (Maybe Record)) (rs : List Record) → allOf xs ≡ just rs → xs ≡ each just rs
@@ -171,6 +171,6 @@ all-are (just r ∷ xs) rs e =
 
 -- the records, kinds rising, and within a kind as the tags say them
 pub ordered : (ts : List Tag) (ls : List Line) (rs : List Record) → recordsIn ts ls ≡ just rs
-    → rising (namesIn ts ls) 1 5 (sayings start ts) ++ each (taskRecord (namesIn ts ls)) ls ++ rising (namesIn ts ls) 7 10 (sayings start ts) ≡ each just rs
+    → rising (namesIn ts ls) 1 5 (sayings start ts) ++ each (taskRecord (namesIn ts ls)) ls ++ rising (namesIn ts ls) 7 12 (sayings start ts) ≡ each just rs
 unfolding recordsIn
-ordered ts ls rs e = on-test (leb (many (keep (called "hdsodtp_partitioning") ts)) 16) (λ q. all-are _ rs (rw q at e)) (λ q. absurd (none≢just (rw q at e)))
+ordered ts ls rs e = on-test (fewFrom start ts) (λ q. all-are _ rs (rw q at e)) (λ q. absurd (none≢just (rw q at e)))

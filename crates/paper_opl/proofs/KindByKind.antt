@@ -41,14 +41,14 @@ kind-append k xs ys =
     each-append (λ x. x .found) (keep (λ x. eqb (x .kind) k) xs) (keep (λ x. eqb (x .kind) k) ys)
 
 -- what a tag says is of the kind, or is not
-abbrev said : Context → Tag → List Tag → List Saying
+abbrev pub said : Context → Tag → List Tag → List Saying
 said c t inside = cond (eqb (kindAt c t) 0) [] (saying c t inside ∷ [])
 
-hit : (k : ℕ) (c : Context) (t : Tag) (inside : List Tag) → eqb k 0 ≡ false → kindAt c t ≡ k → ofKind k (said c t inside) ≡ saying c t inside .found ∷ []
+pub hit : (k : ℕ) (c : Context) (t : Tag) (inside : List Tag) → eqb k 0 ≡ false → kindAt c t ≡ k → ofKind k (said c t inside) ≡ saying c t inside .found ∷ []
 unfolding ofKind keep each
 hit k c t inside z e = rw (e, z, eq-eqb k k refl)
 
-miss : (k : ℕ) (c : Context) (t : Tag) (inside : List Tag) → eqb (kindAt c t) k ≡ false → ofKind k (said c t inside) ≡ []
+pub miss : (k : ℕ) (c : Context) (t : Tag) (inside : List Tag) → eqb (kindAt c t) k ≡ false → ofKind k (said c t inside) ≡ []
 unfolding ofKind keep each
 miss k c t inside e = on-test (eqb (kindAt c t) 0) (λ q. rw q) (λ q. rw (q, e))
 
@@ -57,7 +57,7 @@ unfolding ofKind told keep each
 nothing-told k c = refl
 
 -- the three parts of what an element says: its own, what stands in it, what stands behind it
-parts : (k : ℕ) (c : Context) (w : Text) (gs : List Given) (i b : Elements) (x y z : List Found)
+pub parts : (k : ℕ) (c : Context) (w : Text) (gs : List Given) (i b : Elements) (x y z : List Found)
     → ofKind k (said c (record { name = w; given = gs }) (tagsOf i)) ≡ x
     → ofKind k (told (turn c (record { name = w; given = gs })) i) ≡ y
     → ofKind k (told (turns (turn c (record { name = w; given = gs })) (tagsOf i)) b) ≡ z
@@ -82,7 +82,7 @@ turn-sets c t h =
     on-test (same (t .name) (text "static_separation_of_duty")) (λ q. rw q)
     (λ q. on-test (same (t .name) (text "dynamic_separation_of_duty")) (λ p. rw (q, p)) (λ p. rw (q, p) h))
 
-turns-sets : (c : Context) (ts : List Tag) → Sets c → Sets (turns c ts)
+pub turns-sets : (c : Context) (ts : List Tag) → Sets c → Sets (turns c ts)
 unfolding turns
 turns-sets c [] h = h
 turns-sets c (t ∷ ts) h = turns-sets (turn c t) ts (turn-sets c t h)
@@ -90,7 +90,7 @@ turns-sets c (t ∷ ts) h = turns-sets (turn c t) ts (turn-sets c t h)
 -- ---- Kinds whose elements are looked for everywhere.
 
 -- a name that has the kind is this one
-abbrev only : Text → ℕ → Text × ℕ → Bool
+abbrev pub only : Text → ℕ → Text × ℕ → Bool
 only e k x = cond (eqb (x .1) k) (same (x .0) e) true
 
 only-one : (e : Text) (k : ℕ) (xs : List (Text × ℕ)) (w : Text) → eqb k 0 ≡ false → every (only e k) xs ≡ true → same w e ≡ false → eqb (kindIn xs w) k ≡ false
@@ -106,11 +106,12 @@ only-one e k (x ∷ xs) w z h s =
 unfoldable pub simpleTest : Text → ℕ → Bool
 simpleTest e k =
     eqb (kindIn kinds e) k && (not (same e (text "critical_role_set")) &&
-    (not (same e (text "hdsodtp_partition")) && (not (eqb k 0) && (not (eqb 9 k) && (not (eqb 10 k) && every (only e k) kinds)))))
+    (not (same e (text "hdsodtp_partition")) && (not (same e (text "partition_object")) &&
+    (not (eqb k 0) && (not (eqb 9 k) && (not (eqb 10 k) && every (only e k) kinds))))))
 
 -- the kind of another element is another
 module _ (k : ℕ) (c : Context) (t : Tag) (e : Text) where
-  other : Sets c → eqb k 0 ≡ false → eqb 9 k ≡ false → eqb 10 k ≡ false → every (only e k) kinds ≡ true → same (t .name) e ≡ false → eqb (kindAt c t) k ≡ false
+  pub other : Sets c → eqb k 0 ≡ false → eqb 9 k ≡ false → eqb 10 k ≡ false → every (only e k) kinds ≡ true → same (t .name) e ≡ false → eqb (kindAt c t) k ≡ false
   other h z n m o s =
       on-test (same (t .name) (text "critical_role_set"))
       (λ q. rw q (on-test (eqb (c .sets) 9) (λ p. rw (eqb-true (c .sets) 9 p) n) (λ p. rw (eqb-true (c .sets) 10 (rw p at h)) m)))
@@ -124,7 +125,8 @@ module _ (e : Text) (k : ℕ) (test : simpleTest e k ≡ true) where
       let a = both (eqb (kindIn kinds e) k) _ test in
       let b = both (not (same e (text "critical_role_set"))) _ (a .1) in
       let d = both (not (same e (text "hdsodtp_partition"))) _ (b .1) in
-      let f = both (not (eqb k 0)) _ (d .1) in
+      let l = both (not (same e (text "partition_object"))) _ (d .1) in
+      let f = both (not (eqb k 0)) _ (l .1) in
       let g = both (not (eqb 9 k)) _ (f .1) in
       let j = both (not (eqb 10 k)) (every (only e k) kinds) (g .1) in
       on-test (same w e)
@@ -133,7 +135,8 @@ module _ (e : Text) (k : ℕ) (test : simpleTest e k ≡ true) where
       let x : same w (text "critical_role_set") ≡ false = rw v (not-true _ (b .0)) in
       let y : kindIn kinds w ≡ k = rw v (eqb-true _ _ (a .0)) in
       let z : same w (text "hdsodtp_partition") ≡ false = rw v (not-true _ (d .0)) in
-      hit k c (record { name = w; given = gs }) i (not-true _ (f .0)) (rw (x, y)) ∙ rw (q, z))
+      let u : same w (text "partition_object") ≡ false = rw v (not-true _ (l .0)) in
+      hit k c (record { name = w; given = gs }) i (not-true _ (f .0)) (rw (x, y)) ∙ rw (q, z, u))
       (λ q. miss k c (record { name = w; given = gs }) i
       (other k c (record { name = w; given = gs }) e h (not-true _ (f .0)) (not-true _ (g .0)) (not-true _ (j .0)) (j .1) q) ∙ rw q)
 
@@ -145,7 +148,116 @@ module _ (e : Text) (k : ℕ) (test : simpleTest e k ≡ true) where
       (simple (turns (turn c (record { name = w; given = gs })) (tagsOf i))
       (turns-sets (turn c (record { name = w; given = gs })) (tagsOf i) (turn-sets c (record { name = w; given = gs }) h)) b)
 
--- ---- Kind 12: partitions, numbered by the partitioning that they stand in.
+-- ---- Elements that are numbered by the element that they stand in: partitions by their partitioning, objects by their block.
+
+each-numbered : (k : ℕ) (w : Text) (xs ys : List Elements) → inEach k w (xs ++ ys) ≡ inEach k w xs ++ inEach (many xs + k) w ys
+unfolding inEach many
+each-numbered k w [] ys = let z : 0 + k ≡ k = omega arith in rw z
+each-numbered k w (x ∷ xs) ys =
+    let z : many xs + suc k ≡ suc (many xs) + k = omega arith in
+    ap (λ (l : List Found). those w k x ++ l) (each-numbered (suc k) w xs ys ∙ ap (λ (n : ℕ). inEach (suc k) w xs ++ inEach n w ys) z)
+    ∙ sym (append-assoc (those w k x) (inEach (suc k) w xs) (inEach (suc (many xs) + k) w ys))
+
+-- items of kind k, in outer elements, which `at` counts where the names are free
+module _ (k : ℕ) (item outer : Text) (ins : List Text) (at : Context → ℕ) (free : Text → Bool)
+    (group : every (groupTest (λ w. same w outer) (λ w. some (same w) ins)) (elementsOf true) ≡ true)
+    (in-still : every (λ w. not (turning w)) ins ≡ true)
+    (outer-turns : (w : Text) → turning w ≡ false → same w outer ≡ false)
+    (own-item : (c : Context) (w : Text) (gs : List Given) (i : List Tag) → Sets c
+    → ofKind k (said c (record { name = w; given = gs }) i) ≡ cond (same w item) (record { number = at c - 1; given = gs; inside = i } ∷ []) [])
+    (item-in : (w : Text) → some (same w) ins ≡ false → same w item ≡ false)
+    (free-out : (w : Text) → free w ≡ true → some (same w) ins ≡ false)
+    (free-in : (w : Text) → free w ≡ true → same w outer ≡ false → forNames free (rowIn (elementsOf true) w .children) ≡ true)
+    (counts : (c : Context) (t : Tag) → free (t .name) ≡ true → at (turn c t) ≡ cond (same (t .name) outer) (suc (at c)) (at c))
+  where
+    -- elements in an outer one
+    record Within (c : Context) (es : Elements) : Type 0 where
+      found-are : ofKind k (told c es) ≡ those item (at c - 1) es
+      turns-not : turns c (tagsOf es) ≡ c
+      no-other : insides outer es ≡ []
+
+    within : (cs : List Child) → forNames (λ w. some (same w) ins) cs ≡ true → (es : Elements) → Fits cs es → (c : Context) → Sets c → Within c es
+    unfolding Fits those insides tagsOf turns
+    within cs h nothing f c s = record { found-are = nothing-told k c; turns-not = refl; no-other = refl }
+    within cs h (node w gs i b) f c s =
+        let n : some (same w) ins ≡ true = child-has (λ w. some (same w) ins) cs w h (f .0) in
+        let q : turning w ≡ false = not-true (turning w) (name-has (λ v. not (turning v)) ins w in-still n) in
+        let m : turn c (record { name = w; given = gs }) ≡ c = still c (record { name = w; given = gs }) q in
+        let p : same w outer ≡ false = outer-turns w q in
+        let x =
+        within (rowIn (elementsOf true) w .children) (stands-in (λ w. same w outer) (λ w. some (same w) ins) w group (rw (p, n))) i (f .1) c s in
+        let y = within cs h b (f .2) c s in
+        record {
+          found-are =
+              parts k c w gs i b _ _ _ (own-item c w gs (tagsOf i) s) (rw m (x .found-are))
+              (ap (λ (d : Context). ofKind k (told (turns d (tagsOf i)) b)) m ∙ ap (λ (d : Context). ofKind k (told d b)) (x .turns-not) ∙ y .found-are);
+          turns-not =
+              ap (λ (d : Context). turns d (tagsOf i ++ tagsOf b)) m ∙ turns-append c (tagsOf i) (tagsOf b) ∙
+              ap (λ (d : Context). turns d (tagsOf b)) (x .turns-not) ∙
+              y .turns-not;
+          no-other = rw (p, x .no-other, y .no-other);
+        }
+
+    -- elements elsewhere
+    record Numbered (c : Context) (es : Elements) : Type 0 where
+      found-are : ofKind k (told c es) ≡ inEach (at c) item (insides outer es)
+      counted : at (turns c (tagsOf es)) ≡ many (insides outer es) + at c
+
+    numbered : (cs : List Child) → forNames free cs ≡ true → (es : Elements) → Fits cs es → (c : Context) → Sets c → Numbered c es
+    unfolding Fits insides tagsOf turns inEach many
+    numbered cs h nothing f c s = record { found-are = nothing-told k c; counted = let z : 0 + at c ≡ at c = omega arith in sym z }
+    numbered cs h (node w gs i b) f c s =
+        on-test (same w outer)
+        (λ q.
+        let x =
+        within (rowIn (elementsOf true) w .children) (stands-in (λ w. same w outer) (λ w. some (same w) ins) w group (rw q)) i (f .1) d
+        (turn-sets c t s) in
+        let y = numbered cs h b (f .2) d (turn-sets c t s) in
+        let p : at d ≡ suc (at c) = counts c t is-free ∙ rw q in
+        let n : suc (at c) - 1 ≡ at c = omega arith in
+        let z = y .counted in
+        record {
+          found-are =
+              parts k c w gs i b [] (those item (at c) i) (inEach (suc (at c)) item (insides outer b)) not-own
+              (x .found-are ∙ rw (p, n)) (ap (λ (e : Context). ofKind k (told e b)) (x .turns-not) ∙ y .found-are ∙ rw p)
+              ∙ rw (q, x .no-other);
+          counted =
+              ap at (turns-append d (tagsOf i) (tagsOf b) ∙ ap (λ (e : Context). turns e (tagsOf b)) (x .turns-not))
+              ∙ rw (q, x .no-other) (omega arith);
+        })
+        (λ q.
+        let x = numbered (rowIn (elementsOf true) w .children) (free-in w is-free q) i (f .1) d (turn-sets c t s) in
+        let y = numbered cs h b (f .2) (turns d (tagsOf i)) (turns-sets d (tagsOf i) (turn-sets c t s)) in
+        let p : at d ≡ at c = counts c t is-free ∙ rw q in
+        let z = y .counted in
+        let v = x .counted in
+        let o = many-append (insides outer i) (insides outer b) in
+        record {
+          found-are =
+              parts k c w gs i b [] (inEach (at c) item (insides outer i))
+              (inEach (many (insides outer i) + at c) item (insides outer b)) not-own (x .found-are ∙ rw p)
+              (y .found-are ∙ rw (x .counted, p))
+              ∙ rw q (sym (each-numbered (at c) item (insides outer i) (insides outer b)));
+          counted = ap at (turns-append d (tagsOf i) (tagsOf b)) ∙ rw q (omega arith);
+        })
+      where
+        t : Tag
+        t = record { name = w; given = gs }
+
+        d : Context
+        d = turn c t
+
+        is-free : free w ≡ true
+        is-free = child-has free cs w h (f .0)
+
+        not-own : ofKind k (said c t (tagsOf i)) ≡ []
+        not-own = own-item c w gs (tagsOf i) s ∙ rw (item-in w (free-out w is-free))
+
+    pub numbered-found : (cs : List Child) → forNames free cs ≡ true → (es : Elements) → Fits cs es → (c : Context) → Sets c
+        → ofKind k (told c es) ≡ inEach (at c) item (insides outer es)
+    numbered-found cs h es f c s = numbered cs h es f c s .found-are
+
+-- ---- Kind 12: partitions.
 
 abbrev pub partition : Text
 partition = text "hdsodtp_partition"
@@ -160,10 +272,10 @@ partitionings-group : every (groupTest (λ w. same w partitioning) inPartitionin
 unfolding listsOpen readingOpen elementsOpen
 partitionings-group = refl
 
--- in a partitioning nothing changes the context, and there is no other
-in-still : every (λ w. not (turning w)) (partition ∷ text "partition_task" ∷ []) ≡ true
+-- in a partitioning nothing changes the context
+partition-still : every (λ w. not (turning w)) (partition ∷ text "partition_task" ∷ []) ≡ true
 unfolding listsOpen readingOpen
-in-still = refl
+partition-still = refl
 
 only-partition : every (only partition 12) kinds ≡ true
 unfolding listsOpen readingOpen kinds
@@ -181,102 +293,24 @@ own-partition c w gs i h =
     (λ q. hit 12 c (record { name = w; given = gs }) i refl (partition-kind c w gs q) ∙ rw q)
     (λ q. miss 12 c (record { name = w; given = gs }) i (other 12 c (record { name = w; given = gs }) partition h refl refl refl only-partition q) ∙ rw q)
 
--- elements in a partitioning
-record InPartitioning (c : Context) (es : Elements) : Type 0 where
-  found-are : ofKind 12 (told c es) ≡ those partition (c .partitionings - 1) es
-  turns-not : turns c (tagsOf es) ≡ c
-  no-other : insides partitioning es ≡ []
+partitioning-turns : (w : Text) → turning w ≡ false → same w partitioning ≡ false
+partitioning-turns w e = or-none (same w partitioning) _ (or-none (same w (text "dynamic_separation_of_duty")) _ (or-none (same w (text "static_separation_of_duty")) _ e .1) .1) .0
 
-in-partitioning : (cs : List Child) → forNames inPartitioning cs ≡ true → (es : Elements) → Fits cs es → (c : Context) → Sets c → InPartitioning c es
-unfolding Fits those insides tagsOf turns
-in-partitioning cs h nothing f c s = record { found-are = nothing-told 12 c; turns-not = refl; no-other = refl }
-in-partitioning cs h (node w gs i b) f c s =
-    let n : inPartitioning w ≡ true = child-has inPartitioning cs w h (f .0) in
-    let q : turning w ≡ false = not-true (turning w) (name-has (λ v. not (turning v)) (partition ∷ text "partition_task" ∷ []) w in-still n) in
-    let m : turn c (record { name = w; given = gs }) ≡ c = still c (record { name = w; given = gs }) q in
-    let p : same w partitioning ≡ false =
-    or-none (same w (text "dynamic_separation_of_duty")) (same w partitioning) (or-none (same w (text "static_separation_of_duty")) _ q .1) .1 in
-    let x = in-partitioning (rowIn (elementsOf true) w .children) (stands-in (λ w. same w partitioning) inPartitioning w partitionings-group (rw (p, n))) i (f .1) c s in
-    let y = in-partitioning cs h b (f .2) c s in
-    record {
-      found-are =
-          parts 12 c w gs i b _ _ _ (own-partition c w gs (tagsOf i) s) (rw m (x .found-are))
-          (ap (λ (d : Context). ofKind 12 (told (turns d (tagsOf i)) b)) m ∙ ap (λ (d : Context). ofKind 12 (told d b)) (x .turns-not) ∙ y .found-are);
-      turns-not =
-          ap (λ (d : Context). turns d (tagsOf i ++ tagsOf b)) m ∙ turns-append c (tagsOf i) (tagsOf b) ∙
-          ap (λ (d : Context). turns d (tagsOf b)) (x .turns-not) ∙
-          y .turns-not;
-      no-other = rw (p, x .no-other, y .no-other);
-    }
+partition-in : (w : Text) → inPartitioning w ≡ false → same w partition ≡ false
+unfolding some
+partition-in w e = or-none (same w partition) _ e .0
 
-each-numbered : (k : ℕ) (w : Text) (xs ys : List Elements) → inEach k w (xs ++ ys) ≡ inEach k w xs ++ inEach (many xs + k) w ys
-unfolding inEach many
-each-numbered k w [] ys = let z : 0 + k ≡ k = omega arith in rw z
-each-numbered k w (x ∷ xs) ys =
-    let z : many xs + suc k ≡ suc (many xs) + k = omega arith in
-    ap (λ (l : List Found). those w k x ++ l) (each-numbered (suc k) w xs ys ∙ ap (λ (n : ℕ). inEach (suc k) w xs ++ inEach n w ys) z)
-    ∙ sym (append-assoc (those w k x) (inEach (suc k) w xs) (inEach (suc (many xs) + k) w ys))
-
-turned : (c : Context) (t : Tag) → turn c t .partitionings ≡ cond (same (t .name) partitioning) (suc (c .partitionings)) (c .partitionings)
+partitioning-counted : (c : Context) (t : Tag) → turn c t .partitionings ≡ cond (same (t .name) partitioning) (suc (c .partitionings)) (c .partitionings)
 unfolding turn
-turned c t = refl
+partitioning-counted c t = refl
 
--- elements elsewhere
-pub record Partitions (c : Context) (es : Elements) : Type 0 where
-  pub found-are : ofKind 12 (told c es) ≡ inEach (c .partitionings) partition (insides partitioning es)
-  pub counted : turns c (tagsOf es) .partitionings ≡ many (insides partitioning es) + c .partitionings
-
-pub partitions : (cs : List Child) → forNames (λ v. not (inPartitioning v)) cs ≡ true → (es : Elements) → Fits cs es → (c : Context) → Sets c → Partitions c es
-unfolding Fits insides tagsOf turns some inEach many
-partitions cs h nothing f c s = record { found-are = nothing-told 12 c; counted = let z : 0 + c .partitionings ≡ c .partitionings = omega arith in sym z }
-partitions cs h (node w gs i b) f c s =
-    on-test (same w partitioning)
-    (λ q.
-    let x =
-    in-partitioning (rowIn (elementsOf true) w .children) (stands-in (λ w. same w partitioning) inPartitioning w partitionings-group (rw q)) i (f .1) d
-    (turn-sets c t s) in
-    let y = partitions cs h b (f .2) d (turn-sets c t s) in
-    let p : d .partitionings ≡ suc (c .partitionings) = turned c t ∙ rw q in
-    let k : suc (c .partitionings) - 1 ≡ c .partitionings = omega arith in
-    let z = y .counted in
-    record {
-      found-are =
-          parts 12 c w gs i b [] (those partition (c .partitionings) i) (inEach (suc (c .partitionings)) partition (insides partitioning b)) not-own
-          (x .found-are ∙ rw (p, k)) (ap (λ (e : Context). ofKind 12 (told e b)) (x .turns-not) ∙ y .found-are ∙ rw p)
-          ∙ rw (q, x .no-other);
-      counted =
-          ap (λ (e : Context). e .partitionings) (turns-append d (tagsOf i) (tagsOf b) ∙ ap (λ (e : Context). turns e (tagsOf b)) (x .turns-not))
-          ∙ rw (q, x .no-other) (omega arith);
-    })
-    (λ q.
-    let x =
-    partitions (rowIn (elementsOf true) w .children) (stands-out (λ w. same w partitioning) inPartitioning w partitionings-group (rw (q, out))) i (f .1) d
-    (turn-sets c t s) in
-    let y = partitions cs h b (f .2) (turns d (tagsOf i)) (turns-sets d (tagsOf i) (turn-sets c t s)) in
-    let p : d .partitionings ≡ c .partitionings = turned c t ∙ rw q in
-    let z = y .counted in
-    let v = x .counted in
-    let o = many-append (insides partitioning i) (insides partitioning b) in
-    record {
-      found-are =
-          parts 12 c w gs i b [] (inEach (c .partitionings) partition (insides partitioning i))
-          (inEach (many (insides partitioning i) + c .partitionings) partition (insides partitioning b)) not-own (x .found-are ∙ rw p)
-          (y .found-are ∙ rw (x .counted, p))
-          ∙ rw q (sym (each-numbered (c .partitionings) partition (insides partitioning i) (insides partitioning b)));
-      counted = ap (λ (e : Context). e .partitionings) (turns-append d (tagsOf i) (tagsOf b)) ∙ rw q (omega arith);
-    })
-  where
-    t : Tag
-    t = record { name = w; given = gs }
-
-    d : Context
-    d = turn c t
-
-    out : inPartitioning w ≡ false
-    out = not-true (inPartitioning w) (child-has (λ v. not (inPartitioning v)) cs w h (f .0))
-
-    not-own : ofKind 12 (said c t (tagsOf i)) ≡ []
-    not-own = own-partition c w gs (tagsOf i) s ∙ rw (or-none (same w partition) _ out .0)
+pub partitions : (cs : List Child) → forNames (λ v. not (inPartitioning v)) cs ≡ true → (es : Elements) → Fits cs es → (c : Context) → Sets c
+    → ofKind 12 (told c es) ≡ inEach (c .partitionings) partition (insides partitioning es)
+partitions =
+    numbered-found 12 partition partitioning (partition ∷ text "partition_task" ∷ []) (λ c. c .partitionings) (λ v. not (inPartitioning v))
+    partitionings-group partition-still partitioning-turns own-partition partition-in (λ w h. not-true (inPartitioning w) h)
+    (λ w h q. stands-out (λ w. same w partitioning) inPartitioning w partitionings-group (rw (q, not-true (inPartitioning w) h)))
+    (λ c t h. partitioning-counted c t)
 
 -- ---- Kinds 9 and 10: sets of roles, by the separation that they stand in.
 
@@ -317,9 +351,9 @@ no-kind k (x ∷ xs) w z h =
     let b = both (not (eqb (x .1) k)) (every (λ x. not (eqb (x .1) k)) xs) h in
     on-test (same w (x .0)) (λ q. rw q (not-true (eqb (x .1) k) (b .0))) (λ q. rw q (no-kind k xs w z (b .1)))
 
-no-partition : same roleSet partition ≡ false
+no-partition : (same roleSet partition ≡ false) × (same roleSet (text "partition_object") ≡ false)
 unfolding readingOpen
-no-partition = refl
+no-partition = (refl, refl)
 
 all-append : (w : Text) (xs ys : List Elements) → inAll w (xs ++ ys) ≡ inAll w xs ++ inAll w ys
 unfolding inAll
@@ -338,8 +372,9 @@ module _ (k : ℕ) (o : Text) (above : (eqb k 0 ≡ false) × (eqb 0 k ≡ false
         on-test (same w roleSet)
         (λ q. on-test (eqb (c .sets) k)
         (λ p.
-        let v : same w partition ≡ false = rw (same-true w roleSet q) no-partition in
-        hit k c (record { name = w; given = gs }) i (above .0) (rw q (eqb-true (c .sets) k p)) ∙ rw (p, q, v))
+        let v : same w partition ≡ false = rw (same-true w roleSet q) (no-partition .0) in
+        let u : same w (text "partition_object") ≡ false = rw (same-true w roleSet q) (no-partition .1) in
+        hit k c (record { name = w; given = gs }) i (above .0) (rw q (eqb-true (c .sets) k p)) ∙ rw (p, q, v, u))
         (λ p. miss k c (record { name = w; given = gs }) i (rw q p) ∙ rw p))
         (λ q. miss k c (record { name = w; given = gs }) i (rw q (no-kind k kinds w (above .1) apart)) ∙ on-test (eqb (c .sets) k) (λ p. rw (p, q)) (λ p. rw p))
 
@@ -361,7 +396,7 @@ module _ (k : ℕ) (o : Text) (above : (eqb k 0 ≡ false) × (eqb 0 k ≡ false
         let q : turning w ≡ false = not-true (turning w) (name-has (λ v. not (turning v)) inSeparationNames w separation-still n) in
         let m : turn c (record { name = w; given = gs }) ≡ c = still c (record { name = w; given = gs }) q in
         let u = or-none (same w static) _ q in
-        let v = or-none (same w dynamic) (same w partitioning) (u .1) in
+        let v = or-none (same w dynamic) _ (u .1) in
         let p : separation w ≡ false = rw (u .0, v .0) in
         let x = in-separation (rowIn (elementsOf true) w .children) (stands-in separation inSeparation w separations-group (rw (p, n))) i (f .1) c in
         let y = in-separation cs h b (f .2) c in

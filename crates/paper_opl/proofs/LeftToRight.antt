@@ -10,19 +10,20 @@ use borrow.Author.Tests.{eqb-true}
 use Rattle.paper_lower.specs.Lists.{Maybe, many, keep, each, listsOpen}
 use Rattle.paper_lower.specs.Lists.Maybe.{just}
 use Rattle.paper_lower.specs.Records.{Bytes, Record}
-use Rattle.paper_lower.proofs.ListLaws.{or-none, many-each}
+use Rattle.paper_lower.proofs.ListLaws.{or-none}
 use Rattle.paper_opl.specs.Reading.{Text, text, same, readingOpen}
 use Rattle.paper_opl.specs.Reading.Read.{got}
 use Rattle.paper_opl.specs.Elements.{elementsOf, elementsOpen}
 use Rattle.paper_opl.specs.Tree.{Given, Tag, Elements, tagsOf, documentIn}
 use Rattle.paper_opl.specs.Tree.Elements.{nothing, node}
-use Rattle.paper_opl.specs.Naming.{Line, those, insides, inAll, inEach, valueOf, declaredBy, Names, spaceOf, namesOf, Row, firstRows, lastRows, recordBy, recordsBy, recordsOf, taskLines, translateIn}
+use Rattle.paper_opl.specs.Naming.{Line, those, insides, inAll, inEach, valueOf, declaredBy, Names, spaceOf, objectsIn, namesOf, Row, firstRows, lastRows, recordBy, recordsBy, recordsOf, taskLines, translateIn}
 use Rattle.paper_opl.specs.Walk.{called, declaredIn, namesIn, start, turn, kinds, kindIn, innerNames, leading, Saying, sayings, rowOf, recordSaid, rising, recordsIn, tags, tag, walkedIn, kindAt, saying, inner, Context}
 use Rattle.paper_opl.proofs.Inversion.{on, on-test}
 use Rattle.paper_opl.proofs.Conforms.{same-true, forNames, Fits, root}
 use Rattle.paper_opl.proofs.Wider.{document-fits}
 use Rattle.paper_opl.proofs.Groups.{innerName, told, told-is}
 use Rattle.paper_opl.proofs.KindByKind.{keep-append, each-append, ofKind, simpleTest, simple, static, dynamic, inSeparationNames, role-sets, partitions}
+use Rattle.paper_opl.proofs.Walls.{in-all-walls, few-are}
 use Rattle.paper_opl.proofs.Tags.{walk, step, tags-are}
 
 -- ---- Names.
@@ -50,15 +51,10 @@ names-are es ls = λ i. record {
   roles = spaceOf 64 (declared-are "role" "role_id" es i);
   permissions = spaceOf 256 (declared-are "permission" "permission_id" es i);
   operations = spaceOf 65536 (declared-are "operation" "operation_id" es i);
-  objects = spaceOf 65536 (declared-are "object" "object_id" es i);
+  objects = spaceOf 65536 (objectsIn (tagsOf es));
   tasks = spaceOf 64 (each (λ l. l .task) ls);
   templates = spaceOf 16 (each (λ l. l .template) ls);
 }
-
-partitionings-are : (es : Elements) → many (those (text "hdsodtp_partitioning") 0 es) ≡ many (keep (called "hdsodtp_partitioning") (tagsOf es))
-partitionings-are es =
-    sym (many-each (λ x. x .given) (those (text "hdsodtp_partitioning") 0 es)) ∙ ap many (by-name (text "hdsodtp_partitioning") (λ gs. gs) 0 es)
-    ∙ many-each (λ t. t .given) (keep (called "hdsodtp_partitioning") (tagsOf es))
 
 -- ---- Kinds.
 
@@ -89,7 +85,7 @@ module _ (es : Elements) (f : Fits root es) where
 
   partitioned : ofKind 12 (told start es) ≡ inEach 0 (text "hdsodtp_partition") (insides (text "hdsodtp_partitioning") es)
   unfolding listsOpen readingOpen elementsOpen
-  partitioned = partitions root refl es f start refl .found-are
+  partitioned = partitions root refl es f start refl
 
 -- ---- Records.
 
@@ -161,7 +157,13 @@ module _ (es : Elements) (f : Fits root es) where
                   record { kind-is = refl; row-is = refl; elements-are = everywhere es f (text "task_cardinality") 14 refl },
                   (
                     record { kind-is = refl; row-is = refl; elements-are = everywhere es f (text "bind_of_duty_constraint") 15 refl },
-                    (record { kind-is = refl; row-is = refl; elements-are = everywhere es f (text "prereq_step") 16 refl }, tt),
+                    (
+                      record { kind-is = refl; row-is = refl; elements-are = everywhere es f (text "prereq_step") 16 refl },
+                      (
+                        record { kind-is = refl; row-is = refl; elements-are = everywhere es f (text "inherit_role") 17 refl },
+                        (record { kind-is = refl; row-is = refl; elements-are = in-all-walls es f }, tt),
+                      ),
+                    ),
                   ),
                 ),
               ),
@@ -172,7 +174,7 @@ module _ (es : Elements) (f : Fits root es) where
     ),
   )
 
-  counts : (many firstRows ≡ 5) × (many lastRows ≡ 10)
+  counts : (many firstRows ≡ 5) × (many lastRows ≡ 12)
   unfolding firstRows lastRows many
   counts = (refl, refl)
 
@@ -183,9 +185,9 @@ module _ (es : Elements) (f : Fits root es) where
       let n = names-are es ls in
       let a : recordsBy (namesOf es ls) firstRows es ≡ rising (namesIn (tagsOf es) ls) 1 5 (sayings start (tagsOf es))
       = rows-rise (namesOf es ls) es firstRows 1 first-rows ∙ rw (counts .0, n, said-are es f) in
-      let b : recordsBy (namesOf es ls) lastRows es ≡ rising (namesIn (tagsOf es) ls) 7 10 (sayings start (tagsOf es))
+      let b : recordsBy (namesOf es ls) lastRows es ≡ rising (namesIn (tagsOf es) ls) 7 12 (sayings start (tagsOf es))
       = rows-rise (namesOf es ls) es lastRows 7 last-rows ∙ rw (counts .1, n, said-are es f) in
-      rw (partitionings-are es, a, b, n)
+      rw (few-are es f, a, b, n)
 
 -- ---- "Accepted text": what the walk over its tags gives is what its elements say.
 

@@ -1,7 +1,7 @@
 -- What a tag of each kind says, as the lookups that it takes.
 use mathlib.Core.Path.{_≡_, refl}
 use mathlib.Core.Bool.{cond}
-use Prim.Native.Nat.{ℕ}
+use Prim.Native.Nat.{ℕ, _/_, _%_}
 use Prim.Native.String.{String}
 use lib.Dec.{ltb}
 use Rattle.paper_lower.specs.Lists.{Maybe, each}
@@ -69,6 +69,17 @@ module _ (ns : Names) (x : Found) where
       if-found (named (ns .tasks) "prereq_task_id" x) none (λ a. if-found (named (ns .tasks) "task_id" x) none (λ b. fields 16 0 a b 0 0))
   unfolding recordSaid rowOf firstRows lastRows
   said-16 = refl
+
+  pub said-17 : recordSaid ns (record { kind = 17; found = x }) ≡
+      if-found (named (ns .roles) "upper_role" x) none (λ a. if-found (named (ns .roles) "lower_role" x) none (λ b. fields 17 0 a b 0 0))
+  unfolding recordSaid rowOf firstRows lastRows
+  said-17 = refl
+
+  pub said-18 : recordSaid ns (record { kind = 18; found = x })
+      ≡ if-found (cond (ltb (x .number) 256) (just (x .number / 16)) none) none
+      (λ a. if-found (named (ns .objects) "object_id" x) none (λ c. fields 18 0 a (x .number % 16) c 0))
+  unfolding recordSaid rowOf firstRows lastRows
+  said-18 = refl
 
   pub said-3 : recordSaid ns (record { kind = 3; found = x })
       ≡ if-found (named (ns .permissions) "permission_id" x) none (λ a. if-found

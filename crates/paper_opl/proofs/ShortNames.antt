@@ -3,10 +3,10 @@ use mathlib.Core.Path.{_≡_, refl, sym, ap, _∙_}
 use mathlib.Core.List.{List, [], _∷_, _++_}
 use mathlib.Core.Bool.{Bool, true, false, not, _&&_, _||_, false≢true, true≢false}
 use Prim.Native.String.{String}
-use lib.Dec.{ltb, leb}
+use lib.Dec.{eqb, ltb, leb}
 use lib.ListN.{length}
 use borrow.Author.Tests.{not-true}
-use Rattle.paper_lower.specs.Lists.{holds, there, some, every, many, keep, each, listsOpen}
+use Rattle.paper_lower.specs.Lists.{holds, there, some, every, keep, each, listsOpen}
 use Rattle.paper_lower.specs.Lists.Maybe.{just}
 use Rattle.paper_lower.specs.Records.{Record}
 use Rattle.paper_lower.proofs.ListLaws.{both}
@@ -16,13 +16,14 @@ use Rattle.paper_opl.specs.Elements.{Child, elementsOf, rowIn, one, next
 use Rattle.paper_opl.specs.Tree.{Given, Elements, Tag, tagsOf, documentIn}
 use Rattle.paper_opl.specs.Tree.Elements.{nothing, node}
 use Rattle.paper_opl.specs.Layout.{elementsFit, inGrammar, attributesFit}
-use Rattle.paper_opl.specs.Naming.{Line, Found, those, valueOf, Space, placeOf, numberIn, Names, namesOf, Field, the, its, Row, firstRows, lastRows, recordBy, taskRecord, recordsBy, allOf, recordsOf, row, all, ·, user, role, permission as permission-field, operation as operation-field, object as object-field}
-use Rattle.paper_opl.specs.Walk.{declaredIn, recordsIn, tags}
+use Rattle.paper_opl.specs.Naming.{Line, Found, those, valueOf, Space, placeOf, numberIn, Names, objectsIn, namesOf, Field, the, its, Row, firstRows, lastRows, recordBy, taskRecord, recordsBy, allOf, fewOf, recordsOf, row, all, ·, user, role, permission as permission-field, operation as operation-field, object as object-field}
+use Rattle.paper_opl.specs.Walk.{called, declaredIn, namesIn, Context, start, turn, fewFrom, kinds, kindIn, kindAt, leading, saying, sayings, recordSaid, recordsIn, tags}
 use Rattle.paper_opl.proofs.Inversion.{on-test, on-found, none≢just, just-value}
 use Rattle.paper_opl.proofs.Conforms.{same-true, among, child-has, next-among, root}
 use Rattle.paper_opl.proofs.Groups.{groupTest, stands-out}
 use Rattle.paper_opl.proofs.KindByKind.{each-append}
-use Rattle.paper_opl.proofs.Judging.{every-append, every-of, all-there}
+use Rattle.paper_opl.proofs.Judging.{every-append, every-of, all-there, judged}
+use Rattle.paper_opl.proofs.SaidBy.{said-18}
 use Rattle.paper_opl.proofs.LeftToRight.{declared-are, walk-gives}
 use Rattle.paper_opl.proofs.Tags.{tags-are}
 use Rattle.paper_opl.proofs.Wider.{document-wide}
@@ -192,7 +193,7 @@ pub record ShortNames (ts : List Tag) (ls : List Line) : Type 0 where
   pub roles : every short (declaredIn "role" "role_id" ts) ≡ true
   pub permissions : every short (declaredIn "permission" "permission_id" ts) ≡ true
   pub operations : every short (declaredIn "operation" "operation_id" ts) ≡ true
-  pub objects : every short (declaredIn "object" "object_id" ts) ≡ true
+  pub objects : every short (objectsIn ts) ≡ true
   pub tasks : every short (each (λ l. l .task) ls) ≡ true
   pub templates : every short (each (λ l. l .template) ls) ≡ true
 
@@ -200,7 +201,7 @@ all-said : (es : Elements) (ls : List Line) (rs : List Record) → recordsOf es 
     → (every there (recordsBy (namesOf es ls) firstRows es) ≡ true) × (every there (each (taskRecord (namesOf es ls)) ls) ≡ true)
 unfolding recordsOf holds
 all-said es ls rs e =
-    on-test (leb (many (those (text "hdsodtp_partitioning") 0 es)) 16)
+    on-test (fewOf es)
     (λ q.
     let f : allOf (recordsBy (namesOf es ls) firstRows es ++ each (taskRecord (namesOf es ls)) ls ++ recordsBy (namesOf es ls) lastRows es) ≡ just rs =
     rw q at e in
@@ -252,9 +253,61 @@ abbrev permissionRow : Row
 permissionRow =
     row 3 (all "permission") · (permission-field "permission_id") (its "operation" (operation-field "operation_id")) (its "object" (object-field "object_id")) ·
 
-tree-short : (es : Elements) (ls : List Line) (rs : List Record) → inGrammar true es ≡ true → recordsOf es ls ≡ just rs → ShortNames (tagsOf es) ls
+-- objects in the blocks of walls
+block-object : (ns : Names) (x : Found) → there (recordSaid ns (record { kind = 18; found = x })) ≡ true → short (valueOf (text "object_id") (x .given)) ≡ true
+unfolding holds
+block-object ns x h =
+    on-test (ltb (x .number) 256)
+    (λ q. on-found (numberIn (ns .objects) (valueOf (text "object_id") (x .given)))
+    (λ k e. number-short (ns .objects) (valueOf (text "object_id") (x .given)) (rw e))
+    (λ e. absurd (false≢true (rw (q, e) at (rw (said-18 ns x) at h)))))
+    (λ q. absurd (false≢true (rw q at (rw (said-18 ns x) at h))))
+
+block-kind : (c : Context) (t : Tag) → called "partition_object" t ≡ true → kindAt c t ≡ 18
+unfolding readingOpen kinds kindIn
+block-kind c t e = rw (same-true (t .name) (text "partition_object") e)
+
+block-objects : (ns : Names) (ts : List Tag) (c : Context) → every (λ x. there (recordSaid ns x)) (sayings c ts) ≡ true
+    → every short (declaredIn "partition_object" "object_id" ts) ≡ true
+unfolding sayings every keep each
+block-objects ns [] c h = refl
+block-objects ns (t ∷ ts) c h =
+    on-test (called "partition_object" t)
+    (λ q.
+    let k = block-kind c t q in
+    let b = both (there (recordSaid ns (record { kind = 18; found = saying c t (leading ts) .found }))) _ (rw k at h) in
+    rw (q, block-object ns (saying c t (leading ts) .found) (b .0)) (block-objects ns ts (turn c t) (b .1)))
+    (λ q. rw q (block-objects ns ts (turn c t)
+    (on-test (eqb (kindAt c t) 0) (λ p. rw p at h) (λ p. both (there (recordSaid ns (saying c t (leading ts)))) _ (rw p at h) .1))))
+
+objects-short : (ts : List Tag) → every short (declaredIn "object" "object_id" ts) ≡ true → every short (declaredIn "partition_object" "object_id" ts) ≡ true
+    → every short (objectsIn ts) ≡ true
+unfolding objectsIn every keep each
+objects-short [] a b = refl
+objects-short (t ∷ ts) a b =
+    on-test (called "object" t)
+    (λ q.
+    let x = both (short (valueOf (text "object_id") (t .given))) _ (rw q at a) in
+    rw (q, x .0) (objects-short ts (x .1)
+    (on-test (called "partition_object" t) (λ p. both (short (valueOf (text "object_id") (t .given))) _ (rw p at b) .1) (λ p. rw p at b))))
+    (λ q. on-test (called "partition_object" t)
+    (λ p. let y = both (short (valueOf (text "object_id") (t .given))) _ (rw p at b) in rw (q, p, y .0) (objects-short ts (rw q at a) (y .1)))
+    (λ p. rw (q, p) (objects-short ts (rw q at a) (rw p at b))))
+
+-- every tag says its record
+all-tags : (ts : List Tag) (ls : List Line) (rs : List Record) → recordsIn ts ls ≡ just rs → every (λ x. there (recordSaid (namesIn ts ls) x)) (sayings start ts) ≡ true
+unfolding holds
+all-tags ts ls rs e =
+    let a : there (recordsIn ts ls) ≡ true = rw e in
+    let b : fewFrom start ts && (every (λ l. there (taskRecord (namesIn ts ls) l)) ls && every (λ x. there (recordSaid (namesIn ts ls) x)) (sayings start ts)) ≡ true
+    = sym (judged ts ls) ∙ a in
+    both (every (λ l. there (taskRecord (namesIn ts ls) l)) ls) (every (λ x. there (recordSaid (namesIn ts ls) x)) (sayings start ts))
+    (both (fewFrom start ts) _ b .1) .1
+
+tree-short : (es : Elements) (ls : List Line) (rs : List Record) → inGrammar true es ≡ true → recordsOf es ls ≡ just rs → recordsIn (tagsOf es) ls ≡ just rs
+    → ShortNames (tagsOf es) ls
 unfolding firstRows readingOpen listsOpen
-tree-short es ls rs g e =
+tree-short es ls rs g e z =
     let a = all-said es ls rs e in
     let u = row-said (namesOf es ls) _ _ es (a .0) in
     let o = row-said (namesOf es ls) _ _ es (u .1) in
@@ -274,9 +327,11 @@ tree-short es ls rs g e =
           inner-short (namesOf es ls) permissionRow "operation" "operation_id" (λ ns. ns .operations) refl
           (λ x h. fields-there (namesOf es ls) permissionRow x h .1) operation-alone root root-out es g (p .0);
       objects =
-          ap (every short) (sym (declared-are "object" "object_id" es)) ∙
+          objects-short (tagsOf es)
+          (ap (every short) (sym (declared-are "object" "object_id" es)) ∙
           inner-short (namesOf es ls) permissionRow "object" "object_id" (λ ns. ns .objects) refl (λ x h. fields-there (namesOf es ls) permissionRow x h .2)
-          object-alone root root-out es g (p .0);
+          object-alone root root-out es g (p .0))
+          (block-objects (namesIn (tagsOf es) ls) (tagsOf es) start (all-tags (tagsOf es) ls rs z));
       tasks =
           every-of short (λ l. l .task) ls ∙
           every-more (λ l. there (taskRecord (namesOf es ls) l)) (λ l. short (l .task)) ls (λ l h. line-short (namesOf es ls) l h .0)
@@ -289,4 +344,4 @@ tree-short es ls rs g e =
 
 pub short-names : (all : Bool) (s : Text) (es : Elements) (r : Text) (ls : List Line) (rs : List Record) → documentIn all s ≡ got es r → recordsIn (tags s) ls ≡ just rs →
     ShortNames (tags s) ls
-short-names all s es r ls rs d e = rw (tags-are all s es r d) (tree-short es ls rs (document-wide all s es r d) (walk-gives all s es r ls d ∙ e))
+short-names all s es r ls rs d e = rw (tags-are all s es r d) (tree-short es ls rs (document-wide all s es r d) (walk-gives all s es r ls d ∙ e) (ap (λ (ts : List Tag). recordsIn ts ls) (sym (tags-are all s es r d)) ∙ e))

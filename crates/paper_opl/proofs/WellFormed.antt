@@ -19,10 +19,10 @@ use Rattle.paper_lower.proofs.ReadBack.{read-back}
 use Rattle.sets.proofs.SetLaws.{plus-lt}
 use Rattle.paper_opl.specs.Reading.{Text, text}
 use Rattle.paper_opl.specs.Tree.{Elements}
-use Rattle.paper_opl.specs.Naming.{Line, Found, valueOf, Space, numberIn, placeOf, Names, namesOf, Field, ·, the, members, ofFirst, its, cardinality, setOf, set, partitioning, Row, recordBy, recordsBy, taskRecord, firstRows, lastRows, those}
+use Rattle.paper_opl.specs.Naming.{Line, Found, valueOf, Space, numberIn, placeOf, Names, namesOf, Field, ·, the, members, ofFirst, its, cardinality, setOf, set, partitioning, wall, block, Row, recordBy, recordsBy, taskRecord, firstRows, lastRows, those}
 use Rattle.paper_opl.specs.Promises.{WellShaped}
 use Rattle.paper_opl.proofs.Inversion.{on-test, on-found, none≢just, just-value}
-use Rattle.paper_opl.proofs.Cardinalities.{AllSmall, Proper, those-proper, within-proper, numbered-proper, value-small}
+use Rattle.paper_opl.proofs.Cardinalities.{AllSmall, Proper, those-proper, within-proper, numbered-proper, walled-proper, value-small}
 
 -- ---- One field.
 
@@ -55,6 +55,10 @@ number-within j limit sp w v s l e = let k = number-below sp w v e in (refl, le-
 
 number-holds : (j limit : ℕ) (ns : Names) (space : Names → Space) (w : String) → space ns .limit ≡ suc j → suc j ≤ limit → Holds (to j) limit ns (the space w)
 number-holds j limit ns space w s l x p v e = number-within j limit (space ns) (valueOf (text w) (x .given)) v s l e
+
+any-number-holds : (ns : Names) (space : Names → Space) (w : String) → space ns .limit ≡ 65536 → Holds any 65536 ns (the space w)
+unfolding misplaced above
+any-number-holds ns space w s x p v q = let k = number-below (space ns) (valueOf (text w) (x .given)) v q in (refl, refl, omega arith)
 
 its-holds : (ns : Names) (space : Names → Space) (e w : String) → space ns .limit ≡ 65536 → Holds any 65536 ns (its e (the space w))
 unfolding misplaced above
@@ -92,6 +96,18 @@ partitioning-holds ns x p v e =
     on-test (ltb (x .number) 16)
     (λ c. let l = ltb-true (x .number) 16 c in let q = just-value (rw c at e) in (refl, le-ltb 15 v (omega arith), omega arith))
     (λ c. absurd (none≢just (rw c at e)))
+
+-- the wall and the block of a number
+wall-holds : (ns : Names) → Holds (to 15) 65536 ns wall
+unfolding misplaced above
+wall-holds ns x p v e =
+    on-test (ltb (x .number) 256)
+    (λ c. let l = ltb-true (x .number) 256 c in let q = just-value (rw c at e) in (refl, le-ltb 15 v (omega arith), omega arith))
+    (λ c. absurd (none≢just (rw c at e)))
+
+block-holds : (ns : Names) → Holds (to 15) 65536 ns block
+unfolding misplaced above
+block-holds ns x p v e = let q = just-value e in (refl, le-ltb 15 v (omega arith), omega arith)
 
 -- ---- One record.
 
@@ -212,6 +228,8 @@ module _ (ns : Names) (l : Limits ns) where
       ⨾ kept ns _ _ refl (omega arith) (cardinality-holds ns) (task "task_id") no-field no-field no-set
       ⨾ kept ns _ _ refl (omega arith) no-n (task "task_id") (task "bound_task_id") no-field no-set
       ⨾ kept ns _ _ refl (omega arith) no-n (task "prereq_task_id") (task "task_id") no-field no-set
+      ⨾ kept ns _ _ refl (omega arith) no-n (role "upper_role") (role "lower_role") no-field no-set
+      ⨾ kept ns _ _ refl (omega arith) no-n (wall-holds ns) (block-holds ns) (any-number-holds ns (λ ns. ns .objects) "object_id" (l .objects)) no-set
       ⨾ tt
 
   line-shaped : (i : Line) (t : Record) → taskRecord ns i ≡ just t → (t .kind ≡ 6) × WellShaped t
@@ -340,7 +358,15 @@ module _ (es : Elements) (small : AllSmall es) where
                   (
                     refl,
                     all-found "bind_of_duty_constraint",
-                    (refl, all-found "prereq_step", tt),
+                    (
+                      refl,
+                      all-found "prereq_step",
+                      (
+                        refl,
+                        all-found "inherit_role",
+                        (refl, walled-proper (text "module_chinese_wall_policy") (text "cw_partition") (text "partition_object") es small, tt),
+                      ),
+                    ),
                   ),
                 ),
               ),

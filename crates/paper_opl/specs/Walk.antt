@@ -1,8 +1,8 @@
 -- The same from left to right, as a program walks an accepted text: start tags one after another, and what each says. The laws of this
 -- crate show that nothing else comes out.
-use Prim.Native.Nat.{ℕ, zero, suc, _-_}
+use Prim.Native.Nat.{ℕ, zero, suc, _-_, _*_}
 use Prim.Native.String.{String}
-use mathlib.Core.Bool.{Bool, cond, _||_}
+use mathlib.Core.Bool.{Bool, cond, _&&_, _||_}
 use mathlib.Core.List.{List, [], _∷_, _++_}
 use lib.Dec.{eqb, leb}
 use lib.ListN.{length, drop}
@@ -12,7 +12,7 @@ use Rattle.paper_lower.specs.Records.{Bytes, Record}
 use Rattle.paper_opl.specs.Reading.{Text, text, Read, after, same, starts, expect, skip, space, misc, name, value, equals}
 use Rattle.paper_opl.specs.Reading.Read.{got, bad}
 use Rattle.paper_opl.specs.Tree.{Given, Tag, if-found, prolog, documentIn}
-use Rattle.paper_opl.specs.Naming.{Line, Found, valueOf, Names, spaceOf, Row, firstRows, lastRows, recordBy, taskRecord, allOf, NAMES, Answer, taskLines, refused, writes, judged}
+use Rattle.paper_opl.specs.Naming.{Line, Found, valueOf, Names, spaceOf, objectsIn, Row, firstRows, lastRows, recordBy, taskRecord, allOf, NAMES, Answer, taskLines, refused, writes, judged}
 
 -- ---- Tags.
 
@@ -71,25 +71,38 @@ namesIn ts ls = record {
   roles = spaceOf 64 (declaredIn "role" "role_id" ts);
   permissions = spaceOf 256 (declaredIn "permission" "permission_id" ts);
   operations = spaceOf 65536 (declaredIn "operation" "operation_id" ts);
-  objects = spaceOf 65536 (declaredIn "object" "object_id" ts);
+  objects = spaceOf 65536 (objectsIn ts);
   tasks = spaceOf 64 (each (λ l. l .task) ls);
   templates = spaceOf 16 (each (λ l. l .template) ls);
 }
 
 -- What the tags before a tag tell of it: the kind of a set of roles, by the last of static and dynamic separation; and how many
--- partitionings have begun.
+-- partitionings and walls have begun; and the number behind that of the last block, which is 16 times its wall's and its place there.
 pub record Context : Type 0 where
   pub sets : ℕ
   pub partitionings : ℕ
+  pub walls : ℕ
+  pub blocks : ℕ
 
 abbrev pub start : Context
-start = record { sets = 9; partitionings = 0 }
+start = record { sets = 9; partitionings = 0; walls = 0; blocks = 0 }
 
 unfoldable pub turn : Context → Tag → Context
 turn c t = record {
   sets = cond (called "static_separation_of_duty" t) 9 (cond (called "dynamic_separation_of_duty" t) 10 (c .sets));
   partitionings = cond (called "hdsodtp_partitioning" t) (suc (c .partitionings)) (c .partitionings);
+  walls = cond (called "module_chinese_wall_policy" t) (suc (c .walls)) (c .walls);
+  blocks = cond (called "module_chinese_wall_policy" t) (16 * c .walls) (cond (called "cw_partition" t) (suc (c .blocks)) (c .blocks));
 }
+
+-- the numbers do, so far
+abbrev pub few : Context → Bool
+few c = leb (c .partitionings) 16 && (leb (c .walls) 16 && leb (c .blocks) (16 * c .walls))
+
+-- and behind each tag
+unfoldable pub fewFrom : Context → List Tag → Bool
+fewFrom c [] = few c
+fewFrom c (t ∷ ts) = few c && fewFrom (turn c t) ts
 
 -- the elements that say a record, and its kind; a set of roles apart
 unfoldable pub kinds : List (Text × ℕ)
@@ -107,6 +120,8 @@ kinds =
     ∷ (text "task_cardinality", 14)
     ∷ (text "bind_of_duty_constraint", 15)
     ∷ (text "prereq_step", 16)
+    ∷ (text "inherit_role", 17)
+    ∷ (text "partition_object", 18)
     ∷ []
 
 unfoldable pub kindIn : List (Text × ℕ) → Text → ℕ
@@ -139,7 +154,7 @@ abbrev pub saying : Context → Tag → List Tag → Saying
 saying c t inside = record {
   kind = kindAt c t;
   found = record {
-    number = cond (called "hdsodtp_partition" t) (c .partitionings - 1) 0;
+    number = cond (called "hdsodtp_partition" t) (c .partitionings - 1) (cond (called "partition_object" t) (c .blocks - 1) 0);
     given = t .given;
     inside = inside;
   };
@@ -165,11 +180,11 @@ unfoldable pub rising : Names → ℕ → ℕ → List Saying → List (Maybe Re
 rising ns k zero xs = []
 rising ns k (suc n) xs = each (recordSaid ns) (keep (λ x. eqb (x .kind) k) xs) ++ rising ns (suc k) n xs
 
--- the records that tags and task lines say, if every name has a number and every partitioning too
+-- the records that tags and task lines say, if every name has a number, and so has all that is numbered by its place
 unfoldable pub recordsIn : List Tag → List Line → Maybe (List Record)
 recordsIn ts ls =
-    cond (leb (many (keep (called "hdsodtp_partitioning") ts)) 16)
-    (allOf (rising (namesIn ts ls) 1 5 (sayings start ts) ++ each (taskRecord (namesIn ts ls)) ls ++ rising (namesIn ts ls) 7 10 (sayings start ts)))
+    cond (fewFrom start ts)
+    (allOf (rising (namesIn ts ls) 1 5 (sayings start ts) ++ each (taskRecord (namesIn ts ls)) ls ++ rising (namesIn ts ls) 7 12 (sayings start ts)))
     none
 
 -- the call, by the walk
