@@ -10,8 +10,8 @@ use lib.Seq.{drop-drop}
 use borrow.Author.Tests.{not-true, not-false, eqb-true, eqb-false, eq-eqb, ne-eqb}
 use Rattle.paper_opl.specs.Reading.{Text, Read, after, text, same, starts, expect, white, behind, skip, space, misc, equals, value}
 use Rattle.paper_opl.specs.Reading.Read.{got, bad}
-use Rattle.paper_opl.specs.Elements.{elements as table, rowIn, one}
-use Rattle.paper_opl.specs.Tree.{Given, Opened, Elements, Inside, attributes, opening, body, element, pseudo, optional, isVersion, isEncoding, isStandalone, declaration, doctype, byteOrderMark, behindMark, declared, prolog, document}
+use Rattle.paper_opl.specs.Elements.{Child, elementsOf, rowIn, one}
+use Rattle.paper_opl.specs.Tree.{Given, Opened, Elements, Inside, attributes, opening, body, element, pseudo, optional, isVersion, isEncoding, isStandalone, declaration, doctype, byteOrderMark, behindMark, declared, prolog, documentIn}
 use Rattle.paper_opl.specs.Tree.Elements.{nothing, node}
 use Rattle.paper_opl.proofs.Counts.{starts-le}
 use Rattle.paper_opl.proofs.TreeBack.{same-self}
@@ -23,7 +23,7 @@ use Rattle.opl_table.specs.Numbers.{nameOf, leftOf}
 use Rattle.opl_table.proofs.Rows.{document-left}
 use Rattle.opl_reader.specs.declared.Start.{Start}
 use Rattle.opl_reader.specs.declared.Start.the-variants.{Inner, Stop}
-use Rattle.opl_reader.specs.Grammar.{forget, startAt, Opens, tagged, startRead, elementRead, spacedRead, typedRead, rootRead}
+use Rattle.opl_reader.specs.Grammar.{forget, startAt, Opens, tagged, startIn, elementIn, spacedRead, typedRead, rootIn, widerBy, deepBy, Deepest}
 use Rattle.opl_reader.proofs.Cycle.{body-forgets, start-ready}
 use Rattle.opl_reader.proofs.Chain.{moved, goes-on, halted, after-after, after-each}
 
@@ -283,108 +283,118 @@ last u = cond (same u []) (got tt u) (bad u)
 rest : Text → Read (Unit {0})
 rest r = after (misc (length r) r) (λ _ u. last u)
 
-module _ (s : Text) (at id : ℕ) (x : Step) (a : Reads s (stepOf s) (elementRead 7 id (drop at s)) x) where
-  root-is : rootRead id (drop at s) ≡ after (elementRead 7 id (drop at s)) (λ _ r. rest r)
-  unfolding rootRead rest last
+module _ (s : Text) (at : ℕ) (all : Bool) (d id : ℕ) (x : Step) (a : Reads s (stepOf s) (elementIn all d id (drop at s)) x) where
+  root-is : rootIn all d id (drop at s) ≡ after (elementIn all d id (drop at s)) (λ _ r. rest r)
+  unfolding rootIn rest last
   root-is = refl
 
-  pub root-element : (p : ℕ) → x ≡ Bad p → Reads s (stepOf s) (rootRead id (drop at s)) x
-  root-element p e = moved root-is (halted s (stepOf s) (elementRead 7 id (drop at s)) x a p e refl (λ _ r. rest r))
+  pub root-element : (p : ℕ) → x ≡ Bad p → Reads s (stepOf s) (rootIn all d id (drop at s)) x
+  root-element p e = moved root-is (halted s (stepOf s) (elementIn all d id (drop at s)) x a p e refl (λ _ r. rest r))
 
   module _ (i : ℕ) (e : x ≡ Next i) (y : Step) (b : Reads s (stepOf s) (misc (length (drop i s)) (drop i s)) y) where
-    to-rest : rootRead id (drop at s) ≡ after (misc (length (drop i s)) (drop i s)) (λ _ u. last u)
+    to-rest : rootIn all d id (drop at s) ≡ after (misc (length (drop i s)) (drop i s)) (λ _ u. last u)
     unfolding rest
-    to-rest = root-is ∙ goes-on s (stepOf s) (elementRead 7 id (drop at s)) x a (Next i) e (λ _ r. rest r)
+    to-rest = root-is ∙ goes-on s (stepOf s) (elementIn all d id (drop at s)) x a (Next i) e (λ _ r. rest r)
 
-    pub root-misc : (p : ℕ) → y ≡ Bad p → Reads s (stepOf s) (rootRead id (drop at s)) y
+    pub root-misc : (p : ℕ) → y ≡ Bad p → Reads s (stepOf s) (rootIn all d id (drop at s)) y
     root-misc p f = moved to-rest (halted s (stepOf s) (misc (length (drop i s)) (drop i s)) y b p f refl (λ _ u. last u))
 
     module _ (j : ℕ) (f : y ≡ Next j) where
-      to-last : rootRead id (drop at s) ≡ last (drop j s)
+      to-last : rootIn all d id (drop at s) ≡ last (drop j s)
       to-last = to-rest ∙ goes-on s (stepOf s) (misc (length (drop i s)) (drop i s)) y b (Next j) f (λ _ u. last u)
 
-      pub root-more : j < length s → bad (drop j s) ≡ rootRead id (drop at s)
+      pub root-more : j < length s → bad (drop j s) ≡ rootIn all d id (drop at s)
       unfolding last
       root-more h =
           let l = length-drop j s in
           let n : false ≡ same (drop j s) [] = other-length (drop j s) [] (λ (z : length (drop j s) ≡ 0). omega arith) in
           sym (to-last ∙ rw (sym n))
 
-      pub root-done : length s ≤ j → got tt (drop j s) ≡ rootRead id (drop at s)
+      pub root-done : length s ≤ j → got tt (drop j s) ≡ rootIn all d id (drop at s)
       unfolding last same
       root-done h = let e : drop j s ≡ [] = drop-of-length-le s h in sym (to-last ∙ rw e)
 
--- the whole document, forgetting what it says
-whole : Opened → Text → Read (Unit {0})
-whole c u = after (forget (body (element table 7) (rowIn table (c .name)) [] u)) (λ _ r. rest r)
+module _ (all : Bool) where
+  -- the whole document, forgetting what it says
+  whole : Opened → Text → Read (Unit {0})
+  whole c u = after (forget (body (element (elementsOf all) 7) (rowIn (elementsOf all) (c .name)) [] u)) (λ _ r. rest r)
 
-forgets : (w : Text) (e : Inside) (u : Text) (x : Read (Unit {0})) →
-    forget (after x (λ _ y. cond (same y []) (got (node w (e .given) (e .elements) nothing) y) (bad y))) ≡ after x (λ _ y. last y)
-unfolding last
-forgets w e u (got v y) = go (same y [])
-  where
-    go : (b : Bool) → forget (cond b (got (node w (e .given) (e .elements) nothing) y) (bad y)) ≡ cond b (got tt y) (bad y)
-    go true = refl
-    go false = refl
-forgets w e u (bad y) = refl
+  forgets : (w : Text) (e : Inside) (u : Text) (x : Read (Unit {0})) →
+      forget (after x (λ _ y. cond (same y []) (got (node w (e .given) (e .elements) nothing) y) (bad y))) ≡ after x (λ _ y. last y)
+  unfolding last
+  forgets w e u (got v y) = go (same y [])
+    where
+      go : (b : Bool) → forget (cond b (got (node w (e .given) (e .elements) nothing) y) (bad y)) ≡ cond b (got tt y) (bad y)
+      go true = refl
+      go false = refl
+  forgets w e u (bad y) = refl
 
-module _ (c : Opened) where
-  ends : Inside → Text → Read Elements
-  ends e z = after (misc (length z) z) (λ _ y. cond (same y []) (got (node (c .name) (e .given) (e .elements) nothing) y) (bad y))
+  module _ (c : Opened) where
+    ends : Inside → Text → Read Elements
+    ends e z = after (misc (length z) z) (λ _ y. cond (same y []) (got (node (c .name) (e .given) (e .elements) nothing) y) (bad y))
 
-  inner : (x : Read Inside) → forget (after x ends) ≡ after (forget x) (λ _ r. rest r)
-  unfolding ends rest
-  inner (got e z) = forgets (c .name) e z (misc (length z) z)
-  inner (bad z) = refl
+    inner : (x : Read Inside) → forget (after x ends) ≡ after (forget x) (λ _ r. rest r)
+    unfolding ends rest
+    inner (got e z) = forgets (c .name) e z (misc (length z) z)
+    inner (bad z) = refl
 
-  attributed : (x : Read (List Given)) →
-      forget (after (after x (λ gs r. body (element table 7) (rowIn table (c .name)) gs r)) ends) ≡ after (after x (λ _ r. got c r)) (λ c u. whole c u)
-  unfolding whole
-  attributed (got gs r) =
-      inner (body (element table 7) (rowIn table (c .name)) gs r) ∙
-      ap (λ x. after x (λ _ r. rest r)) (body-forgets (element table 7) (rowIn table (c .name)) gs r)
-  attributed (bad r) = refl
+    attributed : (x : Read (List Given)) →
+        forget (after (after x (λ gs r. body (element (elementsOf all) 7) (rowIn (elementsOf all) (c .name)) gs r)) ends) ≡ after (after x (λ _ r. got c r)) (λ c u. whole c u)
+    unfolding whole
+    attributed (got gs r) =
+        inner (body (element (elementsOf all) 7) (rowIn (elementsOf all) (c .name)) gs r) ∙
+        ap (λ x. after x (λ _ r. rest r)) (body-forgets (element (elementsOf all) 7) (rowIn (elementsOf all) (c .name)) gs r)
+    attributed (bad r) = refl
 
-  tagged-is : (u : Text) → forget (after (element table 8 (c .name) u) ends) ≡ after (tagged 8 c u) (λ c u. whole c u)
-  unfolding element tagged
-  tagged-is u = attributed (attributes (length u) (rowIn table (c .name) .attributes) u)
+    tagged-is : (u : Text) → forget (after (element (elementsOf all) 8 (c .name) u) ends) ≡ after (tagged all 8 c u) (λ c u. whole c u)
+    unfolding element tagged
+    tagged-is u = attributed (attributes (length u) (rowIn (elementsOf all) (c .name) .attributes) u)
 
-document-is : (s : Text) → forget (document s) ≡ after (prolog s) (λ _ r. after (startRead 8 (leftOf 1) r) (λ c u. whole c u))
-unfolding document startRead ends
-document-is s = rw document-left (go (prolog s))
-  where
-    outer : (x : Read Opened) →
-        forget (after x (λ c u. after (element table 8 (c .name) u) (λ e z. ends c e z))) ≡ after (after x (λ c r. tagged 8 c r)) (λ c u. whole c u)
-    outer (got c u) = tagged-is c u
-    outer (bad u) = refl
+  document-is : (s : Text) → forget (documentIn all s) ≡ after (prolog s) (λ _ r. after (startIn all 8 (leftOf 1) r) (λ c u. whole c u))
+  unfolding documentIn startIn ends
+  document-is s = rw document-left (go (prolog s))
+    where
+      outer : (x : Read Opened) →
+          forget (after x (λ c u. after (element (elementsOf all) 8 (c .name) u) (λ e z. ends c e z))) ≡ after (after x (λ c r. tagged all 8 c r)) (λ c u. whole c u)
+      outer (got c u) = tagged-is c u
+      outer (bad u) = refl
 
-    go : (x : Read (Unit {0})) →
-        forget (after x (λ _ r. after (opening (one "policy_object" ∷ []) r) (λ c u. after (element table 8 (c .name) u) (λ e z. ends c e z))))
-        ≡ after x (λ _ r. after (after (opening (one "policy_object" ∷ []) r) (λ c r. tagged 8 c r)) (λ c u. whole c u))
-    go (got v r) = outer (opening (one "policy_object" ∷ []) r)
-    go (bad r) = refl
+      go : (x : Read (Unit {0})) →
+          forget (after x (λ _ r. after (opening (one "policy_object" ∷ []) r) (λ c u. after (element (elementsOf all) 8 (c .name) u) (λ e z. ends c e z))))
+          ≡ after x (λ _ r. after (after (opening (one "policy_object" ∷ []) r) (λ c r. tagged all 8 c r)) (λ c u. whole c u))
+      go (got v r) = outer (opening (one "policy_object" ∷ []) r)
+      go (bad r) = refl
 
-module _ (s : Text) (x : Step) (a : Reads s (stepOf s) (prolog s) x) where
-  pub document-prolog : (p : ℕ) → x ≡ Bad p → Reads s (stepOf s) (forget (document s)) x
-  document-prolog p e = moved (document-is s) (halted s (stepOf s) (prolog s) x a p e refl (λ _ r. after (startRead 8 (leftOf 1) r) (λ c u. whole c u)))
+  module _ (s : Text) (x : Step) (a : Reads s (stepOf s) (prolog s) x) where
+    pub document-prolog : (p : ℕ) → x ≡ Bad p → Reads s (stepOf s) (forget (documentIn all s)) x
+    document-prolog p e = moved (document-is s) (halted s (stepOf s) (prolog s) x a p e refl (λ _ r. after (startIn all 8 (leftOf 1) r) (λ c u. whole c u)))
 
-  module _ (i : ℕ) (e : x ≡ Next i) (o : Start) (b : Opens s (startRead 8 (leftOf 1) (drop i s)) o) where
-    to-opening : forget (document s) ≡ after (startRead 8 (leftOf 1) (drop i s)) (λ c u. whole c u)
-    to-opening = document-is s ∙ goes-on s (stepOf s) (prolog s) x a (Next i) e (λ _ r. after (startRead 8 (leftOf 1) r) (λ c u. whole c u))
+    module _ (i : ℕ) (e : x ≡ Next i) (o : Start) (b : Opens s (startIn all 8 (leftOf 1) (drop i s)) o) where
+      to-opening : forget (documentIn all s) ≡ after (startIn all 8 (leftOf 1) (drop i s)) (λ c u. whole c u)
+      to-opening = document-is s ∙ goes-on s (stepOf s) (prolog s) x a (Next i) e (λ _ r. after (startIn all 8 (leftOf 1) r) (λ c u. whole c u))
 
-    pub document-stop : (p : ℕ) → o ≡ Stop p → Reads s (stepOf s) (forget (document s)) (Bad p)
-    document-stop p f = record {
-      read-is = sym (to-opening ∙ rw (sym (b .read-is), f));
-      inside = subst (λ (k : Start). startAt k ≤ length s) f (b .inside);
-    }
+      pub document-stop : (p : ℕ) → o ≡ Stop p → Reads s (stepOf s) (forget (documentIn all s)) (Bad p)
+      document-stop p f = record {
+        read-is = sym (to-opening ∙ rw (sym (b .read-is), f));
+        inside = subst (λ (k : Start). startAt k ≤ length s) f (b .inside);
+      }
 
-    pub document-room : (k id more : ℕ) → o ≡ Inner k id more → k + 1 ≤ length s
-    document-room k id more f =
-        let h = start-ready 8 (leftOf 1) (drop i s) (record { name = nameOf id; left = leftOf more }) (drop k s) (sym (b .read-is) ∙ rw f) in
-        let l = length-drop k s in
-        omega arith
+      pub document-room : (k id more : ℕ) → o ≡ Inner k id more → k + 1 ≤ length s
+      document-room k id more f =
+          let h = start-ready all 8 (leftOf 1) (drop i s) (record { name = nameOf id; left = leftOf more }) (drop k s) (sym (b .read-is) ∙ rw f) in
+          let l = length-drop k s in
+          omega arith
 
-    pub document-root : (k id more : ℕ) → o ≡ Inner k id more → (r : Step) → Reads s (stepOf s) (rootRead id (drop k s)) r →
-        Reads s (stepOf s) (forget (document s)) r
-    unfolding whole rootRead elementRead rest last
-    document-root k id more f r c = moved (to-opening ∙ rw (sym (b .read-is), f)) c
+      pub document-root : (k id more : ℕ) → o ≡ Inner k id more → (r : Step) → Reads s (stepOf s) (rootIn all 7 id (drop k s)) r →
+          Reads s (stepOf s) (forget (documentIn all s)) r
+      unfolding whole rootIn elementIn rest last
+      document-root k id more f r c = moved (to-opening ∙ rw (sym (b .read-is), f)) c
+
+-- ---- The number that carries the depth and the call, where the document begins.
+
+module _ (all : Bool) (n : ℕ) (h : Deepest all n) (s t : Text) where
+  pub begins : (left : List Child) (o : Start) → Opens s (startIn (widerBy n) (deepBy n) left t) o → Opens s (startIn all 8 left t) o
+  begins left o a = rw (h .wider, h .deep) at a
+
+  pub goes-in : (id : ℕ) (r : Step) → Reads s (stepOf s) (rootIn (widerBy (n - 2)) (deepBy (n - 2)) id t) r → Reads s (stepOf s) (rootIn all 7 id t) r
+  goes-in id r a = rw (h .wider-in, h .deep-in) at a

@@ -9,7 +9,7 @@ use lib.Seq.{drop-drop}
 use borrow.Author.Tests.{not-true, not-false}
 use Rattle.paper_opl.specs.Reading.{Text, Read, after, text, same, starts, expect, white, behind, skip, name}
 use Rattle.paper_opl.specs.Reading.Read.{got, bad}
-use Rattle.paper_opl.specs.Elements.{elements, rowIn, next, mayEnd}
+use Rattle.paper_opl.specs.Elements.{elementsOf, rowIn, next, mayEnd}
 use Rattle.paper_opl.specs.Tree.{Opened, if-found, attributes, opening, ending}
 use Rattle.paper_opl.specs.Tree.Elements.{nothing}
 use Rattle.opl_text.proofs.Laws.{one-not, one-yes, starts-next}
@@ -22,7 +22,7 @@ use Rattle.opl_table.specs.Numbers.{nameOf, leftOf}
 use Rattle.opl_table.specs.Found.{Follows}
 use Rattle.opl_reader.specs.declared.Start.{Start}
 use Rattle.opl_reader.specs.declared.Start.the-variants.{Inner, Stop}
-use Rattle.opl_reader.specs.Grammar.{forget, startAt, Opens, attributesRead, tagged, taggedRead, startRead}
+use Rattle.opl_reader.specs.Grammar.{forget, startAt, Opens, attributesRead, tagged, taggedIn, startIn}
 use Rattle.opl_reader.proofs.Chain.{within, stopped-at, goes-on, judged-bad, judged-got}
 
 -- ---- The start of an element.
@@ -76,47 +76,47 @@ module _ (s : Text) (at left : ℕ) (x : Bool) (p : x ≡ starts (60 ∷ []) (dr
 
 -- ---- The rest of its tag.
 
-module _ (s : Text) (at d id more : ℕ) where
-  pub tag-deep : d ≡ 0 → bad (drop at s) ≡ taggedRead d id more (drop at s)
-  unfolding taggedRead tagged
+module _ (s : Text) (at : ℕ) (all : Bool) (d id more : ℕ) where
+  pub tag-deep : d ≡ 0 → bad (drop at s) ≡ taggedIn all d id more (drop at s)
+  unfolding taggedIn tagged
   tag-deep e = rw e
 
-  module _ (n : d ≡ 0 → ⊥) (t : Step) (q : Reads s (stepOf s) (attributesRead (rowIn elements (nameOf id) .attributes) (drop at s)) t) where
-    tag-is : taggedRead d id more (drop at s) ≡
-        after (attributes (length (drop at s)) (rowIn elements (nameOf id) .attributes) (drop at s))
+  module _ (n : d ≡ 0 → ⊥) (t : Step) (q : Reads s (stepOf s) (attributesRead (rowIn (elementsOf all) (nameOf id) .attributes) (drop at s)) t) where
+    tag-is : taggedIn all d id more (drop at s) ≡
+        after (attributes (length (drop at s)) (rowIn (elementsOf all) (nameOf id) .attributes) (drop at s))
         (λ _ r. got (record { name = nameOf id; left = leftOf more }) r)
-    unfolding taggedRead tagged
+    unfolding taggedIn tagged
     tag-is = go d n
       where
-        go : (d : ℕ) → (d ≡ 0 → ⊥) → tagged d (record { name = nameOf id; left = leftOf more }) (drop at s)
-            ≡ after (attributes (length (drop at s)) (rowIn elements (nameOf id) .attributes) (drop at s))
+        go : (d : ℕ) → (d ≡ 0 → ⊥) → tagged all d (record { name = nameOf id; left = leftOf more }) (drop at s)
+            ≡ after (attributes (length (drop at s)) (rowIn (elementsOf all) (nameOf id) .attributes) (drop at s))
             (λ _ r. got (record { name = nameOf id; left = leftOf more }) r)
         go zero n = absurd (n refl)
         go (suc d) n = refl
 
-    pub tag-bad : (p : ℕ) → t ≡ Bad p → Opens s (taggedRead d id more (drop at s)) (Stop p)
+    pub tag-bad : (p : ℕ) → t ≡ Bad p → Opens s (taggedIn all d id more (drop at s)) (Stop p)
     unfolding attributesRead
     tag-bad p v = record {
       read-is =
           sym (tag-is ∙
-          judged-bad (attributes (length (drop at s)) (rowIn elements (nameOf id) .attributes) (drop at s)) (drop p s) (sym (q .read-is) ∙ rw v)
+          judged-bad (attributes (length (drop at s)) (rowIn (elementsOf all) (nameOf id) .attributes) (drop at s)) (drop p s) (sym (q .read-is) ∙ rw v)
           (λ _ r. got (record { name = nameOf id; left = leftOf more }) r));
-      inside = stopped-at s (stepOf s) (attributesRead (rowIn elements (nameOf id) .attributes) (drop at s)) t q p v;
+      inside = stopped-at s (stepOf s) (attributesRead (rowIn (elementsOf all) (nameOf id) .attributes) (drop at s)) t q p v;
     }
 
-    pub tag-got : (i : ℕ) → t ≡ Next i → Opens s (taggedRead d id more (drop at s)) (Inner i id more)
+    pub tag-got : (i : ℕ) → t ≡ Next i → Opens s (taggedIn all d id more (drop at s)) (Inner i id more)
     unfolding attributesRead
     tag-got i v = record {
       read-is =
           sym (tag-is ∙
-          judged-got (attributes (length (drop at s)) (rowIn elements (nameOf id) .attributes) (drop at s)) (drop i s)
+          judged-got (attributes (length (drop at s)) (rowIn (elementsOf all) (nameOf id) .attributes) (drop at s)) (drop i s)
           (record { name = nameOf id; left = leftOf more }) (sym (q .read-is) ∙ rw v));
-      inside = within s (stepOf s) (attributesRead (rowIn elements (nameOf id) .attributes) (drop at s)) t q i v;
+      inside = within s (stepOf s) (attributesRead (rowIn (elementsOf all) (nameOf id) .attributes) (drop at s)) t q i v;
     }
 
-module _ (s : Text) (at d left : ℕ) (n : Start) (a : Opens s (opening (leftOf left) (drop at s)) n) where
-  pub start-stop : (p : ℕ) → n ≡ Stop p → Opens s (startRead d (leftOf left) (drop at s)) (Stop p)
-  unfolding startRead
+module _ (s : Text) (at : ℕ) (all : Bool) (d left : ℕ) (n : Start) (a : Opens s (opening (leftOf left) (drop at s)) n) where
+  pub start-stop : (p : ℕ) → n ≡ Stop p → Opens s (startIn all d (leftOf left) (drop at s)) (Stop p)
+  unfolding startIn
   start-stop p v = record {
     read-is = sym (rw (sym (a .read-is), v));
     inside = subst (λ (k : Start). startAt k ≤ length s) v (a .inside);
@@ -126,8 +126,8 @@ module _ (s : Text) (at d left : ℕ) (n : Start) (a : Opens s (opening (leftOf 
     pub name-inside : i ≤ length s
     name-inside = subst (λ (k : Start). startAt k ≤ length s) v (a .inside)
 
-    pub start-on : (r : Start) → Opens s (taggedRead d id more (drop i s)) r → Opens s (startRead d (leftOf left) (drop at s)) r
-    unfolding startRead taggedRead
+    pub start-on : (r : Start) → Opens s (taggedIn all d id more (drop i s)) r → Opens s (startIn all d (leftOf left) (drop at s)) r
+    unfolding startIn taggedIn
     start-on r b = record { read-is = b .read-is ∙ sym (rw (sym (a .read-is), v)); inside = b .inside }
 
 -- ---- The end tag.

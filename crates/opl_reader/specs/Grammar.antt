@@ -1,12 +1,13 @@
 -- What the readers of attributes, tags, elements and contents answer, as the definitions have it. They judge, and forget what they read.
-use Prim.Native.Nat.{ℕ, zero, suc, _≤_}
+use Prim.Native.Nat.{ℕ, zero, suc, _-_, _/_, _%_, _≤_}
 use mathlib.Core.Path.{_≡_}
 use mathlib.Core.Bool.{Bool, cond}
 use mathlib.Core.List.{List, []}
+use lib.Dec.{eqb}
 use lib.ListN.{length, drop}
 use Rattle.paper_opl.specs.Reading.{Text, text, Read, after, same, starts, expect, space, misc, equals, value}
 use Rattle.paper_opl.specs.Reading.Read.{got, bad}
-use Rattle.paper_opl.specs.Elements.{Class, Attribute, Child, elements, rowIn}
+use Rattle.paper_opl.specs.Elements.{Class, Attribute, Child, elementsOf, rowIn}
 use Rattle.paper_opl.specs.Tree.{Opened, fits, without, attribute, attributes, opening, content, body, element, isVersion, isEncoding, isStandalone, doctype}
 use Rattle.opl_table.specs.Numbers.{nameOf, leftOf, listOf}
 use Rattle.opl_reader.specs.declared.Taken.{Taken}
@@ -64,24 +65,50 @@ pub record Opens (s : Text) (read : Read Opened) (r : Start) : Type 0 where
   pub read-is : openedOf s r ≡ read
   pub inside : startAt r ≤ length s
 
+-- The code carries how deep an element may stand and which call it is in one number: twice the depth, and one more in the wider call.
+abbrev pub widerBy : ℕ → Bool
+widerBy n = eqb (n % 2) 1
+
+abbrev pub deepBy : ℕ → ℕ
+deepBy n = n / 2
+
+-- the number at which the document begins, and the number in its element
+pub record Deepest (all : Bool) (n : ℕ) : Type 0 where
+  pub wider : widerBy n ≡ all
+  pub deep : deepBy n ≡ 8
+  pub wider-in : widerBy (n - 2) ≡ all
+  pub deep-in : deepBy (n - 2) ≡ 7
+
 -- the rest of a start tag, of an element that may be d deep
-unfoldable pub tagged : ℕ → Opened → Text → Read Opened
-tagged zero c s = bad s
-tagged (suc d) c s = after (attributes (length s) (rowIn elements (c .name) .attributes) s) (λ _ r. got c r)
+unfoldable pub tagged : Bool → ℕ → Opened → Text → Read Opened
+tagged all zero c s = bad s
+tagged all (suc d) c s = after (attributes (length s) (rowIn (elementsOf all) (c .name) .attributes) s) (λ _ r. got c r)
 
-unfoldable pub taggedRead : ℕ → ℕ → ℕ → Text → Read Opened
-taggedRead d id more s = tagged d (record { name = nameOf id; left = leftOf more }) s
+unfoldable pub taggedIn : Bool → ℕ → ℕ → ℕ → Text → Read Opened
+taggedIn all d id more s = tagged all d (record { name = nameOf id; left = leftOf more }) s
 
-unfoldable pub startRead : ℕ → List Child → Text → Read Opened
-startRead d left s = after (opening left s) (λ c r. tagged d c r)
+abbrev pub taggedRead : ℕ → ℕ → ℕ → Text → Read Opened
+taggedRead n id more s = taggedIn (widerBy n) (deepBy n) id more s
+
+unfoldable pub startIn : Bool → ℕ → List Child → Text → Read Opened
+startIn all d left s = after (opening left s) (λ c r. tagged all d c r)
+
+abbrev pub startRead : ℕ → List Child → Text → Read Opened
+startRead n left s = startIn (widerBy n) (deepBy n) left s
 
 -- ---- An element from the end of its start tag on, and the content of an element.
 
-unfoldable pub elementRead : ℕ → ℕ → Text → Read (Unit {0})
-elementRead d id s = forget (body (element elements d) (rowIn elements (nameOf id)) [] s)
+unfoldable pub elementIn : Bool → ℕ → ℕ → Text → Read (Unit {0})
+elementIn all d id s = forget (body (element (elementsOf all) d) (rowIn (elementsOf all) (nameOf id)) [] s)
 
-unfoldable pub contentRead : ℕ → ℕ → ℕ → Text → Read (Unit {0})
-contentRead d id left s = forget (content (element elements d) (suc (length s)) (nameOf id) (leftOf left) s)
+abbrev pub elementRead : ℕ → ℕ → Text → Read (Unit {0})
+elementRead n id s = elementIn (widerBy n) (deepBy n) id s
+
+unfoldable pub contentIn : Bool → ℕ → ℕ → ℕ → Text → Read (Unit {0})
+contentIn all d id left s = forget (content (element (elementsOf all) d) (suc (length s)) (nameOf id) (leftOf left) s)
+
+abbrev pub contentRead : ℕ → ℕ → ℕ → Text → Read (Unit {0})
+contentRead n id left s = contentIn (widerBy n) (deepBy n) id left s
 
 -- ---- The prolog and the document.
 
@@ -97,5 +124,8 @@ mayStand (suc (suc n)) = isStandalone
 unfoldable pub typedRead : Text → Read (Unit {0})
 typedRead s = cond (starts (text "<!DOCTYPE") s) (after (doctype (drop 9 s)) (λ _ r. misc (length r) r)) (got tt s)
 
-unfoldable pub rootRead : ℕ → Text → Read (Unit {0})
-rootRead id s = after (elementRead 7 id s) (λ _ r. after (misc (length r) r) (λ _ u. cond (same u []) (got tt u) (bad u)))
+unfoldable pub rootIn : Bool → ℕ → ℕ → Text → Read (Unit {0})
+rootIn all d id s = after (elementIn all d id s) (λ _ r. after (misc (length r) r) (λ _ u. cond (same u []) (got tt u) (bad u)))
+
+abbrev pub rootRead : ℕ → ℕ → Text → Read (Unit {0})
+rootRead n id s = rootIn (widerBy n) (deepBy n) id s

@@ -5,12 +5,12 @@ ghost use mathlib.Core.List.{[], _∷_};
 ghost use Prim.Native.Nat.{_+_, _≤_};
 ghost use lib.ListN.{length, drop};
 ghost use Rattle.paper_opl.specs.Reading.{space as spaceOf};
-ghost use Rattle.paper_opl.specs.Elements.{elements, rowIn};
+ghost use Rattle.paper_opl.specs.Elements.{elementsOf, rowIn};
 ghost use Rattle.paper_opl.specs.Elements.Class.{number};
-ghost use Rattle.paper_opl.specs.Tree.{digit as digitOf, fits as fitsOf, opening as openingOf, ending as endingOf, capital as capitalOf, isEncoding, pseudo as pseudoOf, optional as optionalOf, declaration as declarationOf, doctype as doctypeOf, behindMark as behindMarkOf, declared as declaredOf, prolog as prologOf, document as documentOf};
+ghost use Rattle.paper_opl.specs.Tree.{digit as digitOf, fits as fitsOf, opening as openingOf, ending as endingOf, capital as capitalOf, isEncoding, pseudo as pseudoOf, optional as optionalOf, declaration as declarationOf, doctype as doctypeOf, behindMark as behindMarkOf, declared as declaredOf, prolog as prologOf, documentIn};
 ghost use Rattle.opl_text.specs.Steps.{From, Reads, stepOf};
 ghost use Rattle.opl_table.specs.Numbers.{nameOf, leftOf, listOf, classOf};
-ghost use Rattle.opl_reader.specs.Grammar.{forget, classed, valued, remaining, attributesRead, Takes, Opens, taggedRead, startRead, elementRead, contentRead, spacedRead, mayStand, typedRead, rootRead, strange};
+ghost use Rattle.opl_reader.specs.Grammar.{forget, classed, valued, remaining, attributesRead, Takes, Opens, Deepest, taggedRead, startRead, elementRead, contentRead, spacedRead, mayStand, typedRead, rootRead, strange};
 use opl_table::Found;
 use opl_text::Step;
 
@@ -181,12 +181,23 @@ fn attributes_end(s: &[u8], at: usize, list: u64) -> Step
     Step::Bad(i)
 }
 
-// Behind the attributes of an element.
-pub fn tag_end(s: &[u8], at: usize, id: u64) -> Step
+// Behind the attributes of an element, by the table of the call.
+pub fn tag_end(s: &[u8], at: usize, id: u64, all: bool) -> Step
     requires { ⌜ at ≤ length (now s) ⌝ }
-    ensures { λ r. ⌜ Reads (now (s .entry)) (stepOf (now (s .entry))) (attributesRead (rowIn elements (nameOf id) .attributes) (drop at (now (s .entry)))) r ⌝ }
+    ensures { λ r. ⌜ Reads (now (s .entry)) (stepOf (now (s .entry))) (attributesRead (rowIn (elementsOf all) (nameOf id) .attributes) (drop at (now (s .entry)))) r ⌝ }
 {
-    attributes_end(s, at, opl_table::attributes(id))
+    attributes_end(s, at, opl_table::attributes(id, all))
+}
+
+// How deep an element may stand and which call it is go in one number d, twice the depth and one more in the wider call: so the cycle of elements and
+// contents carries no more on the stack. This is the number at which a document begins.
+fn deepest(all: bool) -> usize
+    ensures { λ r. ⌜ Deepest all r ⌝ }
+{
+    if all {
+        return 17;
+    }
+    16
 }
 
 // The name at the start of an element at `at`.
@@ -213,22 +224,22 @@ fn named(s: &[u8], at: usize, left: u64) -> Start
     }
 }
 
-// The rest of a start tag, from behind its name, of an element that may be d deep: up to the "/" or ">" that ends it.
+// The rest of a start tag, from behind its name: up to the "/" or ">" that ends it.
 fn tagged(s: &[u8], at: usize, d: usize, id: u64, more: u64) -> Start
     requires { ⌜ at ≤ length (now s) ⌝ }
     ensures { λ r. ⌜ Opens (now (s .entry)) (taggedRead d id more (drop at (now (s .entry)))) r ⌝ }
 {
-    if d == 0 {
+    if d < 2 {
         return Start::Stop(at);
     }
-    let t = tag_end(s, at, id);
+    let t = tag_end(s, at, id, d % 2 == 1);
     match t {
         Step::Bad(p) => Start::Stop(p),
         Step::Next(i) => Start::Inner(i, id, more),
     }
 }
 
-// The start tag of an element that may be d deep.
+// The start tag of an element.
 pub fn opening(s: &[u8], at: usize, d: usize, left: u64) -> Start
     requires { ⌜ at ≤ length (now s) ⌝ }
     ensures { λ r. ⌜ Opens (now (s .entry)) (startRead d (leftOf left) (drop at (now (s .entry)))) r ⌝ }
@@ -259,12 +270,12 @@ pub fn ending(s: &[u8], at: usize, id: u64, left: u64) -> Step
     Step::Next(i + 1)
 }
 
-// An element, from the "/" or ">" on that ends its start tag; elements in it at most d deep.
+// An element, from the "/" or ">" on that ends its start tag.
 pub fn element(s: &[u8], at: usize, d: usize, id: u64) -> Step
     requires { ⌜ at + 1 ≤ length (now s) ⌝ }
     ensures { λ r. ⌜ Reads (now (s .entry)) (stepOf (now (s .entry))) (elementRead d id (drop at (now (s .entry)))) r ⌝ }
 {
-    let left = opl_table::first(id);
+    let left = opl_table::first(id, d % 2 == 1);
     if opl_text::is_at(s, at, 62) {
         return content(s, at + 1, d, id, left);
     }
@@ -277,7 +288,7 @@ pub fn element(s: &[u8], at: usize, d: usize, id: u64) -> Step
     Step::Next(at + 2)
 }
 
-// What stands in an element, up to and with its end tag: elements at most d deep.
+// What stands in an element, up to and with its end tag.
 pub fn content(s: &[u8], at: usize, d: usize, id: u64, left: u64) -> Step
     requires { ⌜ at ≤ length (now s) ⌝ }
     ensures { λ r. ⌜ Reads (now (s .entry)) (stepOf (now (s .entry))) (contentRead d id left (drop at (now (s .entry)))) r ⌝ }
@@ -298,7 +309,7 @@ pub fn content(s: &[u8], at: usize, d: usize, id: u64, left: u64) -> Step
                 return Step::Bad(p);
             }
             Start::Inner(k, child, more) => {
-                let r = element(s, k, d - 1, child);
+                let r = element(s, k, d - 2, child);
                 let Step::Next(e) = r else {
                     return r;
                 };
@@ -497,11 +508,11 @@ pub fn prolog(s: &[u8]) -> Step
 }
 
 // The policy object, from the end of its start tag on, with nothing behind it.
-fn root(s: &[u8], at: usize, id: u64) -> Step
+fn root(s: &[u8], at: usize, d: usize, id: u64) -> Step
     requires { ⌜ at + 1 ≤ length (now s) ⌝ }
-    ensures { λ r. ⌜ Reads (now (s .entry)) (stepOf (now (s .entry))) (rootRead id (drop at (now (s .entry)))) r ⌝ }
+    ensures { λ r. ⌜ Reads (now (s .entry)) (stepOf (now (s .entry))) (rootRead d id (drop at (now (s .entry)))) r ⌝ }
 {
-    let e = element(s, at, 7, id);
+    let e = element(s, at, d, id);
     let Step::Next(i) = e else {
         return e;
     };
@@ -515,17 +526,18 @@ fn root(s: &[u8], at: usize, id: u64) -> Step
     Step::Next(j)
 }
 
-// The whole policy text: Next, with its length, where it is accepted; Bad, with the place from 0 of the byte that cannot stand.
-pub fn document(s: &[u8]) -> Step
-    ensures { λ r. ⌜ Reads (now (s .entry)) (stepOf (now (s .entry))) (forget (documentOf (now (s .entry)))) r ⌝ }
+// The whole policy text, by the table of the call: Next, with its length, where it is accepted; Bad, with the place from 0 of the byte that cannot stand.
+pub fn document(s: &[u8], all: bool) -> Step
+    ensures { λ r. ⌜ Reads (now (s .entry)) (stepOf (now (s .entry))) (forget (documentIn all (now (s .entry)))) r ⌝ }
 {
     let p = prolog(s);
     let Step::Next(i) = p else {
         return p;
     };
-    let o = opening(s, i, 8, 1);
+    let d = deepest(all);
+    let o = opening(s, i, d, 1);
     match o {
         Start::Stop(at) => Step::Bad(at),
-        Start::Inner(k, id, _) => root(s, k, id),
+        Start::Inner(k, id, _) => root(s, k, d - 2, id),
     }
 }

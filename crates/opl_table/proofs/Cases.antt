@@ -54,14 +54,14 @@ module _ {A : Type 0} (f g : ℕ → A) where
 
 -- ---- How long the lists are.
 
-pub names-length : length names ≡ 65
+pub names-length : length names ≡ 76
 unfolding names each elements
 names-length = refl
 
-pub lefts-length : length lefts ≡ 50
+pub lefts-length : length lefts ≡ 60
 unfolding lefts stages joined each elements
 lefts-length = refl
 
-pub lists-length : length lists ≡ 30
+pub lists-length : length lists ≡ 33
 unfolding lists
 lists-length = refl

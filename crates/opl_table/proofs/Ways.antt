@@ -125,14 +125,14 @@ waysFrom left = ways (leftOf left)
 codedWays : ℕ → List Way
 codedWays left = range wayAt (numberAt stateFrom left) (numberAt stateFrom (left + 1) - numberAt stateFrom left)
 
-all-coded : valuesTo waysFrom 50 ≡ valuesTo codedWays 50
+all-coded : valuesTo waysFrom 60 ≡ valuesTo codedWays 60
 unfolding waysFrom codedWays ways waysOf range wayAt leftOf lefts stages joined each elements text nameOf names numberAt wordAt packed stateFrom placeName placeThen
 all-coded = refl
 
-module _ (v : Text) (left from end : ℕ) (h : left < 50) (f : from ≡ numberAt stateFrom left) (g : end ≡ numberAt stateFrom (left + 1)) (p : Place) (e : p ≡ placeOf v from (end - from)) where
+module _ (v : Text) (left from end : ℕ) (h : left < 60) (f : from ≡ numberAt stateFrom left) (g : end ≡ numberAt stateFrom (left + 1)) (p : Place) (e : p ≡ placeOf v from (end - from)) where
   here : next (leftOf left) v ≡ leftIn (firstBy nameIn (range wayAt from (end - from)) v)
   unfolding waysFrom codedWays
-  here = next-ways (leftOf left) v ∙ rw (f, g) (ap (λ x. leftIn (firstBy nameIn x v)) (agree waysFrom codedWays 50 all-coded left h))
+  here = next-ways (leftOf left) v ∙ rw (f, g) (ap (λ x. leftIn (firstBy nameIn x v)) (agree waysFrom codedWays 60 all-coded left h))
 
   pub child-known : (k id more : ℕ) → p ≡ Here k → id ≡ numberAt placeName k → more ≡ numberAt placeThen k → Follows v (leftOf left) (Known id more)
   unfolding leftIn wayAt nameIn
@@ -150,7 +150,7 @@ module _ (v : Text) (left from end : ℕ) (h : left < 50) (f : from ≡ numberAt
     named = λ x y z. absurd (let j : _≡_ {A = ℕ} 0 1 = cc in omega arith);
   }
 
-pub child-past : (v : Text) (left : ℕ) → 50 ≤ left → Follows v (leftOf left) Unknown
+pub child-past : (v : Text) (left : ℕ) → 60 ≤ left → Follows v (leftOf left) Unknown
 unfolding next leftOf
 child-past v left h =
     let n : length lefts ≤ left = omega (arith, lefts-length) in
@@ -213,14 +213,14 @@ partsFrom list = parts (listOf list) (listOf list)
 codedParts : ℕ → List Part
 codedParts list = range partAt (numberAt listFrom list) (numberAt listFrom (list + 1) - numberAt listFrom list)
 
-all-listed : valuesTo partsFrom 30 ≡ valuesTo codedParts 30
+all-listed : valuesTo partsFrom 33 ≡ valuesTo codedParts 33
 unfolding partsFrom codedParts parts keep same range partAt listOf lists each elements text nameOf names numberAt wordAt packed listFrom placeName placeThen
 all-listed = refl
 
-module _ (v : Text) (list from end : ℕ) (h : list < 30) (f : from ≡ numberAt listFrom list) (g : end ≡ numberAt listFrom (list + 1)) (p : Place) (e : p ≡ placeOf v from (end - from)) where
+module _ (v : Text) (list from end : ℕ) (h : list < 33) (f : from ≡ numberAt listFrom list) (g : end ≡ numberAt listFrom (list + 1)) (p : Place) (e : p ≡ placeOf v from (end - from)) where
   these : parts (listOf list) (listOf list) ≡ range partAt from (end - from)
   unfolding partsFrom codedParts
-  these = rw (f, g) (agree partsFrom codedParts 30 all-listed list h)
+  these = rw (f, g) (agree partsFrom codedParts 33 all-listed list h)
 
   looked : find (listOf list) v ≡ attributeIn (firstBy nameOn (range partAt from (end - from)) v)
   looked = find-parts (listOf list) (listOf list) v ∙ ap (λ x. attributeIn (firstBy nameOn x v)) these
@@ -244,7 +244,7 @@ module _ (v : Text) (list from end : ℕ) (h : list < 30) (f : from ≡ numberAt
     behind = λ x y z. absurd (let j : _≡_ {A = ℕ} 0 1 = cc in omega arith);
   }
 
-pub attribute-past : (v : Text) (list : ℕ) → 30 ≤ list → Allows v (listOf list) Unknown
+pub attribute-past : (v : Text) (list : ℕ) → 33 ≤ list → Allows v (listOf list) Unknown
 unfolding find listOf
 attribute-past v list h =
     let n : length lists ≤ list = omega (arith, lists-length) in

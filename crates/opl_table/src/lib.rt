@@ -4,7 +4,7 @@ ghost use mathlib.Core.Path.{_≡_};
 ghost use Prim.Native.Nat.{_+_, _-_, _/_, _<_};
 ghost use Rattle.paper_lower.specs.Lists.{some};
 ghost use Rattle.paper_opl.specs.Reading.{same};
-ghost use Rattle.paper_opl.specs.Elements.{elements, rowIn, mayEnd};
+ghost use Rattle.paper_opl.specs.Elements.{elementsOf, rowIn, mayEnd};
 ghost use Rattle.paper_opl.specs.Tree.{required};
 ghost use Rattle.opl_table.specs.Numbers.{nameOf, leftOf, listOf, wordAt, digit as digitOf, numberAt, stateFrom, listFrom, placeName, placeThen, firstState, firstList};
 ghost use Rattle.opl_table.specs.Found.{placeOf, Follows, Allows};
@@ -65,8 +65,20 @@ pub const BOUND_TASK_ID: u64 = 63;
 
 pub const PREREQ_TASK_ID: u64 = 64;
 
+pub const INHERIT_ROLE: u64 = 67;
+
+pub const CHINESE_WALL: u64 = 69;
+
+pub const CW_PARTITION: u64 = 71;
+
+pub const PARTITION_OBJECT: u64 = 72;
+
+pub const UPPER_ROLE: u64 = 74;
+
+pub const LOWER_ROLE: u64 = 75;
+
 // The number of no name.
-pub const NO_NAME: u64 = 65;
+pub const NO_NAME: u64 = 127;
 
 // The name is number 0 + i.
 fn is_name_0(v: &[u8], i: u64) -> bool
@@ -193,6 +205,26 @@ fn is_name_6(v: &[u8], i: u64) -> bool
         2 => opl_text::same_bytes(v, b"template_id"),
         3 => opl_text::same_bytes(v, b"bound_task_id"),
         4 => opl_text::same_bytes(v, b"prereq_task_id"),
+        5 => opl_text::same_bytes(v, b"module_role_hierarchy_policy"),
+        6 => opl_text::same_bytes(v, b"role_hierarchy"),
+        7 => opl_text::same_bytes(v, b"inherit_role"),
+        8 => opl_text::same_bytes(v, b"module_sep_duty_rh_policy"),
+        _ => opl_text::same_bytes(v, b"module_chinese_wall_policy"),
+    }
+}
+
+// The name is number 70 + i.
+fn is_name_7(v: &[u8], i: u64) -> bool
+    requires { ⌜ i < 10 ⌝ }
+    ensures { λ r. ⌜ r ≡ same (now (v .entry)) (nameOf (70 + i)) ⌝ }
+{
+    match i {
+        0 => opl_text::same_bytes(v, b"cw_partitions"),
+        1 => opl_text::same_bytes(v, b"cw_partition"),
+        2 => opl_text::same_bytes(v, b"partition_object"),
+        3 => opl_text::same_bytes(v, b"uocws"),
+        4 => opl_text::same_bytes(v, b"upper_role"),
+        5 => opl_text::same_bytes(v, b"lower_role"),
         _ => v.len() == 0,
     }
 }
@@ -210,6 +242,7 @@ pub fn is_name(v: &[u8], id: u64) -> bool
         4 => is_name_4(v, i),
         5 => is_name_5(v, i),
         6 => is_name_6(v, i),
+        7 => is_name_7(v, i),
         _ => v.len() == 0,
     }
 }
@@ -231,7 +264,8 @@ fn state_from_word(j: u64) -> u64
         3 => 0x2b2a292827262524,
         4 => 0x3635343332302d2c,
         5 => 0x3e3d3c3b3a393837,
-        6 => 0x000000000041403f,
+        6 => 0x474645434241403f,
+        7 => 0x0000005e544a4948,
         _ => 0,
     }
 }
@@ -240,10 +274,11 @@ fn list_from_word(j: u64) -> u64
     ensures { λ r. ⌜ r ≡ wordAt listFrom j ⌝ }
 {
     match j {
-        0 => 0x4948474544434141,
-        1 => 0x57565452514e4c4a,
-        2 => 0x636261605e5c5a58,
-        3 => 0x006c6b6a69686765,
+        0 => 0x6665646261605e5e,
+        1 => 0x7473716f6e6b6967,
+        2 => 0x807f7e7d7b797775,
+        3 => 0x8b89888786858482,
+        4 => 0x0000000000008d8c,
         _ => 0,
     }
 }
@@ -260,12 +295,16 @@ fn place_name_word(j: u64) -> u64
         5 => 0x2522201e1d1c1b19,
         6 => 0x2624242321252522,
         7 => 0x302e2d2b2a282827,
-        8 => 0x3837363534333231,
-        9 => 0x343b363835363a39,
-        10 => 0x3d3e363d383d363c,
-        11 => 0x3d403f3d3b3d3c34,
-        12 => 0x3c343b3c3b373233,
-        13 => 0x00000000403f3b34,
+        8 => 0x4946151514434231,
+        9 => 0x1a45441341064847,
+        10 => 0x441341062f2c291f,
+        11 => 0x33322f2c291f1a45,
+        12 => 0x363a393837363534,
+        13 => 0x3d363c343b363835,
+        14 => 0x3d3c343d3e363d38,
+        15 => 0x3732333d403f3d3b,
+        16 => 0x3f3b343c343b3c3b,
+        17 => 0x0000004b4a4a4b40,
         _ => 0,
     }
 }
@@ -282,12 +321,16 @@ fn place_then_word(j: u64) -> u64
         5 => 0x002322201f001e1c,
         6 => 0x2827272524000023,
         7 => 0x002f002d002b2b29,
-        8 => 0x00cb160080959431,
-        9 => 0xd750050b0b030000,
-        10 => 0x00000f0b0f0500d8,
-        11 => 0x1d0f0f1c4f1bdad9,
-        12 => 0xc0db5adb59c08080,
-        13 => 0x00000000000040c0,
+        8 => 0x0037000016330031,
+        9 => 0x3b3b3b3b3b3b3938,
+        10 => 0x3b3b3b3b3b3b3b3b,
+        11 => 0x95943b3b3b3b3b3b,
+        12 => 0x03000000cb160080,
+        13 => 0x0500d8d750050b0b,
+        14 => 0x1bdad900000f0b0f,
+        15 => 0xc080801d0f0f1c4f,
+        16 => 0x0040c0c0db5adb59,
+        17 => 0x0000000000201f00,
         _ => 0,
     }
 }
@@ -296,13 +339,15 @@ fn first_state_word(j: u64) -> u64
     ensures { λ r. ⌜ r ≡ wordAt firstState j ⌝ }
 {
     match j {
-        0 => 0x0e09070006000502,
+        0 => 0x0e093a0006000502,
         1 => 0x001300001211100f,
         2 => 0x1a19171715000000,
         3 => 0x210000201f1d001b,
         4 => 0x2a29280026250024,
         5 => 0x30002f2e002d2c00,
         6 => 0x0000000000000031,
+        7 => 0x0000000000000000,
+        8 => 0x3938361500333200,
         _ => 0,
     }
 }
@@ -318,6 +363,9 @@ fn first_list_word(j: u64) -> u64
         4 => 0x1010000f0a000e00,
         5 => 0x001200001100000f,
         6 => 0x0000000000001300,
+        7 => 0x0000000000000000,
+        8 => 0x000000001e000000,
+        9 => 0x0000000000000007,
         _ => 0,
     }
 }
@@ -351,9 +399,9 @@ fn place_then(k: u64) -> u64
 }
 
 // The numbers of what may stand at which an element may end, and of the attributes of which one must be given: a bit each.
-const ENDS: u64 = 0xfffeabbf9267c161;
+const ENDS: u64 = 0xfb3aabbf9267c161;
 
-const MISSING: u64 = 0x0000000039befffe;
+const MISSING: u64 = 0x00000001f9befffe;
 
 // The first place from k on, before `end`, whose name is v.
 fn pick(v: &[u8], from: u64, end: u64) -> Place
@@ -373,7 +421,7 @@ fn pick(v: &[u8], from: u64, end: u64) -> Place
 pub fn next(v: &[u8], left: u64) -> Found
     ensures { λ r. ⌜ Follows (now (v .entry)) (leftOf left) r ⌝ }
 {
-    if 50 <= left {
+    if 60 <= left {
         return Found::Unknown;
     }
     let p = pick(v, state_from(left), state_from(left + 1));
@@ -387,7 +435,7 @@ pub fn next(v: &[u8], left: u64) -> Found
 pub fn attribute(v: &[u8], list: u64) -> Found
     ensures { λ r. ⌜ Allows (now (v .entry)) (listOf list) r ⌝ }
 {
-    if 30 <= list {
+    if 33 <= list {
         return Found::Unknown;
     }
     let p = pick(v, list_from(list), list_from(list + 1));
@@ -400,17 +448,26 @@ pub fn attribute(v: &[u8], list: u64) -> Found
     }
 }
 
-// What may stand in an element at first.
-pub fn first(id: u64) -> u64
-    ensures { λ r. ⌜ leftOf r ≡ rowIn elements (nameOf id) .children ⌝ }
+// What may stand in an element at first, by the table of the call.
+pub fn first(id: u64, all: bool) -> u64
+    ensures { λ r. ⌜ leftOf r ≡ rowIn (elementsOf all) (nameOf id) .children ⌝ }
 {
+    if !all & (id == 5) {
+        return 7;
+    }
+    if !all & (65 <= id) {
+        return 0;
+    }
     digit(first_state_word(id / 8), id)
 }
 
-// The attributes of an element.
-pub fn attributes(id: u64) -> u64
-    ensures { λ r. ⌜ listOf r ≡ rowIn elements (nameOf id) .attributes ⌝ }
+// The attributes of an element, by the table of the call.
+pub fn attributes(id: u64, all: bool) -> u64
+    ensures { λ r. ⌜ listOf r ≡ rowIn (elementsOf all) (nameOf id) .attributes ⌝ }
 {
+    if !all & (65 <= id) {
+        return 0;
+    }
     digit(first_list_word(id / 8), id)
 }
 

@@ -1,13 +1,13 @@
 -- The two readers that call each other. Remaining depth and remaining text fall together: from an element to its content the text, from content
 -- to an element in it both. The loop over the content goes by the text alone.
 use borrow.Author.Needs.{needs}
-use Prim.Native.Nat.{_+_, _-_, _≤_}
-use mathlib.Core.Path.{_≡_, _∙_}
+use Prim.Native.Nat.{_+_, _-_, _/_, _%_, _≤_}
+use mathlib.Core.Path.{_≡_, refl, _∙_}
 use mathlib.Core.List.{List}
 use lib.ListN.{length, drop}
 use native.Mathlib.Omega.{arith}
 use denote.Ref.{now}
-use Rattle.opl_reader.specs.Grammar.{contentRead}
+use Rattle.opl_reader.specs.Grammar.{contentRead, widerBy, deepBy}
 use Rattle.opl_reader.proofs.Chain.{moved}
 use Rattle.opl_reader.proofs.Cycle as cy
 use Prim.Native.Nat.{ℕ, _<_}
@@ -129,7 +129,7 @@ content-returns t c =
     let loop = c .before .before .before .before .loop in
     let skip-misc = c .before .before .skip-misc in
     moved (loop .inv .1)
-    (cy.misc-refused (now (args .s)) (args .d) (args .id) (loop .l) (loop .i) (skip-misc .result) (skip-misc .ensures) _ (c .enum-told .given .1))
+    (cy.misc-refused (widerBy (args .d)) (now (args .s)) (deepBy (args .d)) (args .id) (loop .l) (loop .i) (skip-misc .result) (skip-misc .ensures) _ (c .enum-told .given .1))
 
 content-is-at-requires : (t : ℕ) → content-lts.Need-is-at-requires (
   skip-misc-reads.Asked,
@@ -163,7 +163,7 @@ content-add-is-at t c =
     let loop = c .before .before .before .before .before .before .loop in
     let skip-misc = c .before .before .before .before .skip-misc in
     let m = c .before .before .m in
-    cy.misc-inside (now (args .s)) (args .d) (args .id) (loop .l) (loop .i) (skip-misc .result) (skip-misc .ensures) (m .given .0 .0) (m .given .1) in
+    cy.misc-inside (widerBy (args .d)) (now (args .s)) (deepBy (args .d)) (args .id) (loop .l) (loop .i) (skip-misc .result) (skip-misc .ensures) (m .given .0 .0) (m .given .1) in
     search needs
 
 content-is-at-requires-2 : (t : ℕ) → content-lts.Need-is-at-requires-2 (
@@ -198,7 +198,7 @@ content-ending-requires t c κs =
     let skip-misc = c .before .before .before .before .before .before .skip-misc in
     let m = c .before .before .before .before .m in
     let is-at = c .before .before .is-at in
-    cy.end-room (now (args .s)) (args .d) (args .id) (loop .l) (loop .i) (skip-misc .result) (skip-misc .ensures) (m .given .0 .0) (m .given .1) (is-at .result)
+    cy.end-room (widerBy (args .d)) (now (args .s)) (deepBy (args .d)) (args .id) (loop .l) (loop .i) (skip-misc .result) (skip-misc .ensures) (m .given .0 .0) (m .given .1) (is-at .result)
     (c .before .is-at2 .result) (is-at .ensures) (c .before .is-at2 .ensures) (c .if1 .taken)
 
 content-returns-2 : (t : ℕ) → content-lts.Need-returns-2 (
@@ -220,7 +220,7 @@ content-returns-2 t c =
     let m = c .before .before .before .before .before .m in
     let is-at = c .before .before .before .is-at in
     let is-at2 = c .before .before .is-at2 in
-    moved (loop .inv .1) (cy.at-end-tag (now (args .s)) (args .d) (args .id) (loop .l) (loop .i) (skip-misc .result) (skip-misc .ensures) (m .given .0 .0)
+    moved (loop .inv .1) (cy.at-end-tag (widerBy (args .d)) (now (args .s)) (deepBy (args .d)) (args .id) (loop .l) (loop .i) (skip-misc .result) (skip-misc .ensures) (m .given .0 .0)
     (m .given .1) (is-at .result) (is-at2 .result) (is-at .ensures) (is-at2 .ensures) (c .before .if1 .taken) (c .ending .result) (c .ending .ensures))
 
 content-opening-requires : (t : ℕ) → content-lts.Need-opening-requires (
@@ -240,7 +240,7 @@ content-opening-requires t c κs =
     let loop = c .before .before .before .before .before .before .before .before .loop in
     let skip-misc = c .before .before .before .before .before .before .skip-misc in
     let m = c .before .before .before .before .m in
-    cy.misc-inside (now (args .s)) (args .d) (args .id) (loop .l) (loop .i) (skip-misc .result) (skip-misc .ensures) (m .given .0 .0) (m .given .1)
+    cy.misc-inside (widerBy (args .d)) (now (args .s)) (deepBy (args .d)) (args .id) (loop .l) (loop .i) (skip-misc .result) (skip-misc .ensures) (m .given .0 .0) (m .given .1)
 
 content-enum-known-o : (t : ℕ) → content-lts.Need-enum-known-o (
   skip-misc-reads.Asked,
@@ -277,7 +277,7 @@ content-returns-3 t c =
     let is-at2 = c .before .before .before .before .before .is-at2 in
     let if1 = c .before .before .before .before .if1 in
     let opening = c .before .before .before .opening in
-    moved (loop .inv .1) (cy.stopped (now (args .s)) (args .d) (args .id) (loop .l) (loop .i) (skip-misc .result) (skip-misc .ensures) (m .given .0 .0)
+    moved (loop .inv .1) (cy.stopped (widerBy (args .d)) (now (args .s)) (deepBy (args .d)) (args .id) (loop .l) (loop .i) (skip-misc .result) (skip-misc .ensures) (m .given .0 .0)
     (m .given .1) (is-at .result) (is-at2 .result) (is-at .ensures) (is-at2 .ensures) (if1 .left) (opening .result) (opening .ensures)
     (c .before .o .given .0 .0) (c .before .o .given .1))
 
@@ -317,9 +317,10 @@ content-sub-element t c =
     let o = c .before .before .before .opening in
     let k = c .before .o2 .given in
     let h =
-    cy.falls (now (a .s)) (a .d) (a .id) (loop .l) (loop .i) (misc .result) (misc .ensures) (m .0 .0) (m .1) (x .result) (y .result) (x .ensures) (y .ensures)
+    cy.falls (widerBy (a .d)) (now (a .s)) (deepBy (a .d)) (a .id) (loop .l) (loop .i) (misc .result) (misc .ensures) (m .0 .0) (m .1) (x .result) (y .result) (x .ensures) (y .ensures)
     (c .before .before .before .before .if1 .left) (o .result) (o .ensures) (k .0 .0) (k .0 .1 .0) (k .0 .1 .1 .0) (k .1) in
-    search needs
+    let deep = h .deep in
+    omega arith
 
 content-element-requires : (t : ℕ) → content-lts.Need-element-requires (
   skip-misc-reads.Asked,
@@ -343,7 +344,7 @@ content-element-requires t c κs =
     let o = c .before .before .before .opening in
     let k = c .before .o2 .given in
     let h =
-    cy.falls (now (a .s)) (a .d) (a .id) (loop .l) (loop .i) (misc .result) (misc .ensures) (m .0 .0) (m .1) (x .result) (y .result) (x .ensures) (y .ensures)
+    cy.falls (widerBy (a .d)) (now (a .s)) (deepBy (a .d)) (a .id) (loop .l) (loop .i) (misc .result) (misc .ensures) (m .0 .0) (m .1) (x .result) (y .result) (x .ensures) (y .ensures)
     (c .before .before .before .before .if1 .left) (o .result) (o .ensures) (k .0 .0) (k .0 .1 .0) (k .0 .1 .1 .0) (k .1) in
     let from = loop .inv .0 .0 in
     let deep = h .deep in
@@ -404,9 +405,9 @@ content-returns-4 t c =
     let opening = c .before .before .before .before .before .before .opening in
     let o2 = c .before .before .before .before .o2 in
     let element = c .before .before .element in
-    moved (loop .inv .1) (cy.refused (now (args .s)) (args .d) (args .id) (loop .l) (loop .i) (skip-misc .result) (skip-misc .ensures) (m .given .0 .0)
+    moved (loop .inv .1) (cy.refused (widerBy (args .d)) (now (args .s)) (deepBy (args .d)) (args .id) (loop .l) (loop .i) (skip-misc .result) (skip-misc .ensures) (m .given .0 .0)
     (m .given .1) (is-at .result) (is-at2 .result) (is-at .ensures) (is-at2 .ensures) (if1 .left) (opening .result) (opening .ensures) (o2 .given .0 .0)
-    (o2 .given .0 .1 .0) (o2 .given .0 .1 .1 .0) (o2 .given .1) (element .result) (element .ensures) _ (c .enum-told2 .given .1))
+    (o2 .given .0 .1 .0) (o2 .given .0 .1 .1 .0) (o2 .given .1) (element .result) (args .d) refl refl (element .ensures) _ (c .enum-told2 .given .1))
 
 content-loop-less : (t : ℕ) → content-lts.Need-loop-less (
   skip-misc-reads.Asked,
@@ -434,8 +435,8 @@ content-loop-less t c =
     let r = c .before .r .given in
     let h =
     let if1 = c .before .before .before .before .before .before .before .before .if1 in
-    cy.onward (now (a .s)) (a .d) (a .id) (loop .l) (loop .i) (misc .result) (misc .ensures) (m .0 .0) (m .1) (x .result) (y .result) (x .ensures) (y .ensures)
-    (if1 .left) (o .result) (o .ensures) (k .0 .0) (k .0 .1 .0) (k .0 .1 .1 .0) (k .1) (e .result) (e .ensures) (r .0 .0) (r .1) in
+    cy.onward (widerBy (a .d)) (now (a .s)) (deepBy (a .d)) (a .id) (loop .l) (loop .i) (misc .result) (misc .ensures) (m .0 .0) (m .1) (x .result) (y .result) (x .ensures) (y .ensures)
+    (if1 .left) (o .result) (o .ensures) (k .0 .0) (k .0 .1 .0) (k .0 .1 .1 .0) (k .1) (e .result) (a .d) refl refl (e .ensures) (r .0 .0) (r .1) in
     let past = h .past in
     let inside = h .inside in
     omega arith
@@ -466,8 +467,8 @@ content-loop-again t c =
     let r = c .before .r .given in
     let h =
     let if1 = c .before .before .before .before .before .before .before .before .if1 in
-    cy.onward (now (a .s)) (a .d) (a .id) (loop .l) (loop .i) (misc .result) (misc .ensures) (m .0 .0) (m .1) (x .result) (y .result) (x .ensures) (y .ensures)
-    (if1 .left) (o .result) (o .ensures) (k .0 .0) (k .0 .1 .0) (k .0 .1 .1 .0) (k .1) (e .result) (e .ensures) (r .0 .0) (r .1) in
+    cy.onward (widerBy (a .d)) (now (a .s)) (deepBy (a .d)) (a .id) (loop .l) (loop .i) (misc .result) (misc .ensures) (m .0 .0) (m .1) (x .result) (y .result) (x .ensures) (y .ensures)
+    (if1 .left) (o .result) (o .ensures) (k .0 .0) (k .0 .1 .0) (k .0 .1 .1 .0) (k .1) (e .result) (a .d) refl refl (e .ensures) (r .0 .0) (r .1) in
     let from = loop .inv .0 .0 in
     let past = h .past in
     ((omega arith, h .inside), loop .inv .1 ∙ h .rest)
@@ -487,7 +488,7 @@ content-returns-5 : (t : ℕ) → content-lts.Need-returns-5 (
 content-returns-5 t c =
     let args = c .before .before .before .args in
     moved (c .before .loop .inv .1) (record {
-      read-is = cy.at-end (now (args .s)) (args .d) (args .id) (c .before .loop .l) (c .before .loop .i) (c .loop-test .left);
+      read-is = cy.at-end (widerBy (args .d)) (now (args .s)) (deepBy (args .d)) (args .id) (c .before .loop .l) (c .before .loop .i) (c .loop-test .left);
       inside = c .before .loop .inv .0 .1;
     })
 
@@ -554,7 +555,7 @@ element-returns t c =
     let pre = c .before .before .before .before .before .pre in
     let first = c .before .before .before .first in
     let is-at = c .before .before .is-at in
-    cy.with-content (now (args .s)) (args .at) (args .d) (args .id) (pre .1) (first .result) (first .ensures) (is-at .result) (is-at .ensures)
+    cy.with-content (widerBy (args .d)) (now (args .s)) (args .at) (deepBy (args .d)) (args .id) (pre .1) (first .result) (first .ensures) (is-at .result) (is-at .ensures)
     (c .before .if1 .taken) (c .content .result) (c .content .ensures)
 
 element-add-is-at : (t : ℕ) → element-lts.Need-add-is-at (
@@ -610,7 +611,7 @@ element-returns-2 t c =
     let is-at = c .before .before .before .is-at in
     record {
       read-is =
-          cy.slash-cut (now (args .s)) (args .at) (args .d) (args .id) (pre .1) (first .result) (first .ensures) (is-at .result) (is-at .ensures)
+          cy.slash-cut (widerBy (args .d)) (now (args .s)) (args .at) (deepBy (args .d)) (args .id) (pre .1) (first .result) (first .ensures) (is-at .result) (is-at .ensures)
           (c .before .before .if1 .left) (c .before .is-at2 .result) (c .before .is-at2 .ensures) (c .if2 .taken);
       inside = pre .1;
     }
@@ -646,12 +647,12 @@ element-returns-3 t c =
     let is-at2 = c .before .before .before .is-at2 in
     record {
       read-is =
-          cy.slash-early (now (args .s)) (args .at) (args .d) (args .id) (pre .1) (first .result) (first .ensures) (is-at .result) (is-at .ensures) (if1 .left)
+          cy.slash-early (widerBy (args .d)) (now (args .s)) (args .at) (deepBy (args .d)) (args .id) (pre .1) (first .result) (first .ensures) (is-at .result) (is-at .ensures) (if1 .left)
           (is-at2 .result) (is-at2 .ensures) (c .before .before .if2 .left) (c .before .may-end .result) (c .before .may-end .ensures) (c .if3 .taken);
       inside = let h = pre .1 in omega arith;
     }
 
-element-add-t9 : (t : ℕ) → element-lts.Need-add-t9 (
+element-add-t6 : (t : ℕ) → element-lts.Need-add-t6 (
   first-reads.Asked,
   first-reads.Learnt,
   is-at-reads.Asked,
@@ -661,7 +662,7 @@ element-add-t9 : (t : ℕ) → element-lts.Need-add-t9 (
   may-end-reads.Asked,
   may-end-reads.Learnt,
 ) (element-at t) element.Post
-element-add-t9 t c =
+element-add-t6 t c =
     let h =
     let args = c .before .before .before .before .before .before .before .before .args in
     let pre = c .before .before .before .before .before .before .before .before .pre in
@@ -669,7 +670,7 @@ element-add-t9 t c =
     let is-at = c .before .before .before .before .before .is-at in
     let if1 = c .before .before .before .before .if1 in
     let is-at2 = c .before .before .before .is-at2 in
-    cy.slash-room (now (args .s)) (args .at) (args .d) (args .id) (pre .1) (first .result) (first .ensures) (is-at .result) (is-at .ensures) (if1 .left)
+    cy.slash-room (widerBy (args .d)) (now (args .s)) (args .at) (deepBy (args .d)) (args .id) (pre .1) (first .result) (first .ensures) (is-at .result) (is-at .ensures) (if1 .left)
     (is-at2 .result) (is-at2 .ensures) (c .before .before .if2 .left) (c .before .may-end .result) (c .before .may-end .ensures) in
     search needs
 
@@ -693,10 +694,10 @@ element-returns-4 t c =
     let if2 = c .before .before .if2 in
     record {
       read-is =
-          cy.slash-done (now (args .s)) (args .at) (args .d) (args .id) (pre .1) (first .result) (first .ensures) (is-at .result) (is-at .ensures) (if1 .left)
+          cy.slash-done (widerBy (args .d)) (now (args .s)) (args .at) (deepBy (args .d)) (args .id) (pre .1) (first .result) (first .ensures) (is-at .result) (is-at .ensures) (if1 .left)
           (is-at2 .result) (is-at2 .ensures) (if2 .left) (c .before .may-end .result) (c .before .may-end .ensures) (c .if3 .left);
       inside =
-          cy.slash-room (now (args .s)) (args .at) (args .d) (args .id) (pre .1) (first .result) (first .ensures) (is-at .result) (is-at .ensures) (if1 .left)
+          cy.slash-room (widerBy (args .d)) (now (args .s)) (args .at) (deepBy (args .d)) (args .id) (pre .1) (first .result) (first .ensures) (is-at .result) (is-at .ensures) (if1 .left)
           (is-at2 .result) (is-at2 .ensures) (if2 .left) (c .before .may-end .result) (c .before .may-end .ensures);
     }
 
@@ -762,5 +763,5 @@ pub +content+element-spec : {M : Type 1} → statement M
     (element-returns-2 t)
     (element-may-end-requires t)
     (element-returns-3 t)
-    (element-add-t9 t)
+    (element-add-t6 t)
     (element-returns-4 t)

@@ -17,4 +17,7 @@ first-list-word-spec =
     (λ c. rw (c .match .keys5))
     (λ c. rw (c .match .keys6))
     (λ c. rw (c .match .keys7))
-    (λ c. let h = apart 7 (c .before .args .j) (c .match .rest) in past firstList (c .before .args .j) (omega arith)))
+    (λ c. rw (c .match .keys8))
+    (λ c. rw (c .match .keys9))
+    (λ c. rw (c .match .keys10))
+    (λ c. let h = apart 10 (c .before .args .j) (c .match .rest) in past firstList (c .before .args .j) (omega arith)))

@@ -30,6 +30,9 @@ is-name-5-requires c κs = search needs
 is-name-6-requires : tie.Need-is-name-6-requires
 is-name-6-requires c κs = search needs
 
+is-name-7-requires : tie.Need-is-name-7-requires
+is-name-7-requires c κs = search needs
+
 returns : tie.Need-returns
 returns c =
     let args = c .before .before .before .args in
@@ -67,8 +70,13 @@ returns-7 c =
 
 returns-8 : tie.Need-returns-8
 returns-8 c =
+    let args = c .before .before .before .args in
+    let k : args .id / 10 ≡ 7 = c .before .match .keys8 in let e : 70 + args .id % 10 ≡ args .id = omega arith in c .is-name-7 .ensures ∙ rw e
+
+returns-9 : tie.Need-returns-9
+returns-9 c =
     let args = c .before .before .args in
-    let h = apart 7 (args .id / 10) (c .match .rest) in no-name (now (args .v)) (args .id) (omega arith)
+    let h = apart 8 (args .id / 10) (c .match .rest) in no-name (now (args .v)) (args .id) (omega arith)
 
 pub is-name-spec : {M : Type 1} → statement M
 is-name-spec =
@@ -81,6 +89,7 @@ is-name-spec =
     is-name-4-requires
     is-name-5-requires
     is-name-6-requires
+    is-name-7-requires
     returns
     returns-2
     returns-3
@@ -88,4 +97,5 @@ is-name-spec =
     returns-5
     returns-6
     returns-7
-    returns-8)
+    returns-8
+    returns-9)

@@ -1,13 +1,9 @@
--- Each arm compares one name; behind the last of them no number has a name.
-use denote.Ref.{now}
-use Prim.Native.Nat.{_+_}
-use native.Mathlib.Omega.{arith}
-use Rattle.opl_table.proofs.Rows.{no-name}
-use Rattle.opl_table.proofs.Cases.{apart}
-use Rattle.paper_opl.specs.Reading.{text}
-use Rattle.paper_opl.specs.Elements.{elements}
+-- Each arm compares one name, and the last is left for what no arm has.
 use Rattle.paper_lower.specs.Lists.{each}
+use Rattle.opl_table.proofs.Cases.{last}
 use Rattle.opl_table.specs.Numbers.{names, nameOf}
+use Rattle.paper_opl.specs.Elements.{elements}
+use Rattle.paper_opl.specs.Reading.{text}
 use borrow.Author.Needs.{needs}
 use Rattle.opl_table.proofs.is_name_6.Statement.{statement}
 use Rattle.opl_table.proofs.is_name_6.Tie as tie
@@ -27,10 +23,24 @@ is-name-6-spec =
     (λ c κs. search needs)
     (λ c. search needs)
     (λ c κs. search needs)
+    (λ c. search needs)
+    (λ c κs. search needs)
+    (λ c. search needs)
+    (λ c κs. search needs)
+    (λ c. search needs)
+    (λ c κs. search needs)
+    (λ c. search needs)
+    (λ c κs. search needs)
+    (λ c. search needs)
+    (λ c κs. search needs)
     (λ c. rw (c .before .before .match .keys1) (c .same-bytes .ensures))
     (λ c. rw (c .before .before .match .keys2) (c .same-bytes2 .ensures))
     (λ c. rw (c .before .before .match .keys3) (c .same-bytes3 .ensures))
     (λ c. rw (c .before .before .match .keys4) (c .same-bytes4 .ensures))
     (λ c. rw (c .before .before .match .keys5) (c .same-bytes5 .ensures))
-    (λ c. let h =
-    apart 5 (c .before .before .args .i) (c .match .rest) in no-name (now (c .before .before .args .v)) (60 + c .before .before .args .i) (omega arith)))
+    (λ c. rw (c .before .before .match .keys6) (c .same-bytes6 .ensures))
+    (λ c. rw (c .before .before .match .keys7) (c .same-bytes7 .ensures))
+    (λ c. rw (c .before .before .match .keys8) (c .same-bytes8 .ensures))
+    (λ c. rw (c .before .before .match .keys9) (c .same-bytes9 .ensures))
+    (λ c. rw (last 9 (c .before .before .before .before .args .i) (c .before .before .before .before .pre) (c .before .before .match .rest))
+    (c .same-bytes10 .ensures)))

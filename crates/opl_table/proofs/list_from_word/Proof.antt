@@ -14,4 +14,5 @@ list-from-word-spec =
     (λ c. rw (c .match .keys2))
     (λ c. rw (c .match .keys3))
     (λ c. rw (c .match .keys4))
-    (λ c. let h = apart 4 (c .before .args .j) (c .match .rest) in past listFrom (c .before .args .j) (omega arith)))
+    (λ c. rw (c .match .keys5))
+    (λ c. let h = apart 5 (c .before .args .j) (c .match .rest) in past listFrom (c .before .args .j) (omega arith)))

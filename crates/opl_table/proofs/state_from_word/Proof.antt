@@ -17,4 +17,5 @@ state-from-word-spec =
     (λ c. rw (c .match .keys5))
     (λ c. rw (c .match .keys6))
     (λ c. rw (c .match .keys7))
-    (λ c. let h = apart 7 (c .before .args .j) (c .match .rest) in past stateFrom (c .before .args .j) (omega arith)))
+    (λ c. rw (c .match .keys8))
+    (λ c. let h = apart 8 (c .before .args .j) (c .match .rest) in past stateFrom (c .before .args .j) (omega arith)))
