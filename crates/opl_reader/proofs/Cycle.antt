@@ -90,7 +90,8 @@ module _ (all : Bool) where
   unfolding startIn
   start-bad d left t y e f = go (opening left t) e
     where
-      go : (x : Read Opened) → after x (λ c r. tagged all d c r) ≡ bad y → forget (after x (λ c u. after (element (elementsOf all) d (c .name) u) (λ e z. f c e z))) ≡ bad y
+      go : (x : Read Opened) → after x (λ c r. tagged all d c r) ≡ bad y →
+          forget (after x (λ c u. after (element (elementsOf all) d (c .name) u) (λ e z. f c e z))) ≡ bad y
       go (got c u) e = tag-stops d c u y e (λ e z. f c e z)
       go (bad u) e = ap bad (bad-same e)
 
@@ -215,14 +216,16 @@ module _ (all : Bool) where
           module _ (e : x && y ≡ false) (o : Start) (a : Opens s (startIn all d (leftOf l) (drop j s)) o) where
             opened : forget (turn d id l (length (drop i s)) (drop j s)) ≡
                 forget (after (opening (leftOf l) (drop j s)) (λ c u. after (element (elementsOf all) d (c .name) u) (λ e z.
-                after (content (element (elementsOf all) d) (length (drop i s)) (nameOf id) (c .left) z) (λ es y. got (node (c .name) (e .given) (e .elements) es) y))))
+                after (content (element (elementsOf all) d) (length (drop i s)) (nameOf id) (c .left) z)
+                (λ es y. got (node (c .name) (e .given) (e .elements) es) y))))
             unfolding turn
             opened = rw (tag, e)
 
             pub stopped : (k : ℕ) → o ≡ Stop k → Reads s (stepOf s) (contentIn all d id l (drop i s)) (Bad k)
             stopped k z = record {
               read-is = sym (here ∙ opened ∙ start-bad d (leftOf l) (drop j s) (drop k s) (sym (a .read-is) ∙ rw z) (λ c e z.
-                  after (content (element (elementsOf all) d) (length (drop i s)) (nameOf id) (c .left) z) (λ es y. got (node (c .name) (e .given) (e .elements) es) y)));
+                  after (content (element (elementsOf all) d) (length (drop i s)) (nameOf id) (c .left) z)
+                  (λ es y. got (node (c .name) (e .given) (e .elements) es) y)));
               inside = subst (λ (k : Start). startAt k ≤ length s) z (a .inside);
             }
 
@@ -270,7 +273,8 @@ module _ (all : Bool) where
                 pub refused : (n : ℕ) → r ≡ Bad n → Reads s (stepOf s) (contentIn all d id l (drop i s)) r
                 refused n c = record {
                   read-is =
-                      ap (λ (x : Step). stepOf s x) c ∙ sym (inner ∙ on-bad (element (elementsOf all) d (nameOf child) (start .behind)) (drop n s) (judged ∙ rw c) (λ e z.
+                      ap (λ (x : Step). stepOf s x) c ∙ sym (inner ∙
+                      on-bad (element (elementsOf all) d (nameOf child) (start .behind)) (drop n s) (judged ∙ rw c) (λ e z.
                       after (content (element (elementsOf all) d) (length (drop i s)) (nameOf id) (leftOf more) z)
                       (λ es y. got (node (nameOf child) (e .given) (e .elements) es) y)));
                   inside = b .inside;
@@ -309,7 +313,8 @@ module _ (all : Bool) where
                       (forget (content (element (elementsOf all) d) (suc (length (drop n s))) (nameOf id) (leftOf more) (drop n s)))
                       (λ e _. forget-on (content (element (elementsOf all) d) (length (drop i s)) (nameOf id) (leftOf more) (drop n s))
                       (λ es. node (nameOf child) (e .given) (e .elements) es)
-                      ∙ ap (λ x. forget x) (content-enough (element (elementsOf all) d) (element-below (elementsOf all) d) (length (drop i s)) (suc (length (drop n s))) (nameOf id)
+                      ∙ ap (λ x. forget x) (content-enough (element (elementsOf all) d) (element-below (elementsOf all) d) (length (drop i s))
+                      (suc (length (drop n s))) (nameOf id)
                       (leftOf more) (drop n s) shorter (omega arith)))
 
                   pub onward : Onward s d id l i more n
@@ -331,7 +336,8 @@ module _ (all : Bool) where
         let n : length (drop at s) ≡ suc (length (drop (at + 1) s)) = omega arith in
         record {
           read-is = a .read-is ∙ sym (rw (opens, e)
-              (forget-on (content (element (elementsOf all) d) (length (drop at s)) (rowIn (elementsOf all) (nameOf id) .name) (rowIn (elementsOf all) (nameOf id) .children) (drop 1 (drop at s)))
+              (forget-on (content (element (elementsOf all) d) (length (drop at s)) (rowIn (elementsOf all) (nameOf id) .name)
+              (rowIn (elementsOf all) (nameOf id) .children) (drop 1 (drop at s)))
               (λ es. record { given = []; elements = es })
               ∙ rw (n, row-name (elementsOf all) (nameOf id), sym c, drop-drop 1 at s)));
           inside = a .inside;
@@ -351,7 +357,8 @@ module _ (all : Bool) where
         unfolding text elementIn
         slash-done k =
             let j : at + 1 + 1 ≡ at + 2 = omega arith in
-            sym (rw (sym p, e, drop-drop 1 at s, one-yes 62 (drop (at + 1) s) (sym w ∙ not-false y h) .0, sym c, sym z, not-false b k, drop-drop 1 (at + 1) s, j))
+            sym
+            (rw (sym p, e, drop-drop 1 at s, one-yes 62 (drop (at + 1) s) (sym w ∙ not-false y h) .0, sym c, sym z, not-false b k, drop-drop 1 (at + 1) s, j))
 
         pub slash-room : at + 2 ≤ length s
         slash-room = let o = one-yes 62 (drop (at + 1) s) (sym w ∙ not-false y h) .1 in let l = length-drop (at + 1) s in omega arith

@@ -339,7 +339,8 @@ module _ (all : Bool) where
     inner (bad z) = refl
 
     attributed : (x : Read (List Given)) →
-        forget (after (after x (λ gs r. body (element (elementsOf all) 7) (rowIn (elementsOf all) (c .name)) gs r)) ends) ≡ after (after x (λ _ r. got c r)) (λ c u. whole c u)
+        forget (after (after x (λ gs r. body (element (elementsOf all) 7) (rowIn (elementsOf all) (c .name)) gs r)) ends) ≡
+        after (after x (λ _ r. got c r)) (λ c u. whole c u)
     unfolding whole
     attributed (got gs r) =
         inner (body (element (elementsOf all) 7) (rowIn (elementsOf all) (c .name)) gs r) ∙
@@ -355,7 +356,8 @@ module _ (all : Bool) where
   document-is s = rw document-left (go (prolog s))
     where
       outer : (x : Read Opened) →
-          forget (after x (λ c u. after (element (elementsOf all) 8 (c .name) u) (λ e z. ends c e z))) ≡ after (after x (λ c r. tagged all 8 c r)) (λ c u. whole c u)
+          forget (after x (λ c u. after (element (elementsOf all) 8 (c .name) u) (λ e z. ends c e z))) ≡
+          after (after x (λ c r. tagged all 8 c r)) (λ c u. whole c u)
       outer (got c u) = tagged-is c u
       outer (bad u) = refl
 

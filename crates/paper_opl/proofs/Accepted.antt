@@ -29,7 +29,8 @@ use Rattle.paper_opl.proofs.DocumentLaid.{read-alike}
 pub document-end : (all : Bool) (s : Text) (es : Elements) (r : Text) → documentIn all s ≡ got es r → r ≡ []
 unfolding documentIn
 document-end all s es r e =
-    on (prolog s) (λ _ u p. on (opening root u) (λ c z o. on (element (elementsOf all) DEPTH (c .name) z) (λ i y h. on (misc (length y) y) (λ _ x m. on-test (same x [])
+    on (prolog s) (λ _ u p. on (opening root u) (λ c z o. on (element (elementsOf all) DEPTH (c .name) z) (λ i y h. on (misc (length y) y) (λ _ x m. on-test
+    (same x [])
     (λ f. sym (got-rest (rw (p, o, h, m, f) at e)) ∙ same-end x f)
     (λ f. absurd (bad≢got (rw (p, o, h, m, f) at e)))) (λ x m. absurd (bad≢got (rw (p, o, h, m) at e)))) (λ y h. absurd (bad≢got (rw (p, o, h) at e))))
     (λ z o. absurd (bad≢got (rw (p, o) at e)))) (λ u p. absurd (bad≢got (rw p at e)))

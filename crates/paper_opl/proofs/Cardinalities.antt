@@ -94,9 +94,14 @@ all-small left nothing h = tt
 all-small left (node w gs i b) h =
     on-found (next left w)
     (λ cs q.
-    let m = both (attributesFit (rowIn (elementsOf true) w .attributes) gs && elementsFit true (rowIn (elementsOf true) w .children) i) (elementsFit true cs b) (rw q at h) in
-    let k = both (attributesFit (rowIn (elementsOf true) w .attributes) gs) (elementsFit true (rowIn (elementsOf true) w .children) i) (m .0) in
-    (attributes-small (rowIn (elementsOf true) w .attributes) gs (table-small w) (k .0), all-small (rowIn (elementsOf true) w .children) i (k .1), all-small cs b (m .1)))
+    let m =
+    both (attributesFit (rowIn (elementsOf true) w .attributes) gs && elementsFit true (rowIn (elementsOf true) w .children) i) (elementsFit true cs b)
+    (rw q at h) in
+    let k = both (attributesFit (rowIn (elementsOf true) w .attributes) gs) (elementsFit true (rowIn (elementsOf true) w .children) i) (m .0) in (
+      attributes-small (rowIn (elementsOf true) w .attributes) gs (table-small w) (k .0),
+      all-small (rowIn (elementsOf true) w .children) i (k .1),
+      all-small cs b (m .1),
+    ))
     (λ q. absurd (false≢true (rw q at h)))
 
 pub document-small : (all : Bool) (s : Text) (es : Elements) (r : Text) → documentIn all s ≡ got es r → AllSmall es

@@ -51,7 +51,8 @@ module _ (all : Bool) where
   child-lower w v h =
       let t = row-has (λ e. forNames (λ v. ltb (rank all v) (rank all (e .name))) (e .children)) (elementsOf all) w (λ v. refl) (lower all) in
       let k =
-      ltb-true (rank all v) (rank all (rowIn (elementsOf all) w .name)) (child-has (λ u. ltb (rank all u) (rank all (rowIn (elementsOf all) w .name))) (rowIn (elementsOf all) w .children) v t h) in
+      ltb-true (rank all v) (rank all (rowIn (elementsOf all) w .name))
+      (child-has (λ u. ltb (rank all u) (rank all (rowIn (elementsOf all) w .name))) (rowIn (elementsOf all) w .children) v t h) in
       rw (row-name (elementsOf all) w) at k
 
   -- two limits that both let the children stand

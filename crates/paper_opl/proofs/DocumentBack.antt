@@ -273,7 +273,8 @@ module _ (all : Bool) where
   module _ (x : Document) (fit : documentFits x ≡ true) where
     whole : (g : Gap) (v u : Text) (cs : List Child) (e : Inside) (h : Gap) → layoutText (x .root) [] ≡ gap g (text "<" ++ (v ++ u)) → gapFits g ≡ true →
         gapFits h ≡ true → aName v ≡ true → stops inName u ≡ true
-        → next root v ≡ just cs → element (elementsOf all) DEPTH v u ≡ got e (gap h []) → documentIn all (documentText x) ≡ got (node v (e .given) (e .elements) nothing) []
+        → next root v ≡ just cs → element (elementsOf all) DEPTH v u ≡ got e (gap h []) →
+        documentIn all (documentText x) ≡ got (node v (e .given) (e .elements) nothing) []
     unfolding documentIn documentText starts text same
     whole g v u cs e h p f i a k n r =
         let m = both (declarationFits (x .declaration)) _ fit in
@@ -303,7 +304,8 @@ module _ (all : Bool) where
           on-found (next root v)
           (λ cs n.
           let m =
-          both (attributesFit (rowIn (elementsOf all) v .attributes) (givenBy xs) && mayEnd (rowIn (elementsOf all) v .children)) (elementsFit all cs (treeOf y)) (rw n at e) in
+          both (attributesFit (rowIn (elementsOf all) v .attributes) (givenBy xs) && mayEnd (rowIn (elementsOf all) v .children))
+          (elementsFit all cs (treeOf y)) (rw n at e) in
           let i = both (attributesFit (rowIn (elementsOf all) v .attributes) (givenBy xs)) (mayEnd (rowIn (elementsOf all) v .children)) (m .0) in
           let o = both (gapFits g && attributesLaid xs && blank s) (layoutFits y) l in
           let j = both (gapFits g && attributesLaid xs) (blank s) (o .0) in
@@ -321,9 +323,12 @@ module _ (all : Bool) where
           on-found (next root v)
           (λ cs n.
           let m =
-          both (attributesFit (rowIn (elementsOf all) v .attributes) (givenBy xs) && elementsFit all (rowIn (elementsOf all) v .children) (treeOf b)) (elementsFit all cs (treeOf y))
+          both (attributesFit (rowIn (elementsOf all) v .attributes) (givenBy xs) && elementsFit all (rowIn (elementsOf all) v .children) (treeOf b))
+          (elementsFit all cs (treeOf y))
           (rw n at e) in
-          let i = both (attributesFit (rowIn (elementsOf all) v .attributes) (givenBy xs)) (elementsFit all (rowIn (elementsOf all) v .children) (treeOf b)) (m .0) in
+          let i =
+          both (attributesFit (rowIn (elementsOf all) v .attributes) (givenBy xs)) (elementsFit all (rowIn (elementsOf all) v .children) (treeOf b))
+          (m .0) in
           let o = both (gapFits g && attributesLaid xs && blank s && layoutFits b && blank c) (layoutFits y) l in
           let o2 = both (gapFits g && attributesLaid xs && blank s && layoutFits b) (blank c) (o .0) in
           let o3 = both (gapFits g && attributesLaid xs && blank s) (layoutFits b) (o2 .0) in
@@ -340,7 +345,8 @@ module _ (all : Bool) where
           (k .2) (root-named v a) (attributes-stop xs s _ (r .1) (j .1) (angle-stops (layoutText b (text "</" ++ (v ++ (c ++ (text ">" ++ gap (k .0) [])))))))
           n
           (element-long all 7 v xs s (i .0) (r .1) (j .1) (layoutText b (text "</" ++ (v ++ (c ++ (text ">" ++ gap (k .0) []))))) (gap (k .0) []) (treeOf b)
-          (content-back all 7 b (rowIn (elementsOf all) v .children) v c (gap (k .0) []) (children-named all v) (λ u z. let w = child-lower all v u z in omega arith) (i .1) (o3 .1)
+          (content-back all 7 b (rowIn (elementsOf all) v .children) v c (gap (k .0) []) (children-named all v)
+          (λ u z. let w = child-lower all v u z in omega arith) (i .1) (o3 .1)
           (root-named v a) (o2 .1)
           (suc (length (layoutText b (text "</" ++ (v ++ (c ++ (text ">" ++ gap (k .0) []))))))) (omega arith)))
           ∙ ap (λ (z : Elements). got z []) (sym (ap treeOf (sym q) ∙ ap (λ (z : Layout). node v (givenBy xs) (treeOf b) (treeOf z)) (k .1))))

@@ -222,7 +222,8 @@ root-laid v u z i g h f k e (two-tags xs b y c gs l n p q m t) = (
 pub written-from : (all : Bool) (s : Text) (es : Elements) (r : Text) → documentIn all s ≡ got es r → WrittenFrom all es s
 unfolding documentIn documentText
 written-from all s es r e =
-    on (prolog s) (λ _ u p. on (opening root u) (λ c z o. on (element (elementsOf all) DEPTH (c .name) z) (λ i y h. on (misc (length y) y) (λ _ x m. on-test (same x [])
+    on (prolog s) (λ _ u p. on (opening root u) (λ c z o. on (element (elementsOf all) DEPTH (c .name) z) (λ i y h. on (misc (length y) y) (λ _ x m. on-test
+    (same x [])
     (λ f.
     let w = prolog-laid s u p in
     let g = gap-laid (length y) y x m in

@@ -25,14 +25,16 @@ module _ (heads ins : Text → Bool) (w : Text) where
       cond (heads w || ins w) (forNames ins (rowIn (elementsOf true) w .children)) (forNames (λ v. not (ins v)) (rowIn (elementsOf true) w .children)) ≡ true
   unfolding every
   group-row h =
-      rw (ap (λ (v : Text). cond (heads v || ins v) (forNames ins (rowIn (elementsOf true) w .children)) (forNames (λ v. not (ins v)) (rowIn (elementsOf true) w .children)))
+      rw (ap (λ (v : Text). cond (heads v || ins v) (forNames ins (rowIn (elementsOf true) w .children))
+      (forNames (λ v. not (ins v)) (rowIn (elementsOf true) w .children)))
       (sym (row-name (elementsOf true) w)))
       (row-has (groupTest heads ins) (elementsOf true) w (λ v. on-test (heads v || ins v) (λ q. rw q) (λ q. rw q)) h)
 
   pub stands-in : every (groupTest heads ins) (elementsOf true) ≡ true → heads w || ins w ≡ true → forNames ins (rowIn (elementsOf true) w .children) ≡ true
   stands-in h e = rw e at (group-row h)
 
-  pub stands-out : every (groupTest heads ins) (elementsOf true) ≡ true → heads w || ins w ≡ false → forNames (λ v. not (ins v)) (rowIn (elementsOf true) w .children) ≡ true
+  pub stands-out : every (groupTest heads ins) (elementsOf true) ≡ true → heads w || ins w ≡ false →
+      forNames (λ v. not (ins v)) (rowIn (elementsOf true) w .children) ≡ true
   stands-out h e = rw e at (group-row h)
 
 -- an element that says a record, in some context

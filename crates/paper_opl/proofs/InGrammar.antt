@@ -78,8 +78,11 @@ module _ (all : Bool) where
       let g = attributes-fit (length s) (rowIn (elementsOf all) w .attributes) s gs z a in
       on-test (starts (text ">") z)
       (λ c. on (content (element (elementsOf all) d) (length z) (rowIn (elementsOf all) w .name) (rowIn (elementsOf all) w .children) (drop 1 z))
-      (λ es u q. rw (sym (got-value (rw (a, c, q) at h)))
-      (g, content-fit (element (elementsOf all) d) (element-fit d) (length z) (rowIn (elementsOf all) w .name) (rowIn (elementsOf all) w .children) (drop 1 z) es u q))
+      (λ es u q. rw (sym (got-value (rw (a, c, q) at h))) (
+        g,
+        content-fit (element (elementsOf all) d) (element-fit d) (length z) (rowIn (elementsOf all) w .name) (rowIn (elementsOf all) w .children) (drop 1 z) es
+            u q,
+      ))
       (λ u q. absurd (bad≢got (rw (a, c, q) at h))))
       (λ c. on (expect (text ">") (drop 1 z)) (λ _ u q. on-test (mayEnd (rowIn (elementsOf all) w .children))
       (λ f. rw (sym (got-value (rw (a, c, q, f) at h))) (g, f))
@@ -89,7 +92,8 @@ module _ (all : Bool) where
   pub document-in-grammar : (s : Text) (es : Elements) (r : Text) → documentIn all s ≡ got es r → inGrammar all es ≡ true
   unfolding documentIn elementsFit
   document-in-grammar s es r e =
-      on (prolog s) (λ _ u p. on (opening root u) (λ c z o. on (element (elementsOf all) DEPTH (c .name) z) (λ i y h. on (misc (length y) y) (λ _ x m. on-test (same x [])
+      on (prolog s) (λ _ u p. on (opening root u) (λ c z o. on (element (elementsOf all) DEPTH (c .name) z) (λ i y h. on (misc (length y) y) (λ _ x m. on-test
+      (same x [])
       (λ f.
       let k = element-fit DEPTH (c .name) z i y h in
       let n = opened-fits root u c z o in
@@ -106,9 +110,12 @@ fits-in left (node w gs i b) h =
     on-found (next left w)
     (λ cs q.
     let t = next-among left cs w q in
-    let m = both (attributesFit (rowIn (elementsOf true) w .attributes) gs && elementsFit true (rowIn (elementsOf true) w .children) i) (elementsFit true cs b) (rw q at h) in (
+    let m =
+    both (attributesFit (rowIn (elementsOf true) w .attributes) gs && elementsFit true (rowIn (elementsOf true) w .children) i) (elementsFit true cs b)
+    (rw q at h) in (
       t .0,
-      fits-in (rowIn (elementsOf true) w .children) i (both (attributesFit (rowIn (elementsOf true) w .attributes) gs) (elementsFit true (rowIn (elementsOf true) w .children) i) (m .0) .1),
+      fits-in (rowIn (elementsOf true) w .children) i
+          (both (attributesFit (rowIn (elementsOf true) w .attributes) gs) (elementsFit true (rowIn (elementsOf true) w .children) i) (m .0) .1),
       fits-more cs left b (t .1) (fits-in cs b (m .1)),
     ))
     (λ q. absurd (false≢true (rw q at h)))

@@ -292,7 +292,8 @@ same-end (b ∷ y) e = absurd (false≢true e)
 pub tags-are : (all : Bool) (s : Text) (es : Elements) (r : Text) → documentIn all s ≡ got es r → tags s ≡ tagsOf es
 unfolding documentIn tags tagsOf
 tags-are all s es r e =
-    on (prolog s) (λ _ u p. on (opening (one "policy_object" ∷ []) u) (λ c z o. on (element (elementsOf all) DEPTH (c .name) z) (λ i y h. on (misc (length y) y) (λ _ x
+    on (prolog s) (λ _ u p. on (opening (one "policy_object" ∷ []) u) (λ c z o. on (element (elementsOf all) DEPTH (c .name) z) (λ i y h. on (misc (length y) y)
+    (λ _ x
     m. on-test (same x [])
     (λ f.
     let k = rw (p, o, h, m, f) at e in

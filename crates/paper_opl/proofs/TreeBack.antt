@@ -188,7 +188,8 @@ module _ (all : Bool) where
 
   pub children-named : (w : Text) → Named (rowIn (elementsOf all) w .children)
   unfolding every
-  children-named w v h = child-has aName (rowIn (elementsOf all) w .children) v (row-has (λ e. forNames aName (e .children)) (elementsOf all) w (λ v. refl) (child-names all)) h
+  children-named w v h =
+      child-has aName (rowIn (elementsOf all) w .children) v (row-has (λ e. forNames aName (e .children)) (elementsOf all) w (λ v. refl) (child-names all)) h
 
   module _ (d : ℕ) (v : Text) (xs : List Attributed) (s : Text) (fit : attributesFit (rowIn (elementsOf all) v .attributes) (givenBy xs) ≡ true) (laid : attributesLaid xs ≡ true) (b : blank s ≡ true) where
     pub element-short : (rest : Text) → mayEnd (rowIn (elementsOf all) v .children) ≡ true →
@@ -196,17 +197,20 @@ module _ (all : Bool) where
     unfolding element starts expect text
     element-short rest m =
         rw (
-          attributes-back (length (attributesText xs (s ++ (text "/>" ++ rest)))) xs (rowIn (elementsOf all) v .attributes) s (text "/>" ++ rest) (attributes-named v) fit
+          attributes-back (length (attributesText xs (s ++ (text "/>" ++ rest)))) xs (rowIn (elementsOf all) v .attributes) s (text "/>" ++ rest)
+              (attributes-named v) fit
               laid b refl (omega arith),
           m,
         )
 
-    pub element-long : (inner rest : Text) (es : Elements) → content (element (elementsOf all) d) (suc (length inner)) v (rowIn (elementsOf all) v .children) inner ≡ got es rest
+    pub element-long : (inner rest : Text) (es : Elements) →
+        content (element (elementsOf all) d) (suc (length inner)) v (rowIn (elementsOf all) v .children) inner ≡ got es rest
         → element (elementsOf all) (suc d) v (attributesText xs (s ++ (text ">" ++ inner))) ≡ got (record { given = givenBy xs; elements = es }) rest
     unfolding element starts text
     element-long inner rest es h =
         rw (
-          attributes-back (length (attributesText xs (s ++ (text ">" ++ inner)))) xs (rowIn (elementsOf all) v .attributes) s (text ">" ++ inner) (attributes-named v) fit
+          attributes-back (length (attributesText xs (s ++ (text ">" ++ inner)))) xs (rowIn (elementsOf all) v .attributes) s (text ">" ++ inner)
+              (attributes-named v) fit
               laid b refl (omega arith),
           row-name (elementsOf all) v,
           h,
@@ -215,7 +219,8 @@ module _ (all : Bool) where
   -- an element and those behind it
   step-back : (d n : ℕ) (g : Gap) (left cs : List Child) (w v u z r : Text) (e : Inside) (es : Elements) → gapFits g ≡ true → aName v ≡ true →
       stops inName u ≡ true → next left v ≡ just cs
-      → element (elementsOf all) d v u ≡ got e z → ((m : ℕ) → length z < m → content (element (elementsOf all) d) m w cs z ≡ got es r) → length (gap g (text "<" ++ (v ++ u))) < n
+      → element (elementsOf all) d v u ≡ got e z → ((m : ℕ) → length z < m → content (element (elementsOf all) d) m w cs z ≡ got es r) →
+      length (gap g (text "<" ++ (v ++ u))) < n
       → content (element (elementsOf all) d) n w left (gap g (text "<" ++ (v ++ u))) ≡ got (node v (e .given) (e .elements) es) r
   unfolding content starts text
   step-back d zero g left cs w v u z r e es f a k h i c l = absurd (omega arith)
@@ -261,7 +266,9 @@ module _ (all : Bool) where
       on-found (next left v)
       (λ cs q.
       let t = next-among left cs v q in
-      let m = both (attributesFit (rowIn (elementsOf all) v .attributes) (givenBy xs) && mayEnd (rowIn (elementsOf all) v .children)) (elementsFit all cs (treeOf y)) (rw q at f) in
+      let m =
+      both (attributesFit (rowIn (elementsOf all) v .attributes) (givenBy xs) && mayEnd (rowIn (elementsOf all) v .children)) (elementsFit all cs (treeOf y))
+      (rw q at f) in
       let i = both (attributesFit (rowIn (elementsOf all) v .attributes) (givenBy xs)) (mayEnd (rowIn (elementsOf all) v .children)) (m .0) in
       let o = both (gapFits g && attributesLaid xs && blank s) (layoutFits y) h in
       let j = both (gapFits g && attributesLaid xs) (blank s) (o .0) in
@@ -279,9 +286,11 @@ module _ (all : Bool) where
       (λ cs q.
       let t = next-among left cs v q in
       let m =
-      both (attributesFit (rowIn (elementsOf all) v .attributes) (givenBy xs) && elementsFit all (rowIn (elementsOf all) v .children) (treeOf i)) (elementsFit all cs (treeOf y))
+      both (attributesFit (rowIn (elementsOf all) v .attributes) (givenBy xs) && elementsFit all (rowIn (elementsOf all) v .children) (treeOf i))
+      (elementsFit all cs (treeOf y))
       (rw q at f) in
-      let z = both (attributesFit (rowIn (elementsOf all) v .attributes) (givenBy xs)) (elementsFit all (rowIn (elementsOf all) v .children) (treeOf i)) (m .0) in
+      let z =
+      both (attributesFit (rowIn (elementsOf all) v .attributes) (givenBy xs)) (elementsFit all (rowIn (elementsOf all) v .children) (treeOf i)) (m .0) in
       let o = both (gapFits g && attributesLaid xs && blank s && layoutFits i && blank c) (layoutFits y) h in
       let o2 = both (gapFits g && attributesLaid xs && blank s && layoutFits i) (blank c) (o .0) in
       let o3 = both (gapFits g && attributesLaid xs && blank s) (layoutFits i) (o2 .0) in

@@ -51,7 +51,8 @@ module-next t w cs e =
     nothing-else often p = none≢just p
     nothing-else least p = none≢just p
 
-next-alike : (cs ds : List Child) → Alike cs ds → (w : Text) (cs′ : List Child) → next cs w ≡ just cs′ → (ds′ : List Child) × (next ds w ≡ just ds′) × Alike cs′ ds′
+next-alike : (cs ds : List Child) → Alike cs ds → (w : Text) (cs′ : List Child) → next cs w ≡ just cs′ →
+    (ds′ : List Child) × (next ds w ≡ just ds′) × Alike cs′ ds′
 next-alike cs ds (alike e) w cs′ n = (cs′, rw (sym e) n, alike refl)
 next-alike cs ds (modular t p q) w cs′ n = rw q (module-next t w cs′ (rw p at n))
 

@@ -129,7 +129,8 @@ content-returns t c =
     let loop = c .before .before .before .before .loop in
     let skip-misc = c .before .before .skip-misc in
     moved (loop .inv .1)
-    (cy.misc-refused (widerBy (args .d)) (now (args .s)) (deepBy (args .d)) (args .id) (loop .l) (loop .i) (skip-misc .result) (skip-misc .ensures) _ (c .enum-told .given .1))
+    (cy.misc-refused (widerBy (args .d)) (now (args .s)) (deepBy (args .d)) (args .id) (loop .l) (loop .i) (skip-misc .result) (skip-misc .ensures) _
+    (c .enum-told .given .1))
 
 content-is-at-requires : (t : ℕ) → content-lts.Need-is-at-requires (
   skip-misc-reads.Asked,
@@ -163,7 +164,8 @@ content-add-is-at t c =
     let loop = c .before .before .before .before .before .before .loop in
     let skip-misc = c .before .before .before .before .skip-misc in
     let m = c .before .before .m in
-    cy.misc-inside (widerBy (args .d)) (now (args .s)) (deepBy (args .d)) (args .id) (loop .l) (loop .i) (skip-misc .result) (skip-misc .ensures) (m .given .0 .0) (m .given .1) in
+    cy.misc-inside (widerBy (args .d)) (now (args .s)) (deepBy (args .d)) (args .id) (loop .l) (loop .i) (skip-misc .result) (skip-misc .ensures)
+    (m .given .0 .0) (m .given .1) in
     search needs
 
 content-is-at-requires-2 : (t : ℕ) → content-lts.Need-is-at-requires-2 (
@@ -198,7 +200,8 @@ content-ending-requires t c κs =
     let skip-misc = c .before .before .before .before .before .before .skip-misc in
     let m = c .before .before .before .before .m in
     let is-at = c .before .before .is-at in
-    cy.end-room (widerBy (args .d)) (now (args .s)) (deepBy (args .d)) (args .id) (loop .l) (loop .i) (skip-misc .result) (skip-misc .ensures) (m .given .0 .0) (m .given .1) (is-at .result)
+    cy.end-room (widerBy (args .d)) (now (args .s)) (deepBy (args .d)) (args .id) (loop .l) (loop .i) (skip-misc .result) (skip-misc .ensures) (m .given .0 .0)
+    (m .given .1) (is-at .result)
     (c .before .is-at2 .result) (is-at .ensures) (c .before .is-at2 .ensures) (c .if1 .taken)
 
 content-returns-2 : (t : ℕ) → content-lts.Need-returns-2 (
@@ -220,7 +223,8 @@ content-returns-2 t c =
     let m = c .before .before .before .before .before .m in
     let is-at = c .before .before .before .is-at in
     let is-at2 = c .before .before .is-at2 in
-    moved (loop .inv .1) (cy.at-end-tag (widerBy (args .d)) (now (args .s)) (deepBy (args .d)) (args .id) (loop .l) (loop .i) (skip-misc .result) (skip-misc .ensures) (m .given .0 .0)
+    moved (loop .inv .1) (cy.at-end-tag (widerBy (args .d)) (now (args .s)) (deepBy (args .d)) (args .id) (loop .l) (loop .i) (skip-misc .result)
+    (skip-misc .ensures) (m .given .0 .0)
     (m .given .1) (is-at .result) (is-at2 .result) (is-at .ensures) (is-at2 .ensures) (c .before .if1 .taken) (c .ending .result) (c .ending .ensures))
 
 content-opening-requires : (t : ℕ) → content-lts.Need-opening-requires (
@@ -240,7 +244,8 @@ content-opening-requires t c κs =
     let loop = c .before .before .before .before .before .before .before .before .loop in
     let skip-misc = c .before .before .before .before .before .before .skip-misc in
     let m = c .before .before .before .before .m in
-    cy.misc-inside (widerBy (args .d)) (now (args .s)) (deepBy (args .d)) (args .id) (loop .l) (loop .i) (skip-misc .result) (skip-misc .ensures) (m .given .0 .0) (m .given .1)
+    cy.misc-inside (widerBy (args .d)) (now (args .s)) (deepBy (args .d)) (args .id) (loop .l) (loop .i) (skip-misc .result) (skip-misc .ensures)
+    (m .given .0 .0) (m .given .1)
 
 content-enum-known-o : (t : ℕ) → content-lts.Need-enum-known-o (
   skip-misc-reads.Asked,
@@ -277,7 +282,8 @@ content-returns-3 t c =
     let is-at2 = c .before .before .before .before .before .is-at2 in
     let if1 = c .before .before .before .before .if1 in
     let opening = c .before .before .before .opening in
-    moved (loop .inv .1) (cy.stopped (widerBy (args .d)) (now (args .s)) (deepBy (args .d)) (args .id) (loop .l) (loop .i) (skip-misc .result) (skip-misc .ensures) (m .given .0 .0)
+    moved (loop .inv .1) (cy.stopped (widerBy (args .d)) (now (args .s)) (deepBy (args .d)) (args .id) (loop .l) (loop .i) (skip-misc .result)
+    (skip-misc .ensures) (m .given .0 .0)
     (m .given .1) (is-at .result) (is-at2 .result) (is-at .ensures) (is-at2 .ensures) (if1 .left) (opening .result) (opening .ensures)
     (c .before .o .given .0 .0) (c .before .o .given .1))
 
@@ -308,6 +314,7 @@ content-sub-element : (t : ℕ) → content-lts.Need-sub-element (
   element.Post,
 ) (content-at t) content.Post content-Inv-loop content-μ-loop
 content-sub-element t c =
+    let if1 = c .before .before .before .before .if1 in
     let a = c .before .before .before .before .before .before .before .before .before .before .before .before .before .before .args in
     let loop = c .before .before .before .before .before .before .before .before .before .before .before .before .loop in
     let misc = c .before .before .before .before .before .before .before .before .before .before .skip-misc in
@@ -317,8 +324,9 @@ content-sub-element t c =
     let o = c .before .before .before .opening in
     let k = c .before .o2 .given in
     let h =
-    cy.falls (widerBy (a .d)) (now (a .s)) (deepBy (a .d)) (a .id) (loop .l) (loop .i) (misc .result) (misc .ensures) (m .0 .0) (m .1) (x .result) (y .result) (x .ensures) (y .ensures)
-    (c .before .before .before .before .if1 .left) (o .result) (o .ensures) (k .0 .0) (k .0 .1 .0) (k .0 .1 .1 .0) (k .1) in
+    cy.falls (widerBy (a .d)) (now (a .s)) (deepBy (a .d)) (a .id) (loop .l) (loop .i) (misc .result) (misc .ensures) (m .0 .0) (m .1) (x .result) (y .result)
+    (x .ensures) (y .ensures)
+    (if1 .left) (o .result) (o .ensures) (k .0 .0) (k .0 .1 .0) (k .0 .1 .1 .0) (k .1) in
     let deep = h .deep in
     omega arith
 
@@ -335,6 +343,7 @@ content-element-requires : (t : ℕ) → content-lts.Need-element-requires (
   element.Post,
 ) (content-at t) content.Post content-Inv-loop content-μ-loop
 content-element-requires t c κs =
+    let if1 = c .before .before .before .before .if1 in
     let a = c .before .before .before .before .before .before .before .before .before .before .before .before .before .before .args in
     let loop = c .before .before .before .before .before .before .before .before .before .before .before .before .loop in
     let misc = c .before .before .before .before .before .before .before .before .before .before .skip-misc in
@@ -344,8 +353,9 @@ content-element-requires t c κs =
     let o = c .before .before .before .opening in
     let k = c .before .o2 .given in
     let h =
-    cy.falls (widerBy (a .d)) (now (a .s)) (deepBy (a .d)) (a .id) (loop .l) (loop .i) (misc .result) (misc .ensures) (m .0 .0) (m .1) (x .result) (y .result) (x .ensures) (y .ensures)
-    (c .before .before .before .before .if1 .left) (o .result) (o .ensures) (k .0 .0) (k .0 .1 .0) (k .0 .1 .1 .0) (k .1) in
+    cy.falls (widerBy (a .d)) (now (a .s)) (deepBy (a .d)) (a .id) (loop .l) (loop .i) (misc .result) (misc .ensures) (m .0 .0) (m .1) (x .result) (y .result)
+    (x .ensures) (y .ensures)
+    (if1 .left) (o .result) (o .ensures) (k .0 .0) (k .0 .1 .0) (k .0 .1 .1 .0) (k .1) in
     let from = loop .inv .0 .0 in
     let deep = h .deep in
     let room = h .room in
@@ -405,7 +415,8 @@ content-returns-4 t c =
     let opening = c .before .before .before .before .before .before .opening in
     let o2 = c .before .before .before .before .o2 in
     let element = c .before .before .element in
-    moved (loop .inv .1) (cy.refused (widerBy (args .d)) (now (args .s)) (deepBy (args .d)) (args .id) (loop .l) (loop .i) (skip-misc .result) (skip-misc .ensures) (m .given .0 .0)
+    moved (loop .inv .1) (cy.refused (widerBy (args .d)) (now (args .s)) (deepBy (args .d)) (args .id) (loop .l) (loop .i) (skip-misc .result)
+    (skip-misc .ensures) (m .given .0 .0)
     (m .given .1) (is-at .result) (is-at2 .result) (is-at .ensures) (is-at2 .ensures) (if1 .left) (opening .result) (opening .ensures) (o2 .given .0 .0)
     (o2 .given .0 .1 .0) (o2 .given .0 .1 .1 .0) (o2 .given .1) (element .result) (args .d) refl refl (element .ensures) _ (c .enum-told2 .given .1))
 
@@ -435,7 +446,8 @@ content-loop-less t c =
     let r = c .before .r .given in
     let h =
     let if1 = c .before .before .before .before .before .before .before .before .if1 in
-    cy.onward (widerBy (a .d)) (now (a .s)) (deepBy (a .d)) (a .id) (loop .l) (loop .i) (misc .result) (misc .ensures) (m .0 .0) (m .1) (x .result) (y .result) (x .ensures) (y .ensures)
+    cy.onward (widerBy (a .d)) (now (a .s)) (deepBy (a .d)) (a .id) (loop .l) (loop .i) (misc .result) (misc .ensures) (m .0 .0) (m .1) (x .result) (y .result)
+    (x .ensures) (y .ensures)
     (if1 .left) (o .result) (o .ensures) (k .0 .0) (k .0 .1 .0) (k .0 .1 .1 .0) (k .1) (e .result) (a .d) refl refl (e .ensures) (r .0 .0) (r .1) in
     let past = h .past in
     let inside = h .inside in
@@ -467,7 +479,8 @@ content-loop-again t c =
     let r = c .before .r .given in
     let h =
     let if1 = c .before .before .before .before .before .before .before .before .if1 in
-    cy.onward (widerBy (a .d)) (now (a .s)) (deepBy (a .d)) (a .id) (loop .l) (loop .i) (misc .result) (misc .ensures) (m .0 .0) (m .1) (x .result) (y .result) (x .ensures) (y .ensures)
+    cy.onward (widerBy (a .d)) (now (a .s)) (deepBy (a .d)) (a .id) (loop .l) (loop .i) (misc .result) (misc .ensures) (m .0 .0) (m .1) (x .result) (y .result)
+    (x .ensures) (y .ensures)
     (if1 .left) (o .result) (o .ensures) (k .0 .0) (k .0 .1 .0) (k .0 .1 .1 .0) (k .1) (e .result) (a .d) refl refl (e .ensures) (r .0 .0) (r .1) in
     let from = loop .inv .0 .0 in
     let past = h .past in
@@ -555,7 +568,8 @@ element-returns t c =
     let pre = c .before .before .before .before .before .pre in
     let first = c .before .before .before .first in
     let is-at = c .before .before .is-at in
-    cy.with-content (widerBy (args .d)) (now (args .s)) (args .at) (deepBy (args .d)) (args .id) (pre .1) (first .result) (first .ensures) (is-at .result) (is-at .ensures)
+    cy.with-content (widerBy (args .d)) (now (args .s)) (args .at) (deepBy (args .d)) (args .id) (pre .1) (first .result) (first .ensures) (is-at .result)
+    (is-at .ensures)
     (c .before .if1 .taken) (c .content .result) (c .content .ensures)
 
 element-add-is-at : (t : ℕ) → element-lts.Need-add-is-at (
@@ -611,7 +625,8 @@ element-returns-2 t c =
     let is-at = c .before .before .before .is-at in
     record {
       read-is =
-          cy.slash-cut (widerBy (args .d)) (now (args .s)) (args .at) (deepBy (args .d)) (args .id) (pre .1) (first .result) (first .ensures) (is-at .result) (is-at .ensures)
+          cy.slash-cut (widerBy (args .d)) (now (args .s)) (args .at) (deepBy (args .d)) (args .id) (pre .1) (first .result) (first .ensures) (is-at .result)
+          (is-at .ensures)
           (c .before .before .if1 .left) (c .before .is-at2 .result) (c .before .is-at2 .ensures) (c .if2 .taken);
       inside = pre .1;
     }
@@ -647,7 +662,8 @@ element-returns-3 t c =
     let is-at2 = c .before .before .before .is-at2 in
     record {
       read-is =
-          cy.slash-early (widerBy (args .d)) (now (args .s)) (args .at) (deepBy (args .d)) (args .id) (pre .1) (first .result) (first .ensures) (is-at .result) (is-at .ensures) (if1 .left)
+          cy.slash-early (widerBy (args .d)) (now (args .s)) (args .at) (deepBy (args .d)) (args .id) (pre .1) (first .result) (first .ensures) (is-at .result)
+          (is-at .ensures) (if1 .left)
           (is-at2 .result) (is-at2 .ensures) (c .before .before .if2 .left) (c .before .may-end .result) (c .before .may-end .ensures) (c .if3 .taken);
       inside = let h = pre .1 in omega arith;
     }
@@ -670,7 +686,8 @@ element-add-t6 t c =
     let is-at = c .before .before .before .before .before .is-at in
     let if1 = c .before .before .before .before .if1 in
     let is-at2 = c .before .before .before .is-at2 in
-    cy.slash-room (widerBy (args .d)) (now (args .s)) (args .at) (deepBy (args .d)) (args .id) (pre .1) (first .result) (first .ensures) (is-at .result) (is-at .ensures) (if1 .left)
+    cy.slash-room (widerBy (args .d)) (now (args .s)) (args .at) (deepBy (args .d)) (args .id) (pre .1) (first .result) (first .ensures) (is-at .result)
+    (is-at .ensures) (if1 .left)
     (is-at2 .result) (is-at2 .ensures) (c .before .before .if2 .left) (c .before .may-end .result) (c .before .may-end .ensures) in
     search needs
 
@@ -694,10 +711,12 @@ element-returns-4 t c =
     let if2 = c .before .before .if2 in
     record {
       read-is =
-          cy.slash-done (widerBy (args .d)) (now (args .s)) (args .at) (deepBy (args .d)) (args .id) (pre .1) (first .result) (first .ensures) (is-at .result) (is-at .ensures) (if1 .left)
+          cy.slash-done (widerBy (args .d)) (now (args .s)) (args .at) (deepBy (args .d)) (args .id) (pre .1) (first .result) (first .ensures) (is-at .result)
+          (is-at .ensures) (if1 .left)
           (is-at2 .result) (is-at2 .ensures) (if2 .left) (c .before .may-end .result) (c .before .may-end .ensures) (c .if3 .left);
       inside =
-          cy.slash-room (widerBy (args .d)) (now (args .s)) (args .at) (deepBy (args .d)) (args .id) (pre .1) (first .result) (first .ensures) (is-at .result) (is-at .ensures) (if1 .left)
+          cy.slash-room (widerBy (args .d)) (now (args .s)) (args .at) (deepBy (args .d)) (args .id) (pre .1) (first .result) (first .ensures) (is-at .result)
+          (is-at .ensures) (if1 .left)
           (is-at2 .result) (is-at2 .ensures) (if2 .left) (c .before .may-end .result) (c .before .may-end .ensures);
     }
 

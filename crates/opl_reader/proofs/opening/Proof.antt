@@ -19,21 +19,24 @@ tagged-requires : tie.Need-tagged-requires
 tagged-requires c κs =
     let args = c .before .before .before .before .before .args in
     let named = c .before .before .before .named in
-    name-inside (now (args .s)) (args .at) (widerBy (args .d)) (deepBy (args .d)) (args .left) (named .result) (named .ensures) (c .before .n2 .given .0 .0) (c .before .n2 .given .0 .1 .0)
+    name-inside (now (args .s)) (args .at) (widerBy (args .d)) (deepBy (args .d)) (args .left) (named .result) (named .ensures) (c .before .n2 .given .0 .0)
+    (c .before .n2 .given .0 .1 .0)
     (c .before .n2 .given .0 .1 .1 .0) (c .before .n2 .given .1)
 
 returns : tie.Need-returns
 returns c =
     let args = c .before .before .before .before .before .args in
     let named = c .before .before .before .named in
-    start-stop (now (args .s)) (args .at) (widerBy (args .d)) (deepBy (args .d)) (args .left) (named .result) (named .ensures) (c .before .n .given .0 .0) (c .before .n .given .1)
+    start-stop (now (args .s)) (args .at) (widerBy (args .d)) (deepBy (args .d)) (args .left) (named .result) (named .ensures) (c .before .n .given .0 .0)
+    (c .before .n .given .1)
 
 returns-2 : tie.Need-returns-2
 returns-2 c =
     let args = c .before .before .before .before .before .before .args in
     let named = c .before .before .before .before .named in
     let n2 = c .before .before .n2 in
-    start-on (now (args .s)) (args .at) (widerBy (args .d)) (deepBy (args .d)) (args .left) (named .result) (named .ensures) (n2 .given .0 .0) (n2 .given .0 .1 .0) (n2 .given .0 .1 .1 .0)
+    start-on (now (args .s)) (args .at) (widerBy (args .d)) (deepBy (args .d)) (args .left) (named .result) (named .ensures) (n2 .given .0 .0)
+    (n2 .given .0 .1 .0) (n2 .given .0 .1 .1 .0)
     (n2 .given .1) (c .tagged .result) (c .tagged .ensures)
 
 pub opening-spec : {M : Type 1} → statement M

@@ -44,7 +44,8 @@ returns-2 c =
     let element = c .before .before .before .before .before .before .element in
     let e = c .before .before .before .before .e in
     let skip-misc = c .before .before .skip-misc in
-    root-misc (now (args .s)) (args .at) (widerBy (args .d)) (deepBy (args .d)) (args .id) (element .result) (element .ensures) (e .given .0 .0) (e .given .1) (skip-misc .result) (skip-misc .ensures)
+    root-misc (now (args .s)) (args .at) (widerBy (args .d)) (deepBy (args .d)) (args .id) (element .result) (element .ensures) (e .given .0 .0) (e .given .1)
+    (skip-misc .result) (skip-misc .ensures)
     _ (c .enum-told2 .given .1)
 
 returns-3 : tie.Need-returns-3
@@ -56,7 +57,8 @@ returns-3 c =
     let m = c .before .before .m in
     record {
       read-is =
-          root-more (now (args .s)) (args .at) (widerBy (args .d)) (deepBy (args .d)) (args .id) (element .result) (element .ensures) (e .given .0 .0) (e .given .1) (skip-misc .result)
+          root-more (now (args .s)) (args .at) (widerBy (args .d)) (deepBy (args .d)) (args .id) (element .result) (element .ensures) (e .given .0 .0)
+          (e .given .1) (skip-misc .result)
           (skip-misc .ensures) (m .given .0 .0) (m .given .1) (c .if1 .taken);
       inside =
           within (now (args .s)) (stepOf (now (args .s))) (misc (length (drop (e .given .0 .0) (now (args .s)))) (drop (e .given .0 .0) (now (args .s))))
@@ -72,7 +74,8 @@ returns-4 c =
     let m = c .before .before .m in
     record {
       read-is =
-          root-done (now (args .s)) (args .at) (widerBy (args .d)) (deepBy (args .d)) (args .id) (element .result) (element .ensures) (e .given .0 .0) (e .given .1) (skip-misc .result)
+          root-done (now (args .s)) (args .at) (widerBy (args .d)) (deepBy (args .d)) (args .id) (element .result) (element .ensures) (e .given .0 .0)
+          (e .given .1) (skip-misc .result)
           (skip-misc .ensures) (m .given .0 .0) (m .given .1) (c .if1 .left);
       inside =
           within (now (args .s)) (stepOf (now (args .s))) (misc (length (drop (e .given .0 .0) (now (args .s)))) (drop (e .given .0 .0) (now (args .s))))

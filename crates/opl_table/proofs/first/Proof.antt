@@ -10,7 +10,9 @@ returns : tie.Need-returns
 returns c = first-modules (c .before .args .id) (c .before .args .all) (c .if1 .taken)
 
 returns-2 : tie.Need-returns-2
-returns-2 c = first-none (c .before .before .args .id) (c .before .before .args .all) (c .before .if1 .left) (c .if2 .taken)
+returns-2 c =
+    let args = c .before .before .args in
+    first-none (args .id) (args .all) (c .before .if1 .left) (c .if2 .taken)
 
 first-state-word-requires : tie.Need-first-state-word-requires
 first-state-word-requires c κs = search needs
@@ -21,8 +23,9 @@ digit-requires c κs = search needs
 returns-3 : tie.Need-returns-3
 unfolding numberAt
 returns-3 c =
+    let if1 = c .before .before .before .if1 in
     let args = c .before .before .before .before .args in
-    first-other (args .id) (args .all) (c .digit .result) (c .before .before .before .if1 .left) (c .before .before .if2 .left)
+    first-other (args .id) (args .all) (c .digit .result) (if1 .left) (c .before .before .if2 .left)
     (c .digit .ensures ∙ rw (c .before .first-state-word .ensures))
 
 pub first-spec : {M : Type 1} → statement M
