@@ -69,7 +69,7 @@ extern "C" {
 #define MISHANTRAL_MOST_PILED 4096
 #define MISHANTRAL_MOST_WRITTEN 108528
 
-/* The three buffers, the answer to a question, and the scratch of mishantral_opl. */
+/* The three buffers, the answer to a question, and the scratch of mishantral_opl and mishantral_opl_all. */
 enum mishantral_group {
     MISHANTRAL_POLICY = 0,   /* users, roles, permissions, tasks, rules */
     MISHANTRAL_SESSIONS = 1, /* subjects and their active roles; the blocks that users are bound to */
@@ -214,6 +214,20 @@ uint64_t mishantral_opl(const uint8_t *policy_text, size_t policy_bytes,
                         uint8_t *output, size_t output_bytes,
                         uint64_t *scratch, size_t scratch_words);
 
+/* The same of a policy text with all sections that the engine can hold. Beside those that mishantral_opl reads:
+ *
+ *     6.2   module_role_hierarchy_policy   an inherit_role is a record of kind 17: upper_role above lower_role
+ *     6.4   module_sep_duty_rh_policy      as 6.3's module: kinds 9 and 10
+ *     6.6   module_chinese_wall_policy     a wall; each cw_partition is a block of it, and a partition_object a record of kind 18
+ *
+ * Walls are numbered in the order of the text, blocks in their order in the wall; a 17th of either is NAMES, empty or not. An object
+ * is declared where it stands in a block, as in a permission. A uocw, which says who has touched what, is no policy and is TEXT:
+ * bindings come by commits. A policy text that mishantral_opl accepts is answered alike. */
+uint64_t mishantral_opl_all(const uint8_t *policy_text, size_t policy_bytes,
+                            const uint8_t *task_lines, size_t task_bytes,
+                            uint8_t *output, size_t output_bytes,
+                            uint64_t *scratch, size_t scratch_words);
+
 /* The lower part alone, for dealers: policy, roles and sessions, without orders. It is a library of its own,
  * libmishantral_lower.a, with these four functions and two buffers, of MISHANTRAL_POLICY_WORDS and
  * MISHANTRAL_SESSIONS_WORDS words. They answer as those above do; kinds 48 to 52, 57, 58 and 60 are no kinds
@@ -336,7 +350,7 @@ static inline unsigned mishantral_rule_kind(unsigned reply)
     }
 }
 
-/* The text and the figure of an answer of mishantral_opl. */
+/* The text and the figure of an answer of mishantral_opl or mishantral_opl_all. */
 static inline unsigned mishantral_opl_text_of(uint64_t answer) { return (unsigned)(answer / 256 % 4); }
 static inline uint64_t mishantral_opl_figure_of(uint64_t answer) { return answer / 1024; }
 

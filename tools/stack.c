@@ -196,6 +196,7 @@ static uint64_t scratch[MISHANTRAL_OPL_WORDS];
 static size_t lines;
 
 static void opl(void) { answer = mishantral_opl(bytes, length, task_lines, lines, output, sizeof output, scratch, MISHANTRAL_OPL_WORDS); }
+static void opl_all(void) { answer = mishantral_opl_all(bytes, length, task_lines, lines, output, sizeof output, scratch, MISHANTRAL_OPL_WORDS); }
 
 static size_t contents(const char *file, unsigned char *to, size_t room) {
     FILE *from = fopen(file, "rb");
@@ -205,20 +206,20 @@ static size_t contents(const char *file, unsigned char *to, size_t room) {
 }
 
 /* The policy whole, cut at each byte, and with each byte struck out. */
-static int reading(const char *policy_file, const char *task_file) {
+static int reading(void (*call)(void), const char *name, const char *policy_file, const char *task_file) {
     size_t whole = contents(policy_file, policy_text, sizeof policy_text), deepest = 0;
     lines = contents(task_file, task_lines, sizeof task_lines);
     bytes = policy_text;
     for (size_t at = 0; at <= whole; at++) {
         unsigned char kept = policy_text[at];
         length = whole - at;
-        deepen(&deepest, opl);
+        deepen(&deepest, call);
         if (at == 0 && mishantral_reply_of(answer) != MISHANTRAL_GRANTED) return printf("the policy is refused: %llu\n", (unsigned long long)answer), 1;
         length = whole, policy_text[at] = '?';
-        deepen(&deepest, opl);
+        deepen(&deepest, call);
         policy_text[at] = kept;
     }
-    return tell(NAME("opl"), deepest), 0;
+    return tell(name, deepest), 0;
 }
 #endif
 
@@ -231,6 +232,7 @@ int main(int count, char **texts) {
     return writing();
 #else
     if (requests_by(settled_request, NAME("settled_request"), 0) || many_at_once() || mending() || writing()) return 1;
-    return count == 3 ? reading(texts[1], texts[2]) : 0;
+    if (count != 3) return 0;
+    return reading(opl, NAME("opl"), texts[1], texts[2]) || reading(opl_all, NAME("opl_all"), texts[1], texts[2]);
 #endif
 }

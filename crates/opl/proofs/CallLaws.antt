@@ -1,7 +1,7 @@
 -- The call's ways: a text that is refused, a scratch of another length, a name that is too long; and one answer.
 use Prim.Native.Nat.{ℕ, zero, suc, _+_, _-_, _≤_, _<_}
 use mathlib.Core.Path.{_≡_, refl, sym, ap, _∙_}
-use mathlib.Core.Bool.{true, false≢true, true≢false}
+use mathlib.Core.Bool.{Bool, true, false, false≢true, true≢false}
 use mathlib.Core.List.{List, [], _∷_}
 use native.Mathlib.Omega.{arith}
 use lib.Dec.{eqb, leb}
@@ -12,10 +12,12 @@ use Rattle.paper_lower.specs.Checks.{GRANTED}
 use Rattle.paper_lower.specs.Records.{Bytes}
 use Rattle.paper_opl.specs.Reading.{Text, Read, starts}
 use Rattle.paper_opl.specs.Reading.Read.{got, bad}
-use Rattle.paper_opl.specs.Tree.{Tag, byteOrderMark, behindMark, prolog, document}
-use Rattle.paper_opl.specs.Naming.{lines, taskLines, recordsOf, written, translate, Answer as Translated}
+use Rattle.paper_opl.specs.Tree.{Tag, Elements, byteOrderMark, behindMark, prolog, documentIn}
+use Rattle.paper_opl.specs.Naming.{lines, taskLines, recordsOf, written, translateIn, Answer as Translated}
 use Rattle.paper_opl.specs.Walk.{recordsIn, tags}
 use Rattle.paper_opl.proofs.Inversion.{on, on-test, on-found, bad≢got}
+use Rattle.paper_opl.proofs.Accepted.{document-end}
+use Rattle.paper_opl.proofs.DocumentLaid.{read-alike}
 use Rattle.paper_opl.proofs.Cardinalities.{value-small}
 use Rattle.paper_opl.proofs.LeftToRight.{walk-gives}
 use Rattle.paper_opl.proofs.ShortNames.{ShortNames, short-names}
@@ -34,7 +36,7 @@ use Rattle.opl_said.proofs.HeldLaws.{AllCardinal, all-cardinal}
 use Rattle.opl_turns.specs.Turning.{SmallTag}
 use Rattle.opl_naming.specs.Naming.{declaredOf, LongName, Names}
 use Rattle.opl.specs.declared.Answer.{Answer}
-use Rattle.opl.specs.Call.{answer, answered, Answers, inOne, Exported, AnswersAsDefined, OneAnswer, RefusalsKeep}
+use Rattle.opl.specs.Call.{answer, answered, Answers, inOne, Exported, AnswersAsDefined, OneAnswer, CallsAlike, RefusalsKeep}
 use Rattle.opl.specs.Steps.{refusal, badText, Accepts, recordsAnswer, acceptedAnswer, Gives, Ready}
 use Rattle.opl.proofs.JoinLaws.{unnamed}
 
@@ -51,27 +53,37 @@ bad-rest : {x y : Text} → _≡_ {A = Read (Unit {0})} (bad x) (bad y) → x �
 unfolding restOf
 bad-rest p = ap restOf p
 
+-- what Ask 4's call accepts, the wider one accepts too, and as the same elements
+alike : (s : Text) (es : Elements) (z : Text) → documentIn false s ≡ got es z → documentIn true s ≡ got es z
+alike s es z e =
+    let r = document-end false s es z e in
+    rw r (read-alike s es (rw r at e))
+
+wider : (all : Bool) (s : Text) → accepted (documentIn all s) ≡ true → accepted (documentIn true s) ≡ true
+wider true s e = e
+wider false s e = reads-on (documentIn false s) e (λ es z x. rw (alike s es z x))
+
 -- ---- The policy text is refused, or accepted.
 place-is : (s : Text) (i : ℕ) → i ≤ length s → suc (length s - length (drop i s)) ≡ i + 1
 place-is s i h = omega (arith, length-drop i s)
 
-module _ (s t : Text) (words : ℕ) (out : Bytes) (d : Step) (reads : Reads s (stepOf s) (forget (document s)) d) where
+module _ (all : Bool) (s t : Text) (words : ℕ) (out : Bytes) (d : Step) (reads : Reads s (stepOf s) (forget (documentIn all s)) d) where
   pub bad-inside : (i : ℕ) → d ≡ Bad i → i ≤ length s
   bad-inside i e = rw e at (reads .inside)
 
-  pub bad-policy : (i : ℕ) → d ≡ Bad i → Answers s t words out out (badText i 1)
+  pub bad-policy : (i : ℕ) → d ≡ Bad i → Answers all s t words out out (badText i 1)
   unfolding answer
   bad-policy i e =
-      on (document s)
+      on (documentIn all s)
       (λ es z q. absurd (bad≢got ((rw e at (reads .read-is)) ∙ ap forget q)))
       (λ z q.
       let w : _≡_ {A = Read (Unit {0})} (bad (drop i s)) (bad z) = (rw e at (reads .read-is)) ∙ ap forget q in
       record { answer-is = rw (q, ← bad-rest w, place-is s i (bad-inside i e)); room = refl })
 
   module _ (j : ℕ) (e : d ≡ Next j) where
-    pub policy-good : accepted (document s) ≡ true
+    pub policy-good : accepted (documentIn all s) ≡ true
     policy-good =
-        on (document s) (λ es z q. rw q) (λ z q. absurd (bad≢got (sym (ap forget q) ∙ sym (rw e at (reads .read-is)))))
+        on (documentIn all s) (λ es z q. rw q) (λ z q. absurd (bad≢got (sym (ap forget q) ∙ sym (rw e at (reads .read-is)))))
 
     module _ (u : Text) (behind : u ≡ behindMark t) (l : Step) (reads₂ : Reads u (stepOf u) (forgetLines (lines (length u) u)) l) where
       no-longer : length u ≤ length t
@@ -81,10 +93,10 @@ module _ (s t : Text) (words : ℕ) (out : Bytes) (d : Step) (reads : Reads s (s
       pub line-inside : (i : ℕ) → l ≡ Bad i → (length u ≤ length t) × (length t - length u + i ≤ length t)
       line-inside i q = let h : i ≤ length u = rw q at (reads₂ .inside) in (no-longer, omega (arith, no-longer))
 
-      pub bad-lines : (i : ℕ) → l ≡ Bad i → Answers s t words out out (badText (length t - length u + i) 2)
+      pub bad-lines : (i : ℕ) → l ≡ Bad i → Answers all s t words out out (badText (length t - length u + i) 2)
       unfolding answer taskLines
       bad-lines i q =
-          reads-on (document s) policy-good (λ es z x. on (lines (length u) u)
+          reads-on (documentIn all s) policy-good (λ es z x. on (lines (length u) u)
           (λ ls y v. absurd (bad≢got ((rw q at (reads₂ .read-is)) ∙ ap forgetLines v)))
           (λ y v.
           let w : _≡_ {A = Read (Unit {0})} (bad (drop i u)) (bad y) = (rw q at (reads₂ .read-is)) ∙ ap forgetLines v in
@@ -95,16 +107,17 @@ module _ (s t : Text) (words : ℕ) (out : Bytes) (d : Step) (reads : Reads s (s
       pub both-accepted : (i : ℕ) → l ≡ Next i → Accepts s u
       both-accepted i q =
           record {
-            policy = policy-good;
+            policy = wider all s policy-good;
             task-lines = on (lines (length u) u) (λ ls z v. rw v) (λ z v. absurd (bad≢got (sym (ap forgetLines v) ∙ sym (rw q at (reads₂ .read-is)))));
           }
 
-module _ (s t u : Text) (behind : u ≡ behindMark t) (words : ℕ) (out : Bytes) (a : Accepts s u) where
-  by-walk : answer words s t out ≡ acceptedAnswer words s u out
+module _ (all : Bool) (s t u : Text) (behind : u ≡ behindMark t) (words : ℕ) (out : Bytes) (good : accepted (documentIn all s) ≡ true) (a : Accepts s u) where
+  by-walk : answer all words s t out ≡ acceptedAnswer words s u out
   unfolding answer acceptedAnswer recordsAnswer linesIn taskLines
-  by-walk = reads-on (document s) (a .policy) (λ es z x. reads-on (lines (length u) u) (a .task-lines) (λ ls y v. rw (x, ← behind, v, walk-gives s es z ls x)))
+  by-walk =
+      reads-on (documentIn all s) good (λ es z x. reads-on (lines (length u) u) (a .task-lines) (λ ls y v. rw (x, ← behind, v, walk-gives all s es z ls x)))
 
-  pub accepted-is : (out′ : Bytes) (r : Answer) → Gives (acceptedAnswer words s u out) out out′ r → Answers s t words out out′ r
+  pub accepted-is : (out′ : Bytes) (r : Answer) → Gives (acceptedAnswer words s u out) out out′ r → Answers all s t words out out′ r
   accepted-is out′ r g = record { answer-is = g .answer-is ∙ sym by-walk; room = g .room }
 
 -- ---- Two accepted texts.
@@ -120,7 +133,7 @@ module _ (s t : Text) (words : ℕ) (out : Bytes) where
 
 module _ (s t : Text) (a : Accepts s t) (p : Step) (reads : Reads s (stepOf s) (prolog s) p) where
   pub never-begun : (i : ℕ) → p ≡ Bad i → {R : Type 0} → R
-  unfolding document
+  unfolding documentIn
   never-begun i e = let z : bad (drop i s) ≡ prolog s = rw e at (reads .read-is) in absurd (false≢true (rw (← z) at (a .policy)))
 
   module _ (from : ℕ) (e : p ≡ Next from) where
@@ -128,7 +141,7 @@ module _ (s t : Text) (a : Accepts s t) (p : Step) (reads : Reads s (stepOf s) (
     begins-inside = rw e at (reads .inside)
 
     pub begins-there : tags s ≡ walkAt s from
-    begins-there = reads-on (document s) (a .policy) (λ es z u. tags-met s es z (drop from s) u (sym (rw e at (reads .read-is))))
+    begins-there = reads-on (documentIn true s) (a .policy) (λ es z u. tags-met true s es z (drop from s) u (sym (rw e at (reads .read-is))))
 
     smalls : (ts : List Tag) → AllCardinal ts → Every SmallTag ts
     smalls [] h = tt
@@ -141,7 +154,7 @@ module _ (s t : Text) (a : Accepts s t) (p : Step) (reads : Reads s (stepOf s) (
           leads = h .1;
           inside = begins-inside;
           tags-are = begins-there;
-          small = reads-on (document s) (a .policy) (λ es z u. rw begins-there at (smalls (tags s) (all-cardinal s es z u)));
+          small = reads-on (documentIn true s) (a .policy) (λ es z u. rw begins-there at (smalls (tags s) (all-cardinal true s es z u)));
           task-lines = a .task-lines;
         }
 
@@ -159,14 +172,14 @@ all-short s t (suc (suc (suc (suc (suc (suc (suc i))))))) h n = absurd (omega ar
 pub too-long : (s t : Text) (out : Bytes) → Accepts s t → LongName s t → Gives (recordsAnswer s t out) out out (refusal 22)
 too-long s t out a n =
     unnamed s t out (on-found (recordsIn (tags s) (linesIn t))
-    (λ rs q. reads-on (document s) (a .policy)
-    (λ es z u. absurd (true≢false (sym (all-short s t (n .space) (n .of-seven) (short-names s es z (linesIn t) rs u q)) ∙ n .long))))
+    (λ rs q. reads-on (documentIn true s) (a .policy)
+    (λ es z u. absurd (true≢false (sym (all-short s t (n .space) (n .of-seven) (short-names true s es z (linesIn t) rs u q)) ∙ n .long))))
     (λ q. q))
 
 -- ---- The statements.
 pub answers-as-defined : AnswersAsDefined
-unfolding answer translate
-answers-as-defined s t out = refl
+unfolding answer translateIn
+answers-as-defined all s t out = refl
 
 fields-are : (r₁ r₂ : Answer) (out₁ out₂ : Bytes) → answered r₁ out₁ ≡ answered r₂ out₂ → (r₁ ≡ r₂) × (out₁ ≡ out₂)
 fields-are r₁ r₂ out₁ out₂ e =
@@ -174,12 +187,12 @@ fields-are r₁ r₂ out₁ out₂ e =
 
 -- no second answer fits
 pub one-answer : OneAnswer
-one-answer s t words out out₁ out₂ r₁ r₂ a b = fields-are r₁ r₂ out₁ out₂ (a .answer-is ∙ sym (b .answer-is))
+one-answer all s t words out out₁ out₂ r₁ r₂ a b = fields-are r₁ r₂ out₁ out₂ (a .answer-is ∙ sym (b .answer-is))
 
-refusal-keeps : (words : ℕ) (s t : Text) (out : Bytes) → (answer words s t out .reply ≡ GRANTED → ⊥) → answer words s t out .output ≡ out
+refusal-keeps : (all : Bool) (words : ℕ) (s t : Text) (out : Bytes) → (answer all words s t out .reply ≡ GRANTED → ⊥) → answer all words s t out .output ≡ out
 unfolding answer
-refusal-keeps words s t out n =
-    on (document s)
+refusal-keeps all words s t out n =
+    on (documentIn all s)
     (λ es z u. on (taskLines t)
     (λ ls y v. on-test (eqb words scratchWords)
     (λ q. on-found (recordsOf es ls)
@@ -190,15 +203,19 @@ refusal-keeps words s t out n =
     (λ z u. rw u)
 
 pub refusals-keep : RefusalsKeep
-refusals-keep s t words out out′ r a n =
+refusals-keep all s t words out out′ r a n =
     ap (λ (x : Translated). x .output) (a .answer-is)
-    ∙ refusal-keeps words s t out (λ e. n (ap (λ (x : Translated). x .reply) (a .answer-is) ∙ e))
+    ∙ refusal-keeps all words s t out (λ e. n (ap (λ (x : Translated). x .reply) (a .answer-is) ∙ e))
+
+pub calls-alike : CallsAlike
+unfolding answer
+calls-alike words s t out e = reads-on (documentIn false s) e (λ es z x. rw (x, alike s es z x))
 
 -- ---- As one number.
-small-answer : (words : ℕ) (s t : Text) (out : Bytes) → (answer words s t out .reply < 256) × (answer words s t out .which < 4)
+small-answer : (all : Bool) (words : ℕ) (s t : Text) (out : Bytes) → (answer all words s t out .reply < 256) × (answer all words s t out .which < 4)
 unfolding answer
-small-answer words s t out =
-    on (document s)
+small-answer all words s t out =
+    on (documentIn all s)
     (λ es z u. on (taskLines t)
     (λ ls y v. on-test (eqb words scratchWords)
     (λ q. on-found (recordsOf es ls)
@@ -209,12 +226,12 @@ small-answer words s t out =
     (λ y v. rw (u, v) (omega arith, omega arith)))
     (λ z u. rw u (omega arith, omega arith))
 
-pub small-reply : (s t : Text) (words : ℕ) (out out′ : Bytes) (r : Answer) → Answers s t words out out′ r → (r .reply < 256) × (r .which < 4)
-small-reply s t words out out′ r a =
-    let b = small-answer words s t out in
+pub small-reply : (all : Bool) (s t : Text) (words : ℕ) (out out′ : Bytes) (r : Answer) → Answers all s t words out out′ r → (r .reply < 256) × (r .which < 4)
+small-reply all s t words out out′ r a =
+    let b = small-answer all words s t out in
     let e = ap (λ (x : Translated). x .reply) (a .answer-is) in
     let f = ap (λ (x : Translated). x .which) (a .answer-is) in
     (omega (arith, b .0, e), omega (arith, b .1, f))
 
-pub exported : (s t : Text) (words : ℕ) (out out′ : Bytes) (r : Answer) → Answers s t words out out′ r → Exported s t words out out′ (inOne (answered r out′))
-exported s t words out out′ r a = record { number-is = ap inOne (a .answer-is); output-is = ap (λ (x : Translated). x .output) (a .answer-is) }
+pub exported : (all : Bool) (s t : Text) (words : ℕ) (out out′ : Bytes) (r : Answer) → Answers all s t words out out′ r → Exported all s t words out out′ (inOne (answered r out′))
+exported all s t words out out′ r a = record { number-is = ap inOne (a .answer-is); output-is = ap (λ (x : Translated). x .output) (a .answer-is) }

@@ -47,22 +47,22 @@ module _ (ns : Names) (xs : List Saying) (ls : List Line) where
       let m = many-append (each (recordSaid ns) (keep (λ x. eqb (x .kind) k) xs)) (rising ns (suc k) n xs) in
       rw (← z) (omega (arith, r, s, c, e, m))
 
-  all-many : many (rising ns 1 5 xs ++ each (taskRecord ns) ls ++ rising ns 7 10 xs) ≡ startOf xs ls 17
+  all-many : many (rising ns 1 5 xs ++ each (taskRecord ns) ls ++ rising ns 7 12 xs) ≡ startOf xs ls 19
   all-many =
       let f = start-first xs ls in
       let a = rising-many 5 1 (omega arith) (λ j p q e. omega arith) in
-      let b = rising-many 10 7 (omega arith) (λ j p q e. omega arith) in
+      let b = rising-many 12 7 (omega arith) (λ j p q e. omega arith) in
       let s = start-step xs ls 6 (omega arith) in
-      let m = many-append (rising ns 1 5 xs ++ each (taskRecord ns) ls) (rising ns 7 10 xs) in
+      let m = many-append (rising ns 1 5 xs ++ each (taskRecord ns) ls) (rising ns 7 12 xs) in
       let n = many-append (rising ns 1 5 xs) (each (taskRecord ns) ls) in
       let t = many-each (taskRecord ns) ls in
       omega (arith, f, a, b, s, m, n, t)
 
 -- the records of an answer
 pub counted : (ts : List Tag) (ls : List Line) (rs : List Record) → recordsIn ts ls ≡ just rs
-    → (many rs ≡ startOf (sayings start ts) ls 17) × (length (written rs) ≡ 16 * startOf (sayings start ts) ls 17)
+    → (many rs ≡ startOf (sayings start ts) ls 19) × (length (written rs) ≡ 16 * startOf (sayings start ts) ls 19)
 counted ts ls rs e =
-    let m : many rs ≡ startOf (sayings start ts) ls 17
+    let m : many rs ≡ startOf (sayings start ts) ls 19
     = sym (many-each just rs) ∙ ap (λ (x : List (Maybe Record)). many x) (sym (ordered ts ls rs e)) ∙ all-many (namesIn ts ls) (sayings start ts) ls in
     (m, written-sixteen rs ∙ ap (λ (k : ℕ). 16 * k) m)
 
@@ -89,7 +89,7 @@ module _ (ts : List Tag) (ls : List Line) (f₀ f : ℕ → ℕ) (zeros : (k : �
     begins-are (suc (suc k)) = let a = begins-are (suc k) in let b = counts-are (suc k) in rw (a, b)
 
     -- behind its records, each kind ends where the next begins
-    pub tally-ends : (h : ℕ → ℕ) → ((k : ℕ) → 1 ≤ k → k < 17 → h k ≡ begins g k) → (k : ℕ) → 1 ≤ k → k < 17 → tally start h ts k ≤ startOf xs ls (suc k)
+    pub tally-ends : (h : ℕ → ℕ) → ((k : ℕ) → 1 ≤ k → k < 19 → h k ≡ begins g k) → (k : ℕ) → 1 ≤ k → k < 19 → tally start h ts k ≤ startOf xs ls (suc k)
     tally-ends h begun k a b =
         let u = tally-is ts start h k in
         let v = begun k a b in
@@ -113,9 +113,9 @@ low-turn c t h = rw (ap (λ (d : Context). d .sets) (turn-is c t)) (low (element
     low id = on-test (eqb id 20) (λ q. rw q (omega arith)) (λ q. on-test (eqb id 21) (λ p. rw (q, p) (omega arith)) (λ p. rw (q, p) h))
 
 abbrev Agree : (ℕ → ℕ) → (ℕ → ℕ) → Type 0
-Agree f g = (k : ℕ) → 1 ≤ k → k < 17 → f k ≡ g k
+Agree f g = (k : ℕ) → 1 ≤ k → k < 19 → f k ≡ g k
 
-agree-upd : (f g : ℕ → ℕ) (k : ℕ) → 1 ≤ k → k < 17 → Agree f g → Agree (upd f k (suc (f k))) (upd g k (suc (g k)))
+agree-upd : (f g : ℕ → ℕ) (k : ℕ) → 1 ≤ k → k < 19 → Agree f g → Agree (upd f k (suc (f k))) (upd g k (suc (g k)))
 agree-upd f g k a b h i p q =
     on-test (eqb i k)
     (λ u. let e = eqb-true i k u in rw (upd-same f k i (suc (f k)) e, upd-same g k i (suc (g k)) e, h k a b))
@@ -128,7 +128,7 @@ fill-agree ns (t ∷ ts) c low f g h out =
     on-test (eqb (kindAt c t) 0) (λ q. rw q (fill-agree ns ts (turn c t) (low-turn c t low) f g h out))
     (λ q.
     let z = eqb-false (kindAt c t) 0 q in
-    let s : kindAt c t < 17 = rw (kind-is c t) (kind-small (c .sets) (t .name) low) in
+    let s : kindAt c t < 19 = rw (kind-is c t) (kind-small (c .sets) (t .name) low) in
     let o : 1 ≤ kindAt c t = omega (arith, z) in
     rw q (ap (λ (p : ℕ). fill ns (turn c t) (upd f (kindAt c t) (suc (f (kindAt c t)))) ts (putAt out p (valued (recordSaid ns (saying c t (leading ts))))))
     (h (kindAt c t) o s)

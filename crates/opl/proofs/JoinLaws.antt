@@ -4,18 +4,18 @@ use mathlib.Core.Path.{_≡_, refl, sym, ap, _∙_}
 use mathlib.Core.Bool.{Bool, true, false, _&&_, false≢true, true≢false}
 use mathlib.Core.List.{List, _++_}
 use native.Mathlib.Omega.{arith}
-use lib.Dec.{eqb, leb}
+use lib.Dec.{eqb}
 use lib.ListN.{length, set, drop, replicate, length-set}
 use lib.Seq.{getD-set-same, getD-set-other}
 use borrow.Author.Tests.{eqb-true, eqb-false, le-leb, lt-leb}
-use Rattle.paper_lower.specs.Lists.{Maybe, upd, holds, there, many, keep}
+use Rattle.paper_lower.specs.Lists.{Maybe, upd, holds, there, many}
 use Rattle.paper_lower.specs.Lists.Maybe.{none, just}
 use Rattle.paper_lower.specs.Records.{Bytes, Record}
-use Rattle.paper_lower.proofs.ListLaws.{upd-same, upd-other}
+use Rattle.paper_lower.proofs.ListLaws.{both, upd-same, upd-other}
 use Rattle.paper_opl.specs.Reading.{Text}
 use Rattle.paper_opl.specs.Tree.{Tag}
 use Rattle.paper_opl.specs.Naming.{written}
-use Rattle.paper_opl.specs.Walk.{called, start, sayings, recordsIn, tags}
+use Rattle.paper_opl.specs.Walk.{start, fewFrom, sayings, recordsIn, tags}
 use Rattle.paper_opl.specs.Filling.{fill, fillLines, startOf, tally}
 use Rattle.paper_opl.proofs.Inversion.{on-test}
 use Rattle.paper_opl.proofs.Judging.{judged}
@@ -46,18 +46,15 @@ and-all true true false e q = sym e
 and-all true false c e q = absurd (false≢true q)
 and-all false b c e q = absurd (true≢false e)
 
-and-last : (a c : Bool) → true ≡ a && c → c ≡ true
-and-last true c e = sym e
-and-last false c e = absurd (true≢false e)
-
 -- an array of zeros
 pub zeros-at : (n k : ℕ) → of (replicate n 0) k ≡ 0
 zeros-at zero k = refl
 zeros-at (suc n) zero = refl
 zeros-at (suc n) (suc k) = zeros-at n k
 
-pub tags-there : (s t : Text) (ts : List Tag) (l₀ l₁ : List ℕ) → ChecksAll (allNames s t) ts l₀ l₁ true → allThere (allNames s t) start ts ≡ true
-tags-there s t ts l₀ l₁ c = and-last (leb (many (keep (called "hdsodtp_partitioning") ts)) 16) (allThere (allNames s t) start ts) (c .verdict)
+pub tags-there : (s t : Text) (ts : List Tag) (l₀ l₁ : List ℕ) → ChecksAll (allNames s t) ts l₀ l₁ true →
+    (fewFrom start ts ≡ true) × (allThere (allNames s t) start ts ≡ true)
+tags-there s t ts l₀ l₁ c = both (fewFrom start ts) (allThere (allNames s t) start ts) (sym (c .verdict))
 
 absent : (x : Maybe (List Record)) → there x ≡ false → x ≡ none
 unfolding holds
@@ -71,7 +68,7 @@ present (just rs) e f = f rs refl
 
 -- the three that NAMES asks for
 abbrev few : Text → Bool
-few s = leb (many (keep (called "hdsodtp_partitioning") (tags s))) 16
+few s = fewFrom start (tags s)
 
 abbrev lined : Text → Text → Bool
 lined s t = linesThere (allNames s t) (linesIn t)
@@ -93,7 +90,7 @@ module _ (s t : Text) (out : Bytes) where
         unnamed
         (absent (recordsIn (tags s) (linesIn t)) (judged (tags s) (linesIn t) ∙ and-neither (few s) (lined s t) (tagged s t) (rw (← tags-are) at (c .verdict))))
 
-    module _ (lines-there : linesThere (allNames s t) (linesIn t) ≡ true) (room₀ : length l₀ ≡ 17) (zeros : (k : ℕ) → of l₀ k ≡ 0)
+    module _ (lines-there : linesThere (allNames s t) (linesIn t) ≡ true) (room₀ : length l₀ ≡ 19) (zeros : (k : ℕ) → of l₀ k ≡ 0)
         (checks : ChecksAll (allNames s t) (walkAt s from) l₀ l₁ true) (n : ℕ) (many-lines : many (linesIn t) ≡ n) where
       all-there : there (recordsIn (tags s) (linesIn t)) ≡ true
       all-there = judged (tags s) (linesIn t) ∙ and-all (few s) (lined s t) (tagged s t) (rw (← tags-are) at (checks .verdict)) lines-there
@@ -101,10 +98,10 @@ module _ (s t : Text) (out : Bytes) where
       abbrev l₂ : List ℕ
       l₂ = set l₁ 6 n
 
-      room₁ : length l₁ ≡ 17
+      room₁ : length l₁ ≡ 19
       room₁ = checks .room refl ∙ room₀
 
-      pub room₂ : length l₂ ≡ 17
+      pub room₂ : length l₂ ≡ 19
       room₂ = length-set l₁ 6 n ∙ room₁
 
       tallied : of l₁ ≡ tally start (of l₀) (tags s)
@@ -126,24 +123,24 @@ module _ (s t : Text) (out : Bytes) where
       unfolding starts
       begins-at k = begins-are (tags s) (linesIn t) (of l₀) (of l₁) zeros tallied (of l₂) with-lines k
 
-      pub no-room : length out / 16 < begins (of l₂) 17 → Gives (recordsAnswer s t out) out out (refusal 1)
+      pub no-room : length out / 16 < begins (of l₂) 19 → Gives (recordsAnswer s t out) out out (refusal 1)
       unfolding recordsAnswer starts
       no-room h =
           present (recordsIn (tags s) (linesIn t)) all-there (λ rs e.
           let c = counted (tags s) (linesIn t) rs e in
-          let b = begins-at 17 in
+          let b = begins-at 19 in
           let d : length out < length (written rs) = omega (arith, c .1, b) in
           record { answer-is = rw (e, lt-leb (length (written rs)) (length out) d); room = refl })
 
       module _ (l₃ : List ℕ) (total : ℕ) (begun : Begun l₂ l₃ (length out / 16) total) where
-        total-is : total ≡ starts 17
-        total-is = begun .total ∙ begins-at 17
+        total-is : total ≡ starts 19
+        total-is = begun .total ∙ begins-at 19
 
-        fits : 16 * starts 17 ≤ length out
+        fits : 16 * starts 19 ≤ length out
         fits = omega (arith, begun .fits, total-is)
 
-        upto : (k : ℕ) → k ≤ 17 → starts k ≤ starts 17
-        upto k h = let m = begins-upto (of l₂) k 17 h in let a = begins-at k in let b = begins-at 17 in omega (arith, m, a, b)
+        upto : (k : ℕ) → k ≤ 19 → starts k ≤ starts 19
+        upto k h = let m = begins-upto (of l₂) k 19 h in let a = begins-at k in let b = begins-at 19 in omega (arith, m, a, b)
 
         pub lines-fit : LinesFit t 0 (of l₃ 6) out
         unfolding linesIn starts
@@ -167,7 +164,7 @@ module _ (s t : Text) (out : Bytes) where
               ap (λ (ts : List Tag). tally start (of l₃) ts k) (sym tags-are) in
               omega (arith, u, v, f, z, kept)
 
-          agrees : (k : ℕ) → 1 ≤ k → k < 17 → of l₃ k ≡ starts k
+          agrees : (k : ℕ) → 1 ≤ k → k < 19 → of l₃ k ≡ starts k
           agrees k a b = begun .each-begins k a b ∙ begins-at k
 
           pub all-written : (out₂ : Bytes) → length out₂ ≡ length out₁ → out₂ ≡ fill (allNames s t) start (of l₃) (walkAt s from) out₁

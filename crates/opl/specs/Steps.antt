@@ -9,7 +9,7 @@ use Rattle.paper_lower.specs.Lists.{Every}
 use Rattle.paper_lower.specs.Checks.{ROOM}
 use Rattle.paper_lower.specs.Records.{Bytes}
 use Rattle.paper_opl.specs.Reading.{Text}
-use Rattle.paper_opl.specs.Tree.{if-found, document}
+use Rattle.paper_opl.specs.Tree.{if-found, documentIn}
 use Rattle.paper_opl.specs.Naming.{lines, TEXT, NAMES, Answer as Translated, refused, writes}
 use Rattle.paper_opl.specs.Walk.{tags, recordsIn}
 use Rattle.opl_lines.specs.Lines.{linesIn}
@@ -28,10 +28,10 @@ refusal reply = record { reply = reply; place = 0; which = 0; count = 0 }
 abbrev pub badText : ℕ → ℕ → Answer
 badText at which = record { reply = TEXT; place = at + 1; which = which; count = 0 }
 
--- ---- Two accepted texts.
+-- ---- Two accepted texts: what Ask 4's call accepts, the wider one does too.
 
 pub record Accepts (s t : Text) : Type 0 where
-  pub policy : accepted (document s) ≡ true
+  pub policy : accepted (documentIn true s) ≡ true
   pub task-lines : accepted (lines (length t) t) ≡ true
 
 -- by the walk over the tags

@@ -1,5 +1,6 @@
-// Dealers' OPL/XML and their task lines, translated to records: the call, for Rattle and for C. Any texts and any buffers have their answer.
+// Dealers' OPL/XML and their task lines, translated to records: the two calls, for Rattle and for C. Any texts and any buffers have their answer.
 ghost use mathlib.Core.Path.{_≡_};
+ghost use mathlib.Core.Bool.{true, false};
 ghost use Prim.Native.Nat.{_<_};
 ghost use lib.ListN.{length};
 ghost use Rattle.paper_opl.specs.Tree.{behindMark};
@@ -72,7 +73,7 @@ fn records(s: &[u8], t: &[u8], out: &mut [u8], w: &mut [u64], from: usize) -> An
     let Counted::Lines(n) = l else {
         return refused(NAMES);
     };
-    let mut counts = [0; 17];
+    let mut counts = [0; 19];
     let k = check_tags(s, t, w, &mut counts, from);
     let Judged::Records(j) = k else {
         return refused(NAMES);
@@ -119,11 +120,11 @@ fn unmarked(t: &[u8]) -> &[u8]
     &t[from..]
 }
 
-// Any texts, any output and any scratch. The scratch may hold anything, and holds anything afterwards.
-pub fn translate(s: &[u8], t: &[u8], out: &mut [u8], w: &mut [u64]) -> Answer
-    ensures { λ r. ⌜ Answers (now (s .entry)) (now (t .entry)) (length (now (w .entry))) (now (out .entry)) (now (out .exit)) r ⌝ }
+// Any texts, any output and any scratch, by Ask 4's sections or by all that the engine can hold. The scratch may hold anything, and holds anything afterwards.
+pub fn translate(s: &[u8], t: &[u8], out: &mut [u8], w: &mut [u64], all: bool) -> Answer
+    ensures { λ r. ⌜ Answers all (now (s .entry)) (now (t .entry)) (length (now (w .entry))) (now (out .entry)) (now (out .exit)) r ⌝ }
 {
-    let d = document(s);
+    let d = document(s, all);
     match d {
         Step::Bad(i) => bad_text(i, 1),
         Step::Next(_) => {
@@ -148,6 +149,14 @@ fn shown(reply: u64, place: u64, count: u64) -> u64
     count
 }
 
+fn call(s: &[u8], t: &[u8], out: &mut [u8], w: &mut [u64], all: bool) -> u64
+    ensures { λ n. ⌜ Exported all (now (s .entry)) (now (t .entry)) (length (now (w .entry))) (now (out .entry)) (now (out .exit)) n ⌝ }
+{
+    let a = translate(s, t, out, w, all);
+    let n = shown(a.reply, a.place, a.count);
+    a.reply + 256 * (a.which + 4 * (n % 18014398509481984))
+}
+
 #[no_mangle]
 pub extern "C" fn mishantral_opl(
     policy: &[u8],
@@ -155,9 +164,19 @@ pub extern "C" fn mishantral_opl(
     output: &mut [u8],
     scratch: &mut [u64],
 ) -> u64
-    ensures { λ n. ⌜ Exported (now (policy .entry)) (now (lines .entry)) (length (now (scratch .entry))) (now (output .entry)) (now (output .exit)) n ⌝ }
+    ensures { λ n. ⌜ Exported false (now (policy .entry)) (now (lines .entry)) (length (now (scratch .entry))) (now (output .entry)) (now (output .exit)) n ⌝ }
 {
-    let a = translate(policy, lines, output, scratch);
-    let n = shown(a.reply, a.place, a.count);
-    a.reply + 256 * (a.which + 4 * (n % 18014398509481984))
+    call(policy, lines, output, scratch, false)
+}
+
+#[no_mangle]
+pub extern "C" fn mishantral_opl_all(
+    policy: &[u8],
+    lines: &[u8],
+    output: &mut [u8],
+    scratch: &mut [u64],
+) -> u64
+    ensures { λ n. ⌜ Exported true (now (policy .entry)) (now (lines .entry)) (length (now (scratch .entry))) (now (output .entry)) (now (output .exit)) n ⌝ }
+{
+    call(policy, lines, output, scratch, true)
 }

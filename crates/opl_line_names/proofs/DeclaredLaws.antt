@@ -1,5 +1,5 @@
 -- Laws of the names that tags declare, tag by tag.
-use Prim.Native.Nat.{ℕ, _+_, _-_, _≤_, _<_}
+use Prim.Native.Nat.{ℕ, _-_, _≤_, _<_}
 use mathlib.Core.Path.{_≡_, refl, sym, ap, _∙_}
 use mathlib.Core.Bool.{Bool, true, false, not}
 use mathlib.Core.List.{List, [], _∷_}
@@ -8,7 +8,7 @@ use lib.ListN.{length, take, drop, length-drop, drop-of-length-le}
 use lib.Seq.{length-take-le}
 use borrow.Author.Tests.{not-true, not-false, le-leb, lt-leb}
 use Rattle.paper_lower.specs.Lists.{every, keep, each}
-use Rattle.paper_opl.specs.Reading.{Text, Read, same}
+use Rattle.paper_opl.specs.Reading.{Text, Read}
 use Rattle.paper_opl.specs.Reading.Read.{got, bad}
 use Rattle.paper_opl.specs.Tree.{Tag as Tagged}
 use Rattle.paper_opl.specs.Naming.{valueOf}
@@ -24,7 +24,7 @@ use Rattle.opl_tags.specs.declared.Part.{Part}
 use Rattle.opl_tags.proofs.AttributeLaws.{placed}
 use Rattle.opl_tags.proofs.Walked.{step, stop, next-below}
 use Rattle.opl_spaces.specs.Spaces.{limitOf, tableOf, Apart, DeclaresIn}
-use Rattle.opl_line_names.specs.Names.{attributeOf, declaredAt, short, tagNames, keptName, filled, Onward, Walks, Walking, DeclaresAll}
+use Rattle.opl_line_names.specs.Names.{declaresIn, attributeOf, declaredAt, short, tagNames, keptName, filled, Onward, Walks, Walking, DeclaresAll}
 use Rattle.opl_line_names.specs.declared.Walked.{Walked}
 use Rattle.opl_line_names.specs.declared.Walked.the-variants.{Next, Long, Done}
 
@@ -74,7 +74,7 @@ module _ (s : Text) (i at : ℕ) (r : Tag) (reads : ReadsTag s (nextTag (drop at
     walk-is : walkAt s at ≡ here ∷ walkAt s end
     walk-is = step (drop at s) (drop end s) (here ∷ []) start-is
 
-    module _ (b : Bool) (is : b ≡ same (take (end - name) (drop name s)) (nameOf (12 + i))) where
+    module _ (b : Bool) (is : b ≡ declaresIn i (take (end - name) (drop name s))) where
       other : b ≡ false → declaredAt i (walkAt s at) ≡ declaredAt i (walkAt s end)
       unfolding declaredAt keep each
       other q = rw (walk-is, ← is, q)

@@ -7,18 +7,18 @@ use native.Mathlib.Omega.{arith}
 use lib.Dec.{ltb, leb}
 use lib.ListN.{length, take}
 use borrow.Author.Tests.{ltb-true, ltb-false, lt-ltb, le-ltb}
-use Rattle.paper_lower.specs.Lists.{Maybe, some, many, add, keep, each}
+use Rattle.paper_lower.specs.Lists.{Maybe, some, many, add, each}
 use Rattle.paper_lower.specs.Lists.Maybe.{none, just}
 use Rattle.paper_opl.specs.Reading.{Text, text, same}
 use Rattle.paper_opl.specs.Tree.{Tag, if-found}
 use Rattle.paper_opl.specs.Elements.{elements}
-use Rattle.paper_opl.specs.Naming.{placeOf, distinct, valueOf, numberIn, spaceOf}
+use Rattle.paper_opl.specs.Naming.{placeOf, distinct, objectsIn, numberIn, spaceOf}
 use Rattle.paper_opl.specs.Walk.{declaredIn}
 use Rattle.opl_names.specs.Table.{namesIn, added, below}
 use Rattle.opl_names.proofs.NameLaws.{place-new, place-small, added-there, added-new}
 use Rattle.opl_table.specs.Numbers.{names, nameOf}
 use Rattle.opl_spaces.specs.Spaces.{limitOf, tableOf, numbered}
-use Rattle.opl_line_names.specs.Names.{attributeOf, declaredAt, keptName, filled}
+use Rattle.opl_line_names.specs.Names.{declaresIn, attributeOf, declaredAt, keptName, filled}
 
 -- ---- The first n of a list.
 take-all : (n : ℕ) (ws : List Text) → many ws ≤ n → take n ws ≡ ws
@@ -131,30 +131,23 @@ numbers-are s w i l vs e =
     start (suc n) = refl
 
 -- ---- The names of the five spaces, as the walk has them.
-named : (i : ℕ) (e w : Text) (ts : List Tag) → nameOf (12 + i) ≡ e → nameOf (attributeOf i) ≡ w →
-    declaredAt i ts ≡ each (λ t. valueOf w (t .given)) (keep (λ t. same (t .name) e) ts)
-unfolding declaredAt
-named i e w ts p q =
-    ap (λ (x : Text). each (λ t. valueOf (nameOf (attributeOf i)) (t .given)) (keep (λ t. same (t .name) x) ts)) p
-    ∙ ap (λ (x : Text). each (λ t. valueOf x (t .given)) (keep (λ t. same (t .name) e) ts)) q
-
 module _ (ts : List Tag) where
   pub users-are : declaredAt 0 ts ≡ declaredIn "user" "user_id" ts
-  unfolding nameOf names elements each attributeOf text
-  users-are = named 0 (text "user") (text "user_id") ts refl refl
+  unfolding declaredAt declaresIn nameOf names elements each attributeOf text
+  users-are = refl
 
   pub roles-are : declaredAt 1 ts ≡ declaredIn "role" "role_id" ts
-  unfolding nameOf names elements each attributeOf text
-  roles-are = named 1 (text "role") (text "role_id") ts refl refl
+  unfolding declaredAt declaresIn nameOf names elements each attributeOf text
+  roles-are = refl
 
   pub permissions-are : declaredAt 2 ts ≡ declaredIn "permission" "permission_id" ts
-  unfolding nameOf names elements each attributeOf text
-  permissions-are = named 2 (text "permission") (text "permission_id") ts refl refl
+  unfolding declaredAt declaresIn nameOf names elements each attributeOf text
+  permissions-are = refl
 
   pub operations-are : declaredAt 3 ts ≡ declaredIn "operation" "operation_id" ts
-  unfolding nameOf names elements each attributeOf text
-  operations-are = named 3 (text "operation") (text "operation_id") ts refl refl
+  unfolding declaredAt declaresIn nameOf names elements each attributeOf text
+  operations-are = refl
 
-  pub objects-are : declaredAt 4 ts ≡ declaredIn "object" "object_id" ts
-  unfolding nameOf names elements each attributeOf text
-  objects-are = named 4 (text "object") (text "object_id") ts refl refl
+  pub objects-are : declaredAt 4 ts ≡ objectsIn ts
+  unfolding declaredAt declaresIn objectsIn nameOf names elements each attributeOf text
+  objects-are = refl

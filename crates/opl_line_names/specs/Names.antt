@@ -1,7 +1,7 @@
 -- The names that the tags of a text declare, in the tables of the scratch.
 use Prim.Native.Nat.{ℕ, _+_, _≤_, _<_}
 use mathlib.Core.Path.{_≡_}
-use mathlib.Core.Bool.{Bool, true, false, cond}
+use mathlib.Core.Bool.{Bool, true, false, cond, _||_}
 use mathlib.Core.List.{List, [], _∷_}
 use lib.Dec.{eqb, leb}
 use lib.ListN.{length, getD, drop}
@@ -11,7 +11,7 @@ use Rattle.paper_opl.specs.Reading.Read.{got, bad}
 use Rattle.paper_opl.specs.Tree.{Tag, if-found}
 use Rattle.paper_opl.specs.Naming.{Line, lines, placeOf, valueOf}
 use Rattle.opl_names.specs.Table.{namesIn, Sound, added, below}
-use Rattle.opl_table.specs.Numbers.{nameOf}
+use Rattle.opl_table.specs.Numbers.{nameOf, OBJECT, PARTITION-OBJECT}
 use Rattle.opl_lines.specs.Lines.{linesRead}
 use Rattle.opl_tags.specs.Tags.{walkAt}
 use Rattle.opl_tags.specs.declared.Part.{Part}
@@ -19,13 +19,17 @@ use Rattle.opl_spaces.specs.Spaces.{limitOf, tableOf, Apart}
 use Rattle.opl_line_names.specs.declared.Walked.{Walked}
 use Rattle.opl_line_names.specs.declared.Walked.the-variants.{Next, Long, Done}
 
--- the attribute that declares a name of the space, in elements of number 12 + i
+-- the elements that declare a name of the space: those of number 12 + i, and for objects also those that stand in the blocks of walls
+unfoldable pub declaresIn : ℕ → Text → Bool
+declaresIn i w = cond (eqb i 4) (same w (nameOf OBJECT) || same w (nameOf PARTITION-OBJECT)) (same w (nameOf (12 + i)))
+
+-- and the attribute that does
 unfoldable pub attributeOf : ℕ → ℕ
 attributeOf i = getD (53 ∷ 54 ∷ 56 ∷ 57 ∷ 58 ∷ []) i 0
 
 -- the names of the space that tags declare
 unfoldable pub declaredAt : ℕ → List Tag → List Text
-declaredAt i ts = each (λ t. valueOf (nameOf (attributeOf i)) (t .given)) (keep (λ t. same (t .name) (nameOf (12 + i))) ts)
+declaredAt i ts = each (λ t. valueOf (nameOf (attributeOf i)) (t .given)) (keep (λ t. declaresIn i (t .name)) ts)
 
 abbrev pub short : Text → Bool
 short w = leb (length w) 64

@@ -1,15 +1,16 @@
 -- Laws of the walk that declares names, all five spaces at once.
 use Prim.Native.Nat.{ℕ, zero, suc, _+_, _-_, _≤_, _<_}
 use mathlib.Core.Path.{_≡_, refl, sym, ap, _∙_}
-use mathlib.Core.Bool.{Bool, true, false, not}
+use mathlib.Core.Bool.{Bool, true, false, not, _||_}
 use mathlib.Core.List.{List, []}
 use native.Mathlib.Omega.{arith}
-use lib.Dec.{eqb}
+use lib.Dec.{eqb, ltb}
 use lib.ListN.{length, take, drop, set, length-set}
 use lib.Seq.{getD-set-same}
-use borrow.Author.Tests.{ne-eqb, eq-eqb, eqb-true, eqb-false, lt-ltb, le-ltb}
+use borrow.Author.Tests.{ne-eqb, eq-eqb, eqb-true, eqb-false, ltb-true, ltb-false, lt-ltb, le-ltb}
 use Rattle.paper_lower.specs.Lists.{every}
-use Rattle.paper_opl.specs.Reading.{Text, same}
+use Rattle.paper_lower.proofs.ListLaws.{or-true}
+use Rattle.paper_opl.specs.Reading.{Text}
 use Rattle.paper_opl.specs.Naming.{valueOf}
 use Rattle.paper_opl.specs.Walk.{tags}
 use Rattle.paper_opl.proofs.Inversion.{on-test}
@@ -23,7 +24,7 @@ use Rattle.opl_tags.specs.declared.Tag.the-variants.{Start, End, Halt}
 use Rattle.opl_tags.specs.declared.Part.{Part}
 use Rattle.opl_spaces.specs.Spaces.{limitOf, listPlace, scratchWords, tableOf, listOf, Empties, DeclaresIn}
 use Rattle.opl_spaces.proofs.SpaceLaws.{table-kept}
-use Rattle.opl_line_names.specs.Names.{attributeOf, declaredAt, short, tagNames, lineNames, filled, Onward, DeclaresAll}
+use Rattle.opl_line_names.specs.Names.{declaresIn, attributeOf, declaredAt, short, tagNames, lineNames, filled, Onward, DeclaresAll}
 use Rattle.opl_line_names.specs.declared.Walked.{Walked}
 use Rattle.opl_line_names.specs.declared.Walked.the-variants.{Next, Long, Done}
 use Rattle.opl_line_names.proofs.DeclaredLaws.{walked-halt, walked-end, walked-other, walked-long, walked-on, no-tags}
@@ -31,14 +32,41 @@ use Rattle.opl_said.specs.Said.{allNames, Held}
 use Rattle.opl_said.proofs.HeldLaws.{held}
 use Rattle.opl_turns.specs.Meaning.{elementOf}
 use Rattle.opl_turns.specs.Listing.{countIn, entered, Opened, Leads, Listing}
-use Rattle.opl_turns.proofs.MeaningLaws.{meant, declares-by}
+use Rattle.opl_turns.proofs.MeaningLaws.{meant, declares-by, objects-by}
 use Rattle.opl_turns.proofs.ListLaws.{read-ended, read-stands, read-begun, count-at, entered-table, entered-length, listing-first, listing-led, listing-passed, listing-entered}
-use Rattle.opl_naming.specs.Naming.{Keeps, Onwards, LongFrom, Goes, AllSound, AllFilled, Fills, AllEmptied, declaredOf, LongName, Names}
+use Rattle.opl_naming.specs.Naming.{spaceBy, Keeps, Onwards, LongFrom, Goes, AllSound, AllFilled, Fills, AllEmptied, declaredOf, LongName, Names}
 
 -- the last of the five spaces is left
 pub last-attribute : (i : ℕ) → i < 5 → Beside 4 i → OBJECT-ID ≡ attributeOf i
 unfolding attributeOf
 last-attribute i h b = rw (last 4 i h b)
+
+-- ---- The space of an element.
+
+object-space : (e : ℕ) → eqb e 16 || eqb e 72 ≡ eqb (spaceBy e) 4
+object-space e =
+    on-test (eqb e 72) (λ p. rw p (or-true (eqb e 16)))
+    (λ p. on-test (ltb e 12) (λ q. let l = ltb-true e 12 q in rw (p, q, ne-eqb e 16 (λ z. omega (arith, l, z))))
+    (λ q. on-test (ltb 16 e) (λ o. let l = ltb-true 16 e o in rw (p, q, o, ne-eqb e 16 (λ z. omega (arith, l, z))))
+    (λ o. let a = ltb-false e 12 q in on-test (eqb e 16) (λ r. let z = eqb-true e 16 r in rw (p, q, o, r, eq-eqb (e - 12) 4 (omega (arith, z))))
+    (λ r. let z = eqb-false e 16 r in rw (p, q, o, r, ne-eqb (e - 12) 4 (λ y. z (omega (arith, a, y))))))))
+
+other-space : (e i : ℕ) → i < 4 → eqb e (12 + i) ≡ eqb (spaceBy e) i
+other-space e i h =
+    on-test (eqb e 72) (λ p. let y = eqb-true e 72 p in rw (p, ne-eqb e (12 + i) (λ z. omega (arith, h, y, z)), ne-eqb 4 i (λ z. omega (arith, h, z))))
+    (λ p. on-test (ltb e 12) (λ q. let l = ltb-true e 12 q in rw (p, q, ne-eqb e (12 + i) (λ z. omega (arith, l, z)), ne-eqb 5 i (λ z. omega (arith, h, z))))
+    (λ q. on-test (ltb 16 e) (λ o. let l = ltb-true 16 e o in rw (p, q, o, ne-eqb e (12 + i) (λ z. omega (arith, h, l, z)), ne-eqb 5 i (λ z. omega (arith, h, z))))
+    (λ o. let a = ltb-false e 12 q in
+    on-test (eqb e (12 + i)) (λ r. let z = eqb-true e (12 + i) r in rw (p, q, o, r, eq-eqb (e - 12) i (omega (arith, z))))
+    (λ r. let z = eqb-false e (12 + i) r in rw (p, q, o, r, ne-eqb (e - 12) i (λ y. z (omega (arith, a, y))))))))
+
+-- what declares a name of a space, by the number of the element
+declared-by : (v : Text) (i : ℕ) → i < 5 → declaresIn i v ≡ eqb (spaceBy (elementOf v)) i
+unfolding declaresIn
+declared-by v i h =
+    on-test (eqb i 4)
+    (λ q. let z = eqb-true i 4 q in rw z (rw (declares-by v 4 (omega arith), objects-by v) (object-space (elementOf v))))
+    (λ q. let z = eqb-false i 4 q in rw (q, declares-by v i h) (other-space (elementOf v) i (omega (arith, h, z))))
 
 -- ---- One tag.
 
@@ -93,12 +121,12 @@ module _ (s : Text) (at : ℕ) (r : Tag) (reads : ReadsTag s (nextTag (drop at s
       pub goes-sound : AllSound s l₁
       goes-sound i h = rw (same-table i (omega arith)) (sound i h)
 
-      other : (i : ℕ) (h : i < 5) → (id ≡ 12 + i → ⊥) → Onward s i (tagNames s i) at end l l
+      other : (i : ℕ) (h : i < 5) → (spaceBy id ≡ i → ⊥) → Onward s i (tagNames s i) at end l l
       other i h d =
-          let q : same v (nameOf (12 + i)) ≡ false = declares-by v i h ∙ ne-eqb (elementOf v) (12 + i) (λ z. d (is ∙ z)) in
-          walked-other s i at r reads l (sound i h) name end e (same v (nameOf (12 + i))) refl (ap not q) .walks
+          let q : declaresIn i v ≡ false = declared-by v i h ∙ ne-eqb (spaceBy (elementOf v)) i (λ z. d (ap (λ (k : ℕ). spaceBy k) is ∙ z)) in
+          walked-other s i at r reads l (sound i h) name end e (declaresIn i v) refl (ap not q) .walks
 
-      pub goes-other : ((i : ℕ) → i < 5 → id ≡ 12 + i → ⊥) → Goes s at l l₁ (Next end)
+      pub goes-other : ((i : ℕ) → i < 5 → spaceBy id ≡ i → ⊥) → Goes s at l l₁ (Next end)
       goes-other d =
           record {
             past = opened .past;
@@ -109,22 +137,22 @@ module _ (s : Text) (at : ℕ) (r : Tag) (reads : ReadsTag s (nextTag (drop at s
             lists = lists;
           }
 
-      module _ (i : ℕ) (h : i < 5) (here : id ≡ 12 + i) (p : Part) (valued : Valued s (valueOf (nameOf (attributeOf i)) (givenAt s end)) p) where
-        named : not (same v (nameOf (12 + i))) ≡ false
-        named = ap not (declares-by v i h ∙ eq-eqb (elementOf v) (12 + i) (sym is ∙ here))
+      module _ (i : ℕ) (h : i < 5) (here : spaceBy id ≡ i) (p : Part) (valued : Valued s (valueOf (nameOf (attributeOf i)) (givenAt s end)) p) where
+        named : not (declaresIn i v) ≡ false
+        named = ap not (declared-by v i h ∙ eq-eqb (spaceBy (elementOf v)) i (sym (ap (λ (k : ℕ). spaceBy k) is) ∙ here))
 
         pub goes-long : 64 < p .to - p .from → Goes s at l l₁ Long
         goes-long q =
             record {
               space = i;
               of-tags = h;
-              long = walked-long s i at r reads l (sound i h) name end e (same v (nameOf (12 + i))) refl named p valued q .walks;
+              long = walked-long s i at r reads l (sound i h) name end e (declaresIn i v) refl named p valued q .walks;
             }
 
         pub goes-on : (l′ : List ℕ) (k : Found) → p .to - p .from ≤ 64 → DeclaresIn s i (take (p .to - p .from) (drop (p .from) s)) l₁ l′ k →
             Goes s at l l′ (Next end)
         goes-on l′ k q d =
-            let o = walked-on s i at r reads l₁ (goes-sound i h) name end e (same v (nameOf (12 + i))) refl named p valued l′ k q d .walks in
+            let o = walked-on s i at r reads l₁ (goes-sound i h) name end e (declaresIn i v) refl named p valued l′ k q d .walks in
             record {
               past = opened .past;
               inside = opened .inside;
@@ -132,7 +160,7 @@ module _ (s : Text) (at : ℕ) (r : Tag) (reads : ReadsTag s (nextTag (drop at s
               keeps = λ j a. on-test (eqb j i)
                   (λ u. let z = eqb-true j i u in rw z (keeps s i at end l l₁ l′ l′ o (same-table i (omega arith)) refl))
                   (λ u. let z =
-                  eqb-false j i u in keeps s j at end l l l l′ (other j a (λ w. z (omega (arith, here, w)))) refl
+                  eqb-false j i u in keeps s j at end l l l l′ (other j a (λ w. z (sym w ∙ here))) refl
                   (d .apart .others j (omega arith) z ∙ same-table j (omega arith)));
               others = λ j a b. d .apart .others j b (λ w. omega (arith, w)) ∙ same-table j b;
               lists = λ from g. rw (d .apart .list) (lists from g);

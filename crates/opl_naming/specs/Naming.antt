@@ -1,20 +1,25 @@
 -- The names of all seven spaces in the scratch, by one walk over the tags and the task lines, and the list of the tags, by the same walk.
-use Prim.Native.Nat.{ℕ, _≤_, _<_}
+use Prim.Native.Nat.{ℕ, _-_, _≤_, _<_}
 use mathlib.Core.Path.{_≡_}
 use mathlib.Core.Bool.{Bool, true, false, cond}
 use mathlib.Core.List.{List, []}
-use lib.Dec.{ltb}
+use lib.Dec.{eqb, ltb}
 use lib.ListN.{length}
 use Rattle.paper_lower.specs.Lists.{every}
 use Rattle.paper_opl.specs.Reading.{Text}
 use Rattle.paper_opl.specs.Walk.{tags}
 use Rattle.opl_names.specs.Table.{namesIn, Sound, Emptied}
+use Rattle.opl_table.specs.Numbers.{PARTITION-OBJECT}
 use Rattle.opl_spaces.specs.Spaces.{limitOf, tableOf, listOf}
 use Rattle.opl_line_names.specs.Names.{declaredAt, short, tagNames, lineNames, filled}
 use Rattle.opl_line_names.specs.declared.Walked.{Walked}
 use Rattle.opl_line_names.specs.declared.Walked.the-variants.{Next, Long, Done}
 use Rattle.opl_said.specs.Said.{allNames, Held}
 use Rattle.opl_turns.specs.Listing.{countIn, Leads, Listing}
+
+-- the space whose names an element declares; 5 if it declares none
+abbrev pub spaceBy : ℕ → ℕ
+spaceBy e = cond (eqb e PARTITION-OBJECT) 4 (cond (ltb e 12) 5 (cond (ltb 16 e) 5 (e - 12)))
 
 -- ---- One tag, for each of the five spaces.
 pub record Keeps (s : Text) (i at n : ℕ) (l l′ : List ℕ) : Type 0 where

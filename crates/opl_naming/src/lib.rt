@@ -9,11 +9,13 @@ ghost use Rattle.paper_opl.specs.Walk.{tags};
 ghost use Rattle.opl_spaces.specs.Spaces.{scratchWords};
 ghost use Rattle.opl_tags.specs.Tags.{walkAt};
 ghost use Rattle.opl_line_names.specs.Names.{attributeOf, accepted};
-ghost use Rattle.opl_naming.specs.Naming.{AllSound, Goes, Fills, AllEmptied, Names};
+ghost use Rattle.opl_naming.specs.Naming.{spaceBy, AllSound, Goes, Fills, AllEmptied, Names};
 use opl_line_names::Walked;
 use opl_line_names::declare_lines;
+use opl_spaces::BY_TAGS;
 use opl_spaces::LIST;
 use opl_spaces::LONGEST_NAME;
+use opl_spaces::OBJECTS;
 use opl_spaces::SPACES;
 use opl_spaces::TASKS;
 use opl_spaces::TEMPLATES;
@@ -21,6 +23,7 @@ use opl_spaces::declare;
 use opl_table::OBJECT;
 use opl_table::OBJECT_ID;
 use opl_table::OPERATION_ID;
+use opl_table::PARTITION_OBJECT;
 use opl_table::PERMISSION_ID;
 use opl_table::ROLE_ID;
 use opl_table::USER;
@@ -45,6 +48,22 @@ fn attribute(i: usize) -> u64
     }
 }
 
+// The space whose names the element declares; BY_TAGS if it declares none.
+fn space(e: u64) -> usize
+    ensures { λ r. ⌜ r ≡ spaceBy e ⌝ }
+{
+    if e == PARTITION_OBJECT {
+        return OBJECTS;
+    }
+    if e < USER {
+        return BY_TAGS;
+    }
+    if OBJECT < e {
+        return BY_TAGS;
+    }
+    (e - USER) as usize
+}
+
 // The next tag from `at` on: it is listed, and if it declares a name, that name goes into its space.
 fn declare_tag(s: &[u8], w: &mut [u64], at: usize) -> Walked
     requires { ⌜ (length (now w) ≡ scratchWords) × (AllSound (now s) (now w) × (at ≤ length (now s))) ⌝ }
@@ -57,13 +76,10 @@ fn declare_tag(s: &[u8], w: &mut [u64], at: usize) -> Walked
         Tag::Start { name, end } => {
             let e = element(&s[name..end]);
             enter(s, w, end, e);
-            if e < USER {
+            let i = space(e);
+            if BY_TAGS <= i {
                 return Walked::Next(end);
             }
-            if OBJECT < e {
-                return Walked::Next(end);
-            }
-            let i = (e - USER) as usize;
             let v = value_place(s, end, attribute(i));
             let from = v.from;
             let size = v.to - from;

@@ -121,7 +121,7 @@ module _ (l : List ℕ) (j low high : ℕ) (room : length l ≡ scratchWords) (h
       ∙ ap (λ (x : ℕ). twoWords (writtenTo l j f out) (nextTo l j f kind) x (highAt l′ j)) (fresh l j low high room here .0)
       ∙ ap (λ (x : ℕ). twoWords (writtenTo l j f out) (nextTo l j f kind) low x) (fresh l j low high room here .1))
 
-  kinds-new : 1 ≤ kind → kind < 17 → KindsTo l j → KindsTo l′ (j + 1)
+  kinds-new : 1 ≤ kind → kind < 19 → KindsTo l j → KindsTo l′ (j + 1)
   kinds-new a b h i q =
       on-test (eqb i j)
       (λ e. let u = eqb-true i j e in rw (u, kind-new) (a, b))

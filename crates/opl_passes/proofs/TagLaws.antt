@@ -2,20 +2,20 @@
 use Prim.Native.Nat.{ℕ, zero, suc, _+_, _*_, _-_, _≤_, _<_}
 use mathlib.Core.Path.{_≡_, refl, sym, ap, _∙_}
 use mathlib.Core.Bool.{Bool, true, false, _&&_, false≢true}
-use mathlib.Core.List.{List, []}
+use mathlib.Core.List.{List, [], _∷_}
 use native.Mathlib.Omega.{arith}
-use lib.Dec.{eqb, leb}
+use lib.Dec.{eqb}
 use lib.ListN.{length, set, drop, length-set, drop-of-length-le}
 use lib.Seq.{getD-set-same, getD-set-other}
 use borrow.Author.Tests.{eqb-true, eqb-false}
-use Rattle.paper_lower.specs.Lists.{upd, holds, every, many, keep, Every}
+use Rattle.paper_lower.specs.Lists.{upd, holds, every, many, Every}
 use Rattle.paper_lower.specs.Lists.Maybe.{none, just}
 use Rattle.paper_lower.specs.Records.{Bytes, putAt}
-use Rattle.paper_lower.proofs.ListLaws.{upd-same, upd-other}
+use Rattle.paper_lower.proofs.ListLaws.{both, upd-same, upd-other}
 use Rattle.paper_opl.specs.Reading.{Text}
 use Rattle.paper_opl.specs.Tree.{Tag}
 use Rattle.paper_opl.specs.Naming.{Names}
-use Rattle.paper_opl.specs.Walk.{called, start, sayings, recordSaid}
+use Rattle.paper_opl.specs.Walk.{Context, start, turn, few, fewFrom, sayings, recordSaid}
 use Rattle.paper_opl.specs.Filling.{fill, tally}
 use Rattle.paper_opl.proofs.Inversion.{on-test}
 use Rattle.paper_opl.proofs.Tallied.{tally-is}
@@ -26,7 +26,7 @@ use Rattle.opl_said.specs.Said.{Held, SaysIt, Small}
 use Rattle.opl_said.specs.declared.Fields.{Fields}
 use Rattle.opl_said.specs.declared.Fields.the-variants.{Numbers, Unnamed}
 use Rattle.opl_turns.specs.Listing.{Leads}
-use Rattle.opl_turns.specs.Turning.{contextOf, tagsAt, Stood, Led, partitionings, Passes, Tells, SmallTag, sayingAt}
+use Rattle.opl_turns.specs.Turning.{contextOf, tagsAt, Stood, Led, fewAt, Passes, Tells, SmallTag, sayingAt}
 use Rattle.opl_turns.specs.declared.Cursor.{Cursor}
 use Rattle.opl_passes.specs.Tags.{of, allThere, thereFrom, tallied, Counts, Checks, ChecksAll, TagsAre, begins, Begun, TagsFit, FitsAll, Puts, Writes, PutsKept}
 use Rattle.opl_passes.specs.Kept.{lowAt, highAt, kindIn, nextTo, writtenTo, KeptLeft, Keeps, AllKept, Keeping, keptOf, Fitting}
@@ -79,7 +79,7 @@ module _ (ns : Names) (s : Text) (c : Cursor) where
       unfolding every holds
       there-is = rw (t .says, ← said-is)
 
-      module _ (l : List ℕ) (room : length l ≡ 17) where
+      module _ (l : List ℕ) (room : length l ≡ 19) where
         within : kind < length l
         within = omega (arith, t .small, room)
 
@@ -162,9 +162,20 @@ pub record CheckLeft (ns : Names) (s : Text) (ts : List Tag) (l₀ : List ℕ) (
   pub stood : Stood s c
   pub there-too : allThere ns start ts ≡ thereFrom ns s c
   pub tallies : tally start (of l₀) ts ≡ tallied s c l
-  pub begun : many (keep (called "hdsodtp_partitioning") ts) ≡ partitionings s c
+  pub fews : fewFrom start ts ≡ fewAt s c
   pub few : (k : ℕ) → of l k ≤ c .at
   pub room : length l ≡ length l₀
+
+-- numbers, tag by tag
+few-none : (c : Context) (ts : List Tag) → few c ≡ false → fewFrom c ts ≡ false
+unfolding fewFrom
+few-none c [] e = e
+few-none c (t ∷ ts) e = rw e
+
+few-head : (c : Context) (ts : List Tag) → fewFrom c ts ≡ true → few c ≡ true
+unfolding fewFrom
+few-head c [] e = e
+few-head c (t ∷ ts) e = both (few c) (fewFrom (turn c t) ts) e .0
 
 and-false : (b : Bool) → false ≡ b && false
 and-false true = refl
@@ -179,38 +190,45 @@ module _ (ns : Names) (s : Text) (from : ℕ) (l₀ : List ℕ) where
   ts = walkAt s from
 
   pub check-first : from ≤ length s → Every SmallTag ts → ((k : ℕ) → of l₀ k ≡ 0) →
-      CheckLeft ns s ts l₀ (record { at = from; entry = 0; sets = 9; parts = 0 }) l₀
+      CheckLeft ns s ts l₀ (record { at = from; entry = 0; sets = 9; parts = 0; walls = 0; blocks = 0 }) l₀
   check-first h small zeros =
       record {
-        stood = record { inside = h; few = omega arith; low = omega arith; small = small };
+        stood = record { inside = h; low = omega arith; small = small };
         there-too = refl;
         tallies = refl;
-        begun = omega arith;
+        fews = refl;
         few = λ k. let z = zeros k in omega arith;
         room = refl;
       }
 
   module _ (c : Cursor) (l : List ℕ) (left : CheckLeft ns s ts l₀ c l) where
-    pub check-none : tagsAt s c ≡ [] → ChecksAll ns ts l₀ l (leb (c .parts) 16)
-    unfolding sayings every keep many tally
+    pub check-none : tagsAt s c ≡ [] → ChecksAll ns ts l₀ l (few (contextOf c))
+    unfolding sayings every tally fewFrom
     check-none e =
-        let p : many (keep (called "hdsodtp_partitioning") ts) ≡ c .parts = left .begun ∙ rw e (omega arith) in
         record {
-          verdict = rw (p, left .there-too, e) (and-true (leb (c .parts) 16));
+          verdict = rw (left .fews, left .there-too, e) (and-true (few (contextOf c)));
           counts = λ _. sym (left .tallies ∙ rw e);
           room = λ _. left .room;
         }
 
-    pub check-end : length s ≤ c .at → ChecksAll ns ts l₀ l (leb (c .parts) 16)
+    pub check-end : length s ≤ c .at → ChecksAll ns ts l₀ l (few (contextOf c))
     check-end h = check-none (no-tags s (c .at) h)
 
-    check-over : (l′ : List ℕ) → tagsAt s c ≡ [] → l′ ≡ l → ChecksAll ns ts l₀ l′ (leb (c .parts) 16)
+    check-over : (l′ : List ℕ) → tagsAt s c ≡ [] → l′ ≡ l → ChecksAll ns ts l₀ l′ (few (contextOf c))
     check-over l′ e q = rw q (check-none e)
 
     check-unnamed : (l′ : List ℕ) → thereFrom ns s c ≡ false → ChecksAll ns ts l₀ l′ false
     check-unnamed l′ e =
         record {
-          verdict = rw (left .there-too, e) (and-false (leb (many (keep (called "hdsodtp_partitioning") ts)) 16));
+          verdict = rw (left .there-too, e) (and-false (fewFrom start ts));
+          counts = λ u. absurd (false≢true u);
+          room = λ u. absurd (false≢true u);
+        }
+
+    check-many : few (contextOf c) ≡ false → ChecksAll ns ts l₀ l false
+    check-many e =
+        record {
+          verdict = rw (left .fews, few-none (contextOf c) (tagsAt s c) e);
           counts = λ u. absurd (false≢true u);
           room = λ u. absurd (false≢true u);
         }
@@ -221,7 +239,7 @@ module _ (ns : Names) (s : Text) (from : ℕ) (l₀ : List ℕ) where
           stood = o .steps .stood;
           there-too = left .there-too ∙ o .there-too;
           tallies = left .tallies ∙ o .tallies;
-          begun = left .begun ∙ o .steps .begun;
+          fews = left .fews ∙ o .steps .fews;
           few = o .few;
           room = o .room ∙ left .room;
         }
@@ -237,7 +255,7 @@ pub record CheckKept (ns : Names) (s t : Text) (ts : List Tag) (l₀ w₀ : List
 
 module _ (ns : Names) (s t : Text) (from : ℕ) (l₀ w₀ : List ℕ) where
   pub kept-first : from ≤ length s → Leads s (listOf w₀) 0 from → Every SmallTag (walkAt s from) → ((k : ℕ) → of l₀ k ≡ 0) → Held s t ns w₀
-      → CheckKept ns s t (walkAt s from) l₀ w₀ (record { at = from; entry = 0; sets = 9; parts = 0 }) 0 l₀ w₀
+      → CheckKept ns s t (walkAt s from) l₀ w₀ (record { at = from; entry = 0; sets = 9; parts = 0; walls = 0; blocks = 0 }) 0 l₀ w₀
   unfolding nextTo writtenTo
   kept-first h leads small zeros held =
       record {
@@ -258,14 +276,17 @@ module _ (ns : Names) (s t : Text) (from : ℕ) (l₀ w₀ : List ℕ) where
     over : tagsAt s c ≡ [] → Keeping ns (walkAt s from) w j
     over e room = all-kept ns s (walkAt s from) c w j e (k .kept room)
 
-    pub kept-end : (x : Judged) → x ≡ keptOf (leb (c .parts) 16) j → length s ≤ c .at → TagsAre ns s t (walkAt s from) l₀ l w₀ w x
-    kept-end x q h = rw q (tags-are l (leb (c .parts) 16) (check-end ns s from l₀ c l (k .left) h) (over (no-tags s (c .at) h)))
+    pub kept-end : (x : Judged) → x ≡ keptOf (few (contextOf c)) j → length s ≤ c .at → TagsAre ns s t (walkAt s from) l₀ l w₀ w x
+    kept-end x q h = rw q (tags-are l (few (contextOf c)) (check-end ns s from l₀ c l (k .left) h) (over (no-tags s (c .at) h)))
+
+    pub kept-many : few (contextOf c) ≡ false → TagsAre ns s t (walkAt s from) l₀ l w₀ w NoneSaid
+    kept-many e = check-many ns s from l₀ c l (k .left) e
 
     module _ (r : Checked) (l′ w′ : List ℕ) (checks : Checks ns s t c j l l′ w w′ r) where
-      pub kept-done : (x : Judged) → x ≡ keptOf (leb (c .parts) 16) j → r ≡ Done → TagsAre ns s t (walkAt s from) l₀ l′ w₀ w′ x
+      pub kept-done : (x : Judged) → x ≡ keptOf (few (contextOf c)) j → r ≡ Done → TagsAre ns s t (walkAt s from) l₀ l′ w₀ w′ x
       kept-done x q e =
           let z : Checks ns s t c j l l′ w w′ Done = rw e at checks in
-          rw (q, z .1 .1) (tags-are l′ (leb (c .parts) 16) (check-over ns s from l₀ c l (k .left) l′ (z .0) (z .1 .0)) (over (z .0)))
+          rw (q, z .1 .1) (tags-are l′ (few (contextOf c)) (check-over ns s from l₀ c l (k .left) l′ (z .0) (z .1 .0)) (over (z .0)))
 
       pub kept-unnamed : r ≡ Nameless → TagsAre ns s t (walkAt s from) l₀ l′ w₀ w′ NoneSaid
       kept-unnamed e = let z : Checks ns s t c j l l′ w w′ Nameless = rw e at checks in check-unnamed ns s from l₀ c l (k .left) l′ z
@@ -291,6 +312,7 @@ module _ (ns : Names) (s t : Text) (from : ℕ) (l₀ w₀ : List ℕ) where
 pub record WriteLeft (ns : Names) (s : Text) (m : List ℕ) (ts : List Tag) (l₀ : List ℕ) (out₀ : Bytes) (c : Cursor) (l : List ℕ) (out : Bytes) : Type 0 where
   pub stood : Stood s c
   pub led : Led s m c
+  pub fews : fewAt s c ≡ true
   pub there-all : thereFrom ns s c ≡ true
   pub fit : TagsFit s c l out
   pub fills : fill ns start (of l₀) ts out₀ ≡ fill ns (contextOf c) (of l) (tagsAt s c) out
@@ -298,13 +320,14 @@ pub record WriteLeft (ns : Names) (s : Text) (m : List ℕ) (ts : List Tag) (l�
   pub kinds : length l ≡ length l₀
 
 module _ (ns : Names) (s : Text) (m : List ℕ) (from : ℕ) (l₀ : List ℕ) (out₀ : Bytes) where
-  pub write-first : from ≤ length s → Leads s m 0 from → Every SmallTag (walkAt s from) → allThere ns start (walkAt s from) ≡ true →
+  pub write-first : from ≤ length s → Leads s m 0 from → Every SmallTag (walkAt s from) → fewFrom start (walkAt s from) ≡ true → allThere ns start (walkAt s from) ≡ true →
       FitsAll (walkAt s from) l₀ out₀
-      → WriteLeft ns s m (walkAt s from) l₀ out₀ (record { at = from; entry = 0; sets = 9; parts = 0 }) l₀ out₀
-  write-first h leads small all fit =
+      → WriteLeft ns s m (walkAt s from) l₀ out₀ (record { at = from; entry = 0; sets = 9; parts = 0; walls = 0; blocks = 0 }) l₀ out₀
+  write-first h leads small fews all fit =
       record {
-        stood = record { inside = h; few = omega arith; low = omega arith; small = small };
+        stood = record { inside = h; low = omega arith; small = small };
         led = leads;
+        fews = fews;
         there-all = all;
         fit = fit;
         fills = refl;
@@ -316,6 +339,9 @@ module _ (ns : Names) (s : Text) (m : List ℕ) (from : ℕ) (l₀ : List ℕ) (
     pub write-none : tagsAt s c ≡ [] → out ≡ fill ns start (of l₀) (walkAt s from) out₀
     unfolding fill
     write-none e = sym (left .fills ∙ rw e)
+
+    pub write-few : few (contextOf c) ≡ true
+    write-few = few-head (contextOf c) (tagsAt s c) (left .fews)
 
     pub write-end : length s ≤ c .at → out ≡ fill ns start (of l₀) (walkAt s from) out₀
     write-end h = write-none (no-tags s (c .at) h)
@@ -331,6 +357,7 @@ module _ (ns : Names) (s : Text) (m : List ℕ) (from : ℕ) (l₀ : List ℕ) (
         record {
           stood = p .steps .stood;
           led = led;
+          fews = sym (p .steps .fews) ∙ left .fews;
           there-all = p .there-too;
           fit = λ k a b. let f = left .fit k a b in let u = ap (λ (g : ℕ → ℕ). g k) (p .tallies) in let v = p .room in omega arith;
           fills = left .fills ∙ p .fills;
@@ -358,30 +385,30 @@ begins-on f (suc k) h = let z : suc k + 1 ≡ suc (suc k) = omega arith in rw z
 
 pub record BeginLeft (l₀ : List ℕ) (cap : ℕ) (l : List ℕ) (sum k : ℕ) : Type 0 where
   pub first : 1 ≤ k
-  pub last : k ≤ 17
+  pub last : k ≤ 19
   pub sum-is : sum ≡ begins (of l₀) k
   pub fits : sum ≤ cap
   pub done : (j : ℕ) → 1 ≤ j → j < k → of l j ≡ begins (of l₀) j
   pub left : (j : ℕ) → k ≤ j → of l j ≡ of l₀ j
-  pub room : length l ≡ 17
+  pub room : length l ≡ 19
 
-pub begin-first : (l₀ : List ℕ) (cap : ℕ) → length l₀ ≡ 17 → BeginLeft l₀ cap l₀ 0 1
+pub begin-first : (l₀ : List ℕ) (cap : ℕ) → length l₀ ≡ 19 → BeginLeft l₀ cap l₀ 0 1
 unfolding begins
 begin-first l₀ cap h =
     record { first = omega arith; last = omega arith; sum-is = refl; fits = omega arith; done = λ j a b. absurd (omega arith); left = λ j a. refl; room = h }
 
 module _ (l₀ : List ℕ) (cap : ℕ) (l : List ℕ) (sum k : ℕ) (b : BeginLeft l₀ cap l sum k) where
-  pub begin-end : 17 ≤ k → Begun l₀ l cap sum
+  pub begin-end : 19 ≤ k → Begun l₀ l cap sum
   begin-end h =
-      let z : k ≡ 17 = omega (arith, b .last) in
+      let z : k ≡ 19 = omega (arith, b .last) in
       record { total = rw (← z) (b .sum-is); fits = b .fits; each-begins = λ j p q. b .done j p (omega arith); kinds = b .room }
 
-  module _ (h : k < 17) where
+  module _ (h : k < 19) where
     next-is : begins (of l₀) (k + 1) ≡ sum + of l k
     next-is = begins-on (of l₀) k (b .first) ∙ rw (← b .sum-is, ← b .left k (omega arith))
 
-    pub begin-over : cap - sum < of l k → cap < begins (of l₀) 17
-    begin-over q = let m = begins-upto (of l₀) (k + 1) 17 (omega arith) in omega (arith, m, next-is, b .fits)
+    pub begin-over : cap - sum < of l k → cap < begins (of l₀) 19
+    begin-over q = let m = begins-upto (of l₀) (k + 1) 19 (omega arith) in omega (arith, m, next-is, b .fits)
 
     pub begin-on : of l k ≤ cap - sum → BeginLeft l₀ cap (set l k sum) (sum + of l k) (k + 1)
     begin-on q =

@@ -45,7 +45,7 @@ writtenTo l zero f out = out
 writtenTo l (suc n) f out = twoWords (writtenTo l n f out) (nextTo l n f (kindIn l n)) (lowAt l n) (highAt l n)
 
 abbrev pub KindsTo : List ℕ → ℕ → Type 0
-KindsTo l n = (i : ℕ) → i < n → (1 ≤ kindIn l i) × (kindIn l i < 17)
+KindsTo l n = (i : ℕ) → i < n → (1 ≤ kindIn l i) × (kindIn l i < 19)
 
 -- ---- Tags: the first j records are those of the tags before a cursor.
 pub record KeptLeft (ns : Names) (s : Text) (ts : List Tag) (c : Cursor) (w : List ℕ) (j : ℕ) : Type 0 where
@@ -80,4 +80,4 @@ keptOf false j = Nameless
 -- there is room for the first n
 pub record Fitting (w : List ℕ) (n : ℕ) (f : ℕ → ℕ) (out : Bytes) : Type 0 where
   pub kinds : KindsTo w n
-  pub fits : (k : ℕ) → 1 ≤ k → k < 17 → 16 * nextTo w n f k ≤ length out
+  pub fits : (k : ℕ) → 1 ≤ k → k < 19 → 16 * nextTo w n f k ≤ length out

@@ -3,14 +3,13 @@ use Prim.Native.Nat.{ℕ, zero, suc, _+_, _*_, _≤_, _<_}
 use mathlib.Core.Path.{_≡_}
 use mathlib.Core.Bool.{Bool, true, false, _&&_}
 use mathlib.Core.List.{List, []}
-use lib.Dec.{leb}
 use lib.ListN.{length, getD}
-use Rattle.paper_lower.specs.Lists.{upd, there, every, many, keep}
+use Rattle.paper_lower.specs.Lists.{upd, there, every}
 use Rattle.paper_lower.specs.Records.{Bytes}
 use Rattle.paper_opl.specs.Reading.{Text}
 use Rattle.paper_opl.specs.Tree.{Tag}
 use Rattle.paper_opl.specs.Naming.{Names}
-use Rattle.paper_opl.specs.Walk.{called, Context, start, sayings, recordSaid}
+use Rattle.paper_opl.specs.Walk.{Context, start, fewFrom, sayings, recordSaid}
 use Rattle.paper_opl.specs.Filling.{fill, tally}
 use Rattle.record_output.specs.Output.{twoWords}
 use Rattle.opl_said.specs.Said.{Held}
@@ -57,7 +56,7 @@ Checks ns s t c j l l′ w w′ Done = (tagsAt s c ≡ []) × ((l′ ≡ l) × (
 
 -- all of them, from a place on
 pub record ChecksAll (ns : Names) (ts : List Tag) (l l′ : List ℕ) (r : Bool) : Type 0 where
-  pub verdict : r ≡ (leb (many (keep (called "hdsodtp_partitioning") ts)) 16 && allThere ns start ts)
+  pub verdict : r ≡ (fewFrom start ts && allThere ns start ts)
   pub counts : r ≡ true → of l′ ≡ tally start (of l) ts
   pub room : r ≡ true → length l′ ≡ length l
 
@@ -74,23 +73,23 @@ begins f (suc zero) = 0
 begins f (suc (suc k)) = begins f (suc k) + f (suc k)
 
 pub record Begun (l l′ : List ℕ) (cap n : ℕ) : Type 0 where
-  pub total : n ≡ begins (of l) 17
+  pub total : n ≡ begins (of l) 19
   pub fits : n ≤ cap
-  pub each-begins : (k : ℕ) → 1 ≤ k → k < 17 → of l′ k ≡ begins (of l) k
-  pub kinds : length l′ ≡ 17
+  pub each-begins : (k : ℕ) → 1 ≤ k → k < 19 → of l′ k ≡ begins (of l) k
+  pub kinds : length l′ ≡ 19
 
 abbrev pub Sums : List ℕ → List ℕ → ℕ → Sum → Type 0
 Sums l l′ cap (Total n) = Begun l l′ cap n
-Sums l l′ cap Over = cap < begins (of l) 17
+Sums l l′ cap Over = cap < begins (of l) 19
 
 -- ---- One tag's record is written.
 
 -- there is room for all of them
 abbrev pub TagsFit : Text → Cursor → List ℕ → Bytes → Type 0
-TagsFit s c l out = (k : ℕ) → 1 ≤ k → k < 17 → 16 * tallied s c l k ≤ length out
+TagsFit s c l out = (k : ℕ) → 1 ≤ k → k < 19 → 16 * tallied s c l k ≤ length out
 
 abbrev pub FitsAll : List Tag → List ℕ → Bytes → Type 0
-FitsAll ts l out = (k : ℕ) → 1 ≤ k → k < 17 → 16 * tally start (of l) ts k ≤ length out
+FitsAll ts l out = (k : ℕ) → 1 ≤ k → k < 19 → 16 * tally start (of l) ts k ≤ length out
 
 pub record Puts (ns : Names) (s : Text) (c n : Cursor) (l l′ : List ℕ) (out out′ : Bytes) : Type 0 where
   pub steps : Steps s c n

@@ -3,17 +3,17 @@
 ghost use mathlib.Core.Path.{_≡_};
 ghost use mathlib.Core.Bool.{true};
 ghost use Prim.Native.Nat.{ℕ, _+_, _*_, _≤_, _<_};
-ghost use lib.Dec.{leb};
 ghost use lib.ListN.{length};
 ghost use Rattle.paper_lower.specs.Lists.{Every};
-ghost use Rattle.paper_opl.specs.Walk.{start};
+ghost use Rattle.paper_opl.specs.Walk.{start, few, fewFrom};
 ghost use Rattle.paper_opl.specs.Filling.{fill, fillLines};
 ghost use Rattle.opl_lines.specs.Lines.{Apart, linesIn};
 ghost use Rattle.opl_spaces.specs.Spaces.{keptRoom, scratchWords, listOf};
 ghost use Rattle.opl_tags.specs.Tags.{walkAt};
 ghost use Rattle.opl_said.specs.Said.{allNames, Holds};
+ghost use Rattle.opl_turns.specs.Meaning.{fewBy};
 ghost use Rattle.opl_turns.specs.Listing.{Leads};
-ghost use Rattle.opl_turns.specs.Turning.{Stood, Led, SmallTag};
+ghost use Rattle.opl_turns.specs.Turning.{contextOf, Stood, Led, SmallTag};
 ghost use Rattle.opl_passes.specs.Lines.{linesAt, linesGood, linesThere, Pairs, lineBetween, RowIs, LinesAre, LineWritten, LinesFit};
 ghost use Rattle.opl_passes.specs.Kept.{keptWith, kindIn, writtenTo, keptOf, Keeping, Fitting};
 ghost use Rattle.opl_passes.specs.Tags.{of, allThere, thereFrom, Checks, TagsAre, Sums, TagsFit, Writes, FitsAll, PutsKept};
@@ -31,6 +31,9 @@ use opl_turns::turn;
 use record_output::low_word;
 use record_output::put;
 use record_output::put_words;
+
+// Kinds of record are below it.
+const KINDS: usize = 19;
 
 // The numbers of a task and its template, and where the next line begins; or a name in the line has no number.
 pub enum Row {
@@ -51,7 +54,7 @@ pub enum Checked {
     Done,
 }
 
-// How many records the tags say; or a name in one has no number, or a partitioning has none.
+// How many records the tags say; or a name in one has no number, or a partitioning, a wall or a block has none.
 pub enum Judged {
     Records(usize),
     Nameless,
@@ -185,11 +188,11 @@ fn check_at(
     s: &[u8],
     t: &[u8],
     w: &mut [u64],
-    counts: &mut [usize; 17],
+    counts: &mut [usize; 19],
     c: Cursor,
     j: usize,
 ) -> Checked
-    requires { ⌜ Holds (now s) (now t) (now w) × (((Stood (now s) c × Led (now s) (listOf (now w)) c) × (j ≤ c .at)) × ((length (now counts) ≡ 17) × ((k : ℕ) → of (now counts) k ≤ c .at))) ⌝ }
+    requires { ⌜ Holds (now s) (now t) (now w) × (((Stood (now s) c × ((few (contextOf c) ≡ true) × Led (now s) (listOf (now w)) c)) × (j ≤ c .at)) × ((length (now counts) ≡ 19) × ((k : ℕ) → of (now counts) k ≤ c .at))) ⌝ }
     ensures { λ r. ⌜ Checks (allNames (now (s .entry)) (now (t .entry))) (now (s .entry)) (now (t .entry)) c j (now (counts .entry)) (now (counts .exit)) (now (w .entry)) (now (w .exit)) r ⌝ }
 {
     let x = turn(s, w, c);
@@ -216,11 +219,11 @@ fn check_at(
     }
 }
 
-// There are partitionings for 16 numbers at most.
-fn few_parts(parts: usize, j: usize) -> Judged
-    ensures { λ r. ⌜ r ≡ keptOf (leb parts 16) j ⌝ }
+// There are numbers for what has begun, or there are not.
+fn few_parts(parts: usize, walls: usize, blocks: usize, j: usize) -> Judged
+    ensures { λ r. ⌜ r ≡ keptOf (fewBy parts walls blocks) j ⌝ }
 {
-    if parts <= 16 {
+    if opl_turns::few(parts, walls, blocks) {
         return Judged::Records(j);
     }
     Judged::Nameless
@@ -231,10 +234,10 @@ pub fn check_tags(
     s: &[u8],
     t: &[u8],
     w: &mut [u64],
-    counts: &mut [usize; 17],
+    counts: &mut [usize; 19],
     from: usize,
 ) -> Judged
-    requires { ⌜ Holds (now s) (now t) (now w) × (((from ≤ length (now s)) × Leads (now s) (listOf (now w)) 0 from) × (Every SmallTag (walkAt (now s) from) × ((length (now counts) ≡ 17) × ((k : ℕ) → of (now counts) k ≡ 0)))) ⌝ }
+    requires { ⌜ Holds (now s) (now t) (now w) × (((from ≤ length (now s)) × Leads (now s) (listOf (now w)) 0 from) × (Every SmallTag (walkAt (now s) from) × ((length (now counts) ≡ 19) × ((k : ℕ) → of (now counts) k ≡ 0)))) ⌝ }
     ensures { λ r. ⌜ TagsAre (allNames (now (s .entry)) (now (t .entry))) (now (s .entry)) (now (t .entry)) (walkAt (now (s .entry)) from) (now (counts .entry)) (now (counts .exit)) (now (w .entry)) (now (w .exit)) r ⌝ }
 {
     let mut c = Cursor {
@@ -242,13 +245,18 @@ pub fn check_tags(
         entry: 0,
         sets: 9,
         parts: 0,
+        walls: 0,
+        blocks: 0,
     };
     let mut j = 0;
     while c.at < s.len() {
+        if !opl_turns::few(c.parts, c.walls, c.blocks) {
+            return Judged::Nameless;
+        }
         let r = check_at(s, t, w, counts, c, j);
         match r {
             Checked::Done => {
-                return few_parts(c.parts, j);
+                return few_parts(c.parts, c.walls, c.blocks, j);
             }
             Checked::Unnamed => {
                 return Judged::Nameless;
@@ -259,17 +267,17 @@ pub fn check_tags(
             }
         }
     }
-    few_parts(c.parts, j)
+    few_parts(c.parts, c.walls, c.blocks, j)
 }
 
 // From how many there are of each kind to where each begins, if there are at most so many in all.
-pub fn begin(counts: &mut [usize; 17], cap: usize) -> Sum
-    requires { ⌜ length (now counts) ≡ 17 ⌝ }
+pub fn begin(counts: &mut [usize; 19], cap: usize) -> Sum
+    requires { ⌜ length (now counts) ≡ 19 ⌝ }
     ensures { λ r. ⌜ Sums (now (counts .entry)) (now (counts .exit)) cap r ⌝ }
 {
     let mut sum = 0;
     let mut k = 1;
-    while k < 17 {
+    while k < KINDS {
         let n = counts[k];
         if cap - sum < n {
             return Sum::Over;
@@ -286,11 +294,11 @@ fn write_at(
     s: &[u8],
     t: &[u8],
     w: &[u64],
-    next: &mut [usize; 17],
+    next: &mut [usize; 19],
     out: &mut [u8],
     c: Cursor,
 ) -> Wrote
-    requires { ⌜ (Holds (now s) (now t) (now w) × (Stood (now s) c × Led (now s) (listOf (now w)) c)) × ((thereFrom (allNames (now s) (now t)) (now s) c ≡ true) × ((length (now next) ≡ 17) × TagsFit (now s) c (now next) (now out))) ⌝ }
+    requires { ⌜ (Holds (now s) (now t) (now w) × (Stood (now s) c × ((few (contextOf c) ≡ true) × Led (now s) (listOf (now w)) c))) × ((thereFrom (allNames (now s) (now t)) (now s) c ≡ true) × ((length (now next) ≡ 19) × TagsFit (now s) c (now next) (now out))) ⌝ }
     ensures { λ r. ⌜ Writes (allNames (now (s .entry)) (now (t .entry))) (now (s .entry)) (listOf (now (w .entry))) c (now (next .entry)) (now (next .exit)) (now (out .entry)) (now (out .exit)) r ⌝ }
 {
     let x = turn(s, w, c);
@@ -317,8 +325,8 @@ fn write_at(
 }
 
 // All tags' records from `from` on.
-fn write_tags(s: &[u8], t: &[u8], w: &[u64], next: &mut [usize; 17], out: &mut [u8], from: usize)
-    requires { ⌜ (Holds (now s) (now t) (now w) × (((from ≤ length (now s)) × Leads (now s) (listOf (now w)) 0 from) × Every SmallTag (walkAt (now s) from))) × ((allThere (allNames (now s) (now t)) start (walkAt (now s) from) ≡ true) × ((length (now next) ≡ 17) × FitsAll (walkAt (now s) from) (now next) (now out))) ⌝ }
+fn write_tags(s: &[u8], t: &[u8], w: &[u64], next: &mut [usize; 19], out: &mut [u8], from: usize)
+    requires { ⌜ (Holds (now s) (now t) (now w) × (((from ≤ length (now s)) × Leads (now s) (listOf (now w)) 0 from) × Every SmallTag (walkAt (now s) from))) × (((fewFrom start (walkAt (now s) from) ≡ true) × (allThere (allNames (now s) (now t)) start (walkAt (now s) from) ≡ true)) × ((length (now next) ≡ 19) × FitsAll (walkAt (now s) from) (now next) (now out))) ⌝ }
     ensures { λ _. ⌜ now (out .exit) ≡ fill (allNames (now (s .entry)) (now (t .entry))) start (of (now (next .entry))) (walkAt (now (s .entry)) from) (now (out .entry)) ⌝ }
 {
     let mut c = Cursor {
@@ -326,6 +334,8 @@ fn write_tags(s: &[u8], t: &[u8], w: &[u64], next: &mut [usize; 17], out: &mut [
         entry: 0,
         sets: 9,
         parts: 0,
+        walls: 0,
+        blocks: 0,
     };
     while c.at < s.len() {
         let r = write_at(s, t, w, next, out, c);
@@ -339,8 +349,8 @@ fn write_tags(s: &[u8], t: &[u8], w: &[u64], next: &mut [usize; 17], out: &mut [
 // ---- The records that were kept.
 
 // Record j into the output, at the next place of its kind.
-fn put_kept(w: &[u64], next: &mut [usize; 17], out: &mut [u8], j: usize)
-    requires { ⌜ (length (now w) ≡ scratchWords) × ((j < keptRoom) × ((kindIn (now w) j < 17) × ((length (now next) ≡ 17) × (16 * of (now next) (kindIn (now w) j) + 16 ≤ length (now out))))) ⌝ }
+fn put_kept(w: &[u64], next: &mut [usize; 19], out: &mut [u8], j: usize)
+    requires { ⌜ (length (now w) ≡ scratchWords) × ((j < keptRoom) × ((kindIn (now w) j < 19) × ((length (now next) ≡ 19) × (16 * of (now next) (kindIn (now w) j) + 16 ≤ length (now out))))) ⌝ }
     ensures { λ _. ⌜ PutsKept (now (w .entry)) j (now (next .entry)) (now (next .exit)) (now (out .entry)) (now (out .exit)) ⌝ }
 {
     let at = TABLES + 2 * j;
@@ -353,8 +363,8 @@ fn put_kept(w: &[u64], next: &mut [usize; 17], out: &mut [u8], j: usize)
 }
 
 // The first n of them.
-fn write_kept(w: &[u64], next: &mut [usize; 17], out: &mut [u8], n: usize)
-    requires { ⌜ (length (now w) ≡ scratchWords) × ((n ≤ keptRoom) × ((length (now next) ≡ 17) × Fitting (now w) n (of (now next)) (now out))) ⌝ }
+fn write_kept(w: &[u64], next: &mut [usize; 19], out: &mut [u8], n: usize)
+    requires { ⌜ (length (now w) ≡ scratchWords) × ((n ≤ keptRoom) × ((length (now next) ≡ 19) × Fitting (now w) n (of (now next)) (now out))) ⌝ }
     ensures { λ _. ⌜ now (out .exit) ≡ writtenTo (now (w .entry)) n (of (now (next .entry))) (now (out .entry)) ⌝ }
 {
     let mut j = 0;
@@ -369,12 +379,12 @@ pub fn write_all(
     s: &[u8],
     t: &[u8],
     w: &[u64],
-    next: &mut [usize; 17],
+    next: &mut [usize; 19],
     out: &mut [u8],
     from: usize,
     n: usize,
 )
-    requires { ⌜ ((Holds (now s) (now t) (now w) × (((from ≤ length (now s)) × Leads (now s) (listOf (now w)) 0 from) × Every SmallTag (walkAt (now s) from))) × ((allThere (allNames (now s) (now t)) start (walkAt (now s) from) ≡ true) × ((length (now next) ≡ 17) × FitsAll (walkAt (now s) from) (now next) (now out)))) × Keeping (allNames (now s) (now t)) (walkAt (now s) from) (now w) n ⌝ }
+    requires { ⌜ ((Holds (now s) (now t) (now w) × (((from ≤ length (now s)) × Leads (now s) (listOf (now w)) 0 from) × Every SmallTag (walkAt (now s) from))) × (((fewFrom start (walkAt (now s) from) ≡ true) × (allThere (allNames (now s) (now t)) start (walkAt (now s) from) ≡ true)) × ((length (now next) ≡ 19) × FitsAll (walkAt (now s) from) (now next) (now out)))) × Keeping (allNames (now s) (now t)) (walkAt (now s) from) (now w) n ⌝ }
     ensures { λ _. ⌜ now (out .exit) ≡ fill (allNames (now (s .entry)) (now (t .entry))) start (of (now (next .entry))) (walkAt (now (s .entry)) from) (now (out .entry)) ⌝ }
 {
     if KEPT < n {

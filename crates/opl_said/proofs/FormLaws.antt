@@ -1,5 +1,5 @@
 -- The fields of a record, from the numbers that were found.
-use Prim.Native.Nat.{ℕ, _≤_, _<_}
+use Prim.Native.Nat.{ℕ, _/_, _%_, _≤_, _<_}
 use mathlib.Core.Path.{_≡_, refl, sym}
 use native.Mathlib.Omega.{arith}
 use borrow.Author.Tests.{lt-ltb, le-ltb}
@@ -11,7 +11,7 @@ use Rattle.opl_spaces.specs.Spaces.{limitOf}
 use Rattle.opl_spaces.proofs.SpaceLaws.{bounds}
 use Rattle.opl_turns.specs.Meaning.{innerOf}
 use Rattle.opl_said.specs.Said.{NumberIs}
-use Rattle.opl_said.specs.Forms.{Inner, bitsOf, oneSaid, twoSaid, threeSaid, setSaid, partitioningOf, FieldsAre}
+use Rattle.opl_said.specs.Forms.{Inner, bitsOf, oneSaid, twoSaid, threeSaid, setSaid, partitioningOf, wallOf, FieldsAre}
 use Rattle.opl_said.specs.declared.Fields.{Fields}
 use Rattle.opl_said.specs.declared.Fields.the-variants.{Numbers, Unnamed}
 use Rattle.opl_said.specs.declared.Group.{Group}
@@ -60,6 +60,19 @@ module _ (n : ℕ) (x : Maybe ℕ) where
 
   pub partition-is : n < 16 → (r : Fields) → FieldsAre (setSaid 0 (just n) x) r → FieldsAre (setSaid 0 (partitioningOf n) x) r
   partition-is h r k = rw (lt-ltb n 16 h) k
+
+module _ (n : ℕ) (x : Maybe ℕ) where
+  pub wall-none : 256 ≤ n → FieldsAre (threeSaid (wallOf n) (just (n % 16)) x) Unnamed
+  wall-none h = record { fields-are = rw (le-ltb n 256 h); fits = tt }
+
+  pub wall-unnamed : n < 256 → x ≡ none → FieldsAre (threeSaid (wallOf n) (just (n % 16)) x) Unnamed
+  wall-unnamed h e = record { fields-are = rw (lt-ltb n 256 h, e); fits = tt }
+
+  pub wall-is : (c : ℕ) → n < 256 → x ≡ just c → c < 65536 → FieldsAre (threeSaid (wallOf n) (just (n % 16)) x) (Numbers 0 (n / 16) (n % 16) c 0)
+  wall-is c h e k = record {
+    fields-are = rw (lt-ltb n 256 h, e);
+    fits = record { n-fits = omega arith; a-fits = omega arith; b-fits = omega arith; c-fits = k };
+  }
 
 -- ---- The elements and spaces that are looked for.
 pub operation-inner : Inner 15

@@ -1,6 +1,7 @@
 -- What a caller of an accepted text knows: each cardinality is small, and tables filled with all that is declared hold the names.
 use Prim.Native.Nat.{ℕ, zero, suc, _<_}
 use mathlib.Core.Path.{_≡_}
+use mathlib.Core.Bool.{Bool}
 use mathlib.Core.List.{List, []}
 use native.Mathlib.Omega.{arith}
 use lib.ListN.{length}
@@ -8,7 +9,7 @@ use Rattle.paper_lower.specs.Lists.{Every}
 use Rattle.paper_lower.proofs.ListLaws.{every-append}
 use Rattle.paper_opl.specs.Reading.{Text}
 use Rattle.paper_opl.specs.Reading.Read.{got}
-use Rattle.paper_opl.specs.Tree.{Tag, Elements, tagsOf, document}
+use Rattle.paper_opl.specs.Tree.{Tag, Elements, tagsOf, documentIn}
 use Rattle.paper_opl.specs.Tree.Elements.{nothing, node}
 use Rattle.paper_opl.specs.Naming.{spaceOf}
 use Rattle.paper_opl.specs.Walk.{tags, namesIn}
@@ -31,8 +32,8 @@ tree-cardinal nothing h = tt
 tree-cardinal (node w gs inside behind) h =
     (h .0, every-append (λ t. Every Small (t .given)) (tagsOf inside) (tagsOf behind) (tree-cardinal inside (h .1)) (tree-cardinal behind (h .2)))
 
-pub all-cardinal : (s : Text) (es : Elements) (r : Text) → document s ≡ got es r → AllCardinal (tags s)
-all-cardinal s es r e = rw (tags-are s es r e) (tree-cardinal es (document-small s es r e))
+pub all-cardinal : (all : Bool) (s : Text) (es : Elements) (r : Text) → documentIn all s ≡ got es r → AllCardinal (tags s)
+all-cardinal all s es r e = rw (tags-are all s es r e) (tree-cardinal es (document-small all s es r e))
 
 -- ---- The spaces.
 module _ (s t : Text) where

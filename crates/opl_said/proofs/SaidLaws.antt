@@ -1,5 +1,5 @@
 -- The record of each kind, from the fields that the code looks up for it.
-use Prim.Native.Nat.{ℕ}
+use Prim.Native.Nat.{ℕ, _%_}
 use Prim.Native.String.{String}
 use mathlib.Core.Path.{_≡_, refl, sym, ap, _∙_}
 use mathlib.Core.Bool.{true, false, true≢false}
@@ -16,12 +16,12 @@ use Rattle.paper_opl.specs.Naming.{Found, Row, Names, ofFirst, firstRows, lastR
 use Rattle.paper_opl.specs.Walk.{leading, rowOf, recordSaid}
 use Rattle.paper_lower.proofs.ListLaws.{both}
 use Rattle.paper_opl.proofs.Inversion.{on-test}
-use Rattle.paper_opl.proofs.SaidBy.{fields, said-1, said-2, said-3, said-4, said-5, said-7, said-8, said-9, said-10, said-11, said-12, said-13, said-14, said-15, said-16}
+use Rattle.paper_opl.proofs.SaidBy.{fields, said-1, said-2, said-3, said-4, said-5, said-7, said-8, said-9, said-10, said-11, said-12, said-13, said-14, said-15, said-16, said-17, said-18}
 use Rattle.opl_table.specs.Numbers.{names, nameOf}
 use Rattle.opl_tags.specs.Tags.{givenAt, walkAt}
 use Rattle.opl_turns.specs.Turning.{sayingAt}
 use Rattle.opl_said.specs.Said.{spaceAt, cardinalityAt, recordOf, SaysIt}
-use Rattle.opl_said.specs.Forms.{numberBy, insideAt, headOf, firstBy, setBy, oneSaid, twoSaid, threeSaid, setSaid, partitioningOf, FieldsAre}
+use Rattle.opl_said.specs.Forms.{numberBy, insideAt, headOf, firstBy, setBy, oneSaid, twoSaid, threeSaid, setSaid, partitioningOf, wallOf, FieldsAre}
 use Rattle.opl_said.specs.declared.Fields.{Fields}
 use Rattle.opl_said.specs.declared.Fields.the-variants.{Unnamed}
 
@@ -128,6 +128,14 @@ module _ (ns : Names) (s : Text) (number end : ℕ) (r : Fields) where
   unfolding spaceAt nameOf names elements each
   says-16 = two-say 16 r (recordSaid ns (sayingAt s 16 number end)) (by 64 5) (by 61 5) (said-16 ns x)
 
+  pub says-17 : FieldsAre (twoSaid (by 74 1) (by 75 1)) r → Says 17
+  unfolding spaceAt nameOf names elements each
+  says-17 = two-say 17 r (recordSaid ns (sayingAt s 17 number end)) (by 74 1) (by 75 1) (said-17 ns x)
+
+  pub says-18 : FieldsAre (threeSaid (wallOf number) (just (number % 16)) (by 58 4)) r → Says 18
+  unfolding spaceAt nameOf names elements each
+  says-18 = three-say 18 r (recordSaid ns (sayingAt s 18 number end)) (wallOf number) (just (number % 16)) (by 58 4) (said-18 ns x)
+
   abbrev inside : String → List Tag
   inside e = keep (λ t. same (t .name) (text e)) (leading (walkAt s end))
 
@@ -169,7 +177,7 @@ Beside [] k = Unit {0}
 Beside (n ∷ ns) k = Beside ns k × (k ≡ n → ⊥)
 
 abbrev pub kindsBack : List ℕ
-kindsBack = 16 ∷ 15 ∷ 14 ∷ 13 ∷ 12 ∷ 11 ∷ 10 ∷ 9 ∷ 8 ∷ 7 ∷ 5 ∷ 4 ∷ 3 ∷ 2 ∷ 1 ∷ []
+kindsBack = 18 ∷ 17 ∷ 16 ∷ 15 ∷ 14 ∷ 13 ∷ 12 ∷ 11 ∷ 10 ∷ 9 ∷ 8 ∷ 7 ∷ 5 ∷ 4 ∷ 3 ∷ 2 ∷ 1 ∷ []
 
 beside-is : (ns : List ℕ) (k : ℕ) → Beside ns k → some (eqb k) ns ≡ false
 unfolding some

@@ -1,5 +1,5 @@
 -- What a tag says, piece by piece: by its attributes, and by the elements in it; and the fields that the pieces make.
-use Prim.Native.Nat.{ℕ, _≤_, _<_}
+use Prim.Native.Nat.{ℕ, _/_, _≤_, _<_}
 use mathlib.Core.Path.{_≡_}
 use mathlib.Core.Bool.{true, cond}
 use mathlib.Core.List.{List, [], _∷_}
@@ -115,6 +115,10 @@ setSaid n (just a) (just m) = Numbers n a 0 0 m
 
 abbrev pub partitioningOf : ℕ → Maybe ℕ
 partitioningOf n = cond (ltb n 16) (just n) none
+
+-- the wall of a block's number
+abbrev pub wallOf : ℕ → Maybe ℕ
+wallOf n = cond (ltb n 256) (just (n / 16)) none
 
 pub record FieldsAre (want r : Fields) : Type 0 where
   pub fields-are : r ≡ want

@@ -1,7 +1,7 @@
 // What one tag of an accepted policy text says, as the numbers of a record. It rests on the tags of opl_tags and opl_turns and on the tables of names of
 // opl_spaces.
 ghost use mathlib.Core.Path.{_≡_};
-ghost use Prim.Native.Nat.{_-_, _≤_, _<_};
+ghost use Prim.Native.Nat.{_-_, _%_, _≤_, _<_};
 ghost use lib.ListN.{length};
 ghost use Rattle.paper_lower.specs.Lists.Maybe.{just};
 ghost use Rattle.paper_lower.specs.Sets.{plus};
@@ -14,7 +14,7 @@ ghost use Rattle.opl_turns.specs.Meaning.{innerOf};
 ghost use Rattle.opl_turns.specs.Listing.{Leads};
 ghost use Rattle.opl_turns.specs.Turning.{Cardinal, sayingAt};
 ghost use Rattle.opl_said.specs.Said.{spaceAt, allNames, Holds, NumberIs, cardinalityAt, SaysIt};
-ghost use Rattle.opl_said.specs.Forms.{fieldAt, Inner, MemberIs, NextIs, firstAt, setAt, bitsOf, oneSaid, twoSaid, threeSaid, setSaid, partitioningOf, FieldsAre};
+ghost use Rattle.opl_said.specs.Forms.{fieldAt, Inner, MemberIs, NextIs, firstAt, setAt, bitsOf, oneSaid, twoSaid, threeSaid, setSaid, partitioningOf, wallOf, FieldsAre};
 use opl_names::Found;
 use opl_spaces::BY_TAGS;
 use opl_spaces::OBJECTS;
@@ -29,6 +29,7 @@ use opl_table::CARDINALITY;
 use opl_table::CRITICAL_ROLE;
 use opl_table::CRITICAL_ROLES;
 use opl_table::CRITICAL_TASK;
+use opl_table::LOWER_ROLE;
 use opl_table::OBJECT;
 use opl_table::OBJECT_ID;
 use opl_table::OPERATION;
@@ -39,10 +40,16 @@ use opl_table::PREREQ_TASK_ID;
 use opl_table::ROLE_ID;
 use opl_table::TASK_ID;
 use opl_table::TEMPLATE_ID;
+use opl_table::UPPER_ROLE;
 use opl_table::USER_ID;
 use opl_tags::value_of;
 use opl_turns::Met;
 use opl_turns::meet;
+
+// There are numbers for so many partitionings, for so many blocks in a wall, and for so many blocks in all.
+const MOST: u64 = 16;
+
+const BLOCKS: u64 = 256;
 
 // The fields of a record; or a name in it has no number.
 pub enum Fields {
@@ -257,7 +264,7 @@ fn members(
     Group::Bits(m)
 }
 
-// ---- Records: of one name, of two, of one and a cardinality, of a permission, of a set.
+// ---- Records: of one name, of two, of one and a cardinality, of a permission, of a set, of a block.
 
 fn one(s: &[u8], t: &[u8], w: &[u64], end: usize, id: u64, i: usize) -> Fields
     requires { ⌜ Holds (now s) (now t) (now w) × ((end ≤ length (now s)) × (i < 7)) ⌝ }
@@ -371,7 +378,7 @@ fn partition(s: &[u8], t: &[u8], w: &[u64], number: u64, end: usize, entry: usiz
     requires { ⌜ Holds (now s) (now t) (now w) × ((end ≤ length (now s)) × Leads (now s) (listOf (now w)) entry end) ⌝ }
     ensures { λ r. ⌜ FieldsAre (setSaid 0 (partitioningOf number) (setAt (now (s .entry)) (now (t .entry)) end PARTITION-TASK TASK-ID TASKS)) r ⌝ }
 {
-    if 16 <= number {
+    if MOST <= number {
         return Fields::Unnamed;
     }
     of_set(
@@ -405,6 +412,27 @@ fn sized(
     of_set(s, t, w, n, 0, e, id, i, end, entry)
 }
 
+// An object in a block of a wall: there are numbers for 16 walls of 16 blocks.
+fn blocked(s: &[u8], t: &[u8], w: &[u64], number: u64, end: usize) -> Fields
+    requires { ⌜ Holds (now s) (now t) (now w) × (end ≤ length (now s)) ⌝ }
+    ensures { λ r. ⌜ FieldsAre (threeSaid (wallOf number) (just (number % 16)) (fieldAt (now (s .entry)) (now (t .entry)) end OBJECT-ID OBJECTS)) r ⌝ }
+{
+    if BLOCKS <= number {
+        return Fields::Unnamed;
+    }
+    let f = field(s, t, w, end, OBJECT_ID, OBJECTS);
+    let Found::At(c) = f else {
+        return Fields::Unnamed;
+    };
+    Fields::Numbers {
+        n: 0,
+        a: number / MOST,
+        b: number % MOST,
+        c: c as u64,
+        m: 0,
+    }
+}
+
 // What the tag whose name ends at `end`, and before what is behind it so many entries of the list lie, says as a record of the kind.
 pub fn said(
     s: &[u8],
@@ -434,6 +462,8 @@ pub fn said(
         14 => counted(s, t, w, end),
         15 => two(s, t, w, end, TASK_ID, TASKS, BOUND_TASK_ID, TASKS),
         16 => two(s, t, w, end, PREREQ_TASK_ID, TASKS, TASK_ID, TASKS),
+        17 => two(s, t, w, end, UPPER_ROLE, ROLES, LOWER_ROLE, ROLES),
+        18 => blocked(s, t, w, number, end),
         _ => Fields::Unnamed,
     }
 }

@@ -10,8 +10,8 @@ use borrow.Author.Tests.{eqb-true}
 use Rattle.paper_lower.specs.Lists.{some}
 use Rattle.paper_opl.specs.Reading.{Text, Read, text, same, behind, word, starts, expect, white, skip, space, inName, name, inValue, upTo, value, equals, misc}
 use Rattle.paper_opl.specs.Reading.Read.{got, bad}
-use Rattle.paper_opl.specs.Elements.{Attribute, Child, Element, elements, rowIn, one, next, mayEnd}
-use Rattle.paper_opl.specs.Tree.{Given, Elements, Tag as Tagged, tagsOf, fits, required, find, without, attribute, attributes, opening, ending, Inside, content, element, prolog, DEPTH, document}
+use Rattle.paper_opl.specs.Elements.{Attribute, Child, Element, elementsOf, rowIn, one, next, mayEnd}
+use Rattle.paper_opl.specs.Tree.{Given, Elements, Tag as Tagged, tagsOf, fits, required, find, without, attribute, attributes, opening, ending, Inside, content, element, prolog, DEPTH, documentIn}
 use Rattle.paper_opl.specs.Tree.Elements.{nothing}
 use Rattle.paper_opl.specs.Walk.{plain, givens, closed, tags}
 use Rattle.paper_opl.proofs.Inversion.{on, on-test, on-found, bad≢got, got-rest, got-value}
@@ -306,17 +306,17 @@ unfolding nextTag text expect opens
 nothing-left s e = stop s [] (rw (misc-open s [] e refl))
 
 -- from behind the prolog on
-pub tags-met : (s : Text) (es : Elements) (r u : Text) → document s ≡ got es r → prolog s ≡ got tt u → tags s ≡ walk u
-unfolding document tagsOf
-tags-met s es r u e p =
-    tags-are s es r e ∙
-    on (opening (one "policy_object" ∷ []) u) (λ c z o. on (element elements DEPTH (c .name) z) (λ i y h. on (misc (length y) y) (λ _ x m. on-test (same x [])
+pub tags-met : (all : Bool) (s : Text) (es : Elements) (r u : Text) → documentIn all s ≡ got es r → prolog s ≡ got tt u → tags s ≡ walk u
+unfolding documentIn tagsOf
+tags-met all s es r u e p =
+    tags-are all s es r e ∙
+    on (opening (one "policy_object" ∷ []) u) (λ c z o. on (element (elementsOf all) DEPTH (c .name) z) (λ i y h. on (misc (length y) y) (λ _ x m. on-test (same x [])
     (λ f.
     let k = rw (p, o, h, m, f) at e in
     let b = begun (one "policy_object" ∷ []) u c z o in
     rw (
       sym (got-value k),
-      entered u u (c .name) z i y (misc-here (length u) u (b .behind) (b .sign) (b .no-comment)) b (element-walk elements DEPTH (c .name) z i y h),
+      entered u u (c .name) z i y (misc-here (length u) u (b .behind) (b .sign) (b .no-comment)) b (element-walk (elementsOf all) DEPTH (c .name) z i y h),
       nothing-left y (m ∙ ap (got tt) (same-end x f)),
     )
     )

@@ -16,7 +16,7 @@ use Rattle.paper_opl.specs.Walk.{Context, turn, kinds, kindIn, kindAt, innerNam
 use Rattle.paper_opl.proofs.Inversion.{on-test}
 use Rattle.paper_opl.proofs.Conforms.{same-true}
 use Rattle.opl_table.specs.Numbers.{names, nameOf, packed, wordAt, numberAt}
-use Rattle.opl_turns.specs.Meaning.{guesses, guessOf, elementOf, inners, innerOf, kindList, kindBy, setsBy, partsBy}
+use Rattle.opl_turns.specs.Meaning.{guesses, guessOf, elementOf, inners, innerOf, kindList, kindBy, setsBy, partsBy, wallsBy, blocksBy}
 
 -- ---- The two tables, computed.
 
@@ -50,11 +50,12 @@ below-at p (suc n) k h a =
 tells : ℕ → Bool
 tells g =
     ltb g 128
-    && (ltb (numberAt kindList g) 17
+    && (ltb (numberAt kindList g) 19
     && (eqb (kindIn kinds (nameOf g)) (numberAt kindList g)
     && (named g (text "critical_role_set") 23
     && (named g (text "static_separation_of_duty") 20
-    && (named g (text "dynamic_separation_of_duty") 21 && (named g (text "hdsodtp_partitioning") 38 && named g (text "hdsodtp_partition") 39))))))
+    && (named g (text "dynamic_separation_of_duty") 21 && (named g (text "hdsodtp_partitioning") 38 && (named g (text "hdsodtp_partition") 39
+    && (named g (text "module_chinese_wall_policy") 69 && (named g (text "cw_partition") 71 && named g (text "partition_object") 72)))))))))
 
 guesses-tell : every (λ h. tells (numberAt guesses h)) (countTo 64) ≡ true
 unfolding listsOpen readingOpen elementsOpen kinds kindIn names nameOf kindList guesses tells alike countTo numberAt wordAt packed
@@ -69,9 +70,10 @@ unfolding listsOpen readingOpen elementsOpen kinds names nameOf guesses guessOf 
 kinds-guessed = refl
 
 others-guessed : (guessed (text "critical_role_set") ≡ true) × (guessed (text "static_separation_of_duty") ≡ true) ×
-    (guessed (text "dynamic_separation_of_duty") ≡ true) × (guessed (text "hdsodtp_partitioning") ≡ true) × (guessed (text "hdsodtp_partition") ≡ true)
+    (guessed (text "dynamic_separation_of_duty") ≡ true) × (guessed (text "hdsodtp_partitioning") ≡ true) × (guessed (text "hdsodtp_partition") ≡ true) ×
+    (guessed (text "module_chinese_wall_policy") ≡ true) × (guessed (text "cw_partition") ≡ true) × (guessed (text "partition_object") ≡ true)
 unfolding listsOpen readingOpen elementsOpen names nameOf guesses guessOf numberAt wordAt packed
-others-guessed = (refl, refl, refl, refl, refl)
+others-guessed = (refl, refl, refl, refl, refl, refl, refl, refl)
 
 -- ---- Any name.
 
@@ -80,7 +82,7 @@ mod-lt n = omega arith
 
 guess-tells : (w : Text) → tells (guessOf w) ≡ true
 unfolding guessOf
-guess-tells w = below-at (λ h. tells (numberAt guesses h)) 64 _ guesses-tell (mod-lt (length w + 17 * getD w (length w - 1) 0))
+guess-tells w = below-at (λ h. tells (numberAt guesses h)) 64 _ guesses-tell (mod-lt (length w + 47 * getD w (length w - 1) 0 + 3 * getD w 0 0))
 
 unlike : (x w : Text) → guessed x ≡ true → guessed w ≡ false → same w x ≡ false
 unlike x w g f = on-test (same w x) (λ q. absurd (false≢true (sym f ∙ ap (λ (v : Text). guessed v) (same-true w x q) ∙ g))) (λ q. q)
@@ -95,24 +97,30 @@ kind-none (x ∷ xs) w h f =
 -- what a name tells, by its number
 pub record Meant (w : Text) (id : ℕ) : Type 0 where
   pub low : id < 128
-  pub small : numberAt kindList id < 17
+  pub small : numberAt kindList id < 19
   pub kind : kindIn kinds w ≡ numberAt kindList id
   pub set : same w (text "critical_role_set") ≡ eqb id 23
   pub static : same w (text "static_separation_of_duty") ≡ eqb id 20
   pub dynamic : same w (text "dynamic_separation_of_duty") ≡ eqb id 21
   pub partitioning : same w (text "hdsodtp_partitioning") ≡ eqb id 38
   pub partition : same w (text "hdsodtp_partition") ≡ eqb id 39
+  pub wall : same w (text "module_chinese_wall_policy") ≡ eqb id 69
+  pub block : same w (text "cw_partition") ≡ eqb id 71
+  pub object : same w (text "partition_object") ≡ eqb id 72
 
 by-number : (g : ℕ) → tells g ≡ true → Meant (nameOf g) g
 unfolding tells
 by-number g h =
     let y = both (ltb g 128) _ h in
-    let z = both (ltb (numberAt kindList g) 17) _ (y .1) in
+    let z = both (ltb (numberAt kindList g) 19) _ (y .1) in
     let a = both (eqb (kindIn kinds (nameOf g)) (numberAt kindList g)) _ (z .1) in
     let b = both (named g (text "critical_role_set") 23) _ (a .1) in
     let c = both (named g (text "static_separation_of_duty") 20) _ (b .1) in
     let d = both (named g (text "dynamic_separation_of_duty") 21) _ (c .1) in
-    let e = both (named g (text "hdsodtp_partitioning") 38) (named g (text "hdsodtp_partition") 39) (d .1) in
+    let e = both (named g (text "hdsodtp_partitioning") 38) _ (d .1) in
+    let f = both (named g (text "hdsodtp_partition") 39) _ (e .1) in
+    let i = both (named g (text "module_chinese_wall_policy") 69) _ (f .1) in
+    let j = both (named g (text "cw_partition") 71) (named g (text "partition_object") 72) (i .1) in
     record {
       low = ltb-true _ _ (y .0);
       small = ltb-true _ _ (z .0);
@@ -121,10 +129,13 @@ by-number g h =
       static = alike-is _ _ (c .0);
       dynamic = alike-is _ _ (d .0);
       partitioning = alike-is _ _ (e .0);
-      partition = alike-is _ _ (e .1);
+      partition = alike-is _ _ (f .0);
+      wall = alike-is _ _ (i .0);
+      block = alike-is _ _ (j .0);
+      object = alike-is _ _ (j .1);
     }
 
-unguessed : (w : Text) → guessed w ≡ false → Meant w 65
+unguessed : (w : Text) → guessed w ≡ false → Meant w 127
 unfolding kindList numberAt wordAt packed
 unguessed w f =
     record {
@@ -136,6 +147,9 @@ unguessed w f =
       dynamic = unlike _ w (others-guessed .2) f;
       partitioning = unlike _ w (others-guessed .3) f;
       partition = unlike _ w (others-guessed .4) f;
+      wall = unlike _ w (others-guessed .5) f;
+      block = unlike _ w (others-guessed .6) f;
+      object = unlike _ w (others-guessed .7) f;
     }
 
 pub meant : (w : Text) → Meant w (elementOf w)
@@ -145,16 +159,16 @@ meant w =
     (λ q. let e = same-true w (nameOf (guessOf w)) q in rw q (rw (← e) at (by-number (guessOf w) (guess-tells w))))
     (λ q. rw q (unguessed w q))
 
-pub no-name : (w : Text) → length w ≡ 0 → 65 ≡ guessOf w
+pub no-name : (w : Text) → length w ≡ 0 → 127 ≡ guessOf w
 unfolding guesses guessOf numberAt wordAt packed
 no-name [] e = refl
 no-name (b ∷ w) e = absurd (omega (arith, e))
 
--- ---- The elements that declare names, 12 to 16, and those that stand in others.
+-- ---- The elements that declare names, 12 to 16 and 72, and those that stand in others.
 
 -- with a place in a list
 sought : List ℕ
-sought = 12 ∷ 13 ∷ 14 ∷ 15 ∷ 16 ∷ 24 ∷ 25 ∷ 36 ∷ 40 ∷ []
+sought = 12 ∷ 13 ∷ 14 ∷ 15 ∷ 16 ∷ 24 ∷ 25 ∷ 36 ∷ 40 ∷ 72 ∷ []
 
 guesses-sought : every (λ h. every (λ e. named (numberAt guesses h) (nameOf e) e) sought) (countTo 64) ≡ true
 unfolding listsOpen readingOpen elementsOpen names nameOf guesses alike sought countTo numberAt wordAt packed
@@ -174,11 +188,11 @@ every-at p (d ∷ es) e h a =
 guess-sought : (w : Text) → every (λ e. named (guessOf w) (nameOf e) e) sought ≡ true
 unfolding guessOf
 guess-sought w =
-    below-at (λ h. every (λ e. named (numberAt guesses h) (nameOf e) e) sought) 64 _ guesses-sought (mod-lt (length w + 17 * getD w (length w - 1) 0))
+    below-at (λ h. every (λ e. named (numberAt guesses h) (nameOf e) e) sought) 64 _ guesses-sought (mod-lt (length w + 47 * getD w (length w - 1) 0 + 3 * getD w 0 0))
 
-unguessed-other : (e : ℕ) → some (eqb e) sought ≡ true → eqb 65 e ≡ false
+unguessed-other : (e : ℕ) → some (eqb e) sought ≡ true → eqb 127 e ≡ false
 unfolding some sought
-unguessed-other e h = on-test (eqb 65 e) (λ q. let z = eqb-true 65 e q in absurd (false≢true (rw (← z) at h))) (λ q. q)
+unguessed-other e h = on-test (eqb 127 e) (λ q. let z = eqb-true 127 e q in absurd (false≢true (rw (← z) at h))) (λ q. q)
 
 named-by : (w : Text) (e : ℕ) → some (eqb e) sought ≡ true → same w (nameOf e) ≡ eqb (elementOf w) e
 unfolding elementOf
@@ -201,6 +215,10 @@ declarers-sought (suc (suc (suc (suc (suc i))))) h = absurd (omega arith)
 pub declares-by : (w : Text) (i : ℕ) → i < 5 → same w (nameOf (12 + i)) ≡ eqb (elementOf w) (12 + i)
 declares-by w i h = named-by w (12 + i) (declarers-sought i h)
 
+pub objects-by : (w : Text) → same w (nameOf 72) ≡ eqb (elementOf w) 72
+unfolding listsOpen sought
+objects-by w = named-by w 72 refl
+
 inners-sought : every (λ e. some (eqb e) sought) inners ≡ true
 unfolding listsOpen sought
 inners-sought = refl
@@ -220,10 +238,20 @@ module _ (c : Context) (t : Tag) where
   unfolding kindBy
   kind-is = let m = meant (t .name) in rw (m .set, m .kind)
 
-  pub turn-is : turn c t ≡ record { sets = setsBy (c .sets) (elementOf (t .name)); partitionings = partsBy (c .partitionings) (elementOf (t .name)) }
+  pub turn-is : turn c t ≡ record {
+    sets = setsBy (c .sets) (elementOf (t .name));
+    partitionings = partsBy (c .partitionings) (elementOf (t .name));
+    walls = wallsBy (c .walls) (elementOf (t .name));
+    blocks = blocksBy (c .walls) (c .blocks) (elementOf (t .name));
+  }
   unfolding turn
-  turn-is = let m = meant (t .name) in let z : suc (c .partitionings) ≡ c .partitionings + 1 = omega arith in rw (m .static, m .dynamic, m .partitioning, z)
+  turn-is =
+      let m = meant (t .name) in
+      let x : suc (c .partitionings) ≡ c .partitionings + 1 = omega arith in
+      let y : suc (c .walls) ≡ c .walls + 1 = omega arith in
+      let z : suc (c .blocks) ≡ c .blocks + 1 = omega arith in
+      rw (m .static, m .dynamic, m .partitioning, m .wall, m .block, x, y, z)
 
-pub kind-small : (sets : ℕ) (w : Text) → sets ≤ 10 → kindBy sets (elementOf w) < 17
+pub kind-small : (sets : ℕ) (w : Text) → sets ≤ 10 → kindBy sets (elementOf w) < 19
 unfolding kindBy
 kind-small sets w h = on-test (eqb (elementOf w) 23) (λ q. rw q (omega arith)) (λ q. rw q (meant w .small))

@@ -1,19 +1,24 @@
 // What each tag of a text tells, from tag to tag: the kind of record that it says, by the name of its element and by the tags before it; and the list of the start tags,
 // by which a second walk need not look at the text. It rests on the tags of opl_tags, on the names of opl_table and on the scratch of opl_spaces.
 ghost use mathlib.Core.Path.{_≡_};
-ghost use Prim.Native.Nat.{_≤_, _<_};
+ghost use mathlib.Core.Bool.{true};
+ghost use Prim.Native.Nat.{_-_, _≤_, _<_};
 ghost use lib.ListN.{length};
+ghost use Rattle.paper_opl.specs.Walk.{few as fewOf};
 ghost use Rattle.opl_spaces.specs.Spaces.{scratchWords, listOf};
 ghost use Rattle.opl_table.specs.Numbers.{wordAt, digit as digitOf};
-ghost use Rattle.opl_turns.specs.Meaning.{guesses, guessOf, elementOf, kindList, kindBy, setsBy, partsBy, numberBy};
+ghost use Rattle.opl_turns.specs.Meaning.{guesses, guessOf, elementOf, kindList, kindBy, setsBy, partsBy, wallsBy, blocksBy, numberBy, fewBy};
 ghost use Rattle.opl_turns.specs.Listing.{entered, Leads, Reads, Meets};
-ghost use Rattle.opl_turns.specs.Turning.{turnedBy, Stood, Led, Turns};
+ghost use Rattle.opl_turns.specs.Turning.{contextOf, turnedBy, Stood, Led, Turns};
 use opl_spaces::LIST;
 use opl_spaces::LISTED;
+use opl_table::CHINESE_WALL;
 use opl_table::CRITICAL_ROLE_SET;
+use opl_table::CW_PARTITION;
 use opl_table::DYNAMIC_SEPARATION;
 use opl_table::NO_NAME;
 use opl_table::PARTITION;
+use opl_table::PARTITION_OBJECT;
 use opl_table::PARTITIONING;
 use opl_table::STATIC_SEPARATION;
 use opl_table::is_name;
@@ -28,13 +33,18 @@ const STATIC_SET: u64 = 9;
 
 const DYNAMIC_SET: u64 = 10;
 
-// A place in the text, with how many entries of the list lie before it, and with what the tags before it told: the kind of a set of roles, and how many partitionings
-// have begun.
+// There are numbers for so many partitionings, for so many walls, and for so many blocks of each wall.
+const MOST: usize = 16;
+
+// A place in the text, with how many entries of the list lie before it, and with what the tags before it told: the kind of a set of roles, how many partitionings and
+// walls have begun, and the number behind that of the last block, which is 16 times its wall's and its place there.
 pub struct Cursor {
     pub at: usize,
     pub entry: usize,
     pub sets: u64,
     pub parts: usize,
+    pub walls: usize,
+    pub blocks: usize,
 }
 
 // A start tag of the element, its name ending at `end`, with how many entries lie before what is behind it; or an end tag, passed to this place; or no tag any more.
@@ -70,14 +80,14 @@ fn guess_word(j: u64) -> u64
     ensures { λ r. ⌜ r ≡ wordAt guesses j ⌝ }
 {
     match j {
-        0 => 0x4123174111194141,
-        1 => 0x211d41412e41121e,
-        2 => 0x0f0c414141414141,
-        3 => 0x2741414141412b0e,
-        4 => 0x4141414115144141,
-        5 => 0x4141414126412824,
-        6 => 0x4141414141411841,
-        7 => 0x4141414131100d41,
+        0 => 0x23177f7f281d197f,
+        1 => 0x7f217f0e7f7f2e0f,
+        2 => 0x7f7f7f187f430c7f,
+        3 => 0x107f7f7f247f7f45,
+        4 => 0x477f0d7f2b7f7f7f,
+        5 => 0x7f7f7f48317f147f,
+        6 => 0x7f7f267f7f7f127f,
+        7 => 0x7f7f151e27117f7f,
         _ => 0,
     }
 }
@@ -93,6 +103,9 @@ fn kind_word(j: u64) -> u64
         4 => 0x0c0000000b000d00,
         5 => 0x000f00000e000000,
         6 => 0x0000000000001000,
+        7 => 0x0000000000000000,
+        8 => 0x0000000011000000,
+        9 => 0x0000000000000012,
         _ => 0,
     }
 }
@@ -110,7 +123,7 @@ fn guess(v: &[u8]) -> u64
     if n == 0 {
         return NO_NAME;
     }
-    let h = (n as u64 + 17 * wide(v[n - 1])) % 64;
+    let h = (n as u64 + 47 * wide(v[n - 1]) + 3 * wide(v[0])) % 64;
     digit(guess_word(h / 8), h)
 }
 
@@ -199,7 +212,7 @@ fn sets_by(sets: u64, id: u64) -> u64
 }
 
 fn parts_by(parts: usize, id: u64) -> usize
-    requires { ⌜ parts < 18446744073709551615 ⌝ }
+    requires { ⌜ parts ≤ 16 ⌝ }
     ensures { λ r. ⌜ r ≡ partsBy parts id ⌝ }
 {
     if id == PARTITIONING {
@@ -208,21 +221,66 @@ fn parts_by(parts: usize, id: u64) -> usize
     parts
 }
 
-fn number_by(parts: usize, id: u64) -> u64
-    ensures { λ r. ⌜ r ≡ numberBy parts id ⌝ }
+fn walls_by(walls: usize, id: u64) -> usize
+    requires { ⌜ walls ≤ 16 ⌝ }
+    ensures { λ r. ⌜ r ≡ wallsBy walls id ⌝ }
 {
-    if id != PARTITION {
+    if id == CHINESE_WALL {
+        return walls + 1;
+    }
+    walls
+}
+
+fn blocks_by(walls: usize, blocks: usize, id: u64) -> usize
+    requires { ⌜ (walls ≤ 16) × (blocks ≤ 256) ⌝ }
+    ensures { λ r. ⌜ r ≡ blocksBy walls blocks id ⌝ }
+{
+    if id == CHINESE_WALL {
+        return MOST * walls;
+    }
+    if id == CW_PARTITION {
+        return blocks + 1;
+    }
+    blocks
+}
+
+fn last(n: usize) -> u64
+    ensures { λ r. ⌜ r ≡ n - 1 ⌝ }
+{
+    if n == 0 {
         return 0;
     }
-    if parts == 0 {
-        return 0;
+    (n - 1) as u64
+}
+
+fn number_by(parts: usize, blocks: usize, id: u64) -> u64
+    ensures { λ r. ⌜ r ≡ numberBy parts blocks id ⌝ }
+{
+    if id == PARTITION {
+        return last(parts);
     }
-    (parts - 1) as u64
+    if id == PARTITION_OBJECT {
+        return last(blocks);
+    }
+    0
+}
+
+// There are numbers for what has begun.
+pub fn few(parts: usize, walls: usize, blocks: usize) -> bool
+    ensures { λ r. ⌜ r ≡ fewBy parts walls blocks ⌝ }
+{
+    if MOST < parts {
+        return false;
+    }
+    if MOST < walls {
+        return false;
+    }
+    blocks <= MOST * walls
 }
 
 // The start tag of the element, whose name ends at `end`, and before what is behind it so many entries lie.
 fn told(id: u64, c: Cursor, end: usize, entry: usize) -> Turned
-    requires { ⌜ c .parts < 18446744073709551615 ⌝ }
+    requires { ⌜ fewOf (contextOf c) ≡ true ⌝ }
     ensures { λ r. ⌜ r ≡ turnedBy id c end entry ⌝ }
 {
     let kind = kind_by(c.sets, id);
@@ -231,21 +289,23 @@ fn told(id: u64, c: Cursor, end: usize, entry: usize) -> Turned
         entry,
         sets: sets_by(c.sets, id),
         parts: parts_by(c.parts, id),
+        walls: walls_by(c.walls, id),
+        blocks: blocks_by(c.walls, c.blocks, id),
     };
     if kind == 0 {
         return Turned::Silent(n);
     }
     Turned::Says {
         kind,
-        number: number_by(c.parts, id),
+        number: number_by(c.parts, c.blocks, id),
         end,
         next: n,
     }
 }
 
-// The next tag from a cursor on.
+// The next tag from a cursor on, where there are numbers for what has begun.
 pub fn turn(s: &[u8], w: &[u64], c: Cursor) -> Turned
-    requires { ⌜ (length (now w) ≡ scratchWords) × (Stood (now s) c × Led (now s) (listOf (now w)) c) ⌝ }
+    requires { ⌜ (length (now w) ≡ scratchWords) × (Stood (now s) c × ((fewOf (contextOf c) ≡ true) × Led (now s) (listOf (now w)) c)) ⌝ }
     ensures { λ r. ⌜ Turns (now (s .entry)) (listOf (now (w .entry))) c r ⌝ }
 {
     let t = meet(s, w, c.at, c.entry);
@@ -256,6 +316,8 @@ pub fn turn(s: &[u8], w: &[u64], c: Cursor) -> Turned
             entry: c.entry,
             sets: c.sets,
             parts: c.parts,
+            walls: c.walls,
+            blocks: c.blocks,
         }),
         Met::Begun { id, end, entry } => told(id, c, end, entry),
     }

@@ -1,47 +1,10 @@
--- The answer as one number.
-use Rattle.opl.proofs.CallLaws.{small-reply, exported}
-use lib.ListN.{length}
-use native.Mathlib.Omega.{arith}
-use denote.Ref.{now}
+-- As the shared call answers.
 use borrow.Author.Needs.{needs}
 use Rattle.opl.proofs.mishantral_opl.Statement.{statement}
 use Rattle.opl.proofs.mishantral_opl.Tie as tie
 
-translate-requires : tie.Need-translate-requires
-translate-requires c κs = search needs
-
-shown-requires : tie.Need-shown-requires
-shown-requires c κs = search needs
-
-mul-result : tie.Need-mul-result
-mul-result c = search needs
-
-add-result : tie.Need-add-result
-add-result c =
-    let b =
-    let args = c .before .before .before .before .before .before .before .before .before .before .before .before .before .args in
-    let translate = c .before .before .before .before .before .before .translate in
-    small-reply (now (args .policy)) (now (args .lines)) (length (now (args .scratch))) (now (args .output)) (translate .last .1 .1 .0) (translate .result)
-    (translate .ensures) in
-    omega (arith, b .0, b .1)
-
-mul-result-2 : tie.Need-mul-result-2
-mul-result-2 c =
-    let b =
-    let args = c .before .before .before .before .before .before .before .before .before .before .before .before .before .args in
-    let translate = c .before .before .before .before .before .before .translate in
-    small-reply (now (args .policy)) (now (args .lines)) (length (now (args .scratch))) (now (args .output)) (translate .last .1 .1 .0) (translate .result)
-    (translate .ensures) in
-    omega (arith, b .0, b .1)
-
-add-result-2 : tie.Need-add-result-2
-add-result-2 c =
-    let b =
-    let args = c .before .before .before .before .before .before .before .before .before .before .before .before .before .before .args in
-    let translate = c .before .before .before .before .before .before .before .translate in
-    small-reply (now (args .policy)) (now (args .lines)) (length (now (args .scratch))) (now (args .output)) (translate .last .1 .1 .0) (translate .result)
-    (translate .ensures) in
-    omega (arith, b .0, b .1)
+call-requires : tie.Need-call-requires
+call-requires c κs = search needs
 
 same-length : tie.Need-same-length
 same-length c = search needs
@@ -50,22 +13,7 @@ same-length-2 : tie.Need-same-length-2
 same-length-2 c = search needs
 
 returns : tie.Need-returns
-returns c =
-    let args = c .before .before .before .before .before .before .before .before .before .before .before .before .before .before .args in
-    let translate = c .before .before .before .before .before .before .before .translate in
-    rw (c .before .before .shown .ensures) (exported (now (args .policy)) (now (args .lines)) (length (now (args .scratch))) (now (args .output))
-    (translate .last .1 .1 .0) (translate .result) (translate .ensures))
+returns c = c .before .before .before .before .call .ensures
 
 pub mishantral-opl-spec : {M : Type 1} → statement M
-mishantral-opl-spec =
-    tie.close
-    (tie.spec
-    translate-requires
-    shown-requires
-    mul-result
-    add-result
-    mul-result-2
-    add-result-2
-    same-length
-    same-length-2
-    returns)
+mishantral-opl-spec = tie.close (tie.spec call-requires same-length same-length-2 returns)

@@ -32,7 +32,7 @@ returns c =
 check-tags-requires : tie.Need-check-tags-requires
 check-tags-requires c κs =
     let pre = c .before .before .before .before .before .before .before .before .before .before .before .pre in
-    (pre .held, ((pre .inside, pre .leads), (pre .small, (refl, zeros-at 17))))
+    (pre .held, ((pre .inside, pre .leads), (pre .small, (refl, zeros-at 19))))
 
 enum-known-k : tie.Need-enum-known-k
 enum-known-k c = search needs
@@ -52,7 +52,7 @@ returns-2 c =
     .args in
     let pre = c .before .before .before .before .before .before .before .before .before .before .before .before .before .before .before .before .before .pre in
     let check-tags = c .before .before .before .before .before .check-tags in
-    rw (c .refused2 .ensures) (no-tag (now (args .s)) (now (args .t)) (now (args .out)) (args .from) (pre .tags-are) (replicate 17 0)
+    rw (c .refused2 .ensures) (no-tag (now (args .s)) (now (args .t)) (now (args .out)) (args .from) (pre .tags-are) (replicate 19 0)
     (check-tags .last .1 .1 .1 .0) (rw (c .before .enum-told2 .given .1) at (check-tags .ensures)))
 
 array-write-counts : tie.Need-array-write-counts
@@ -67,8 +67,8 @@ begin-requires c κs =
     let check-lines = c .before .before .before .before .before .before .before .before .before .before .before .before .check-lines in
     let l = c .before .before .before .before .before .before .before .before .before .before .l in
     let check-tags = c .before .before .before .before .before .before .check-tags in
-    room₂ (now (args .s)) (now (args .t)) (now (args .out)) (args .from) (pre .tags-are) (replicate 17 0) (check-tags .last .1 .1 .1 .0)
-    ((rw (l .given .1) at (check-lines .ensures)) .0) refl (zeros-at 17) ((rw (c .before .before .k .given .1) at (check-tags .ensures)) .0) (l .given .0 .0)
+    room₂ (now (args .s)) (now (args .t)) (now (args .out)) (args .from) (pre .tags-are) (replicate 19 0) (check-tags .last .1 .1 .1 .0)
+    ((rw (l .given .1) at (check-lines .ensures)) .0) refl (zeros-at 19) ((rw (c .before .before .k .given .1) at (check-tags .ensures)) .0) (l .given .0 .0)
     ((rw (l .given .1) at (check-lines .ensures)) .1 .0)
 
 enum-known-b : tie.Need-enum-known-b
@@ -95,8 +95,8 @@ returns-3 c =
     let check-tags = c .before .before .before .before .before .before .before .before .before .before .check-tags in
     let k = c .before .before .before .before .before .before .k in
     let begin = c .before .before .before .begin in
-    rw (c .refused3 .ensures) (no-room (now (args .s)) (now (args .t)) (now (args .out)) (args .from) (pre .tags-are) (replicate 17 0)
-    (check-tags .last .1 .1 .1 .0) ((rw (l .given .1) at (check-lines .ensures)) .0) refl (zeros-at 17) ((rw (k .given .1) at (check-tags .ensures)) .0)
+    rw (c .refused3 .ensures) (no-room (now (args .s)) (now (args .t)) (now (args .out)) (args .from) (pre .tags-are) (replicate 19 0)
+    (check-tags .last .1 .1 .1 .0) ((rw (l .given .1) at (check-lines .ensures)) .0) refl (zeros-at 19) ((rw (k .given .1) at (check-tags .ensures)) .0)
     (l .given .0 .0) ((rw (l .given .1) at (check-lines .ensures)) .1 .0) (rw (c .before .enum-told3 .given .1) at (begin .ensures)))
 
 array-read-first : tie.Need-array-read-first
@@ -118,8 +118,8 @@ write-lines-requires c κs =
       ((rw (k .given .1) at (check-tags .ensures)) .1 .0 .0, pre .task-lines),
       (
         (rw (l .given .1) at (check-lines .ensures)) .0,
-        lines-fit (now (args .s)) (now (args .t)) (now (args .out)) (args .from) (pre .tags-are) (replicate 17 0) (check-tags .last .1 .1 .1 .0)
-            ((rw (l .given .1) at (check-lines .ensures)) .0) refl (zeros-at 17) ((rw (k .given .1) at (check-tags .ensures)) .0) (l .given .0 .0)
+        lines-fit (now (args .s)) (now (args .t)) (now (args .out)) (args .from) (pre .tags-are) (replicate 19 0) (check-tags .last .1 .1 .1 .0)
+            ((rw (l .given .1) at (check-lines .ensures)) .0) refl (zeros-at 19) ((rw (k .given .1) at (check-tags .ensures)) .0) (l .given .0 .0)
             ((rw (l .given .1) at (check-lines .ensures)) .1 .0) (begin .last .0) (b .given .0 .0) (rw (b .given .1) at (begin .ensures)),
       ),
     )
@@ -146,12 +146,12 @@ write-all-requires c κs =
           ((pre .inside, rw ((rw (k .given .1) at (check-tags .ensures)) .1 .0 .1) (pre .leads)), pre .small),
         ),
         (
-          tags-there (now (args .s)) (now (args .t)) (walkAt (now (args .s)) (args .from)) (replicate 17 0) (check-tags .last .1 .1 .1 .0)
+          tags-there (now (args .s)) (now (args .t)) (walkAt (now (args .s)) (args .from)) (replicate 19 0) (check-tags .last .1 .1 .1 .0)
               ((rw (k .given .1) at (check-tags .ensures)) .0),
           (
             (rw (b .given .1) at (begin .ensures)) .kinds,
-            tags-fit (now (args .s)) (now (args .t)) (now (args .out)) (args .from) (pre .tags-are) (replicate 17 0) (check-tags .last .1 .1 .1 .0)
-                ((rw (l .given .1) at (check-lines .ensures)) .0) refl (zeros-at 17) ((rw (k .given .1) at (check-tags .ensures)) .0)
+            tags-fit (now (args .s)) (now (args .t)) (now (args .out)) (args .from) (pre .tags-are) (replicate 19 0) (check-tags .last .1 .1 .1 .0)
+                ((rw (l .given .1) at (check-lines .ensures)) .0) refl (zeros-at 19) ((rw (k .given .1) at (check-tags .ensures)) .0)
                 (l .given .0 .0) ((rw (l .given .1) at (check-lines .ensures)) .1 .0) (begin .last .0) (b .given .0 .0)
                 (rw (b .given .1) at (begin .ensures)) (write-lines .last .1 .1 .1 .0) (write-lines .kept .1 .1 .1 .0) (write-lines .ensures),
           ),
@@ -183,8 +183,8 @@ returns-4 c =
     let b = c .before .before .before .before .before .before .before .before .before .before .before .before .b in
     let write-lines = c .before .before .before .before .before .before .before .before .write-lines in
     let write-all = c .before .before .write-all in
-    all-written (now (args .s)) (now (args .t)) (now (args .out)) (args .from) (pre .tags-are) (replicate 17 0) (check-tags .last .1 .1 .1 .0)
-    ((rw (l .given .1) at (check-lines .ensures)) .0) refl (zeros-at 17) ((rw (k .given .1) at (check-tags .ensures)) .0) (l .given .0 .0)
+    all-written (now (args .s)) (now (args .t)) (now (args .out)) (args .from) (pre .tags-are) (replicate 19 0) (check-tags .last .1 .1 .1 .0)
+    ((rw (l .given .1) at (check-lines .ensures)) .0) refl (zeros-at 19) ((rw (k .given .1) at (check-tags .ensures)) .0) (l .given .0 .0)
     ((rw (l .given .1) at (check-lines .ensures)) .1 .0) (begin .last .0) (b .given .0 .0) (rw (b .given .1) at (begin .ensures))
     (write-lines .last .1 .1 .1 .0) (write-lines .kept .1 .1 .1 .0) (write-lines .ensures) (write-all .last .1 .1 .1 .1 .0) (write-all .kept .1 .1 .1 .1 .0)
     (write-all .ensures)

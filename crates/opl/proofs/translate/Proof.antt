@@ -1,6 +1,5 @@
--- Written from Proof.tmpl by 'prove expand': edit that file.
 -- The policy text, then the lines, then the records.
-use Rattle.opl.proofs.CallLaws.{bad-inside, line-inside, both-accepted, bad-policy, bad-lines, accepted-is}
+use Rattle.opl.proofs.CallLaws.{policy-good, bad-inside, line-inside, both-accepted, bad-policy, bad-lines, accepted-is}
 use lib.ListN.{length}
 use native.Mathlib.Omega.{arith}
 use denote.Ref.{now}
@@ -21,7 +20,7 @@ bad-text-requires c κs =
     let document = c .before .before .before .document in
     omega (
       arith,
-      bad-inside (now (args .s)) (now (args .t)) (length (now (args .w))) (now (args .out)) (document .result) (document .ensures) (c .before .d .given .0 .0)
+      bad-inside (args .all) (now (args .s)) (now (args .t)) (length (now (args .w))) (now (args .out)) (document .result) (document .ensures) (c .before .d .given .0 .0)
           (c .before .d .given .1),
       good .0 .1,
     )
@@ -45,7 +44,7 @@ sub-bad-text c =
     let enum-told = c .before .before .before .before .before .enum-told in
     let unmarked = c .before .before .before .before .unmarked in
     let judge = c .before .before .before .judge in
-    line-inside (now (args .s)) (now (args .t)) (length (now (args .w))) (now (args .out)) (document .result) (document .ensures) (enum-told .given .0 .0)
+    line-inside (args .all) (now (args .s)) (now (args .t)) (length (now (args .w))) (now (args .out)) (document .result) (document .ensures) (enum-told .given .0 .0)
     (enum-told .given .1) (now (unmarked .result)) (unmarked .ensures) (judge .result) (judge .ensures) (c .before .l .given .0 .0) (c .before .l .given .1) .0
 
 add-bad-text : tie.Need-add-bad-text
@@ -57,7 +56,7 @@ add-bad-text c =
     let unmarked = c .before .before .before .before .unmarked in
     let judge = c .before .before .before .judge in
     let h =
-    line-inside (now (args .s)) (now (args .t)) (length (now (args .w))) (now (args .out)) (document .result) (document .ensures) (enum-told .given .0 .0)
+    line-inside (args .all) (now (args .s)) (now (args .t)) (length (now (args .w))) (now (args .out)) (document .result) (document .ensures) (enum-told .given .0 .0)
     (enum-told .given .1) (now (unmarked .result)) (unmarked .ensures) (judge .result) (judge .ensures) (c .before .l .given .0 .0) (c .before .l .given .1) in
     omega (arith, good .1 .0 .1)
 
@@ -71,7 +70,7 @@ bad-text-requires-2 c κs =
     let judge = c .before .before .before .judge in
     omega (
       arith,
-      line-inside (now (args .s)) (now (args .t)) (length (now (args .w))) (now (args .out)) (document .result) (document .ensures) (enum-told .given .0 .0)
+      line-inside (args .all) (now (args .s)) (now (args .t)) (length (now (args .w))) (now (args .out)) (document .result) (document .ensures) (enum-told .given .0 .0)
           (enum-told .given .1) (now (unmarked .result)) (unmarked .ensures) (judge .result) (judge .ensures) (c .before .l .given .0 .0)
           (c .before .l .given .1) .1,
       good .1 .0 .1,
@@ -88,7 +87,7 @@ accepted-requires c κs =
     let unmarked = c .before .before .before .before .before .unmarked in
     let judge = c .before .before .before .before .judge in
     let enum-told2 = c .before .before .enum-told2 in
-    both-accepted (now (args .s)) (now (args .t)) (length (now (args .w))) (now (args .out)) (document .result) (document .ensures) (enum-told .given .0 .0)
+    both-accepted (args .all) (now (args .s)) (now (args .t)) (length (now (args .w))) (now (args .out)) (document .result) (document .ensures) (enum-told .given .0 .0)
     (enum-told .given .1) (now (unmarked .result)) (unmarked .ensures) (judge .result) (judge .ensures) (enum-told2 .given .0 .0) (enum-told2 .given .1)
 
 returns : tie.Need-returns
@@ -96,7 +95,7 @@ returns c =
     let args = c .before .before .before .before .before .before .before .before .before .args in
     let document = c .before .before .before .before .document in
     let d = c .before .before .d in
-    rw (c .bad-text .ensures) (bad-policy (now (args .s)) (now (args .t)) (length (now (args .w))) (now (args .out)) (document .result) (document .ensures)
+    rw (c .bad-text .ensures) (bad-policy (args .all) (now (args .s)) (now (args .t)) (length (now (args .w))) (now (args .out)) (document .result) (document .ensures)
     (d .given .0 .0) (d .given .1))
 
 returns-2 : tie.Need-returns-2
@@ -107,7 +106,7 @@ returns-2 c =
     let unmarked = c .before .before .before .before .before .unmarked in
     let judge = c .before .before .before .before .judge in
     let l = c .before .before .l in
-    rw (c .bad-text2 .ensures) (bad-lines (now (args .s)) (now (args .t)) (length (now (args .w))) (now (args .out)) (document .result) (document .ensures)
+    rw (c .bad-text2 .ensures) (bad-lines (args .all) (now (args .s)) (now (args .t)) (length (now (args .w))) (now (args .out)) (document .result) (document .ensures)
     (enum-told .given .0 .0) (enum-told .given .1) (now (unmarked .result)) (unmarked .ensures) (judge .result) (judge .ensures) (l .given .0 .0) (l .given .1))
 
 same-length : tie.Need-same-length
@@ -126,8 +125,10 @@ returns-3 c =
     let judge = c .before .before .before .before .before .before .before .before .before .judge in
     let enum-told2 = c .before .before .before .before .before .before .before .enum-told2 in
     let accepted = c .before .before .before .before .accepted in
-    accepted-is (now (args .s)) (now (args .t)) (now (unmarked .result)) (unmarked .ensures) (length (now (args .w))) (now (args .out))
-    (both-accepted (now (args .s)) (now (args .t)) (length (now (args .w))) (now (args .out)) (document .result) (document .ensures) (enum-told .given .0 .0)
+    accepted-is (args .all) (now (args .s)) (now (args .t)) (now (unmarked .result)) (unmarked .ensures) (length (now (args .w))) (now (args .out))
+    (policy-good (args .all) (now (args .s)) (now (args .t)) (length (now (args .w))) (now (args .out)) (document .result) (document .ensures) (enum-told .given .0 .0)
+    (enum-told .given .1))
+    (both-accepted (args .all) (now (args .s)) (now (args .t)) (length (now (args .w))) (now (args .out)) (document .result) (document .ensures) (enum-told .given .0 .0)
     (enum-told .given .1) (now (unmarked .result)) (unmarked .ensures) (judge .result) (judge .ensures) (enum-told2 .given .0 .0) (enum-told2 .given .1))
     (accepted .last .1 .1 .0) (accepted .result) (accepted .ensures)
 

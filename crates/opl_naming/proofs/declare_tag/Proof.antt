@@ -1,6 +1,6 @@
 -- A tag is listed; it says nothing here, or the name that it declares goes into its space.
 use Rattle.opl_naming.proofs.NamingLaws.{goes-stands, goes-low, goes-room, goes-sound, goes-other, goes-long, goes-halt, goes-end, goes-on}
-use Prim.Native.Nat.{_-_}
+use mathlib.Core.Path.{sym}
 use native.Mathlib.Omega.{arith}
 use denote.Ref.{now}
 use borrow.Author.Needs.{needs}
@@ -67,33 +67,23 @@ enter-requires c κs =
       ),
     )
 
+space-requires : tie.Need-space-requires
+space-requires c κs = search needs
+
 same-length : tie.Need-same-length
 same-length c = search needs
 
 returns : tie.Need-returns
 returns c =
-    let args = c .before .before .before .before .before .before .before .before .before .before .before .before .before .args in
-    let pre = c .before .before .before .before .before .before .before .before .before .before .before .before .before .pre in
-    let read-tag = c .before .before .before .before .before .before .before .before .before .before .read-tag in
-    let t2 = c .before .before .before .before .before .before .before .before .t2 in
-    let element = c .before .before .before .before .before .element in
-    let enter = c .before .before .before .enter in
-    goes-other (now (args .s)) (args .at) (read-tag .result) (read-tag .ensures) (now (args .w)) (pre .1 .0) (t2 .given .0 .0) (t2 .given .0 .1 .0)
-    (t2 .given .1) (element .result) (element .ensures) (pre .0) (enter .last .1 .0) (enter .ensures) (λ i h u. omega (arith, u, c .if1 .taken))
-
-same-length-2 : tie.Need-same-length-2
-same-length-2 c = search needs
-
-returns-2 : tie.Need-returns-2
-returns-2 c =
     let args = c .before .before .before .before .before .before .before .before .before .before .before .before .before .before .args in
     let pre = c .before .before .before .before .before .before .before .before .before .before .before .before .before .before .pre in
     let read-tag = c .before .before .before .before .before .before .before .before .before .before .before .read-tag in
     let t2 = c .before .before .before .before .before .before .before .before .before .t2 in
     let element = c .before .before .before .before .before .before .element in
     let enter = c .before .before .before .before .enter in
+    let space = c .before .space in
     goes-other (now (args .s)) (args .at) (read-tag .result) (read-tag .ensures) (now (args .w)) (pre .1 .0) (t2 .given .0 .0) (t2 .given .0 .1 .0)
-    (t2 .given .1) (element .result) (element .ensures) (pre .0) (enter .last .1 .0) (enter .ensures) (λ i h u. omega (arith, u, c .if2 .taken))
+    (t2 .given .1) (element .result) (element .ensures) (pre .0) (enter .last .1 .0) (enter .ensures) (λ i h u. omega (arith, h, u, space .ensures, c .if1 .taken))
 
 attribute-requires : tie.Need-attribute-requires
 attribute-requires c κs = search needs
@@ -112,11 +102,11 @@ value-place-requires c κs =
 sub-size : tie.Need-sub-size
 sub-size c = search needs
 
-same-length-3 : tie.Need-same-length-3
-same-length-3 c = search needs
+same-length-2 : tie.Need-same-length-2
+same-length-2 c = search needs
 
-returns-3 : tie.Need-returns-3
-returns-3 c =
+returns-2 : tie.Need-returns-2
+returns-2 c =
     let args = c .before .before .before .before .before .before .before .before .before .before .before .before .before .before .before .before .before .before
     .args in
     let pre = c .before .before .before .before .before .before .before .before .before .before .before .before .before .before .before .before .before .before
@@ -125,13 +115,13 @@ returns-3 c =
     let t2 = c .before .before .before .before .before .before .before .before .before .before .before .before .before .t2 in
     let element = c .before .before .before .before .before .before .before .before .before .before .element in
     let enter = c .before .before .before .before .before .before .before .before .enter in
-    let if1 = c .before .before .before .before .before .if1 in
-    let if2 = c .before .before .before .before .if2 in
+    let space = c .before .before .before .before .before .space in
+    let if1 = c .before .before .before .before .if1 in
     let attribute = c .before .before .before .attribute in
     let value-place = c .before .before .value-place in
     goes-long (now (args .s)) (args .at) (read-tag .result) (read-tag .ensures) (now (args .w)) (pre .1 .0) (t2 .given .0 .0) (t2 .given .0 .1 .0)
-    (t2 .given .1) (element .result) (element .ensures) (pre .0) (enter .last .1 .0) (enter .ensures) (element .result - 12)
-    (omega (arith, if1 .left, if2 .left)) (omega (arith, if1 .left)) (value-place .result) (rw (attribute .ensures) at (value-place .ensures)) (c .if3 .taken)
+    (t2 .given .1) (element .result) (element .ensures) (pre .0) (enter .last .1 .0) (enter .ensures) (space .result)
+    (omega (arith, if1 .left)) (sym (space .ensures)) (value-place .result) (rw (attribute .ensures) at (value-place .ensures)) (c .if2 .taken)
 
 declare-requires : tie.Need-declare-requires
 declare-requires c κs =
@@ -144,41 +134,40 @@ declare-requires c κs =
     let t2 = c .before .before .before .before .before .before .before .before .before .before .before .before .before .before .t2 in
     let element = c .before .before .before .before .before .before .before .before .before .before .before .element in
     let enter = c .before .before .before .before .before .before .before .before .before .enter in
-    let if1 = c .before .before .before .before .before .before .if1 in
-    let if2 = c .before .before .before .before .before .if2 in
+    let space = c .before .before .before .before .before .before .space in
+    let if1 = c .before .before .before .before .before .if1 in
     let value-place = c .before .before .before .value-place in (
       (
         goes-room (now (args .s)) (args .at) (read-tag .result) (read-tag .ensures) (now (args .w)) (pre .1 .0) (t2 .given .0 .0) (t2 .given .0 .1 .0)
             (t2 .given .1) (element .result) (element .ensures) (pre .0) (enter .last .1 .0) (enter .ensures),
-        omega (arith, if1 .left, if2 .left),
+        omega (arith, if1 .left),
       ),
       (
         goes-sound (now (args .s)) (args .at) (read-tag .result) (read-tag .ensures) (now (args .w)) (pre .1 .0) (t2 .given .0 .0) (t2 .given .0 .1 .0)
-            (t2 .given .1) (element .result) (element .ensures) (pre .0) (enter .last .1 .0) (enter .ensures) (element .result - 12)
-            (omega (arith, if1 .left, if2 .left)),
-        (omega (arith, value-place .ensures .inside, value-place .ensures .order), c .before .if3 .left),
+            (t2 .given .1) (element .result) (element .ensures) (pre .0) (enter .last .1 .0) (enter .ensures) (space .result) (omega (arith, if1 .left)),
+        (omega (arith, value-place .ensures .inside, value-place .ensures .order), c .before .if2 .left),
       ),
     )
 
-returns-4 : tie.Need-returns-4
-returns-4 c =
+returns-3 : tie.Need-returns-3
+returns-3 c =
     let args = c .before .before .before .before .before .args in
     let pre = c .before .before .before .before .before .pre in
     let read-tag = c .before .before .read-tag in
     goes-halt (now (args .s)) (args .at) (read-tag .result) (read-tag .ensures) (now (args .w)) (pre .1 .0) (c .enum-told .given .1)
 
-returns-5 : tie.Need-returns-5
-returns-5 c =
+returns-4 : tie.Need-returns-4
+returns-4 c =
     let args = c .before .before .before .before .before .before .args in
     let pre = c .before .before .before .before .before .before .pre in
     let read-tag = c .before .before .before .read-tag in
     goes-end (now (args .s)) (args .at) (read-tag .result) (read-tag .ensures) (now (args .w)) (pre .1 .0) (c .before .t .given .0 .0) (c .before .t .given .1)
 
-same-length-4 : tie.Need-same-length-4
-same-length-4 c = search needs
+same-length-3 : tie.Need-same-length-3
+same-length-3 c = search needs
 
-returns-6 : tie.Need-returns-6
-returns-6 c =
+returns-5 : tie.Need-returns-5
+returns-5 c =
     let args = c .before .before .before .before .before .before .before .before .before .before .before .before .before .before .before .before .before .before
     .before .before .before .before .args in
     let pre = c .before .before .before .before .before .before .before .before .before .before .before .before .before .before .before .before .before .before
@@ -188,15 +177,15 @@ returns-6 c =
     let t2 = c .before .before .before .before .before .before .before .before .before .before .before .before .before .before .before .before .before .t2 in
     let element = c .before .before .before .before .before .before .before .before .before .before .before .before .before .before .element in
     let enter = c .before .before .before .before .before .before .before .before .before .before .before .before .enter in
-    let if1 = c .before .before .before .before .before .before .before .before .before .if1 in
-    let if2 = c .before .before .before .before .before .before .before .before .if2 in
+    let space = c .before .before .before .before .before .before .before .before .before .space in
+    let if1 = c .before .before .before .before .before .before .before .before .if1 in
     let attribute = c .before .before .before .before .before .before .before .attribute in
     let value-place = c .before .before .before .before .before .before .value-place in
-    let if3 = c .before .before .before .before .if3 in
+    let if2 = c .before .before .before .before .if2 in
     let declare = c .before .before .declare in
     goes-on (now (args .s)) (args .at) (read-tag .result) (read-tag .ensures) (now (args .w)) (pre .1 .0) (t2 .given .0 .0) (t2 .given .0 .1 .0) (t2 .given .1)
-    (element .result) (element .ensures) (pre .0) (enter .last .1 .0) (enter .ensures) (element .result - 12) (omega (arith, if1 .left, if2 .left))
-    (omega (arith, if1 .left)) (value-place .result) (rw (attribute .ensures) at (value-place .ensures)) (declare .last .1 .0) (declare .result) (if3 .left)
+    (element .result) (element .ensures) (pre .0) (enter .last .1 .0) (enter .ensures) (space .result) (omega (arith, if1 .left))
+    (sym (space .ensures)) (value-place .result) (rw (attribute .ensures) at (value-place .ensures)) (declare .last .1 .0) (declare .result) (if2 .left)
     (declare .ensures)
 
 pub declare-tag-spec : {M : Type 1} → statement M
@@ -212,17 +201,16 @@ declare-tag-spec =
     part-element-end
     element-requires
     enter-requires
+    space-requires
     same-length
     returns
-    same-length-2
-    returns-2
     attribute-requires
     value-place-requires
     sub-size
-    same-length-3
-    returns-3
+    same-length-2
+    returns-2
     declare-requires
+    returns-3
     returns-4
-    returns-5
-    same-length-4
-    returns-6)
+    same-length-3
+    returns-5)

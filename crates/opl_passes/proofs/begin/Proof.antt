@@ -11,7 +11,7 @@ abbrev Inv-loop : tie.InvT-loop
 Inv-loop counts₀ cap sum₀ k₀ counts sum k = BeginLeft counts₀ cap counts sum k
 
 abbrev μ-loop : tie.MeasureT-loop
-μ-loop counts₀ cap sum₀ k₀ counts sum k = 17 - k
+μ-loop counts₀ cap sum₀ k₀ counts sum k = 19 - k
 
 loop-holds : tie.Need-loop-holds Inv-loop μ-loop
 loop-holds c = begin-first (now (c .args .counts)) (c .args .cap) (c .pre)

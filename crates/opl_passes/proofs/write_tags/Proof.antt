@@ -1,6 +1,6 @@
 -- What is left of the tags fills the output as the whole does.
 use borrow.Author.Needs.{needs}
-use Rattle.opl_passes.proofs.TagLaws.{WriteLeft, write-first, write-ended, write-past, write-on, write-end}
+use Rattle.opl_passes.proofs.TagLaws.{WriteLeft, write-first, write-ended, write-past, write-on, write-few, write-end}
 use Rattle.opl_tags.specs.Tags.{walkAt}
 use Rattle.opl_passes.specs.Tags.{Writes}
 use Rattle.opl_passes.specs.declared.Wrote.the-variants.{Onward}
@@ -25,13 +25,17 @@ loop-holds c =
     let args = c .before .before .before .before .args in
     let pre = c .before .before .before .before .pre in
     write-first (allNames (now (args .s)) (now (args .t))) (now (args .s)) (listOf (now (args .w))) (args .from) (now (args .next)) (now (args .out))
-    (pre .0 .1 .0 .0) (pre .0 .1 .0 .1) (pre .0 .1 .1) (pre .1 .0) (pre .1 .1 .1)
+    (pre .0 .1 .0 .0) (pre .0 .1 .0 .1) (pre .0 .1 .1) (pre .1 .0 .0) (pre .1 .0 .1) (pre .1 .1 .1)
 
 write-at-requires : tie.Need-write-at-requires Inv-loop μ-loop
 write-at-requires c κs =
     let pre = c .before .before .before .before .before .before .before .before .before .pre in
     let loop = c .before .before .before .before .loop in
-    ((pre .0 .0, (loop .inv .stood, loop .inv .led)), (loop .inv .there-all, (loop .inv .kinds ∙ pre .1 .1 .0, loop .inv .fit)))
+    let args = c .before .before .before .before .before .before .before .before .before .args in
+    let few =
+    write-few (allNames (now (args .s)) (now (args .t))) (now (args .s)) (listOf (now (args .w))) (args .from) (now (args .next)) (now (args .out)) (loop .c)
+    (loop .next) (loop .out) (loop .inv) in
+    ((pre .0 .0, (loop .inv .stood, (few, loop .inv .led))), (loop .inv .there-all, (loop .inv .kinds ∙ pre .1 .1 .0, loop .inv .fit)))
 
 enum-known-r : tie.Need-enum-known-r Inv-loop μ-loop
 enum-known-r c = search needs

@@ -3,7 +3,7 @@ use denote.Ref.{now}
 use native.Mathlib.Omega.{arith}
 use Rattle.opl_said.specs.Said.{allNames}
 use Rattle.opl_said.proofs.FormLaws.{role-inner, task-inner, few-roles, few-tasks}
-use Rattle.opl_said.proofs.SaidLaws.{says-1, says-2, says-3, says-4, says-5, says-7, says-8, says-9, says-10, says-11, says-12, says-13, says-14, says-15, says-16, says-nothing}
+use Rattle.opl_said.proofs.SaidLaws.{says-1, says-2, says-3, says-4, says-5, says-7, says-8, says-9, says-10, says-11, says-12, says-13, says-14, says-15, says-16, says-17, says-18, says-nothing}
 use Rattle.opl_said.proofs.said.Statement.{statement}
 use Rattle.opl_said.proofs.said.Tie as tie
 
@@ -81,6 +81,16 @@ two-requires-6 : tie.Need-two-requires-6
 two-requires-6 c κs =
     let pre = c .before .before .before .before .pre in
     (pre .0, (pre .1 .0 .0, (omega arith, omega arith)))
+
+two-requires-7 : tie.Need-two-requires-7
+two-requires-7 c κs =
+    let pre = c .before .before .before .before .pre in
+    (pre .0, (pre .1 .0 .0, (omega arith, omega arith)))
+
+blocked-requires : tie.Need-blocked-requires
+blocked-requires c κs =
+    let pre = c .before .before .before .before .pre in
+    (pre .0, pre .1 .0 .0)
 
 returns : tie.Need-returns
 returns c =
@@ -174,6 +184,18 @@ returns-15 c =
 
 returns-16 : tie.Need-returns-16
 returns-16 c =
+    let args = c .before .before .before .before .before .args in
+    rw (c .before .match .keys16)
+    (says-17 (allNames (now (args .s)) (now (args .t))) (now (args .s)) (args .number) (args .end) (c .two7 .result) (c .two7 .ensures))
+
+returns-17 : tie.Need-returns-17
+returns-17 c =
+    let args = c .before .before .before .before .before .args in
+    rw (c .before .match .keys17)
+    (says-18 (allNames (now (args .s)) (now (args .t))) (now (args .s)) (args .number) (args .end) (c .blocked .result) (c .blocked .ensures))
+
+returns-18 : tie.Need-returns-18
+returns-18 c =
     let args = c .before .before .before .before .args in
     says-nothing (allNames (now (args .s)) (now (args .t))) (now (args .s)) (args .kind) (args .number) (args .end) (c .match .rest)
 
@@ -196,6 +218,8 @@ said-spec =
     counted-requires
     two-requires-5
     two-requires-6
+    two-requires-7
+    blocked-requires
     returns
     returns-2
     returns-3
@@ -211,4 +235,6 @@ said-spec =
     returns-13
     returns-14
     returns-15
-    returns-16)
+    returns-16
+    returns-17
+    returns-18)

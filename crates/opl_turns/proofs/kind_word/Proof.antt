@@ -35,8 +35,20 @@ unfolding kindList wordAt packed
 returns-7 c = rw (c .match .keys7)
 
 returns-8 : tie.Need-returns-8
+unfolding kindList wordAt packed
+returns-8 c = rw (c .match .keys8)
+
+returns-9 : tie.Need-returns-9
+unfolding kindList wordAt packed
+returns-9 c = rw (c .match .keys9)
+
+returns-10 : tie.Need-returns-10
+unfolding kindList wordAt packed
+returns-10 c = rw (c .match .keys10)
+
+returns-11 : tie.Need-returns-11
 unfolding kindList
-returns-8 c = let h = apart 7 (c .before .args .j) (c .match .rest) in past kindList (c .before .args .j) (omega arith)
+returns-11 c = let h = apart 10 (c .before .args .j) (c .match .rest) in past kindList (c .before .args .j) (omega arith)
 
 pub kind-word-spec : {M : Type 1} → statement M
-kind-word-spec = tie.close (tie.spec returns returns-2 returns-3 returns-4 returns-5 returns-6 returns-7 returns-8)
+kind-word-spec = tie.close (tie.spec returns returns-2 returns-3 returns-4 returns-5 returns-6 returns-7 returns-8 returns-9 returns-10 returns-11)

@@ -26,14 +26,14 @@ returns c =
     let args = c .before .before .before .before .before .args in
     let pre = c .before .before .before .before .before .pre in
     let meet = c .before .before .meet in
-    turn-over (now (args .s)) (listOf (now (args .w))) (args .c) (pre .1 .0) (meet .result) (meet .ensures) (c .enum-told .given .1)
+    turn-over (now (args .s)) (listOf (now (args .w))) (args .c) (pre .1 .0) (pre .1 .1 .0) (meet .result) (meet .ensures) (c .enum-told .given .1)
 
 returns-2 : tie.Need-returns-2
 returns-2 c =
     let args = c .before .before .before .before .before .before .args in
     let pre = c .before .before .before .before .before .before .pre in
     let meet = c .before .before .before .meet in
-    turn-ended (now (args .s)) (listOf (now (args .w))) (args .c) (pre .1 .0) (meet .result) (meet .ensures) (c .before .t .given .0 .0)
+    turn-ended (now (args .s)) (listOf (now (args .w))) (args .c) (pre .1 .0) (pre .1 .1 .0) (meet .result) (meet .ensures) (c .before .t .given .0 .0)
     (c .before .t .given .1)
 
 returns-3 : tie.Need-returns-3
@@ -42,7 +42,7 @@ returns-3 c =
     let pre = c .before .before .before .before .before .before .before .pre in
     let meet = c .before .before .before .before .meet in
     let t2 = c .before .before .t2 in
-    rw (c .told .ensures) (turn-begun (now (args .s)) (listOf (now (args .w))) (args .c) (pre .1 .0) (meet .result) (meet .ensures) (t2 .given .0 .0)
+    rw (c .told .ensures) (turn-begun (now (args .s)) (listOf (now (args .w))) (args .c) (pre .1 .0) (pre .1 .1 .0) (meet .result) (meet .ensures) (t2 .given .0 .0)
     (t2 .given .0 .1 .0) (t2 .given .0 .1 .1 .0) (t2 .given .1))
 
 pub turn-spec : {M : Type 1} → statement M
