@@ -36,7 +36,7 @@ use Rattle.opl_said.proofs.HeldLaws.{AllCardinal, all-cardinal}
 use Rattle.opl_turns.specs.Turning.{SmallTag}
 use Rattle.opl_naming.specs.Naming.{declaredOf, LongName, Names}
 use Rattle.opl.specs.declared.Answer.{Answer}
-use Rattle.opl.specs.Call.{answer, answered, Answers, inOne, Exported, AnswersAsDefined, OneAnswer, CallsAlike, RefusalsKeep}
+use Rattle.opl.specs.Call.{answer, answered, Answers, inOne, badPolicy, Exported, AnswersAsDefined, OneAnswer, CallsAlike, RefusalsKeep}
 use Rattle.opl.specs.Steps.{refusal, badText, Accepts, recordsAnswer, acceptedAnswer, Gives, Ready}
 use Rattle.opl.proofs.JoinLaws.{unnamed}
 
@@ -63,6 +63,10 @@ wider : (all : Bool) (s : Text) → accepted (documentIn all s) ≡ true → acc
 wider true s e = e
 wider false s e = reads-on (documentIn false s) e (λ es z x. rw (alike s es z x))
 
+pub calls-alike : CallsAlike
+unfolding answer
+calls-alike words s t out e = reads-on (documentIn false s) e (λ es z x. rw (x, alike s es z x))
+
 -- ---- The policy text is refused, or accepted.
 place-is : (s : Text) (i : ℕ) → i ≤ length s → suc (length s - length (drop i s)) ≡ i + 1
 place-is s i h = omega (arith, length-drop i s)
@@ -71,7 +75,7 @@ module _ (all : Bool) (s t : Text) (words : ℕ) (out : Bytes) (d : Step) (reads
   pub bad-inside : (i : ℕ) → d ≡ Bad i → i ≤ length s
   bad-inside i e = rw e at (reads .inside)
 
-  pub bad-policy : (i : ℕ) → d ≡ Bad i → Answers all s t words out out (badText i 1)
+  bad-policy : (i : ℕ) → d ≡ Bad i → Answers all s t words out out (badText i 1)
   unfolding answer
   bad-policy i e =
       on (documentIn all s)
@@ -80,44 +84,63 @@ module _ (all : Bool) (s t : Text) (words : ℕ) (out : Bytes) (d : Step) (reads
       let w : _≡_ {A = Read (Unit {0})} (bad (drop i s)) (bad z) = (rw e at (reads .read-is)) ∙ ap forget q in
       record { answer-is = rw (q, ← bad-rest w, place-is s i (bad-inside i e)); room = refl })
 
+  pub bad-number : (i : ℕ) → d ≡ Bad i → Exported all s t words out out (badPolicy i)
+  bad-number i e =
+      let a = bad-policy i e in
+      record { number-is = ap inOne (a .answer-is); output-is = ap (λ (x : Translated). x .output) (a .answer-is) }
+
   module _ (j : ℕ) (e : d ≡ Next j) where
-    pub policy-good : accepted (documentIn all s) ≡ true
+    policy-good : accepted (documentIn all s) ≡ true
     policy-good =
         on (documentIn all s) (λ es z q. rw q) (λ z q. absurd (bad≢got (sym (ap forget q) ∙ sym (rw e at (reads .read-is)))))
 
-    module _ (u : Text) (behind : u ≡ behindMark t) (l : Step) (reads₂ : Reads u (stepOf u) (forgetLines (lines (length u) u)) l) where
-      no-longer : length u ≤ length t
-      unfolding behindMark
-      no-longer = rw behind (on-test (starts byteOrderMark t) (λ c. rw c (omega (arith, length-drop 3 t))) (λ c. rw c (omega arith)))
+    pub policy-wider : accepted (documentIn true s) ≡ true
+    policy-wider = wider all s policy-good
 
-      pub line-inside : (i : ℕ) → l ≡ Bad i → (length u ≤ length t) × (length t - length u + i ≤ length t)
-      line-inside i q = let h : i ≤ length u = rw q at (reads₂ .inside) in (no-longer, omega (arith, no-longer))
+    -- the wider call's number, of a text that this call accepts
+    pub as-wider : (out′ : Bytes) (n : ℕ) → Exported true s t words out out′ n → Exported all s t words out out′ n
+    as-wider out′ n x = go all policy-good
+      where
+        go : (all : Bool) → accepted (documentIn all s) ≡ true → Exported all s t words out out′ n
+        go true g = x
+        go false g =
+            let e = calls-alike words s t out g in
+            record { number-is = x .number-is ∙ ap inOne e; output-is = x .output-is ∙ ap (λ (a : Translated). a .output) e }
 
-      pub bad-lines : (i : ℕ) → l ≡ Bad i → Answers all s t words out out (badText (length t - length u + i) 2)
-      unfolding answer taskLines
-      bad-lines i q =
-          reads-on (documentIn all s) policy-good (λ es z x. on (lines (length u) u)
-          (λ ls y v. absurd (bad≢got ((rw q at (reads₂ .read-is)) ∙ ap forgetLines v)))
-          (λ y v.
-          let w : _≡_ {A = Read (Unit {0})} (bad (drop i u)) (bad y) = (rw q at (reads₂ .read-is)) ∙ ap forgetLines v in
-          let h : i ≤ length u = rw q at (reads₂ .inside) in
-          let p : suc (length t - length (drop i u)) ≡ length t - length u + i + 1 = omega (arith, no-longer, length-drop i u) in
-          record { answer-is = rw (x, ← behind, v, ← bad-rest w, p); room = refl }))
+-- ---- Behind an accepted policy text.
+module _ (s t : Text) (words : ℕ) (out : Bytes) (good : accepted (documentIn true s) ≡ true) (u : Text) (behind : u ≡ behindMark t) (l : Step) (reads₂ : Reads u (stepOf u) (forgetLines (lines (length u) u)) l) where
+  no-longer : length u ≤ length t
+  unfolding behindMark
+  no-longer = rw behind (on-test (starts byteOrderMark t) (λ c. rw c (omega (arith, length-drop 3 t))) (λ c. rw c (omega arith)))
 
-      pub both-accepted : (i : ℕ) → l ≡ Next i → Accepts s u
-      both-accepted i q =
-          record {
-            policy = wider all s policy-good;
-            task-lines = on (lines (length u) u) (λ ls z v. rw v) (λ z v. absurd (bad≢got (sym (ap forgetLines v) ∙ sym (rw q at (reads₂ .read-is)))));
-          }
+  pub line-inside : (i : ℕ) → l ≡ Bad i → (length u ≤ length t) × (length t - length u + i ≤ length t)
+  line-inside i q = let h : i ≤ length u = rw q at (reads₂ .inside) in (no-longer, omega (arith, no-longer))
 
-module _ (all : Bool) (s t u : Text) (behind : u ≡ behindMark t) (words : ℕ) (out : Bytes) (good : accepted (documentIn all s) ≡ true) (a : Accepts s u) where
-  by-walk : answer all words s t out ≡ acceptedAnswer words s u out
+  pub bad-lines : (i : ℕ) → l ≡ Bad i → Answers true s t words out out (badText (length t - length u + i) 2)
+  unfolding answer taskLines
+  bad-lines i q =
+      reads-on (documentIn true s) good (λ es z x. on (lines (length u) u)
+      (λ ls y v. absurd (bad≢got ((rw q at (reads₂ .read-is)) ∙ ap forgetLines v)))
+      (λ y v.
+      let w : _≡_ {A = Read (Unit {0})} (bad (drop i u)) (bad y) = (rw q at (reads₂ .read-is)) ∙ ap forgetLines v in
+      let h : i ≤ length u = rw q at (reads₂ .inside) in
+      let p : suc (length t - length (drop i u)) ≡ length t - length u + i + 1 = omega (arith, no-longer, length-drop i u) in
+      record { answer-is = rw (x, ← behind, v, ← bad-rest w, p); room = refl }))
+
+  pub both-accepted : (i : ℕ) → l ≡ Next i → Accepts s u
+  both-accepted i q =
+      record {
+        policy = good;
+        task-lines = on (lines (length u) u) (λ ls z v. rw v) (λ z v. absurd (bad≢got (sym (ap forgetLines v) ∙ sym (rw q at (reads₂ .read-is)))));
+      }
+
+module _ (s t u : Text) (behind : u ≡ behindMark t) (words : ℕ) (out : Bytes) (a : Accepts s u) where
+  by-walk : answer true words s t out ≡ acceptedAnswer words s u out
   unfolding answer acceptedAnswer recordsAnswer linesIn taskLines
   by-walk =
-      reads-on (documentIn all s) good (λ es z x. reads-on (lines (length u) u) (a .task-lines) (λ ls y v. rw (x, ← behind, v, walk-gives all s es z ls x)))
+      reads-on (documentIn true s) (a .policy) (λ es z x. reads-on (lines (length u) u) (a .task-lines) (λ ls y v. rw (x, ← behind, v, walk-gives true s es z ls x)))
 
-  pub accepted-is : (out′ : Bytes) (r : Answer) → Gives (acceptedAnswer words s u out) out out′ r → Answers all s t words out out′ r
+  pub accepted-is : (out′ : Bytes) (r : Answer) → Gives (acceptedAnswer words s u out) out out′ r → Answers true s t words out out′ r
   accepted-is out′ r g = record { answer-is = g .answer-is ∙ sym by-walk; room = g .room }
 
 -- ---- Two accepted texts.
@@ -206,10 +229,6 @@ pub refusals-keep : RefusalsKeep
 refusals-keep all s t words out out′ r a n =
     ap (λ (x : Translated). x .output) (a .answer-is)
     ∙ refusal-keeps all words s t out (λ e. n (ap (λ (x : Translated). x .reply) (a .answer-is) ∙ e))
-
-pub calls-alike : CallsAlike
-unfolding answer
-calls-alike words s t out e = reads-on (documentIn false s) e (λ es z x. rw (x, alike s es z x))
 
 -- ---- As one number.
 small-answer : (all : Bool) (words : ℕ) (s t : Text) (out : Bytes) → (answer all words s t out .reply < 256) × (answer all words s t out .which < 4)

@@ -36,6 +36,10 @@ shownOf reply place count = cond (eqb reply TEXT) place count
 abbrev pub inOne : Translated → ℕ
 inOne a = a .reply + 256 * (a .which + 4 * (shownOf (a .reply) (a .place) (a .count) % 18014398509481984))
 
+-- TEXT of the policy text, at the byte `at` from 0
+abbrev pub badPolicy : ℕ → ℕ
+badPolicy at = TEXT + 256 * (1 + 4 * ((at + 1) % 18014398509481984))
+
 pub record Exported (all : Bool) (s t : Text) (words : ℕ) (out out′ : Bytes) (number : ℕ) : Type 0 where
   pub number-is : number ≡ inOne (answer all words s t out)
   pub output-is : out′ ≡ answer all words s t out .output

@@ -3,8 +3,9 @@ ghost use mathlib.Core.Path.{_≡_};
 ghost use mathlib.Core.Bool.{true, false};
 ghost use Prim.Native.Nat.{_<_};
 ghost use lib.ListN.{length};
-ghost use Rattle.paper_opl.specs.Tree.{behindMark};
-ghost use Rattle.opl.specs.Call.{Answers, shownOf, Exported};
+ghost use Rattle.paper_opl.specs.Tree.{behindMark, documentIn};
+ghost use Rattle.opl_line_names.specs.Names.{accepted as readWhole};
+ghost use Rattle.opl.specs.Call.{Answers, shownOf, Exported, badPolicy};
 ghost use Rattle.opl.specs.Steps.{refusal, badText, Accepts, recordsAnswer, acceptedAnswer, Gives, Ready};
 use opl_lines::judge;
 use opl_naming::name_all;
@@ -120,21 +121,16 @@ fn unmarked(t: &[u8]) -> &[u8]
     &t[from..]
 }
 
-// Any texts, any output and any scratch, by Ask 4's sections or by all that the engine can hold. The scratch may hold anything, and holds anything afterwards.
-pub fn translate(s: &[u8], t: &[u8], out: &mut [u8], w: &mut [u64], all: bool) -> Answer
-    ensures { λ r. ⌜ Answers all (now (s .entry)) (now (t .entry)) (length (now (w .entry))) (now (out .entry)) (now (out .exit)) r ⌝ }
+// Behind an accepted policy text: the task lines, and the records. Any lines, any output and any scratch, which may hold anything and holds anything afterwards.
+fn behind_policy(s: &[u8], t: &[u8], out: &mut [u8], w: &mut [u64]) -> Answer
+    requires { ⌜ readWhole (documentIn true (now s)) ≡ true ⌝ }
+    ensures { λ r. ⌜ Answers true (now (s .entry)) (now (t .entry)) (length (now (w .entry))) (now (out .entry)) (now (out .exit)) r ⌝ }
 {
-    let d = document(s, all);
-    match d {
-        Step::Bad(i) => bad_text(i, 1),
-        Step::Next(_) => {
-            let u = unmarked(t);
-            let l = judge(u);
-            match l {
-                Step::Bad(i) => bad_text(t.len() - u.len() + i, 2),
-                Step::Next(_) => accepted(s, u, out, w),
-            }
-        }
+    let u = unmarked(t);
+    let l = judge(u);
+    match l {
+        Step::Bad(i) => bad_text(t.len() - u.len() + i, 2),
+        Step::Next(_) => accepted(s, u, out, w),
     }
 }
 
@@ -149,13 +145,25 @@ fn shown(reply: u64, place: u64, count: u64) -> u64
     count
 }
 
-fn call(s: &[u8], t: &[u8], out: &mut [u8], w: &mut [u64], all: bool) -> u64
-    ensures { λ n. ⌜ Exported all (now (s .entry)) (now (t .entry)) (length (now (w .entry))) (now (out .entry)) (now (out .exit)) n ⌝ }
+// The same answer as a number.
+fn number(s: &[u8], t: &[u8], out: &mut [u8], w: &mut [u64]) -> u64
+    requires { ⌜ readWhole (documentIn true (now s)) ≡ true ⌝ }
+    ensures { λ n. ⌜ Exported true (now (s .entry)) (now (t .entry)) (length (now (w .entry))) (now (out .entry)) (now (out .exit)) n ⌝ }
 {
-    let a = translate(s, t, out, w, all);
+    let a = behind_policy(s, t, out, w);
     let n = shown(a.reply, a.place, a.count);
     a.reply + 256 * (a.which + 4 * (n % 18014398509481984))
 }
+
+// TEXT of the policy text, at the byte `at` from 0, as a number.
+fn bad_policy(at: usize) -> u64
+    requires { ⌜ at < 18446744073709551615 ⌝ }
+    ensures { λ n. ⌜ n ≡ badPolicy at ⌝ }
+{
+    TEXT + 256 * (1 + 4 * ((at as u64 + 1) % 18014398509481984))
+}
+
+// Any texts, any output and any scratch. The policy text is judged here, on a small frame: the judge has eight of its own.
 
 #[no_mangle]
 pub extern "C" fn mishantral_opl(
@@ -166,7 +174,11 @@ pub extern "C" fn mishantral_opl(
 ) -> u64
     ensures { λ n. ⌜ Exported false (now (policy .entry)) (now (lines .entry)) (length (now (scratch .entry))) (now (output .entry)) (now (output .exit)) n ⌝ }
 {
-    call(policy, lines, output, scratch, false)
+    let d = document(policy, false);
+    match d {
+        Step::Bad(i) => bad_policy(i),
+        Step::Next(_) => number(policy, lines, output, scratch),
+    }
 }
 
 #[no_mangle]
@@ -178,5 +190,9 @@ pub extern "C" fn mishantral_opl_all(
 ) -> u64
     ensures { λ n. ⌜ Exported true (now (policy .entry)) (now (lines .entry)) (length (now (scratch .entry))) (now (output .entry)) (now (output .exit)) n ⌝ }
 {
-    call(policy, lines, output, scratch, true)
+    let d = document(policy, true);
+    match d {
+        Step::Bad(i) => bad_policy(i),
+        Step::Next(_) => number(policy, lines, output, scratch),
+    }
 }
