@@ -10,6 +10,15 @@ pub struct Blocks {
     pub blocks: u64,
 }
 
+// A plane has a bit for each wall; the planes above the lowest stand so much higher.
+const PLANE: u64 = 65536;
+
+const SECOND: u64 = 65536;
+
+const THIRD: u64 = 4294967296;
+
+const FOURTH: u64 = 281474976710656;
+
 // A bit in each plane: sixteen bits times this are the same bits in every plane.
 const EVERY_PLANE: u64 = 281479271743489;
 
@@ -26,20 +35,23 @@ pub fn none() -> Blocks
 pub fn over(a: Blocks, b: Blocks) -> Blocks
     ensures { λ r. ⌜ blocksOf r ≡ over (blocksOf a) (blocksOf b) ⌝ }
 {
-    let w = a.walls % 65536;
+    let w = a.walls % PLANE;
     let mask = w * EVERY_PLANE;
     Blocks {
-        walls: w | (b.walls % 65536),
+        walls: w | (b.walls % PLANE),
         blocks: (a.blocks & mask) | (b.blocks ^ (b.blocks & mask)),
     }
 }
 
-// Bit k of a block's number at the lowest place of plane k: the number beside itself, 15, 30 and 45 places higher, has it there.
+// A number times this stands beside itself, 15, 30 and 45 places higher.
+const FOURFOLD: u64 = 35185445863425;
+
+// Bit k of a block's number at the lowest place of plane k: the number fourfold has it there.
 fn spread(block: u64) -> u64
     requires { ⌜ block < 16 ⌝ }
     ensures { λ r. ⌜ r ≡ spread block ⌝ }
 {
-    (block * 35185445863425) & EVERY_PLANE
+    (block * FOURFOLD) & EVERY_PLANE
 }
 
 fn single(wall: u64, block: u64) -> Blocks
@@ -64,10 +76,10 @@ pub fn with(b: Blocks, wall: u64, block: u64) -> Blocks
 pub fn between(a: Blocks, b: Blocks) -> bool
     ensures { λ r. ⌜ r ≡ someBelow 16 (apart (blocksOf a) (blocksOf b)) ⌝ }
 {
-    let both = (a.walls % 65536) & (b.walls % 65536);
-    let d0 = (a.blocks % 65536) ^ (b.blocks % 65536);
-    let d1 = (a.blocks / 65536 % 65536) ^ (b.blocks / 65536 % 65536);
-    let d2 = (a.blocks / 4294967296 % 65536) ^ (b.blocks / 4294967296 % 65536);
-    let d3 = (a.blocks / 281474976710656 % 65536) ^ (b.blocks / 281474976710656 % 65536);
+    let both = (a.walls % PLANE) & (b.walls % PLANE);
+    let d0 = (a.blocks % PLANE) ^ (b.blocks % PLANE);
+    let d1 = (a.blocks / SECOND % PLANE) ^ (b.blocks / SECOND % PLANE);
+    let d2 = (a.blocks / THIRD % PLANE) ^ (b.blocks / THIRD % PLANE);
+    let d3 = (a.blocks / FOURTH % PLANE) ^ (b.blocks / FOURTH % PLANE);
     (d0 | d1 | d2 | d3) & both != 0
 }

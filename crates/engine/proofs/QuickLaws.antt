@@ -23,13 +23,13 @@ use Rattle.records.specs.declared.Record.{Record}
 use Rattle.records.proofs.Passing.{passed-answer}
 use Rattle.records.proofs.Checking.{check-fields, check-passes}
 use Rattle.sessions.specs.Lower.{lowerTables}
-use Rattle.engine.specs.Buffers.{Buffers, productOf, tablesOf}
+use Rattle.engine.specs.Buffers.{Buffers, productOf, tablesOf, fit as fitting}
 use Rattle.engine.specs.Step.{Step, StepOf, AnyStep}
 use Rattle.engine.specs.Settling.{SettledRequest, placeless}
 use Rattle.engine.proofs.Lifts.{any-step, of-none}
 use Rattle.engine.proofs.PlaceLaws.{no-claim}
 use Rattle.engine.proofs.EmptyLaws.{sound-step}
-use Rattle.engine.proofs.Ways.{unfit, same-lengths, answered}
+use Rattle.engine.proofs.Ways.{same-lengths, answered}
 use Rattle.engine.proofs.SettleLaws.{settled-step}
 
 -- ---- the row of kind 56
@@ -41,7 +41,8 @@ row-next : (t : Engine) (r : PaperRecord) → chosen requestKinds 56 .next t r �
 unfolding chosen requestKinds upperKinds sharedKinds widened lowerKinds roleKinds sessionKinds keep each
 row-next t r = refl
 
-module _ (x : Buffers) (d : Record) (r : Reply) (kind : d .kind ≡ 56) (told : numberOf r ≡ first (checkChecks (lowerTables (x .policy) (x .sessions)) (d .a) (d .b) (d .c))) where
+module _ (x : Buffers) (d : Record) (r : Reply) (kind : d .kind ≡ 56)
+    (told : numberOf r ≡ first (checkChecks (lowerTables (x .policy) (x .sessions)) (d .a) (d .b) (d .c))) where
   checks-step : StepOf (productOf x) (productOf x) d x x (placeless r)
   checks-step =
       let t = productOf x in
@@ -56,7 +57,7 @@ module _ (x : Buffers) (d : Record) (r : Reply) (kind : d .kind ≡ 56) (told : 
   quick-step = any-step refl (λ _. refl) (λ s. (checks-step, s))
 
 -- r is what was told of the record that was decoded
-pub quick-request : (bytes : Bytes) (x : Buffers) (d : Record) (r : Reply) → unfit x ≡ false → isCheck bytes ≡ true → Decoded bytes d
+pub quick-request : (bytes : Bytes) (x : Buffers) (d : Record) (r : Reply) → fitting x ≡ true → isCheck bytes ≡ true → Decoded bytes d
     → numberOf r ≡ first (checkChecks (lowerTables (x .policy) (x .sessions)) (d .a) (d .b) (d .c)) → SettledRequest bytes x x (placeless r)
 unfolding request settled
 quick-request bytes x d r fit check is told =

@@ -14,7 +14,7 @@ use Rattle.paper_lower.proofs.ListLaws.{every-map, every-append, every-each, ev
 use Rattle.paper_lower.proofs.KindLaws.{of-chosen}
 use Rattle.paper_upper.specs.Orders.{Entry, entry, Engine, SameTables, inOrder, heldBy, tasksBy, tasksDone, tasksOthers}
 use Rattle.paper_upper.specs.Orders.Standing.{done}
-use Rattle.paper_upper.specs.Rules.{ruleChecks}
+use Rattle.paper_upper.specs.Rules.{gatheredChecks, ruleChecks}
 use Rattle.paper_upper.specs.Requests.{deleteAbove, destroyAbove, openChecks, openNext, endChecks, endNext, unknown, claimChecks, claimNext, holdChecks, releaseNext, turned, doneNext, taskCheckChecks, claimPlace, figuresChecks, stuckChecks, upperKinds}
 use Rattle.paper_upper.specs.Engine.{widened, sharedKinds, requestKinds, request, placeOf, placeTo, placedRun}
 use Rattle.engine.specs.Respects.{Respects, RunsRespect}
@@ -57,7 +57,7 @@ turned-stays b c a i e = go (heldBy b c a e)
 
 -- its checks ask for entries in whatever order
 upper-rows : Every InAnyOrder upperKinds
-unfolding upperKinds deleteAbove destroyAbove openChecks openNext endChecks endNext claimChecks claimNext holdChecks releaseNext doneNext taskCheckChecks figuresChecks stuckChecks ruleChecks tasksBy tasksDone tasksOthers unknown
+unfolding upperKinds deleteAbove destroyAbove openChecks openNext endChecks endNext claimChecks claimNext holdChecks releaseNext doneNext taskCheckChecks figuresChecks stuckChecks gatheredChecks ruleChecks tasksBy tasksDone tasksOthers unknown
 upper-rows =
     (λ x opened es es′ h r. let s = ordered-same es es′ h in (rw (some-same _ s), left h))
     ⨾ (λ x opened es es′ h r. let s = ordered-same es es′ h in (rw (some-same _ s), left h))

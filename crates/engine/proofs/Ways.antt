@@ -4,12 +4,13 @@ use mathlib.Core.Bool.{Bool, true, false, not, _&&_, _||_, true≢false}
 use mathlib.Core.List.{List}
 use mathlib.Core.Path.{_≡_, refl, sym, ap, subst, _∙_}
 use native.Mathlib.Omega.{arith}
-use borrow.Author.Tests.{eq-eqb, eqb-true, not-true}
+use borrow.Author.Tests.{eq-eqb, eqb-true, not-true, not-false}
 use lib.Dec.{eqb}
 use lib.ListN.{length}
 use Rattle.paper_lower.specs.Checks.{granted}
 use Rattle.paper_lower.specs.Records.{Bytes, Record, decode}
 use Rattle.paper_lower.specs.Kinds.{Answer}
+use Rattle.paper_lower.proofs.ListLaws.{both}
 use Rattle.paper_upper.specs.Orders.{Engine, SameTables}
 use Rattle.paper_lower.specs.Load.{load}
 use Rattle.paper_lower.specs.Sessions.{lowerOf}
@@ -31,7 +32,6 @@ use Rattle.engine.specs.Buffers.{Buffers, buffers, productOf, noEngine, 
 use Rattle.engine.specs.Step.{Step}
 use Rattle.engine.specs.Answers.{requestAnswer, Requested, loadAnswer, LoadDone}
 use Rattle.engine.specs.Exports.{LoadExported, RequestExported}
-use Rattle.engine.specs.Settling.{Settling}
 
 -- ---- The reading.
 pub tables-sound : (x : Buffers) → soundOf (x .orders) ≡ true → tablesOf x ≡ productOf x
@@ -62,6 +62,13 @@ pub same-lengths : {p s o p′ s′ o′ : List ℕ} → length p′ ≡ length 
     SameLengths (buffers p s o) (buffers p′ s′ o′)
 same-lengths a b c = record { policy = a; sessions = b; orders = c }
 
+-- what `fit` answered
+pub fit-yes : {b c : Bool} → b ≡ c → not b ≡ false → c ≡ true
+fit-yes e h = sym e ∙ not-false _ h
+
+pub fit-no : {b c : Bool} → b ≡ c → not b ≡ true → c ≡ false
+fit-no e h = sym e ∙ not-true _ h
+
 module _ (x : Buffers) where
   pub lengths : unfit x ≡ false → (length (x .policy) ≡ policyWords) × ((length (x .sessions) ≡ sessionsWords) × (length (x .orders) ≡ ordersWords))
   lengths h =
@@ -76,10 +83,15 @@ module _ (x : Buffers) where
   pub fits-not : unfit x ≡ true → fit x ≡ false
   fits-not h = not-all (eqb (length (x .policy)) policyWords) (eqb (length (x .sessions)) sessionsWords) (eqb (length (x .orders)) ordersWords) h
 
-  pub no-room : (bytes : Bytes) {j : Judged} → j ≡ record { reply = Room; place = 0 } → unfit x ≡ true → Requested bytes x x j
+  pub fit-lengths : fit x ≡ true → (length (x .policy) ≡ policyWords) × ((length (x .sessions) ≡ sessionsWords) × (length (x .orders) ≡ ordersWords))
+  fit-lengths h =
+      let e = both (eqb (length (x .policy)) policyWords && eqb (length (x .sessions)) sessionsWords) (eqb (length (x .orders)) ordersWords) h in
+      let d = both (eqb (length (x .policy)) policyWords) (eqb (length (x .sessions)) sessionsWords) (e .0) in
+      (eqb-true _ _ (d .0), (eqb-true _ _ (d .1), eqb-true _ _ (e .1)))
+
+  pub no-room : (bytes : Bytes) {j : Judged} → j ≡ record { reply = Room; place = 0 } → fit x ≡ false → Requested bytes x x j
   unfolding requestAnswer
-  no-room bytes is h =
-      let f = fits-not h in
+  no-room bytes is f =
       rw is (record {
         replies = rw f;
         places = rw f;
@@ -90,13 +102,13 @@ module _ (x : Buffers) where
       })
 
 -- a step that is the definition's answer
-pub answered-at : {bytes : Bytes} {x x′ : Buffers} {r : Record} {reply : ℕ} {next : Engine} {j : Judged} → fit x ≡ true
+pub answered : {bytes : Bytes} {x x′ : Buffers} {r : Record} {reply : ℕ} {next : Engine} {j : Judged} → fit x ≡ true
     → request (tablesOf x) bytes ≡ record { reply = reply; tables = granted reply next (tablesOf x) }
     → r ≡ decode bytes → Step (tablesOf x) (tablesOf x′) reply (placeOf (tablesOf x) r reply) next x x′ j →
     (numberOf (j .reply) ≡ 0 → soundOf (x′ .orders) ≡ true)
     → SameLengths x x′ → Requested bytes x x′ j
 unfolding requestAnswer placeTo
-answered-at {bytes} {x} {x′} {r} {reply} {next} {j} f e is d w l =
+answered {bytes} {x} {x′} {r} {reply} {next} {j} f e is d w l =
     let t : request (tablesOf x) bytes .tables ≡ granted reply next (tablesOf x) = ap (λ (y : Answer Engine). y .tables) e in
     record {
       replies = d .replies ∙ rw f (sym (ap (λ (y : Answer Engine). y .reply) e));
@@ -107,26 +119,15 @@ answered-at {bytes} {x} {x′} {r} {reply} {next} {j} f e is d w l =
       settles = w;
     }
 
-pub answered : {bytes : Bytes} {x x′ : Buffers} {r : Record} {reply : ℕ} {next : Engine} {j : Judged} → unfit x ≡ false
-    → request (tablesOf x) bytes ≡ record { reply = reply; tables = granted reply next (tablesOf x) }
-    → r ≡ decode bytes → Step (tablesOf x) (tablesOf x′) reply (placeOf (tablesOf x) r reply) next x x′ j →
-    (numberOf (j .reply) ≡ 0 → soundOf (x′ .orders) ≡ true)
-    → SameLengths x x′ → Requested bytes x x′ j
-answered {bytes} {x} h = answered-at (fits x h)
-
 -- a refusal of the form
 pub not-granted : {r : Reply} {j : Judged} {b : Bool} {A : Type 0} → j ≡ record { reply = r; place = 0 } → b ≡ eqb (numberOf r) 0 → not b ≡ true →
     numberOf (j .reply) ≡ 0 → A
 not-granted {r} {j} {b} is a n z = absurd (not-zero r a (not-true b n) (sym (ap (λ (y : Judged). numberOf (y .reply)) is) ∙ z))
 
-pub fitting : (x : Buffers) → Settling x → fit x ≡ true
-fitting x h = rw (eq-eqb _ _ (h .0), eq-eqb _ _ (h .1 .0), eq-eqb _ _ (h .1 .1 .0))
-
 -- ---- The load.
-pub no-load : (bytes : Bytes) (x : Buffers) → unfit x ≡ true → LoadDone bytes x x Room 0
+pub no-load : (bytes : Bytes) (x : Buffers) → fit x ≡ false → LoadDone bytes x x Room 0
 unfolding loadAnswer
-no-load bytes x h =
-    let f = fits-not x h in
+no-load bytes x f =
     record {
       replies = rw f;
       places = rw f;
@@ -138,18 +139,20 @@ no-load bytes x h =
     }
 
 -- the orders are emptied, and the lower part is loaded
-pub loaded : {bytes : Bytes} {p s o p′ s′ o′ : List ℕ} {r : Reply} {place : ℕ} → unfit (buffers p s o) ≡ false → Cleared o′ → Loads bytes p s p′ s′ r place
+pub loaded : {bytes : Bytes} {p s o p′ s′ o′ : List ℕ} {r : Reply} {place : ℕ} → fit (buffers p s o) ≡ true → Cleared o′ → Loads bytes p s p′ s′ r place
     → SameLengths (buffers p s o) (buffers p′ s′ o′) → LoadDone bytes (buffers p s o) (buffers p′ s′ o′) r place
 unfolding loadAnswer engineOf
-loaded {bytes} {p} {s} {o} {p′} {s′} {o′} {r} {place} h c d l =
-    let e = all (eqb (length p) policyWords) (eqb (length s) sessionsWords) (eqb (length o) ordersWords) h in
-    let f = fits (buffers p s o) h in
-    let g : lowerFit p s ≡ true = rw (e .0, e .1) in
-    let t : lowerTables p′ s′ ≡ lowerOf (load bytes .tables) = d .tables ∙ rw (e .0, e .1) in
+loaded {bytes} {p} {s} {o} {p′} {s′} {o′} {r} {place} f c d l =
+    let w = fit-lengths (buffers p s o) f in
+    let e₀ = eq-eqb _ _ (w .0) in
+    let e₁ = eq-eqb _ _ (w .1 .0) in
+    let e₂ = eq-eqb _ _ (w .1 .1) in
+    let g : lowerFit p s ≡ true = rw (e₀, e₁) in
+    let t : lowerTables p′ s′ ≡ lowerOf (load bytes .tables) = d .tables ∙ rw (e₀, e₁) in
     record {
-      replies = d .replies ∙ rw (e .0, e .1, e .2);
-      places = d .places ∙ rw (e .0, e .1, e .2);
-      tables = tables-sound (buffers p′ s′ o′) (c .sound) ∙ rw (e .0, e .1, e .2) (λ i. record { lower = t i; orders = c .tables i });
+      replies = d .replies ∙ rw (e₀, e₁, e₂);
+      places = d .places ∙ rw (e₀, e₁, e₂);
+      tables = tables-sound (buffers p′ s′ o′) (c .sound) ∙ rw (e₀, e₁, e₂) (λ i. record { lower = t i; orders = c .tables i });
       lengths = l;
       room = λ n. absurd (true≢false (sym f ∙ n));
       zeros = λ _ n. record { policy = λ i. d .zeros g n i .0; sessions = λ i. d .zeros g n i .1; orders = c .zeros };

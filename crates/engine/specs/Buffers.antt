@@ -33,9 +33,12 @@ noEngine = engineOf noPolicy
 unfoldable pub tablesOf : Buffers → Engine
 tablesOf x = cond (soundOf (x .orders)) (productOf x) noEngine
 
--- each has its fixed length
+-- each has its fixed length, in words
+abbrev pub fitWords : ℕ → ℕ → ℕ → Bool
+fitWords p s o = (eqb p policyWords && eqb s sessionsWords) && eqb o ordersWords
+
 abbrev pub fit : Buffers → Bool
-fit x = (eqb (length (x .policy)) policyWords && eqb (length (x .sessions)) sessionsWords) && eqb (length (x .orders)) ordersWords
+fit x = fitWords (length (x .policy)) (length (x .sessions)) (length (x .orders))
 
 -- a call leaves them their lengths, whatever these are
 pub record SameLengths (x x′ : Buffers) : Type 0 where

@@ -7,7 +7,7 @@ ghost use Rattle.records.specs.Limits.{Limits};
 ghost use Rattle.policy.specs.Layout.{policyWords};
 ghost use Rattle.sessions.specs.Reading.{sessionsWords};
 ghost use Rattle.order_links.specs.Chains.{ordersWords, soundOf};
-ghost use Rattle.engine.specs.Buffers.{buffers, noEngine, tablesOf};
+ghost use Rattle.engine.specs.Buffers.{buffers, noEngine, tablesOf, fitWords};
 ghost use Rattle.engine.specs.Step.{AnyStep, SettlingStep};
 ghost use Rattle.engine.specs.Answers.{Requested, LoadDone};
 ghost use Rattle.engine.specs.Settling.{Settled, SettledAs, SettledRequest, QuickRequest};
@@ -68,14 +68,18 @@ fn act(r: Record, p: &mut [u64], s: &mut [u64], o: &mut [u64]) -> Judged
     step(r, p, s, o)
 }
 
+// Whether buffers of so many words have their lengths. Every call asks it first.
+pub fn fit(policy: usize, sessions: usize, orders: usize) -> bool
+    ensures { λ r. ⌜ r ≡ fitWords policy sessions orders ⌝ }
+{
+    (policy == POLICY_WORDS) & (sessions == SESSIONS_WORDS) & (orders == ORDERS_WORDS)
+}
+
 // Any bytes as a request.
 pub fn request(bytes: &[u8], policy: &mut [u64], sessions: &mut [u64], orders: &mut [u64]) -> Judged
     ensures { λ r. ⌜ Requested (now (bytes .entry)) (buffers (now (policy .entry)) (now (sessions .entry)) (now (orders .entry))) (buffers (now (policy .exit)) (now (sessions .exit)) (now (orders .exit))) r ⌝ }
 {
-    if (policy.len() != POLICY_WORDS)
-        | (sessions.len() != SESSIONS_WORDS)
-        | (orders.len() != ORDERS_WORDS)
-    {
+    if !fit(policy.len(), sessions.len(), orders.len()) {
         return plain(Reply::Room);
     }
     let r = records::judge(Call::Request, bytes);
@@ -89,10 +93,7 @@ pub fn request(bytes: &[u8], policy: &mut [u64], sessions: &mut [u64], orders: &
 pub fn settle(policy: &mut [u64], sessions: &mut [u64], orders: &mut [u64]) -> Reply
     ensures { λ r. ⌜ Settled (buffers (now (policy .entry)) (now (sessions .entry)) (now (orders .entry))) (buffers (now (policy .exit)) (now (sessions .exit)) (now (orders .exit))) r ⌝ }
 {
-    if (policy.len() != POLICY_WORDS)
-        | (sessions.len() != SESSIONS_WORDS)
-        | (orders.len() != ORDERS_WORDS)
-    {
+    if !fit(policy.len(), sessions.len(), orders.len()) {
         return Reply::Room;
     }
     if order_links::is_sound(orders) {
@@ -114,10 +115,7 @@ pub fn settled_request(
 ) -> Judged
     ensures { λ r. ⌜ SettledRequest (now (bytes .entry)) (buffers (now (policy .entry)) (now (sessions .entry)) (now (orders .entry))) (buffers (now (policy .exit)) (now (sessions .exit)) (now (orders .exit))) r ⌝ }
 {
-    if (policy.len() != POLICY_WORDS)
-        | (sessions.len() != SESSIONS_WORDS)
-        | (orders.len() != ORDERS_WORDS)
-    {
+    if !fit(policy.len(), sessions.len(), orders.len()) {
         return plain(Reply::Room);
     }
     let r = records::judge(Call::Request, bytes);
@@ -135,11 +133,7 @@ pub const UNTOLD: u64 = 1;
 pub fn quick(bytes: &[u8], policy: &[u64], sessions: &[u64], orders: &[u64]) -> Reply
     ensures { λ r. ⌜ QuickRequest (now (bytes .entry)) (buffers (now (policy .entry)) (now (sessions .entry)) (now (orders .entry))) r ⌝ }
 {
-    if (policy.len() != POLICY_WORDS)
-        | (sessions.len() != SESSIONS_WORDS)
-        | (orders.len() != ORDERS_WORDS)
-        | !records::is_check(bytes)
-    {
+    if !fit(policy.len(), sessions.len(), orders.len()) | !records::is_check(bytes) {
         return Reply::Room;
     }
     let r = records::decode(bytes);
@@ -150,10 +144,7 @@ pub fn quick(bytes: &[u8], policy: &[u64], sessions: &[u64], orders: &[u64]) -> 
 pub fn load(bytes: &[u8], policy: &mut [u64], sessions: &mut [u64], orders: &mut [u64]) -> Loaded
     ensures { λ x. ⌜ LoadDone (now (bytes .entry)) (buffers (now (policy .entry)) (now (sessions .entry)) (now (orders .entry))) (buffers (now (policy .exit)) (now (sessions .exit)) (now (orders .exit))) (x .reply) (x .place) ⌝ }
 {
-    if (policy.len() != POLICY_WORDS)
-        | (sessions.len() != SESSIONS_WORDS)
-        | (orders.len() != ORDERS_WORDS)
-    {
+    if !fit(policy.len(), sessions.len(), orders.len()) {
         return Loaded {
             reply: Reply::Room,
             place: 0,
@@ -206,6 +197,11 @@ pub extern "C" fn mishantral_settle(
     replies::number(r)
 }
 
+// The lengths of a question's answer (call_question), and of the scratch with which OPL/XML is read (opl).
+pub const ANSWER_WORDS: usize = 66;
+
+const READER_WORDS: u64 = 921784;
+
 // The length of a buffer in words: 0 the policy's, 1 the sessions', 2 the orders', 3 that of a question's answer, 4 that of the scratch with which OPL/XML is read.
 #[no_mangle]
 pub extern "C" fn mishantral_words(group: u64) -> u64
@@ -221,10 +217,10 @@ pub extern "C" fn mishantral_words(group: u64) -> u64
         return ORDERS_WORDS as u64;
     }
     if group == 3 {
-        return 66;
+        return ANSWER_WORDS as u64;
     }
     if group == 4 {
-        return 921784;
+        return READER_WORDS;
     }
     0
 }

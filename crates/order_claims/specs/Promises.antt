@@ -2,24 +2,23 @@
 -- that reply and the tables afterwards, with not one word changed where it refuses, and sound links again. All of it is promised of sound links; of any content, that
 -- a refusal changes no word, and that a place is at most 64.
 use Prim.Native.Nat.{ℕ, _<_}
-use mathlib.Core.Bool.{true}
+use mathlib.Core.Bool.{true, not}
 use mathlib.Core.List.{List}
 use mathlib.Core.Path.{_≡_}
 use lib.ListN.{length}
 use Rattle.paper_lower.specs.Lists.Maybe.{just}
 use Rattle.paper_lower.specs.Checks.{first, granted}
-use Rattle.paper_upper.specs.Orders.{SameTables}
-use Rattle.paper_upper.specs.Requests.{claimChecks, claimPlace, claimNext, holdChecks, releaseNext, doneNext, taskCheckChecks}
+use Rattle.paper_upper.specs.Orders.{Engine, SameTables}
+use Rattle.paper_upper.specs.Requests.{unknown, claimChecks, claimPlace, claimNext, holdChecks, releaseNext, doneNext, taskCheckChecks}
 use Rattle.replies.specs.Replies.{numberOf}
 use Rattle.replies.specs.Done.{Done}
 use Rattle.replies.specs.declared.Reply.{Reply}
 use Rattle.policy.specs.Layout.{policyWords}
-use Rattle.policy.specs.Reading.{policyOf}
 use Rattle.sessions.specs.Reading.{sessionsWords}
 use Rattle.order_links.specs.Chains.{ordersWords, soundOf}
-use Rattle.order_entries.specs.declared.Gathered.{Gathered}
+use Rattle.order_entries.specs.declared.Instance.{Instance}
 use Rattle.order_rules.specs.declared.Judged.{Judged}
-use Rattle.order_rules.specs.Judging.{Verdict, Judging}
+use Rattle.order_rules.specs.Judging.{Verdict}
 use Rattle.order_requests.specs.Tables.{engineTables}
 
 -- each buffer has its length, and subject a, instance b and task c are within their limits
@@ -28,10 +27,11 @@ InLimits p s o a b c =
     (length p ≡ policyWords)
     × ((length s ≡ sessionsWords) × ((length o ≡ ordersWords) × ((a < 128) × ((b < 64) × (c < 64)))))
 
--- the claim rules for task t of an instance of the template, over what was gathered of its entries
-abbrev pub RulesJudged : List ℕ → ℕ → Gathered → ℕ → Judged → Type 0
-RulesJudged p template g t j =
-    Judging (policyOf p .tasks) (policyOf p .rules) (just template) (g .mine .bits) (g .done .bits) (g .others .bits) (g .times) t j
+-- an instance that is open only where the subject is live and the task one of its template
+pub record Known (t : Engine) (a b c : ℕ) (r : Instance) : Type 0 where
+  pub opens : r .open ≡ not (unknown t a b c)
+  pub template : r .open ≡ true → t .orders .opened b ≡ just (r .template)
+  pub small : r .template < 16
 
 -- ---- 50
 abbrev pub ClaimJudged : List ℕ → List ℕ → List ℕ → ℕ → ℕ → ℕ → Judged → Type 0

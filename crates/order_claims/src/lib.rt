@@ -13,8 +13,8 @@ ghost use Rattle.sessions.specs.Reading.{sessionsWords, sessionsOf};
 ghost use Rattle.order_links.specs.Chains.{soundOf};
 ghost use Rattle.order_requests.specs.Tables.{engineTables};
 ghost use Rattle.order_requests.specs.Promises.{AnyContent};
-ghost use Rattle.order_claims.specs.Promises.{InLimits, RulesJudged, ClaimJudged, Claimed, HoldJudged, Released, Finished, TaskCheckJudged};
-use order_entries::Gathered;
+ghost use Rattle.order_claims.specs.Promises.{InLimits, Known, ClaimJudged, Claimed, HoldJudged, Released, Finished, TaskCheckJudged};
+use order_entries::Instance;
 use order_rules::Judged;
 use order_rules::plain;
 use replies::Reply;
@@ -25,14 +25,25 @@ const MOST: usize = 2048;
 
 // ---- 50 to 52 and 57: subject a, instance b, task c.
 
+// The instance, open only where the subject is live and the task one of its template.
+fn known(p: &[u64], s: &[u64], o: &[u64], a: u64, b: u64, c: u64) -> Instance
+    requires { ⌜ InLimits (now p) (now s) (now o) a b c ⌝ }
+    ensures { λ r. ⌜ Known (engineTables (now (p .entry)) (now (s .entry)) (now (o .entry))) a b c r ⌝ }
+{
+    let x = order_entries::opened(o, b);
+    let template = x.template;
+    let open = sessions::live(s, a as usize)
+        & (x.open & policy::task_is_of(p, c as usize, template));
+    Instance { open, template }
+}
+
 // Whether the subject is not live, or the task not one of an open instance's template.
 fn is_unknown(p: &[u64], s: &[u64], o: &[u64], a: u64, b: u64, c: u64) -> bool
     requires { ⌜ InLimits (now p) (now s) (now o) a b c ⌝ }
     ensures { λ r. ⌜ r ≡ unknown (engineTables (now (p .entry)) (now (s .entry)) (now (o .entry))) a b c ⌝ }
 {
-    let x = order_entries::opened(o, b);
-    let template = x.template;
-    !sessions::live(s, a as usize) | !(x.open & policy::task_is_of(p, c as usize, template))
+    let x = known(p, s, o, a, b, c);
+    !x.open
 }
 
 // Whether an active role of the subject, or one below it, opens the task.
@@ -44,21 +55,14 @@ fn has_role(p: &[u64], s: &[u64], a: u64, c: u64) -> bool
     policy::open_to(p, c as usize).meets(roles)
 }
 
-// The claim rules for task t of an instance of the template, over what was gathered of its entries.
-fn rules_reply(p: &[u64], template: u64, g: Gathered, t: u64) -> Judged
-    requires { ⌜ (length (now p) ≡ policyWords) × ((template < 16) × (t < 64)) ⌝ }
-    ensures { λ r. ⌜ RulesJudged (now (p .entry)) template g t r ⌝ }
-{
-    order_rules::judge(p, template, g.mine, g.done, g.others, g.times, t)
-}
-
 // ---- 50: claim, with the place of the rule that refuses it. The entries are walked once.
 
 fn claim_reply(p: &[u64], s: &[u64], o: &[u64], a: u64, b: u64, c: u64) -> Judged
     requires { ⌜ InLimits (now p) (now s) (now o) a b c ⌝ }
     ensures { λ r. ⌜ (r .place ≤ 64) × (soundOf (now (o .entry)) ≡ true → ClaimJudged (now (p .entry)) (now (s .entry)) (now (o .entry)) a b c r) ⌝ }
 {
-    if is_unknown(p, s, o, a, b, c) {
+    let x = known(p, s, o, a, b, c);
+    if !x.open {
         return plain(Reply::Unknown);
     }
     let user = sessions::user(s, a as usize);
@@ -69,8 +73,7 @@ fn claim_reply(p: &[u64], s: &[u64], o: &[u64], a: u64, b: u64, c: u64) -> Judge
     if !has_role(p, s, a, c) {
         return plain(Reply::NoRole);
     }
-    let x = order_entries::opened(o, b);
-    let ruled = rules_reply(p, x.template, g, c);
+    let ruled = order_rules::judge(p, x.template, g.mine, g.done, g.others, g.times, c);
     let r = ruled.reply;
     if !accepted(r) {
         return ruled;

@@ -52,8 +52,9 @@ unfolding ordersOf
 whole-tables l opened es a b = λ x. record { opened = a x; entries = b x }
 
 -- ---- The entries, each instance's changed by f, which leaves those of others alone.
-module _ (i : ℕ) (hi : i < 64) (template : Maybe ℕ) (l l′ : List ℕ) (s : Woven l) (f : List Entry → List Entry) (apart : (g : ℕ → List Entry) (n : ℕ) → f (joined g n) ≡ joined (λ j. f (g j)) n)
-    (turns : (es : List Entry) → revOnto (f es) [] ≡ f (revOnto es [])) (alone : (es : List Entry) → Every (λ e. inOrder i e ≡ false) es → f es ≡ es) (v : Leaves i template (f (entriesIn l i)) l l′) where
+module _ (i : ℕ) (hi : i < 64) (template : Maybe ℕ) (l l′ : List ℕ) (s : Woven l) (f : List Entry → List Entry)
+    (apart : (g : ℕ → List Entry) (n : ℕ) → f (joined g n) ≡ joined (λ j. f (g j)) n) (turns : (es : List Entry) → revOnto (f es) [] ≡ f (revOnto es []))
+    (alone : (es : List Entry) → Every (λ e. inOrder i e ≡ false) es → f es ≡ es) (v : Leaves i template (f (entriesIn l i)) l l′) where
   each-instance : (j : ℕ) → j < 64 → entriesIn l′ j ≡ f (entriesIn l j)
   each-instance j h = go (eqb j i) refl
     where

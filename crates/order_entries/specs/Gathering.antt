@@ -1,5 +1,5 @@
 -- What a claim of task t by user u in instance i asks of the entries, all of it gathered in one walk.
-use Prim.Native.Nat.{ℕ, _+_, _/_, _%_}
+use Prim.Native.Nat.{ℕ, _+_}
 use mathlib.Core.Bool.{Bool, not, cond, _&&_}
 use mathlib.Core.List.{List}
 use lib.Dec.{eqb}
@@ -8,6 +8,7 @@ use Rattle.paper_lower.specs.Lists.{some, many, keep}
 use Rattle.paper_upper.specs.Orders.{Entry, isHeld, ofTask, tasksBy, tasksDone, tasksOthers}
 use Rattle.paper_upper.specs.Questions.{Figures as PaperFigures}
 use Rattle.sets.specs.declared.Set.{Set}
+use Rattle.order_links.specs.Chains.{userOf, taskOf, doneBit}
 use Rattle.order_entries.specs.declared.Gathered.{Gathered}
 use Rattle.order_entries.specs.declared.Figures.{Figures}
 
@@ -41,7 +42,7 @@ takenIn u t user task finished g =
 
 -- one word of a walk
 abbrev pub takeIn : ℕ → ℕ → ℕ → ℕ → Gathered → Gathered
-takeIn u t h w g = takenIn u t (w / 1048576 % 1024) (w / 128 % 64) (eqb (w / 64 % 2) 1) g
+takeIn u t h w g = takenIn u t (userOf w) (taskOf w) (doneBit w) g
 
 -- an instance's figures, as the code has them
 abbrev pub kept : PaperFigures → Figures

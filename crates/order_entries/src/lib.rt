@@ -2,33 +2,31 @@
 // Each function equals what paper_upper defines over the tables that a sound buffer reads as (specs/Reading). None asks for sound links: of any content of the right
 // length each ends and keeps to the buffer, and that promise is made under the condition that the links are sound.
 ghost use mathlib.Core.Path.{_≡_};
-ghost use Prim.Native.Nat.{_+_, _/_, _%_, _<_, _≤_};
+ghost use Prim.Native.Nat.{_+_, _<_};
 ghost use lib.ListN.{length};
 ghost use mathlib.Core.Bool.{true, false, cond, _&&_};
-ghost use lib.Dec.{eqb};
-ghost use Rattle.paper_lower.specs.Sets.{plus};
 ghost use Rattle.paper_lower.specs.Lists.{there, some, many};
 ghost use Rattle.paper_lower.specs.Lists.Maybe.{just};
 ghost use Rattle.paper_upper.specs.Orders.{isHeld, isHeldBy, inOrder, heldBy};
 ghost use Rattle.paper_upper.specs.Questions.{figuresOf};
-ghost use Rattle.order_links.specs.Chains.{ordersWords, markOf, soundOf};
+ghost use Rattle.order_links.specs.Chains.{ordersWords, markOf, userOf, taskOf, doneBit, soundOf};
 ghost use Rattle.order_entries.specs.Reading.{Cleared, ordersOf, withInstance, openedOf, inOpenOrder, keyOf, fits, anyIn, anyUpTo};
 ghost use Rattle.order_entries.specs.Acts.{InLimits, afterEnter, afterRelease, afterFinish, afterEnd, Acts, Enters, Tried};
 ghost use Rattle.order_entries.specs.Gathering.{gatheredOf, takenIn, kept};
 use order_links::FREE;
+use order_links::HAS_USER;
+use order_links::HELD_BY;
+use order_links::HOLDER;
+use order_links::LINK;
+use order_links::NUMBERS;
+use order_links::ORDER_HELD;
 use order_links::ORDERS_WORDS;
+use order_links::WORD_SUBJECT;
+use order_links::WORD_TASK;
+use order_links::WORD_USER;
 use sets::Set;
+use sets::pick;
 use sets::set_of;
-
-// What of an entry's word a test looks at: its instance, and whether it is held; and its task and subject. Where all words are asked: whether it is held,
-// its subject, and whether it is free; or its user, and whether it is free.
-const ORDER_HELD: u64 = 127;
-
-const HELD_BY: u64 = 1048575;
-
-const HOLDER: u32 = 1074782272;
-
-const USER: u32 = 2146435072;
 
 pub struct Instance {
     pub open: bool,
@@ -57,8 +55,9 @@ pub fn in_use(o: &[u64]) -> usize
     ensures { λ r. ⌜ (soundOf (now (o .entry)) ≡ true → r ≡ many (ordersOf (now (o .entry)) .entries)) ⌝ }
 {
     let free = order_links::chain(o, FREE);
+    let spare = order_links::count_of(free);
     let m = order_links::mark(o);
-    ((m + 4096 - free / 4096 % 4096) % 4096) as usize
+    ((m + NUMBERS - spare) % NUMBERS) as usize
 }
 
 // ---- What a claim asks.
@@ -73,12 +72,6 @@ pub struct Gathered {
     pub held: u64,
 }
 
-fn pick(c: bool, a: u64, b: u64) -> u64
-    ensures { λ r. ⌜ r ≡ cond c a b ⌝ }
-{
-    if c { a } else { b }
-}
-
 fn more_if(c: bool, n: u64) -> u64
     requires { ⌜ n < 4096 ⌝ }
     ensures { λ r. ⌜ r ≡ cond c (n + 1) n ⌝ }
@@ -86,28 +79,18 @@ fn more_if(c: bool, n: u64) -> u64
     if c { n + 1 } else { n }
 }
 
-fn with_if(c: bool, tasks: Set, t: u64) -> Set
-    requires { ⌜ t < 64 ⌝ }
-    ensures { λ r. ⌜ r .bits ≡ cond c (plus (tasks .bits) t) (tasks .bits) ⌝ }
-{
-    let more = tasks.with(t);
-    Set {
-        bits: pick(c, more.bits, tasks.bits),
-    }
-}
-
 // One entry more of the instance, without a branch. The done tasks are the kept ones.
 fn take_in(g: Gathered, w: u64, u: u64, t: u64) -> Gathered
     requires { ⌜ g .times < 4096 ⌝ }
-    ensures { λ r. ⌜ r ≡ takenIn u t (w / 1048576 % 1024) (w / 128 % 64) (eqb (w / 64 % 2) 1) g ⌝ }
+    ensures { λ r. ⌜ r ≡ takenIn u t (userOf w) (taskOf w) (doneBit w) g ⌝ }
 {
-    let task = w / 128 % 64;
-    let own = w / 1048576 % 1024 == u;
+    let task = order_links::task_of(w);
+    let own = order_links::user_of(w) == u;
     let this = task == t;
-    let finished = w / 64 % 2 == 1;
-    let mine = with_if(own, g.mine, task);
+    let finished = order_links::is_done(w);
+    let mine = g.mine.with_if(own, task);
     let done = g.done;
-    let others = with_if(!own, g.others, task);
+    let others = g.others.with_if(!own, task);
     let times = more_if(this, g.times);
     let held = pick(this & !finished, 1, g.held);
     Gathered {
@@ -126,8 +109,8 @@ pub fn gather(o: &[u64], i: u64, u: u64, t: u64) -> Gathered
 {
     let x = order_links::chain(o, i);
     let done = order_links::done(o, i);
-    let mut h = x % 4096;
-    let mut n = x / 4096 % 4096;
+    let mut h = order_links::head_of(x);
+    let mut n = order_links::count_of(x);
     let mut g = Gathered {
         mine: Set::EMPTY,
         done: set_of(done),
@@ -138,7 +121,7 @@ pub fn gather(o: &[u64], i: u64, u: u64, t: u64) -> Gathered
     while 0 < n {
         let w = order_links::linked(o, h);
         g = take_in(g, w, u, t);
-        h = w / 4294967296 % 4096;
+        h = order_links::link_of(w);
         n -= 1;
     }
     g
@@ -152,13 +135,13 @@ fn any_in(o: &[u64], i: u64, mask: u64, key: u64) -> bool
     ensures { λ r. ⌜ (soundOf (now (o .entry)) ≡ true → r ≡ anyIn (now (o .entry)) i mask key) ⌝ }
 {
     let x = order_links::chain(o, i);
-    let mut h = x % 4096;
-    let mut n = x / 4096 % 4096;
+    let mut h = order_links::head_of(x);
+    let mut n = order_links::count_of(x);
     let mut found = false;
     while 0 < n {
         let w = order_links::linked(o, h);
         found = (w & mask == key) | found;
-        h = w / 4294967296 % 4096;
+        h = order_links::link_of(w);
         n -= 1;
     }
     found
@@ -168,7 +151,7 @@ fn any_in(o: &[u64], i: u64, mask: u64, key: u64) -> bool
 fn half_fits(w: u64, mask: u32, key: u32) -> bool
     ensures { λ r. ⌜ r ≡ fits mask key w ⌝ }
 {
-    let half = (w % 4294967296) as u32;
+    let half = (w % LINK) as u32;
     half & mask == key
 }
 
@@ -201,7 +184,7 @@ fn key_of(i: u64, t: u64, a: u64) -> u64
     requires { ⌜ InLimits i t a ⌝ }
     ensures { λ r. ⌜ r ≡ keyOf i t a ⌝ }
 {
-    i + 128 * t + 8192 * a
+    i + WORD_TASK * t + WORD_SUBJECT * a
 }
 
 pub fn holds_task(o: &[u64], i: u64, t: u64, a: u64) -> bool
@@ -224,7 +207,7 @@ pub fn holds_any(o: &[u64], a: u64) -> bool
     requires { ⌜ (length (now o) ≡ ordersWords) × (a < 128) ⌝ }
     ensures { λ r. ⌜ (soundOf (now (o .entry)) ≡ true → r ≡ some (λ e. isHeldBy a (e .standing)) (ordersOf (now (o .entry)) .entries)) ⌝ }
 {
-    any(o, HOLDER, (8192 * a) as u32)
+    any(o, HOLDER, (WORD_SUBJECT * a) as u32)
 }
 
 // Whether the user has an entry in an open instance: no other has any.
@@ -232,7 +215,7 @@ pub fn in_open_order(o: &[u64], u: u64) -> bool
     requires { ⌜ (length (now o) ≡ ordersWords) × (u < 1024) ⌝ }
     ensures { λ r. ⌜ (soundOf (now (o .entry)) ≡ true → r ≡ some (inOpenOrder (ordersOf (now (o .entry))) u) (ordersOf (now (o .entry)) .entries)) ⌝ }
 {
-    any(o, USER, (1048576 * u) as u32)
+    any(o, HAS_USER, (WORD_USER * u) as u32)
 }
 
 // ---- Kept figures.
@@ -248,9 +231,10 @@ pub fn figures_of(o: &[u64], i: u64) -> Figures
     ensures { λ r. ⌜ (soundOf (now (o .entry)) ≡ true → r ≡ kept (figuresOf i (ordersOf (now (o .entry)) .entries))) ⌝ }
 {
     let x = order_links::chain(o, i);
+    let entries = order_links::count_of(x);
     let d = order_links::done(o, i);
     Figures {
-        entries: x / 4096 % 4096,
+        entries,
         done: set_of(d),
     }
 }

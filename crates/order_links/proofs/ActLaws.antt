@@ -213,8 +213,9 @@ released l₀ l i t a room s hi ht ha opens sift =
         ∙ ap (keep (λ e. not (heldBy i t a e))) (sym (entries-stack l₀ (s .woven) i hi))
 
 -- ---- Done: the entries that fit are turned, and their task is in the kept set.
-module _ (l₀ l₁ : List ℕ) (i t a d : ℕ) (room : length l₀ ≡ ordersWords) (s : Whole l₀) (hi : i < 64) (ht : t < 64) (ha : a < 128) (opens : has (openOf l₀) i ≡ true) (turn : Turned i (2 * t + 128 * a) l₀ l₁)
-    (some-held : some (heldBy i t a) (entriesIn l₀ i) ≡ true) (stored : d ≡ plus (getD l₁ (132 + i) 0) t) where
+module _ (l₀ l₁ : List ℕ) (i t a d : ℕ) (room : length l₀ ≡ ordersWords) (s : Whole l₀) (hi : i < 64) (ht : t < 64) (ha : a < 128)
+    (opens : has (openOf l₀) i ≡ true) (turn : Turned i (2 * t + 128 * a) l₀ l₁) (some-held : some (heldBy i t a) (entriesIn l₀ i) ≡ true)
+    (stored : d ≡ plus (getD l₁ (132 + i) 0) t) where
   abbrev left : List ℕ
   left = set l₁ (132 + i) d
 

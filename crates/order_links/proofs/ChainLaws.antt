@@ -6,7 +6,7 @@ use mathlib.Core.Path.{_≡_, refl, sym, ap, _∙_}
 use native.Mathlib.Omega.{arith}
 use borrow.Author.Tests.{eq-eqb, ne-eqb, eqb-true, eqb-false, ltb-true, ltb-false, le-ltb, not-true, not-false}
 use lib.Dec.{eqb, ltb}
-use lib.ListN.{length, set}
+use lib.ListN.{length}
 use Rattle.paper_lower.specs.Sets.{plus}
 use Rattle.paper_lower.proofs.ListLaws.{or-none, both}
 use Rattle.paper_upper.specs.Orders.{Entry, isDone, inOrder, tasksWhere, tasksDone}
@@ -65,12 +65,6 @@ module _ (l : List ℕ) (P Q : ℕ → Type 0) (p0 : (h : ℕ) → P h → 0 < h
       ((a .0, λ e. let same = one-length h (suc n) m a (rw e b) in omega arith), no-return (linkOf (wordAt l h)) n k m (a .1) b (omega arith))
 
 -- ---- The same way in another buffer.
-module _ {A : Type 0} (f : ℕ → ℕ → A → A) (l l′ : List ℕ) (P : ℕ → Type 0) (same : (h : ℕ) → P h → wordAt l′ h ≡ wordAt l h) where
-  pub walk-same : (h n : ℕ) (a : A) → Linked l P h n → walkOver f l′ h n a ≡ walkOver f l h n a
-  unfolding walkOver
-  walk-same h zero a p = refl
-  walk-same h (suc n) a p = rw (same h (p .0)) (walk-same (linkOf (wordAt l h)) n (f h (wordAt l h) a) (p .1))
-
 pub linked-same : (l l′ : List ℕ) (P Q : ℕ → Type 0) → ((h : ℕ) → P h → wordAt l′ h ≡ wordAt l h) → ((h : ℕ) → P h → Q h) → (h n : ℕ) → Linked l P h n →
     Linked l′ Q h n
 linked-same l l′ P Q same more h zero p = p

@@ -178,7 +178,8 @@ word-owner i p h a b =
     rw (f, n) (omega arith)
 
 -- ---- An entry is put on chain i.
-module _ (l : List ℕ) (room : length l ≡ ordersWords) (k : ℕ) (s : Loose l k) (i : ℕ) (hi : i ≤ 65) (p : ℕ) (hp : p < 16777216) (reads : isRead l i ≡ true) where
+module _ (l : List ℕ) (room : length l ≡ ordersWords) (k : ℕ) (s : Loose l k) (i : ℕ) (hi : i ≤ 65) (p : ℕ) (hp : p < 16777216)
+    (reads : isRead l i ≡ true) where
   abbrev put-word : ℕ
   put-word = wordFor i p (headOf (chainWord l i))
 
@@ -349,6 +350,3 @@ module _ (l : List ℕ) (room : length l ≡ ordersWords) (s : Woven l) (fits : 
             stack-same l marked (Fine l j (markOf l)) (λ h f. cell (195 + h) (omega arith)) (headOf (chainWord l j)) (countOf (chainWord l j)) (s .chain j hj) ∙
             sym (payloads-at l j (headOf (chainWord l j)) (countOf (chainWord l j)) refl refl);
       }
-
-pub from-free : (l l′ : List ℕ) (k : ℕ) → Popped l l′ 64 k → Taken l l′ k
-from-free l l′ k p = record { loose = p .loose; beside = p .beside; others = p .others }

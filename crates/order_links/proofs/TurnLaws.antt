@@ -11,7 +11,7 @@ use lib.Seq.{getD-set-same, getD-set-other, set-getD}
 use Rattle.paper_lower.specs.Sets.{Set, has, plus}
 use Rattle.paper_lower.specs.Lists.{some, each}
 use Rattle.paper_lower.proofs.ListLaws.{both, or-none}
-use Rattle.paper_upper.specs.Orders.{Entry, entry, isDone, isHeldBy, inOrder, ofTask, heldBy, tasksWhere, tasksDone}
+use Rattle.paper_upper.specs.Orders.{Entry, isDone, isHeldBy, inOrder, ofTask, heldBy, tasksWhere, tasksDone}
 use Rattle.paper_upper.specs.Orders.Standing.{done}
 use Rattle.paper_upper.specs.Requests.{turned}
 use Rattle.sets.proofs.SetLaws.{same-members, has-plus}
@@ -178,7 +178,8 @@ turn-begins i key l x e =
       hits = refl;
     })
 
-module _ (i key : ℕ) (l₀ l : List ℕ) (h n : ℕ) (hit : Bool) (hi : i < 64) (z : key % 2 ≡ 0) (room : length l₀ ≡ ordersWords) (wov : Woven l₀) (s : Turning i key l₀ l h n hit) where
+module _ (i key : ℕ) (l₀ l : List ℕ) (h n : ℕ) (hit : Bool) (hi : i < 64) (z : key % 2 ≡ 0) (room : length l₀ ≡ ordersWords) (wov : Woven l₀)
+    (s : Turning i key l₀ l h n hit) where
   abbrev c : ℕ
   c = countOf (chainWord l₀ i)
 

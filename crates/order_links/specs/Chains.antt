@@ -48,11 +48,20 @@ countOf x = x / 4096 % 4096
 
 -- an entry: bits 0 to 5 the instance, 6 done, 7 to 12 the task, 13 to 19 the subject while it is held, 20 to 29 the user, 30 where it is free or set aside;
 -- 32 to 43 its link: the entry of the same chain entered before it, or 0
+abbrev pub doneBit : ℕ → Bool
+doneBit w = eqb (w / 64 % 2) 1
+
+abbrev pub taskOf : ℕ → ℕ
+taskOf w = w / 128 % 64
+
+abbrev pub userOf : ℕ → ℕ
+userOf w = w / 1048576 % 1024
+
 unfoldable pub standingOf : ℕ → Standing
-standingOf w = cond (eqb (w / 64 % 2) 1) done (held (w / 8192 % 128))
+standingOf w = cond (doneBit w) done (held (w / 8192 % 128))
 
 unfoldable pub entryOf : ℕ → Entry
-entryOf w = entry (w % 64) (w / 1048576 % 1024) (w / 128 % 64) (standingOf w)
+entryOf w = entry (w % 64) (userOf w) (taskOf w) (standingOf w)
 
 abbrev pub ownerOf : ℕ → ℕ
 ownerOf w = w % 64 + w / 1073741824 % 2 * 64
@@ -75,7 +84,7 @@ abbrev pub takeNumber : ℕ → ℕ → List ℕ → List ℕ
 takeNumber h w hs = h ∷ hs
 
 abbrev pub takeDone : ℕ → ℕ → ℕ → ℕ
-takeDone h w d = cond (eqb (w / 64 % 2) 1) (plus d (w / 128 % 64)) d
+takeDone h w d = cond (doneBit w) (plus d (taskOf w)) d
 
 -- the entries of a chain, the oldest first; and their numbers
 unfoldable pub entriesIn : List ℕ → ℕ → List Entry

@@ -4,19 +4,21 @@
 ghost use mathlib.Core.Path.{_≡_};
 ghost use Prim.Native.Nat.{_+_, _/_, _%_, _<_, _≤_};
 ghost use lib.ListN.{length};
-ghost use mathlib.Core.Bool.{true, false, cond, not, _&&_, _||_};
+ghost use mathlib.Core.Bool.{true, false, cond, not, _&&_};
 ghost use mathlib.Core.List.{[]};
 ghost use lib.Dec.{eqb};
-ghost use Rattle.paper_lower.specs.Sets.{has, plus};
+ghost use Rattle.paper_lower.specs.Sets.{has};
 ghost use Rattle.paper_lower.specs.Lists.{someBelow, some, add, keep, each};
 ghost use Rattle.paper_lower.specs.Lists.Maybe.{none, just};
 ghost use Rattle.paper_upper.specs.Orders.{entry, heldBy};
 ghost use Rattle.paper_upper.specs.Orders.Standing.{held};
 ghost use Rattle.paper_upper.specs.Requests.{turned};
-ghost use Rattle.order_links.specs.Chains.{ordersWords, Counted, markOf, openOf, templateIn, templateAt, doneWord, isRead, chainWord, countOf, wordAt, entriesIn, astray, figures, chainSound, sumTo, soundOf};
+ghost use Rattle.order_links.specs.Chains.{ordersWords, Counted, markOf, openOf, templateIn, templateAt, doneWord, isRead, chainWord, headOf, countOf, linkOf, userOf, taskOf, doneBit, wordAt, entriesIn, astray, figures, chainSound, sumTo, soundOf};
 ghost use Rattle.order_links.specs.Stacks.{payloadOf, Woven, Loose, Popped, Pushed, Taken, turnedWord};
 ghost use Rattle.order_links.specs.Acts.{Leaves, Acted};
 ghost use Rattle.order_links.specs.Total.{Safe, Cuts, Frees, Sifts, Drops, Empties, Turns};
+use sets::Set;
+use sets::pick;
 use sets::set_of;
 
 // The length of the buffer in words.
@@ -24,6 +26,8 @@ pub const ORDERS_WORDS: usize = 2244;
 
 // The most entries; the words of the open instances, of the first template, chain and set of done tasks; and that before the first entry.
 const MOST: u64 = 2048;
+
+const TO_LAST: u64 = MOST - 1;
 
 const OPEN: usize = 1;
 
@@ -40,18 +44,86 @@ pub const FREE: u64 = 64;
 
 const ASIDE: u64 = 65;
 
-fn pick(c: bool, a: u64, b: u64) -> u64
-    ensures { λ r. ⌜ r ≡ cond c a b ⌝ }
+// A chain's word has the entry entered last and, NUMBERS times, how many it has. LESS is 1 less, modulo NUMBERS.
+pub const NUMBERS: u64 = 4096;
+
+const LESS: u64 = NUMBERS - 1;
+
+// An entry's word has its instance, PAYLOAD times its payload, BESIDE where it is free or set aside, and LINK times the entry before it.
+const INSTANCES: u64 = 64;
+
+const PAYLOAD: u64 = 64;
+
+const PAYLOADS: u64 = 16777216;
+
+const BESIDE: u64 = 1073741824;
+
+pub const LINK: u64 = 4294967296;
+
+// A payload has 1 where the entry is done, TASK times its task, SUBJECT times its subject while it is held, and USER times its user.
+const TASK: u64 = 2;
+
+const TASKS: u64 = 64;
+
+const SUBJECT: u64 = 128;
+
+const USER: u64 = 16384;
+
+const USERS: u64 = 1024;
+
+// And so of the word.
+pub const WORD_TASK: u64 = PAYLOAD * TASK;
+
+pub const WORD_SUBJECT: u64 = PAYLOAD * SUBJECT;
+
+pub const WORD_USER: u64 = PAYLOAD * USER;
+
+// What of an entry's word a test looks at: its instance, and whether it is held; and its task and subject. Where all words are asked: whether it is held,
+// its subject, and whether it is free; or its user, and whether it is free. Both of these lie in the word's lower half, below LINK.
+pub const ORDER_HELD: u64 = 127;
+
+pub const HELD_BY: u64 = 1048575;
+
+pub const HOLDER: u32 = 1074782272;
+
+pub const HAS_USER: u32 = 2146435072;
+
+// ---- A word taken apart, for crates above: of a chain its newest entry and how many it has; of an entry the one before it, its user and task, and whether it is done.
+
+pub fn head_of(x: u64) -> u64
+    ensures { λ r. ⌜ r ≡ headOf x ⌝ }
 {
-    if c { a } else { b }
+    x % NUMBERS
 }
 
-fn with_if(c: bool, tasks: u64, t: u64) -> u64
-    requires { ⌜ t < 64 ⌝ }
-    ensures { λ r. ⌜ r ≡ cond c (plus tasks t) tasks ⌝ }
+pub fn count_of(x: u64) -> u64
+    ensures { λ r. ⌜ r ≡ countOf x ⌝ }
 {
-    let more = set_of(tasks).with(t);
-    pick(c, more.bits, tasks)
+    x / NUMBERS % NUMBERS
+}
+
+pub fn link_of(w: u64) -> u64
+    ensures { λ r. ⌜ r ≡ linkOf w ⌝ }
+{
+    w / LINK % NUMBERS
+}
+
+pub fn user_of(w: u64) -> u64
+    ensures { λ r. ⌜ r ≡ userOf w ⌝ }
+{
+    w / WORD_USER % USERS
+}
+
+pub fn task_of(w: u64) -> u64
+    ensures { λ r. ⌜ r ≡ taskOf w ⌝ }
+{
+    w / WORD_TASK % TASKS
+}
+
+pub fn is_done(w: u64) -> bool
+    ensures { λ r. ⌜ r ≡ doneBit w ⌝ }
+{
+    w / PAYLOAD % 2 == 1
 }
 
 // ---- What is read.
@@ -111,7 +183,7 @@ pub fn word(o: &[u64], k: u64) -> u64
 fn in_reach(k: u64) -> u64
     ensures { λ r. ⌜ (0 < r) × ((r ≤ 2048) × (0 < k → k ≤ 2048 → r ≡ k)) ⌝ }
 {
-    (k % 4096 + 2047) % 2048 + 1
+    (k % NUMBERS + TO_LAST) % MOST + 1
 }
 
 // The word that a link leads to.
@@ -128,7 +200,7 @@ fn count(o: &[u64], i: u64) -> u64
     ensures { λ r. ⌜ r ≡ countOf (chainWord (now (o .entry)) i) ⌝ }
 {
     let x = chain(o, i);
-    x / 4096 % 4096
+    x / NUMBERS % NUMBERS
 }
 
 // ---- Soundness.
@@ -144,14 +216,14 @@ fn is_astray(o: &[u64], i: u64, m: u64, h: u64) -> bool
         return true;
     }
     let w = o[BEFORE + h as usize];
-    w % 64 + w / 1073741824 % 2 * 64 != i
+    w % INSTANCES + w / BESIDE % 2 * INSTANCES != i
 }
 
 fn figures_fit(o: &[u64], i: u64, n: u64, d: u64) -> bool
     requires { ⌜ (length (now o) ≡ ordersWords) × ((i ≤ 65) × ((isRead (now o) i ≡ true) × (n ≡ countOf (chainWord (now o) i)))) ⌝ }
     ensures { λ r. ⌜ r ≡ figures (now (o .entry)) i d ⌝ }
 {
-    if 64 <= i {
+    if FREE <= i {
         return (i == FREE) | (n == 0);
     }
     o[DONE + i as usize] == d
@@ -161,19 +233,19 @@ fn chain_sound(o: &[u64], m: u64, i: u64, x: u64) -> bool
     requires { ⌜ (length (now o) ≡ ordersWords) × ((m ≤ 2048) × ((i ≤ 65) × ((isRead (now o) i ≡ true) × (x ≡ chainWord (now o) i)))) ⌝ }
     ensures { λ r. ⌜ r ≡ chainSound (now (o .entry)) m i ⌝ }
 {
-    let mut h = x % 4096;
-    let mut n = x / 4096 % 4096;
-    let mut d = 0;
+    let mut h = x % NUMBERS;
+    let mut n = x / NUMBERS % NUMBERS;
+    let mut d = Set::EMPTY;
     while 0 < n {
         if is_astray(o, i, m, h) {
             return false;
         }
         let w = o[BEFORE + h as usize];
-        d = with_if(w / 64 % 2 == 1, d, w / 128 % 64);
-        h = w / 4294967296 % 4096;
+        d = d.with_if(w / PAYLOAD % 2 == 1, w / WORD_TASK % TASKS);
+        h = w / LINK % NUMBERS;
         n -= 1;
     }
-    let fit = figures_fit(o, i, x / 4096 % 4096, d);
+    let fit = figures_fit(o, i, x / NUMBERS % NUMBERS, d.bits);
     (h == 0) & fit
 }
 
@@ -186,7 +258,7 @@ fn counted(o: &[u64], m: u64, i: u64, n: u64, reads: bool) -> u64
         return n;
     }
     let x = o[CHAINS + i as usize];
-    let all = n + x / 4096 % 4096;
+    let all = n + x / NUMBERS % NUMBERS;
     if m < all {
         return all;
     }
@@ -239,7 +311,7 @@ fn payload(o: &[u64], k: u64) -> u64
     requires { ⌜ (length (now o) ≡ ordersWords) × (k ≤ 2048) ⌝ }
     ensures { λ r. ⌜ (r ≡ payloadOf (wordAt (now (o .entry)) k)) × (r < 16777216) ⌝ }
 {
-    o[BEFORE + k as usize] / 64 % 16777216
+    o[BEFORE + k as usize] / PAYLOAD % PAYLOADS
 }
 
 // Takes the newest entry from a chain.
@@ -248,9 +320,10 @@ fn pop(o: &mut [u64], i: u64) -> u64
     ensures { λ r. ⌜ Safe (now (o .entry)) (now (o .exit)) r × (Woven (now (o .entry)) → 0 < countOf (chainWord (now (o .entry)) i) → Popped (now (o .entry)) (now (o .exit)) i r) ⌝ }
 {
     let x = o[CHAINS + i as usize];
-    let k = in_reach(x % 4096);
+    let k = in_reach(x % NUMBERS);
     let w = o[BEFORE + k as usize];
-    o[CHAINS + i as usize] = w / 4294967296 % 4096 + 4096 * ((x / 4096 % 4096 + 4095) % 4096);
+    o[CHAINS + i as usize] = w / LINK % NUMBERS
+        + NUMBERS * ((x / NUMBERS % NUMBERS + LESS) % NUMBERS);
     k
 }
 
@@ -260,8 +333,11 @@ fn push(o: &mut [u64], i: u64, k: u64, p: u64)
     ensures { λ _. ⌜ Safe (now (o .entry)) (now (o .exit)) k × (Loose (now (o .entry)) k → isRead (now (o .entry)) i ≡ true → Pushed (now (o .entry)) (now (o .exit)) i p) ⌝ }
 {
     let x = o[CHAINS + i as usize];
-    o[BEFORE + k as usize] = i % 64 + i / 64 * 1073741824 + 64 * p + 4294967296 * (x % 4096);
-    o[CHAINS + i as usize] = k + 4096 * (x / 4096 % 4096 + 1);
+    o[BEFORE + k as usize] = i % INSTANCES
+        + i / INSTANCES * BESIDE
+        + PAYLOAD * p
+        + LINK * (x % NUMBERS);
+    o[CHAINS + i as usize] = k + NUMBERS * (x / NUMBERS % NUMBERS + 1);
 }
 
 fn take_free(o: &mut [u64]) -> u64
@@ -270,7 +346,7 @@ fn take_free(o: &mut [u64]) -> u64
 {
     let n = count(o, FREE);
     if n == 0 {
-        let k = o[0] % 2048 + 1;
+        let k = o[0] % MOST + 1;
         o[0] = k;
         return k;
     }
@@ -297,7 +373,7 @@ pub fn enter(o: &mut [u64], i: u64, u: u64, t: u64, a: u64)
     ensures { λ _. ⌜ (length (now (o .exit)) ≡ length (now (o .entry))) × (soundOf (now (o .entry)) ≡ true → has (openOf (now (o .entry))) i ≡ true → (countOf (chainWord (now (o .entry)) 64) ≡ 0 → markOf (now (o .entry)) < 2048) → Leaves i (templateAt (now (o .entry)) i) (add (entriesIn (now (o .entry)) i) (entry i u t (held a))) (now (o .entry)) (now (o .exit))) ⌝ }
 {
     let k = take_free(o);
-    push(o, i, k, 2 * t + 128 * a + 16384 * u);
+    push(o, i, k, TASK * t + SUBJECT * a + USER * u);
 }
 
 // ---- An entry taken out of the middle of a chain.
@@ -309,15 +385,15 @@ fn cut(o: &mut [u64], i: u64, kept: u64, q: u64, k: u64)
 {
     let x = o[CHAINS + i as usize];
     let w = o[BEFORE + k as usize];
-    let next = w / 4294967296 % 4096;
-    let fewer = (x / 4096 % 4096 + 4095) % 4096;
+    let next = w / LINK % NUMBERS;
+    let fewer = (x / NUMBERS % NUMBERS + LESS) % NUMBERS;
     if kept == 0 {
-        o[CHAINS + i as usize] = next + 4096 * fewer;
+        o[CHAINS + i as usize] = next + NUMBERS * fewer;
         return;
     }
     let v = o[BEFORE + q as usize];
-    o[BEFORE + q as usize] = v % 4294967296 + 4294967296 * next;
-    o[CHAINS + i as usize] = x % 4096 + 4096 * fewer;
+    o[BEFORE + q as usize] = v % LINK + LINK * next;
+    o[CHAINS + i as usize] = x % NUMBERS + NUMBERS * fewer;
 }
 
 // And becomes free.
@@ -336,24 +412,24 @@ fn sift(o: &mut [u64], i: u64, key: u64) -> bool
     ensures { λ r. ⌜ Sifts i key (now (o .entry)) (now (o .exit)) r ⌝ }
 {
     let x = chain(o, i);
-    let mut h = x % 4096;
-    let mut n = x / 4096 % 4096;
+    let mut h = x % NUMBERS;
+    let mut n = x / NUMBERS % NUMBERS;
     let mut kept = 0;
     let mut q = 0;
     while kept < n {
         let k = in_reach(h);
         let w = word(o, k);
-        if w / 64 % 16777216 % 16384 == key {
+        if w / PAYLOAD % PAYLOADS % USER == key {
             free(o, i, kept, q, k);
-            h = w / 4294967296 % 4096;
+            h = w / LINK % NUMBERS;
             n -= 1;
             continue;
         }
         q = k;
-        h = w / 4294967296 % 4096;
+        h = w / LINK % NUMBERS;
         kept += 1;
     }
-    n < x / 4096 % 4096
+    n < x / NUMBERS % NUMBERS
 }
 
 // Subject a gives task t of instance i back; answers whether it held it.
@@ -361,7 +437,7 @@ pub fn release(o: &mut [u64], i: u64, t: u64, a: u64) -> bool
     requires { ⌜ (length (now o) ≡ ordersWords) × ((i < 64) × ((t < 64) × (a < 128))) ⌝ }
     ensures { λ r. ⌜ Acted i (some (heldBy i t a) (entriesIn (now (o .entry)) i)) (keep (λ e. not (heldBy i t a e)) (entriesIn (now (o .entry)) i)) (now (o .entry)) (now (o .exit)) r ⌝ }
 {
-    sift(o, i, 2 * t + 128 * a)
+    sift(o, i, TASK * t + SUBJECT * a)
 }
 
 // ---- An entry turned where it stands.
@@ -370,8 +446,8 @@ fn turned_word(w: u64, key: u64) -> u64
     requires { ⌜ key % 2 ≡ 0 ⌝ }
     ensures { λ r. ⌜ r ≡ turnedWord key w ⌝ }
 {
-    if w / 64 % 16777216 % 16384 == key {
-        w + 64
+    if w / PAYLOAD % PAYLOADS % USER == key {
+        w + PAYLOAD
     } else {
         w
     }
@@ -383,16 +459,16 @@ fn turn(o: &mut [u64], i: u64, key: u64) -> bool
     ensures { λ r. ⌜ Turns i key (now (o .entry)) (now (o .exit)) r ⌝ }
 {
     let x = chain(o, i);
-    let mut h = x % 4096;
-    let mut n = x / 4096 % 4096;
+    let mut h = x % NUMBERS;
+    let mut n = x / NUMBERS % NUMBERS;
     let mut hit = false;
     while 0 < n {
         let k = in_reach(h);
         let w = word(o, k);
         let v = turned_word(w, key);
         o[BEFORE + k as usize] = v;
-        hit = (w / 64 % 16777216 % 16384 == key) | hit;
-        h = w / 4294967296 % 4096;
+        hit = (w / PAYLOAD % PAYLOADS % USER == key) | hit;
+        h = w / LINK % NUMBERS;
         n -= 1;
     }
     hit
@@ -403,7 +479,7 @@ pub fn finish(o: &mut [u64], i: u64, t: u64, a: u64) -> bool
     requires { ⌜ (length (now o) ≡ ordersWords) × ((i < 64) × ((t < 64) × (a < 128))) ⌝ }
     ensures { λ r. ⌜ Acted i (some (heldBy i t a) (entriesIn (now (o .entry)) i)) (each (turned i t a) (entriesIn (now (o .entry)) i)) (now (o .entry)) (now (o .exit)) r ⌝ }
 {
-    if !turn(o, i, 2 * t + 128 * a) {
+    if !turn(o, i, TASK * t + SUBJECT * a) {
         return false;
     }
     let more = set_of(o[DONE + i as usize]).with(t);

@@ -1,26 +1,15 @@
 -- The chain of the claim rules, over what was gathered from the entries: D, the tasks done, the tasks of other users, and the number of entries of the
 -- task. With the place of the rule that refuses.
 use Prim.Native.Nat.{ℕ}
-use mathlib.Core.List.{List, [], _∷_}
+use mathlib.Core.List.{List}
 use mathlib.Core.Path.{_≡_}
 use Rattle.paper_lower.specs.Sets.{Set}
 use Rattle.paper_lower.specs.Lists.{Maybe}
-use Rattle.paper_lower.specs.Checks.{Check, first, BEFORE, SEPARATION, BLOCK, ALONE, BOUND, COUNT}
+use Rattle.paper_lower.specs.Checks.{Check, first}
 use Rattle.paper_lower.specs.Tables.{Tasks, Rules}
-use Rattle.paper_upper.specs.Rules.{before, separation, block, alone, bound, spent, found, rulePlace}
+use Rattle.paper_upper.specs.Rules.{gatheredChecks, rulePlace}
 use Rattle.replies.specs.Replies.{numberOf}
 use Rattle.order_rules.specs.declared.Judged.{Judged}
-
--- "the claim rules, in this order"
-unfoldable pub gatheredChecks : Tasks → Rules → Maybe ℕ → Set → Set → Set → ℕ → ℕ → List Check
-gatheredChecks k rules template d finished others times t =
-    (found (before rules finished t), BEFORE)
-    ∷ (found (separation rules d t), SEPARATION)
-    ∷ (found (block rules d t), BLOCK)
-    ∷ (alone k template d t, ALONE)
-    ∷ (found (bound rules others t), BOUND)
-    ∷ (spent k times t, COUNT)
-    ∷ []
 
 -- the first check that applies gives the reply, and the reply its place
 pub record Verdict (cs : List Check) (place : ℕ → ℕ) (r : Judged) : Type 0 where

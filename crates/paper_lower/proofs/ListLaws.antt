@@ -133,10 +133,6 @@ unfolding each
 every-each P g [] h = tt
 every-each P g (x ∷ xs) h = (h .0, every-each P g xs (h .1))
 
-pub every-flip : {A B : Type 0} (P : A → B → Type 0) (xs : List A) (ys : List B) → Every (λ x. Every (λ y. P x y) ys) xs → Every (λ y. Every (λ x. P x y) xs) ys
-every-flip P [] ys h = every-all ys (λ y. tt)
-every-flip P (x ∷ xs) ys h = every-both ys (λ y p q. (p, q)) (h .0) (every-flip P xs ys (h .1))
-
 pub every-pull : {A J : Type 0} (P : J → A → Type 0) (xs : List A) → ((j : J) → Every (P j) xs) → Every (λ x. (j : J) → P j x) xs
 every-pull P [] h = tt
 every-pull P (x ∷ xs) h = (λ j. h j .0, every-pull P xs (λ j. h j .1))

@@ -59,15 +59,20 @@ spent k times t = holds (λ n. leb n times) (k .most t)
 abbrev pub found : ℕ → Bool
 found k = not (eqb k 0)
 
+-- over what the entries of i tell: the tasks of u, the tasks done, the tasks of other users, and how many entries t has
+unfoldable pub gatheredChecks : Tasks → Rules → Maybe ℕ → Set → Set → Set → ℕ → ℕ → List Check
+gatheredChecks k rules template d finished others times t =
+    (found (before rules finished t), BEFORE)
+    ∷ (found (separation rules d t), SEPARATION)
+    ∷ (found (block rules d t), BLOCK)
+    ∷ (alone k template d t, ALONE)
+    ∷ (found (bound rules others t), BOUND)
+    ∷ (spent k times t, COUNT)
+    ∷ []
+
 unfoldable pub ruleChecks : Tasks → Rules → Maybe ℕ → List Entry → ℕ → ℕ → ℕ → List Check
 ruleChecks k rules template es i u t =
-    (found (before rules (tasksDone i es) t), BEFORE)
-    ∷ (found (separation rules (tasksBy i u es) t), SEPARATION)
-    ∷ (found (block rules (tasksBy i u es) t), BLOCK)
-    ∷ (alone k template (tasksBy i u es) t, ALONE)
-    ∷ (found (bound rules (tasksOthers i u es) t), BOUND)
-    ∷ (spent k (many (keep (ofTask i t) es)) t, COUNT)
-    ∷ []
+    gatheredChecks k rules template (tasksBy i u es) (tasksDone i es) (tasksOthers i u es) (many (keep (ofTask i t) es)) t
 
 -- ---- 02, Ask 2: "The rule questions at the bottom now return the place, from 1 and among rules of their kind in policy order, of the first rule
 -- broken, or 0. For BLOCK it is the block at which 01's search ends. Claims carry it up for BEFORE, SEPARATION, BLOCK and BOUND; all other
@@ -81,5 +86,5 @@ rulePlace rules d finished others t reply =
 
 -- What this page defines, opened together where a case is computed.
 unfoldable pub rulesOpen : Unit {0}
-unfolding missing before crowded separation own strange blockIn block alone tied bound spent ruleChecks rulePlace
+unfolding missing before crowded separation own strange blockIn block alone tied bound spent gatheredChecks ruleChecks rulePlace
 rulesOpen = tt

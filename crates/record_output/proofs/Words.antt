@@ -1,11 +1,11 @@
 -- A word laid byte by byte, and a record by two words.
 use mathlib.Core.Path.{_≡_, refl, sym, ap, _∙_}
-use mathlib.Core.List.{List, [], _∷_, _++_, append-assoc}
+use mathlib.Core.List.{[], _∷_, _++_, append-assoc}
 use Prim.Native.Nat.{ℕ, zero, suc, _+_, _-_, _*_, _/_, _%_, _<_, _≤_}
 use native.Mathlib.Omega.{arith}
 use lib.ListN.{length, take, drop, set, length-append, take-append-drop}
 use lib.Seq.{take-suc-set, drop-set-lt, take-at, drop-at, drop-drop, length-take-le}
-use Rattle.paper_lower.specs.Records.{Bytes, Record, bytes, encode, putAt}
+use Rattle.paper_lower.specs.Records.{Bytes, bytes, encode, putAt}
 use Rattle.record_output.specs.Output.{laid, twoWords, lowWord, recordOf, Fits}
 
 -- the first byte stored, the others to come

@@ -36,12 +36,21 @@ pub fn put_words(out: &mut [u8], place: usize, low: u64, high: u64)
     write_word(out, at + 8, high);
 }
 
+// Where the fields of a record stand in its first word, above the kind.
+const N: u64 = 256;
+
+const A: u64 = 65536;
+
+const B: u64 = 4294967296;
+
+const C: u64 = 281474976710656;
+
 // The first word of a record; the second is its set.
 pub fn low_word(kind: u64, n: u64, a: u64, b: u64, c: u64) -> u64
     requires { ⌜ (kind < 256) × ((n < 256) × ((a < 65536) × ((b < 65536) × (c < 65536)))) ⌝ }
     ensures { λ r. ⌜ r ≡ lowWord kind n a b c ⌝ }
 {
-    kind + 256 * n + 65536 * a + 4294967296 * b + 281474976710656 * c
+    kind + N * n + A * a + B * b + C * c
 }
 
 pub fn put(out: &mut [u8], place: usize, kind: u64, n: u64, a: u64, b: u64, c: u64, m: u64)

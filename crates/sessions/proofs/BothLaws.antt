@@ -11,7 +11,8 @@ use Rattle.replies.proofs.ReplyLaws.{is-zero, not-zero}
 use Rattle.replies.proofs.DoneLaws.{granted-old}
 use Rattle.sessions.specs.Both.{Both}
 
-module _ {T : Type 0} {read : List ℕ → List ℕ → T} {reply : ℕ} {r : Reply} {next : T} {p s : List ℕ} {b : Bool} (e : numberOf r ≡ reply) (a : b ≡ eqb (numberOf r) 0) where
+module _ {T : Type 0} {read : List ℕ → List ℕ → T} {reply : ℕ} {r : Reply} {next : T} {p s : List ℕ} {b : Bool} (e : numberOf r ≡ reply)
+    (a : b ≡ eqb (numberOf r) 0) where
   pub both-refused : not b ≡ true → Both read reply next p s p s r
   both-refused n =
       record { replies = e; tables = granted-old next (read p s) reply (λ z. not-zero r a (not-true b n) (e ∙ z)); kept = λ _. (refl, refl) }

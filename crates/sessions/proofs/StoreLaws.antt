@@ -10,7 +10,6 @@ use lib.Dec.{eqb}
 use lib.ListN.{length, set, replicate, drop, length-set, drop-of-length-le}
 use Rattle.paper_lower.specs.Sets.{Set, plus, minus, union}
 use Rattle.paper_lower.specs.Lists.{Maybe, upd}
-use Rattle.paper_lower.specs.Lists.Maybe.{none}
 use Rattle.paper_lower.specs.Tables.{Sessions, noSessions, withActive, withHad}
 use Rattle.paper_lower.specs.Sessions.{createNext, destroyNext, activateNext, deactivateNext}
 use Rattle.replies.specs.Cells.{column}

@@ -8,7 +8,7 @@ use native.Mathlib.Nat.{le-refl, not-suc-le-zero}
 use borrow.Author.Tests.{eq-eqb, ne-eqb, eqb-true, eqb-false, ltb-true, ltb-false, not-true, not-false}
 use lib.Arith.{half-le}
 use lib.Dec.{eqb, ltb}
-use lib.Pow.{pow-lt, pow-pos}
+use lib.Pow.{pow-lt}
 use lib.Bits.{bitAnd, bitOr, bitXor, differ, and-zero-r, or-lt}
 use lib.Count.{ones, ones-step, ones-le}
 use Rattle.paper_lower.specs.Lists.{someBelow}
@@ -500,11 +500,6 @@ unfolding unionBelow
 union-ge zero f k l = absurd (not-suc-le-zero l)
 union-ge (suc n) f k l =
     ⊎-elim (λ e. rw e (part-right _ _)) (λ q. part-trans _ _ _ (union-ge n f k (omega arith)) (part-left _ _)) (same-or-other k n)
-
-pub unionBelow-lt : (b n : ℕ) (f : ℕ → Set) → ((k : ℕ) → k < n → f k < 2 ^ b) → unionBelow n f < 2 ^ b
-unfolding unionBelow
-unionBelow-lt b zero f h = pow-pos b
-unionBelow-lt b (suc n) f h = union-lt b _ _ (unionBelow-lt b n f (λ k l. h k (omega arith))) (h n (omega arith))
 
 pub has-unionBelow : (n : ℕ) (f : ℕ → Set) (x : ℕ) → has (unionBelow n f) x ≡ someBelow n (λ k. has (f k) x)
 unfolding unionBelow someBelow

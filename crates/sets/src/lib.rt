@@ -1,7 +1,7 @@
 // Sets of roles or of tasks, one word each: bit i stands for role or task i.
 // Each operation equals its definition (paper_lower, Sets; docs/RULES.md, "Numbers").
 ghost use mathlib.Core.Path.{_≡_};
-ghost use mathlib.Core.Bool.{true, false};
+ghost use mathlib.Core.Bool.{true, false, cond};
 ghost use Prim.Native.Nat.{ℕ, _<_};
 ghost use lib.Dec.{eqb};
 ghost use Rattle.paper_lower.specs.Sets.{empty, has, plus, minus, union, cut, size, overlap, meets, within, without};
@@ -26,6 +26,17 @@ impl Set {
     {
         Set {
             bits: self.bits | (1 << i),
+        }
+    }
+
+    // One member more where `more` says so.
+    pub fn with_if(self, more: bool, i: u64) -> Set
+        requires { ⌜ i < 64 ⌝ }
+        ensures { λ r. ⌜ r .bits ≡ cond more (plus (self .bits) i) (self .bits) ⌝ }
+    {
+        let joined = self.with(i);
+        Set {
+            bits: pick(more, joined.bits, self.bits),
         }
     }
 
@@ -114,4 +125,11 @@ pub fn set_of(bits: u64) -> Set
     ensures { λ r. ⌜ r .bits ≡ bits ⌝ }
 {
     Set { bits: bits }
+}
+
+// One of two words. Compiled it has no branch.
+pub fn pick(c: bool, a: u64, b: u64) -> u64
+    ensures { λ r. ⌜ r ≡ cond c a b ⌝ }
+{
+    if c { a } else { b }
 }

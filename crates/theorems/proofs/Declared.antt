@@ -1,23 +1,22 @@
 -- What the records of an accepted policy declare is what the tables hold, after any requests too: roles, permissions, and what tasks are open to and carry.
-use Prim.Native.Nat.{ℕ, _≤_, _<_}
+use Prim.Native.Nat.{ℕ, _≤_}
 use mathlib.Core.Path.{_≡_, refl, sym, ap, subst, _∙_}
 use mathlib.Core.Bool.{Bool, true, false, cond, _&&_, _||_}
 use mathlib.Core.List.{List, [], _∷_}
-use native.Mathlib.Omega.{arith}
-use borrow.Author.Tests.{eqb-true, eq-eqb}
-use lib.Dec.{eqb, ltb}
+use borrow.Author.Tests.{eqb-true}
+use lib.Dec.{eqb}
 use Rattle.paper_lower.specs.Sets.{Set, has, plus}
-use Rattle.paper_lower.specs.Lists.{upd, Maybe, someBelow, holds, there, some, keep, Every}
+use Rattle.paper_lower.specs.Lists.{upd, Maybe, holds, there, some, keep, Every}
 use Rattle.paper_lower.specs.Lists.Maybe.{none, just}
 use Rattle.paper_lower.specs.Records.{Bytes, Record}
 use Rattle.paper_lower.specs.Forms.{policyForms, formOf, above, outOfRange}
 use Rattle.paper_lower.specs.Kinds.{chosen, answer, after}
-use Rattle.paper_lower.specs.Tables.{Permission, Tasks, Policy, Lower, noPolicy}
+use Rattle.paper_lower.specs.Tables.{Permission, Policy, Lower, noPolicy}
 use Rattle.paper_lower.specs.Policy.{userNext, roleNext, permissionChecks, permissionNext, assignNext, giveNext, taskNext, openToNext, carriesNext, staticNext, dynamicNext, taskSetNext, blockNext, banNext, mostNext, bindNext, beforeNext, raiseNext, wallNext, policyKinds}
 use Rattle.paper_lower.specs.Load.{load, recordsOf}
 use Rattle.paper_lower.specs.Sessions.{lowerKinds, lowerRequest, lowerOf}
 use Rattle.paper_lower.specs.Forms.{lowerForms}
-use Rattle.paper_lower.proofs.ListLaws.{or-none, or-false, every-map, some-elim, _⨾_}
+use Rattle.paper_lower.proofs.ListLaws.{or-none, or-false, every-map, _⨾_}
 use Rattle.paper_lower.proofs.CheckLaws.{Passed}
 use Rattle.paper_upper.specs.Orders.{Engine}
 use Rattle.paper_upper.specs.Engine.{request, engineOf}

@@ -1,11 +1,11 @@
 -- Each order's entries, the oldest first, are its claims, less those released, in the order of the requests.
 use Prim.Native.Nat.{ℕ, zero, suc}
-use mathlib.Core.Path.{_≡_, refl, sym, ap, ap₂, subst, _∙_}
+use mathlib.Core.Path.{_≡_, refl, sym, ap, subst, _∙_}
 use mathlib.Core.Bool.{Bool, true, false, not, cond, _&&_, true≢false}
 use mathlib.Core.List.{List, [], _∷_, _++_, append-nil, append-assoc}
-use borrow.Author.Tests.{eqb-true, eqb-false}
+use borrow.Author.Tests.{eqb-true}
 use lib.Dec.{eqb}
-use Rattle.paper_lower.specs.Lists.{add, keep, each, Every}
+use Rattle.paper_lower.specs.Lists.{add, keep, each}
 use Rattle.paper_lower.specs.Checks.{GRANTED, granted}
 use Rattle.paper_lower.specs.Records.{Bytes, Record, decode}
 use Rattle.paper_lower.specs.Kinds.{Kind, chosen, Said, run, after}

@@ -1,16 +1,16 @@
 -- Every reply, exactly when.
-use Prim.Native.Nat.{ℕ, _^_, _≤_, _<_}
-use mathlib.Core.Path.{_≡_, refl, sym, ap, subst, _∙_}
+use Prim.Native.Nat.{ℕ, _^_, _<_}
+use mathlib.Core.Path.{_≡_, refl, sym, ap, subst}
 use mathlib.Core.Bool.{Bool, true, false, not, cond, _||_, true≢false, false≢true}
-use mathlib.Core.Logic.{_↔_, Iff·trans}
-use mathlib.Core.List.{List, [], _∷_, _++_}
+use mathlib.Core.Logic.{_↔_}
+use mathlib.Core.List.{List, [], _∷_}
 use native.Mathlib.Omega.{arith}
-use borrow.Author.Tests.{eqb-true, eqb-false, eq-eqb, ne-eqb, ltb-true, ltb-false, lt-ltb, le-ltb, leb-true, leb-false, le-leb, lt-leb, not-true, not-false}
+use borrow.Author.Tests.{eqb-true, eq-eqb, ne-eqb, ltb-false, le-ltb, leb-false, lt-leb, not-false}
 use lib.Dec.{eqb, ltb, leb}
 use lib.ListN.{length}
 use Rattle.paper_lower.specs.Lists.{Maybe, keep, each, Every}
 use Rattle.paper_lower.specs.Lists.Maybe.{none, just}
-use Rattle.paper_lower.specs.Checks.{Check, first, SHAPE, RANGE}
+use Rattle.paper_lower.specs.Checks.{first, SHAPE, RANGE}
 use Rattle.paper_lower.specs.Records.{Bytes, Record, decode}
 use Rattle.paper_lower.specs.Forms.{Field, Form, lowerForms, upperForms, requestForms, formOf, misplaced, above, misshapen, outOfRange, formChecks}
 use Rattle.paper_lower.specs.Forms.Field.{·, to, any, pair}
@@ -19,17 +19,17 @@ use Rattle.paper_lower.specs.Tables.{Lower}
 use Rattle.paper_lower.specs.Load.{recordsOf}
 use Rattle.paper_lower.specs.Roles.{roleKinds}
 use Rattle.paper_lower.specs.Sessions.{sessionKinds, lowerKinds, lowerRequest}
-use Rattle.paper_lower.proofs.ListLaws.{or-none, every-map, _⨾_}
+use Rattle.paper_lower.proofs.ListLaws.{every-map, _⨾_}
 use Rattle.paper_upper.specs.Orders.{Engine, noOrders}
 use Rattle.paper_upper.specs.Requests.{upperKinds}
 use Rattle.paper_upper.specs.Engine.{widened, sharedKinds, requestKinds, request}
 use Rattle.theorems.specs.Theorems.{tablesAfter, lowerAfter, fixed}
 use Rattle.theorems.specs.Walls.{Commits, commitsAfter, lowerCommitsAfter}
-use Rattle.theorems.specs.Exactly.{Not, Known, known, Refusal, refusal, GivenExactly, Fits, WithinLimit, OfFields, Asked, asked, refusalsOf, lowerKindsAsked, engineKindsAsked, Answered, EveryReply}
+use Rattle.theorems.specs.Exactly.{Not, Known, GivenExactly, Fits, WithinLimit, OfFields, Asked, asked, refusalsOf, lowerKindsAsked, engineKindsAsked, Answered, EveryReply}
 use Rattle.theorems.proofs.Keeps.{Kept, LowerKept, kept-after, lower-kept-after}
-use Rattle.theorems.proofs.Outside.{over, told-is-true, lower-told}
+use Rattle.theorems.proofs.Outside.{told-is-true, lower-told}
 use Rattle.theorems.proofs.Walls.{Told, told-after, lower-told-after}
-use Rattle.theorems.proofs.Reflects.{either, together, negated, same, is-same, no-more, none-left, check}
+use Rattle.theorems.proofs.Reflects.{check}
 use Rattle.theorems.proofs.Declared.{Declared, declared-after, lower-declared-after}
 use Rattle.theorems.proofs.ExactlyRoles.{seen, joined, assigned, taken, given, withdrawn, created, activated, deactivated, checked, lower-deleted, lower-destroyed}
 use Rattle.theorems.proofs.ExactlyOrders.{all, deleted, destroyed, opened, ended, left, task-checked, figured, stuck-asked}

@@ -2,29 +2,27 @@
 use Prim.Native.Nat.{ℕ, zero, suc, _+_, _≤_, _<_}
 use mathlib.Core.Path.{_≡_, refl, sym, ap, subst, _∙_}
 use mathlib.Core.Bool.{Bool, true, false, not, cond, _&&_, _||_, true≢false, false≢true}
-use mathlib.Core.Logic.{_⊎_, inl, inr, ⊎-elim, _↔_, Iff·trans}
-use mathlib.Core.List.{List, [], _∷_, _++_}
+use mathlib.Core.Logic.{_↔_, Iff·trans}
+use mathlib.Core.List.{List, [], _∷_}
 use native.Mathlib.Omega.{arith}
-use borrow.Author.Tests.{eqb-true, eqb-false, eq-eqb, ne-eqb, leb-true, le-leb, not-true, not-false}
+use borrow.Author.Tests.{eqb-true, leb-true, le-leb, not-false}
 use lib.Dec.{eqb, leb}
 use lib.ListN.{length}
-use Rattle.paper_lower.specs.Sets.{Set, has, minus, cut, size, overlap, meets, within}
-use Rattle.paper_lower.specs.Lists.{Maybe, holds, is, some, many, keep, each, place, firstOf, Every}
-use Rattle.paper_lower.specs.Lists.Maybe.{just}
+use Rattle.paper_lower.specs.Sets.{Set, has, minus, size, overlap, within}
+use Rattle.paper_lower.specs.Lists.{is, some, many, keep, each, place, firstOf, Every}
 use Rattle.paper_lower.specs.Checks.{first}
 use Rattle.paper_lower.specs.Records.{Record}
-use Rattle.paper_lower.specs.Tables.{Limit, Block, Pair}
 use Rattle.paper_lower.specs.Policy.{down, tasksOf}
 use Rattle.paper_lower.proofs.ListLaws.{every-map, place-none, none-place, some-none, none-some, first-none}
-use Rattle.paper_upper.specs.Orders.{isHeld, isDone, Entry, Engine, inOrder, ofTask, ofUser, tasksWhere, tasksBy, tasksDone, tasksOthers}
+use Rattle.paper_upper.specs.Orders.{isDone, Entry, Engine, inOrder, ofTask, ofUser, tasksWhere, tasksBy, tasksDone, tasksOthers}
 use Rattle.paper_upper.specs.Orders.Standing.{held, done}
-use Rattle.paper_upper.specs.Rules.{missing, before, crowded, separation, own, strange, blockIn, block, alone, tied, bound, spent, found, ruleChecks}
+use Rattle.paper_upper.specs.Rules.{missing, before, crowded, separation, own, strange, blockIn, block, alone, tied, bound, spent, found, gatheredChecks, ruleChecks}
 use Rattle.paper_upper.specs.Requests.{claimChecks}
 use Rattle.sets.proofs.SetLaws.{collect-below, has-within, within-has}
 use Rattle.theorems.specs.OverEntries.{ofKind, EveryTwo, Any}
-use Rattle.theorems.specs.Theorems.{shown, fixed}
+use Rattle.theorems.specs.Theorems.{fixed}
 use Rattle.theorems.specs.Walls.{Commits}
-use Rattle.theorems.specs.Exactly.{Not, GivenExactly, In, Of, TaskOf, OpenTo, OpenOf, Live, Acts, AnEntry, Held, InD, NotReady, TooMany, OtherBlock, AllButOne, Others, BoundToOthers, Spent, claiming}
+use Rattle.theorems.specs.Exactly.{Not, GivenExactly, In, TaskOf, OpenTo, Acts, AnEntry, Held, InD, NotReady, TooMany, OtherBlock, AllButOne, Others, BoundToOthers, Spent, claiming}
 use Rattle.theorems.proofs.Made.{aLimit, aBlock, aPair, of-each}
 use Rattle.theorems.proofs.WellMade.{in-collect}
 use Rattle.theorems.proofs.Keeps.{Kept}
@@ -254,7 +252,7 @@ module _ (policy : List Record) (t : Engine) (kept : Kept policy t) (d : Declare
       (ofKind 7 policy))
 
   pub claimed : GivenExactly (claiming (all policy t kept d y) r) (first (claimChecks t (r .a) (r .b) (r .c)))
-  unfolding claimChecks ruleChecks ofTask inOrder
+  unfolding claimChecks gatheredChecks ruleChecks ofTask inOrder
   claimed =
       check (omega arith) (omega arith) _ (unknown-task policy t kept d y r) (λ _.
       check (omega arith) (omega arith) _ (some-any _ (λ e. (e .instance ≡ r .b) × (e .task ≡ r .c) × Held (all policy t kept d y) e)

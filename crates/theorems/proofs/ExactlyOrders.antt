@@ -1,12 +1,12 @@
 -- Requests 48 to 52, 57, 58 and 60, and 33 and 41 over the entries: each check applies exactly when the page says so.
-use Prim.Native.Nat.{ℕ, zero, suc, _/_, _%_, _≤_, _<_}
-use mathlib.Core.Path.{_≡_, refl, sym, ap, subst, _∙_}
-use mathlib.Core.Bool.{Bool, true, false, not, cond, _&&_, _||_, true≢false, false≢true}
-use mathlib.Core.Logic.{_⊎_, inl, inr, ⊎-elim, _↔_, Iff·trans}
-use mathlib.Core.List.{List, [], _∷_, _++_}
+use Prim.Native.Nat.{ℕ, _/_, _%_, _<_}
+use mathlib.Core.Path.{_≡_, refl, sym, ap, subst}
+use mathlib.Core.Bool.{Bool, true, false, cond, _&&_, _||_, true≢false, false≢true}
+use mathlib.Core.Logic.{_↔_, Iff·trans}
+use mathlib.Core.List.{List, _++_}
 use native.Mathlib.Omega.{arith}
 use lib.Dec.{eqb}
-use Rattle.paper_lower.specs.Sets.{Set, has}
+use Rattle.paper_lower.specs.Sets.{has}
 use Rattle.paper_lower.specs.Lists.{Maybe, someBelow, holds, there, is, some}
 use Rattle.paper_lower.specs.Lists.Maybe.{just}
 use Rattle.paper_lower.specs.Checks.{first}
@@ -14,18 +14,18 @@ use Rattle.paper_lower.specs.Records.{Record}
 use Rattle.paper_lower.specs.Policy.{isFor, tasksOf, hasTask}
 use Rattle.paper_lower.specs.Roles.{subjectOf, deleteChecks}
 use Rattle.paper_lower.specs.Sessions.{destroyChecks}
-use Rattle.paper_upper.specs.Orders.{Standing, isHeld, isHeldBy, Entry, Engine, inOrder, ofTask, heldBy}
+use Rattle.paper_upper.specs.Orders.{Standing, isHeld, isHeldBy, Engine, inOrder, ofTask, heldBy}
 use Rattle.paper_upper.specs.Orders.Standing.{held, done}
 use Rattle.paper_upper.specs.Requests.{deleteAbove, destroyAbove, openChecks, endChecks, unknown, holdChecks, carried, taskCheckChecks, figuresChecks, stuckChecks}
 use Rattle.sets.proofs.SetLaws.{some-collected}
-use Rattle.theorems.specs.OverEntries.{ofKind, Any}
+use Rattle.theorems.specs.OverEntries.{ofKind}
 use Rattle.theorems.specs.Theorems.{shown, fixed}
 use Rattle.theorems.specs.Walls.{Commits}
-use Rattle.theorems.specs.Exactly.{Not, Known, GivenExactly, TaskOf, Carries, HasTask, PermissionFor, Live, userOf, OpenOf, Open, AnEntry, Held, deleting, destroying, opening, ending, UnknownTask, NotHeldBy, leaving, taskChecking, figures, stuck}
+use Rattle.theorems.specs.Exactly.{Known, GivenExactly, TaskOf, Carries, HasTask, PermissionFor, Open, AnEntry, Held, deleting, destroying, opening, ending, UnknownTask, leaving, taskChecking, figures, stuck}
 use Rattle.theorems.proofs.Keeps.{Kept, LowerKept}
 use Rattle.theorems.proofs.Reflects.{either, together, all-three, negated, same, is-same, turned-same, as-test, some-any, any-map, any-choose, some-row, is-there, none-left, check}
 use Rattle.theorems.proofs.Declared.{Declared}
-use Rattle.theorems.proofs.ExactlyRoles.{seen, live-subject, permission-for, small-permission}
+use Rattle.theorems.proofs.ExactlyRoles.{live-subject, permission-for, small-permission}
 
 -- ---- standings
 holder : Standing → ℕ

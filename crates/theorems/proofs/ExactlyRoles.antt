@@ -1,32 +1,32 @@
 -- Requests 32 to 37, 40 to 43, 56 and 59: each check applies exactly when the page says so.
 use Prim.Native.Nat.{ℕ, _<_}
-use mathlib.Core.Path.{_≡_, refl, sym, ap, subst, _∙_}
-use mathlib.Core.Bool.{Bool, true, false, not, _&&_, _||_, true≢false}
-use mathlib.Core.Logic.{_⊎_, inl, inr, ⊎-elim, _↔_, Iff·trans}
-use mathlib.Core.List.{List, []}
+use mathlib.Core.Path.{_≡_, refl, sym, subst, _∙_}
+use mathlib.Core.Bool.{true, false, not, _&&_, true≢false}
+use mathlib.Core.Logic.{_⊎_, inl, ⊎-elim, _↔_, Iff·trans}
+use mathlib.Core.List.{List}
 use native.Mathlib.Omega.{arith}
-use borrow.Author.Tests.{not-false, not-true}
+use borrow.Author.Tests.{not-false}
 use lib.Dec.{eqb}
 use Rattle.paper_lower.specs.Sets.{Set, has, plus, minus, union, meets, within, without}
 use Rattle.paper_lower.specs.Lists.{someBelow, holds, there, some}
 use Rattle.paper_lower.specs.Checks.{first}
 use Rattle.paper_lower.specs.Records.{Record}
-use Rattle.paper_lower.specs.Tables.{Seniority, Permission, Lower}
+use Rattle.paper_lower.specs.Tables.{Seniority, Lower}
 use Rattle.paper_lower.specs.Policy.{down, breaks, isFor, assignChecks, giveChecks}
 use Rattle.paper_lower.specs.Roles.{subjectOf, activeOf, countedOf, joinChecks, deleteChecks, lostBy, takeBackChecks, withdrawChecks}
-use Rattle.paper_lower.specs.Sessions.{createChecks, activateChecks, deactivateChecks, destroyChecks, allowed, wallBetween, checkChecks}
+use Rattle.paper_lower.specs.Sessions.{createChecks, activateChecks, deactivateChecks, destroyChecks, allowed, checkChecks}
 use Rattle.paper_lower.proofs.ListLaws.{both}
 use Rattle.paper_upper.specs.Orders.{Orders, noOrders}
 use Rattle.sets.proofs.SetLaws.{within-has}
 use Rattle.theorems.specs.OverEntries.{ofKind, Reached, Broken, HasHad}
 use Rattle.theorems.specs.Theorems.{shown, fixed}
-use Rattle.theorems.specs.Walls.{Commits, committedBy, Rival}
-use Rattle.theorems.specs.Exactly.{Not, Known, GivenExactly, In, IsRole, IsPermission, PermissionFor, IsUser, Assigned, Has, Live, userOf, Active, Acts, Undeclared, joining, deleting, assigning, takingBack, giving, withdrawing, creating, destroying, activating, deactivating, checking}
+use Rattle.theorems.specs.Walls.{Commits}
+use Rattle.theorems.specs.Exactly.{Not, Known, GivenExactly, In, IsRole, IsPermission, PermissionFor, Assigned, Has, Live, userOf, Active, Acts, Undeclared, joining, deleting, assigning, takingBack, giving, withdrawing, creating, destroying, activating, deactivating, checking}
 use Rattle.theorems.proofs.Down.{has-without}
 use Rattle.theorems.proofs.Keeps.{LowerKept}
 use Rattle.theorems.proofs.Outside.{over}
-use Rattle.theorems.proofs.Reflects.{either, either-same, one-of-three, together, all-three, negated, same, is-same, turned-same, as-test, some-any, any-map, any-of, some-row, astray, common, minus-parts, none-left, check}
-use Rattle.theorems.proofs.Declared.{aPermission, Declared}
+use Rattle.theorems.proofs.Reflects.{either, either-same, one-of-three, together, negated, same, is-same, turned-same, as-test, some-any, any-of, some-row, astray, common, minus-parts, none-left, check}
+use Rattle.theorems.proofs.Declared.{Declared}
 use Rattle.theorems.proofs.Limits.{plus-parts, union-parts, reached, broken}
 use Rattle.theorems.proofs.Meant.{in-column, counted-had}
 use Rattle.theorems.proofs.Walls.{Told, walled}

@@ -15,7 +15,7 @@ use Rattle.paper_lower.specs.Policy.{down}
 use Rattle.paper_lower.proofs.ListLaws.{every-left}
 use Rattle.paper_lower.proofs.CheckLaws.{first-passed}
 use Rattle.paper_upper.specs.Orders.{Engine, isHeld, ofTask}
-use Rattle.paper_upper.specs.Rules.{ruleChecks}
+use Rattle.paper_upper.specs.Rules.{gatheredChecks, ruleChecks}
 use Rattle.paper_upper.specs.Requests.{unknown, claimChecks, upperKinds}
 use Rattle.paper_upper.specs.Engine.{requestKinds, request}
 use Rattle.theorems.specs.Outside.{telling, hear}
@@ -58,14 +58,14 @@ module _ (t : Engine) (s : Bytes) (e : decode s .kind ≡ 50) where
       (reaches-passed BEFORE early (rules ++ full) (omega arith) (omega arith) (subst (Reaches BEFORE) claim-reply h))
 
   pub full-reply : Reaches FULL (request t s .reply) → request t s .reply ≡ first full
-  unfolding formChecks ruleChecks
+  unfolding formChecks gatheredChecks ruleChecks
   full-reply h =
       claim-reply ∙ first-passed (early ++ rules) full
       (reaches-passed FULL (early ++ rules) full (omega arith) (omega arith) (subst (Reaches FULL) claim-reply h))
 
   -- what the reply says of each rule's check
   pub rules-say : Reaches BEFORE (request t s .reply) → Every (Says (request t s .reply)) rules
-  unfolding ruleChecks
+  unfolding gatheredChecks ruleChecks
   rules-say h = rw (rule-reply h) (every-left (Says (first (rules ++ full))) rules full (first-says 0 (rules ++ full) (omega arith)))
 
   -- the orders, were it granted
@@ -75,7 +75,7 @@ module _ (t : Engine) (s : Bytes) (e : decode s .kind ≡ 50) where
 
   pub first-of-six : (policy : List Record) → Kept policy t → Reaches BEFORE (request t s .reply)
       → FirstBroken claimRules policy (hear (shown t) r .orders) (request t s .reply)
-  unfolding ruleChecks
+  unfolding gatheredChecks ruleChecks
   first-of-six policy k h =
       rw (entered, rule-reply h)
       (first-broken policy _ rules full claimRules

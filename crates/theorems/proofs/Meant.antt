@@ -1,23 +1,23 @@
 -- What those functions of the rules mean that statements read.
-use Prim.Native.Nat.{ℕ, zero, suc, _<_}
+use Prim.Native.Nat.{ℕ, suc, _<_}
 use mathlib.Core.Path.{_≡_, refl, sym, ap, subst, _∙_}
-use mathlib.Core.Bool.{Bool, true, false, cond, _&&_, _||_, true≢false, false≢true}
+use mathlib.Core.Bool.{Bool, true, false, cond, _&&_, true≢false, false≢true}
 use mathlib.Core.Logic.{_⊎_, inl, inr, ⊎-elim, _↔_, Iff·trans}
 use mathlib.Core.List.{List, [], _∷_}
 use native.Mathlib.Omega.{arith}
 use borrow.Author.Tests.{eqb-true, eq-eqb}
 use lib.Dec.{eqb}
-use Rattle.paper_lower.specs.Sets.{Set, empty, has, plus, size, overlap, meets, unionBelow}
-use Rattle.paper_lower.specs.Lists.{someBelow, some, many, keep}
+use Rattle.paper_lower.specs.Sets.{Set, empty, has, plus, overlap, unionBelow}
+use Rattle.paper_lower.specs.Lists.{some, many, keep}
 use Rattle.paper_lower.specs.Records.{Record}
 use Rattle.paper_lower.specs.Tables.{Sessions}
-use Rattle.paper_lower.specs.Roles.{subjectOf, ofSubjects, activeOf, countedOf}
+use Rattle.paper_lower.specs.Roles.{subjectOf, ofSubjects, countedOf}
 use Rattle.paper_lower.proofs.ListLaws.{both, every-map, some-below}
 use Rattle.paper_upper.specs.Orders.{Standing, isDone, Entry, inOrder, ofTask, ofUser, tasksWhere, tasksBy, tasksDone}
 use Rattle.paper_upper.specs.Orders.Standing.{held, done}
 use Rattle.sets.proofs.SetLaws.{has-empty, has-unionBelow}
 use Rattle.theorems.specs.OverEntries.{Any, tasksIn}
-use Rattle.theorems.specs.Exactly.{Not, In, Of}
+use Rattle.theorems.specs.Exactly.{In, Of}
 use Rattle.theorems.specs.Exactly.Of.{none, one, other}
 use Rattle.theorems.specs.Meant.{MoreThan, ReadAsMeant}
 use Rattle.theorems.proofs.EntryLaws.{has-where}

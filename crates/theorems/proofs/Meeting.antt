@@ -1,10 +1,10 @@
 -- A claim looks at the entries of its own instance alone, but for FULL.
 use Prim.Native.Nat.{ℕ, zero, suc, _+_, _≤_}
 use mathlib.Core.Path.{_≡_, refl, sym, ap, subst, _∙_}
-use mathlib.Core.Bool.{Bool, true, false, not, cond, _&&_}
+use mathlib.Core.Bool.{false, not, _&&_}
 use mathlib.Core.List.{List, [], _∷_, _++_}
 use native.Mathlib.Omega.{arith}
-use borrow.Author.Tests.{eqb-true, eq-eqb, ne-eqb, lt-leb}
+use borrow.Author.Tests.{eq-eqb, ne-eqb, lt-leb}
 use lib.Dec.{eqb, leb}
 use Rattle.paper_lower.specs.Sets.{meets}
 use Rattle.paper_lower.specs.Lists.{some, many, keep}
@@ -17,7 +17,7 @@ use Rattle.paper_lower.proofs.ListLaws.{every-left}
 use Rattle.paper_lower.proofs.CheckLaws.{passed, first-passed}
 use Rattle.paper_upper.specs.Orders.{Entry, entry, Engine, SameTables, withEntries, isHeld, inOrder, ofTask, ofUser, tasksWhere, tasksBy, tasksDone, tasksOthers}
 use Rattle.paper_upper.specs.Orders.Standing.{held}
-use Rattle.paper_upper.specs.Rules.{ruleChecks}
+use Rattle.paper_upper.specs.Rules.{gatheredChecks, ruleChecks}
 use Rattle.paper_upper.specs.Requests.{unknown, claimChecks, claimPlace, claimNext, upperKinds}
 use Rattle.paper_upper.specs.Engine.{requestKinds, request, placeOf, placeTo}
 use Rattle.paper_upper.proofs.OrderedLaws.{swapped}
@@ -42,7 +42,7 @@ module _ (t : Engine) (a b c : ℕ) (e : Entry) (h : eqb (e .instance) b ≡ fal
   more = withEntries t (e ∷ t .orders .entries)
 
   early-same : early more a b c ≡ early t a b c
-  unfolding unknown ruleChecks some keep ofTask ofUser inOrder tasksWhere tasksBy tasksDone tasksOthers
+  unfolding unknown gatheredChecks ruleChecks some keep ofTask ofUser inOrder tasksWhere tasksBy tasksDone tasksOthers
   early-same = rw h
 
   place-same : (q : ℕ) → claimPlace more a b c q ≡ claimPlace t a b c q
@@ -55,7 +55,7 @@ module _ (t : Engine) (s : Bytes) (k : decode s .kind ≡ 50) where
   r = decode s
 
   reply-is : request t s .reply ≡ first (formChecks requestForms s ++ (early t (r .a) (r .b) (r .c) ++ full (many (t .orders .entries))))
-  unfolding request answer replyTo requestKinds upperKinds chosen claimChecks ruleChecks formChecks
+  unfolding request answer replyTo requestKinds upperKinds chosen claimChecks gatheredChecks ruleChecks formChecks
   reply-is = ap (λ (n : ℕ). first (formChecks requestForms s ++ chosen requestKinds n .checks t r)) k
 
   place-is : placeTo t s ≡ claimPlace t (r .a) (r .b) (r .c) (request t s .reply)
@@ -116,7 +116,7 @@ module _ (t : Engine) (s d : Bytes) (k : decode s .kind ≡ 50) (l : decode d .k
 
   -- one entry free: both would be granted, and one is
   last-entry : many (t .orders .entries) ≡ 2047 → request t s .reply ≡ 0 → request t d .reply ≡ 0 → request (request t d .tables) s .reply ≡ FULL
-  unfolding formChecks ruleChecks
+  unfolding formChecks gatheredChecks ruleChecks
   last-entry m g h =
       let p =
       passed (formChecks requestForms s ++ (early t (decode s .a) (decode s .b) (decode s .c) ++ full (many (t .orders .entries)))) (omega arith)

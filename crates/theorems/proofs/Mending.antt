@@ -1,7 +1,7 @@
 -- A mended file (Ask 12): what is written loads, a file that loads comes out the same, and the records written and the places reported are
 -- together all places. Each by the file's records, as mend and load go through them.
-use Prim.Native.Nat.{ℕ, zero, suc, _+_, _-_, _*_, _≤_, _<_, _/_, _%_, min}
-use mathlib.Core.Path.{_≡_, refl, sym, ap, ap₂, _∙_, subst}
+use Prim.Native.Nat.{ℕ, zero, suc, _+_, _-_, _*_, _≤_, _<_, _/_, _%_}
+use mathlib.Core.Path.{_≡_, refl, sym, ap, ap₂, _∙_}
 use mathlib.Core.Bool.{Bool, true, false, not, cond, _||_}
 use mathlib.Core.List.{List, [], _∷_, _++_}
 use native.Mathlib.Omega.{arith}
@@ -15,7 +15,7 @@ use Rattle.paper_lower.specs.Records.{Bytes}
 use Rattle.paper_lower.specs.Tables.{Policy, noPolicy}
 use Rattle.paper_lower.specs.Load.{Loaded, accepted, refused, policyAnswer, loadFrom, load}
 use Rattle.paper_lower.specs.Mend.{Dropped, dropped, Mended, keeping, dropping, mendFrom, mend}
-use Rattle.theorems.specs.Mending.{WhatIsWrittenLoads, AFileThatLoadsComesOut, WrittenAndReported, Together, reported, unreported, Rising}
+use Rattle.theorems.specs.Mending.{WhatIsWrittenLoads, AFileThatLoadsComesOut, WrittenAndReported, reported, unreported, Rising}
 
 -- a whole record more
 front : (n : ℕ) (s : Bytes) → suc n * 16 ≤ length s → length (take 16 s) ≡ 16

@@ -24,7 +24,7 @@ use Rattle.paper_lower.proofs.CheckLaws.{Passed}
 use Rattle.sets.proofs.Bits.{same-or-other}
 use Rattle.sets.proofs.SetLaws.{Part, part-has, collect-below, collect-lt, has-empty, plus-member}
 use Rattle.paper_upper.specs.Orders.{isDone, Engine, noOrders, inOrder, tasksDone}
-use Rattle.paper_upper.specs.Rules.{missing, before, ruleChecks}
+use Rattle.paper_upper.specs.Rules.{missing, before, gatheredChecks, ruleChecks}
 use Rattle.paper_upper.specs.Stuck.{ready, Orderly, freeTasks}
 use Rattle.paper_upper.specs.Requests.{unknown, openChecks, openNext, endNext, claimChecks, claimNext, releaseNext, doneNext, turned, upperKinds}
 use Rattle.paper_upper.specs.Engine.{requestKinds, request, engineOf}
@@ -73,7 +73,7 @@ module _ (policy : List Record) (t : Engine) (kp : Kept policy t) (u : NoneStuck
       ap (has (had-all m rs small)) (eqb-true i (e .task) (x .1)) ∙ member m rs small (e .task) ∙ v j (ap (t .orders .opened) (eqb-true _ _ (y .0)) ∙ o)) u))
 
   passes : Every (λ x. missing (tasksDone b (t .orders .entries)) c x ≡ false) rs
-  unfolding claimChecks ruleChecks before
+  unfolding claimChecks gatheredChecks ruleChecks before
   passes = place-none _ rs (p .1 .1 .1 .0)
 
   claimed : onList (fixed (t .lower .policy)) j c ≡ true
@@ -157,7 +157,7 @@ passes-at k had (s ∷ front) t back p finished h d =
 -- a claim that BEFORE refuses, by its check
 refused-before : (t : Engine) (s : Bytes) → decode s .kind ≡ 50 → request t s .reply ≡ BEFORE
     → before (t .lower .policy .rules) (tasksDone (decode s .b) (t .orders .entries)) (decode s .c) ≡ 0 → ⊥
-unfolding ruleChecks
+unfolding gatheredChecks ruleChecks
 refused-before t s e q z =
     let says = rules-say t s e (λ l. let n : ⊥ = omega arith in absurd n) in
     false≢true (ap (λ (k : ℕ). not (eqb k 0)) (sym z) ∙ says .0 .1 q)

@@ -18,7 +18,7 @@ use Rattle.paper_lower.specs.Load.{recordsOf}
 use Rattle.paper_lower.proofs.ListLaws.{both, every-map, every-both, every-left, every-right, every-pull, place-none}
 use Rattle.sets.proofs.Bits.{same-or-other}
 use Rattle.paper_upper.specs.Orders.{Entry, Engine, tasksBy, tasksDone, tasksOthers}
-use Rattle.paper_upper.specs.Rules.{missing, before, crowded, separation, own, strange, blockIn, block, tied, bound, found, ruleChecks, rulePlace}
+use Rattle.paper_upper.specs.Rules.{missing, before, crowded, separation, own, strange, blockIn, block, tied, bound, found, gatheredChecks, ruleChecks, rulePlace}
 use Rattle.paper_upper.specs.Requests.{claimPlace}
 use Rattle.paper_upper.specs.Engine.{request, placeOf, placeTo, placedRun}
 use Rattle.theorems.specs.OverEntries.{ofKind, Allows}
@@ -237,7 +237,7 @@ module _ (t : Engine) (s : Bytes) (e : decode s .kind ≡ 50) where
         (users-claim (λ template tasks. Allows x tasks) (t .orders) (r .a) (r .b) u (r .c) old)
 
     rule-at : RuleAt policy (shown t) r (request t s .reply) (placeTo t s)
-    unfolding claimPlace ruleChecks rulePlace before separation bound
+    unfolding claimPlace gatheredChecks ruleChecks rulePlace before separation bound
     rule-at = record {
       befores =
           λ q. rw (entered t s e, place-is q) (first-at _ (Prerequisite (t .orders)) _ (λ x old. one-before es (r .a) (r .b) u (r .c) x old) (ofKind 16 policy)

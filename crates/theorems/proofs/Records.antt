@@ -1,5 +1,5 @@
 -- Every policy record exactly when, and where a load stops.
-use Prim.Native.Nat.{ℕ, zero, suc, _+_, _*_, _/_, _%_, _≤_, _<_}
+use Prim.Native.Nat.{ℕ, zero, suc, _+_, _*_, _/_, _≤_, _<_}
 use mathlib.Core.Path.{_≡_, refl, sym, ap, subst, _∙_}
 use mathlib.Core.Bool.{Bool, true, false, not, cond, _||_}
 use mathlib.Core.List.{List, [], _∷_, _++_, append-nil}
@@ -8,8 +8,8 @@ use borrow.Author.Tests.{eqb-true, eqb-false, ne-eqb}
 use lib.Dec.{eqb}
 use lib.ListN.{length, take, drop, length-take, length-drop}
 use Rattle.paper_lower.specs.Lists.{Maybe, Every}
-use Rattle.paper_lower.specs.Lists.Maybe.{none, just}
-use Rattle.paper_lower.specs.Checks.{first, granted, GRANTED, SHAPE, RANGE}
+use Rattle.paper_lower.specs.Lists.Maybe.{just}
+use Rattle.paper_lower.specs.Checks.{first, granted, SHAPE, RANGE}
 use Rattle.paper_lower.specs.Records.{Bytes, Record, decode}
 use Rattle.paper_lower.specs.Forms.{Form, policyForms, formOf, misshapen, outOfRange, formChecks}
 use Rattle.paper_lower.specs.Kinds.{chosen, replyTo, answer}
@@ -20,7 +20,7 @@ use Rattle.paper_lower.proofs.ListLaws.{every-map, _⨾_}
 use Rattle.paper_lower.proofs.KindLaws.{reply-passed}
 use Rattle.theorems.specs.Replies.{rank}
 use Rattle.theorems.specs.Exactly.{Not}
-use Rattle.theorems.specs.Records.{JudgedExactly, Ruled, refusalsOf, policyKindsRuled, Judged, recordAt, JudgedAt, LoadedExactly, EveryRecord, EveryLoad}
+use Rattle.theorems.specs.Records.{JudgedExactly, Ruled, refusalsOf, policyKindsRuled, Judged, recordAt, EveryRecord, EveryLoad}
 use Rattle.theorems.proofs.Replies.{policy-order, numbered}
 use Rattle.theorems.proofs.Loads.{step, filled, Fits, Accepted, load-accepted}
 use Rattle.theorems.proofs.Exactly.{misshaped, too-large, unlisted}

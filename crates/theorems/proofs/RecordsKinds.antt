@@ -1,23 +1,23 @@
 -- Every kind of policy record: each check applies exactly when the page says so.
-use Prim.Native.Nat.{ℕ, zero, suc, _≤_, _<_}
+use Prim.Native.Nat.{ℕ, suc, _≤_, _<_}
 use mathlib.Core.Path.{_≡_, refl, sym, ap, subst, _∙_}
 use mathlib.Core.Bool.{Bool, true, false, not, cond, _&&_, _||_, true≢false, false≢true}
 use mathlib.Core.Logic.{_⊎_, inl, inr, ⊎-elim, _↔_, Iff·trans}
 use mathlib.Core.List.{List, [], _∷_, _++_, append-nil}
 use native.Mathlib.Omega.{arith}
-use borrow.Author.Tests.{eqb-true, eq-eqb, ltb-true, ltb-false, lt-ltb, leb-true, le-leb, not-false, not-true}
+use borrow.Author.Tests.{eqb-true, eq-eqb, ltb-true, ltb-false, lt-ltb, leb-true, le-leb, not-false}
 use lib.Dec.{eqb, ltb, leb}
 use lib.ListN.{length}
 use Rattle.paper_lower.specs.Sets.{Set, empty, has, plus, union, size, overlap, meets, within, collect}
-use Rattle.paper_lower.specs.Lists.{Maybe, someBelow, holds, there, is, some, many, keep, each, Every}
+use Rattle.paper_lower.specs.Lists.{someBelow, holds, there, is, some, many, keep, each, Every}
 use Rattle.paper_lower.specs.Lists.Maybe.{none, just}
 use Rattle.paper_lower.specs.Checks.{first}
 use Rattle.paper_lower.specs.Records.{Record}
 use Rattle.paper_lower.specs.Forms.{policyForms, formOf, above, outOfRange}
-use Rattle.paper_lower.specs.Tables.{Seniority, Permission, Limit, Block, Pair, Walled, Policy, noPolicy}
+use Rattle.paper_lower.specs.Tables.{Seniority, Block, Walled, Policy, noPolicy}
 use Rattle.paper_lower.specs.Policy.{down, breaks, isFor, declaredTasks, tasksOf, hasTask, oneTemplate, together as alike, sameLimit, sameBlock, samePair, illMade, userChecks, roleChecks, permissionChecks, assignChecks, giveChecks, taskChecks, openToChecks, carriesChecks, staticChecks, dynamicChecks, taskSetChecks, partitioned, blockChecks, banChecks, mostChecks, bindChecks, beforeChecks, raised, raisings, raiseChecks, blockOf, another, sameWalled, wallChecks}
-use Rattle.paper_lower.proofs.ListLaws.{or-none, or-false, both, every-map, some-below, many-each}
-use Rattle.sets.proofs.SetLaws.{has-empty, same-members, in-or-out, collect-below, some-collected, has-within, within-has, has-union}
+use Rattle.paper_lower.proofs.ListLaws.{or-none, or-false, every-map, some-below, many-each}
+use Rattle.sets.proofs.SetLaws.{has-empty, same-members, in-or-out, collect-below, some-collected, has-within, within-has}
 use Rattle.theorems.specs.Replies.{rank}
 use Rattle.theorems.specs.OverEntries.{ofKind, puts, Any, Reached, Exceeded, Broken}
 use Rattle.theorems.specs.Theorems.{fixed}
@@ -31,7 +31,6 @@ use Rattle.theorems.proofs.Ranks.{named, Ranked, raised-ranked, put, ra
 use Rattle.theorems.proofs.Reflects.{either, either-same, one-of-three, together, all-three, negated, same, is-same, turned-same, as-test, some-any, any-map, any-of, any-choose, row-below, some-row, astray, common}
 use Rattle.theorems.proofs.Declared.{Declared, declared-of}
 use Rattle.theorems.proofs.Limits.{no-more, as-many, union-parts, plus-parts, own-overlap, exceeds, reached, broken}
-use Rattle.theorems.proofs.LoadedRoles.{InOrder}
 use Rattle.theorems.proofs.RecordsTables.{many-length, all-of-kind, users-of, holders-of, assigned-of, in-order, raisings-of}
 
 -- ---- the first check that applies, in the order of the ranks

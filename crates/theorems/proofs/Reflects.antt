@@ -52,10 +52,6 @@ is-same a b = (eqb-true a b, eq-eqb a b)
 pub turned-same : (a b : ℕ) → (eqb a b ≡ true) ↔ (b ≡ a)
 turned-same a b = (λ e. sym (eqb-true a b e), λ e. eq-eqb a b (sym e))
 
--- what the test does not say, the statement does not
-pub no-more : (b : Bool) {P : Type 0} → (b ≡ true) ↔ P → b ≡ false → Not P
-no-more b p e x = true≢false (sym (p .1 x) ∙ e)
-
 -- a test that is another one
 pub as-test : {b c : Bool} {P : Type 0} → b ≡ c → (c ≡ true) ↔ P → (b ≡ true) ↔ P
 as-test e p = (λ h. p .0 (sym e ∙ h), λ x. e ∙ p .1 x)

@@ -21,7 +21,7 @@ use Rattle.paper_lower.specs.Sessions.{createChecks, destroyChecks, activateChe
 use Rattle.paper_lower.proofs.ListLaws.{both, every-map, every-append, every-each, every-kept, _⨾_}
 use Rattle.paper_lower.proofs.CheckLaws.{none-applies}
 use Rattle.paper_lower.proofs.KindLaws.{AllNumbered, of-chosen}
-use Rattle.paper_upper.specs.Rules.{ruleChecks}
+use Rattle.paper_upper.specs.Rules.{gatheredChecks, ruleChecks}
 use Rattle.paper_upper.specs.Requests.{deleteAbove, destroyAbove, openChecks, endChecks, claimChecks, holdChecks, taskCheckChecks, figuresChecks, stuckChecks, upperKinds}
 use Rattle.paper_upper.specs.Orders.{Engine}
 use Rattle.paper_upper.specs.Engine.{widened, sharedKinds, requestKinds, request}
@@ -49,7 +49,7 @@ lower-order =
     ⨾ (λ t r. refl) ⨾ (λ t r. refl) ⨾ (λ t r. refl) ⨾ (λ t r. refl) ⨾ (λ t r. refl) ⨾ (λ t r. refl) ⨾ tt
 
 upper-order : InOrder upperKinds
-unfolding rising rank inTable upperKinds deleteChecks deleteAbove destroyChecks destroyAbove openChecks endChecks claimChecks ruleChecks holdChecks taskCheckChecks figuresChecks stuckChecks
+unfolding rising rank inTable upperKinds deleteChecks deleteAbove destroyChecks destroyAbove openChecks endChecks claimChecks gatheredChecks ruleChecks holdChecks taskCheckChecks figuresChecks stuckChecks
 upper-order =
     (λ t r. refl) ⨾ (λ t r. refl) ⨾ (λ t r. refl) ⨾ (λ t r. refl) ⨾ (λ t r. refl) ⨾ (λ t r. refl) ⨾ (λ t r. refl) ⨾ (λ t r. refl) ⨾ (λ t r. refl) ⨾
     (λ t r. refl) ⨾ tt

@@ -12,7 +12,7 @@ use Rattle.paper_lower.specs.Lists.{someBelow, some, many, keep, each, Every}
 use Rattle.paper_lower.specs.Checks.{Check, first, granted, SHAPE, UNKNOWN, TAKEN, IN-USE, RULE, NOT-ASSIGNED, STATIC, DYNAMIC, NO-ROLE, DENIED, FULL, WALL}
 use Rattle.paper_lower.specs.Records.{Bytes, Record, decode}
 use Rattle.paper_lower.specs.Forms.{Form, policyForms, lowerForms, requestForms, formChecks}
-use Rattle.paper_lower.specs.Kinds.{Kind, chosen, Answer, replyTo, answer, run, after}
+use Rattle.paper_lower.specs.Kinds.{Kind, chosen, Answer, replyTo, answer, after}
 use Rattle.paper_lower.specs.Tables.{Seniority, Policy, Lower, noPolicy}
 use Rattle.paper_lower.specs.Policy.{down, breaks, sameLimit, illMade, assignChecks, staticChecks, raised, policyKinds}
 use Rattle.paper_lower.specs.Load.{Loaded, accepted, refused, policyAnswer, loadFrom, load, recordsFrom, recordsOf}

@@ -15,7 +15,7 @@ use Rattle.paper_lower.specs.Policy.{hasTask}
 use Rattle.paper_lower.proofs.ListLaws.{every-all, _⨾_}
 use Rattle.paper_lower.proofs.CheckLaws.{Passed}
 use Rattle.paper_upper.specs.Orders.{Orders, noOrders, inOrder, heldBy, tasksWhere, tasksBy}
-use Rattle.paper_upper.specs.Rules.{ruleChecks}
+use Rattle.paper_upper.specs.Rules.{gatheredChecks, ruleChecks}
 use Rattle.theorems.specs.OverEntries.{ofKind, TaskSets, Blocks, LoneWorkers, Bindings, CountLimits, Prerequisites, Rule, claimRules}
 use Rattle.theorems.specs.WellMade.{WellMade, Ledger}
 use Rattle.theorems.proofs.EntryLaws.{opening, ending, claiming, releasing, finishing}
@@ -103,7 +103,7 @@ module _ (policy : List Record) where
 
       -- a claim's checks, against the rules with the claim entered
       pub rules-meet : (a b u c : ℕ) → Meet (λ x. x .Kept policy (claiming o a b u c)) (ruleChecks k ru (o .opened b) (o .entries) b u c) claimRules
-      unfolding ruleChecks
+      unfolding gatheredChecks ruleChecks
       rules-meet a b u c =
           let m = o .opened b in
           let d = tasksBy b u (o .entries) in

@@ -1,18 +1,17 @@
 -- The theorems.
-use Prim.Native.Nat.{ℕ, _≤_, _<_}
+use Prim.Native.Nat.{ℕ, _≤_}
 use mathlib.Core.Path.{_≡_, refl, sym, ap, _∙_}
 use mathlib.Core.Bool.{Bool, true, false, cond}
-use mathlib.Core.Logic.{inl, inr, ⊎-elim, _↔_}
-use mathlib.Core.List.{List, [], _∷_}
+use mathlib.Core.List.{List}
 use borrow.Author.Tests.{leb-true, le-leb}
 use native.Mathlib.Omega.{arith}
 use lib.Dec.{leb}
-use Rattle.paper_lower.specs.Sets.{Set, has, overlap}
-use Rattle.paper_lower.specs.Lists.{many, each, Every}
+use Rattle.paper_lower.specs.Sets.{has}
+use Rattle.paper_lower.specs.Lists.{many, Every}
 use Rattle.paper_lower.specs.Checks.{FULL}
 use Rattle.paper_lower.specs.Records.{Record}
 use Rattle.paper_lower.specs.Forms.{requestForms}
-use Rattle.paper_lower.specs.Tables.{Seniority, Limit, Lower}
+use Rattle.paper_lower.specs.Tables.{Seniority, Lower}
 use Rattle.paper_lower.specs.Policy.{assignNext, giveNext}
 use Rattle.paper_lower.specs.Load.{recordsOf}
 use Rattle.paper_lower.specs.Roles.{countedOf, joinNext, deleteNext, userGone, takeBackNext, withdrawNext, roleKinds}

@@ -11,7 +11,7 @@ use Rattle.paper_lower.specs.Lists.Maybe.{none}
 use Rattle.paper_lower.specs.Checks.{Check, first, granted, UNKNOWN, DENIED, WALL}
 use Rattle.paper_lower.specs.Records.{Bytes, Record, number, decode}
 use Rattle.paper_lower.specs.Forms.{Form, lowerForms, upperForms, requestForms, formOf, misplaced, above, misshapen, outOfRange, formChecks}
-use Rattle.paper_lower.specs.Kinds.{Kind, chosen, Answer, replyTo, answer, run, after}
+use Rattle.paper_lower.specs.Kinds.{Kind, chosen, replyTo, answer}
 use Rattle.paper_lower.specs.Tables.{Policy, Lower, noPolicy, noSessions, withBoundTo, withPolicy, withSessions}
 use Rattle.paper_lower.specs.Policy.{down, blockOf, another, assignNext, giveNext}
 use Rattle.paper_lower.specs.Load.{load, recordsOf}

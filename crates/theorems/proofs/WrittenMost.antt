@@ -10,9 +10,9 @@ use Rattle.paper_lower.specs.Lists.{Maybe, many, add, each}
 use Rattle.paper_lower.specs.Lists.Maybe.{none, just}
 use Rattle.paper_lower.specs.Records.{Record}
 use Rattle.paper_lower.specs.Tables.{Policy}
-use Rattle.paper_lower.specs.Written.{inTurn, when, ofThere, row, peopleRows, taskRows, ruleRows, behind, recordsWritten}
+use Rattle.paper_lower.specs.Written.{inTurn, when, ofThere, peopleRows, taskRows, ruleRows, behind, recordsWritten}
 use Rattle.paper_lower.proofs.ListLaws.{many-append, many-each, _⨾_}
-use Rattle.theorems.specs.Written.{policyOf, mostWritten, NeverMoreWritten}
+use Rattle.theorems.specs.Written.{policyOf, NeverMoreWritten}
 use Rattle.theorems.proofs.WrittenRuns.{Prefixed}
 use Rattle.theorems.proofs.WrittenReady.{Ready}
 use Rattle.theorems.proofs.Written.{ready}

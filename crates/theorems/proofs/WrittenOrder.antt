@@ -1,8 +1,8 @@
 -- The written records stand in order.
 use Prim.Native.Nat.{ℕ, zero, suc, _≤_, _<_}
 use mathlib.Core.Path.{_≡_, refl, sym, ap, subst, _∙_}
-use mathlib.Core.Bool.{Bool, true, false, cond}
-use mathlib.Core.Logic.{_⊎_, inl, inr, ⊎-elim}
+use mathlib.Core.Bool.{Bool, true, false}
+use mathlib.Core.Logic.{inl, inr, ⊎-elim}
 use mathlib.Core.List.{List, [], _∷_, _++_}
 use native.Mathlib.Omega.{arith}
 use Rattle.paper_lower.specs.Sets.{has}
@@ -10,12 +10,12 @@ use Rattle.paper_lower.specs.Lists.{Maybe, each, Every}
 use Rattle.paper_lower.specs.Lists.Maybe.{none, just}
 use Rattle.paper_lower.specs.Records.{Record}
 use Rattle.paper_lower.specs.Tables.{Policy}
-use Rattle.paper_lower.specs.Load.{Loaded, load, recordsOf}
+use Rattle.paper_lower.specs.Load.{Loaded, load}
 use Rattle.paper_lower.specs.Written.{inTurn, when, ofThere, row, peopleRows, taskRows, ruleRows, behind, recordsWritten, written}
 use Rattle.paper_lower.proofs.ListLaws.{every-map, every-append, _⨾_}
-use Rattle.theorems.specs.OverEntries.{ofKind, EveryTwo}
-use Rattle.theorems.specs.Written.{Running, policyOf, ByNumbers, ComesBefore, InOrder, WrittenInOrder}
-use Rattle.theorems.proofs.Made.{aWalled, Made, made, walls-made}
+use Rattle.theorems.specs.OverEntries.{EveryTwo}
+use Rattle.theorems.specs.Written.{policyOf, ByNumbers, ComesBefore, WrittenInOrder}
+use Rattle.theorems.proofs.Made.{made, walls-made}
 use Rattle.theorems.proofs.WrittenRuns.{read-run}
 use Rattle.theorems.proofs.Written.{written-runs, loads-again}
 

@@ -1,5 +1,5 @@
 -- Records that one policy after the other accepts, and their bytes: the load of them. And tables filled row by row.
-use Prim.Native.Nat.{ℕ, zero, suc, _+_, _*_, _/_, _<_, _≤_}
+use Prim.Native.Nat.{ℕ, zero, suc, _*_, _/_, _<_, _≤_}
 use mathlib.Core.Path.{_≡_, refl, sym, ap, subst, _∙_}
 use mathlib.Core.Bool.{Bool, true, false, cond}
 use mathlib.Core.List.{List, [], _∷_, _++_, append-nil}
@@ -17,7 +17,7 @@ use Rattle.paper_lower.specs.Tables.{Policy, noPolicy}
 use Rattle.paper_lower.specs.Policy.{policyKinds}
 use Rattle.paper_lower.specs.Load.{accepted, policyAnswer, loadFrom, load, recordsFrom, recordsOf}
 use Rattle.paper_lower.specs.Words.{joined}
-use Rattle.paper_lower.specs.Written.{inTurn, when, ofThere, behind}
+use Rattle.paper_lower.specs.Written.{inTurn, when, ofThere}
 use Rattle.paper_lower.proofs.ListLaws.{upd-same}
 use Rattle.paper_lower.proofs.CheckLaws.{Passed, none-applies}
 use Rattle.paper_lower.proofs.ReadBack.{read-back, sixteen}

@@ -16,7 +16,7 @@ use Rattle.paper_lower.specs.Forms.Field.{·, to, any, pair}
 use Rattle.paper_lower.specs.Kinds.{Said, run}
 use Rattle.paper_lower.specs.Load.{load, recordsOf}
 use Rattle.paper_lower.specs.Sessions.{lowerRequest, lowerOf}
-use Rattle.paper_upper.specs.Orders.{Standing, Entry}
+use Rattle.paper_upper.specs.Orders.{Entry}
 use Rattle.paper_upper.specs.Orders.Standing.{held, done}
 use Rattle.theorems.specs.Outside.{Told, outside}
 use Rattle.theorems.specs.OverEntries.{ofKind, EveryTwo, Reached, Any, Broken, HasHad}

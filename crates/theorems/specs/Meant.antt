@@ -6,10 +6,10 @@ use mathlib.Core.Bool.{true}
 use mathlib.Core.Logic.{_↔_}
 use mathlib.Core.List.{List}
 use lib.ListN.{length}
-use Rattle.paper_lower.specs.Sets.{Set, has, size, overlap, meets}
+use Rattle.paper_lower.specs.Sets.{Set, size, overlap, meets}
 use Rattle.paper_lower.specs.Lists.{many, keep, Every}
 use Rattle.paper_lower.specs.Records.{Record}
-use Rattle.paper_upper.specs.Orders.{Standing, Entry, ofTask, tasksBy, tasksDone}
+use Rattle.paper_upper.specs.Orders.{Entry, ofTask, tasksBy, tasksDone}
 use Rattle.paper_upper.specs.Orders.Standing.{done}
 use Rattle.theorems.specs.OverEntries.{EveryTwo, Any, tasksIn}
 use Rattle.theorems.specs.Exactly.{In, Of}

@@ -1,6 +1,5 @@
 -- 02, Ask 14: "Two desks claim in the same second, and nobody can say which call went in first. It should not matter."
-use Prim.Native.Nat.{ℕ, _+_, _≤_}
-use mathlib.Core.List.{List}
+use Prim.Native.Nat.{_+_, _≤_}
 use mathlib.Core.Path.{_≡_}
 use Rattle.paper_lower.specs.Lists.{many}
 use Rattle.paper_lower.specs.Checks.{GRANTED, FULL}

@@ -1,4 +1,3 @@
--- Written from Proof.tmpl by 'prove expand': edit that file.
 -- Unknown, but for a user who joins without roles: then the buffers are emptied, and the step is that of the empty engine.
 use Rattle.records.specs.Reading.{paperOf}
 use Rattle.engine.specs.Buffers.{buffers}

@@ -1,12 +1,17 @@
--- Written from Proof.tmpl by 'prove expand': edit that file.
 -- Each kind of the upper part, as a step of the three buffers; any other kind is the lower part's.
-use mathlib.Core.Path.{refl}
+use Prim.Native.Nat.{ℕ, _<_}
+use mathlib.Core.Path.{_≡_, refl}
+use lib.Dec.{T, ltb}
 use borrow.Author.Needs.{needs}
 use Rattle.paper_lower.specs.Forms.{requestForms}
 use Rattle.paper_lower.specs.Kinds.{chosen}
 use Rattle.paper_upper.specs.Requests.{upperKinds}
 use Rattle.paper_upper.specs.Engine.{widened, requestKinds, placeOf}
-use Rattle.records.specs.Limits.{limitA, limitB, limitC, limitM, limitsOpen}
+use Rattle.records.specs.Limits.{Limits, limitA, limitB, limitC, limitM, limitsOpen}
+use Rattle.records.specs.declared.Record.{Record}
+use Rattle.policy.specs.Layout.{policyWords}
+use Rattle.sessions.specs.Reading.{sessionsWords}
+use Rattle.order_links.specs.Chains.{ordersWords}
 use Rattle.records.proofs.Passing.{below}
 use Rattle.engine.specs.Buffers.{buffers}
 use Rattle.engine.proofs.Lifts.{any-step, of-both, of-sessions, of-orders, of-claim, of-none, of-lower}
@@ -14,6 +19,24 @@ use Rattle.engine.proofs.PlaceLaws.{no-claim}
 use Rattle.engine.proofs.LowerKinds.{lower-row, lower-limits, no-claim-number}
 use Rattle.engine.proofs.step.Statement.{statement}
 use Rattle.engine.proofs.step.Tie as tie
+
+-- ---- 50 to 52 and 57: the lengths, and subject, instance and task within their limits
+of-subject : {p s o k : ℕ} {r : Record} → ((p ≡ policyWords) × ((s ≡ sessionsWords) × (o ≡ ordersWords))) × Limits requestForms r → r .kind ≡ k
+    → T (ltb (limitA requestForms k) 128) → T (ltb (limitB requestForms k) 64) → T (ltb (limitC requestForms k) 64)
+    → (p ≡ policyWords) × ((s ≡ sessionsWords) × ((o ≡ ordersWords) × ((r .a < 128) × ((r .b < 64) × (r .c < 64)))))
+of-subject pre key a b c = (
+  pre .0 .0,
+  (
+    pre .0 .1 .0,
+    (
+      pre .0 .1 .1,
+      (
+        below (limitA requestForms) (pre .1 .a) key 128 a,
+        (below (limitB requestForms) (pre .1 .b) key 64 b, below (limitC requestForms) (pre .1 .c) key 64 c),
+      ),
+    ),
+  ),
+)
 
 delete-requires : tie.Need-delete-requires
 unfolding limitsOpen
@@ -57,37 +80,15 @@ claim-requires : tie.Need-claim-requires
 unfolding limitsOpen
 claim-requires c κs =
     let pre = c .before .before .before .before .before .before .before .pre in
-    let match = c .before .before .before .match in (
-      pre .0 .0,
-      (
-        pre .0 .1 .0,
-        (
-          pre .0 .1 .1,
-          (
-            below (limitA requestForms) (pre .1 .a) (match .keys5) 128 tt,
-            (below (limitB requestForms) (pre .1 .b) (match .keys5) 64 tt, below (limitC requestForms) (pre .1 .c) (match .keys5) 64 tt),
-          ),
-        ),
-      ),
-    )
+    let match = c .before .before .before .match in
+    of-subject pre (match .keys5) tt tt tt
 
 release-requires : tie.Need-release-requires
 unfolding limitsOpen
 release-requires c κs =
     let pre = c .before .before .before .before .before .before .before .pre in
-    let match = c .before .before .before .match in (
-      pre .0 .0,
-      (
-        pre .0 .1 .0,
-        (
-          pre .0 .1 .1,
-          (
-            below (limitA requestForms) (pre .1 .a) (match .keys6) 128 tt,
-            (below (limitB requestForms) (pre .1 .b) (match .keys6) 64 tt, below (limitC requestForms) (pre .1 .c) (match .keys6) 64 tt),
-          ),
-        ),
-      ),
-    )
+    let match = c .before .before .before .match in
+    of-subject pre (match .keys6) tt tt tt
 
 plain-requires-5 : tie.Need-plain-requires-5
 plain-requires-5 c κs = search needs
@@ -96,19 +97,8 @@ finish-requires : tie.Need-finish-requires
 unfolding limitsOpen
 finish-requires c κs =
     let pre = c .before .before .before .before .before .before .before .pre in
-    let match = c .before .before .before .match in (
-      pre .0 .0,
-      (
-        pre .0 .1 .0,
-        (
-          pre .0 .1 .1,
-          (
-            below (limitA requestForms) (pre .1 .a) (match .keys7) 128 tt,
-            (below (limitB requestForms) (pre .1 .b) (match .keys7) 64 tt, below (limitC requestForms) (pre .1 .c) (match .keys7) 64 tt),
-          ),
-        ),
-      ),
-    )
+    let match = c .before .before .before .match in
+    of-subject pre (match .keys7) tt tt tt
 
 plain-requires-6 : tie.Need-plain-requires-6
 plain-requires-6 c κs = search needs
@@ -117,22 +107,8 @@ task-check-reply-requires : tie.Need-task-check-reply-requires
 unfolding limitsOpen
 task-check-reply-requires c κs =
     let pre = c .before .before .before .before .before .before .before .pre in
-    let match = c .before .before .before .match in (
-      (
-        pre .0 .0,
-        (
-          pre .0 .1 .0,
-          (
-            pre .0 .1 .1,
-            (
-              below (limitA requestForms) (pre .1 .a) (match .keys8) 128 tt,
-              (below (limitB requestForms) (pre .1 .b) (match .keys8) 64 tt, below (limitC requestForms) (pre .1 .c) (match .keys8) 64 tt),
-            ),
-          ),
-        ),
-      ),
-      below (limitM requestForms) (pre .1 .m) (match .keys8) 4294967296 tt,
-    )
+    let match = c .before .before .before .match in
+    (of-subject pre (match .keys8) tt tt tt, below (limitM requestForms) (pre .1 .m) (match .keys8) 4294967296 tt)
 
 plain-requires-7 : tie.Need-plain-requires-7
 plain-requires-7 c κs = search needs

@@ -1,4 +1,3 @@
--- Written from Proof.tmpl by 'prove expand': edit that file.
 -- Each way out is the first check of the definition that applies.
 use borrow.Author.Needs.{needs}
 use Rattle.paper_upper.specs.Requests.{holdChecks}

@@ -1,6 +1,5 @@
--- Written from Proof.tmpl by 'prove expand': edit that file.
 -- Unknown, or what one walk finds: the entry is gone, or nothing is written.
-use mathlib.Core.Path.{_≡_, refl, sym, subst, _∙_}
+use mathlib.Core.Path.{refl, sym, subst, _∙_}
 use mathlib.Core.List.{List}
 use Prim.Native.Nat.{ℕ}
 use borrow.Author.Tests.{not-true}

@@ -1,4 +1,3 @@
--- Written from Proof.tmpl by 'prove expand': edit that file.
 -- The checks of a holder, and then DENIED.
 use mathlib.Core.Bool.{true, not, cond}
 use mathlib.Core.Path.{_≡_, refl}

@@ -1,4 +1,3 @@
--- Written from Proof.tmpl by 'prove expand': edit that file.
 -- The instance's entries are those that go.
 use borrow.Author.Needs.{needs}
 use Rattle.order_links.proofs.ActLaws.{whole}

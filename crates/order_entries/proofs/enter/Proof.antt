@@ -1,4 +1,3 @@
--- Written from Proof.tmpl by 'prove expand': edit that file.
 -- There is room, and the instance is open.
 use mathlib.Core.Bool.{true}
 use borrow.Author.Needs.{needs}

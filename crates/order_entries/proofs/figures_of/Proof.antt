@@ -1,4 +1,3 @@
--- Written from Proof.tmpl by 'prove expand': edit that file.
 -- The kept figures are those of a walk through all entries.
 use mathlib.Core.Path.{ap, _∙_}
 use borrow.Author.Needs.{needs}
@@ -12,6 +11,9 @@ use Rattle.order_entries.proofs.figures_of.Tie as tie
 chain-requires : tie.Need-chain-requires
 chain-requires c κs = search needs
 
+count-of-requires : tie.Need-count-of-requires
+count-of-requires c κs = search needs
+
 done-requires : tie.Need-done-requires
 done-requires c κs = search needs
 
@@ -20,10 +22,10 @@ set-of-requires c κs = search needs
 
 returns : tie.Need-returns
 returns c =
-    let args = c .before .before .before .before .args in
-    let pre = c .before .before .before .before .pre in
+    let args = c .before .before .before .before .before .args in
+    let pre = c .before .before .before .before .before .pre in
     λ s.
-    (λ y. record { entries = ap countOf (c .before .before .chain .ensures) y; done = setOf ((c .set-of .ensures ∙ c .before .done .ensures) y) })
+    (λ y. record { entries = (c .before .before .count-of .ensures ∙ ap countOf (c .before .before .before .chain .ensures)) y; done = setOf ((c .set-of .ensures ∙ c .before .done .ensures) y) })
     ∙ kept-figures (args .o .now) (whole (args .o .now) s) (args .i) (pre .1)
 
 pub figures-of-spec : {M : Type 1} → statement M
@@ -31,6 +33,7 @@ figures-of-spec =
     tie.close
     (tie.spec
     chain-requires
+    count-of-requires
     done-requires
     set-of-requires
     returns)

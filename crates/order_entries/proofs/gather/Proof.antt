@@ -1,4 +1,3 @@
--- Written from Proof.tmpl by 'prove expand': edit that file.
 -- What is left of the walk gathers the same, where the links are sound; it ends in any case.
 use Prim.Native.Nat.{ℕ, _≤_, _+_, _-_}
 use mathlib.Core.Bool.{true}
@@ -28,17 +27,24 @@ chain-requires c κs = (c .before .pre .0, omega arith)
 done-requires : tie.Need-done-requires Inv-loop μ-loop
 done-requires c κs = search needs
 
+head-of-requires : tie.Need-head-of-requires Inv-loop μ-loop
+head-of-requires c κs = search needs
+
+count-of-requires : tie.Need-count-of-requires Inv-loop μ-loop
+count-of-requires c κs = search needs
+
 set-of-requires : tie.Need-set-of-requires Inv-loop μ-loop
 set-of-requires c κs = search needs
 
 loop-holds : tie.Need-loop-holds Inv-loop μ-loop
 loop-holds c =
-    let args = c .before .before .before .before .args in
-    let chain = c .before .before .chain in
-    let l = c .before .before .before .before .args .o .now in
-    let i = c .before .before .before .before .args .i in (
+    let args = c .before .before .before .before .before .before .args in
+    let chain = c .before .before .before .before .chain in
+    let l = c .before .before .before .before .before .before .args .o .now in
+    let i = c .before .before .before .before .before .before .args .i in
+    let n = c .before .count-of .ensures in (
       omega arith,
-      λ s. (
+      λ s. rw (c .before .before .head-of .ensures, n) (
         subst (λ (x : ℕ). Linked l (Fine l i (markOf l)) (headOf x) (countOf x)) (sym (chain .ensures)) (whole l s .woven .chain i (omega arith)),
         ap (λ (x : ℕ). walkOver (takeIn (args .u) (args .t)) l (headOf x) (countOf x)
             (record { mine = setOf 0; done = c .set-of .result; others = setOf 0; times = 0; held = 0 })) (chain .ensures),
@@ -46,10 +52,13 @@ loop-holds c =
     )
 
 linked-requires : tie.Need-linked-requires Inv-loop μ-loop
-linked-requires c κs = c .before .before .before .before .before .before .pre .0
+linked-requires c κs = c .before .before .before .before .before .before .before .before .pre .0
 
 take-in-requires : tie.Need-take-in-requires Inv-loop μ-loop
 take-in-requires c κs = let e = c .before .before .loop .inv .0 in omega arith
+
+link-of-requires : tie.Need-link-of-requires Inv-loop μ-loop
+link-of-requires c κs = search needs
 
 sub-n : tie.Need-sub-n Inv-loop μ-loop
 sub-n c = omega arith
@@ -59,30 +68,30 @@ loop-less c = omega arith
 
 loop-again : tie.Need-loop-again Inv-loop μ-loop
 loop-again c =
-    let args = c .before .before .before .before .before .before .before .before .args in
-    let loop-test = c .before .before .loop-test in
-    let l = c .before .before .before .before .before .before .before .before .args .o .now in
-    let v = c .before .before .before .loop in
+    let args = c .before .before .before .before .before .before .before .before .before .before .before .args in
+    let loop-test = c .before .before .before .loop-test in
+    let l = c .before .before .before .before .before .before .before .before .before .before .before .args .o .now in
+    let v = c .before .before .before .before .loop in
     let fine = Fine l (args .i) (markOf l) in
-    let m = times-more (args .u) (args .t) (c .before .linked .result) (v .g) in
-    let e : c .take-in .result .times ≤ v .g .times + 1 = rw (c .take-in .ensures) m in
+    let m = times-more (args .u) (args .t) (c .before .before .linked .result) (v .g) in
+    let e : c .before .take-in .result .times ≤ v .g .times + 1 = rw (c .before .take-in .ensures) m in
     let b = v .inv .0 in (
       omega arith,
       λ s.
           let i = v .inv .1 s in
           let f = linked-here l fine (v .h) (v .n) (loop-test .taken) (i .0) in
           let k = whole l s .woven .mark in
-          let q = c .before .linked .ensures (f .0) (omega arith) in (
-            rw q (linked-on l fine (v .h) (v .n) (loop-test .taken) (i .0)),
-            rw (c .take-in .ensures, q) (sym (walk-turn (takeIn (args .u) (args .t)) l (v .h) (v .n) (v .n - 1) (v .g) (omega arith)) ∙ i .1),
+          let q = c .before .before .linked .ensures (f .0) (omega arith) in (
+            rw (c .link-of .ensures, q) (linked-on l fine (v .h) (v .n) (loop-test .taken) (i .0)),
+            rw (c .link-of .ensures, c .before .take-in .ensures, q) (sym (walk-turn (takeIn (args .u) (args .t)) l (v .h) (v .n) (v .n - 1) (v .g) (omega arith)) ∙ i .1),
           ),
     )
 
 returns : tie.Need-returns Inv-loop μ-loop
 returns c =
-    let args = c .before .before .before .before .before .before .args in
-    let pre = c .before .before .before .before .before .before .pre in
-    let done = c .before .before .before .done in
+    let args = c .before .before .before .before .before .before .before .before .args in
+    let pre = c .before .before .before .before .before .before .before .before .pre in
+    let done = c .before .before .before .before .before .done in
     let set-of = c .before .before .set-of in
     λ s.
     let l = args .o .now in
@@ -98,10 +107,13 @@ gather-spec =
     μ-loop
     chain-requires
     done-requires
+    head-of-requires
+    count-of-requires
     set-of-requires
     loop-holds
     linked-requires
     take-in-requires
+    link-of-requires
     sub-n
     loop-less
     loop-again

@@ -1,4 +1,3 @@
--- Written from Proof.tmpl by 'prove expand': edit that file.
 -- A search along one chain.
 use mathlib.Core.Path.{ap, _∙_}
 use borrow.Author.Needs.{needs}

@@ -1,4 +1,3 @@
--- Written from Proof.tmpl by 'prove expand': edit that file.
 -- A search through all words: an instance that has entries is open.
 use mathlib.Core.Path.{_∙_}
 use borrow.Author.Needs.{needs}

@@ -1,4 +1,3 @@
--- Written from Proof.tmpl by 'prove expand': edit that file.
 -- The instance's entries are the only ones that are released.
 use mathlib.Core.Bool.{true}
 use mathlib.Core.Path.{_∙_}

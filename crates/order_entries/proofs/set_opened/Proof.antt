@@ -1,4 +1,3 @@
--- Written from Proof.tmpl by 'prove expand': edit that file.
 -- A closed instance has no entries.
 use mathlib.Core.Bool.{false}
 use borrow.Author.Needs.{needs}

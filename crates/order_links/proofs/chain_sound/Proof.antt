@@ -15,7 +15,7 @@ abbrev Inv-loop : tie.InvT-loop
 Inv-loop o m i x h₀ n₀ d₀ h n d =
     (n ≤ 4095) ×
     ((leads o i m h n ≡ leads o i m (headOf (chainWord o i)) (countOf (chainWord o i))) ×
-    (walkOver takeDone o h n d ≡ walkOver takeDone o (headOf (chainWord o i)) (countOf (chainWord o i)) 0))
+    (walkOver takeDone o h n (d .bits) ≡ walkOver takeDone o (headOf (chainWord o i)) (countOf (chainWord o i)) 0))
 
 abbrev μ-loop : tie.MeasureT-loop
 μ-loop o m i x h₀ n₀ d₀ h n d = n
@@ -67,7 +67,7 @@ loop-again c =
       (
         leads-turn (args .o .now) (args .i) (args .m) (loop .h) (loop .n) (loop-test .taken) (sym (is-astray .ensures) ∙ c .before .before .if1 .left)
             (loop .inv .1 .0),
-        rw (c .with-if .ensures) (sym (walk-turn takeDone (args .o .now) (loop .h) (loop .n) (loop .n - 1) (loop .d) (omega arith)) ∙ loop .inv .1 .1),
+        rw (c .with-if .ensures) (sym (walk-turn takeDone (args .o .now) (loop .h) (loop .n) (loop .n - 1) (loop .d .bits) (omega arith)) ∙ loop .inv .1 .1),
       ),
     )
 
@@ -80,7 +80,7 @@ returns-2 : tie.Need-returns-2 Inv-loop μ-loop
 returns-2 c =
     let args = c .before .before .before .before .args in
     let loop = c .before .before .loop in
-    rw (c .figures-fit .ensures) (chain-end (args .o .now) (args .i) (args .m) (loop .h) (loop .n) (loop .d) (omega arith) (loop .inv .1 .0) (loop .inv .1 .1))
+    rw (c .figures-fit .ensures) (chain-end (args .o .now) (args .i) (args .m) (loop .h) (loop .n) (loop .d .bits) (omega arith) (loop .inv .1 .0) (loop .inv .1 .1))
 
 pub chain-sound-spec : {M : Type 1} → statement M
 chain-sound-spec =

@@ -1,4 +1,3 @@
--- Written from Proof.tmpl by 'prove expand': edit that file.
 -- Taken from the instance and put on the free ones.
 use borrow.Author.Needs.{needs}
 use Rattle.order_links.proofs.TotalLaws.{any-dropped}

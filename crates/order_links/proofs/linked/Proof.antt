@@ -1,4 +1,3 @@
--- Written from Proof.tmpl by 'prove expand': edit that file.
 -- A number that an entry has is its own.
 use Prim.Native.Nat.{ℕ}
 use mathlib.Core.Path.{ap}

@@ -1,4 +1,3 @@
--- Written from Proof.tmpl by 'prove expand': edit that file.
 -- What fits becomes free, in place; no done task is among it.
 use mathlib.Core.Path.{_∙_}
 use borrow.Author.Needs.{needs}

@@ -1,4 +1,3 @@
--- Written from Proof.tmpl by 'prove expand': edit that file.
 -- What stays is passed, and what does not is taken out, where the links are sound; it ends in any case, and writes nothing where nothing fits.
 use borrow.Author.Needs.{needs}
 use borrow.Author.Tests.{ltb-false}

@@ -1,4 +1,3 @@
--- Written from Proof.tmpl by 'prove expand': edit that file.
 -- What stands behind is turned, and nothing is written anew where nothing fits; it ends in any case.
 use native.Mathlib.Omega.{arith}
 use borrow.Author.Needs.{needs}

@@ -1,4 +1,3 @@
--- Written from Proof.tmpl by 'prove expand': edit that file.
 -- The lower part's checks, and then the entries.
 use mathlib.Core.Bool.{cond}
 use mathlib.Core.Path.{_≡_, refl}

@@ -1,4 +1,3 @@
--- Written from Proof.tmpl by 'prove expand': edit that file.
 -- Judged, and then the subject destroyed.
 use mathlib.Core.Path.{ap}
 use borrow.Author.Needs.{needs}

@@ -1,4 +1,3 @@
--- Written from Proof.tmpl by 'prove expand': edit that file.
 -- Judged, and then the instance stands open.
 use borrow.Author.Needs.{needs}
 use Rattle.paper_upper.specs.Requests.{openNext}

@@ -1,9 +1,8 @@
 -- Each way out is the links up to it.
 use mathlib.Core.Path.{refl}
 use borrow.Author.Needs.{needs}
-use Rattle.paper_upper.specs.Rules.{spent, rulePlace}
+use Rattle.paper_upper.specs.Rules.{spent, gatheredChecks, rulePlace}
 use Rattle.replies.specs.declared.Reply.the-variants.{Granted, Before, Separation, Block, Alone, Bound, Count}
-use Rattle.order_rules.specs.Judging.{gatheredChecks}
 use Rattle.order_rules.proofs.Chain.{by-place, no-place, by-test, not-by-test, by-none}
 use Rattle.order_rules.proofs.judge.Statement.{statement}
 use Rattle.order_rules.proofs.judge.Tie as tie
