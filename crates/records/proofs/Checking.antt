@@ -1,14 +1,14 @@
 -- For callers of `is_check`: what it says of the record, and that SHAPE and RANGE let it pass.
-use mathlib.Core.Path.{_≡_, refl, sym, ap, _∙_}
-use mathlib.Core.Bool.{Bool, true, false, not, cond, _&&_, _||_, false≢true}
-use Prim.Native.Nat.{ℕ, _<_, _≤_}
+use mathlib.Core.Path.{_≡_, refl}
+use mathlib.Core.Bool.{Bool, true, false, _&&_, false≢true}
+use Prim.Native.Nat.{_<_, _≤_}
 use native.Mathlib.Omega.{arith}
 use lib.Dec.{eqb, ltb}
 use lib.ListN.{length}
-use borrow.Author.Tests.{eq-eqb, eqb-true, ltb-true, le-ltb}
+use borrow.Author.Tests.{eqb-true, ltb-true, le-ltb}
 use Rattle.paper_lower.specs.Checks.{first}
 use Rattle.paper_lower.specs.Records.{Bytes, decode}
-use Rattle.paper_lower.specs.Forms.{requestForms, formOf, misshapen, outOfRange, formChecks, formsOpen}
+use Rattle.paper_lower.specs.Forms.{requestForms, formChecks, formsOpen}
 use Rattle.records.specs.Check.{checks, isCheck}
 
 both : (x y : Bool) → x && y ≡ true → (x ≡ true) × (y ≡ true)

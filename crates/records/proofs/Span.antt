@@ -1,6 +1,6 @@
 -- A `match` over numbers against a definition over the same numbers: what an arm's keys and the default know, turned into the
 -- definition's value by one test that antt computes, the `tt` at each use.
-use mathlib.Core.Path.{_≡_, refl, _∙_, subst, sym, ap}
+use mathlib.Core.Path.{_≡_, refl, subst, sym}
 use mathlib.Core.Bool.{Bool, true, false, not}
 use mathlib.Core.List.{List, [], _∷_}
 use mathlib.Core.Logic.{_⊎_, inl, inr, ⊎-elim}
@@ -58,10 +58,6 @@ at f (suc n) t k h =
     (λ (l : k < n). at f n (both-right (f n) (allTo f n) t) k l)
     (eq-or-lt-of-le (le-of-suc-le-suc h))
 
-abbrev pub every : (ℕ → Bool) → List ℕ → Bool
-every f [] = true
-every f (x ∷ xs) = both (f x) (every f xs)
-
 -- k is a key of the arm, or of one of the arms
 abbrev pub hit : List ℕ → ℕ → Bool
 hit [] k = false
@@ -116,16 +112,6 @@ no-other test key arms hi t k h u r =
 
 -- ---- Values, of any type with a test of equality.
 module _ {A : Type 0} (same : A → A → Bool) (sound : (x y : A) → T (same x y) → x ≡ y) (f : ℕ → A) (v : A) where
-  -- f is v at each of an arm's keys
-  pub keys : (ks : List ℕ) → T (every (λ k. same v (f k)) ks) → (k : ℕ) → OneOf ks k → v ≡ f k
-  keys [] t k o = absurd o
-  keys (x ∷ []) t k e = sound v (f x) (both-left (same v (f x)) true t) ∙ ap f (sym e)
-  keys (x ∷ (y ∷ ks)) t k o =
-      ⊎-elim
-      (λ (e : k ≡ x). sound v (f x) (both-left (same v (f x)) (every (λ k. same v (f k)) (y ∷ ks)) t) ∙ ap f (sym e))
-      (λ (o : OneOf (y ∷ ks) k). keys (y ∷ ks) (both-right (same v (f x)) (every (λ k. same v (f k)) (y ∷ ks)) t) k o)
-      o
-
   -- f is v from lo up to, not including, hi, but for the keys of the arms: the default, or an arm that the code tests as a range
   pub rest : (arms : List (List ℕ)) (lo hi : ℕ) → T (allTo (λ k. imp (leb lo k) (imp (not (hits arms k)) (same v (f k)))) hi)
       → (k : ℕ) → Rest arms k → lo ≤ k → k < hi → v ≡ f k

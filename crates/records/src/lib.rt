@@ -22,6 +22,17 @@ pub struct Record {
     pub m: u64,
 }
 
+// Where the fields stand in a record's first word, above its kind; and the upper half of a word of eight bytes.
+const N: u64 = 256;
+
+const A: u64 = 65536;
+
+const B: u64 = 4294967296;
+
+const C: u64 = 281474976710656;
+
+const HIGH: u64 = 4294967296;
+
 // Which call a record is given to: the load, the lower part's request, or the whole engine's.
 pub enum Call {
     Load,
@@ -53,7 +64,7 @@ fn word(s: &[u8], at: usize) -> u64
 {
     let low = quad(s, at);
     let high = quad(s, at + 4);
-    low + 4294967296 * high
+    low + HIGH * high
 }
 
 // By two words of eight bytes, which the compiler reads at once.
@@ -65,10 +76,10 @@ pub fn decode(s: &[u8]) -> Record
     let m = word(s, 8);
     Record {
         kind: first % 256,
-        n: first / 256 % 256,
-        a: first / 65536 % 65536,
-        b: first / 4294967296 % 65536,
-        c: first / 281474976710656,
+        n: first / N % 256,
+        a: first / A % 65536,
+        b: first / B % 65536,
+        c: first / C,
         m,
     }
 }

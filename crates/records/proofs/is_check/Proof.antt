@@ -1,8 +1,8 @@
 -- Written from Proof.tmpl by 'prove expand': edit that file.
 -- Bytes of another length are none; sixteen are one by the fields that were decoded.
-use mathlib.Core.Path.{sym, ap, _∙_}
+use mathlib.Core.Path.{ap}
 use borrow.Author.Needs.{needs}
-use borrow.Author.Tests.{eq-eqb, ne-eqb}
+use borrow.Author.Tests.{ne-eqb}
 use Rattle.records.specs.Check.{checks, isCheck}
 use Rattle.records.proofs.is_check.Statement.{statement}
 use Rattle.records.proofs.is_check.Tie as tie
