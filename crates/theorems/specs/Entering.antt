@@ -36,7 +36,7 @@ left e [] = e ∷ []
 left e (r ∷ rs) = cond (removes r e) [] (left (alters r e) rs)
 
 -- ---- What became of the claims of instance i among these granted records, one after the other. "A granted claim enters (instance, user, task, held), the user being the subject's":
--- which user that is was told before.
+-- which user that is was known before.
 unfoldable pub entered : ℕ → Told → List Record → List Entry
 entered i x [] = []
 entered i x (r ∷ rs) =
@@ -46,7 +46,7 @@ entered i x (r ∷ rs) =
 abbrev pub enteredAfter : ℕ → Bytes → List Said → List Entry
 enteredAfter i policy said = entered i (hearAll nothing (recordsOf policy)) (grantedIn said)
 
--- ---- What is told has the newest entry first.
+-- ---- What is known from outside has the newest entry first.
 unfoldable pub oldestFirst : List Entry → List Entry
 oldestFirst [] = []
 oldestFirst (e ∷ es) = add (oldestFirst es) e

@@ -56,7 +56,7 @@ pub record GivenExactly (ks : List Refusal) (reply : ℕ) : Type 0 where
 abbrev pub In : Set → ℕ → Type 0
 In m q = has m q ≡ true
 
--- so many of a list have the property
+-- that many of a list have the property
 pub data Of {A : Type 0} (P : A → Type 0) : List A → ℕ → Type 0 where
   none : Of P [] 0
   one : {x : A} {xs : List A} {n : ℕ} → P x → Of P xs n → Of P (x ∷ xs) (suc n)

@@ -26,7 +26,7 @@ pub entered-then : enteredAfter 0 (joined (listing .policy)) (take 9 (listing .r
 unfolding lowerOpen ordersOpen wordsOpen listing recordsFrom recordsOf nothing telling hear hearAll ofInstance inHand theirs nowDone grantedIn removes alters left entered
 entered-then = refl
 
--- what is released is claimed anew behind the others; a refused claim and one of another order are not among them
+-- what is released and claimed again comes after the others; a refused claim and one of another order are not among them
 pub entered-anew : enteredAfter 0 []
     ((create 5 300 1 ⇒ 0) ∷ (openOrder 0 0 ⇒ 0) ∷ (openOrder 1 0 ⇒ 0) ∷ (claim 5 0 2 ⇒ 0) ∷ (claim 5 0 0 ⇒ 0) ∷ (claim 5 1 3 ⇒ 0) ∷ (release 5 0 2 ⇒ 0)
     ∷ (claim 5 0 1 ⇒ 15) ∷ (finish 5 0 0 ⇒ 0) ∷ (claim 5 0 2 ⇒ 0) ∷ [])
@@ -43,7 +43,7 @@ pub in-use-last : inUse (listing .requests) ≡ 0
 unfolding lowerOpen listing followed noTally counting count inUse
 in-use-last = refl
 
--- both subjects' commits are user 300's, a refused one is none, and who is added again begins anew
+-- both subjects' commits are user 300's, a refused one is none, and a user who is added again starts without any
 pub one-clerk : committed (run lowerRequest (lowerOf (load (joined books) .tables)) (create 5 300 1 ∷ create 6 300 1 ∷ commit 5 1 7 ∷ commit 6 1 8 ∷ commit 6 1 20 ∷ [])) .objects 300 ≡ 20 ∷ 7 ∷ []
 unfolding lowerOpen wordsOpen books followed noCommits committing walls.commit
 one-clerk = refl

@@ -23,7 +23,7 @@ desk =
     (engineOf (load (joined (user 300 ∷ user 301 ∷ role 0 ∷ userHas 300 0 ∷ userHas 301 0 ∷ task 0 0 ∷ openTo 0 0 ∷ [])) .tables))
     (create 5 300 1 ∷ create 6 301 1 ∷ openOrder 0 0 ∷ openOrder 1 0 ∷ openOrder 2 0 ∷ [])
 
--- and so many entries are in use, all of order 2: one task, claimed and done again and again
+-- and that many entries are in use, all of order 2: one task, claimed and done again and again
 unfoldable pub used : ℕ → Engine
 used n = withEntries desk (replicate n (entry 2 300 0 done))
 

@@ -26,7 +26,7 @@ AFileThatLoadsComesOut =
 abbrev pub reported : ℕ → List Dropped → Bool
 reported place ds = some (λ d. eqb (d .place) place) ds
 
--- the records of a file but for the places reported, the first of so many standing at a place
+-- the records of a file but for the places reported, the first of that many standing at a place
 unfoldable pub unreported : ℕ → ℕ → Bytes → List Dropped → Bytes
 unreported zero place s ds = []
 unreported (suc n) place s ds =

@@ -1,4 +1,4 @@
--- The reading from outside: people, subjects, open orders and their entries, told by records and their replies alone. No table is looked at.
+-- The reading from outside: people, subjects, open orders and their entries, known from records and their replies alone. No table is looked at.
 use Prim.Native.Nat.{ℕ}
 use mathlib.Core.Bool.{Bool, true, false, not, cond, _&&_}
 use mathlib.Core.List.{List, [], _∷_}
@@ -36,7 +36,7 @@ nothing =
       orders = record { opened = λ _. none; entries = [] };
     }
 
--- ---- One of them anew.
+-- ---- One of them changed.
 abbrev pub toldPeople : Told → (ℕ → Bool) → (ℕ → Set) → Told
 toldPeople x users assigned =
     record { users = users; assigned = assigned; holders = x .holders; walls = x .walls; sessions = x .sessions; orders = x .orders }
@@ -91,7 +91,7 @@ toldOrders x f es =
 abbrev pub toldEntries : Told → List Entry → Told
 toldEntries x es = toldOrders x (x .orders .opened) es
 
--- ---- Which entries a request names. (What the engine looks them up with is another matter: what is told shares nothing with it.)
+-- ---- Which entries a request names. (What the engine looks them up with is another matter: this reading shares nothing with it.)
 
 -- those of instance i
 unfoldable pub ofInstance : ℕ → Entry → Bool
@@ -109,7 +109,7 @@ theirs i t a e = ofInstance i e && eqb (e .task) t && inHand a (e .standing)
 unfoldable pub nowDone : ℕ → ℕ → ℕ → Entry → Entry
 nowDone i t a e = cond (theirs i t a e) (entry (e .instance) (e .user) (e .task) done) e
 
--- ---- What a granted record of each kind tells; of any other kind, nothing.
+-- ---- What follows from a granted record of each kind; from any other kind, nothing.
 abbrev pub tells : ℕ → (Told → Record → Told) → Kind Told
 tells k f = on k (λ x r. []) f
 

@@ -1,4 +1,4 @@
--- The rules over an order's entries, "without any claim", and the limits over roles: read from the policy's records and from what is told.
+-- The rules over an order's entries, "without any claim", and the limits over roles: read from the policy's records and from what is known from outside.
 use Prim.Native.Nat.{ℕ, _≤_, _<_}
 use mathlib.Core.Path.{_≡_}
 use mathlib.Core.Logic.{_⊎_}

@@ -16,7 +16,7 @@ use Rattle.theorems.specs.Outside.{Told, hear}
 use Rattle.theorems.specs.OverEntries.{ofKind, OfUsers, Allows, OneUser, Ready}
 use Rattle.theorems.specs.Theorems.{AfterEvery, tablesAfter, toldAfter, replyAfter}
 
--- one of a list at its place from 1, those before it and those behind it
+-- one of a list at its place from 1, those before it and those after it
 pub record At (rs : List Record) (k : ℕ) : Type 0 where
   pub front : List Record
   pub it : Record
@@ -57,7 +57,7 @@ pub record SearchEndsAt (blocks : List Record) (d : Set) (t k : ℕ) : Type 0 wh
   pub front : Every (λ r. r .a ≤ at .it .a → Strange blocks d t r → ⊥) (at .front)
   pub back : Every (λ r. r .a < at .it .a → Strange blocks d t r → ⊥) (at .back)
 
--- ---- What the reply to the claim r and its place say of the policy's records, x being told before it.
+-- ---- What the reply to the claim r and its place say of the policy's records, x being known before it.
 pub record RuleAt (policy : List Record) (x : Told) (r : Record) (reply place : ℕ) : Type 0 where
   pub befores : reply ≡ BEFORE → FirstAt (Prerequisite (hear x r .orders)) (ofKind 16 policy) place
   pub sets : reply ≡ SEPARATION → FirstAt (TaskSet (hear x r .orders)) (ofKind 11 policy) place

@@ -62,7 +62,7 @@ module _ (earlier : List Record) where
   abbrev SameSet : Record → Record → Type 0
   SameSet r q = (q .n ≡ r .n) × (q .m ≡ r .m)
 
-  -- so many records of the kind stand
+  -- that many records of the kind stand
   abbrev Stand : ℕ → ℕ → Type 0
   Stand count kind = count ≤ length (ofKind kind earlier)
 

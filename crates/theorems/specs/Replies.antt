@@ -26,7 +26,7 @@ rank k = cond (eqb k LOOP) (2 * RULE + 1) (cond (eqb k WALL) (2 * DENIED + 1) (2
 unfoldable pub inTable : ℕ → Bool
 inTable k = leb k FULL || eqb k LOOP || eqb k WALL
 
--- numbers of the table, none before k, and none before the one that it stands behind
+-- numbers of the table, none before k, and none before the one that it comes after
 unfoldable pub rising : ℕ → List Check → Bool
 rising k [] = true
 rising k (x ∷ xs) = leb (rank k) (rank (x .1)) && inTable (x .1) && rising (x .1) xs

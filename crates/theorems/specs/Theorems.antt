@@ -47,7 +47,7 @@ lowerToldAfter policy requests = outside policy (run lowerRequest (lowerOf (load
 abbrev pub AfterEvery : (Bytes → List Bytes → Type 0) → Type 0
 AfterEvery P = (policy : Bytes) → load policy .reply ≡ GRANTED → (requests : List Bytes) → P policy requests
 
--- ---- What is told is what the tables hold.
+-- ---- What is known from outside is what the tables hold.
 abbrev pub shown : Engine → Told
 shown t =
     let p = t .lower .policy in
@@ -63,7 +63,7 @@ shown t =
 abbrev pub ToldIsTrue : Type 0
 ToldIsTrue = AfterEvery (λ policy requests. toldAfter policy requests ≡ shown (tablesAfter policy requests))
 
--- ---- Demand 3: the entries that are told break none of the six rules, and the clerks' roles none of the limits.
+-- ---- Demand 3: the entries known from outside break none of the six rules, and the clerks' roles none of the limits.
 abbrev pub OrdersKeepTheRules : Type 0
 OrdersKeepTheRules = AfterEvery (λ policy requests. Every (λ k. k .Kept (recordsOf policy) (toldAfter policy requests .orders)) claimRules)
 
@@ -95,7 +95,7 @@ FirstRuleBroken =
 
 -- ---- The entries in use.
 pub record Counted (policy : Bytes) (requests : List Bytes) : Type 0 where
-  -- nothing is subtracted from less: the claims are the releases, what ended, and the entries that are told
+  -- nothing is subtracted from less: the claims are the releases, what ended, and the entries known from outside
   pub balance :
       let x = followed count noTally (saidAfter policy requests) in
       x .claims ≡ x .releases + x .ended + many (toldAfter policy requests .orders .entries)

@@ -25,7 +25,7 @@ use Rattle.theorems.specs.Outside.{followed}
 use Rattle.theorems.specs.OverEntries.{ofKind}
 use Rattle.theorems.specs.Theorems.{AfterEvery, tablesAfter, saidAfter, replyAfter, lowerAfter, Reaches}
 
--- ---- Commits, told by the requests and their replies: each subject's user, and the objects of the commits granted to each user since it was last added.
+-- ---- Commits, known from the requests and their replies: each subject's user, and the objects of the commits granted to each user since it was last added.
 pub record Commits : Type 0 where
   pub user : ℕ → ℕ
   pub objects : ℕ → List ℕ

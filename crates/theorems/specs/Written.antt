@@ -1,4 +1,4 @@
--- 02, Ask 8: what is written of a running engine's policy tables loads again, and tells the tables.
+-- 02, Ask 8: what is written of a running engine's policy tables loads again, and determines the tables.
 use Prim.Native.Nat.{ℕ, _≤_, _<_}
 use mathlib.Core.Path.{_≡_}
 use mathlib.Core.Logic.{_⊎_, _↔_}
@@ -63,7 +63,7 @@ pub record InOrder (p : Policy) (rs : List Record) : Type 0 where
 abbrev pub WrittenInOrder : Type 0
 WrittenInOrder = (x : Running) → InOrder (policyOf x) (recordsOf (written (policyOf x)))
 
--- ---- No more than these are ever written: room for so many is always enough.
+-- ---- No more than these are ever written: room for that many is always enough.
 abbrev pub mostWritten : ℕ
 mostWritten = 108528
 
