@@ -32,6 +32,7 @@ _SIGNATURES = {
     "mishantral_write": [_U8, _SIZE, *_BUFFERS],
     "mishantral_mend": [_U8, _SIZE, _U8, _SIZE, ctypes.POINTER(DroppedRecord), _SIZE, *_BUFFERS],
     "mishantral_opl": [_U8, _SIZE, _U8, _SIZE, _U8, _SIZE, _U64, _SIZE],
+    "mishantral_opl_all": [_U8, _SIZE, _U8, _SIZE, _U8, _SIZE, _U64, _SIZE],
 }
 
 

@@ -137,6 +137,14 @@ class Policies(unittest.TestCase):
             records_from_opl(b"<nothing/>")
         self.assertEqual((refused.exception.reply, refused.exception.text), (Reply.TEXT, 1))
 
+    def test_opl_with_all_sections(self) -> None:
+        folder = ROOT / "examples" / "opl_leads"
+        texts = [(folder / name).read_bytes() for name in ("policy.xml", "tasks.txt")]
+        kinds = [record.kind for record in records_from_opl(*texts, all_sections=True)]
+        self.assertEqual([kinds.count(kind) for kind in (9, 10, 17, 18)], [1, 1, 2, 5])
+        with self.assertRaises(TextRefused):
+            records_from_opl(*texts)
+
 
 class Copies(unittest.TestCase):
     def test_a_copy_is_apart(self) -> None:

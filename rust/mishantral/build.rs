@@ -26,7 +26,7 @@ const ARCHIVES: [Archive; 2] = [
         key: "engine",
         made_by: "tools/archive",
         item: "mishantral::Engine",
-        later: &["opl", "pile", "settled_request", "write", "mend"],
+        later: &["opl", "opl_all", "pile", "settled_request", "write", "mend"],
     },
     Archive {
         variable: "MISHANTRAL_LOWER_ARCHIVE",

@@ -5,6 +5,7 @@ fn main() {
     for (told, cfg) in [
         ("DEP_MISHANTRAL_ENGINE", "mishantral_engine"),
         ("DEP_MISHANTRAL_OPL", "mishantral_opl"),
+        ("DEP_MISHANTRAL_OPL_ALL", "mishantral_opl_all"),
         ("DEP_MISHANTRAL_WRITE", "mishantral_write"),
     ] {
         println!("cargo:rustc-check-cfg=cfg({cfg})");

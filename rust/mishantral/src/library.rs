@@ -90,6 +90,8 @@ functions! {
     fn mishantral_mend(bytes: &[u8], output: &mut [u8], report: &mut [Entry], policy: &mut [u64], sessions: &mut [u64], orders: &mut [u64]);
     #[cfg(mishantral_opl)]
     fn mishantral_opl(policy_text: &[u8], task_lines: &[u8], output: &mut [u8], scratch: &mut [u64]);
+    #[cfg(mishantral_opl_all)]
+    fn mishantral_opl_all(policy_text: &[u8], task_lines: &[u8], output: &mut [u8], scratch: &mut [u64]);
     #[cfg(mishantral_lower)]
     fn mishantral_lower_words(; group;);
     #[cfg(mishantral_lower)]

@@ -17,7 +17,7 @@ pub enum Space {
     Permission,
     /// Declared by `operation`, in a permission.
     Operation,
-    /// Declared by `object`, in a permission.
+    /// Declared by `object`, in a permission, and by `partition_object`, in a wall.
     Object,
     /// Declared by a task line, as its first name.
     Task,
@@ -50,18 +50,22 @@ impl Space {
         }
     }
 
-    /// The kind of the record that a declaration yields, and where in the record the number stands.
-    const fn record(self) -> (u8, usize) {
+    /// Where the number of a declaration stands in its record.
+    const fn field(self) -> usize {
         match self {
-            Space::User => (1, 2),
-            Space::Role => (2, 2),
-            Space::Permission => (3, 2),
-            Space::Operation => (3, 4),
-            Space::Object => (3, 6),
-            Space::Task => (6, 2),
-            Space::Template => (6, 4),
+            Space::User | Space::Role | Space::Permission | Space::Task => 2,
+            Space::Operation | Space::Template => 4,
+            Space::Object => 6,
         }
     }
+}
+
+/// A name where it is declared, and the kind of the record that the declaration yields.
+#[derive(Clone, Copy, PartialEq, Eq, Debug)]
+struct Declared<'t> {
+    space: Space,
+    kind: u8,
+    name: &'t [u8],
 }
 
 /// The names of one space.
@@ -73,20 +77,18 @@ struct Named {
 }
 
 impl Named {
-    fn new(numbers: impl Iterator<Item = u16>, names: &[&[u8]]) -> Named {
-        let mut named = Named::default();
-        for (number, &name) in numbers.zip(names) {
-            // Numbers go by first declaration: a number is the next one, or has its name.
-            if usize::from(number) == named.by_number.len() {
-                named.by_number.push(name.into());
-                named.sorted.push(number);
-            }
+    /// Numbers go by first declaration: a number is the next one, or has its name.
+    fn declare(&mut self, number: u16, name: &[u8]) {
+        if usize::from(number) == self.by_number.len() {
+            self.by_number.push(name.into());
+            self.sorted.push(number);
         }
-        let names = &named.by_number;
-        named
-            .sorted
+    }
+
+    fn sort(&mut self) {
+        let names = &self.by_number;
+        self.sorted
             .sort_unstable_by_key(|&number| &names[usize::from(number)]);
-        named
     }
 }
 
@@ -97,24 +99,37 @@ pub(crate) struct Names([Named; 7]);
 impl Names {
     /// The names of texts that the reader accepted, with these records.
     pub fn told(xml: &[u8], tasks: &[u8], records: &[u8]) -> Names {
-        let mut declared: [Vec<&[u8]>; 7] = Default::default();
-        for (space, name) in (Tags { rest: xml }) {
-            declared[space as usize].push(name);
+        let mut declared: [Vec<Declared>; 7] = Default::default();
+        for one in (Tags { rest: xml }) {
+            declared[one.space as usize].push(one);
         }
         let lines = tasks.strip_prefix(b"\xef\xbb\xbf").unwrap_or(tasks);
         for line in lines.split(|&b| b == b'\n').filter(|line| !line.is_empty()) {
             let line = line.strip_suffix(b"\r").unwrap_or(line);
-            let mut names = line.split(|&b| b == b' ');
-            for space in [Space::Task, Space::Template] {
-                declared[space as usize].extend(names.next());
+            let names = line.split(|&b| b == b' ');
+            for (space, name) in [Space::Task, Space::Template].into_iter().zip(names) {
+                let kind = TASK;
+                declared[space as usize].push(Declared { space, kind, name });
             }
         }
-        Names(Space::ALL.map(|space| {
-            let (kind, at) = space.record();
-            let records = records.chunks_exact(LENGTH).filter(|r| r[0] == kind);
-            let numbers = records.map(|r| u16::from_le_bytes([r[at], r[at + 1]]));
-            Named::new(numbers, &declared[space as usize])
-        }))
+        Names(Space::ALL.map(|space| Names::numbered(space, &declared[space as usize], records)))
+    }
+
+    /// The records of each kind stand in the order of their declarations: each declaration takes the next one of its kind.
+    fn numbered(space: Space, declared: &[Declared], records: &[u8]) -> Named {
+        let of_kind = |kind: u8| records.chunks_exact(LENGTH).filter(move |r| r[0] == kind);
+        let mut left = KINDS.map(|kind| (kind, of_kind(kind)));
+        let mut named = Named::default();
+        for one in declared {
+            let its_own = left.iter_mut().find(|(kind, _)| *kind == one.kind);
+            let Some(record) = its_own.and_then(|(_, records)| records.next()) else {
+                continue;
+            };
+            let at = space.field();
+            named.declare(u16::from_le_bytes([record[at], record[at + 1]]), one.name);
+        }
+        named.sort();
+        named
     }
 
     pub fn all(&self, space: Space) -> impl ExactSizeIterator<Item = &[u8]> {
@@ -157,12 +172,22 @@ fn is_white(byte: &u8) -> bool {
     matches!(byte, b' ' | b'\t' | b'\n' | b'\r')
 }
 
-/// The space whose names an element declares.
-fn declares(element: &[u8]) -> Option<Space> {
-    let spaces = Space::ALL[..5].iter();
-    spaces
-        .copied()
-        .find(|space| space.word().as_bytes() == element)
+/// The kinds of the records that declarations yield: of users, roles, permissions, tasks and objects of walls.
+const KINDS: [u8; 5] = [1, 2, 3, TASK, 18];
+/// The kind of a task's record.
+const TASK: u8 = 6;
+
+/// The space whose names an element declares, and the kind of the record that it yields or stands in.
+fn declares(element: &[u8]) -> Option<(Space, u8)> {
+    Some(match element {
+        b"user" => (Space::User, 1),
+        b"role" => (Space::Role, 2),
+        b"permission" => (Space::Permission, 3),
+        b"operation" => (Space::Operation, 3),
+        b"object" => (Space::Object, 3),
+        b"partition_object" => (Space::Object, 18),
+        _ => return None,
+    })
 }
 
 /// The value of an attribute `.._id` from after the element's name on; of those that declare names each has one.
@@ -187,9 +212,9 @@ fn id(tag: &[u8]) -> Option<&[u8]> {
 }
 
 impl<'t> Iterator for Tags<'t> {
-    type Item = (Space, &'t [u8]);
+    type Item = Declared<'t>;
 
-    fn next(&mut self) -> Option<Self::Item> {
+    fn next(&mut self) -> Option<Declared<'t>> {
         loop {
             let (_, tag) = cut(self.rest, |&b| b == b'<');
             let (_, inside) = tag.split_first()?;
@@ -199,8 +224,8 @@ impl<'t> Iterator for Tags<'t> {
             }
             let (name, behind) = cut(inside, |b| is_white(b) || matches!(b, b'>' | b'/'));
             self.rest = behind;
-            if let Some(named) = declares(name).and_then(|space| Some((space, id(behind)?))) {
-                return Some(named);
+            if let (Some((space, kind)), Some(name)) = (declares(name), id(behind)) {
+                return Some(Declared { space, kind, name });
             }
         }
     }
@@ -215,13 +240,31 @@ mod tests {
     fn names_are_those_of_the_elements_that_declare_them() {
         let xml = b"<?xml version='1.0'?><!-- <user user_id='no'/> --><users><user user_id='a>b' /><user\n user_id = \"c'\"/>
             <role role_description='role_id=\"x\"' role_id='r'></role><user_assignment user_id='no' role_id='no'/><!---><user user_id='no'/>--></users>";
-        let told: Vec<_> = Tags { rest: xml }.collect();
+        let tags = Tags { rest: xml };
+        let told: Vec<_> = tags.map(|one| (one.space, one.kind, one.name)).collect();
         let expected = vec![
-            (Space::User, &b"a>b"[..]),
-            (Space::User, b"c'"),
-            (Space::Role, b"r"),
+            (Space::User, 1, &b"a>b"[..]),
+            (Space::User, 1, b"c'"),
+            (Space::Role, 2, b"r"),
         ];
         assert_eq!(told, expected);
+    }
+
+    /// Objects are numbered over walls and permissions as they stand, and the records go by kind.
+    #[test]
+    fn objects_are_declared_by_permissions_and_by_walls() {
+        let xml = b"<partition_object object_id='a'/><object object_id='b'/><partition_object object_id='b'/>
+            <object object_id='a'/><partition_object object_id='c'/>";
+        let record = |kind: u8, c: u8| {
+            let mut bytes = [0; LENGTH];
+            (bytes[0], bytes[6]) = (kind, c);
+            bytes
+        };
+        let records = [(3, 1), (3, 0), (18, 0), (18, 1), (18, 2)];
+        let records = records.map(|(kind, c)| record(kind, c)).concat();
+        let names = Names::told(xml, b"", &records);
+        let objects: Vec<&[u8]> = names.all(Space::Object).collect();
+        assert_eq!(objects, [b"a", b"b", b"c"]);
     }
 
     #[test]

@@ -3,7 +3,7 @@
 //! It is there where the archive has the reader's function.
 
 use crate::lent::{reply_of, zeroed};
-use crate::library::{mishantral_opl, mishantral_words};
+use crate::library;
 use crate::names::{Names, Space};
 use crate::{Record, Reply, LENGTH};
 use alloc::{vec, vec::Vec};
@@ -33,9 +33,21 @@ pub enum Text {
     Tasks = 2,
 }
 
+/// Which sections of OPL 1.2 are read. A text that is accepted with [`Sections::Asked`] is read alike with all sections.
+#[derive(Clone, Copy, PartialEq, Eq, Default, Debug)]
+pub enum Sections {
+    /// 5.2, 6.1, 6.3, 6.8, 6.9 and 6.11 to 6.13; a module of another section is refused.
+    #[default]
+    Asked,
+    /// All that the engine can hold: also role hierarchies (6.2), separation of duty in them (6.4) and Chinese walls (6.6). It is there
+    /// where the archive has the function for it.
+    #[cfg(mishantral_opl_all)]
+    All,
+}
+
 /// How many words the scratch of [`translate`] has.
 pub fn scratch_words() -> usize {
-    usize::try_from(mishantral_words(SCRATCH)).expect("a buffer's length fits a usize")
+    usize::try_from(library::mishantral_words(SCRATCH)).expect("a buffer's length fits a usize")
 }
 
 /// The library's call as it is: reads both texts, and writes records to the front of the output. A refusal writes nothing there. The
@@ -43,7 +55,22 @@ pub fn scratch_words() -> usize {
 ///
 /// [`Policy::from_opl`] is the same call with an output and a scratch of its own.
 pub fn translate(xml: &[u8], tasks: &[u8], output: &mut [u8], scratch: &mut [u64]) -> Answer {
-    let number = mishantral_opl(xml, tasks, output, scratch);
+    translate_sections(xml, tasks, output, scratch, Sections::Asked)
+}
+
+/// The same with a choice of sections: each choice is a call of the library.
+pub fn translate_sections(
+    xml: &[u8],
+    tasks: &[u8],
+    output: &mut [u8],
+    scratch: &mut [u64],
+    sections: Sections,
+) -> Answer {
+    let number = match sections {
+        Sections::Asked => library::mishantral_opl(xml, tasks, output, scratch),
+        #[cfg(mishantral_opl_all)]
+        Sections::All => library::mishantral_opl_all(xml, tasks, output, scratch),
+    };
     Answer {
         reply: reply_of(number),
         text: match number / 256 % 4 {
@@ -152,11 +179,20 @@ impl Policy {
     ///
     /// Whether the policy loads is the load's affair: [`Policy::bytes`] is what `Engine::load` takes.
     pub fn from_opl(xml: &[u8], tasks: &[u8]) -> Result<Policy, NotRead> {
+        Policy::from_opl_sections(xml, tasks, Sections::Asked)
+    }
+
+    /// The same with a choice of sections.
+    pub fn from_opl_sections(
+        xml: &[u8],
+        tasks: &[u8],
+        sections: Sections,
+    ) -> Result<Policy, NotRead> {
         // An element with a record has more than sixteen bytes, and a line one record.
         let lines = 1 + tasks.iter().filter(|&&b| b == b'\n').count();
         let mut output = vec![0; xml.len() + LENGTH * lines];
         let mut scratch = zeroed(scratch_words() as u64);
-        let answer = translate(xml, tasks, &mut output, &mut scratch);
+        let answer = translate_sections(xml, tasks, &mut output, &mut scratch, sections);
         let figure = usize::try_from(answer.figure).expect("a figure is below the texts' length");
         if !answer.reply.is_granted() {
             let place = answer.text.map(|text| match text {

@@ -51,6 +51,66 @@ fn a_refusal_has_its_byte_its_line_and_its_column() {
     assert_eq!(refused.to_string(), "22 NAMES");
 }
 
+/// Team leads and price books of examples/opl_leads: senior roles and walls, which the first call refuses at their module.
+#[cfg(mishantral_opl_all)]
+mod all_sections {
+    use super::*;
+    use mishantral::opl::Sections;
+
+    const LEADS: &[u8] = include_bytes!("../../../examples/opl_leads/policy.xml");
+    const TASKS: &[u8] = include_bytes!("../../../examples/opl_leads/tasks.txt");
+
+    #[test]
+    fn senior_roles_and_walls_are_read_and_hold() {
+        let policy = Policy::from_opl_sections(LEADS, TASKS, Sections::All).unwrap();
+        let of_kind = |kind: u8| policy.records().filter(|r| r.kind() == kind).count();
+        assert_eq!((of_kind(9), of_kind(10)), (1, 1));
+        assert_eq!((of_kind(17), of_kind(18)), (2, 5));
+        // Objects are numbered as they stand, those of permissions first here.
+        let objects: Vec<&[u8]> = policy.names(Space::Object).collect();
+        let expected = [
+            "PriceBookNorth",
+            "PriceBookSouth",
+            "PublicList",
+            "TermsEast",
+            "MailsNorth",
+        ];
+        assert_eq!(objects, expected.map(str::as_bytes));
+
+        let number = |space, name: &str| policy.number(space, name.as_bytes()).unwrap();
+        let mut engine = Engine::new();
+        engine.load(policy.bytes()).unwrap();
+        let (lena, lead) = (
+            number(Space::User, "user:lena"),
+            number(Space::Role, "role:team_lead"),
+        );
+        let create = Record::create_subject(1, lena, Set::of(&[lead as u8]));
+        assert_eq!(engine.request(&create), Reply::Granted);
+        let open = number(Space::Operation, "open()");
+        let south = number(Space::Object, "PriceBookSouth");
+        let north = number(Space::Object, "PriceBookNorth");
+        assert_eq!(
+            engine.request(&Record::commit(1, open, south)),
+            Reply::Granted
+        );
+        assert_eq!(engine.request(&Record::check(1, open, north)), Reply::Wall);
+    }
+
+    #[test]
+    fn the_first_call_refuses_the_module() {
+        let refused = Policy::from_opl(LEADS, TASKS).unwrap_err();
+        let module = b"<module_role_hierarchy_policy>";
+        let place = LEADS.windows(module.len()).position(|w| w == module);
+        assert_eq!(refused.place.map(|p| p.byte - 1), place);
+    }
+
+    #[test]
+    fn what_the_first_call_accepts_is_read_alike() {
+        let loan = |sections| Policy::from_opl_sections(LOAN, super::TASKS, sections).unwrap();
+        assert_eq!(loan(Sections::All), loan(Sections::Asked));
+    }
+}
+
 /// What is answered, the output having held threes before.
 fn told(xml: &[u8], tasks: &[u8], room: usize, scratch: usize) -> (Answer, Vec<u8>) {
     let mut output = vec![3; room];

@@ -2,7 +2,7 @@
 //! wrong with a text is reported in the plain one's words.
 
 use crate::names::{Names, Sort};
-pub use opl::{Remedy, Unsaid, Way, Written};
+pub use opl::{Remedy, Sections, Unsaid, Way, Written};
 
 /// Records, and the dealer's names.
 #[derive(Clone, Debug)]
@@ -52,16 +52,17 @@ fn plain(refusal: &opl::Refusal, xml: &[u8], tasks: &[u8]) -> Fault {
     Fault { of_tasks, message }
 }
 
-/// Which reader reads: `proved`, or `plain` where the library with the proved one was not there at the build.
-pub const READER: &str = if cfg!(mishantral_opl) {
-    "proved"
-} else {
-    "plain"
-};
+/// Whether the proved reader reads these sections; the plain one does where the library was not there at the build.
+pub const fn is_proved(sections: Sections) -> bool {
+    match sections {
+        Sections::Asked => cfg!(mishantral_opl),
+        Sections::All => cfg!(mishantral_opl_all),
+    }
+}
 
 /// What both texts say, and where.
-pub fn read(xml: &[u8], tasks: &[u8]) -> Result<Dealt, Fault> {
-    let (records, names) = said(xml, tasks)?;
+pub fn read(xml: &[u8], tasks: &[u8], sections: Sections) -> Result<Dealt, Fault> {
+    let (records, names) = said(xml, tasks, sections)?;
     let spots = spots(xml, tasks, &records);
     let warnings = warnings(xml);
     Ok(Dealt {
@@ -72,9 +73,11 @@ pub fn read(xml: &[u8], tasks: &[u8]) -> Result<Dealt, Fault> {
     })
 }
 
-#[cfg(not(mishantral_opl))]
-fn said(xml: &[u8], tasks: &[u8]) -> Result<(Vec<u8>, Names), Fault> {
-    let policy = opl::read(xml, tasks).map_err(|why| plain(&why, xml, tasks))?;
+/// The records and the names, by the plain reader.
+#[cfg(not(mishantral_opl_all))]
+fn plainly_said(xml: &[u8], tasks: &[u8], of: Sections) -> Result<(Vec<u8>, Names), Fault> {
+    let read = opl::read_sections(xml, tasks, of);
+    let policy = read.map_err(|why| plain(&why, xml, tasks))?;
     let mut names = Names::default();
     for space in opl::Space::ALL {
         let all = policy.names(space).iter().copied();
@@ -83,9 +86,22 @@ fn said(xml: &[u8], tasks: &[u8]) -> Result<(Vec<u8>, Names), Fault> {
     Ok((policy.records(), names))
 }
 
+#[cfg(not(mishantral_opl))]
+fn said(xml: &[u8], tasks: &[u8], sections: Sections) -> Result<(Vec<u8>, Names), Fault> {
+    plainly_said(xml, tasks, sections)
+}
+
 #[cfg(mishantral_opl)]
-fn said(xml: &[u8], tasks: &[u8]) -> Result<(Vec<u8>, Names), Fault> {
-    let policy = mishantral::Policy::from_opl(xml, tasks).map_err(|why| proved(why, xml, tasks))?;
+fn said(xml: &[u8], tasks: &[u8], sections: Sections) -> Result<(Vec<u8>, Names), Fault> {
+    let same = match sections {
+        Sections::Asked => mishantral::opl::Sections::Asked,
+        #[cfg(mishantral_opl_all)]
+        Sections::All => mishantral::opl::Sections::All,
+        #[cfg(not(mishantral_opl_all))]
+        Sections::All => return plainly_said(xml, tasks, sections),
+    };
+    let policy = mishantral::Policy::from_opl_sections(xml, tasks, same)
+        .map_err(|why| proved(why, xml, tasks, sections))?;
     let mut names = Names::default();
     for space in mishantral::Space::ALL {
         named(&mut names, space.word(), policy.names(space));
@@ -172,13 +188,13 @@ fn warnings(xml: &[u8]) -> Vec<(Spot, String)> {
 
 /// The proved reader's refusal, in the plain one's words where that refuses at the same place.
 #[cfg(mishantral_opl)]
-fn proved(why: mishantral::opl::NotRead, xml: &[u8], tasks: &[u8]) -> Fault {
+fn proved(why: mishantral::opl::NotRead, xml: &[u8], tasks: &[u8], sections: Sections) -> Fault {
     let of_tasks = why
         .place
         .is_some_and(|place| place.text == mishantral::opl::Text::Tasks);
     let (text, figure) = why.place.map_or((0, 0), |p| (p.text as u8, p.byte as u64));
     let reply = why.reply.number();
-    match opl::read(xml, tasks) {
+    match opl::read_sections(xml, tasks, sections) {
         Err(other)
             if other.answer()
                 == (opl::Answer {
@@ -203,7 +219,11 @@ pub fn write(records: &[u8], names: &Names, way: Way) -> Result<Written, Vec<Uns
         names.name(sort, number).map(<[u8]>::to_vec)
     };
     let written = opl::write(records, &name, way)?;
-    match said(&written.policy, &written.tasks) {
+    let sections = match way.all_sections {
+        true => Sections::All,
+        false => Sections::Asked,
+    };
+    match said(&written.policy, &written.tasks, sections) {
         Ok((back, _)) if back == written.records => Ok(written),
         _ => Err(vec![Unsaid {
             record: None,

@@ -1,7 +1,7 @@
 //! Policies and requests as files: records, text in the notation, or a dealer's OPL/XML with its task lines. What is wrong with a file
 //! is reported in lines that begin with its name.
 
-use crate::dealer::{self, Spot};
+use crate::dealer::{self, Sections, Spot};
 use crate::is_text;
 use crate::names::{Names, Sort};
 use crate::reader::{self, Error, Line};
@@ -225,14 +225,26 @@ pub fn told(file: &str, errors: &[Error]) -> Wrongs {
     errors.iter().map(line).collect()
 }
 
+/// How a policy file is to be read.
+#[derive(Clone, Copy, Default, Debug)]
+pub struct Reading<'a> {
+    /// Of OPL/XML: the file of its task lines.
+    pub tasks: Option<&'a str>,
+    /// What the file is; its content says where this does not.
+    pub format: Option<Format>,
+    /// Of OPL/XML: which sections are read.
+    pub sections: Sections,
+}
+
 /// A policy file, with its task lines where it is OPL/XML.
-pub fn policy(file: &str, tasks: Option<&str>, format: Option<Format>) -> Result<Policy, Wrongs> {
-    if file == "-" && tasks == Some("-") {
+pub fn policy(file: &str, how: &Reading) -> Result<Policy, Wrongs> {
+    if file == "-" && how.tasks == Some("-") {
         return Err(vec!["standard input is one text alone".to_string()]);
     }
     let bytes = bytes_of(file)?;
+    let format = how.format;
     let format = format.unwrap_or_else(|| Format::of_content(file, &bytes));
-    if tasks.is_some() && format != Format::Opl {
+    if how.tasks.is_some() && format != Format::Opl {
         let file = shown(file);
         return Err(vec![format!(
             "{file}: task lines go with OPL/XML, and this is no OPL/XML"
@@ -241,17 +253,17 @@ pub fn policy(file: &str, tasks: Option<&str>, format: Option<Format>) -> Result
     match format {
         Format::Records => Ok(record_policy(file, bytes)),
         Format::Text => text_policy(file, &bytes),
-        Format::Opl => opl_policy(file, &bytes, tasks),
+        Format::Opl => opl_policy(file, &bytes, how),
     }
 }
 
 /// A file that may be a policy or requests: names may be given again.
-pub fn either(file: &str, tasks: Option<&str>) -> Result<Policy, Wrongs> {
+pub fn either(file: &str, how: &Reading) -> Result<Policy, Wrongs> {
     let bytes = bytes_of(file)?;
     match Format::of_content(file, &bytes) {
         Format::Records => Ok(record_policy(file, bytes)),
         Format::Text => text_of(file, &bytes, false),
-        Format::Opl => opl_policy(file, &bytes, tasks),
+        Format::Opl => opl_policy(file, &bytes, how),
     }
 }
 
@@ -290,9 +302,10 @@ fn text_of(file: &str, text: &[u8], once: bool) -> Result<Policy, Wrongs> {
     })
 }
 
-fn opl_policy(file: &str, xml: &[u8], tasks: Option<&str>) -> Result<Policy, Wrongs> {
+fn opl_policy(file: &str, xml: &[u8], how: &Reading) -> Result<Policy, Wrongs> {
+    let tasks = how.tasks;
     let lines = tasks.map_or(Ok(Vec::new()), bytes_of)?;
-    let read = dealer::read(xml, &lines).map_err(|fault| {
+    let read = dealer::read(xml, &lines, how.sections).map_err(|fault| {
         let of = match fault.of_tasks {
             false => shown(file),
             true => tasks.map_or("no task lines", shown),
@@ -348,7 +361,7 @@ mod tests {
         let xml = b"<policy_object><policy_object_attributes/><active_modules/><policy_object_modules>\n<module_rbac_core_policy>\n\
             <users>\n<user user_id='anna'/>\n<user user_id='bert'/></users><roles/><permissions/><user_assignments/>\n\
             <permission_assignments/></module_rbac_core_policy></policy_object_modules></policy_object>";
-        let dealt = opl_policy("policy.xml", xml, None).unwrap();
+        let dealt = opl_policy("policy.xml", xml, &Reading::default()).unwrap();
         assert_eq!(dealt.place(1), "policy.xml, line 5, column 1");
         let kept = dealt.keeping(|at| at != 0);
         assert_eq!(

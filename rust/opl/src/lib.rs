@@ -33,7 +33,6 @@ mod xml;
 pub use names::{Space, LONGEST};
 pub use origins::{has_encoding, missing_modules, origins, Missing, Origin};
 pub use policy::{Policy, RECORD};
-pub use reasons::WIDER;
 pub use refusal::{found, line_and_column, Fault, NameFault, NameWhy, Refusal, Text, Why};
 pub use writer::{write, Remedy, Unsaid, Way, Written};
 

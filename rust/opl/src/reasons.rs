@@ -9,11 +9,20 @@ const OTHER_SECTIONS: [(&str, &[&str]); 3] = [
     ("6.10", &["module_wf_sep_duty_cc_policy", "hdsodtpcc"]),
 ];
 
-/// Modules of sections that are read where all sections are asked for.
-pub const WIDER: [&str; 3] = [
-    "module_role_hierarchy_policy",
-    "module_sep_duty_rh_policy",
-    "module_chinese_wall_policy",
+/// Modules that are read where all sections are asked for, and what they are about.
+const WIDER: [(&str, &str); 3] = [
+    (
+        "module_role_hierarchy_policy",
+        "role hierarchies (section 6.2) are",
+    ),
+    (
+        "module_sep_duty_rh_policy",
+        "separation of duty in role hierarchies (section 6.4) is",
+    ),
+    (
+        "module_chinese_wall_policy",
+        "Chinese walls (section 6.6) are",
+    ),
 ];
 
 /// Whether a text begins as UTF-16 does: with its mark, or with half a character.
@@ -40,6 +49,9 @@ pub(crate) fn tag_of(text: &[u8]) -> Option<&str> {
 
 /// Why an element may not stand where it would stand in OPL.
 fn of_element(name: &str) -> Option<String> {
+    if let Some((_, what)) = WIDER.iter().find(|(module, _)| *module == name) {
+        return Some(format!("{what} read with --all-sections"));
+    }
     let other = |(_, elements): &&(&str, &[&str])| elements.contains(&name);
     if let Some((section, _)) = OTHER_SECTIONS.iter().find(other) {
         return Some(format!(
@@ -53,10 +65,7 @@ fn of_element(name: &str) -> Option<String> {
         "strict_static_separation_of_duty" => {
             "strict separation of duty (sssod) is not read, since the engine has no such rule".to_string()
         }
-        name if WIDER.contains(&name) => {
-            "the sections that are read are 5.2, 6.1, 6.3, 6.8, 6.9 and 6.11 to 6.13".to_string()
-        }
-        "uocw" => "who has touched what is a desk's present and no policy: users are bound by commits".to_string(),
+        "uocw" => "a policy does not say who has touched what: commits bind users to walls while the desk is at work".to_string(),
         name if name.contains(':') => "namespaces are not read".to_string(),
         _ => return None,
     })

@@ -324,7 +324,9 @@ fn what_is_left_out_on_purpose_says_why() {
             "a DTD within the text may declare entities and values, which are not looked up: leave it out",
         ),
         (&format!("{head}<module_exo_context_policy/>"), "section 6.5 of OPL is not read, since the engine has no such rule"),
-        (&format!("{head}<module_role_hierarchy_policy/>"), "the sections that are read are 5.2, 6.1, 6.3, 6.8, 6.9 and 6.11 to 6.13"),
+        (&format!("{head}<module_role_hierarchy_policy/>"), "role hierarchies (section 6.2) are read with --all-sections"),
+        (&format!("{head}<module_sep_duty_rh_policy/>"), "separation of duty in role hierarchies (section 6.4) is read with --all-sections"),
+        (&format!("{head}<module_chinese_wall_policy>"), "Chinese walls (section 6.6) are read with --all-sections"),
         (&format!("{separation}<strict_static_separation_of_duty/>"), "strict separation of duty (sssod) is not read, since the engine has no such rule"),
         (&format!("{head}\n<?xml version='1.0'?>"), "a declaration stands at the very start of a text, once"),
     ] {

@@ -160,7 +160,7 @@ fn who_has_touched_what_is_no_policy() {
     let text = policy(&wall("").replace("<uocws/>", touched));
     refused_at(&text, "<uocw ");
     let said = all(&text).unwrap_err().message(text.as_bytes());
-    let why = "expected </uocws>, found <uocw>: who has touched what is a desk's present and no policy: users are bound by commits";
+    let why = "expected </uocws>, found <uocw>: a policy does not say who has touched what: commits bind users to walls while the desk is at work";
     assert!(said.ends_with(why), "{said}");
     refused_at(
         &policy(&wall("").replace("<uocws/>", "")),

@@ -87,31 +87,42 @@ pub fn readers_of(sections: Sections) -> Vec<Reader> {
         slow::translate(policy, tasks, output, sections).0
     });
     let mut all = vec![plain, Reader { slow: true, ..slow }];
-    if sections == Sections::Asked {
-        all.extend(proved::reader());
-    }
+    all.extend(proved::reader(sections));
     all
 }
 
 /// The proved reader, and the names that its wrapper says.
 #[cfg(mishantral_opl)]
 mod proved {
-    use super::{Answer, Reader, Space, Texts};
-    use mishantral::{opl::scratch_words, Policy};
+    use super::{Answer, Reader, Sections, Space, Texts};
+    use mishantral::opl::{scratch_words, translate_sections};
+    use mishantral::Policy;
     use random::Random;
     use std::cell::RefCell;
 
     /// In how many calls one is passed a scratch of noise. In the others it holds what the call before left: the names of other texts.
     const NOISE: usize = 50;
 
-    pub fn reader() -> Option<Reader> {
+    /// The choice of the wrapper, where the library has a call for it.
+    fn same(sections: Sections) -> Option<mishantral::opl::Sections> {
+        match sections {
+            Sections::Asked => Some(mishantral::opl::Sections::Asked),
+            #[cfg(mishantral_opl_all)]
+            Sections::All => Some(mishantral::opl::Sections::All),
+            #[cfg(not(mishantral_opl_all))]
+            Sections::All => None,
+        }
+    }
+
+    pub fn reader(sections: Sections) -> Option<Reader> {
+        let same = same(sections)?;
         let lent = RefCell::new((Random::new(11), vec![0; scratch_words()]));
         Some(Reader::new("proved", move |policy, tasks, output| {
             let (random, scratch) = &mut *lent.borrow_mut();
             if random.chance(1, NOISE) {
                 scratch.fill_with(|| random.word());
             }
-            let answer = mishantral::opl::translate(policy, tasks, output, scratch);
+            let answer = translate_sections(policy, tasks, output, scratch, same);
             Answer {
                 reply: answer.reply.number(),
                 text: answer.text.map_or(0, |text| text as u8),
@@ -120,8 +131,11 @@ mod proved {
         }))
     }
 
-    pub fn agrees(texts: &Texts, read: &opl::Policy) -> bool {
-        let policy = Policy::from_opl(&texts.policy, &texts.tasks);
+    pub fn agrees(texts: &Texts, read: &opl::Policy, sections: Sections) -> bool {
+        let Some(same) = same(sections) else {
+            return true;
+        };
+        let policy = Policy::from_opl_sections(&texts.policy, &texts.tasks, same);
         policy.is_ok_and(|policy| {
             let mut spaces = Space::ALL.into_iter().zip(mishantral::Space::ALL);
             let names = spaces.all(|(space, same)| {
@@ -136,13 +150,13 @@ mod proved {
 
 #[cfg(not(mishantral_opl))]
 mod proved {
-    use super::{Reader, Texts};
+    use super::{Reader, Sections, Texts};
 
-    pub fn reader() -> Option<Reader> {
+    pub fn reader(_: Sections) -> Option<Reader> {
         None
     }
 
-    pub fn agrees(_: &Texts, _: &opl::Policy) -> bool {
+    pub fn agrees(_: &Texts, _: &opl::Policy, _: Sections) -> bool {
         true
     }
 }
@@ -286,7 +300,7 @@ pub fn compare_names(texts: &Texts, sections: Sections) -> Result<(), String> {
     if origins.len() != read.count() || !origins.iter().all(begins) {
         return Err(format!("the records' origins differ in {texts:?}"));
     }
-    if sections == Sections::Asked && !proved::agrees(texts, &read) {
+    if !proved::agrees(texts, &read, sections) {
         return Err(format!("the wrapper's names differ in {texts:?}"));
     }
     if read.records() == output {

@@ -1,6 +1,7 @@
 //! Compares readers of OPL/XML over random and damaged texts, or times them.
 
-use opl_differential::{readers, run, Reader, Texts};
+use opl::Sections;
+use opl_differential::{readers, readers_of, run_sections, Reader, Texts};
 use std::process::{Command, ExitCode};
 use std::time::Instant;
 
@@ -8,11 +9,13 @@ const HELP: &str = "\
 Compares readers of OPL/XML: the plain one, a slow one that reads content models from the DTD, and the proved one where the
 library is linked.
 
-  opl-differential [--seed N] [--texts N]
+  opl-differential [--seed N] [--texts N] [--all-sections]
   opl-differential --time
 
   --seed N    another seed than 1
   --texts N   another number of texts than 100000
+  --all-sections
+              the readers of all sections that the engine can hold, over texts that have them
   --time      the readers' times on texts of about 2 KiB, 64 KiB and 1 MiB, and libxml2's where there is xmllint, as it
               calls for each element and keeps none; build it with --release
 
@@ -22,6 +25,7 @@ Exit status: 0 all agree; 1 two readers differ, and small texts that show it are
 struct Options {
     seed: u64,
     texts: u64,
+    sections: Sections,
     time: bool,
 }
 
@@ -29,6 +33,7 @@ fn options(arguments: &[String]) -> Result<Options, String> {
     let mut options = Options {
         seed: 1,
         texts: 100_000,
+        sections: Sections::Asked,
         time: false,
     };
     let mut rest = arguments.iter();
@@ -40,6 +45,7 @@ fn options(arguments: &[String]) -> Result<Options, String> {
         match argument.as_str() {
             "--seed" => options.seed = number()?,
             "--texts" => options.texts = number()?,
+            "--all-sections" => options.sections = Sections::All,
             "--time" => options.time = true,
             other => return Err(format!("no such option: {other:?}")),
         }
@@ -112,7 +118,8 @@ fn main() -> ExitCode {
         time();
         return ExitCode::SUCCESS;
     }
-    match run(&readers(), options.seed, options.texts) {
+    let readers = readers_of(options.sections);
+    match run_sections(&readers, options.seed, options.texts, options.sections) {
         Ok(met) => {
             println!("{met}");
             ExitCode::SUCCESS

@@ -42,24 +42,42 @@ unsafe extern "C" fn exported(
     }
 }
 
+/// The choices for which the library has a call, each as the plain reader and as the wrapper name it.
+#[cfg(mishantral_opl)]
+fn choices() -> Vec<(Sections, mishantral::opl::Sections)> {
+    vec![
+        (Sections::Asked, mishantral::opl::Sections::Asked),
+        #[cfg(mishantral_opl_all)]
+        (Sections::All, mishantral::opl::Sections::All),
+    ]
+}
+
 /// A scratch of another length is ROOM, but after TEXT; the output stays.
 #[cfg(mishantral_opl)]
 #[test]
 fn the_scratch_has_one_length() {
+    for (sections, same) in choices() {
+        the_scratch_of(sections, same);
+    }
+}
+
+#[cfg(mishantral_opl)]
+fn the_scratch_of(sections: Sections, same: mishantral::opl::Sections) {
+    use mishantral::opl::translate_sections;
     use opl_differential::{mangled, Texts};
     let mut random = random::Random::new(13);
     let words = mishantral::opl::scratch_words();
     let mut scratch = vec![0x5a5a_5a5a_5a5a_5a5a; words + 1];
     for turn in 0..4_000 {
-        let mut texts = Texts::random(&mut random);
+        let mut texts = Texts::of_sections(&mut random, sections);
         if turn % 2 == 1 {
             texts.policy = mangled(&mut random, &texts.policy);
         }
         let mut output = vec![3; random.below(400)];
         let length = random.pick(&[0, 1, 1_000, words - 1, words + 1]);
         let lent = &mut scratch[..length];
-        let told = mishantral::opl::translate(&texts.policy, &texts.tasks, &mut output, lent);
-        let plain = opl::translate(&texts.policy, &texts.tasks, &mut []);
+        let told = translate_sections(&texts.policy, &texts.tasks, &mut output, lent, same);
+        let plain = opl::translate_sections(&texts.policy, &texts.tasks, &mut [], sections);
         let expected = match plain.reply {
             opl::TEXT => plain.number(),
             _ => opl::ROOM.into(),
@@ -87,10 +105,19 @@ fn more_tags_than_the_scratch_lists() {
         let room = 16 * (times + 98);
         let (mut expected, mut output) = (vec![3; room], vec![3; room]);
         let plain = opl::translate(policy.as_bytes(), TASKS, &mut expected);
-        let told = mishantral::opl::translate(policy.as_bytes(), TASKS, &mut output, &mut scratch);
         assert_eq!(plain.reply, 0);
-        assert_eq!((told.reply.number(), told.figure), (0, plain.figure));
-        assert!(output == expected, "{short}");
+        for (_, same) in choices() {
+            output.fill(3);
+            let told = mishantral::opl::translate_sections(
+                policy.as_bytes(),
+                TASKS,
+                &mut output,
+                &mut scratch,
+                same,
+            );
+            assert_eq!((told.reply.number(), told.figure), (0, plain.figure));
+            assert!(output == expected, "{short}");
+        }
     }
 }
 

@@ -21,6 +21,13 @@ fn tasks() -> Arg {
         .help("The task lines that go with an OPL/XML policy")
 }
 
+fn all_sections() -> Arg {
+    flag(
+        "all-sections",
+        "Of OPL/XML read role hierarchies (6.2), separation of duty in them (6.4) and Chinese walls (6.6) too",
+    )
+}
+
 fn format() -> Arg {
     Arg::new("from")
         .long("from")
@@ -45,7 +52,7 @@ fn check() -> Command {
              should know: tasks that are open to no role, roles that no user has, tasks that wait for each other, task sets and \
              partitionings that the clerks cannot satisfy, and templates whose orders they cannot finish.",
         )
-        .args([policy(), tasks(), format()])
+        .args([policy(), tasks(), all_sections(), format()])
         .arg(flag("strict", "Exit with 1 if there is a warning"))
         .arg(flag("json", "One object"))
         .after_help(concat!(
@@ -74,7 +81,7 @@ fn run() -> Command {
                 .value_hint(ValueHint::FilePath)
                 .help("The requests, text or records; standard input if it is missing or is -"),
         )
-        .args([tasks(), format()])
+        .args([tasks(), all_sections(), format()])
         .arg(flag("brief", "Leave out the explanations"))
         .arg(flag("json", "One object per line").conflicts_with("plain"))
         .arg(flag("plain", "The listing of the desk program, byte for byte"))
@@ -134,7 +141,7 @@ fn convert() -> Command {
              OPL/XML and its task lines are read back to the same records before they are written. If OPL/XML cannot say something \
              (senior roles, walls, numbers that a reader would not give), all of that is reported and nothing is written.",
         )
-        .args([policy(), tasks(), format()])
+        .args([policy(), tasks(), all_sections(), format()])
         .arg(
             Arg::new("to")
                 .long("to")
@@ -199,9 +206,9 @@ fn write() -> Command {
                 .value_hint(ValueHint::FilePath)
                 .help("The requests, text or records (default: none)"),
         )
-        .args([tasks(), format(), form(), flag("numbers", "Text without names")])
+        .args([tasks(), all_sections(), format(), form(), flag("numbers", "Text without names")])
         .arg(output("The file to write (default: standard output)"))
-        .arg(journal_file().conflicts_with("policy").help("A served desk's journal, instead of POLICY"))
+        .arg(journal_file().conflicts_with("policy").help("A served desk's journal, in the place of POLICY"))
         .arg(desk_of_database())
         .after_help(concat!(
             "Examples:\n",
@@ -231,8 +238,8 @@ fn diff() -> Command {
         )
         .arg(file("old", "OLD", "The policy as it was"))
         .arg(file("new", "NEW", "The policy as it is to be"))
-        .args([tasks().help("The task lines of OLD, if it is OPL/XML"), format()])
-        .arg(value("new-tasks", "FILE", "The task lines of NEW, if it is OPL/XML").value_hint(ValueHint::FilePath))
+        .args([tasks().help("The task lines of OLD, where it is OPL/XML"), all_sections(), format()])
+        .arg(value("new-tasks", "FILE", "The task lines of NEW, where it is OPL/XML").value_hint(ValueHint::FilePath))
         .arg(
             value("by", "WHAT", "Compare records by numbers, which journals know, or by names (default: numbers; names if both are OPL/XML)")
                 .value_parser(PossibleValuesParser::new(crate::diff::By::NAMES)),
@@ -317,8 +324,8 @@ fn serve() -> Command {
              unchanged. The server may be killed at any moment. docs/SERVE.md describes the forms of requests, the journal's tables \
              and what is promised.",
         )
-        .args([policy().required(false), tasks(), format()])
-        .arg(journal_file().help("The journal: a file, or a database (postgresql://user@host/database, with --desk). If there is none yet, it is begun with POLICY"))
+        .args([policy().required(false), tasks(), all_sections(), format()])
+        .arg(journal_file().help("The journal; it is begun with POLICY where there is none. A file, or a database: postgresql://user@host/database, with --desk"))
         .arg(
             value("desk", "NAME[=JOURNAL]", "One of several desks, each with its own engine, policy and journal; with a database as --journal, the desk's name there")
                 .action(ArgAction::Append),
@@ -539,7 +546,7 @@ fn whatif() -> Command {
         .arg(journal_file().required(true).help("The desk's journal: a file, or postgresql://.."))
         .arg(desk_of_database())
         .arg(policy().long("policy").help("The other policy: records, text, or OPL/XML"))
-        .args([tasks(), format()])
+        .args([tasks(), all_sections(), format()])
         .arg(value("since", "TIME", "Compare requests from this time on, UTC: 2026-11-15, or '2026-11-15 20:31'; the desk as it was by then is brought under the other policy first"))
         .arg(
             flag("present", "Compare no request: tell whether the desk as it is now, with its users, sessions and open orders, fits under the other policy")
@@ -574,7 +581,7 @@ fn moving() -> Command {
         .arg(journal_file().required(true).help("The desk's journal: a file, or postgresql://.."))
         .arg(desk_of_database())
         .arg(policy().long("policy").help("The other policy: records, text, or OPL/XML"))
-        .args([tasks(), format()])
+        .args([tasks(), all_sections(), format()])
         .arg(
             Arg::new("into")
                 .long("to")
@@ -703,7 +710,7 @@ fn staff() -> Command {
              one and a half times the given one. A claim that a rule of the policy refuses is in the journal once. Every answer is \
              the engine's own; the same seed gives the same requests and answers.",
         )
-        .args([policy().required(false).required_unless_present("journal"), tasks(), format()])
+        .args([policy().required(false).required_unless_present("journal"), tasks(), all_sections(), format()])
         .arg(
             value("shift", "NAME=CLERKS", "A shift: night=300-319,325,dirk,role:signer; may be given several times (default: all clerks, if there is no --shifts either)")
                 .action(ArgAction::Append)

@@ -89,6 +89,9 @@ fn untold(policy: &Policy, unsaid: &[Unsaid]) -> Vec<String> {
         }
     };
     let mut lines: Vec<String> = unsaid.iter().map(line).collect();
+    if unsaid.iter().any(|u| u.remedy == Some(Remedy::AllSections)) {
+        lines.push("--all-sections writes senior roles and walls too".to_string());
+    }
     if unsaid.iter().any(|u| u.remedy == Some(Remedy::Renumber)) {
         lines.push(
             "--renumber writes it with its names, and lets a reader give the numbers".to_string(),

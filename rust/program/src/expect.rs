@@ -9,7 +9,7 @@ use crate::desk::Desk;
 use crate::files;
 use crate::names::{name_of, Names};
 use crate::reader::{self, decode, lines, read_tokens, tokens, Error, Line, Token, Wrong};
-use crate::source::{self, bytes_of, Policy};
+use crate::source::{self, bytes_of, Policy, Reading, Sections};
 use crate::stop::{wrong, Done, Stop, REFUSED, WELL};
 use crate::why::why;
 use crate::writer;
@@ -79,7 +79,7 @@ const GRANTED: Expected = Expected {
 /// What a line of a test file says.
 enum Says {
     /// A policy file and its task lines.
-    Policy(String, Option<String>),
+    Policy(String, Option<String>, Sections),
     Load(Expected),
     /// A line of a policy, or one that names.
     Declared(Line),
@@ -263,6 +263,17 @@ fn expected(tokens: &[Token], end: usize) -> Result<Expected, Wrong> {
     }
 }
 
+/// What may follow the name of a policy file: whether task lines do, and which sections are read.
+fn with_policy(words: &[&str]) -> Option<(bool, Sections)> {
+    match words {
+        [] => Some((false, Sections::Asked)),
+        ["all-sections"] => Some((false, Sections::All)),
+        ["tasks", _] => Some((true, Sections::Asked)),
+        ["tasks", _, "all-sections"] => Some((true, Sections::All)),
+        _ => None,
+    }
+}
+
 /// A file's name in a line: a word, or between quotes.
 fn file_name(token: Token) -> String {
     match name_of(token.text) {
@@ -344,12 +355,11 @@ impl<'a> Run<'a> {
             return Ok(Some(Says::Begin(Block { of, lines, names })));
         }
         match words[..] {
-            ["policy", _] if judged.is_none() => {
-                return Ok(Some(Says::Policy(file_name(before[1]), None)))
-            }
-            ["policy", _, "tasks", _] if judged.is_none() => {
-                let tasks = Some(file_name(before[3]));
-                return Ok(Some(Says::Policy(file_name(before[1]), tasks)));
+            ["policy", _, ..] if judged.is_none() => {
+                if let Some((tasks, sections)) = with_policy(&words[2..]) {
+                    let tasks = tasks.then(|| file_name(before[3]));
+                    return Ok(Some(Says::Policy(file_name(before[1]), tasks, sections)));
+                }
             }
             ["load"] => return Ok(Some(Says::Load(judged.unwrap_or(GRANTED)))),
             _ => {}
@@ -374,11 +384,16 @@ impl<'a> Run<'a> {
 
     fn step(&mut self, number: usize, says: Says) -> Result<Option<Wrong>, Stop> {
         match says {
-            Says::Policy(file, tasks) => {
+            Says::Policy(file, tasks, sections) => {
                 let folder = Path::new(self.file).parent().unwrap_or(Path::new(""));
                 let beside = |file: &str| folder.join(file).to_string_lossy().into_owned();
                 let tasks = tasks.map(|file| beside(&file));
-                let policy = source::policy(&beside(&file), tasks.as_deref(), None)?;
+                let how = Reading {
+                    tasks: tasks.as_deref(),
+                    format: None,
+                    sections,
+                };
+                let policy = source::policy(&beside(&file), &how)?;
                 self.begin(policy, false);
             }
             Says::Load(expected) => self.load(number, expected, true),

@@ -1,4 +1,4 @@
-//! `mishantral`: one program for people over the proved library. docs/PROGRAM.md tells its use.
+//! `mishantral`: one program for people over the proved library. docs/PROGRAM.md says its use.
 
 mod ask;
 mod carry;
@@ -35,7 +35,7 @@ use journal::Saved;
 // One notation for all programs: `crate::names` and the others are the crate's own modules.
 use notation::{names, reader, writer};
 use run::Style;
-use source::{Format, Policy};
+use source::{Format, Policy, Reading, Sections};
 use std::fs::File;
 use std::io::{stdout, BufWriter, Write};
 use std::process::ExitCode;
@@ -46,11 +46,22 @@ fn text<'a>(given: &'a ArgMatches, name: &str) -> Option<&'a str> {
     given.get_one::<String>(name).map(String::as_str)
 }
 
+/// How the policy is to be read whose task lines this option names.
+fn reading<'a>(given: &'a ArgMatches, tasks: &str) -> Reading<'a> {
+    Reading {
+        tasks: text(given, tasks),
+        format: text(given, "from").and_then(Format::of_name),
+        sections: match given.get_flag("all-sections") {
+            true => Sections::All,
+            false => Sections::Asked,
+        },
+    }
+}
+
 /// The policy that is named. What is to be warned of in a dealer's text is left to the caller.
 fn read_policy(given: &ArgMatches) -> Result<Policy, Stop> {
-    let format = text(given, "from").and_then(Format::of_name);
     let file = text(given, "policy").unwrap_or("-");
-    source::policy(file, text(given, "tasks"), format)
+    source::policy(file, &reading(given, "tasks"))
 }
 
 /// The policy that is named, warnings told on standard error.
@@ -130,7 +141,7 @@ fn convert_to_opl(given: &ArgMatches, policy: &Policy, out: &mut dyn Write) -> D
     }
     let way = notation::dealer::Way {
         renumber: given.get_flag("renumber"),
-        ..Default::default()
+        all_sections: given.get_flag("all-sections"),
     };
     let written = convert::opl(policy, given.get_flag("numbers"), way)?;
     let (file, tasks) = (to_file(given, "output")?, to_file(given, "tasks-to")?);
@@ -184,10 +195,9 @@ fn write(given: &ArgMatches, out: &mut dyn Write) -> Done {
 }
 
 fn diff(given: &ArgMatches, out: &mut dyn Write) -> Done {
-    let format = text(given, "from").and_then(Format::of_name);
     let read = |name: &str, tasks: &str| {
         let file = text(given, name).unwrap_or_default();
-        source::policy(file, text(given, tasks), format)
+        source::policy(file, &reading(given, tasks))
     };
     let old = read("old", "tasks")?;
     let new = read("new", "new-tasks")?;
@@ -196,9 +206,7 @@ fn diff(given: &ArgMatches, out: &mut dyn Write) -> Done {
 }
 
 fn whatif(given: &ArgMatches, out: &mut dyn Write) -> Done {
-    let format = text(given, "from").and_then(Format::of_name);
-    let file = text(given, "policy").unwrap_or_default();
-    let policy = source::policy(file, text(given, "tasks"), format)?;
+    let policy = read_policy(given)?;
     let since = match text(given, "since") {
         None => i64::MIN,
         Some(word) => journal::moment(word)?,
@@ -215,9 +223,7 @@ fn whatif(given: &ArgMatches, out: &mut dyn Write) -> Done {
 }
 
 fn moving(given: &ArgMatches, out: &mut dyn Write) -> Done {
-    let format = text(given, "from").and_then(Format::of_name);
-    let file = text(given, "policy").unwrap_or_default();
-    let policy = source::policy(file, text(given, "tasks"), format)?;
+    let policy = read_policy(given)?;
     let options = moving::Options {
         journal: &journal_of(given, "journal")?,
         to: text(given, "into"),
@@ -266,7 +272,7 @@ fn desks(given: &ArgMatches) -> Result<Vec<serve::Wanted>, Stop> {
     let (named, journal) = (words(given, "desk"), text(given, "journal"));
     let database = journal.filter(|word| journal::is_database(word));
     if named.is_empty() {
-        // A desk of a database has a name, which stands behind its address.
+        // A desk of a database has a name, which stands after its address.
         let name = database.and_then(|word| word.split_once('#'));
         return Ok(vec![serve::Wanted {
             name: name.map_or(String::new(), |(_, name)| name.to_string()),

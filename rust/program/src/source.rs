@@ -3,8 +3,9 @@
 use crate::names::Names;
 use crate::reader::Error;
 use crate::stop::Stop;
+pub use notation::dealer::Sections;
 use notation::source;
-pub use notation::source::{Format, Policy, Requests};
+pub use notation::source::{Format, Policy, Reading, Requests};
 
 /// A file's bytes; `-` is standard input.
 pub fn bytes_of(file: &str) -> Result<Vec<u8>, Stop> {
@@ -17,8 +18,8 @@ pub fn told(file: &str, errors: Vec<Error>) -> Stop {
 }
 
 /// A policy file, with its task lines where it is OPL/XML.
-pub fn policy(file: &str, tasks: Option<&str>, format: Option<Format>) -> Result<Policy, Stop> {
-    source::policy(file, tasks, format).map_err(Stop::Wrong)
+pub fn policy(file: &str, how: &Reading) -> Result<Policy, Stop> {
+    source::policy(file, how).map_err(Stop::Wrong)
 }
 
 /// A damaged policy file: text where its name or every byte says so, else records, whatever they are.

@@ -137,11 +137,17 @@ fn there_and_back(name: &str, policy: &[&str], options: &[&str]) -> (Vec<u8>, Ve
     .concat();
     let (out, said, status) = run(&to_opl);
     assert_eq!((&out[..], status), ("", 0), "{said}");
-    for (input, output) in [
-        (policy, &before),
-        (&[&xml[..], "--tasks", &tasks][..], &after),
-    ] {
-        let to_records = [&["convert"], input, &["--to", "records", "-o", output]].concat();
+    let wide = options.iter().filter(|option| **option == "--all-sections");
+    let wide: Vec<&str> = wide.copied().collect();
+    let written = [&xml[..], "--tasks", &tasks];
+    for (input, output) in [(policy, &before), (&written[..], &after)] {
+        let to_records = [
+            &["convert"],
+            input,
+            &wide,
+            &["--to", "records", "-o", output],
+        ]
+        .concat();
         assert_eq!(run(&to_records).2, 0);
     }
     (fs::read(before).unwrap(), fs::read(after).unwrap())
@@ -178,10 +184,66 @@ fn what_opl_cannot_say_is_told_and_nothing_is_written() {
     let expected = format!(
         "mishantral: {text}: OPL/XML cannot express this: 1 of 1 users: a reader numbers users from 0 on in the order of their declarations, and these have other numbers\n\
          mishantral: {text}: line 4: OPL/XML cannot express this: role lead above role clerk: senior roles are of section 6.2, which is left out\n\
+         mishantral: --all-sections writes senior roles and walls too\n\
          mishantral: --renumber writes it with its names, and lets a reader give the numbers\n"
     );
     assert_eq!((format!("{out}{said}"), status), (expected, 1));
     assert!(!xml.exists());
+}
+
+const LEADS: [&str; 4] = [
+    "examples/opl_leads/policy.xml",
+    "--tasks",
+    "examples/opl_leads/tasks.txt",
+    "--all-sections",
+];
+
+/// Role hierarchies, separation of duty in them and walls: each command that reads a policy takes them, where it is asked to.
+#[test]
+fn all_sections_are_read_where_they_are_asked_for() {
+    let (told, said, status) = run(&[&["check"], &LEADS[..]].concat());
+    assert_eq!((&said[..], status), ("", 0), "{told}");
+    let accepted = "5 roles, 3 tasks of 1 template";
+    assert!(
+        told.contains(accepted) && !told.contains("warning"),
+        "{told}"
+    );
+
+    let requests = "examples/opl_leads/requests.txt";
+    let (told, _, status) = run(&[&["run"], &LEADS[..], &[requests, "--brief"]].concat());
+    let expected = fs::read_to_string(root().join("examples/opl_leads/expected.txt")).unwrap();
+    assert_eq!((told, status), (expected, 0));
+
+    let (_, said, status) = run(&[&["check"], &LEADS[..3]].concat());
+    let why = "found <module_role_hierarchy_policy>: role hierarchies (section 6.2) are read with --all-sections\n";
+    assert!(
+        said.contains("line 69, column 5: TEXT: expected <module_"),
+        "{said}"
+    );
+    assert!(status == 2 && said.ends_with(why), "{said}");
+}
+
+/// Who has touched what is not read: the message says where bindings come from.
+#[test]
+fn bindings_come_by_commits() {
+    let room = room("touched");
+    let leads = fs::read_to_string(root().join(LEADS[0])).unwrap();
+    let touched = "<uocws><uocw user_id=\"user:lena\" object_id=\"TermsEast\"/></uocws>";
+    let xml = file(&room, "policy.xml", leads.replacen("<uocws/>", touched, 1));
+    let (_, said, status) = run(&["check", &xml, LEADS[1], LEADS[2], LEADS[3]]);
+    let why = "expected </uocws>, found <uocw>: a policy does not say who has touched what: commits bind users to walls";
+    assert!(status == 2 && said.contains(why), "{said}");
+}
+
+#[test]
+fn all_sections_go_to_opl_and_back() {
+    let (before, after) = there_and_back("leads", &LEADS[..3], &["--all-sections"]);
+    let kind = |kind: u8| before.chunks(16).filter(|r| r[0] == kind).count();
+    assert_eq!((kind(17), kind(18)), (2, 5));
+    assert_eq!(before, after);
+    let walls = ["examples/price_books/policy.txt"];
+    let (_, after) = there_and_back("walls", &walls, &["--all-sections", "--renumber"]);
+    assert_eq!(after.chunks(16).filter(|r| r[0] == 18).count(), 5);
 }
 
 #[test]

@@ -112,7 +112,7 @@ fn examples() -> Vec<(PathBuf, Vec<String>)> {
     let with_files = folders.filter(|path| path.join("expected.txt").exists());
     let files = |path: PathBuf| {
         let name = |file: &str| path.join(file).to_str().unwrap().to_string();
-        let files = match path.join("policy.xml").exists() {
+        let mut files = match path.join("policy.xml").exists() {
             true => vec![
                 name("policy.xml"),
                 name("requests.txt"),
@@ -121,6 +121,8 @@ fn examples() -> Vec<(PathBuf, Vec<String>)> {
             ],
             false => vec![name("policy.txt"), name("requests.txt")],
         };
+        let options = std::fs::read_to_string(path.join("options.txt")).unwrap_or_default();
+        files.extend(options.lines().map(str::to_string));
         (path, files)
     };
     with_files.map(files).collect()
@@ -135,7 +137,15 @@ fn the_examples_are_as_expected() {
         let files: Vec<&str> = files.iter().map(String::as_str).collect();
         let (listing, _, status) = run(&[&["run", "--plain"], &files[..]].concat());
         assert_eq!(status, 0);
-        let policy = notation::source::policy(files[0], files.get(3).copied(), None).unwrap();
+        let how = notation::source::Reading {
+            tasks: files.get(3).copied(),
+            format: None,
+            sections: match files.contains(&"--all-sections") {
+                true => notation::dealer::Sections::All,
+                false => notation::dealer::Sections::Asked,
+            },
+        };
+        let policy = notation::source::policy(files[0], &how).unwrap();
         let requests = notation::source::requests(files[1], &policy.names).unwrap();
         let words =
             notation::explain(Some(&policy.bytes), &requests, &listing, &policy.names).unwrap();

@@ -12,15 +12,15 @@ enum Source {
 
 fn read(given: &Given) -> Result<Source, Stop> {
     let file = given.word(0, 0)?.unwrap_or("-");
-    let tasks = given.value("--tasks");
+    let how = given.reading();
     Ok(match given.value("--for") {
         Some(policy) if policy == file => return Err(usage("--for takes another file")),
         Some(policy) => {
-            let names = source::policy(policy, tasks, None)?.names;
+            let names = source::policy(policy, &how)?.names;
             Source::Requests(source::requests(file, &names)?, names)
         }
         None => {
-            let policy = source::either(file, tasks)?;
+            let policy = source::either(file, &how)?;
             for warning in policy.warnings() {
                 eprintln!("mishantral-notation: {warning}");
             }
@@ -30,7 +30,7 @@ fn read(given: &Given) -> Result<Source, Stop> {
 }
 
 pub fn records(arguments: &[&str]) -> Result<Vec<u8>, Stop> {
-    let given = Given::read(arguments, &["--for", "--tasks"], &[])?;
+    let given = Given::read(arguments, &["--for", "--tasks"], &["--all-sections"])?;
     Ok(match read(&given)? {
         Source::Policy(policy) => policy.bytes,
         Source::Requests(lines, _) => bytes(&lines),
@@ -38,7 +38,8 @@ pub fn records(arguments: &[&str]) -> Result<Vec<u8>, Stop> {
 }
 
 pub fn words(arguments: &[&str]) -> Result<Vec<u8>, Stop> {
-    let given = Given::read(arguments, &["--for", "--tasks"], &["--numbers"])?;
+    let flags = ["--numbers", "--all-sections"];
+    let given = Given::read(arguments, &["--for", "--tasks"], &flags)?;
     let numbers = given.flag("--numbers");
     let text = match read(&given)? {
         Source::Policy(policy) if numbers => notation::write(&policy.bytes),

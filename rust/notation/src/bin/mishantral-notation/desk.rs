@@ -3,7 +3,7 @@
 
 use crate::convert::bytes;
 use crate::{usage, wrong, Done, Given, Stop};
-use notation::source::{self, Policy, Requests};
+use notation::source::{self, Policy, Reading, Requests};
 use notation::{dealer, writer, Reply};
 use records::LENGTH;
 use std::fs::{self, File};
@@ -17,7 +17,7 @@ const LONGEST: usize = 65_536;
 /// What the user asks for.
 struct Asked<'a> {
     words: bool,
-    tasks: Option<&'a str>,
+    how: Reading<'a>,
     write: Option<&'a str>,
     policy: &'a str,
     /// `-` is standard input.
@@ -37,7 +37,7 @@ impl<'a> Asked<'a> {
         }
         Ok(Asked {
             words: given.flag("--words"),
-            tasks: given.value("--tasks"),
+            how: given.reading(),
             write,
             policy,
             requests: given.word(1, 1)?.unwrap_or("-"),
@@ -45,7 +45,7 @@ impl<'a> Asked<'a> {
     }
 
     fn policy(&self) -> Result<Policy, Stop> {
-        Ok(source::policy(self.policy, self.tasks, None)?)
+        Ok(source::policy(self.policy, &self.how)?)
     }
 
     /// Whether the proved library is called: to read OPL/XML, or to write a policy out.
@@ -69,7 +69,7 @@ fn is_file(path: &str) -> bool {
 
 pub fn desk(arguments: &[&str], out: &mut dyn Write) -> Done {
     let values = ["--program", "--room", "--tasks", "--write"];
-    let given = Given::read(arguments, &values, &["--words", "--look"])?;
+    let given = Given::read(arguments, &values, &["--words", "--look", "--all-sections"])?;
     let asked = Asked::of(&given)?;
     if given.flag("--look") {
         return look(&asked, out);
@@ -86,7 +86,7 @@ fn look(asked: &Asked, out: &mut dyn Write) -> Done {
         let path = Path::new(file);
         path.exists() && !path.is_file() && !path.is_dir()
     };
-    if piped(asked.policy) || asked.tasks.is_some_and(piped) {
+    if piped(asked.policy) || asked.how.tasks.is_some_and(piped) {
         return Ok(0);
     }
     let policy = asked.policy()?;
@@ -143,7 +143,7 @@ fn incomplete() -> Stop {
 
 fn run(asked: &Asked, program: &Program, out: &mut dyn Write) -> Done {
     let policy = asked.policy()?;
-    if policy.is_dealt() && dealer::READER != "proved" {
+    if policy.is_dealt() && !dealer::is_proved(asked.how.sections) {
         let file = &policy.file;
         eprintln!("desk: {file}: the plain reader reads it, which is not proved: the library has no reader");
     }

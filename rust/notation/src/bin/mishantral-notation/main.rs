@@ -3,27 +3,30 @@
 mod convert;
 mod desk;
 
-use notation::source::Wrongs;
+use notation::dealer::Sections;
+use notation::source::{Reading, Wrongs};
 use std::io::{self, Write};
 use std::process::ExitCode;
 
 const HELP: &str = "\
 Records as lines of words (docs/RULES.md), and back; a desk program on files of either form.
 
-  mishantral-notation records [--for POLICY] [--tasks TASKS] [FILE]
+  mishantral-notation records [--for POLICY] [--tasks TASKS] [--all-sections] [FILE]
                               a policy, or requests, to records
-  mishantral-notation words [--for POLICY] [--tasks TASKS] [--numbers] [FILE]
+  mishantral-notation words [--for POLICY] [--tasks TASKS] [--all-sections] [--numbers] [FILE]
                               the same as text; --numbers: without names
-  mishantral-notation desk --program COMMAND --room FOLDER [--words] [--tasks TASKS] [--write FILE] POLICY [REQUESTS]
+  mishantral-notation desk --program COMMAND --room FOLDER [--words] [--tasks TASKS] [--all-sections] [--write FILE] POLICY [REQUESTS]
                               what ./desk does (its --help tells it), on the desk program that a shell runs by COMMAND in
                               FOLDER, where policy.rec is written
-  mishantral-notation desk --look [--words] [--tasks TASKS] [--write FILE] POLICY [REQUESTS]
+  mishantral-notation desk --look [--words] [--tasks TASKS] [--all-sections] [--write FILE] POLICY [REQUESTS]
                               what can be judged of the files alone; nothing is run
   mishantral-notation forms   every line that the notation has
   mishantral-notation replies every reply's number and name
 
   --for       FILE is requests, which may use the names of this policy
   --tasks     the task lines of a policy in OPL/XML: a task's name, one space and its template's name
+  --all-sections
+              of OPL/XML read role hierarchies (6.2), separation of duty in them (6.4) and Chinese walls (6.6) too
 
 A file is records of sixteen bytes, text in the notation, or OPL/XML, which its content tells, or the suffix .txt or .xml. Without FILE,
 or where it is -, standard input is read. What is made goes to standard output. One line a record; # begins a comment. A number is
@@ -115,6 +118,18 @@ impl<'a> Given<'a> {
 
     fn flag(&self, option: &str) -> bool {
         self.flags.contains(&option)
+    }
+
+    /// How a policy is to be read.
+    fn reading(&self) -> Reading<'a> {
+        Reading {
+            tasks: self.value("--tasks"),
+            format: None,
+            sections: match self.flag("--all-sections") {
+                true => Sections::All,
+                false => Sections::Asked,
+            },
+        }
     }
 
     /// The word at a place, and none after the last one.
