@@ -47,8 +47,26 @@ fn everything_in_the_contract_is_there_and_validates() {
     assert!(asked.status.success(), "{told}");
 }
 
+/// The code of a page with four spaces before each line, whether it is fenced or indented; an answer follows its command at once.
+fn code(page: &str) -> String {
+    let joined = page.replace("```\n\n```json\n", "");
+    let mut fenced = false;
+    let mut text = String::new();
+    for line in joined.lines() {
+        if line.starts_with("```") {
+            fenced = !fenced;
+        } else if fenced {
+            text += &format!("    {line}\n");
+            continue;
+        }
+        text += &format!("{line}\n");
+    }
+    text
+}
+
 /// The commands of a page: lines that begin with `curl`, with what follows a `\` at a line's end, and the answer that is shown below.
 fn commands(page: &str) -> Vec<(String, String)> {
+    let page = code(page);
     let mut all: Vec<(String, String)> = Vec::new();
     let mut lines = page.lines().peekable();
     while let Some(line) = lines.next() {
