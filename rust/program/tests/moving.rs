@@ -60,7 +60,7 @@ impl Desk {
         self.old.room.join(name).to_str().unwrap().to_string()
     }
 
-    /// The old policy with these lines behind it.
+    /// The old policy with these lines after it.
     fn policy(&self, more: &str) -> String {
         let old = fs::read_to_string(common::root().join(OLD)).unwrap();
         let file = self.path("new.txt");
@@ -424,7 +424,7 @@ fn a_desk_goes_from_a_file_into_a_database_and_back() {
     );
     assert_eq!(status, 0, "{why}");
     assert_eq!(json(&said)["each"][0]["begun_us"], tested);
-    // An address is told without its password.
+    // An address is reported without its password.
     let secret = base.new.word().replace("postgres@", "postgres:secret@");
     let whatif = [
         "move",
@@ -519,7 +519,7 @@ fn a_move_that_is_killed_leaves_the_new_journal_whole_or_absent() {
                 .stderr(Stdio::null())
                 .spawn()
                 .unwrap();
-            // From the beginning to a little behind the end, most of them where it writes.
+            // From the beginning to a little after the end, most of them where it writes.
             std::thread::sleep(whole.mul_f64(0.3 + 0.9 * f64::from(kill) / f64::from(kills)));
             let _ = child.kill();
             child.wait().unwrap();

@@ -168,7 +168,7 @@ fn ask_finds_the_server_that_has_the_desk() {
     let first = place.start_at("a.sock", &[POLICY, "--takeover", "1"]);
     let second = place.start_at("b.sock", &["--standby", "--takeover", "1"]);
     let sockets = [&first.socket, &second.socket].map(|s| s.to_str().unwrap().to_string());
-    // The standby first: it is asked, and tells.
+    // The standby first: it is asked, and says.
     let mut command = mishantral(&["ask", "--socket", &sockets[1], "--socket", &sockets[0]]);
     let mut ask = command
         .args(["--retry", "120"])
@@ -189,7 +189,7 @@ fn ask_finds_the_server_that_has_the_desk() {
     place.checked("2 requests");
 }
 
-/// A proxy before the database, which cuts a connection when it is armed: 1 before a message, 2 behind it, 3 before its answer.
+/// A proxy before the database, which cuts a connection when it is armed: 1 before a message, 2 after it, 3 before its answer.
 fn proxy(place: &Place) -> (String, Arc<AtomicU8>) {
     let base = place.journal.split_once("host=").unwrap().1;
     let base = Path::new(base).join(".s.PGSQL.5432");

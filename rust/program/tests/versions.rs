@@ -78,7 +78,7 @@ fn every_version_is_served_and_goes_on() {
             (true, 0),
             "{said}{why}"
         );
-        // What an earlier version told is told as it was: requests, names, times, what was barred.
+        // What an earlier version told is reported as it was: requests, names, times, what was barred.
         let kept = copy(&self::room(&format!("kept{version}")), version);
         for more in [&[][..], &["--json"], &["--barred"]] {
             let listing =

@@ -37,7 +37,7 @@ pub enum Saved {
 pub enum Failed {
     /// There is no room, or another program keeps the file to itself: nothing of it is in the journal, and the next group may be tried.
     NotDone(String),
-    /// What the file holds is not known until it is read anew.
+    /// What the file holds is not known until it is read again.
     Lost(String),
 }
 
@@ -52,10 +52,10 @@ pub struct Journal {
     last: i64,
     chain: Chain,
     clock: Clock,
-    /// A snapshot is taken after so many requests.
+    /// A snapshot is taken after that many requests.
     every: i64,
     snapshot: i64,
-    /// The size at which a log that does not shrink is told next.
+    /// The size at which a log that does not shrink is reported next.
     large: u64,
 }
 
@@ -89,7 +89,7 @@ impl Journal {
         let locks = Locks::take(path).map_err(refused)?;
         let version = head::version(&read).map_err(|Unfit(why)| refused(why))?;
         drop(read);
-        // What an earlier version wrote is asked anew from its load on before it is written anew.
+        // What an earlier version wrote is asked again from its load on before it is written again.
         let found = found(file, version < VERSION)?;
         found.of_policy(policy).map_err(refused)?;
         let unwritten = |why: String| refused(format!("it cannot be written: {why}"));
@@ -177,7 +177,7 @@ impl Journal {
         let run = |sql| self.connection.prepare_cached(sql)?.execute([]);
         run("BEGIN IMMEDIATE")?;
         let mut chain = self.chain.clone();
-        // What was barred stands behind the last request of the group before.
+        // What was barred stands after the last request of the group before.
         self.notes(group.barred, &mut chain)?;
         rows(&self.connection, group.rows, &mut chain)?;
         let last = group.rows.last().map_or(self.last, |row| row.number);
@@ -255,7 +255,7 @@ impl Journal {
         busy == Ok(0)
     }
 
-    /// A log that a reader kept from being used again is cut off when that one is gone; until then it is told.
+    /// A log that a reader kept from being used again is cut off when that one is gone; until then it is reported.
     fn watched(&mut self, log: u64) {
         if log <= 2 * self.reserve.bytes() {
             self.large = 4 * self.reserve.bytes();
@@ -442,7 +442,7 @@ fn failed(why: &rusqlite::Error) -> Failed {
     }
 }
 
-/// Makes the files private and looks at their folder; what is to be known of it is told.
+/// Makes the files private and looks at their folder; what is to be known of it is reported.
 fn guarded(file: &Path) -> Result<(), String> {
     files::linked_once(file)?;
     let risk = files::folder(file)?;

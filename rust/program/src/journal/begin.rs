@@ -21,7 +21,7 @@ use std::path::{Path, PathBuf};
 /// The program's version, as journals keep it.
 pub const PROGRAM: &str = env!("CARGO_PKG_VERSION");
 
-/// A journal's file with something behind its name, as SQLite has its own files.
+/// A journal's file with something after its name, as SQLite has its own files.
 pub fn beside(file: &Path, behind: &str) -> PathBuf {
     let mut name = file.as_os_str().to_owned();
     name.push(behind);
@@ -37,7 +37,7 @@ pub fn now() -> i64 {
 /// The longest name that a journal takes, in bytes.
 pub const LONGEST_NAME: usize = 64;
 
-/// What a move brings into a new journal, behind its head.
+/// What a move brings into a new journal, after its head.
 pub struct Brought<'a> {
     /// The journal that the desk was moved from, its last request, and the sum of that where rows are chained there.
     pub from: &'a str,
@@ -62,7 +62,7 @@ pub struct Key {
     pub place: u16,
 }
 
-/// Makes a journal of an accepted policy, where there is none, in a file or in a database. A refused policy is told by the caller.
+/// Makes a journal of an accepted policy, where there is none, in a file or in a database. A refused policy is reported by the caller.
 pub fn begin(file: &str, policy: &Policy) -> Result<Result<(), Refused>, Stop> {
     if let Err(refused) = Desk::open(policy) {
         return Ok(Err(refused));
@@ -197,7 +197,7 @@ fn declared(act: &Connection, policy: &Policy) -> rusqlite::Result<()> {
     Ok(())
 }
 
-/// What a move brings: where from, the keys, and requests that were granted, with a snapshot behind them.
+/// What a move brings: where from, the keys, and requests that were granted, with a snapshot after them.
 fn moved_in(act: &Connection, brought: &Brought) -> rusqlite::Result<()> {
     let sum = brought.sum.as_ref().map(|sum| &sum[..]);
     act.execute(
@@ -226,7 +226,7 @@ fn moved_in(act: &Connection, brought: &Brought) -> rusqlite::Result<()> {
     }
 }
 
-/// Gives the head its sum, which the sums of all requests are behind.
+/// Gives the head its sum, which the sums of all requests are after.
 pub fn sealed(act: &Connection) -> rusqlite::Result<Sum> {
     let sum = head::sum(act)?;
     act.execute("UPDATE journal SET sum = ?1", [&sum[..]])?;
@@ -274,7 +274,7 @@ pub fn fields(record: &Record) -> [i64; 6] {
     ]
 }
 
-/// The buffers' lengths in words, which the library tells.
+/// The buffers' lengths in words, which the library says.
 pub fn lengths() -> [i64; 3] {
     let state = State::zeroed();
     [&state.policy, &state.sessions, &state.orders].map(|buffer| buffer.len() as i64)

@@ -3,7 +3,7 @@
 use super::begin::now;
 use std::time::Instant;
 
-/// A difference of the two clocks that is told: one second.
+/// A difference of the two clocks that is reported: one second.
 const JUMP: i64 = 1_000_000;
 
 /// A clock that was set: the time that was expected, and the one that was found.
@@ -21,7 +21,7 @@ pub struct Clock {
 }
 
 impl Clock {
-    /// A clock that goes on behind a last known time.
+    /// A clock that goes on after a last known time.
     pub fn after(last: i64) -> Clock {
         let (expected, found) = (last, now());
         Clock {
@@ -59,7 +59,7 @@ mod tests {
         clock.time();
         let jump = clock.jump.unwrap();
         assert!(jump.found - jump.expected > 9 * 365 * 86_400 * JUMP);
-        // A second one before the first was told: what was expected at first stays.
+        // A second one before the first was reported: what was expected at first stays.
         clock.wall -= 100 * JUMP;
         clock.time();
         assert_eq!(clock.jump.unwrap().expected, jump.expected);

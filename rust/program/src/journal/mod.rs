@@ -64,7 +64,7 @@ pub struct Bytes {
 }
 
 impl Bytes {
-    /// Of at most sixteen bytes; what is behind them is left out.
+    /// Of at most sixteen bytes; what is after them is left out.
     pub fn of(given: &[u8]) -> Bytes {
         let mut bytes = [0; LENGTH];
         let length = given.len().min(LENGTH);

@@ -11,7 +11,7 @@ use records::Record;
 use rusqlite::{Connection, Rows};
 use std::collections::BTreeMap;
 
-/// What a journal tells, in its order.
+/// What a journal says, in its order.
 pub enum Step {
     /// What stands between the request before it and the next one.
     Note(Note),
@@ -19,7 +19,7 @@ pub enum Step {
     Row(Row, Kept),
 }
 
-/// Tells the rows of a table of requests behind one, with all that belongs to each. What comes back is a request that the other tables know
+/// Tells the rows of a table of requests after one, with all that belongs to each. What comes back is a request that the other tables know
 /// of, and that is not there: of a journal that was cut.
 pub fn each(
     act: &Connection,
@@ -63,7 +63,7 @@ pub fn each(
     Ok(later.into_iter().flatten().max())
 }
 
-/// The requests behind one, as `row` takes them.
+/// The requests after one, as `row` takes them.
 fn select(version: i64, table: &str) -> String {
     let key = if version < 3 { "NULL" } else { "key" };
     format!(
@@ -123,7 +123,7 @@ pub fn record(columns: &rusqlite::Row, from: usize) -> rusqlite::Result<Record> 
     ))
 }
 
-/// The names that requests behind one gave, in their order.
+/// The names that requests after one gave, in their order.
 const GIVEN: &str =
     "SELECT request, sort, number, name FROM name WHERE request > ?1 ORDER BY request, rowid";
 
@@ -148,7 +148,7 @@ pub fn naming(columns: &rusqlite::Row) -> Result<Naming, Unfit> {
     })
 }
 
-/// What requests behind one were moved from, by request: a move's requests alone, which are a desk's present.
+/// What requests after one were moved from, by request: a move's requests alone, which are a desk's present.
 fn moved(act: &Connection, version: i64, after: i64) -> Result<BTreeMap<i64, Moved>, Unfit> {
     let mut all = BTreeMap::new();
     if version < 3 {
@@ -190,7 +190,7 @@ pub fn moved_keys(act: &Connection) -> Result<Vec<Key>, Unfit> {
     Ok(rows.collect::<Result<_, _>>()?)
 }
 
-/// What stands between requests, from behind one on, as `note` takes it: each sort in its order.
+/// What stands between requests, from after one on, as `note` takes it: each sort in its order.
 const NOTES: &str = "
 SELECT after, 0 AS sort, id, at, program, NULL, NULL, NULL, NULL, NULL FROM start WHERE after >= ?1
 UNION ALL SELECT after, 1, id, at, account, client, via, record, asked, why FROM barred WHERE after >= ?1
@@ -200,7 +200,7 @@ ORDER BY after, sort, id";
 /// What was barred from one time to another, as `note_of` takes it.
 pub const BARRED: &str = "SELECT after, 1, id, at, account, client, via, record, asked, why FROM barred WHERE at >= ?1 AND at < ?2 ORDER BY id";
 
-/// The next note, with the request that it is behind.
+/// The next note, with the request that it is after.
 pub fn note_of(rows: &mut Rows) -> Result<Option<(i64, Note)>, Unfit> {
     let Some(columns) = rows.next()? else {
         return Ok(None);

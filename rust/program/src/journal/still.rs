@@ -29,7 +29,7 @@ impl Still {
         let what = match is_database(word) {
             true => {
                 let place = place_of(word)?;
-                // A desk or tables that are not there are told as whoever reads is told.
+                // A desk or tables that are not there are reported as to whoever reads.
                 drop(Reading::open(&place)?);
                 What::Database(Box::new(Held::take(&place).map_err(refused)?))
             }

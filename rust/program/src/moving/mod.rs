@@ -42,7 +42,7 @@ struct Present {
 }
 
 impl Present {
-    /// Asks a whole journal anew.
+    /// Asks a whole journal again.
     fn read(file: &str) -> Result<Present, Stop> {
         let mut progress = Progress::over(file, "move")?;
         let mut tables: Option<(Told, Told)> = None;

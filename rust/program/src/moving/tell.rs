@@ -1,4 +1,4 @@
-//! How a move is told.
+//! How a move is reported.
 
 use super::Outcome;
 use crate::carry::Users;

@@ -33,7 +33,7 @@ fn content(word: &str) -> Vec<u8> {
     })
 }
 
-/// A policy with some of its rules dropped and some of another's added behind them.
+/// A policy with some of its rules dropped and some of another's added after them.
 fn changed(random: &mut Random, of: &Policy) -> Policy {
     let other = policy(random);
     let rule = |record: &Record| matches!(record.kind(), 9..=16);

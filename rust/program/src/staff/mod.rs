@@ -1,4 +1,4 @@
-//! `staff`: a roster and a policy tried out before anybody waits. It tells what the clerks of each shift can finish and how many of them may be
+//! `staff`: a roster and a policy tried out before anybody waits. It says what the clerks of each shift can finish and how many of them may be
 //! away (docs/STAFF.md); `--simulate` plays orders that come in, and leaves a journal.
 
 mod chart;

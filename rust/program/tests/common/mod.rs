@@ -23,7 +23,7 @@ pub fn mishantral(arguments: &[&str]) -> Command {
     command
 }
 
-/// What it writes, what it tells and its exit status. A server that should have been refused is ended after a while.
+/// What it writes, what it says and its exit status. A server that should have been refused is ended after a while.
 pub fn run(arguments: &[&str]) -> (String, String, i32) {
     let mut command = mishantral(arguments);
     command
@@ -276,7 +276,7 @@ impl Place {
         listed.lines().map(String::from).collect()
     }
 
-    /// The whole journal asked anew; what is told of it.
+    /// The whole journal asked again; what is told of it.
     pub fn checked(&self, told: &str) {
         let (checked, why, status) = self.journal(&["--check"]);
         assert_eq!(

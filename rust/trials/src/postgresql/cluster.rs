@@ -142,7 +142,7 @@ impl Cluster {
         Ok(())
     }
 
-    /// What Patroni is told: docs/OPERATE.md has the same for two machines.
+    /// What Patroni is given: docs/OPERATE.md has the same for two machines.
     fn settings(&self, at: usize) -> Result<String, String> {
         let Node {
             name,

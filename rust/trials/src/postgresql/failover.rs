@@ -51,7 +51,7 @@ struct Moved {
     met: Met,
 }
 
-/// Moves the primary so many times in each way; or what was lost.
+/// Moves the primary that many times in each way; or what was lost.
 pub fn failover(program: &Path, turns: usize) -> Result<(), String> {
     if let Some(missing) = missing() {
         println!("not tried: {missing}");
@@ -113,7 +113,7 @@ impl Scene<'_> {
         Ok(())
     }
 
-    /// One move under load, with all that must hold behind it.
+    /// One move under load, with all that must hold after it.
     fn moved(&mut self, event: Event, server: &mut Server) -> Result<Moved, String> {
         let at = self.cluster.whole()?;
         self.crowds += 1;

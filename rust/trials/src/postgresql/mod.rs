@@ -92,7 +92,7 @@ impl Scene {
         Ok(())
     }
 
-    /// The whole journal asked anew, by the program.
+    /// The whole journal asked again, by the program.
     pub fn checked(&self, which: Which) -> Result<(), String> {
         let address = match which {
             Which::Primary => self.primary.address(),
@@ -114,7 +114,7 @@ impl Drop for Scene {
     }
 }
 
-/// The whole journal at an address asked anew, by the program.
+/// The whole journal at an address asked again, by the program.
 fn checked(program: &Path, address: &str) -> Result<(), String> {
     let mut command = Command::new(program);
     command.args(["journal", address, "--desk", DESK, "--check"]);

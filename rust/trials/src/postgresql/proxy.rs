@@ -69,7 +69,7 @@ impl Writes {
         if let Some(name) = prepared(part) {
             self.names.push(name);
         }
-        // A portal without a name, and the statement's name, each with a zero behind it.
+        // A portal without a name, and the statement's name, each with a zero after it.
         let run = |name: &Vec<u8>| {
             let bound = [&[0], &name[..], &[0]].concat();
             part.first() == Some(&b'B') && part.windows(bound.len()).any(|bytes| bytes == bound)

@@ -160,7 +160,7 @@ fn texts<'a>(keys: &'a [Key], of: impl Fn(&'a Key) -> &'a String) -> Vec<&'a str
     keys.iter().map(|key| of(key).as_str()).collect()
 }
 
-/// The requests that a move brings, and a snapshot behind them: as the first group of a desk that nobody has served.
+/// The requests that a move brings, and a snapshot after them: as the first group of a desk that nobody has served.
 fn rows(wire: &mut Wire, desk: &str, brought: &Brought, chain: Chain) -> Result<(), Unfit> {
     let mut chain = chain;
     let rows: Vec<(&Row, Sum)> = brought.rows.iter().map(|r| (r, chain.row(r))).collect();

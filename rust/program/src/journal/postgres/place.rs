@@ -1,4 +1,4 @@
-//! Where a journal in PostgreSQL is: an address as libpq has it, `postgresql://user@host/database`, and the desk's name behind `#`.
+//! Where a journal in PostgreSQL is: an address as libpq has it, `postgresql://user@host/database`, and the desk's name after `#`.
 
 use super::tls::{Tls, Trust};
 use crate::serve::decoded;
@@ -16,7 +16,7 @@ pub fn is_database(word: &str) -> bool {
     word.starts_with("postgresql://") || word.starts_with("postgres://")
 }
 
-/// The address with a desk behind it; a file stays as it is.
+/// The address with a desk after it; a file stays as it is.
 pub fn with_desk(word: &str, desk: Option<&str>) -> String {
     match desk.filter(|_| is_database(word) && !word.contains('#')) {
         Some(desk) => format!("{word}#{desk}"),

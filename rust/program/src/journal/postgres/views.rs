@@ -1,7 +1,7 @@
 //! The views of journals in PostgreSQL, for those who prefer SQL: those of a file (../views.rs), each with its desk. They have the same columns
 //! and the same texts of times, so that the queries of docs/HOLDS.md run over both.
 
-/// What makes them anew: a migration. `opening` and `answered` had been there without what a move brings, and with times that are no text.
+/// What makes them again: a migration. `opening` and `answered` had been there without what a move brings, and with times that are no text.
 pub const VIEWS: &str = r#"
 DROP VIEW opening;
 DROP VIEW answered;

@@ -1,6 +1,6 @@
 //! One connection to a database, driven by the thread that has it: whatever is asked is waited for, but not for ever.
 //!
-//! A wait for a synchronous standby that somebody cancels is told as success, with a warning alone. So warnings are kept, and whoever
+//! A wait for a synchronous standby that somebody cancels is reported as success, with a warning alone. So warnings are kept, and whoever
 //! commits looks at them before anybody is answered.
 
 use super::place::{said, Place};

@@ -38,7 +38,7 @@ pub struct Journal {
     groups: i64,
     chain: Chain,
     clock: Clock,
-    /// A snapshot is taken after so many requests.
+    /// A snapshot is taken after that many requests.
     every: i64,
     snapshot: i64,
 }
@@ -52,7 +52,7 @@ pub fn connected(place: &Place, saved: Saved) -> Result<Wire, String> {
     Ok(wire)
 }
 
-/// Writes a group with its sums behind a request, where the desk is of this start: whether the fence let it through.
+/// Writes a group with its sums after a request, where the desk is of this start: whether the fence let it through.
 pub fn written(
     wire: &mut Wire,
     desk: &str,
@@ -183,7 +183,7 @@ impl Journal {
         Ok(())
     }
 
-    /// Connects anew and takes the desk from itself: how many groups there are, of which none is on its way any more.
+    /// Connects again and takes the desk from itself: how many groups there are, of which none is on its way any more.
     fn retaken(&mut self, why: &str) -> Result<i64, Failed> {
         report(format!(
             "{}: {why}; nobody is answered until it is known what was written",
