@@ -87,23 +87,30 @@ pub fn numbers(record: &[u8]) -> Vec<(Sort, Field, u16)> {
     all
 }
 
-/// A policy's lines, which give each name where its number is declared and use it from there on.
+/// A policy's lines, which give each name where its number is declared and use it from there on. An object that no permission declares, as
+/// one of a wall may be, is named by a line of its own.
 pub fn policy(records: &[u8], names: &Names) -> String {
     let mut text = String::new();
     let mut known = Names::default();
     for record in records.chunks(LENGTH) {
         let mut given = Vec::new();
-        text += &line_by(record, &mut |sort, field, number| {
+        let mut named = String::new();
+        let line = line_by(record, &mut |sort, field, number| {
             let name = names.name(sort, number);
             match (name, known.name(sort, number)) {
                 (Some(name), None) if declares(record[0], field) => {
                     given.push((sort, number, name));
                     format!("{number} {}", shown(name))
                 }
+                (Some(name), None) if sort == Sort::Object => {
+                    given.push((sort, number, name));
+                    named += &format!("object {number} {}\n", shown(name));
+                    shown(name)
+                }
                 _ => known.shown(sort, number),
             }
         });
-        text.push('\n');
+        text += &format!("{named}{line}\n");
         for (sort, number, name) in given {
             known.give(sort, number, name);
         }
@@ -133,6 +140,17 @@ permission 1 p is operation 2 read on object 9 book\nblock of partitioning 3 mon
             policy(&bytes, &Names::default()),
             lines(&bytes, &Names::default())
         );
+    }
+
+    /// An object of a wall may be declared nowhere else: its name is not lost.
+    #[test]
+    fn objects_of_walls_keep_their_names() {
+        let text = "permission 0 p is operation 0 open_it on object 0 book\nobject 4 mails\nwall 0 block 0 object mails\n\
+            wall 0 block 1 object book\nwall 1 block 0 object mails\n";
+        let read =
+            read(text.as_bytes(), &Names::default(), true).unwrap_or_else(|e| panic!("{e:?}"));
+        let bytes: Vec<u8> = read.records().flat_map(|(_, r)| r.to_vec()).collect();
+        assert_eq!(policy(&bytes, &read.names), text);
     }
 
     /// With names for every other number, some of which need quotes, every line reads back as its record.
