@@ -337,7 +337,7 @@ fn serve() -> Command {
         )
         .arg(value("socket-mode", "MODE", "The socket's mode in octal digits (default 0600: only its owner)"))
         .arg(value("socket-group", "GROUP", "The socket's group"))
-        .arg(value("http", "ADDRESS", "Also answer by HTTP, at a loopback address such as 127.0.0.1:8080 or a Unix socket such as unix:desk.http (docs/HTTP.md)"))
+        .arg(value("http", "ADDRESS", "Also answer by HTTP, at a loopback address such as 127.0.0.1:8080, a Unix socket such as unix:desk.http, or with certificates at any address (docs/HTTP.md)"))
         .arg(
             value("account-header", "NAME", "The header in which a proxy names the account that it has signed in; without it the account is that of the process at the other end of the Unix socket")
                 .requires("http"),
@@ -345,6 +345,26 @@ fn serve() -> Command {
         .arg(value("http-mode", "MODE", "The mode of HTTP's Unix socket (default 0600)").requires("http"))
         .arg(value("http-group", "GROUP", "The group of HTTP's Unix socket").requires("http"))
         .arg(number("http-connections", "The most HTTP connections at once (default 1024)").requires("http"))
+        .arg(
+            number("http-account-connections", "The most HTTP connections of one account at once, or behind a proxy its calls (default: half of all)")
+                .requires("http"),
+        )
+        .arg(
+            value("tls-cert", "FILE", "The server's certificate chain in PEM; HTTP is then encrypted (TLS)")
+                .requires("http")
+                .requires("tls-key")
+                .value_hint(ValueHint::FilePath),
+        )
+        .arg(
+            value("tls-key", "FILE", "The certificate's private key in PEM, without a password")
+                .requires("tls-cert")
+                .value_hint(ValueHint::FilePath),
+        )
+        .arg(
+            value("tls-client-ca", "FILE", "The certificate authorities of clients, in PEM; the account is the common name of the client's certificate")
+                .requires("tls-cert")
+                .value_hint(ValueHint::FilePath),
+        )
         .arg(
             value("access", "FILE", "Which account may ask what; without it only the server's own account and root may connect, and may ask everything")
                 .value_hint(ValueHint::FilePath),
@@ -354,6 +374,7 @@ fn serve() -> Command {
         .arg(number("keys", "For how many days a request that is sent again with its key is answered from the journal (default 30)"))
         .arg(number("clients", "The most clients at once (default 1000)"))
         .arg(number("account-clients", "The most clients of one account at once (default: half of all)"))
+        .arg(number("idle-seconds", "The most seconds that an HTTP connection on which nothing moves is kept, or a client that takes no replies (default 60)"))
         .arg(number("question-seconds", "The most seconds that a question (who, finish, why) may take (default 5)"))
         .arg(number("question-megabytes", "The most memory that a question may take, in megabytes (default 32)"))
         .arg(flag("together", "If one desk's journal fails, end all desks"))
@@ -384,6 +405,7 @@ fn serve() -> Command {
             "  mishantral serve --desk mill=mill.db --desk yard=yard.db --socket desks.sock\n",
             "  mishantral serve --journal desk.db --http unix:desk.http\n",
             "  mishantral serve --journal desk.db --access access.txt --http 127.0.0.1:8080 --account-header X-Account\n",
+            "  mishantral serve --journal desk.db --access access.txt --http 0.0.0.0:8443 --tls-cert desk.crt --tls-key desk.key --tls-client-ca clerks.crt\n",
             "  mishantral serve policy.txt --journal postgresql://desk@/desks?host=/run/postgresql --desk mill --socket desk.sock --standby\n",
             "\n",
             "Exit status: 1 a policy or a journal was refused, or the journal failed; 2 wrong use, or a file that cannot be read.",

@@ -377,6 +377,14 @@ fn serve(given: &ArgMatches, out: &mut dyn Write) -> Done {
             mode: http_mode,
             group: text(given, "http-group").map(String::from),
             connections: number("http-connections", 1024) as usize,
+            each: given
+                .get_one::<u64>("http-account-connections")
+                .map(|&count| count as usize),
+            tls: text(given, "tls-cert").map(|certificate| serve::Tls {
+                certificate: certificate.to_string(),
+                key: text(given, "tls-key").unwrap_or_default().to_string(),
+                clients: text(given, "tls-client-ca").map(String::from),
+            }),
         }),
         access: text(given, "access").map(String::from),
         group: number("group", 4096) as usize,
@@ -397,6 +405,7 @@ fn serve(given: &ArgMatches, out: &mut dyn Write) -> Done {
         clients_each: given
             .get_one::<u64>("account-clients")
             .map(|&count| count as usize),
+        patience: Duration::from_secs(number("idle-seconds", 60)),
         questions: serve::Allowed {
             seconds: number("question-seconds", 5),
             bytes: number("question-megabytes", 32) as usize * 1_000_000,
@@ -466,19 +475,12 @@ fn journal(given: &ArgMatches, out: &mut dyn Write) -> Done {
     if print {
         return journal::print_seal(file, out);
     }
-    let word = |name: &str| text(given, name).map(String::from);
     let filter = journal::Filter {
-        order: word("order"),
         opening: given.get_one::<u64>("opening").map(|&n| n as i64),
-        user: word("user"),
-        task: word("task"),
-        account: word("account"),
-        reply: word("reply"),
-        since: word("since"),
-        until: word("until"),
         last: given.get_one::<u64>("last").map(|&count| count as usize),
         barred: given.get_flag("barred"),
         json: given.get_flag("json"),
+        ..journal::Filter::of_texts(|name| text(given, name).map(String::from))
     };
     journal::list(file, &filter, out)
 }
@@ -505,49 +507,26 @@ fn finish(given: &ArgMatches, out: &mut dyn Write) -> Done {
 }
 
 fn holds(given: &ArgMatches, out: &mut dyn Write) -> Done {
-    let word = |name| text(given, name);
-    let shifts = match (word("by"), word("shifts")) {
-        (Some("shift"), None) => {
-            return wrong(
-                "--by shift takes the shifts: --shifts 'day 06:00-14:00, night 22:00-06:00'",
-            )
-        }
-        (_, shifts) => holds::shifts(shifts).or_else(wrong)?,
+    let word = |name: &str| text(given, name);
+    let asked = holds::Words {
+        word: &word,
+        said: |name, value| format!("--{name} {value}"),
     };
-    let zone = word("zone").unwrap_or("UTC");
-    let Some(zone) = holds::Zone::read(zone) else {
-        return wrong(format!("--zone {zone}: +01:00, -03:30 or UTC is expected"));
-    };
-    let panels = words(given, "panels");
-    let panels = panels.iter().filter_map(|name| holds::Panel::of_name(name));
-    let mut picture = holds::Picture {
-        panels: panels.collect(),
+    let panels = asked.panels(&words(given, "panels")).or_else(wrong)?;
+    let picture = holds::Picture {
+        panels,
         title: word("title"),
         top: given.get_one::<f64>("top").copied(),
     };
-    if picture.panels.is_empty() {
-        picture.panels = holds::Panel::ALL.to_vec();
+    let mut options = asked.options().or_else(wrong)?;
+    options.plot = word("plot").map(|file| (file, picture));
+    if let Some(&count) = given.get_one::<u64>("worst") {
+        options.worst = count as usize;
     }
-    let options = holds::Options {
-        plot: word("plot").map(|file| (file, picture)),
-        from: word("from").unwrap_or_default(),
-        to: word("to").unwrap_or_default(),
-        end: match word("end") {
-            Some("done") => holds::End::Done,
-            _ => holds::End::Claim,
-        },
-        by: holds::By::of_name(word("by").unwrap_or("month"), shifts),
-        since: word("since"),
-        until: word("until"),
-        zone,
-        worst: given
-            .get_one::<u64>("worst")
-            .map_or(10, |&count| count as usize),
-        form: match (given.get_flag("csv"), given.get_flag("json")) {
-            (true, _) => holds::Form::Csv,
-            (_, true) => holds::Form::Json,
-            _ => holds::Form::Text,
-        },
+    options.form = match (given.get_flag("csv"), given.get_flag("json")) {
+        (true, _) => holds::Form::Csv,
+        (_, true) => holds::Form::Json,
+        _ => holds::Form::Text,
     };
     holds::holds(&journal_of(given, "journal")?, &options, out)
 }

@@ -2,7 +2,7 @@
 
 mod common;
 
-use common::web::{at, read, At};
+use common::web::{at, read, served, At, ACCESS};
 use common::{mishantral, room, run, Server, POLICY};
 use nix::sys::signal::{kill, Signal};
 use nix::unistd::Pid;
@@ -10,28 +10,6 @@ use rusqlite::Connection;
 use serde_json::json;
 use std::fs;
 use std::io::{BufRead, BufReader, Write};
-use std::path::Path;
-
-const ACCESS: &str = "account anna is user anna
-account bert is user bert
-account clara is user clara
-account revision reads
-account mueller administers
-account router speaks for everyone
-";
-
-/// A server by TCP, behind a proxy that names accounts in X-Account.
-fn served(room: &Path, more: &[&str]) -> (Server, At) {
-    let (access, journal) = (room.join("access"), room.join("desk.db"));
-    fs::write(&access, ACCESS).unwrap();
-    let mut all = vec!["serve", POLICY, "--journal", journal.to_str().unwrap()];
-    all.extend(["--access", access.to_str().unwrap()]);
-    all.extend(["--http", "127.0.0.1:0", "--account-header", "X-Account"]);
-    all.extend(more);
-    let server = Server::started(&mut mishantral(&all), journal);
-    let at = at(&server);
-    (server, at)
-}
 
 const REQUESTS: &str = "/v1/desks/desk/requests";
 

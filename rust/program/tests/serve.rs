@@ -209,7 +209,7 @@ fn what_is_not_fit_is_refused_and_stays_as_it_is() {
         "the snapshot after request 8",
     );
     damaged(
-        "UPDATE snapshot SET version = 3",
+        "UPDATE snapshot SET version = version + 1",
         "the snapshot after request 8",
     );
     damaged("PRAGMA user_version = 4", "reads versions 2 to 3");
@@ -327,8 +327,7 @@ fn who_and_finish_are_asked_of_a_journal_and_of_a_server() {
         let (told, _, status) = asked(&["finish", "mill"]);
         assert_eq!(status, 1);
         assert!(
-            told.contains("with gerda it can be finished")
-                && told.contains("with hans it can be finished"),
+            told.contains("with one of gerda and hans it can be finished"),
             "{told}"
         );
         let (told, _, status) = asked(&["finish", "--all", "--with", "anna,bert,dirk,fritz,hans"]);

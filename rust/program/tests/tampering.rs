@@ -177,7 +177,7 @@ fn a_changed_column_is_found() {
         ("INSERT INTO moved_key VALUES ('anna', 'k', 1, 2, x'00', 0, 0)", "the policy"),
         ("UPDATE snapshot SET names = names || 'order 9 new' || char(10) WHERE after = 4", "the snapshot after request 4"),
         ("UPDATE snapshot SET openings = zeroblob(512) WHERE after = 4", "the snapshot after request 4"),
-        ("UPDATE snapshot SET version = 3 WHERE after = 4", "the snapshot after request 4"),
+        ("UPDATE snapshot SET version = version + 1 WHERE after = 4", "the snapshot after request 4"),
     ] {
         for part in ["-wal", "-shm"] {
             let _ = fs::remove_file(whole.room.join(format!("desk.db{part}")));

@@ -90,7 +90,7 @@ fn a_rule_that_comes_is_told_with_what_follows_from_it() {
     let lines: Vec<&str> = told.lines().collect();
     assert_eq!(
         lines[0],
-        format!("9 requests under {new}: 2 would be answered otherwise, 1 by themselves and 1 that follow from these")
+        format!("9 requests under {new}: 2 would be answered otherwise, 1 by itself and 1 that follows from it")
     );
     assert!(
         told.contains("\nclaim: 0 GRANTED, would be 15 SEPARATION, rule 1: once\n"),

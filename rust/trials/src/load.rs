@@ -233,29 +233,50 @@ pub fn load(program: &Path, time: Duration, folder: Option<&Path>) -> Result<(),
     Ok(())
 }
 
-/// How often two programs are measured in turn.
-const TURNS: usize = 5;
+/// How often what is compared is measured in turn.
+pub const TURNS: usize = 9;
 
-/// Requests a second of one program by those of another, the two measured in turn: the median of the ratios.
+/// What a change may cost at most.
+const KEPT: f64 = 0.95;
+
+/// The middle of some numbers, and those a quarter and three quarters up.
+pub fn quartiles(mut numbers: Vec<f64>) -> [f64; 3] {
+    numbers.sort_by(f64::total_cmp);
+    let last = numbers.len().saturating_sub(1);
+    [1, 2, 3].map(|quarter| numbers.get(last * quarter / 4).copied().unwrap_or(0.0))
+}
+
+/// Requests a second of one program by those of another, the two measured in turn, each first as often as second: the median of the ratios.
+/// Fails where that is below 0.95 for a desk with a journal that is saved as usual.
 pub fn ratio(program: &Path, before: &Path, time: Duration) -> Result<(), String> {
-    println!("| | clients | median ratio | lowest | highest |\n|---|---:|---:|---:|---:|");
+    println!("| | clients | median ratio of {TURNS} | quartiles |\n|---|---:|---:|---:|");
+    let mut slow = Vec::new();
     for way in &WAYS {
         for clients in CLIENTS {
             let mut ratios = Vec::new();
-            for _ in 0..TURNS {
-                let old = measured(before, way, clients, time)?.a_second;
-                let new = measured(program, way, clients, time)?.a_second;
+            for turn in 0..TURNS {
+                let rate = |program| measured(program, way, clients, time).map(|m| m.a_second);
+                let (new, old) = match turn % 2 {
+                    0 => {
+                        let old = rate(before)?;
+                        (rate(program)?, old)
+                    }
+                    _ => (rate(program)?, rate(before)?),
+                };
                 ratios.push(new / old);
             }
-            ratios.sort_by(f64::total_cmp);
-            let (low, middle, high) = (ratios[0], ratios[TURNS / 2], ratios[TURNS - 1]);
-            println!(
-                "| {} | {clients} | {middle:.2} | {low:.2} | {high:.2} |",
-                way.name
-            );
+            let [low, middle, high] = quartiles(ratios);
+            let name = way.name;
+            println!("| {name} | {clients} | {middle:.2} | {low:.2} to {high:.2} |");
+            if middle < KEPT && name == WAYS[0].name {
+                slow.push(format!("{middle:.3} with {clients} clients"));
+            }
         }
     }
-    Ok(())
+    match slow.is_empty() {
+        true => Ok(()),
+        false => Err(format!("slower than {KEPT} of before: {}", slow.join(", "))),
+    }
 }
 
 fn tables(all: &[(&Way, Vec<Measured>)]) -> String {

@@ -26,7 +26,7 @@ trials: the served desk tried out
   trials load --program PATH [--seconds N] [--docs FOLDER]
   trials cluster --program PATH [--kills N]
   trials stores --program PATH [--seconds N]
-  trials http --program PATH [--seconds N]
+  trials http --program PATH [--seconds N] [--docs FOLDER]
   trials ratio --program PATH --before PATH [--seconds N]
   trials memory --program PATH [--requests N]
   trials desks --program PATH [--seconds N]
@@ -38,14 +38,15 @@ trials: the served desk tried out
   load             requests a second and waits, by clients, with and without a journal
   stores           the same of a file, of PostgreSQL with and without a standby, and of no journal, in one run; and many desks
   http             the same by HTTP, beside the socket's figures
-  ratio            the same of two programs in turn, five times: how many requests a second the first answers, by those of the other
+  ratio            the same of two programs in turn, nine times: how many requests a second the first answers, by those of the other; fails
+                   where that is below 0.95 with a journal
   memory           the server's memory over ten million requests
   desks            what many desks in one server take and give
 
   --program PATH   the program `mishantral`
   --before PATH    the program that it is compared with
   --seconds N      how long each figure is measured; 3 where it is missing
-  --docs FOLDER    where load.md and load.svg are written
+  --docs FOLDER    where load.md and load.svg are written, or load-http.md
   --requests N     10000000 where it is missing
   --kills N        how often it is killed under load; 1000 where it is missing, and 200 with PostgreSQL; with cluster how often the primary
                    is moved in each way, 3 where it is missing
@@ -230,7 +231,7 @@ fn measured(what: &str, options: &Options) -> Result<(), String> {
     let (program, time) = (&options.program, Duration::from_secs(options.seconds));
     match what {
         "load" => load::load(program, time, options.docs.as_deref()),
-        "http" => web::load(program, time),
+        "http" => web::load(program, time, options.docs.as_deref()),
         "ratio" => {
             let before = options.before.as_deref();
             let before = before.ok_or("--before PATH is missing")?;

@@ -1,7 +1,7 @@
 //! The load by HTTP beside the socket's: the same requests, one at a time on a connection that stays, in one run.
 
 use crate::client::{Client, Requests};
-use crate::load::{grouped, waits_of, Measured, CLIENTS};
+use crate::load::{grouped, quartiles, waits_of, Measured, CLIENTS, TURNS};
 use crate::server::{room, How, Server};
 use std::io::{self, BufRead, BufReader, Read, Write};
 use std::os::unix::net::UnixStream;
@@ -135,20 +135,64 @@ fn measured(program: &Path, by: By, clients: usize, time: Duration) -> Result<Me
     Ok(waits_of(waits, count, took, clients))
 }
 
-/// The table: requests a second, the median wait and that of 99 %, by clients.
-pub fn load(program: &Path, time: Duration) -> Result<(), String> {
-    println!("| | clients | requests a second | median µs | 99 % µs | × socket |\n|---|---:|---:|---:|---:|---:|");
-    let mut first = Vec::new();
-    for (name, by) in WAYS {
-        for (at, clients) in CLIENTS.into_iter().enumerate() {
-            let m = measured(program, by, clients, time)?;
-            if by == By::Socket {
-                first.push(m.a_second);
+/// The middle figures of some turns.
+fn middle(all: &[Measured]) -> Measured {
+    let of = |pick: fn(&Measured) -> f64| quartiles(all.iter().map(pick).collect())[1];
+    Measured {
+        clients: all[0].clients,
+        a_second: of(|m| m.a_second),
+        median: of(|m| m.median),
+        most: of(|m| m.most),
+        worst: of(|m| m.worst),
+    }
+}
+
+/// The table: requests a second, the median wait and that of 99 %, by clients; the ways in turn, and the median of the turns.
+pub fn load(program: &Path, time: Duration, folder: Option<&Path>) -> Result<(), String> {
+    let mut rows: Vec<String> = Vec::new();
+    for clients in CLIENTS {
+        let mut all: [Vec<Measured>; WAYS.len()] = Default::default();
+        for turn in 0..TURNS {
+            eprintln!("{clients} clients, turn {} of {TURNS}", turn + 1);
+            for ((_, by), some) in WAYS.iter().zip(&mut all) {
+                some.push(measured(program, *by, clients, time)?);
             }
-            let ratio = first.get(at).map_or(0.0, |socket| m.a_second / socket);
+        }
+        for ((name, _), some) in WAYS.iter().zip(&all) {
+            let each = some.iter().zip(&all[0]);
+            let ratios = each.map(|(m, socket)| m.a_second / socket.a_second);
+            let [low, ratio, high] = quartiles(ratios.collect());
+            let m = middle(some);
             let (rate, median, most) = (grouped(m.a_second), grouped(m.median), grouped(m.most));
-            println!("| {name} | {clients} | {rate} | {median} | {most} | {ratio:.2} |");
+            rows.push(format!("| {name} | {clients} | {rate} | {median} | {most} | {ratio:.2} ({low:.2} to {high:.2}) |"));
         }
     }
-    Ok(())
+    let mut text = String::from("| | clients | requests a second | median µs | 99 % µs | × socket, with quartiles |\n|---|---:|---:|---:|---:|---:|\n");
+    for (name, _) in WAYS {
+        let of = |row: &&String| row.starts_with(&format!("| {name} |"));
+        rows.iter()
+            .filter(of)
+            .for_each(|row| text += &format!("{row}\n"));
+    }
+    print!("{text}");
+    match folder {
+        None => Ok(()),
+        Some(folder) => std::fs::write(folder.join("load-http.md"), written(&text, time))
+            .map_err(|why| why.to_string()),
+    }
+}
+
+/// The page around the table.
+fn written(table: &str, time: Duration) -> String {
+    let seconds = time.as_secs();
+    format!(
+        "# Requests by HTTP beside those of the socket
+
+One run of `tools/load --http`, which writes this page: a journal that is saved in full, each client on a connection of
+its own that stays, by Unix sockets. The three ways are measured in turn, {TURNS} times {seconds} s each; shown is the median of the
+turns, and the ratio to the socket's figure of the same turn. A body of many requests goes into the journal in one
+transaction; its wait is that of the whole body. How busy the machine was shows in the socket's rows.
+
+{table}"
+    )
 }

@@ -11,6 +11,7 @@ mod pairs;
 mod report;
 mod text;
 mod totals;
+mod words;
 
 #[cfg(test)]
 mod trials;
@@ -21,6 +22,7 @@ pub use figures::By;
 pub use measure::End;
 pub use objects::object;
 pub use text::csv;
+pub use words::Words;
 
 use crate::journal::{self, Store, Unfit};
 use crate::progress::Progress;

@@ -38,6 +38,20 @@ pub struct Filter {
 }
 
 impl Filter {
+    /// The filter of texts by their names, as a command line or a query has them.
+    pub fn of_texts(text: impl Fn(&str) -> Option<String>) -> Filter {
+        Filter {
+            order: text("order"),
+            user: text("user"),
+            task: text("task"),
+            account: text("account"),
+            reply: text("reply"),
+            since: text("since"),
+            until: text("until"),
+            ..Filter::default()
+        }
+    }
+
     /// The filter of a line: `order mill reply refused last 20`; or what is wrong with it.
     pub fn of_words(words: &[String]) -> Result<Filter, String> {
         const EXPECTED: &str = "journal [order ORDER] [opening N] [user USER] [task TASK] [account ACCOUNT] [reply REPLY] \

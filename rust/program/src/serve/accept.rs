@@ -4,6 +4,7 @@ use super::account::{peer, Gate};
 use super::client;
 use super::door::Door;
 use super::meter::Meter;
+use super::places::{Place, Places, Whose};
 use super::question::Pool;
 use crate::report::report;
 use nix::sys::resource::{getrlimit, setrlimit, Resource};
@@ -13,7 +14,7 @@ use std::fs::File;
 use std::io::{self, Write};
 use std::os::unix::net::{UnixListener, UnixStream};
 use std::sync::atomic::{AtomicBool, AtomicI64, Ordering};
-use std::sync::{Arc, Mutex, PoisonError};
+use std::sync::Arc;
 use std::thread;
 use std::time::Duration;
 
@@ -35,43 +36,12 @@ pub struct House {
     pub pool: Pool,
     /// No further client comes.
     pub closing: AtomicBool,
-    pub limits: Limits,
+    pub places: Arc<Places>,
+    /// A client that takes no replies for so long is left, and so is a connection of HTTP on which nothing moves.
+    pub patience: Duration,
     pub meter: Arc<Meter>,
-    counts: Mutex<Counts>,
     /// How many clients have come.
     came: AtomicI64,
-}
-
-/// How many clients there may be, and how many of one account.
-#[derive(Clone, Copy, Debug)]
-pub struct Limits {
-    pub clients: usize,
-    pub each: usize,
-}
-
-#[derive(Default)]
-struct Counts {
-    all: usize,
-    by_user: BTreeMap<u32, usize>,
-}
-
-/// A client's place, which is free again when this goes.
-struct Place {
-    house: Arc<House>,
-    uid: u32,
-}
-
-impl Drop for Place {
-    fn drop(&mut self) {
-        let mut counts = self.house.counts();
-        counts.all -= 1;
-        if let Some(count) = counts.by_user.get_mut(&self.uid) {
-            *count -= 1;
-            if *count == 0 {
-                counts.by_user.remove(&self.uid);
-            }
-        }
-    }
 }
 
 impl House {
@@ -79,7 +49,8 @@ impl House {
         desks: BTreeMap<String, Arc<Door>>,
         gate: Gate,
         pool: Pool,
-        limits: Limits,
+        places: Arc<Places>,
+        patience: Duration,
         meter: Arc<Meter>,
     ) -> House {
         House {
@@ -87,9 +58,9 @@ impl House {
             gate,
             pool,
             closing: AtomicBool::new(false),
-            limits,
+            places,
+            patience,
             meter,
-            counts: Mutex::default(),
             came: AtomicI64::new(0),
         }
     }
@@ -99,38 +70,10 @@ impl House {
         self.came.fetch_add(1, Ordering::Relaxed) + 1
     }
 
-    fn counts(&self) -> std::sync::MutexGuard<'_, Counts> {
-        self.counts.lock().unwrap_or_else(PoisonError::into_inner)
-    }
-
-    pub fn clients(&self) -> usize {
-        self.counts().all
-    }
-
     /// A place for a client; or why there is none.
-    fn place(self: &Arc<House>, uid: Uid) -> Result<Place, String> {
-        let Limits { clients, each } = self.limits;
-        let mut counts = self.counts();
-        if counts.all >= clients {
-            return Err(format!("{clients} clients are here, and no more may come"));
-        }
-        let of_this = counts.by_user.entry(uid.as_raw()).or_default();
-        if *of_this >= each {
-            return Err(format!(
-                "{each} clients of this account are here, and no more may come"
-            ));
-        }
-        *of_this += 1;
-        counts.all += 1;
-        let (all, place) = (
-            counts.all,
-            Place {
-                house: self.clone(),
-                uid: uid.as_raw(),
-            },
-        );
-        drop(counts);
-        match has_room(LEFT + all * EACH) {
+    fn place(&self, uid: Uid) -> Result<Place, String> {
+        let place = self.places.take(Whose::User(uid.as_raw()))?;
+        match has_room(LEFT + self.places.taken() * EACH) {
             true => Ok(place),
             false => Err("the server has no memory left for a further client".to_string()),
         }

@@ -20,9 +20,6 @@ use std::time::Duration;
 /// How many requests of a client go into one batch at most.
 const MOST: usize = 1024;
 
-/// A client that takes no replies for so long is left.
-const PATIENCE: Duration = Duration::from_secs(60);
-
 /// A connection, of which there is one descriptor.
 #[derive(Clone)]
 pub struct Stream(pub Arc<UnixStream>);
@@ -62,7 +59,7 @@ struct Client<'a> {
 
 /// Serves a client until it ends, or its desk does.
 pub fn serve(stream: &Arc<UnixStream>, number: i64, uid: Uid, house: &House) -> io::Result<()> {
-    stream.set_write_timeout(Some(PATIENCE))?;
+    stream.set_write_timeout(Some(house.patience))?;
     let who = house.gate.who(uid);
     let mut out = Stream(stream.clone());
     let input = Input::new(out.clone());

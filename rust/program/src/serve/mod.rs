@@ -15,11 +15,12 @@ mod input;
 mod keys;
 mod listen;
 mod meter;
+mod places;
 mod question;
 mod standby;
 
 pub use account::own_account;
-pub use http::{decoded, Wanted as Http};
+pub use http::{decoded, Tls, Wanted as Http};
 pub use listen::Socket;
 pub use question::Allowed;
 
@@ -28,7 +29,7 @@ use crate::names::Sort;
 use crate::report::{self, failed, log, report, Level};
 use crate::source::Policy;
 use crate::stop::{wrong, Done, Stop, REFUSED, WELL};
-use accept::{House, Limits};
+use accept::House;
 use access::{Access, Whose as User};
 use account::Gate;
 use door::Door;
@@ -38,6 +39,7 @@ use meter::Meter;
 use mishantral::Engine;
 use nix::sys::signal::{SigSet, Signal};
 use nix::unistd::Uid;
+use places::{Limits, Places};
 use question::Pool;
 use serde_json::json;
 use standby::Standby;
@@ -80,6 +82,8 @@ pub struct Options {
     /// How many clients there may be at once, and of one account.
     pub clients: usize,
     pub clients_each: Option<usize>,
+    /// For how long a connection is kept on which nothing moves.
+    pub patience: Duration,
     /// What a question may take.
     pub questions: Allowed,
     /// Where one desk ends, all do.
@@ -115,8 +119,10 @@ pub fn serve(options: &Options, out: &mut dyn Write) -> Done {
     let (clients, told) = accept::descriptors(options.clients, desks.len(), connections);
     told.iter().for_each(report);
     let each = options.clients_each.unwrap_or(clients.div_ceil(2));
-    let limits = Limits { clients, each };
-    let house = Arc::new(House::new(desks, gate, pool, limits, Arc::new(meter)));
+    let limits = Limits { all: clients, each };
+    let places = Places::new("clients", limits);
+    let (patience, meter) = (options.patience, Arc::new(meter));
+    let house = Arc::new(House::new(desks, gate, pool, places, patience, meter));
     let (ended, came) = channel();
     for (door, desk, waiting) in served {
         let ended = ended.clone();
@@ -142,7 +148,7 @@ pub fn serve(options: &Options, out: &mut dyn Write) -> Done {
     }
     let mut at = Vec::new();
     let serving = by_http.map(|opened| {
-        at.push(format!("HTTP at {}", opened.at));
+        at.push(opened.told());
         http::start(opened, &house).map_err(|why| threads(&why))
     });
     let serving = serving.transpose()?.map(Arc::new);
@@ -186,7 +192,7 @@ fn started(work: impl FnOnce() + Send + 'static) -> Result<(), Stop> {
 /// Replies that are on their way are sent, if that takes no longer than two seconds.
 fn answered(house: &House, serving: Option<&http::Serving>) {
     let began = Instant::now();
-    let left = || house.clients() + serving.map_or(0, |serving| serving.connections());
+    let left = || house.places.taken() + serving.map_or(0, |serving| serving.connections());
     while left() > 0 && began.elapsed() < Duration::from_secs(2) {
         thread::sleep(Duration::from_millis(5));
     }

@@ -67,7 +67,10 @@ const MINUTE: Duration = Duration::from_secs(60);
 const A_MINUTE: Duration = Duration::from_secs(20);
 
 /// How often it is looked whether a client is still there.
-const LOOK: Duration = Duration::from_millis(50);
+const LOOK: Duration = Duration::from_millis(200);
+
+/// How far the pool's threads stand back: the system gives them what nobody else on the machine wants.
+const NICE: i32 = 19;
 
 /// What each question may take.
 #[derive(Clone, Copy, Debug)]
@@ -150,7 +153,14 @@ impl Pool {
         let cores = thread::available_parallelism().map_or(1, usize::from);
         for _ in 0..(cores / 2).clamp(1, 4) {
             let pool = pool.clone();
-            thread::Builder::new().spawn(move || pool.work())?;
+            let work = move || {
+                // On Linux this holds for the thread that asks, alone. Whoever may not stand back still rests (finish/budget.rs).
+                let _ = rustix::process::nice(NICE);
+                pool.work()
+            };
+            thread::Builder::new()
+                .name("questions".to_string())
+                .spawn(work)?;
         }
         Ok(pool)
     }

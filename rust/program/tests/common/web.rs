@@ -1,11 +1,12 @@
 //! A client of HTTP by hand, so that a test sends exactly the bytes that it means.
 
-use super::Server;
+use super::{mishantral, Server, POLICY};
 use serde_json::Value;
+use std::fs;
 use std::io::{BufRead, BufReader, Read, Write};
 use std::net::TcpStream;
 use std::os::unix::net::UnixStream;
-use std::path::PathBuf;
+use std::path::{Path, PathBuf};
 
 /// Where a server answers.
 #[derive(Clone, Debug)]
@@ -40,10 +41,32 @@ impl Answer {
     }
 }
 
+/// What the accounts of a test may ask.
+pub const ACCESS: &str = "account anna is user anna
+account bert is user bert
+account clara is user clara
+account revision reads
+account mueller administers
+account router speaks for everyone
+";
+
+/// A server by TCP, behind a proxy that names accounts in X-Account.
+pub fn served(room: &Path, more: &[&str]) -> (Server, At) {
+    let (access, journal) = (room.join("access"), room.join("desk.db"));
+    fs::write(&access, ACCESS).unwrap();
+    let mut all = vec!["serve", POLICY, "--journal", journal.to_str().unwrap()];
+    all.extend(["--access", access.to_str().unwrap()]);
+    all.extend(["--http", "127.0.0.1:0", "--account-header", "X-Account"]);
+    all.extend(more);
+    let server = Server::started(&mut mishantral(&all), journal);
+    let at = at(&server);
+    (server, at)
+}
+
 /// The address that a server says it answers HTTP at.
 pub fn at(server: &Server) -> At {
     let line = server.told.last().unwrap();
-    let at = line.split("HTTP at ").nth(1).unwrap();
+    let at = line.split(" at ").nth(1).unwrap();
     let at = at.split(" and ").next().unwrap();
     match at.strip_prefix("unix:") {
         Some(path) => At::Unix(path.into()),

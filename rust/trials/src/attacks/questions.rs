@@ -2,10 +2,13 @@
 
 use super::{text, wanted, Came};
 use crate::client::{Client, Requests};
+use crate::load::quartiles;
 use crate::server::{room, How, Server};
 use crate::talk::{is_answer, Talk};
 use std::fmt::Write as _;
 use std::fs;
+use std::net::Shutdown;
+use std::os::unix::net::UnixStream;
 use std::path::Path;
 use std::sync::atomic::{AtomicBool, AtomicU64, Ordering};
 use std::sync::Arc;
@@ -77,44 +80,59 @@ fn ticks(server: &Server) -> u64 {
     field(11).unwrap_or(0) + field(12).unwrap_or(0)
 }
 
-/// Accounts that ask the hard question until they are told to go; they do not wait for an answer then.
-fn asked(
-    server: &Server,
-    going: &Arc<AtomicBool>,
-) -> Result<Vec<std::thread::JoinHandle<u64>>, String> {
-    let mut askers = Vec::new();
-    for at in 0..ASKERS {
-        let stream = server.connect().map_err(text)?;
-        let _ = stream.set_read_timeout(Some(Duration::from_millis(100)));
-        let going = going.clone();
-        askers.push(std::thread::spawn(move || {
-            let mut talk = Talk::new(stream);
-            let mut told = 0;
-            let _ = talk.ask(&format!("as reader{at}"));
-            while !going.load(Ordering::Relaxed) {
-                if talk.send("finish all").is_err() {
-                    return told;
-                }
-                // Who is sent away may ask again at once; who waits leaves when it is time.
-                let began = Instant::now();
-                while !going.load(Ordering::Relaxed) && began.elapsed() < Duration::from_secs(8) {
-                    match talk.reply() {
-                        Ok(reply) if !reply.is_empty() => {
-                            told += 1;
-                            std::thread::sleep(Duration::from_millis(50));
-                            break;
-                        }
-                        _ => {}
-                    }
-                }
-            }
-            told
-        }));
-    }
-    Ok(askers)
+/// What the fifty accounts do, each on its connection.
+#[derive(Clone, Copy, PartialEq, Eq)]
+enum Do {
+    Nothing,
+    /// Ask the hard question again and again.
+    Ask,
 }
 
-pub fn questions(program: &Path) -> Came {
+/// Their threads, each with how many answers it had, and the other ends of their connections.
+type Fifty = (Vec<std::thread::JoinHandle<u64>>, Vec<UnixStream>);
+
+/// Says who it is, and asks until the connection ends; `begun` counts those who have begun.
+fn asks(stream: UnixStream, at: usize, what: Do, begun: &AtomicU64) -> u64 {
+    let mut talk = Talk::new(stream);
+    let mut told = 0;
+    let _ = talk.ask(&format!("as reader{at}"));
+    loop {
+        let sent = what == Do::Nothing || talk.send("finish all").is_ok();
+        begun.fetch_add(u64::from(told == 0), Ordering::Relaxed);
+        match talk.reply() {
+            Ok(reply) if sent && !reply.is_empty() => told += 1,
+            _ => return told,
+        }
+        // Who is sent away may ask again at once.
+        std::thread::sleep(Duration::from_millis(50));
+    }
+}
+
+/// Fifty accounts come; when this is done, each has begun.
+fn come(server: &Server, what: Do) -> Result<Fifty, String> {
+    let (mut threads, mut streams) = (Vec::new(), Vec::new());
+    let begun = Arc::new(AtomicU64::new(0));
+    for at in 0..ASKERS {
+        let stream = server.connect().map_err(text)?;
+        streams.push(stream.try_clone().map_err(text)?);
+        let begun = begun.clone();
+        threads.push(std::thread::spawn(move || asks(stream, at, what, &begun)));
+    }
+    let began = Instant::now();
+    while begun.load(Ordering::Relaxed) < ASKERS as u64 {
+        let late = began.elapsed() > Duration::from_secs(60);
+        wanted(!late, "some who come are not let in")?;
+        std::thread::sleep(Duration::from_millis(10));
+    }
+    Ok((threads, streams))
+}
+
+/// How often others are measured beside those who ask, and beside as many who say nothing.
+const TURNS: usize = 25;
+const TURN: Duration = Duration::from_millis(500);
+
+/// A desk of 64 hard orders, and accounts that may ask about them.
+fn served(program: &Path) -> Result<Server, String> {
     let room = room("questions");
     fs::write(room.join("policy.txt"), policy()).map_err(text)?;
     let me = std::process::Command::new("id")
@@ -147,40 +165,74 @@ pub fn questions(program: &Path) -> Came {
             format!("an order was not opened: {reply}"),
         )?;
     }
+    Ok(server)
+}
+
+/// What was found in one turn.
+struct Turn {
+    rate: f64,
+    memory: u64,
+    told: u64,
+}
+
+/// Others at work beside the fifty, who then go without waiting for an answer.
+fn turn(server: &Server, what: Do) -> Result<Turn, String> {
+    let (threads, streams) = come(server, what)?;
+    let rate = worked(server, TURN)?;
+    let memory = server.memory();
+    for stream in streams {
+        let _ = stream.shutdown(Shutdown::Both);
+    }
+    let mut told = 0;
+    for thread in threads {
+        told += thread.join().map_err(|_| "one of the fifty failed")?;
+    }
+    // The server sees within a fifth of a second that they have gone.
+    std::thread::sleep(Duration::from_millis(300));
+    Ok(Turn { rate, memory, told })
+}
+
+/// What was asked for has ended with the clients that asked.
+fn rests(server: &Server) -> Result<(), String> {
+    let began = ticks(server);
+    std::thread::sleep(Duration::from_secs(1));
+    let spent = ticks(server) - began;
+    let left = format!("{spent} ticks of work in a second after its clients have gone");
+    wanted(spent < 10, left)
+}
+
+pub fn questions(program: &Path) -> Came {
+    let server = served(program)?;
     let before = server.memory();
     let (mut ratios, mut most, mut told) = (Vec::new(), 0, 0);
-    for _ in 0..5 {
-        let alone = worked(&server, Duration::from_secs(2))?;
-        let going = Arc::new(AtomicBool::new(false));
-        let askers = asked(&server, &going)?;
-        std::thread::sleep(Duration::from_millis(300));
-        let beside = worked(&server, Duration::from_secs(2))?;
-        most = most.max(server.memory());
-        going.store(true, Ordering::Relaxed);
-        for asker in askers {
-            told += asker.join().map_err(|_| "an asker failed")?;
+    for at in 0..TURNS {
+        // Each is first as often as second, so that what else the machine does falls on both alike.
+        let (asking, silent) = match at % 2 {
+            0 => {
+                let silent = turn(&server, Do::Nothing)?;
+                (turn(&server, Do::Ask)?, silent)
+            }
+            _ => (turn(&server, Do::Ask)?, turn(&server, Do::Nothing)?),
+        };
+        ratios.push(asking.rate / silent.rate);
+        (most, told) = (most.max(asking.memory), told + asking.told);
+        if at % 5 == 0 {
+            rests(&server)?;
         }
-        ratios.push(beside / alone);
-        // The clients have gone: what they asked for ends with them.
-        std::thread::sleep(Duration::from_millis(500));
-        let began = ticks(&server);
-        std::thread::sleep(Duration::from_secs(1));
-        let spent = ticks(&server) - began;
-        wanted(
-            spent < 30,
-            format!("{spent} ticks of work a second after its clients have gone"),
-        )?;
     }
-    ratios.sort_by(f64::total_cmp);
-    let middle = ratios[ratios.len() / 2];
+    let [low, middle, high] = quartiles(ratios);
     let grown = most.saturating_sub(before);
-    wanted(
-        middle >= 0.8,
-        format!("others keep {middle:.2} of their throughput ({ratios:.2?})"),
-    )?;
+    let kept = format!("others keep {middle:.2} of their throughput ({low:.2} to {high:.2})");
+    wanted(middle >= 0.8, kept)?;
     wanted(grown < 150_000, format!("the server grew by {grown} KB"))?;
+    // Whoever asks when nobody else does is answered.
+    let mut talk = Talk::new(server.connect().map_err(text)?);
+    talk.ask("as reader0").map_err(text)?;
+    let answer = talk.ask("finish all").map_err(text)?;
+    let is_told = answer.contains("can be finished by those signed in");
+    wanted(is_told, format!("a question is answered {answer:?}"))?;
     Ok(format!(
-        "others keep {:.0} % of their throughput (median of 5; {:.0} to {:.0} %); the server grows by {grown} KB; {told} answers; no work half a second after the clients have gone",
-        100.0 * middle, 100.0 * ratios[0], 100.0 * ratios[4]
+        "others keep {:.0} % of the throughput that they have beside 50 silent clients (median of {TURNS} turns; quartiles {:.0} and {:.0} %); the server grows by {grown} KB; {told} answers; no work a moment after the clients have gone",
+        100.0 * middle, 100.0 * low, 100.0 * high
     ))
 }

@@ -1,5 +1,5 @@
-//! Who asks by HTTP: the account at the other end of a Unix socket, or the one that a proxy's header names. Pages of other sites, which a
-//! clerk's browser may show at the same time, ask nothing.
+//! Who asks by HTTP: the account at the other end of a Unix socket, or the one that a proxy's header or a certificate names. Pages of other
+//! sites, which a clerk's browser may show at the same time, ask nothing.
 
 use super::problem::Problem;
 use super::{is_local, Hall};
@@ -9,6 +9,7 @@ use hyper::header::{HeaderMap, HeaderName, HOST, ORIGIN};
 use hyper::Method;
 use nix::unistd::Uid;
 use std::net::IpAddr;
+use std::sync::Arc;
 
 /// Who says who asks.
 #[derive(Clone, Debug)]
@@ -17,6 +18,8 @@ pub enum Sayer {
     System,
     /// Whoever may connect: a proxy that has signed its clients in.
     Header(HeaderName),
+    /// An authority of certificates: the common name of the client's.
+    Certificate,
 }
 
 impl Sayer {
@@ -32,6 +35,8 @@ impl Sayer {
 pub enum Peer {
     User(Uid),
     Address(IpAddr),
+    /// By TLS, with the account that its certificate names.
+    Certified(IpAddr, Option<Arc<str>>),
 }
 
 /// The account, or why there is none.
@@ -40,9 +45,15 @@ pub fn who(headers: &HeaderMap, peer: &Peer, hall: &Hall) -> Result<Who, Problem
     let via = match peer {
         Peer::User(uid) => gate.who(*uid),
         Peer::Address(address) => gate.nobody(&format!("http:{address}")),
+        Peer::Certified(address, _) => gate.nobody(&format!("https:{address}")),
     };
-    let Sayer::Header(name) = &hall.sayer else {
-        return Ok(via);
+    let name = match (&hall.sayer, peer) {
+        (Sayer::System, _) => return Ok(via),
+        (Sayer::Certificate, Peer::Certified(_, Some(name))) => {
+            return Ok(gate.named(name, &via.account))
+        }
+        (Sayer::Certificate, _) => return Err(Problem::no_certificate()),
+        (Sayer::Header(name), _) => name,
     };
     let mut values = headers.get_all(name).iter();
     let (Some(value), None) = (values.next(), values.next()) else {

@@ -1,7 +1,8 @@
 //! What a request brings: its body, within limits; its path and its query, decoded.
 
 use super::problem::Problem;
-use super::{BODY, IDLE};
+use super::route::Asked;
+use super::BODY;
 use hyper::body::HttpBody;
 use hyper::header::{HeaderMap, CONTENT_LENGTH, CONTENT_TYPE};
 use hyper::Body;
@@ -28,9 +29,10 @@ pub fn kind(headers: &HeaderMap, lines: bool) -> Result<Kind, Problem> {
     }
 }
 
-/// A whole body of at most a megabyte, which arrives within a minute.
-pub async fn whole(headers: &HeaderMap, body: Body) -> Result<Vec<u8>, Problem> {
-    let told = headers
+/// A whole body of at most a megabyte, which arrives in time.
+pub async fn whole(call: &Asked, body: Body) -> Result<Vec<u8>, Problem> {
+    let told = call
+        .headers
         .get(CONTENT_LENGTH)
         .and_then(|value| value.to_str().ok());
     let told = told
@@ -39,9 +41,10 @@ pub async fn whole(headers: &HeaderMap, body: Body) -> Result<Vec<u8>, Problem> 
     if told > BODY as u64 {
         return Err(Problem::too_large(BODY));
     }
-    match tokio::time::timeout(IDLE, read(body)).await {
+    let patience = call.hall.house.patience;
+    match tokio::time::timeout(patience, read(body)).await {
         Ok(read) => read,
-        Err(_) => Err(Problem::slow(IDLE.as_secs())),
+        Err(_) => Err(Problem::slow(patience.as_secs())),
     }
 }
 
@@ -58,9 +61,9 @@ async fn read(mut body: Body) -> Result<Vec<u8>, Problem> {
 }
 
 /// A body of JSON.
-pub async fn json(headers: &HeaderMap, body: Body) -> Result<Value, Problem> {
-    kind(headers, false)?;
-    let bytes = whole(headers, body).await?;
+pub async fn json(call: &Asked, body: Body) -> Result<Value, Problem> {
+    kind(&call.headers, false)?;
+    let bytes = whole(call, body).await?;
     serde_json::from_slice(&bytes).map_err(|why| Problem::no_json(&why))
 }
 

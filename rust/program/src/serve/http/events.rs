@@ -10,7 +10,7 @@ use std::task::Poll;
 use std::time::Duration;
 use tokio::time::{sleep, timeout};
 
-/// Without news there is a sign of life so often.
+/// Without news there is a sign of life so often, and more often where a silent connection is left sooner.
 const BEAT: Duration = Duration::from_secs(15);
 
 /// News come no more often.
@@ -32,7 +32,9 @@ pub async fn events(call: Asked) -> Result<Reply, Problem> {
     Query::read(call.query.as_deref(), &[])?;
     let (mut to, body) = Body::channel();
     let (mut last, mut closing) = (call.door.feed.last.subscribe(), call.hall.closing.clone());
+    let (beat, place) = (BEAT.min(call.hall.house.patience / 4), call.place);
     tokio::spawn(async move {
+        let _place = place;
         let mut text = "retry: 1000\n\n".to_string();
         let mut told = None;
         loop {
@@ -64,7 +66,7 @@ pub async fn events(call: Asked) -> Result<Reply, Problem> {
                 return;
             }
             sleep(PAUSE).await;
-            let _ = timeout(BEAT, either(last.changed(), closing.changed())).await;
+            let _ = timeout(beat, either(last.changed(), closing.changed())).await;
         }
     });
     let mut reply = Reply::of("text/event-stream", body);

@@ -1,32 +1,23 @@
-//! What is asked and changes nothing: the board, who may claim, whether orders can be finished, holds, the journal; health and figures.
+//! What is asked and changes nothing: the board, who may claim, whether orders can be finished, why a request is refused.
 
 use super::board::{self, Times};
 use super::body::Query;
 use super::problem::Problem;
 use super::route::{shown, Asked, Reply};
-use super::rows::Rows;
-use super::Hall;
 use crate::desk::Desk;
 use crate::finish::{self, Budget};
-use crate::holds::{self, By, End, Form, Panel, Picture, Zone};
-use crate::journal::{self, Barred, Filter};
+use crate::journal::Barred;
 use crate::names::{Names, Sort};
 use crate::serve::door::Door;
-use crate::serve::question::{Gone, Pool, Turn};
+use crate::serve::question::{Gone, Pool};
 use crate::stop::Stop;
 use crate::why::{reason, why};
-use hyper::header::ACCEPT;
 use serde_json::{json, Map, Value};
 use std::collections::BTreeMap;
 use std::sync::atomic::Ordering;
-use std::sync::mpsc::sync_channel;
 use std::sync::Arc;
-use std::time::{Duration, Instant};
 use tokio::sync::{oneshot, Mutex};
 use tokio::task::spawn_blocking;
-
-/// How long a desk may take to show that it is there.
-const HEALTHY: Duration = Duration::from_secs(5);
 
 /// What was last found of a desk: the number of the last request by then, and what was found.
 type Found = Mutex<Option<(i64, Arc<Value>)>>;
@@ -140,7 +131,7 @@ pub async fn keep(call: &Asked, asked: &str, why: &str) -> bool {
 }
 
 /// Whether the account may read the journal; that it may not is kept.
-async fn may_read(call: &Asked, asked: &str) -> Result<(), Problem> {
+pub async fn may_read(call: &Asked, asked: &str) -> Result<(), Problem> {
     let Err(why) = call.who.may_read() else {
         return Ok(());
     };
@@ -335,274 +326,4 @@ pub async fn explained(call: &Asked, records: Vec<Vec<u8>>) -> Result<Vec<Vec<St
         Ok(each.collect())
     })
     .await
-}
-
-/// The type that is accepted most, of those that are offered.
-pub fn accepted(call: &Asked, offered: &[&'static str]) -> Result<&'static str, Problem> {
-    let all = call
-        .headers
-        .get_all(ACCEPT)
-        .iter()
-        .filter_map(|value| value.to_str().ok());
-    let all: Vec<&str> = all.flat_map(|value| value.split(',')).collect();
-    if all.is_empty() {
-        return Ok(offered[0]);
-    }
-    let weight = |kind: &str| {
-        let of = |entry: &&str| {
-            let mut parts = entry.split(';').map(str::trim);
-            let range = parts.next().unwrap_or("").to_ascii_lowercase();
-            let main = range
-                .strip_suffix("/*")
-                .is_some_and(|main| kind.starts_with(&format!("{main}/")));
-            let exact = match (range == kind, main, range == "*/*") {
-                (true, ..) => 3,
-                (_, true, _) => 2,
-                (.., true) => 1,
-                _ => return None,
-            };
-            let q = parts.find_map(|part| part.strip_prefix("q=")?.parse::<f32>().ok());
-            Some((exact, (q.unwrap_or(1.0) * 1000.0) as u32))
-        };
-        all.iter().filter_map(of).max().map_or(0, |(_, q)| q)
-    };
-    // Of equals the first that is offered.
-    let best = offered.iter().rev().max_by_key(|kind| weight(kind));
-    best.copied()
-        .filter(|kind| weight(kind) > 0)
-        .ok_or_else(|| Problem::not_acceptable(&offered.join(", ")))
-}
-
-const HOLDS: [&str; 12] = [
-    "from", "to", "end", "by", "shifts", "zone", "since", "until", "worst", "panels", "title",
-    "top",
-];
-
-pub async fn holds(call: Asked) -> Result<Reply, Problem> {
-    let query = Query::read(call.query.as_deref(), &HOLDS)?;
-    let kind = accepted(&call, &["application/json", "text/csv", "image/svg+xml"])?;
-    may_read(&call, "holds").await?;
-    let file = journal_of(&call)?;
-    let turn = turn(&call)?;
-    let measured = spawn_blocking(move || {
-        let began = Instant::now();
-        let measured = measured(&file, &query, kind);
-        turn.took(began.elapsed());
-        measured
-    });
-    let text = measured
-        .await
-        .unwrap_or_else(|_| Err(Problem::failed("holds could not be measured")))?;
-    Ok(Reply::of(kind, text))
-}
-
-fn turn(call: &Asked) -> Result<Turn, Problem> {
-    let pool = &call.hall.house.pool;
-    pool.turn(&call.who.account).map_err(Problem::too_many)
-}
-
-fn journal_of(call: &Asked) -> Result<String, Problem> {
-    let journal = call.door.journal.clone();
-    journal.ok_or_else(|| Problem::not_found("this desk has no journal"))
-}
-
-fn stopped(stop: Stop) -> Problem {
-    match stop {
-        Stop::Wrong(lines) => Problem::wrong(lines.join("; ")),
-        Stop::Refused(lines) => Problem::failed(lines.join("; ")),
-        Stop::Quiet => Problem::failed("nobody reads"),
-    }
-}
-
-fn measured(file: &str, query: &Query, kind: &str) -> Result<String, Problem> {
-    let needed = |name: &str| {
-        query
-            .text(name)
-            .ok_or_else(|| Problem::wrong(format!("{name}=TASK is needed")))
-    };
-    let one_of = |name: &str, all: &[&str]| match query.text(name) {
-        Some(word) if !all.contains(&word) => Err(Problem::wrong(format!(
-            "{name}={word}: one of {} is expected",
-            all.join(", ")
-        ))),
-        _ => Ok(()),
-    };
-    one_of("end", &["claim", "done"])?;
-    one_of("by", &By::NAMES)?;
-    let shifts = holds::shifts(query.text("shifts")).map_err(Problem::wrong)?;
-    if query.text("by") == Some("shift") && shifts.is_empty() {
-        return Err(Problem::wrong(
-            "by=shift takes the shifts: shifts=day 06:00-14:00, night 22:00-06:00",
-        ));
-    }
-    let zone = query.text("zone").unwrap_or("UTC");
-    let zone = Zone::read(zone)
-        .ok_or_else(|| Problem::wrong(format!("zone={zone}: +01:00 or UTC is expected")))?;
-    let options = holds::Options {
-        from: needed("from")?,
-        to: needed("to")?,
-        end: if query.text("end") == Some("done") {
-            End::Done
-        } else {
-            End::Claim
-        },
-        by: By::of_name(query.text("by").unwrap_or("month"), shifts),
-        since: query.text("since"),
-        until: query.text("until"),
-        zone,
-        worst: query.number("worst")?.unwrap_or(10).min(1000) as usize,
-        form: Form::Json,
-        plot: None,
-    };
-    let picture = picture(query)?;
-    let report = holds::measured(file, &options).map_err(stopped)?;
-    Ok(match kind {
-        "image/svg+xml" => holds::picture(&report, &picture),
-        "text/csv" => {
-            let mut out = Vec::new();
-            holds::csv(&report, &mut out).map_err(|why| Problem::failed(why.to_string()))?;
-            String::from_utf8_lossy(&out).into_owned()
-        }
-        _ => holds::object(&report).to_string(),
-    })
-}
-
-fn picture(query: &Query) -> Result<Picture<'_>, Problem> {
-    let mut panels = Vec::new();
-    for name in query
-        .text("panels")
-        .unwrap_or("")
-        .split(',')
-        .filter(|name| !name.is_empty())
-    {
-        let panel = Panel::of_name(name);
-        panels.push(panel.ok_or_else(|| {
-            Problem::wrong(format!(
-                "panels={name}: of {} is expected",
-                Panel::NAMES.join(", ")
-            ))
-        })?);
-    }
-    if panels.is_empty() {
-        panels = Panel::ALL.to_vec();
-    }
-    let top = match query.text("top") {
-        None => None,
-        Some(word) => {
-            let hours = word
-                .parse::<f64>()
-                .ok()
-                .filter(|h| *h > 0.0 && *h < 100_000.0);
-            Some(hours.ok_or_else(|| {
-                Problem::wrong(format!("top={word}: a number of hours is expected"))
-            })?)
-        }
-    };
-    let title = query.text("title");
-    Ok(Picture { panels, title, top })
-}
-
-const JOURNAL: [&str; 10] = [
-    "order", "opening", "user", "task", "account", "reply", "since", "until", "last", "barred",
-];
-
-pub async fn journal(call: Asked) -> Result<Reply, Problem> {
-    let query = Query::read(call.query.as_deref(), &JOURNAL)?;
-    let word = |name: &str| query.text(name).map(String::from);
-    let filter = Filter {
-        order: word("order"),
-        opening: query
-            .number("opening")?
-            .map(|n| n.min(i64::MAX as u64) as i64),
-        user: word("user"),
-        task: word("task"),
-        account: word("account"),
-        reply: word("reply"),
-        since: word("since"),
-        until: word("until"),
-        last: query.number("last")?.map(|n| n.min(1 << 40) as usize),
-        barred: query.flag("barred")?,
-        json: true,
-    };
-    may_read(&call, "journal").await?;
-    let (file, turn) = (journal_of(&call)?, turn(&call)?);
-    let (rows, first) = Rows::new(call.door.policy.clone());
-    spawn_blocking(move || {
-        let began = Instant::now();
-        let mut rows = rows;
-        let listed = journal::list(&file, &filter, &mut rows);
-        rows.end(listed.map(drop).map_err(stopped));
-        turn.took(began.elapsed());
-    });
-    let body = first
-        .await
-        .unwrap_or_else(|_| Err(Problem::failed("the journal could not be read")))?;
-    Ok(Reply::of("application/x-ndjson", body))
-}
-
-/// Whether a desk's thread answers.
-fn is_there(door: &Door) -> bool {
-    let (to, from) = sync_channel(1);
-    let asked = door.to.send(crate::serve::group::Waiting::Look(to));
-    asked.is_ok() && from.recv_timeout(HEALTHY).is_ok()
-}
-
-/// The state of each desk: whether all are well, and whether all are here.
-async fn states(hall: &Hall) -> (Map<String, Value>, bool, bool) {
-    let (mut all, mut well, mut here) = (Map::new(), true, true);
-    for (name, door) in &hall.house.desks {
-        let asked = door.clone();
-        let there = spawn_blocking(move || is_there(&asked)).await;
-        let (there, elsewhere) = (there.unwrap_or(false), door.elsewhere());
-        let state = match (there, &elsewhere, door.ended()) {
-            (true, ..) => "serving",
-            (false, _, Some(_)) => "ended",
-            // Another server has the desk, and this one waits for it.
-            (false, Some(_), None) => "standby",
-            (false, None, None) => "silent",
-        };
-        well &= matches!(state, "serving" | "standby");
-        here &= state == "serving";
-        let last = *door.feed.last.borrow();
-        let mut object = json!({ "state": state, "last": last });
-        if let ("standby", Some(told)) = (state, elsewhere) {
-            object["elsewhere"] = json!(told);
-        }
-        all.insert(shown(name).to_string(), object);
-    }
-    (all, well, here)
-}
-
-fn with_status(status: &str, desks: Map<String, Value>, is_well: bool) -> Reply {
-    let mut reply = Reply::json(json!({ "status": status, "desks": desks }));
-    if !is_well {
-        reply.status = hyper::StatusCode::SERVICE_UNAVAILABLE;
-    }
-    reply
-}
-
-/// 200 while every desk answers, or is watched by a standby.
-pub async fn health(hall: &Hall) -> Result<Reply, Problem> {
-    let (desks, well, _) = states(hall).await;
-    let status = if well { "ok" } else { "failing" };
-    Ok(with_status(status, desks, well))
-}
-
-/// 200 while requests are taken here: not by a standby, and not when the server ends.
-pub async fn ready(hall: &Hall) -> Result<Reply, Problem> {
-    let (desks, well, here) = states(hall).await;
-    let closing = *hall.closing.borrow();
-    let status = match (closing, well, here) {
-        (true, ..) => "ending",
-        (_, true, true) => "ready",
-        (_, true, false) => "standby",
-        _ => "failing",
-    };
-    Ok(with_status(status, desks, status == "ready"))
-}
-
-pub fn metrics(hall: &Hall) -> Reply {
-    let house = &hall.house;
-    let text = house.meter.text(house.clients(), hall.connections());
-    Reply::of("text/plain; version=0.0.4; charset=utf-8", text)
 }

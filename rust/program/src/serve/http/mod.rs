@@ -1,4 +1,4 @@
-//! `--http`: the desks by HTTP/1.1, on a loopback address or a Unix socket (docs/HTTP.md). hyper reads and writes on a small runtime of
+//! `--http`: the desks by HTTP/1.1, on a Unix socket or an address of the network (docs/HTTP.md). hyper reads and writes on a small runtime of
 //! its own; requests go to the desks' threads the same way as those of sockets, and questions to the same pool.
 
 mod account;
@@ -6,6 +6,8 @@ mod authzen;
 mod board;
 mod body;
 mod events;
+mod health;
+mod listed;
 mod look;
 mod page;
 mod problem;
@@ -13,33 +15,22 @@ mod requests;
 mod route;
 mod rows;
 mod stream;
+mod take;
+mod tls;
 
 use super::accept::House;
-use super::account::peer;
 use super::listen::{self, Listening, Socket};
-use crate::report::report;
+use super::places::{Limits, Places};
 use crate::stop::{wrong, Stop};
-use account::{Peer, Sayer};
+use account::Sayer;
 pub use body::decoded;
-use hyper::server::conn::Http;
-use hyper::service::service_fn;
-use hyper::{Body, Request};
 pub use route::shown;
-use std::convert::Infallible;
-use std::future::{poll_fn, Future};
-use std::io::Write;
 use std::net::{IpAddr, SocketAddr, TcpListener};
-use std::pin::pin;
-use std::sync::atomic::{AtomicUsize, Ordering};
 use std::sync::Arc;
-use std::task::Poll;
-use std::time::Duration;
-use stream::{Stream, Wire};
+pub use tls::Files as Tls;
 use tokio::runtime::{Builder, Runtime};
 use tokio::sync::watch;
-
-/// A connection on which nothing moves for so long is left; so is one whose header or body takes longer.
-pub const IDLE: Duration = Duration::from_secs(60);
+use tokio_rustls::TlsAcceptor;
 
 /// The longest header, and the longest body.
 pub const HEADER: usize = 16 << 10;
@@ -58,12 +49,23 @@ pub struct Wanted {
     /// The Unix socket's mode and group.
     pub mode: u32,
     pub group: Option<String>,
-    /// How many connections there may be at once.
+    /// Certificates, where it encrypts itself.
+    pub tls: Option<Tls>,
+    /// How many connections there may be at once, and how many of one account.
     pub connections: usize,
+    pub each: Option<usize>,
+}
+
+impl Wanted {
+    fn limits(&self) -> Limits {
+        let all = self.connections;
+        let each = self.each.unwrap_or(all.div_ceil(2));
+        Limits { all, each }
+    }
 }
 
 enum Listener {
-    Tcp(TcpListener),
+    Tcp(TcpListener, Option<TlsAcceptor>),
     Unix(Listening),
 }
 
@@ -71,9 +73,21 @@ enum Listener {
 pub struct Opened {
     listener: Listener,
     sayer: Sayer,
-    connections: usize,
+    limits: Limits,
+    /// The address.
+    at: String,
+}
+
+impl Opened {
+    fn encrypts(&self) -> bool {
+        matches!(self.listener, Listener::Tcp(_, Some(_)))
+    }
+
     /// The address as it is told.
-    pub at: String,
+    pub fn told(&self) -> String {
+        let scheme = if self.encrypts() { "HTTPS" } else { "HTTP" };
+        format!("{scheme} at {}", self.at)
+    }
 }
 
 /// What every connection has.
@@ -83,71 +97,96 @@ pub struct Hall {
     pub caches: look::Caches,
     /// True when the server ends.
     pub closing: watch::Receiver<bool>,
-    connections: AtomicUsize,
-    most: usize,
+    /// Whether it encrypts itself.
+    pub encrypts: bool,
+    /// The connections that there are.
+    pub places: Arc<Places>,
+    /// What an account has that was named behind its connection's first byte: connections by certificate, or a proxy's calls.
+    pub accounts: Arc<Places>,
 }
 
-impl Hall {
-    pub fn connections(&self) -> usize {
-        self.connections.load(Ordering::Relaxed)
-    }
-}
-
-/// Opens the address, or tells why it cannot be: nothing but this machine's own addresses, and none without a word on who asks.
+/// Opens the address, or tells why it cannot be: none without a word on who asks, and other machines only by certificates.
 pub fn open(wanted: &Wanted, has_access: bool) -> Result<Opened, Stop> {
-    let address = &wanted.address;
-    let sayer = match &wanted.header {
-        None => Sayer::System,
-        Some(name) => Sayer::named(name).or_else(wrong)?,
-    };
-    if matches!(sayer, Sayer::Header(_)) && !has_access {
-        return wrong("--account-header names accounts, and only an access file says what each may ask: add --access FILE");
-    }
-    let connections = wanted.connections;
+    let (address, limits) = (&wanted.address, wanted.limits());
+    let sayer = sayer(wanted, has_access)?;
     if let Some(path) = address.strip_prefix("unix:") {
+        if wanted.tls.is_some() {
+            return wrong(format!("--http {address}: a Unix socket is not encrypted: --tls-cert takes a network address"));
+        }
         let socket = Socket {
             path: path.to_string(),
             mode: wanted.mode,
             group: wanted.group.clone(),
         };
-        let listening = listen::listen(&socket)?;
-        let listener = Listener::Unix(listening);
+        let listener = Listener::Unix(listen::listen(&socket)?);
         let at = address.clone();
         return Ok(Opened {
             listener,
             sayer,
-            connections,
+            limits,
             at,
         });
     }
+    let bound = network(address, &sayer)?;
+    let failed = |why: std::io::Error| Stop::Wrong(vec![format!("--http {address}: {why}")]);
+    let acceptor = wanted.tls.as_ref().map(tls::acceptor).transpose()?;
+    let listener = TcpListener::bind(bound).map_err(failed)?;
+    let at = listener.local_addr().map_err(failed)?.to_string();
+    let listener = Listener::Tcp(listener, acceptor);
+    Ok(Opened {
+        listener,
+        sayer,
+        limits,
+        at,
+    })
+}
+
+/// Who says who asks, by the options.
+fn sayer(wanted: &Wanted, has_access: bool) -> Result<Sayer, Stop> {
+    let by_certificate = wanted.tls.as_ref().is_some_and(|tls| tls.clients.is_some());
+    let sayer = match (&wanted.header, by_certificate) {
+        (Some(_), true) => {
+            return wrong(
+                "--account-header and --tls-client-ca both say who asks: take one of them",
+            )
+        }
+        (Some(name), false) => Sayer::named(name).or_else(wrong)?,
+        (None, true) => Sayer::Certificate,
+        (None, false) => Sayer::System,
+    };
+    let option = match sayer {
+        Sayer::Header(_) => "--account-header",
+        Sayer::Certificate => "--tls-client-ca",
+        Sayer::System => return Ok(sayer),
+    };
+    match has_access {
+        true => Ok(sayer),
+        false => wrong(format!(
+            "{option} names accounts, and only an access file says what each may ask: add --access FILE"
+        )),
+    }
+}
+
+/// An address of the network, where it is known who asks there.
+fn network(address: &str, sayer: &Sayer) -> Result<SocketAddr, Stop> {
     let bound = address.replacen("localhost:", "127.0.0.1:", 1);
     let Ok(bound) = bound.parse::<SocketAddr>() else {
         return wrong(format!(
             "--http {address}: an address as 127.0.0.1:8080 or unix:desk.http is expected"
         ));
     };
-    if !bound.ip().is_loopback() {
-        return wrong(format!(
-            "--http {address}: only this machine's own addresses are served, as 127.0.0.1:8080 or unix:desk.http. For other machines put a \
-             proxy in front, which signs clerks in and encrypts (docs/HTTP.md)"
-        ));
-    }
-    if matches!(sayer, Sayer::System) {
-        return wrong(format!(
+    match sayer {
+        Sayer::Certificate => Ok(bound),
+        Sayer::Header(_) if bound.ip().is_loopback() => Ok(bound),
+        Sayer::System if bound.ip().is_loopback() => wrong(format!(
             "--http {address}: the system does not say who is at the other end of a network address: add --account-header NAME, which a proxy \
-             sets, or listen at a Unix socket, --http unix:PATH"
-        ));
+             sets, or --tls-client-ca FILE, or listen at a Unix socket, --http unix:PATH"
+        )),
+        _ => wrong(format!(
+            "--http {address}: without certificates only this machine's own addresses are served, as 127.0.0.1:8080 or unix:desk.http. For \
+             other machines add --tls-cert, --tls-key and --tls-client-ca, or put a proxy in front, which signs clerks in and encrypts (docs/HTTP.md)"
+        )),
     }
-    let failed = |why: std::io::Error| Stop::Wrong(vec![format!("--http {address}: {why}")]);
-    let listener = TcpListener::bind(bound).map_err(failed)?;
-    let at = listener.local_addr().map_err(failed)?.to_string();
-    let listener = Listener::Tcp(listener);
-    Ok(Opened {
-        listener,
-        sayer,
-        connections,
-        at,
-    })
 }
 
 /// A server of HTTP at work.
@@ -170,7 +209,7 @@ impl Serving {
     }
 
     pub fn connections(&self) -> usize {
-        self.hall.connections()
+        self.hall.places.taken()
     }
 }
 
@@ -184,27 +223,36 @@ pub fn start(opened: Opened, house: &Arc<House>) -> std::io::Result<Serving> {
         .enable_time()
         .build()?;
     let (closing, closed) = watch::channel(false);
+    let each = Limits {
+        all: usize::MAX,
+        each: opened.limits.each,
+    };
+    let counted = match &opened.sayer {
+        Sayer::Header(_) => "calls",
+        _ => "connections",
+    };
     let hall = Arc::new(Hall {
         house: house.clone(),
-        sayer: opened.sayer,
         caches: look::Caches::new(house.desks.keys()),
         closing: closed,
-        connections: AtomicUsize::new(0),
-        most: opened.connections,
+        encrypts: opened.encrypts(),
+        places: Places::new("connections", opened.limits),
+        accounts: Places::new(counted, each),
+        sayer: opened.sayer,
     });
     let inside = runtime.enter();
     let listening = match opened.listener {
-        Listener::Tcp(listener) => {
+        Listener::Tcp(listener, acceptor) => {
             listener.set_nonblocking(true)?;
             let listener = tokio::net::TcpListener::from_std(listener)?;
-            runtime.spawn(by_tcp(listener, hall.clone()));
+            runtime.spawn(take::by_tcp(listener, acceptor, hall.clone()));
             None
         }
         Listener::Unix(listening) => {
             let listener = listening.listener.try_clone()?;
             listener.set_nonblocking(true)?;
             let listener = tokio::net::UnixListener::from_std(listener)?;
-            runtime.spawn(by_unix(listener, hall.clone()));
+            runtime.spawn(take::by_unix(listener, hall.clone()));
             Some(Arc::new(listening))
         }
     };
@@ -215,111 +263,6 @@ pub fn start(opened: Opened, house: &Arc<House>) -> std::io::Result<Serving> {
         closing,
         listening,
     })
-}
-
-async fn by_tcp(listener: tokio::net::TcpListener, hall: Arc<Hall>) {
-    loop {
-        match listener.accept().await {
-            Ok((stream, from)) => {
-                let _ = stream.set_nodelay(true);
-                take(Wire::Tcp(stream), Peer::Address(from.ip()), &hall);
-            }
-            Err(why) => not_taken(&why).await,
-        }
-    }
-}
-
-async fn by_unix(listener: tokio::net::UnixListener, hall: Arc<Hall>) {
-    loop {
-        match listener.accept().await {
-            Ok((stream, _)) => match peer(&stream) {
-                Ok(uid) => take(Wire::Unix(stream), Peer::User(uid), &hall),
-                Err(why) => report(format!("the system does not say who came by HTTP: {why}")),
-            },
-            Err(why) => not_taken(&why).await,
-        }
-    }
-}
-
-async fn not_taken(why: &std::io::Error) {
-    report(format!("a connection of HTTP could not be taken: {why}"));
-    tokio::time::sleep(Duration::from_millis(100)).await;
-}
-
-/// A connection's place, which is free again when this goes.
-struct Place(Arc<Hall>);
-
-impl Drop for Place {
-    fn drop(&mut self) {
-        self.0.connections.fetch_sub(1, Ordering::Relaxed);
-    }
-}
-
-/// Serves a connection in a task of its own; one too many is told so, in as much as its socket takes at once.
-fn take(wire: Wire, peer: Peer, hall: &Arc<Hall>) {
-    let before = hall.connections.fetch_add(1, Ordering::Relaxed);
-    let place = Place(hall.clone());
-    if before >= hall.most {
-        turned_away(wire, hall.most);
-        return;
-    }
-    let number = hall.house.next_client();
-    tokio::spawn(async move {
-        let hall = place.0.clone();
-        served(Stream::new(wire, IDLE), peer, number, hall).await;
-        drop(place);
-    });
-}
-
-fn turned_away(wire: Wire, most: usize) {
-    let told = format!("{most} connections are here, and no more may come");
-    let told = problem::Problem::not_done(told).object().to_string();
-    let response = format!(
-        "HTTP/1.1 503 Service Unavailable\r\nContent-Type: application/problem+json\r\nContent-Length: {}\r\nRetry-After: 1\r\nConnection: close\r\n\r\n{told}",
-        told.len()
-    );
-    // The standard library's streams stay non-blocking: what does not fit is left out.
-    match wire {
-        Wire::Tcp(stream) => {
-            let _ = stream
-                .into_std()
-                .map(|mut s| s.write_all(response.as_bytes()));
-        }
-        Wire::Unix(stream) => {
-            let _ = stream
-                .into_std()
-                .map(|mut s| s.write_all(response.as_bytes()));
-        }
-    }
-}
-
-async fn served(stream: Stream, peer: Peer, number: i64, hall: Arc<Hall>) {
-    let (mut closing, inside) = (hall.closing.clone(), hall.clone());
-    let service = service_fn(move |request: Request<Body>| {
-        let (hall, peer) = (inside.clone(), peer.clone());
-        async move { Ok::<_, Infallible>(route::answered(request, peer, number, hall).await) }
-    });
-    let mut http = Http::new();
-    http.http1_only(true)
-        .http1_header_read_timeout(IDLE)
-        .max_buf_size(HEADER);
-    let mut connection = pin!(http.serve_connection(stream, service));
-    let mut closed = pin!(async move {
-        // The sender goes with the server: either way it ends.
-        while !*closing.borrow_and_update() && closing.changed().await.is_ok() {}
-    });
-    let mut open = true;
-    let _ = poll_fn(|cx| {
-        if open && closed.as_mut().poll(cx).is_ready() {
-            open = false;
-            connection.as_mut().graceful_shutdown();
-        }
-        match connection.as_mut().poll(cx) {
-            Poll::Ready(ended) => Poll::Ready(ended),
-            Poll::Pending => Poll::Pending,
-        }
-    })
-    .await;
 }
 
 /// Whether this is a name of this machine alone.

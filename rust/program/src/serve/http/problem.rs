@@ -88,6 +88,13 @@ impl Problem {
             .with("www-authenticate", &format!("Account header=\"{header}\""))
     }
 
+    pub fn no_certificate() -> Problem {
+        let title = "Nobody says who asks";
+        let detail = "a client certificate with one common name, which is an account, says who asks, and there is none";
+        Problem::of(StatusCode::UNAUTHORIZED, "no-account", title, detail)
+            .with("www-authenticate", "Certificate")
+    }
+
     pub fn not_found(detail: impl Into<String>) -> Problem {
         Problem::of(
             StatusCode::NOT_FOUND,
@@ -151,7 +158,7 @@ impl Problem {
 
     /// The account has asked too much.
     pub fn too_many(detail: impl Into<String>) -> Problem {
-        let title = "This account's questions take too much";
+        let title = "This account asks too much";
         Problem::of(StatusCode::TOO_MANY_REQUESTS, "too-many", title, detail)
             .with("retry-after", "5")
     }

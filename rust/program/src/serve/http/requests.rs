@@ -45,7 +45,7 @@ pub async fn answered(call: &Call, body: Body) -> Result<Reply, Problem> {
     let query = Query::read(call.query.as_deref(), &["why"])?;
     let why = query.flag("why")?;
     let kind = body::kind(&call.headers, true)?;
-    let bytes = body::whole(&call.headers, body).await?;
+    let bytes = body::whole(call, body).await?;
     let (sent, single) = match kind {
         Kind::Lines => (of_lines(&bytes), false),
         Kind::Json => of_json(&bytes)?,

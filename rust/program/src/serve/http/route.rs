@@ -2,10 +2,11 @@
 
 use super::account::{is_meant, who, Peer, Sayer};
 use super::problem::Problem;
-use super::{authzen, body, events, look, page, requests, Hall, HEADER};
+use super::{authzen, body, events, health, listed, look, page, requests, Hall, HEADER};
 use crate::report::{is_written, log, Level};
 use crate::serve::account::Who;
 use crate::serve::door::Door;
+use crate::serve::places::{Place, Whose};
 use hyper::header::{HeaderMap, HeaderName, HeaderValue, CACHE_CONTROL};
 use hyper::{Body, Method, Request, Response, StatusCode};
 use serde_json::{json, Value};
@@ -22,6 +23,8 @@ pub struct Asked {
     pub query: Option<String>,
     /// The words of the path that stand for something.
     pub words: Vec<String>,
+    /// Its place among the calls of its account, where a proxy brings those of many; it is taken until the answer is whole.
+    pub place: Option<Place>,
 }
 
 /// An answer with its type.
@@ -256,20 +259,27 @@ async fn called(
     // What tells nothing about anybody is answered without an account.
     match route {
         Page => return Ok(page::page()),
-        Health => return look::health(&hall).await,
-        Ready => return look::ready(&hall).await,
-        Metrics => return Ok(look::metrics(&hall)),
+        Health => return health::health(&hall).await,
+        Ready => return health::ready(&hall).await,
+        Metrics => return Ok(health::metrics(&hall)),
         Contract => return Ok(Reply::of("application/json", CONTRACT)),
-        Discovery => return Ok(authzen::discovery(&base(&head.headers, &hall.sayer), None)),
+        Discovery => return Ok(authzen::discovery(&base(&head.headers, &hall), None)),
         DiscoveryOfDesk => {
             let door = desk(&hall, words.first().map_or("", String::as_str))?;
-            let base = base(&head.headers, &hall.sayer);
+            let base = base(&head.headers, &hall);
             return Ok(authzen::discovery(&base, Some(&door.name)));
         }
         _ => {}
     }
     is_meant(&head.method, &head.headers, &hall.sayer)?;
     let who = who(&head.headers, &peer, &hall)?;
+    let place = match hall.sayer {
+        Sayer::Header(_) => {
+            let whose = Whose::Account(who.account.clone());
+            Some(hall.accounts.take(whose).map_err(Problem::too_many)?)
+        }
+        _ => None,
+    };
     if route == Desks {
         who.may_question().map_err(Problem::barred)?;
         let names: Vec<&str> = hall.house.desks.keys().map(|name| shown(name)).collect();
@@ -291,6 +301,7 @@ async fn called(
         query: head.uri.query().map(String::from),
         words: words.collect(),
         hall,
+        place,
     };
     look::known(&call).await?;
     match route {
@@ -300,13 +311,13 @@ async fn called(
         FinishAll => look::finish_all(&call).await,
         Finish => look::finish(&call).await,
         Who => look::who(&call).await,
-        Holds => look::holds(call).await,
+        Holds => listed::holds(call).await,
         Evaluation => authzen::evaluation(&call, body).await,
         Evaluations => authzen::evaluations(&call, body).await,
         SearchSubject => authzen::search_subject(&call, body).await,
         SearchResource => authzen::search_resource(&call, body).await,
         SearchAction => authzen::search_action(&call, body).await,
-        _ => look::journal(call).await,
+        _ => listed::journal(call).await,
     }
 }
 
@@ -314,10 +325,11 @@ async fn called(
 const CONTRACT: &str = include_str!("openapi.json");
 
 /// How whoever asks calls this server: behind a proxy, by the proxy's word.
-fn base(headers: &HeaderMap, sayer: &Sayer) -> String {
+fn base(headers: &HeaderMap, hall: &Hall) -> String {
     let text = |name: &str| headers.get(name).and_then(|value| value.to_str().ok());
-    let proxied = |name: &str| text(name).filter(|_| matches!(sayer, Sayer::Header(_)));
-    let scheme = proxied("x-forwarded-proto").unwrap_or("http");
+    let proxied = |name: &str| text(name).filter(|_| matches!(hall.sayer, Sayer::Header(_)));
+    let own = if hall.encrypts { "https" } else { "http" };
+    let scheme = proxied("x-forwarded-proto").unwrap_or(own);
     let host = proxied("x-forwarded-host")
         .or(text("host"))
         .unwrap_or("localhost");

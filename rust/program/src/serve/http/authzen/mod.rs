@@ -1,6 +1,9 @@
 //! OpenID AuthZEN 1.0: may this user do this now? It is asked of a copy of the engine: nothing changes, and nothing enters the journal but
 //! what an account may not ask. A decision is true exactly when the request, sent at that moment, would be granted (docs/HTTP.md).
 
+mod read;
+mod search;
+
 use super::board;
 use super::body;
 use super::look;
@@ -12,32 +15,10 @@ use crate::serve::account::Who;
 use crate::why::reason;
 use hyper::Body;
 use mishantral::Answer;
+use read::{read, text, Action, Entity, Evaluation, Open};
 use records::{Record, Reply as Answered};
+pub use search::{search_action, search_resource, search_subject};
 use serde_json::{json, Value};
-
-/// What is asked of one.
-#[derive(Clone, Debug)]
-struct Evaluation {
-    subject: Entity,
-    action: Action,
-    resource: Entity,
-    /// The task within which an object is used, `order/task`.
-    task: Option<String>,
-}
-
-/// Something of a type, by its id; a search may leave the id open.
-#[derive(Clone, Debug)]
-struct Entity {
-    kind: String,
-    id: String,
-}
-
-#[derive(Clone, Debug)]
-struct Action {
-    name: String,
-    /// The operation of `check` and `commit`.
-    operation: Option<String>,
-}
 
 /// A decision, and what it was decided by.
 struct Decision {
@@ -47,98 +28,6 @@ struct Decision {
     /// The session whose request it is.
     subject: Option<u16>,
     why: Vec<String>,
-}
-
-/// A member that must be there: of an evaluation itself, or of what stands above all of them.
-fn member<'a>(
-    value: &'a Value,
-    above: &'a Value,
-    name: &str,
-    at: &str,
-) -> Result<&'a Value, Problem> {
-    let own = value.get(name).or_else(|| above.get(name));
-    let Some(member) = own else {
-        return Err(Problem::wrong_at(at, format!("\"{name}\" is missing")));
-    };
-    match member.is_object() {
-        true => Ok(member),
-        false => Err(Problem::wrong_at(
-            &format!("{at}/{name}"),
-            format!("\"{name}\" is an object"),
-        )),
-    }
-}
-
-fn text(value: &Value, name: &str, at: &str) -> Result<String, Problem> {
-    match value.get(name) {
-        Some(Value::String(text)) => Ok(text.clone()),
-        Some(_) => Err(Problem::wrong_at(
-            &format!("{at}/{name}"),
-            format!("\"{name}\" is a text"),
-        )),
-        None => Err(Problem::wrong_at(at, format!("\"{name}\" is missing"))),
-    }
-}
-
-fn property(value: &Value, name: &str, at: &str) -> Result<Option<String>, Problem> {
-    match value.get("properties") {
-        None => Ok(None),
-        Some(properties) if properties.get(name).is_none() => Ok(None),
-        Some(properties) => text(properties, name, &format!("{at}/properties")).map(Some),
-    }
-}
-
-/// An entity of a value; its id may be missing where it is searched for.
-fn entity(value: &Value, at: &str, has_id: bool) -> Result<Entity, Problem> {
-    Ok(Entity {
-        kind: text(value, "type", at)?,
-        id: if has_id {
-            text(value, "id", at)?
-        } else {
-            String::new()
-        },
-    })
-}
-
-fn action(value: &Value, at: &str) -> Result<Action, Problem> {
-    Ok(Action {
-        name: text(value, "name", at)?,
-        operation: property(value, "operation", at)?,
-    })
-}
-
-/// What is left open by a search.
-#[derive(Clone, Copy, PartialEq, Eq)]
-enum Open {
-    Nothing,
-    Subject,
-    Resource,
-    Action,
-}
-
-fn read(value: &Value, above: &Value, at: &str, open: Open) -> Result<Evaluation, Problem> {
-    if !value.is_object() {
-        return Err(Problem::wrong_at(
-            at,
-            "expected an object with subject, action and resource",
-        ));
-    }
-    let of = |name: &str| member(value, above, name, at);
-    let under = |name: &str| format!("{at}/{name}");
-    let action = match open {
-        Open::Action => Action {
-            name: String::new(),
-            operation: None,
-        },
-        _ => action(of("action")?, &under("action"))?,
-    };
-    let resource = of("resource")?;
-    Ok(Evaluation {
-        subject: entity(of("subject")?, &under("subject"), open != Open::Subject)?,
-        action,
-        resource: entity(resource, &under("resource"), open != Open::Resource)?,
-        task: property(resource, "task", &under("resource"))?,
-    })
 }
 
 /// The number of a word, or what to say where there is none.
@@ -325,7 +214,7 @@ async fn kept(call: &Asked, what: &str, answer: Result<Value, Problem>) -> Resul
 }
 
 pub async fn evaluation(call: &Asked, body: Body) -> Result<Reply, Problem> {
-    let value = body::json(&call.headers, body).await?;
+    let value = body::json(call, body).await?;
     let asked = read(&value, &Value::Null, "", Open::Nothing)?;
     let who = call.who.clone();
     let answer = look::asked(call, move |desk, _| evaluated(&desk, &who, &asked));
@@ -371,7 +260,7 @@ fn not_asked(problem: &Problem) -> Value {
 }
 
 pub async fn evaluations(call: &Asked, body: Body) -> Result<Reply, Problem> {
-    let value = body::json(&call.headers, body).await?;
+    let value = body::json(call, body).await?;
     let until = until(&value)?;
     let list = match value.get("evaluations") {
         None => Vec::new(),
@@ -428,147 +317,6 @@ pub async fn evaluations(call: &Asked, body: Body) -> Result<Reply, Problem> {
         }
     }
     Ok(Reply::json(answer))
-}
-
-fn results(all: Vec<Value>) -> Value {
-    json!({ "results": all, "page": { "next_token": "" } })
-}
-
-/// The id of a number: its name, where that cannot be taken for a number.
-fn id(names: &Names, sort: Sort, number: u16) -> String {
-    let name = names
-        .name(sort, number)
-        .and_then(|name| std::str::from_utf8(name).ok());
-    let name = name.filter(|name| name.parse::<u64>().is_err() && !name.starts_with('"'));
-    name.map_or(number.to_string(), String::from)
-}
-
-/// Who may do this now.
-pub async fn search_subject(call: &Asked, body: Body) -> Result<Reply, Problem> {
-    let value = body::json(&call.headers, body).await?;
-    let asked = read(&value, &Value::Null, "", Open::Subject)?;
-    if !["user", "subject"].contains(&asked.subject.kind.as_str()) {
-        return Err(Problem::wrong_at(
-            "/subject/type",
-            "\"user\" or \"subject\" is expected",
-        ));
-    }
-    let found = look::asked(call, move |desk, budget| {
-        let Ok(form) = form(&desk, &asked.action, &asked.resource, asked.task.as_deref()) else {
-            return Ok(results(Vec::new()));
-        };
-        let mut all: Vec<Value> = Vec::new();
-        for (&subject, session) in &desk.told.subjects {
-            if budget.spent(0).is_some() {
-                return Err(Problem::too_many(SPENT));
-            }
-            if !desk.tried(&[form(subject)]).is_granted() {
-                continue;
-            }
-            let (sort, number) = match asked.subject.kind.as_str() {
-                "user" => (Sort::User, session.user),
-                _ => (Sort::Subject, subject),
-            };
-            let one = json!({ "type": sort.word(), "id": id(&desk.names, sort, number) });
-            if !all.contains(&one) {
-                all.push(one);
-            }
-        }
-        Ok(results(all))
-    });
-    Ok(Reply::json(found.await?))
-}
-
-/// Every id of a type of resource that a request could be about.
-fn resources(desk: &Desk, kind: &str) -> Vec<String> {
-    let names = &desk.names;
-    if kind == "object" {
-        let mut objects: Vec<u16> = desk.told.permissions.values().map(|p| p.1).collect();
-        objects.sort();
-        objects.dedup();
-        return objects
-            .into_iter()
-            .map(|object| id(names, Sort::Object, object))
-            .collect();
-    }
-    let mut all = Vec::new();
-    for (&number, order) in &desk.told.orders {
-        let order_id = id(names, Sort::Order, number);
-        let tasks = desk.told.tasks_of(order.template);
-        all.extend(tasks.map(|task| format!("{order_id}/{}", id(names, Sort::Task, task))));
-    }
-    all
-}
-
-/// Which of them may this user do this with now.
-pub async fn search_resource(call: &Asked, body: Body) -> Result<Reply, Problem> {
-    let value = body::json(&call.headers, body).await?;
-    let asked = read(&value, &Value::Null, "", Open::Resource)?;
-    if !["task", "object"].contains(&asked.resource.kind.as_str()) {
-        return Err(Problem::wrong_at(
-            "/resource/type",
-            "\"task\" or \"object\" is expected",
-        ));
-    }
-    let who = call.who.clone();
-    let found = look::asked(call, move |desk, budget| {
-        may_ask(&who, &desk, &asked.subject).map_err(Problem::barred)?;
-        let mut all = Vec::new();
-        for id in resources(&desk, &asked.resource.kind) {
-            if budget.spent(0).is_some() {
-                return Err(Problem::too_many(SPENT));
-            }
-            let mut one = asked.clone();
-            one.resource.id = id;
-            if decide(&desk, &one, false).granted {
-                all.push(json!({ "type": one.resource.kind, "id": one.resource.id }));
-            }
-        }
-        Ok(results(all))
-    });
-    kept(call, "a search", found.await).await
-}
-
-/// What may this user do with this now.
-pub async fn search_action(call: &Asked, body: Body) -> Result<Reply, Problem> {
-    let value = body::json(&call.headers, body).await?;
-    let asked = read(&value, &Value::Null, "", Open::Action)?;
-    if !["task", "object"].contains(&asked.resource.kind.as_str()) {
-        return Err(Problem::wrong_at(
-            "/resource/type",
-            "\"task\" or \"object\" is expected",
-        ));
-    }
-    let who = call.who.clone();
-    let found = look::asked(call, move |desk, budget| {
-        may_ask(&who, &desk, &asked.subject).map_err(Problem::barred)?;
-        let names = match asked.resource.kind.as_str() {
-            "task" => ["claim", "release", "done"].map(String::from).to_vec(),
-            _ => operations(&desk),
-        };
-        let mut all = Vec::new();
-        for name in names {
-            if budget.spent(0).is_some() {
-                return Err(Problem::too_many(SPENT));
-            }
-            let mut one = asked.clone();
-            one.action.name = name;
-            if decide(&desk, &one, false).granted {
-                all.push(json!({ "name": one.action.name }));
-            }
-        }
-        Ok(results(all))
-    });
-    kept(call, "a search", found.await).await
-}
-
-fn operations(desk: &Desk) -> Vec<String> {
-    let mut all: Vec<u16> = desk.told.permissions.values().map(|p| p.0).collect();
-    all.sort();
-    all.dedup();
-    all.into_iter()
-        .map(|operation| id(&desk.names, Sort::Operation, operation))
-        .collect()
 }
 
 /// Where the calls are, for whoever asks by this host; `desk` where it is one of several.
