@@ -64,6 +64,15 @@ fn has(archive: &Path, name: &[u8]) -> bool {
     bytes.windows(name.len()).any(|window| window == name)
 }
 
+/// What changes when an archive comes or changes: itself, or the folder that it will come into. Cargo would take a path that is not there
+/// for one that has changed, and build everything anew each time.
+fn watched(archive: &Path) -> &Path {
+    match archive.parent() {
+        Some(folder) if !archive.exists() && std::fs::create_dir_all(folder).is_ok() => folder,
+        _ => archive,
+    }
+}
+
 /// Links the archive if it is there; whether it is.
 fn linked(root: &Path, archive: &Archive) -> bool {
     let variable = archive.variable;
@@ -71,7 +80,7 @@ fn linked(root: &Path, archive: &Archive) -> bool {
     let path = named.clone().unwrap_or_else(|| root.join(archive.usual));
     println!("cargo:rustc-check-cfg=cfg({})", archive.cfg);
     println!("cargo:rerun-if-env-changed={variable}");
-    println!("cargo:rerun-if-changed={}", path.display());
+    println!("cargo:rerun-if-changed={}", watched(&path).display());
     match path.canonicalize() {
         Ok(found) => link(archive, &found),
         Err(why) if named.is_some() => panic!("{variable}={}: {why}", path.display()),

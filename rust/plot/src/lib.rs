@@ -6,5 +6,5 @@ mod scale;
 mod svg;
 
 pub use curves::{picture, Curve, Panel};
-pub use scale::{round_up, Scale, Time};
+pub use scale::{labels, round_up, Scale, Time};
 pub use svg::{Colour, Svg};

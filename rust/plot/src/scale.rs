@@ -66,6 +66,22 @@ pub fn rounded(low: f64, high: f64) -> Vec<f64> {
     all[first..=last.unwrap_or(all.len() - 1)].to_vec()
 }
 
+/// What stands at the marks of an axis, with as many digits as tell one from the next.
+pub fn labels(marks: &[f64]) -> Vec<String> {
+    let step = marks.windows(2).map(|two| two[1] - two[0]);
+    let step = step.fold(f64::INFINITY, f64::min);
+    // A step is 1, 2, 5 or a number of clocks, by a power of ten: it has few digits behind its point.
+    let shown = |digits: &usize| {
+        let whole = step * 10f64.powi(*digits as i32);
+        (whole - whole.round()).abs() < 1e-6 && whole > 0.5
+    };
+    let digits = (0..12).find(shown).unwrap_or(2);
+    marks
+        .iter()
+        .map(|mark| format!("{mark:.digits$}"))
+        .collect()
+}
+
 /// The unit of an axis of time, and how far apart its marks stand.
 #[derive(Clone, Copy, PartialEq, Debug)]
 pub struct Time {
@@ -123,6 +139,31 @@ mod tests {
         );
         let log = Scale::logarithm([1.0, 100.0], 0.0, 10.0);
         assert!((log.at(10.0) - 5.0).abs() < 1e-9);
+    }
+
+    #[test]
+    fn marks_are_told_apart() {
+        assert_eq!(labels(&[0.0, 5.0, 10.0]), ["0", "5", "10"]);
+        assert_eq!(
+            labels(&[0.0, 0.2, 0.4, 0.2 * 3.0]),
+            ["0.0", "0.2", "0.4", "0.6"]
+        );
+        assert_eq!(
+            labels(&[0.0, 0.00005, 0.0001]),
+            ["0.00000", "0.00005", "0.00010"]
+        );
+        assert_eq!(labels(&[0.0, 0.25, 0.5]), ["0.00", "0.25", "0.50"]);
+        assert_eq!(labels(&[0.0]), ["0.00"]);
+        for power in -9..9 {
+            for step in [1.0, 2.0, 5.0] {
+                let marks: Vec<f64> = (0..6)
+                    .map(|n| f64::from(n) * step * 10f64.powi(power))
+                    .collect();
+                let mut told = labels(&marks);
+                told.dedup();
+                assert_eq!(told.len(), 6, "{told:?}");
+            }
+        }
     }
 
     #[test]

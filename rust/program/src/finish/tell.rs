@@ -191,24 +191,30 @@ fn refused(desk: &Desk, lack: &Lack, refusal: &Refusal) -> String {
         1 => String::new(),
         _ => format!(", {}", desk.say(Sort::Task, refusal.task)),
     };
-    let reasons = met.lines(&there).join("; ");
-    format!("{whose}{alike}{task}: {}: {reasons}", answer.reply)
+    let said = format!("{whose}{alike}{task}: {}", answer.reply);
+    match met.lines(&there).join("; ").as_str() {
+        "" => said,
+        reasons => format!("{said}: {reasons}"),
+    }
 }
 
 /// Whom one would need.
 fn needed(asked: &Asked) -> Vec<String> {
     let desk = asked.desk;
     let (enough, settled) = asked.needed();
-    let mut lines: Vec<String> = enough
-        .iter()
-        .map(|alike| match &alike[..] {
-            [one] => format!("with {} it can be finished", desk.say(Sort::User, *one)),
-            all => format!(
-                "with one of {} it can be finished",
-                few(desk, Sort::User, all)
-            ),
-        })
-        .collect();
+    let mut all: Vec<u16> = enough.into_iter().flatten().collect();
+    all.sort();
+    let mut lines = match &all[..] {
+        [] => Vec::new(),
+        [one] => vec![format!(
+            "with {} it can be finished",
+            desk.say(Sort::User, *one)
+        )],
+        all => vec![format!(
+            "with one of {} it can be finished",
+            few(desk, Sort::User, all)
+        )],
+    };
     if lines.is_empty() {
         let roles = asked.needed_role();
         lines.push(match &roles[..] {

@@ -409,6 +409,36 @@ fn verdicts_are_those_of_a_solver() {
     assert!(yes > 12 && no > 12, "{yes} {no}");
 }
 
+/// Where there is no plan, each refusal is told with its reason.
+#[test]
+fn every_refusal_has_its_reason() {
+    let mut random = Random::new(4);
+    let budget = super::Budget::of_tries(TRIES);
+    let mut replies = BTreeSet::new();
+    for _ in 0..rounds(400) {
+        let size = Size {
+            users: 1 + random.below(4),
+            roles: 1 + random.below(4),
+            tasks: 1 + random.below(4),
+        };
+        let desk = desk(&mut random, &size);
+        let options = super::Options {
+            list: None,
+            budget: &budget,
+            json: false,
+        };
+        let mut out = Vec::new();
+        let _ = super::finish_one(&desk, "0", &options, &mut out);
+        let text = String::from_utf8(out).unwrap();
+        for line in text.lines().filter(|line| line.starts_with("  ")) {
+            let bare = line.trim_end().ends_with(':');
+            assert!(!bare, "{text}\n{}", told(&desk, &[]));
+            replies.extend(line.split(": ").nth(1).map(String::from));
+        }
+    }
+    assert!(replies.contains("10 DYNAMIC"), "{replies:?}");
+}
+
 /// Every verdict that there is none is explained, and the tables that a state tells are those that the answers told.
 #[test]
 fn states_tell_what_answers_told() {

@@ -4,7 +4,7 @@ use super::calendar::{length, short_length, HOUR, SECOND};
 use super::figures::{By, Figures};
 use super::hold::{Ended, Hold, Part, PARTS};
 use super::report::Report;
-use plot::{Colour, Scale, Svg, Time};
+use plot::{labels, Colour, Scale, Svg, Time};
 
 const WIDTH: f64 = 760.0;
 const LEFT: f64 = 64.0;
@@ -14,6 +14,9 @@ const NAMES: f64 = 190.0;
 const BAR: f64 = 22.0;
 /// So wide is the length of a median.
 const ROOM: f64 = 48.0;
+/// What an axis shows at least, in seconds and in orders at a time: below that there is nothing to tell apart.
+const SECONDS: f64 = 1.0;
+const ORDERS: f64 = 0.001;
 
 /// What a picture shows.
 #[derive(Clone, Copy, PartialEq, Eq, Debug)]
@@ -121,21 +124,16 @@ fn highest(report: &Report) -> f64 {
         quarter.max(means(figures).iter().sum())
     };
     let all = report.groups.iter().map(|(_, figures)| of(figures));
-    all.fold(1e-3, f64::max)
+    all.fold(SECONDS, f64::max)
 }
 
-/// Marks of time to the left, with lines across.
-fn time_axis(svg: &mut Svg, time: Time, marks: &[f64], y: &Scale) {
-    for &mark in marks {
-        let height = y.at(mark * time.seconds);
+/// Marks to the left, with lines across; a mark's unit is so much on the scale.
+fn axis(svg: &mut Svg, unit: f64, marks: &[f64], y: &Scale) {
+    for (mark, label) in marks.iter().zip(labels(marks)) {
+        let height = y.at(mark * unit);
         svg.line("grid", [LEFT, height], [WIDTH - RIGHT, height]);
-        svg.text("small soft end", LEFT - 8.0, height + 4.0, &number(mark));
+        svg.text("small soft end", LEFT - 8.0, height + 4.0, &label);
     }
-}
-
-fn number(mark: f64) -> String {
-    let text = format!("{mark:.2}");
-    text.trim_end_matches('0').trim_end_matches('.').to_string()
 }
 
 fn periods(
@@ -156,9 +154,12 @@ fn periods(
     let time = Time::up_to(high);
     let marks = time.marks(high);
     let all = &report.all;
-    let median = all.median().map_or(String::new(), |median| {
-        format!("; median of all {} holds {}", all.count(), length(median))
-    });
+    let median = all
+        .median()
+        .map_or(String::new(), |median| match all.count() {
+            1 => format!("; the only hold took {}", length(median)),
+            count => format!("; median of all {count} holds {}", length(median)),
+        });
     let unit = format!(
         "{}; a bar is the mean hold with its parts{median}",
         time.unit
@@ -166,7 +167,7 @@ fn periods(
     head(svg, report, top, title.unwrap_or(&usual), &unit, true);
     let last = marks.last().copied().unwrap_or(1.0) * time.seconds;
     let y = Scale::even(last, bottom - 44.0, top + 100.0);
-    time_axis(svg, time, &marks, &y);
+    axis(svg, time.seconds, &marks, &y);
     let wide = (WIDTH - RIGHT - LEFT) / report.groups.len().max(1) as f64;
     let every = report.groups.len().div_ceil(13).max(1);
     for (place, (name, figures)) in report.groups.iter().enumerate() {
@@ -239,6 +240,13 @@ fn whisker(svg: &mut Svg, figures: &Figures, [x, wide]: [f64; 2], y: &Scale, las
     }
 }
 
+fn days_of(days: f64) -> String {
+    match days.round() as u64 {
+        1 => "one day".to_string(),
+        days => format!("{days} days"),
+    }
+}
+
 /// How many orders lie at each hour of the day, in the mean of all days from the first hold to the last.
 fn hours(svg: &mut Svg, report: &Report, [top, bottom]: [f64; 2], title: Option<&str>) {
     let first = report
@@ -254,13 +262,13 @@ fn hours(svg: &mut Svg, report: &Report, [top, bottom]: [f64; 2], title: Option<
     };
     let highest = (0..24)
         .map(|hour| Part::ALL.iter().map(|&part| mean(part, hour)).sum())
-        .fold(1e-6, f64::max);
+        .fold(ORDERS, f64::max);
     head(
         svg,
         report,
         top,
         title.unwrap_or("Orders that lie, by hour of the day"),
-        &format!("orders at a time, in the mean of {days:.0} days"),
+        &format!("orders at a time, in the mean of {}", days_of(days)),
         false,
     );
     let step = plot::round_up(highest / 5.0);
@@ -268,15 +276,7 @@ fn hours(svg: &mut Svg, report: &Report, [top, bottom]: [f64; 2], title: Option<
         .map(|mark| mark as f64 * step)
         .collect();
     let y = Scale::even(marks[marks.len() - 1], bottom - 44.0, top + 84.0);
-    for &mark in &marks {
-        svg.line("grid", [LEFT, y.at(mark)], [WIDTH - RIGHT, y.at(mark)]);
-        svg.text(
-            "small soft end",
-            LEFT - 8.0,
-            y.at(mark) + 4.0,
-            &number(mark),
-        );
-    }
+    axis(svg, 1.0, &marks, &y);
     let wide = (WIDTH - RIGHT - LEFT) / 24.0;
     for hour in 0..24 {
         let x = LEFT + wide * hour as f64;
@@ -320,7 +320,7 @@ fn worst(svg: &mut Svg, report: &Report, [top, bottom]: [f64; 2], title: Option<
     let high = report
         .worst
         .first()
-        .map_or(1.0, |(hold, _)| seconds(hold.length()).max(1e-3));
+        .map_or(SECONDS, |(hold, _)| seconds(hold.length()).max(SECONDS));
     let time = Time::up_to(high);
     let marks = time.marks(high);
     let ends = [NAMES, WIDTH - 110.0];
@@ -334,10 +334,10 @@ fn worst(svg: &mut Svg, report: &Report, [top, bottom]: [f64; 2], title: Option<
         false,
     );
     let (first, foot) = (top + 80.0, bottom - 28.0);
-    for &mark in &marks {
+    for (mark, label) in marks.iter().zip(labels(&marks)) {
         let place = x.at(mark * time.seconds);
         svg.line("grid", [place, first], [place, foot]);
-        svg.text("small soft middle", place, foot + 15.0, &number(mark));
+        svg.text("small soft middle", place, foot + 15.0, &label);
     }
     for (place, (hold, _)) in report.worst.iter().enumerate() {
         bar(svg, report, hold, first + BAR * place as f64, &x);

@@ -41,6 +41,19 @@ fn times(count: u64) -> String {
     }
 }
 
+/// How many differ by themselves and how many follow from those, where there are any of both.
+fn shares(first: u64, following: u64) -> String {
+    let (own, from) = match first {
+        1 => ("itself", "it"),
+        _ => ("themselves", "these"),
+    };
+    match following {
+        0 => String::new(),
+        1 => format!(", {first} by {own} and 1 that follows from {from}"),
+        _ => format!(", {first} by {own} and {following} that follow from {from}"),
+    }
+}
+
 impl Told<'_> {
     fn differ(&self) -> (u64, u64) {
         let all = self.outcome.sorts.values();
@@ -67,7 +80,10 @@ impl Told<'_> {
         };
         let answered = match first + following {
             0 => "all would be answered as they were".to_string(),
-            differ => format!("{differ} would be answered otherwise, {first} by themselves and {following} that follow from these"),
+            differ => format!(
+                "{differ} would be answered otherwise{}",
+                shares(first, following)
+            ),
         };
         writeln!(out, "{of} under {}: {answered}", self.new.file)?;
         if let Some(requests) = self.outcome.brought {
@@ -181,4 +197,17 @@ fn line(example: &Example) -> String {
         "request {}, {second}{user}: {}",
         example.number, example.line
     )
+}
+
+#[cfg(test)]
+mod tests {
+    use super::shares;
+
+    #[test]
+    fn shares_are_told_where_there_are_both() {
+        assert_eq!(shares(4, 0), "");
+        assert_eq!(shares(1, 1), ", 1 by itself and 1 that follows from it");
+        let many = ", 2 by themselves and 3 that follow from these";
+        assert_eq!(shares(2, 3), many);
+    }
 }
