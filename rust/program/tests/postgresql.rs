@@ -420,15 +420,21 @@ fn servers_share_the_desks_by_their_numbers() {
         let said = server.lines(&format!("desk {desk}\nlines\n{line}\n"));
         said.last().unwrap().clone()
     };
-    // The first one makes the desks; then each of two takes those that are its own.
-    drop(serve("all.sock", &[]));
+    // The first one makes the desks. Two stand by, and when it is gone each takes those that are its own.
+    let all = serve("all.sock", &[]);
     let first = serve("a.sock", &["--standby", "--share", "1/2"]);
     let second = serve("b.sock", &["--standby", "--share", "2/2"]);
+    drop(all);
     let here = |server: &Server| {
         let is = |desk: &&String| say(server, desk, "end order 1").contains("UNKNOWN");
         desks.iter().filter(is).count()
     };
-    waited("shares", || (here(&first), here(&second)) == (2, 2));
+    // Other tests begin desks meanwhile, so that these need not have numbers in a row.
+    let odd = format!(
+        "SELECT count(*) FROM mishantral.writer WHERE desk LIKE 'share_-{id}' AND number % 2 = 1"
+    );
+    let odd: usize = place.psql(&odd).parse().unwrap();
+    waited("shares", || (here(&first), here(&second)) == (odd, 4 - odd));
     drop(first);
     waited("a takeover", || here(&second) == 4);
     let socket = place.room.join("c.sock");

@@ -5,8 +5,8 @@ use super::head::{head, Head};
 use super::links::Kept;
 use super::rows::{each, moved_keys, note_of, rows_of, BARRED};
 use super::snapshot::{snapshot_after, snapshot_before, Snapshot};
-use super::store::{Steps, Store};
-use super::{chain::Note, Barred, Key, Row};
+use super::store::{Bars, Steps, Store};
+use super::{chain::Note, Key, Row};
 use crate::names::Sort;
 use rusqlite::{Connection, OpenFlags, OptionalExtension};
 use std::collections::BTreeSet;
@@ -100,12 +100,7 @@ impl Store for File {
         Ok(rows.collect::<Result<_, _>>()?)
     }
 
-    fn barred(
-        &self,
-        since: i64,
-        until: i64,
-        tell: &mut dyn FnMut(i64, Barred) -> Result<(), Unfit>,
-    ) -> Result<(), Unfit> {
+    fn barred(&self, since: i64, until: i64, tell: Bars) -> Result<(), Unfit> {
         let mut select = self.connection.prepare(BARRED)?;
         let mut rows = select.query([since, until])?;
         while let Some((after, note)) = note_of(&mut rows)? {

@@ -17,6 +17,9 @@ use std::sync::Arc;
 /// Who is told each row and note.
 pub type Steps<'a> = &'a mut dyn FnMut(Step) -> Result<(), Unfit>;
 
+/// Who is told what was barred, each with the request that it is behind.
+pub type Bars<'a> = &'a mut dyn FnMut(i64, Barred) -> Result<(), Unfit>;
+
 /// A journal that is read. All that it tells is of one state, whatever is written meanwhile.
 pub trait Store {
     /// What stands before the first request, compared with its sum.
@@ -53,13 +56,8 @@ pub trait Store {
     /// When the clock was set: behind which request, and from which time to which.
     fn jumps(&self) -> Result<Vec<(i64, i64, i64)>, Unfit>;
 
-    /// Tells what was barred from one time to another, each with the request that it is behind.
-    fn barred(
-        &self,
-        since: i64,
-        until: i64,
-        tell: &mut dyn FnMut(i64, Barred) -> Result<(), Unfit>,
-    ) -> Result<(), Unfit>;
+    /// Tells what was barred from one time to another.
+    fn barred(&self, since: i64, until: i64, tell: Bars) -> Result<(), Unfit>;
 
     /// The granted requests from one on that open, end or work on orders, without the names that they give.
     fn worked(&self, first: i64) -> Result<Vec<Row>, Unfit>;

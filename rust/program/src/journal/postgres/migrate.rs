@@ -105,3 +105,19 @@ fn words(wire: &mut Wire) -> Result<(), Fault> {
     }
     Ok(())
 }
+
+#[cfg(test)]
+mod tests {
+    use super::*;
+
+    /// Databases have these sums: a step that was changed, if only in a comment, would be refused by all of them. What is to change is a new step.
+    #[test]
+    fn a_step_that_has_landed_stays_as_it_is() {
+        let landed = [
+            "b5472c9dc64ba099b8d760ed5cb53824eca028f1879088ff2a77adbbc51757bd",
+            "ab8661b4efe7de24fc201a2c44f249383d8c6da94d9769318b96879e6fce5695",
+            "4a9a2c29d7bb330febae7c6516545596c25c95a0dbf10ec3edb55938984a27c7",
+        ];
+        assert_eq!(MIGRATIONS.map(sum), landed);
+    }
+}

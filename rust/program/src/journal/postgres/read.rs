@@ -10,7 +10,7 @@ use crate::journal::head::Head;
 use crate::journal::links::{Kept, Links};
 use crate::journal::rows::Step;
 use crate::journal::snapshot::Snapshot;
-use crate::journal::store::{Steps, Store};
+use crate::journal::store::{Bars, Steps, Store};
 use crate::journal::{Barred, Bytes, Key, Moved, Row, VERSION};
 use crate::names::{Naming, Sort};
 use crate::reader;
@@ -401,12 +401,7 @@ impl Store for Reading {
         Ok(rows.iter().map(one).collect())
     }
 
-    fn barred(
-        &self,
-        since: i64,
-        until: i64,
-        tell: &mut dyn FnMut(i64, Barred) -> Result<(), Unfit>,
-    ) -> Result<(), Unfit> {
+    fn barred(&self, since: i64, until: i64, tell: Bars) -> Result<(), Unfit> {
         let select =
             "SELECT after, 1, id, at, account, client, via, record, asked, why FROM barred \
              WHERE desk = $1 AND at >= $2 AND at < $3 ORDER BY id";

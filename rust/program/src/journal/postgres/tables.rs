@@ -169,25 +169,35 @@ CREATE VIEW opening AS
     WHERE began.kind = 48 AND began.reply = 0;
 "#;
 
+/// The fence and a group's rows.
+macro_rules! fenced {
+    () => {
+        r#"
+WITH f AS (UPDATE writer SET last = $4, groups = groups + 1, beat = clock_timestamp() WHERE desk = $1 AND start = $2 AND last = $3 RETURNING 1),
+r AS (INSERT INTO request (desk, number, at, client, account, via, "user", kind, n, a, b, c, m, cut, reply, place, opening, key, sum)
+    SELECT $1, u.* FROM unnest($5::bigint[], $6::bigint[], $7::bigint[], $8::text[], $9::text[], $10::integer[], $11::smallint[],
+        $12::smallint[], $13::integer[], $14::integer[], $15::integer[], $16::bigint[], $17::bytea[], $18::smallint[], $19::integer[],
+        $20::bigint[], $21::text[], $22::bytea[]) AS u
+    WHERE EXISTS (SELECT 1 FROM f) RETURNING 1)"#
+    };
+}
+
+/// How many rows the fence met, and how many came.
+macro_rules! counted {
+    () => {
+        "
+SELECT (SELECT count(*) FROM f), (SELECT count(*) FROM r)"
+    };
+}
+
 /// Writes a group whose rows are all there is to it. The fence, the rows and the commit are one statement: whoever has lost the desk writes
 /// nothing, and a server that is stopped between two statements holds no lock that keeps its successor out.
-pub const WRITE: &str = r#"
-WITH f AS (UPDATE writer SET last = $4, groups = groups + 1, beat = clock_timestamp() WHERE desk = $1 AND start = $2 AND last = $3 RETURNING 1),
-r AS (INSERT INTO request (desk, number, at, client, account, via, "user", kind, n, a, b, c, m, cut, reply, place, opening, key, sum)
-    SELECT $1, u.* FROM unnest($5::bigint[], $6::bigint[], $7::bigint[], $8::text[], $9::text[], $10::integer[], $11::smallint[],
-        $12::smallint[], $13::integer[], $14::integer[], $15::integer[], $16::bigint[], $17::bytea[], $18::smallint[], $19::integer[],
-        $20::bigint[], $21::text[], $22::bytea[]) AS u
-    WHERE EXISTS (SELECT 1 FROM f) RETURNING 1)
-SELECT (SELECT count(*) FROM f), (SELECT count(*) FROM r)"#;
+pub const WRITE: &str = concat!(fenced!(), counted!());
 
 /// The same with names, notes and snapshots.
-pub const WRITE_ALL: &str = r#"
-WITH f AS (UPDATE writer SET last = $4, groups = groups + 1, beat = clock_timestamp() WHERE desk = $1 AND start = $2 AND last = $3 RETURNING 1),
-r AS (INSERT INTO request (desk, number, at, client, account, via, "user", kind, n, a, b, c, m, cut, reply, place, opening, key, sum)
-    SELECT $1, u.* FROM unnest($5::bigint[], $6::bigint[], $7::bigint[], $8::text[], $9::text[], $10::integer[], $11::smallint[],
-        $12::smallint[], $13::integer[], $14::integer[], $15::integer[], $16::bigint[], $17::bytea[], $18::smallint[], $19::integer[],
-        $20::bigint[], $21::text[], $22::bytea[]) AS u
-    WHERE EXISTS (SELECT 1 FROM f) RETURNING 1),
+pub const WRITE_ALL: &str = concat!(
+    fenced!(),
+    r#",
 n AS (INSERT INTO name (desk, request, sort, number, name)
     SELECT $1, u.request, u.sort, u.number, u.name
     FROM unnest($23::bigint[], $24::text[], $25::integer[], $26::bytea[]) WITH ORDINALITY AS u (request, sort, number, name, place)
@@ -207,8 +217,9 @@ s AS (INSERT INTO snapshot (desk, after, version, row_sum, policy, sessions, ord
         $48::text[], $49::bytea[]) AS u
     WHERE EXISTS (SELECT 1 FROM f)
     ON CONFLICT (desk, after) DO UPDATE SET version = excluded.version, row_sum = excluded.row_sum, policy = excluded.policy,
-        sessions = excluded.sessions, orders = excluded.orders, openings = excluded.openings, names = excluded.names, sum = excluded.sum)
-SELECT (SELECT count(*) FROM f), (SELECT count(*) FROM r)"#;
+        sessions = excluded.sessions, orders = excluded.orders, openings = excluded.openings, names = excluded.names, sum = excluded.sum)"#,
+    counted!()
+);
 
 /// A number that no server had before.
 pub const NEXT: &str = "SELECT nextval('fence')";

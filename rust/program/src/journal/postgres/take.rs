@@ -48,6 +48,11 @@ impl Having {
         })
     }
 
+    /// Whether whoever has the desk was heard of since an earlier look: it would have been silent for longer.
+    fn heard_since(&self, before: &Having) -> bool {
+        self.start != before.start || self.silent < before.silent
+    }
+
     /// For how long it must be silent before this server takes the desk: none where it has ended and the desk is of this server's share. Those
     /// of the others' shares are left to them for as long again.
     pub fn patience(&self, takeover: &Takeover) -> Duration {
@@ -115,7 +120,7 @@ pub fn free<T>(
     mut taken: impl FnMut(&mut Wire, &Having, Duration) -> Result<Option<T>, Fault>,
 ) -> Result<T, String> {
     let told = |why: Fault| why.text();
-    let first = Having::of(wire, desk).map_err(told)?;
+    let mut before: Option<Having> = None;
     loop {
         let having = Having::of(wire, desk).map_err(told)?;
         let silent = match having.gone {
@@ -128,11 +133,11 @@ pub fn free<T>(
             }
             continue;
         }
-        // Whoever has it is heard of.
-        if having.start != first.start || having.silent < first.silent {
+        if before.is_some_and(|before| having.heard_since(&before)) {
             let server = having.server;
             return Err(format!("another server has it: {server}; {remedy}"));
         }
+        before = Some(having);
         std::thread::sleep(PAUSE);
     }
 }
@@ -187,6 +192,23 @@ const SILENT: Duration = Duration::from_secs(5);
 #[cfg(test)]
 mod tests {
     use super::*;
+
+    #[test]
+    fn a_server_that_shows_itself_between_two_looks_is_heard() {
+        let look = |start: i64, silent: u64| Having {
+            start,
+            server: String::new(),
+            ended: false,
+            number: 1,
+            silent: Duration::from_millis(silent),
+            gone: false,
+        };
+        assert!(!look(7, 60).heard_since(&look(7, 10)));
+        assert!(look(7, 5).heard_since(&look(7, 460)));
+        // Later than at the first look of all, and heard of since the last one.
+        assert!(look(7, 20).heard_since(&look(7, 30)));
+        assert!(look(8, 60).heard_since(&look(7, 10)));
+    }
 
     #[test]
     fn desks_of_others_are_left_to_them_for_a_while() {
