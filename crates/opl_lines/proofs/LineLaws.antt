@@ -10,13 +10,13 @@ use borrow.Author.Tests.{not-true, not-false}
 use Rattle.paper_opl.specs.Reading.{Text, Read, after, same, starts, expect, word, behind}
 use Rattle.paper_opl.specs.Reading.Read.{got, bad}
 use Rattle.paper_opl.specs.Naming.{Line, inLine, lineEnd, lines}
-use Rattle.paper_opl.proofs.Inversion.{on, bad≢got, got-rest}
+use Rattle.paper_opl.proofs.Inversion.{on, bad≢got}
 use Rattle.paper_opl.proofs.Counts.{below-of, line-end-below, lines-enough}
 use Rattle.opl_text.specs.declared.Step.{Step}
 use Rattle.opl_text.specs.declared.Step.the-variants.{Next, Bad as Stop}
 use Rattle.opl_text.specs.Steps.{Reads, stepOf}
 use Rattle.opl_text.proofs.Laws.{no-word, a-word, one-not, one-yes}
-use Rattle.opl_lines.specs.Lines.{line, forget, linesRead, linesIn, Apart, ReadsLine}
+use Rattle.opl_lines.specs.Lines.{line, forget, linesRead, Apart, ReadsLine}
 use Rattle.opl_lines.specs.declared.Ends.{Ends}
 use Rattle.opl_lines.specs.declared.Ends.the-variants.{Line as ends, Bad}
 
@@ -164,12 +164,6 @@ module _ (t : Text) (at : ℕ) (h : at < length t) where
 
     pub lines-never : (i : ℕ) (z : Text) → r ≡ Bad i → forget (lines (length t) (drop at t)) ≡ got tt z → ⊥
     lines-never i z q u = bad≢got (judge-bad i q .0 ∙ u)
-
--- the lines of a text that the judge accepts
-pub lines-are : (t z : Text) → forget (lines (length t) t) ≡ got tt z → lines (length t) t ≡ got (linesIn t) z
-unfolding linesIn
-lines-are t z e =
-    on (lines (length t) t) (λ ls r q. q ∙ (let w = got-rest (sym (ap forget q) ∙ e) in rw (q, w))) (λ r q. absurd (bad≢got (sym (ap forget q) ∙ e)))
 
 pub judge-end : (t : Text) (at : ℕ) → length t ≤ at → got tt (drop at t) ≡ forget (lines (length t) (drop at t))
 judge-end t at h = sym (ap forget (lines-none (length t) (drop at t) (omega (arith, length-drop at t))))

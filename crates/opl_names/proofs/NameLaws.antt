@@ -1,18 +1,15 @@
 -- Laws of texts that are the same, and of the numbers of names in a list of them.
 use Prim.Native.Nat.{ℕ, zero, suc, _+_, _≤_, _<_}
-use mathlib.Core.Path.{_≡_, refl, sym, ap, _∙_}
-use mathlib.Core.Bool.{Bool, true, false, cond, _||_, false≢true}
+use mathlib.Core.Path.{_≡_, refl, ap, _∙_}
+use mathlib.Core.Bool.{Bool, true, false, cond, _||_}
 use mathlib.Core.List.{List, [], _∷_}
 use native.Mathlib.Nat.{add-zero}
 use native.Mathlib.Omega.{arith}
-use lib.Dec.{eqb}
-use borrow.Author.Tests.{eqb-true, eq-eqb}
 use Rattle.paper_lower.specs.Lists.{there, holds, some, many, add}
 use Rattle.paper_lower.specs.Lists.Maybe.{none, just}
-use Rattle.paper_lower.proofs.ListLaws.{both}
 use Rattle.replies.specs.Cells.{rowsFrom}
 use Rattle.paper_opl.specs.Reading.{Text, same}
-use Rattle.paper_opl.specs.Naming.{placeOf, distinct}
+use Rattle.paper_opl.specs.Naming.{placeOf}
 use Rattle.paper_opl.proofs.Conforms.{same-true}
 use Rattle.paper_opl.proofs.TreeBack.{same-self}
 use Rattle.opl_text.proofs.Same.{same-swap}
@@ -82,9 +79,3 @@ added-there w ws h = rw (place-some w 0 ws, h)
 pub added-new : (w : Text) (ws : List Text) → placeOf 0 w ws ≡ none → added w ws ≡ add ws w
 unfolding added holds
 added-new w ws h = rw (place-some w 0 ws, h)
-
--- ---- What was declared, each name once: one declaration more.
-pub distinct-more : (seen ws : List Text) (w : Text) → distinct seen (add ws w) ≡ added w (distinct seen ws)
-unfolding distinct add added
-distinct-more seen [] w = refl
-distinct-more seen (v ∷ ws) w = distinct-more (cond (some (same v) seen) seen (add seen v)) ws w

@@ -78,10 +78,6 @@ pub forget-on : {A B : Type 0} (x : Read A) (f : A → B) → forget (after x (�
 forget-on (got v r) f = refl
 forget-on (bad r) f = refl
 
-pub forget-after : {A B : Type 0} (x : Read A) (f : A → Text → Read B) → forget (after x f) ≡ after x (λ v r. forget (f v r))
-forget-after (got v r) f = refl
-forget-after (bad r) f = refl
-
 pub judged-bad : {A B : Type 0} (x : Read A) (r : Text) → forget x ≡ bad r → (f : A → Text → Read B) → after x f ≡ bad r
 judged-bad (got v u) r e f = absurd (bad≢got (sym e))
 judged-bad (bad u) r e f = ap bad (bad-same e)

@@ -1,6 +1,6 @@
 -- Numbers for what the table of elements holds, so that the code can carry them: names, what may still stand in an open element, which
 -- attributes may still be given. The lists of numbers below are those that the code has, eight of them in a word.
-use Prim.Native.Nat.{ℕ, zero, suc, _+_, _*_, _-_, _/_, _%_, _^_}
+use Prim.Native.Nat.{ℕ, zero, suc, _+_, _*_, _/_, _%_, _^_}
 use mathlib.Core.Bool.{Bool, true, false, cond}
 use mathlib.Core.List.{List, [], _∷_, _++_}
 use lib.Dec.{eqb, leb}
@@ -23,48 +23,15 @@ names =
 unfoldable pub nameOf : ℕ → Text
 nameOf id = getD names id []
 
--- the numbers of those that other crates ask for
-abbrev pub USER : ℕ
-USER = 12
-
+-- the numbers of those that other definitions ask for
 abbrev pub OPERATION : ℕ
 OPERATION = 15
 
 abbrev pub OBJECT : ℕ
 OBJECT = 16
 
-abbrev pub STATIC-SEPARATION : ℕ
-STATIC-SEPARATION = 20
-
-abbrev pub DYNAMIC-SEPARATION : ℕ
-DYNAMIC-SEPARATION = 21
-
-abbrev pub CRITICAL-ROLE-SET : ℕ
-CRITICAL-ROLE-SET = 23
-
-abbrev pub CRITICAL-ROLES : ℕ
-CRITICAL-ROLES = 24
-
-abbrev pub CRITICAL-ROLE : ℕ
-CRITICAL-ROLE = 25
-
-abbrev pub CRITICAL-TASK : ℕ
-CRITICAL-TASK = 36
-
-abbrev pub PARTITIONING : ℕ
-PARTITIONING = 38
-
-abbrev pub PARTITION : ℕ
-PARTITION = 39
-
 abbrev pub PARTITION-TASK : ℕ
 PARTITION-TASK = 40
-
-abbrev pub USER-ID : ℕ
-USER-ID = 53
-
-abbrev pub ROLE-ID : ℕ
-ROLE-ID = 54
 
 abbrev pub PERMISSION-ID : ℕ
 PERMISSION-ID = 56
@@ -75,23 +42,8 @@ OPERATION-ID = 57
 abbrev pub OBJECT-ID : ℕ
 OBJECT-ID = 58
 
-abbrev pub CARDINALITY : ℕ
-CARDINALITY = 59
-
 abbrev pub TASK-ID : ℕ
 TASK-ID = 61
-
-abbrev pub TEMPLATE-ID : ℕ
-TEMPLATE-ID = 62
-
-abbrev pub BOUND-TASK-ID : ℕ
-BOUND-TASK-ID = 63
-
-abbrev pub PREREQ-TASK-ID : ℕ
-PREREQ-TASK-ID = 64
-
-abbrev pub INHERIT-ROLE : ℕ
-INHERIT-ROLE = 67
 
 abbrev pub CHINESE-WALL : ℕ
 CHINESE-WALL = 69
@@ -101,12 +53,6 @@ CW-PARTITION = 71
 
 abbrev pub PARTITION-OBJECT : ℕ
 PARTITION-OBJECT = 72
-
-abbrev pub UPPER-ROLE : ℕ
-UPPER-ROLE = 74
-
-abbrev pub LOWER-ROLE : ℕ
-LOWER-ROLE = 75
 
 -- ---- What may still stand in an open element. Number 0 is nothing, 1 the document before its element.
 

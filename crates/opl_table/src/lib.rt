@@ -65,8 +65,6 @@ pub const BOUND_TASK_ID: u64 = 63;
 
 pub const PREREQ_TASK_ID: u64 = 64;
 
-pub const INHERIT_ROLE: u64 = 67;
-
 pub const CHINESE_WALL: u64 = 69;
 
 pub const CW_PARTITION: u64 = 71;

@@ -13,7 +13,7 @@ use Rattle.paper_lower.proofs.ListLaws.{both, and-false}
 use Rattle.paper_opl.specs.Reading.{Text, after, text, same, starts, expect, white, skip, inName, value, misc, readingOpen}
 use Rattle.paper_opl.specs.Reading.Read.{got}
 use Rattle.paper_opl.specs.Elements.{Child, elementsOf, next, mayEnd, rowIn}
-use Rattle.paper_opl.specs.Tree.{Elements, Inside, element, DEPTH, pseudo, optional, isVersion, isEncoding, isStandalone, declaration, doctype, byteOrderMark, behindMark, declared, prolog, documentIn}
+use Rattle.paper_opl.specs.Tree.{Elements, Inside, element, DEPTH, pseudo, optional, isVersion, isEncoding, isStandalone, declaration, doctype, byteOrderMark, declared, prolog, documentIn}
 use Rattle.paper_opl.specs.Tree.Elements.{nothing, node}
 use Rattle.paper_opl.specs.Layout.{attributesFit, elementsFit, inGrammar, attributesText, attributesLaid, givenBy, Layout, layoutText, layoutFits, treeOf, Document, documentText, documentFits, blank, someBlank, calm, Gap, gap, gapFits, Value, quoted, quoteFits, valueText, valueFits, optionalText, optionalFits, Declaration, declarationRest, declarationText, declarationFits, Doctype, doctypeText, doctypeFits, markText}
 use Rattle.paper_opl.specs.Layout.Layout.{last, short, long}

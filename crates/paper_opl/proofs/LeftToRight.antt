@@ -1,30 +1,29 @@
 -- The walk from left to right gives the names and the records that the elements of an accepted text say.
 use mathlib.Core.Path.{_≡_, refl, sym, ap, _∙_}
 use mathlib.Core.List.{List, [], _∷_, _++_, append-nil}
-use mathlib.Core.Bool.{Bool, true, not, cond}
+use mathlib.Core.Bool.{Bool, true, not}
 use Prim.Native.Nat.{ℕ, suc}
 use Prim.Native.String.{String}
 use lib.Dec.{eqb}
-use lib.ListN.{length}
 use borrow.Author.Tests.{eqb-true}
 use Rattle.paper_lower.specs.Lists.{Maybe, many, keep, each, listsOpen}
 use Rattle.paper_lower.specs.Lists.Maybe.{just}
-use Rattle.paper_lower.specs.Records.{Bytes, Record}
+use Rattle.paper_lower.specs.Records.{Record}
 use Rattle.paper_lower.proofs.ListLaws.{or-none}
 use Rattle.paper_opl.specs.Reading.{Text, text, same, readingOpen}
 use Rattle.paper_opl.specs.Reading.Read.{got}
-use Rattle.paper_opl.specs.Elements.{elementsOf, elementsOpen}
-use Rattle.paper_opl.specs.Tree.{Given, Tag, Elements, tagsOf, documentIn}
+use Rattle.paper_opl.specs.Elements.{elementsOpen}
+use Rattle.paper_opl.specs.Tree.{Given, Elements, tagsOf, documentIn}
 use Rattle.paper_opl.specs.Tree.Elements.{nothing, node}
 use Rattle.paper_opl.specs.Naming.{Line, those, insides, inAll, inEach, valueOf, declaredBy, Names, spaceOf, objectsIn, namesOf, Row, firstRows, lastRows, recordBy, recordsBy, recordsOf, taskLines, translateIn}
-use Rattle.paper_opl.specs.Walk.{called, declaredIn, namesIn, start, turn, kinds, kindIn, innerNames, leading, Saying, sayings, rowOf, recordSaid, rising, recordsIn, tags, tag, walkedIn, kindAt, saying, inner, Context}
+use Rattle.paper_opl.specs.Walk.{declaredIn, namesIn, start, turn, kinds, kindIn, innerNames, leading, Saying, sayings, rowOf, recordSaid, rising, recordsIn, tags, walkedIn, WalkedAsDefined}
 use Rattle.paper_opl.proofs.Inversion.{on, on-test}
 use Rattle.paper_opl.proofs.Conforms.{same-true, forNames, Fits, root}
 use Rattle.paper_opl.proofs.Wider.{document-fits}
 use Rattle.paper_opl.proofs.Groups.{innerName, told, told-is}
 use Rattle.paper_opl.proofs.KindByKind.{keep-append, each-append, ofKind, simpleTest, simple, static, dynamic, inSeparationNames, role-sets, partitions}
 use Rattle.paper_opl.proofs.Walls.{in-all-walls, few-are}
-use Rattle.paper_opl.proofs.Tags.{walk, step, tags-are}
+use Rattle.paper_opl.proofs.Tags.{walk, tags-are}
 
 -- ---- Names.
 
@@ -194,32 +193,7 @@ module _ (es : Elements) (f : Fits root es) where
 pub walk-gives : (all : Bool) (s : Text) (es : Elements) (r : Text) (ls : List Line) → documentIn all s ≡ got es r → recordsOf es ls ≡ recordsIn (tags s) ls
 walk-gives all s es r ls e = records-are es (document-fits all s es r e) ls ∙ rw (tags-are all s es r e)
 
-pub walked-is : (all : Bool) (s t : Text) (out : Bytes) → translateIn all s t out ≡ walkedIn all s t out
+pub walked-is : WalkedAsDefined
 unfolding translateIn walkedIn
 walked-is all s t out =
     on (documentIn all s) (λ es r d. on (taskLines t) (λ ls u l. rw (d, l, walk-gives all s es r ls d)) (λ u l. rw (d, l))) (λ r d. rw d)
-
--- ---- A step of the walk, and what it says.
-
-module _ (s r : Text) where
-  pub end-step : tag s ≡ got [] r → walk s ≡ walk r
-  end-step e = step s r [] e
-
-  module _ (t : Tag) (e : tag s ≡ got (t ∷ []) r) where
-    pub say-step : (c : Context) → sayings c (walk s) ≡ cond (eqb (kindAt c t) 0) [] (saying c t (leading (walk r)) ∷ []) ++ sayings (turn c t) (walk r)
-    unfolding sayings
-    say-step c = ap (sayings c) (step s r (t ∷ []) e)
-
-    pub lead-step : leading (walk s) ≡ cond (inner t) (t ∷ leading (walk r)) []
-    unfolding leading
-    lead-step = ap leading (step s r (t ∷ []) e)
-
-    pub declare-step : (f w : String) →
-        declaredIn f w (walk s) ≡ cond (called f t) (valueOf (text w) (t .given) ∷ declaredIn f w (walk r)) (declaredIn f w (walk r))
-    unfolding keep each
-    declare-step f w = ap (declaredIn f w) (step s r (t ∷ []) e) ∙ on-test (called f t) (λ q. rw q) (λ q. rw q)
-
-    pub count-step : (f : String) →
-        many (keep (called f) (walk s)) ≡ cond (called f t) (suc (many (keep (called f) (walk r)))) (many (keep (called f) (walk r)))
-    unfolding keep many
-    count-step f = ap (λ (ts : List Tag). many (keep (called f) ts)) (step s r (t ∷ []) e) ∙ on-test (called f t) (λ q. rw q) (λ q. rw q)

@@ -40,19 +40,6 @@ givens-below (suc n) s =
     let k = below-of t (givens-below n u) in
     rw (c, p, q, t) (omega arith)) (λ z t. rw (c, p, q, t) tt)) (λ u q. rw (c, p, q) tt)) (λ r p. rw (c, p) tt))
 
-pub givens-enough : (n m : ℕ) (s : Text) → length s ≤ n → length s ≤ m → givens n s ≡ givens m s
-unfolding givens word behind starts text
-givens-enough zero zero s h l = refl
-givens-enough zero (suc m) [] h l = refl
-givens-enough zero (suc m) (b ∷ s) h l = absurd (omega arith)
-givens-enough (suc n) zero [] h l = refl
-givens-enough (suc n) zero (b ∷ s) h l = absurd (omega arith)
-givens-enough (suc n) (suc m) s h l =
-    on-test (starts (text ">") (skip s) || starts (text "/") (skip s)) (λ q. rw q) (λ q. rw q (on (space s) (λ _ r e. rw e (on (plain r) (λ g u d.
-    let a = below-of e (space-strict s) in
-    let b = below-of d (plain-below r) in
-    rw (d, givens-enough n m u (omega arith) (omega arith))) (λ u d. rw d))) (λ r e. rw e)))
-
 closed-below : (s : Text) → below (suc (length s)) (closed s)
 closed-below s =
     let d = drop-le 1 s in

@@ -2,19 +2,19 @@
 -- all blocks exactly where the walk never runs out of them.
 use mathlib.Core.Path.{_≡_, refl, sym, ap, _∙_}
 use mathlib.Core.List.{List, [], _∷_, _++_, append-assoc, append-nil}
-use mathlib.Core.Bool.{Bool, true, false, not, cond, _&&_, _||_, false≢true, true≢false}
+use mathlib.Core.Bool.{Bool, true, false, not, cond, _&&_, false≢true}
 use Prim.Native.Nat.{ℕ, suc, _+_, _-_, _*_, _≤_}
 use native.Mathlib.Omega.{arith}
 use lib.Dec.{leb}
 use borrow.Author.Tests.{not-true, leb-true, leb-false, le-leb, lt-leb}
-use Rattle.paper_lower.specs.Lists.{some, every, many, keep, each, listsOpen}
+use Rattle.paper_lower.specs.Lists.{some, every, many, keep, listsOpen}
 use Rattle.paper_lower.proofs.ListLaws.{both, or-none, many-append}
 use Rattle.paper_opl.specs.Reading.{Text, text, same, readingOpen}
-use Rattle.paper_opl.specs.Elements.{Child, Element, elementsOf, rowIn, elementsOpen}
+use Rattle.paper_opl.specs.Elements.{Child, elementsOf, rowIn, elementsOpen}
 use Rattle.paper_opl.specs.Tree.{Given, Elements, Tag, tagsOf}
 use Rattle.paper_opl.specs.Tree.Elements.{nothing, node}
 use Rattle.paper_opl.specs.Naming.{Found, those, insides, inEach, inWalls, fewOf}
-use Rattle.paper_opl.specs.Walk.{called, Context, start, turn, few, fewFrom, kinds, kindIn, kindAt}
+use Rattle.paper_opl.specs.Walk.{Context, start, turn, few, fewFrom, kinds, kindIn, kindAt}
 use Rattle.paper_opl.proofs.Inversion.{on-test}
 use Rattle.paper_opl.proofs.Conforms.{same-true, forNames, child-has, Fits, row-has, row-name, root}
 use Rattle.paper_opl.proofs.Groups.{groupTest, stands-in, stands-out, turning, turns, turns-append, told}

@@ -1,7 +1,7 @@
 -- The records written where they belong, in whatever order tags say them: a place for each kind, behind the records of lower kinds.
-use Prim.Native.Nat.{ℕ, zero, suc, _+_, _*_}
+use Prim.Native.Nat.{ℕ, zero, suc, _+_}
 use mathlib.Core.Bool.{cond}
-use mathlib.Core.List.{List, [], _∷_, _++_}
+use mathlib.Core.List.{List, [], _∷_}
 use lib.Dec.{eqb}
 use Rattle.paper_lower.specs.Sets.{Set, plus}
 use Rattle.paper_lower.specs.Lists.{Maybe, upd, many, keep}

@@ -2,17 +2,18 @@
 -- crate show that nothing else comes out.
 use Prim.Native.Nat.{ℕ, zero, suc, _-_, _*_}
 use Prim.Native.String.{String}
+use mathlib.Core.Path.{_≡_}
 use mathlib.Core.Bool.{Bool, cond, _&&_, _||_}
 use mathlib.Core.List.{List, [], _∷_, _++_}
 use lib.Dec.{eqb, leb}
 use lib.ListN.{length, drop}
-use Rattle.paper_lower.specs.Lists.{Maybe, some, many, keep, each}
+use Rattle.paper_lower.specs.Lists.{Maybe, some, keep, each}
 use Rattle.paper_lower.specs.Lists.Maybe.{none, just}
 use Rattle.paper_lower.specs.Records.{Bytes, Record}
 use Rattle.paper_opl.specs.Reading.{Text, text, Read, after, same, starts, expect, skip, space, misc, name, value, equals}
 use Rattle.paper_opl.specs.Reading.Read.{got, bad}
 use Rattle.paper_opl.specs.Tree.{Given, Tag, if-found, prolog, documentIn}
-use Rattle.paper_opl.specs.Naming.{Line, Found, valueOf, Names, spaceOf, objectsIn, Row, firstRows, lastRows, recordBy, taskRecord, allOf, NAMES, Answer, taskLines, refused, writes, judged}
+use Rattle.paper_opl.specs.Naming.{Line, Found, valueOf, Names, spaceOf, objectsIn, Row, firstRows, lastRows, recordBy, taskRecord, allOf, NAMES, Answer, taskLines, refused, writes, judged, translateIn}
 
 -- ---- Tags.
 
@@ -192,3 +193,7 @@ unfoldable pub walkedIn : Bool → Text → Text → Bytes → Answer
 walkedIn all s t out =
     judged 1 s (documentIn all s) out (λ _. judged 2 t (taskLines t) out (λ ls.
     if-found (recordsIn (tags s) ls) (refused NAMES 0 0 out) (λ rs. writes rs out)))
+
+-- which is the call
+abbrev pub WalkedAsDefined : Type 0
+WalkedAsDefined = (all : Bool) (s t : Text) (out : Bytes) → translateIn all s t out ≡ walkedIn all s t out

@@ -1,7 +1,7 @@
 -- The two readers that call each other. Remaining depth and remaining text fall together: from an element to its content the text, from content
 -- to an element in it both. The loop over the content goes by the text alone.
 use borrow.Author.Needs.{needs}
-use Prim.Native.Nat.{_+_, _-_, _/_, _%_, _≤_}
+use Prim.Native.Nat.{_+_, _-_, _≤_}
 use mathlib.Core.Path.{_≡_, refl, _∙_}
 use mathlib.Core.List.{List}
 use lib.ListN.{length, drop}
