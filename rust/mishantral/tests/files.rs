@@ -87,11 +87,12 @@ mod write {
         }
     }
 
-    /// A policy buffer of ones alone says all that there can be.
+    /// A policy buffer of ones alone, but for the words of the permissions, says all that there can be (docs/STATE.md).
     #[test]
     fn there_is_always_enough_room() {
         let mut state = State::zeroed();
         state.policy.fill(u64::MAX);
+        state.policy[2056..2312].fill(0x1_ffff_ffff);
         let mut output = vec![0; WRITTEN * 16];
         assert_eq!(state.write_into(&mut output), Ok(WRITTEN));
         let short = state.write_into(&mut output[1..]);
