@@ -6,7 +6,7 @@ ghost use Rattle.paper_lower.specs.Lists.{some_number_below};
 ghost use Rattle.blocks.specs.Reading.{blocks_of, Gathered, nowhere, only, spread, over, apart};
 
 // At most one block per wall, in two words.
-#[derive(Drop)]
+#[derive(Clone, Copy)]
 pub struct Blocks {
     pub walls: u64,
     pub blocks: u64,

@@ -30,7 +30,7 @@ struct Words {
 }
 
 // A number for each buffer: how many of its words are passed to a call, or a seed.
-#[derive(Drop)]
+#[derive(Clone, Copy)]
 struct Each {
     p: u64,
     s: u64,
@@ -38,7 +38,7 @@ struct Each {
 }
 
 // The number of the reply, and its place.
-#[derive(Drop)]
+#[derive(Clone, Copy)]
 struct Answer {
     reply: u64,
     place: u64,

@@ -11,7 +11,7 @@ use replies::Reply;
 use sessions::SESSIONS_WORDS;
 
 // The number of bytes that were read; or `Failed`, if a read failed.
-#[derive(Drop)]
+#[derive(Clone, Copy)]
 enum Got {
     Bytes(usize),
     Failed,

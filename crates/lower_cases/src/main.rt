@@ -26,14 +26,14 @@ struct Words {
 }
 
 // A number for each buffer: how many of its words are passed to a call, or a seed.
-#[derive(Drop)]
+#[derive(Clone, Copy)]
 struct Each {
     p: u64,
     s: u64,
 }
 
 // The number of the reply, and the place of a load.
-#[derive(Drop)]
+#[derive(Clone, Copy)]
 struct Answer {
     reply: u64,
     place: u64,

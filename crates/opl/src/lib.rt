@@ -22,7 +22,7 @@ pub const TEXT: u64 = 21;
 pub const NAMES: u64 = 22;
 
 // The answer: the reply; with TEXT, the place of the byte from 1 and the number of the text, 1 or 2; the number of records.
-#[derive(Drop)]
+#[derive(Clone, Copy)]
 pub struct Answer {
     pub reply: u64,
     pub place: u64,

@@ -10,7 +10,7 @@ use opl_spaces::declare;
 use opl_tags::Part;
 
 // The result of one step over a line or tag: the index after it; or `Long`, a name that is too long; or `Done`, no further line or tag.
-#[derive(Drop)]
+#[derive(Clone, Copy)]
 pub enum Walked {
     Next(usize),
     Long,

@@ -8,7 +8,7 @@ ghost use Rattle.opl_lines.specs.Lines.{forget, ReadsLine};
 use opl_text::{Step, expect, is_at};
 
 // Where the two names of a line end and the next line begins; or the index of the byte that is not allowed.
-#[derive(Drop)]
+#[derive(Clone, Copy)]
 pub enum Ends {
     Line {
         task: usize,

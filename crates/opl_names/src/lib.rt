@@ -8,7 +8,7 @@ ghost use Rattle.opl_names.specs.Table.{quad_at, turned, rest_from, mark_of, buc
 use opl_text::same_by_eights;
 
 // The number of a name, or `Nowhere` if it has none.
-#[derive(Drop)]
+#[derive(Clone, Copy)]
 pub enum Found {
     At(usize),
     Nowhere,

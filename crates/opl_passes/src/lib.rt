@@ -26,21 +26,21 @@ use record_output::{low_word, put, put_words};
 const KINDS: usize = 19;
 
 // The numbers of a line's task and template, and the index of the next line; or `Nameless`, if a name in it has no number.
-#[derive(Drop)]
+#[derive(Clone, Copy)]
 pub enum Row {
     Pair { a: u64, b: u64, next: usize },
     Nameless,
 }
 
 // The number of lines; or `Unnamed`, if a name in one has no number.
-#[derive(Drop)]
+#[derive(Clone, Copy)]
 pub enum Counted {
     Lines(usize),
     Unnamed,
 }
 
 // The position after a tag and the number of records so far; or `Unnamed`, if a name in the tag has no number; or `Done`, no further tag.
-#[derive(Drop)]
+#[derive(Clone, Copy)]
 pub enum Checked {
     Next(Cursor, usize),
     Unnamed,
@@ -48,21 +48,21 @@ pub enum Checked {
 }
 
 // The number of records of the tags; or `Nameless`, if a name has no number or there are too many partitionings, walls or blocks.
-#[derive(Drop)]
+#[derive(Clone, Copy)]
 pub enum Judged {
     Records(usize),
     Nameless,
 }
 
 // The position after a tag that was written; or `Ended`, no further tag.
-#[derive(Drop)]
+#[derive(Clone, Copy)]
 pub enum Wrote {
     Onward(Cursor),
     Ended,
 }
 
 // The number of all records; or `Over`, if it is above a limit.
-#[derive(Drop)]
+#[derive(Clone, Copy)]
 pub enum Sum {
     Total(usize),
     Over,

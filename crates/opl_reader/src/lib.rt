@@ -13,14 +13,14 @@ use opl_table::Found;
 use opl_text::Step;
 
 // After an attribute: the index, and the list of attributes that may still be given; or the index of a refusal.
-#[derive(Drop)]
+#[derive(Clone, Copy)]
 pub enum Taken {
     Behind(usize, u64),
     Refused(usize),
 }
 
 // After the start of an element: the index, the element's number, and the state after it; or the index of a refusal.
-#[derive(Drop)]
+#[derive(Clone, Copy)]
 pub enum Start {
     Inner(usize, u64, u64),
     Stop(usize),

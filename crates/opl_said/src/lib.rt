@@ -31,7 +31,7 @@ const MOST: u64 = 16;
 const BLOCKS: u64 = 256;
 
 // The fields of a record; or `Unnamed`, if a name in it has no number.
-#[derive(Drop)]
+#[derive(Clone, Copy)]
 pub enum Fields {
     Numbers {
         n: u64,
@@ -45,7 +45,7 @@ pub enum Fields {
 
 // A tag that was met while looking for elements inside another: `Here`, one that is looked for; `Other`, a different one inside it; `Last`, no further one
 // inside. With it comes the index to go on from, and the number of listed tags up to there.
-#[derive(Drop)]
+#[derive(Clone, Copy)]
 pub enum Member {
     Other { next: usize, entry: usize },
     Here { end: usize, entry: usize },
@@ -53,14 +53,14 @@ pub enum Member {
 }
 
 // The next element that is looked for, as in `Member`; or `Nothing`.
-#[derive(Drop)]
+#[derive(Clone, Copy)]
 pub enum Next {
     There { end: usize, entry: usize },
     Nothing,
 }
 
 // A set; or `Nameless`, if the name of a member has no number.
-#[derive(Drop)]
+#[derive(Clone, Copy)]
 pub enum Group {
     Bits(u64),
     Nameless,

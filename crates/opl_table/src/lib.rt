@@ -10,14 +10,14 @@ ghost use Rattle.opl_table.specs.Numbers.{name_of, left_of, list_of, word_at, di
 ghost use Rattle.opl_table.specs.Found.{place_of, Follows, Allows};
 
 // The result of looking up a name: for an element, its number and the state after it; for an attribute, its class and the list of attributes after it.
-#[derive(Drop)]
+#[derive(Clone, Copy)]
 pub enum Found {
     Known(u64, u64),
     Unknown,
 }
 
 // An index into the table, whose entries are called places.
-#[derive(Drop)]
+#[derive(Clone, Copy)]
 pub enum Place {
     Here(u64),
     Nowhere,

@@ -15,7 +15,7 @@ use opl_text::{Step, equals, is_at, read_name, read_value, skip_misc, skip_space
 
 // An attribute, with its name from `from` to `end` and its value from `value` to the closing quote at `close`; or `Done`, the end of the start tag at its "/"
 // or ">"; or `Stop`, if the text cannot be read.
-#[derive(Drop)]
+#[derive(Clone, Copy)]
 pub enum Attribute {
     Pair {
         from: usize,
@@ -28,14 +28,14 @@ pub enum Attribute {
 }
 
 // A part of the text, by its indices.
-#[derive(Drop)]
+#[derive(Clone, Copy)]
 pub struct Part {
     pub from: usize,
     pub to: usize,
 }
 
 // A start tag, with its name from `name` to `end`; or an end tag, with the index of its "/"; or `Halt`, if there is no further tag.
-#[derive(Drop)]
+#[derive(Clone, Copy)]
 pub enum Tag {
     Start { name: usize, end: usize },
     End(usize),

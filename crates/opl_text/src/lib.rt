@@ -5,7 +5,7 @@ ghost use Rattle.paper_opl.specs.Reading.{text, white as whiteOf, control as con
 ghost use Rattle.opl_text.specs.Steps.{From, Reads, step_of, word_of, value_of, Surely, Runs, RunsSame};
 
 // Where a reader stopped: after what it read, or at the byte that is not allowed there.
-#[derive(Drop)]
+#[derive(Clone, Copy)]
 pub enum Step {
     Next(usize),
     Bad(usize),

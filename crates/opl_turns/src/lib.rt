@@ -30,7 +30,7 @@ const MOST: usize = 16;
 // A position between tags: the index in the text, the number of listed tags before it, and the context that these determine. `sets` is the kind of a set of
 // roles, 9 or 10. `parts` and `walls` count the partitionings and walls that have begun. `blocks` is the number of the next block: 16 times its wall + its
 // index there.
-#[derive(Drop)]
+#[derive(Clone, Copy)]
 pub struct Cursor {
     pub at: usize,
     pub entry: usize,
@@ -42,7 +42,7 @@ pub struct Cursor {
 
 // The next tag: a start tag of element `id` whose name ends at `end`, and the number of listed tags up to it; or an end tag, with the index to go on from; or
 // none.
-#[derive(Drop)]
+#[derive(Clone, Copy)]
 pub enum Met {
     Begun { id: u64, end: usize, entry: usize },
     Ended(usize),
@@ -51,7 +51,7 @@ pub enum Met {
 
 // What the next tag yields: a record of a kind, with the number of its partitioning or block, and the end of the tag's name; or no record; or `Done`, no
 // further tag. `next` is the position after it.
-#[derive(Drop)]
+#[derive(Clone, Copy)]
 pub enum Turned {
     Says {
         kind: u64,

@@ -18,7 +18,7 @@ use order_links::{
 use sets::{Set, pick, set_of};
 
 // An instance: whether it is open, and its template.
-#[derive(Drop)]
+#[derive(Clone, Copy)]
 pub struct Instance {
     pub open: bool,
     pub template: u64,
@@ -57,7 +57,7 @@ pub fn in_use(o: &[u64]) -> usize
 
 // For a claim of task t by user u: the tasks of the instance with an entry of u, with a done entry, and with an entry of another user; the number of entries
 // of t, and 1 if one of them is held. `held` is a number because the padding of a bool would make the compiler go through memory at each turn of the loop.
-#[derive(Drop)]
+#[derive(Clone, Copy)]
 pub struct Gathered {
     pub mine: Set,
     pub done: Set,
@@ -221,7 +221,7 @@ pub fn in_open_order(o: &[u64], u: u64) -> bool
 // ---- Kept figures.
 
 // The number of entries of an instance, and its done tasks.
-#[derive(Drop)]
+#[derive(Clone, Copy)]
 pub struct Figures {
     pub entries: u64,
     pub done: Set,

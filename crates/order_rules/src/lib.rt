@@ -237,7 +237,7 @@ fn bound(p: &[u64], others: Set, t: u64) -> u64
 // ---- All rules.
 
 // A reply, and the place of the rule that gives it, or 0.
-#[derive(Drop)]
+#[derive(Clone, Copy)]
 pub struct Judged {
     pub reply: Reply,
     pub place: u64,

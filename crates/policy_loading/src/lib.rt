@@ -17,7 +17,7 @@ use records::{Call, Record};
 use replies::Reply;
 
 // The reply to a load, and the place of the refused record, counted from 1; 0 if the load was accepted or the buffer has the wrong length.
-#[derive(Drop)]
+#[derive(Clone, Copy)]
 pub struct Loaded {
     pub reply: Reply,
     pub place: u64,

@@ -9,7 +9,7 @@ use replies::Reply;
 
 // An entry of the report: the place of a dropped record, counted from 1, and its refusal.
 #[repr(C)]
-#[derive(Drop)]
+#[derive(Clone, Copy)]
 pub struct Dropped {
     pub place: u64,
     pub reply: u64,

@@ -14,7 +14,7 @@ use sessions::SESSIONS_WORDS;
 use sets::Set;
 
 // The reply, and the number of records written.
-#[derive(Drop)]
+#[derive(Clone, Copy)]
 pub struct Written {
     pub reply: Reply,
     pub records: usize,

@@ -12,7 +12,7 @@ ghost use Rattle.records.specs.Check.{is_check};
 use replies::Reply;
 
 // A record of sixteen bytes, decoded (docs/RULES.md, "A record").
-#[derive(Drop)]
+#[derive(Clone, Copy)]
 pub struct Record {
     pub kind: u64,
     pub n: u64,
@@ -34,7 +34,7 @@ const C: u64 = 281474976710656;
 const HIGH: u64 = 4294967296;
 
 // The call that a record is given to: the load, the request of the lower part, or the request of the whole engine.
-#[derive(Drop)]
+#[derive(Clone, Copy)]
 pub enum Call {
     Load,
     Lower,
@@ -135,7 +135,7 @@ const PAIR: u64 = 0xffffffff;
 const ANY_M: u64 = 0xffffffffffffffff;
 
 // The form of a kind: the calls that take it, the bits of the first word that must be zero, and the limits of m, a, b and c.
-#[derive(Drop)]
+#[derive(Clone, Copy)]
 struct Form(u64, u64, u64, u64, u64, u64);
 
 // The form of each kind. Each kind has its own arm: for kinds in a common arm the compiler would test their range before all others.

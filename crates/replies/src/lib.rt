@@ -3,7 +3,7 @@ ghost use Rattle.std.specs.Prelude.{◌≡◌, eqb};
 ghost use Rattle.replies.specs.Replies.{number_of};
 
 // A reply to a load or a request.
-#[derive(Drop)]
+#[derive(Clone, Copy)]
 pub enum Reply {
     Granted,
     Room,

@@ -4,7 +4,7 @@ ghost use Rattle.std.specs.Prelude.{ℕ, ◌+◌, ◌-◌, ◌%◌, ◌<◌, ◌
 ghost use Rattle.scripts.specs.Lines.{LineEnd, digit_more, space_more, number_of, bytes_of, a_record_of, Put, drawn, garbled, letter_of, Garbled};
 
 // The fields of a record.
-#[derive(Drop)]
+#[derive(Clone, Copy)]
 pub struct Fields {
     pub kind: u8,
     pub n: u8,

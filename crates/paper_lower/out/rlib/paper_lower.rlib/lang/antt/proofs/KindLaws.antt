@@ -7,8 +7,8 @@ use borrow.Author.Tests.{eqb-true}
 use lib.Dec.{eqb}
 use Rattle.paper_lower.specs.Lists.{Every}
 use Rattle.paper_lower.specs.Records.{Bytes, Record, decode}
-use Rattle.paper_lower.specs.Forms.{Form, formChecks}
-use Rattle.paper_lower.specs.Kinds.{Kind, chosen, replyTo}
+use Rattle.paper_lower.specs.Forms.{Form, form_checks}
+use Rattle.paper_lower.specs.Kinds.{Kind, chosen, reply_to}
 use Rattle.paper_lower.proofs.CheckLaws.{Numbered, Passed, passed}
 
 -- A property of every kind of the list, and of the kind that stands for a number that is not in the list, is a property of the kind with number n.
@@ -28,9 +28,9 @@ AllNumbered ks = Every (λ k. (t : _) (r : Record) → Numbered (k.checks t r)) 
 
 module _ {T : Type 0} (fs : List Form) (ks : List (Kind T)) (numbered : AllNumbered ks) where
   -- If the reply to the bytes s is GRANTED, no check of the forms applied to them and no check of their kind.
-  pub reply-passed : (t : T) (s : Bytes) → replyTo fs ks t s ≡ 0 → Passed (formChecks fs s) × Passed ((chosen ks (decode s).kind).checks t (decode s))
-  unfolding replyTo formChecks chosen
+  pub reply-passed : (t : T) (s : Bytes) → reply_to fs ks t s ≡ 0 → Passed (form_checks fs s) × Passed ((chosen ks (decode s).kind).checks t (decode s))
+  unfolding reply_to form_checks chosen
   reply-passed t s h =
       let n = of-chosen (λ n k. (t : T) (r : Record) → Numbered (k.checks t r)) ks numbered (λ n t r. (tt, tt)) (decode s).kind t (decode s) in
-      let p = passed (formChecks fs s ++ (chosen ks (decode s).kind).checks t (decode s)) (tt, (tt, n)) h in
+      let p = passed (form_checks fs s ++ (chosen ks (decode s).kind).checks t (decode s)) (tt, (tt, n)) h in
       ((p.0, (p.1.0, tt)), p.1.1)

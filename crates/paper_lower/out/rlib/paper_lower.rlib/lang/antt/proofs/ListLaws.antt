@@ -8,7 +8,7 @@ use native.Mathlib.Nat.{not-suc-le-zero, le_of_suc-le-suc, add-zero}
 use native.Mathlib.Omega.{arith}
 use borrow.Author.Tests.{eqb-true, eqb-false, eq-eqb, ne_eqb, not-false}
 use lib.Dec.{eqb}
-use Rattle.paper_lower.specs.Lists.{upd, someBelow, some, many, add, keep, each, placeFrom, place, first_of, Every}
+use Rattle.paper_lower.specs.Lists.{upd, some_number_below, some, many, add, keep, each, place_from, place, first_of, Every}
 
 -- ---- Booleans.
 pub or-none : (a b : Bool) → a || b ≡ false → (a ≡ false) × (b ≡ false)
@@ -49,28 +49,28 @@ unfolding upd
 upd_other f i k x n = rw (ne_eqb k i n)
 
 -- ---- Whether f holds for some number below n.
-pub none_below : (n : ℕ) (f : ℕ → Bool) → someBelow n f ≡ false → (k : ℕ) → k < n → f k ≡ false
-unfolding someBelow
+pub none_below : (n : ℕ) (f : ℕ → Bool) → some_number_below n f ≡ false → (k : ℕ) → k < n → f k ≡ false
+unfolding some_number_below
 none_below zero f h k l = absurd (not-suc-le-zero l)
 none_below (suc n) f h k l =
-    let s = or-none (f n) (someBelow n f) h in
+    let s = or-none (f n) (some_number_below n f) h in
     go (eqb k n) refl s.0 (none_below n f s.1)
   where
     go : (b : Bool) → eqb k n ≡ b → f n ≡ false → ((k : ℕ) → k < n → f k ≡ false) → f k ≡ false
     go true e x rest = ap f (eqb-true _ _ e) ∙ x
     go false e x rest = let d = eqb-false k n e in rest k (omega arith)
 
-pub some_below : (n : ℕ) (f : ℕ → Bool) (k : ℕ) → k < n → f k ≡ true → someBelow n f ≡ true
-unfolding someBelow
+pub some_below : (n : ℕ) (f : ℕ → Bool) (k : ℕ) → k < n → f k ≡ true → some_number_below n f ≡ true
+unfolding some_number_below
 some_below zero f k l e = absurd (not-suc-le-zero l)
 some_below (suc n) f k l e = go (eqb k n) refl (some_below n f k)
   where
-    go : (b : Bool) → eqb k n ≡ b → (k < n → f k ≡ true → someBelow n f ≡ true) → f n || someBelow n f ≡ true
+    go : (b : Bool) → eqb k n ≡ b → (k < n → f k ≡ true → some_number_below n f ≡ true) → f n || some_number_below n f ≡ true
     go true q rest = rw (sym (ap f (eqb-true _ _ q)) ∙ e)
     go false q rest = let d = eqb-false k n q in rw (rest (omega arith) e) (or-true (f n))
 
-pub below_none : (n : ℕ) (f : ℕ → Bool) → ((k : ℕ) → k < n → f k ≡ false) → someBelow n f ≡ false
-unfolding someBelow
+pub below_none : (n : ℕ) (f : ℕ → Bool) → ((k : ℕ) → k < n → f k ≡ false) → some_number_below n f ≡ false
+unfolding some_number_below
 below_none zero f h = refl
 below_none (suc n) f h = rw (h n (omega arith)) (below_none n f (λ k l. h k (omega arith)))
 
@@ -165,12 +165,12 @@ some_of p [] = tt
 some_of p (y ∷ ys) = (λ q e. rw e, every_map ys (λ x h q e. rw (h q e) (or-true (p q y))) (some_of p ys))
 
 -- ---- The place of the first element for which p holds.
-none_from : {A : Type 0} (k : ℕ) (p : A → Bool) (xs : List A) → placeFrom (suc k) p xs ≡ 0 → Every (λ x. p x ≡ false) xs
-unfolding placeFrom
+none_from : {A : Type 0} (k : ℕ) (p : A → Bool) (xs : List A) → place_from (suc k) p xs ≡ 0 → Every (λ x. p x ≡ false) xs
+unfolding place_from
 none_from k p [] h = tt
 none_from k p (y ∷ ys) h = go (p y) refl h (none_from (suc k) p ys)
   where
-    go : (b : Bool) → p y ≡ b → cond b (suc k) (placeFrom (suc (suc k)) p ys) ≡ 0 → (placeFrom (suc (suc k)) p ys ≡ 0 → Every (λ x. p x ≡ false) ys) →
+    go : (b : Bool) → p y ≡ b → cond b (suc k) (place_from (suc (suc k)) p ys) ≡ 0 → (place_from (suc (suc k)) p ys ≡ 0 → Every (λ x. p x ≡ false) ys) →
         (p y ≡ false) × Every (λ x. p x ≡ false) ys
     go true e q rest = let z : ⊥ = omega arith in absurd z
     go false e q rest = (e, rest q)
@@ -178,10 +178,10 @@ none_from k p (y ∷ ys) h = go (p y) refl h (none_from (suc k) p ys)
 -- Place 0 means that p holds for no element.
 pub place_none : {A : Type 0} (p : A → Bool) (xs : List A) → not (eqb (place p xs) 0) ≡ false → Every (λ x. p x ≡ false) xs
 unfolding place
-place_none p xs h = none_from 0 p xs (eqb-true _ _ (not-false (eqb (placeFrom 1 p xs) 0) h))
+place_none p xs h = none_from 0 p xs (eqb-true _ _ (not-false (eqb (place_from 1 p xs) 0) h))
 
-from-none : {A : Type 0} (k : ℕ) (p : A → Bool) (xs : List A) → Every (λ x. p x ≡ false) xs → placeFrom k p xs ≡ 0
-unfolding placeFrom
+from-none : {A : Type 0} (k : ℕ) (p : A → Bool) (xs : List A) → Every (λ x. p x ≡ false) xs → place_from k p xs ≡ 0
+unfolding place_from
 from-none k p [] h = refl
 from-none k p (x ∷ xs) h = rw h.0 (from-none (suc k) p xs h.1)
 

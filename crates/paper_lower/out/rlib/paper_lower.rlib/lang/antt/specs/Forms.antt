@@ -14,36 +14,36 @@ pub data Field : Type 0 where
 
 -- The fields that have a limit. "Users 0 to 1,023. Roles 0 to 63. Permissions 0 to 255. Tasks 0 to 63. Templates 0 to 15. Partitionings 0 to 15. Subjects
 -- (sessions) 0 to 127. Instances (orders) 0 to 63."
-abbrev pub aUser : Field
-aUser = to 1023
+abbrev pub a_user : Field
+a_user = to 1023
 
-abbrev pub aRole : Field
-aRole = to 63
+abbrev pub a_role : Field
+a_role = to 63
 
-abbrev pub aPermission : Field
-aPermission = to 255
+abbrev pub a_permission : Field
+a_permission = to 255
 
-abbrev pub aTask : Field
-aTask = to 63
+abbrev pub a_task : Field
+a_task = to 63
 
-abbrev pub aTemplate : Field
-aTemplate = to 15
+abbrev pub a_template : Field
+a_template = to 15
 
-abbrev pub aPartitioning : Field
-aPartitioning = to 15
+abbrev pub a_partitioning : Field
+a_partitioning = to 15
 
 -- 02, Ask 11: "wall a (0 to 15), block b (0 to 15), object c"
-abbrev pub aWall : Field
-aWall = to 15
+abbrev pub a_wall : Field
+a_wall = to 15
 
-abbrev pub aBlock : Field
-aBlock = to 15
+abbrev pub a_block : Field
+a_block = to 15
 
-abbrev pub aSubject : Field
-aSubject = to 127
+abbrev pub a_subject : Field
+a_subject = to 127
 
-abbrev pub anOrder : Field
-anOrder = to 63
+abbrev pub an_order : Field
+an_order = to 63
 
 -- The form of one kind: its number, and what each field may contain.
 pub record Form : Type 0 where
@@ -59,64 +59,64 @@ abbrev pub form : ℕ → Field → Field → Field → Field → Field → Form
 form kind n a b c m = record { kind = kind; n = n; a = a; b = b; c = c; m = m }
 
 -- The forms of the policy kinds, in the order kind, n, a, b, c, m. "Policy kinds:"
-unfoldable pub policyForms : List Form
-policyForms =
-    form 1 · aUser · · ·
-    ∷ form 2 · aRole · · ·
-    ∷ form 3 · aPermission any any ·
-    ∷ form 4 · aUser aRole · ·
-    ∷ form 5 · aRole aPermission · ·
-    ∷ form 6 · aTask aTemplate · ·
-    ∷ form 7 · aTask aRole · ·
-    ∷ form 8 · aTask aPermission · ·
+unfoldable pub policy_forms : List Form
+policy_forms =
+    form 1 · a_user · · ·
+    ∷ form 2 · a_role · · ·
+    ∷ form 3 · a_permission any any ·
+    ∷ form 4 · a_user a_role · ·
+    ∷ form 5 · a_role a_permission · ·
+    ∷ form 6 · a_task a_template · ·
+    ∷ form 7 · a_task a_role · ·
+    ∷ form 8 · a_task a_permission · ·
     ∷ form 9 any · · · any
     ∷ form 10 any · · · any
     ∷ form 11 any · · · any
-    ∷ form 12 · aPartitioning · · any
-    ∷ form 13 · aTemplate · · ·
-    ∷ form 14 any aTask · · ·
-    ∷ form 15 · aTask aTask · ·
-    ∷ form 16 · aTask aTask · ·
-    ∷ form 17 · aRole aRole · ·
-    ∷ form 18 · aWall aBlock any ·
+    ∷ form 12 · a_partitioning · · any
+    ∷ form 13 · a_template · · ·
+    ∷ form 14 any a_task · · ·
+    ∷ form 15 · a_task a_task · ·
+    ∷ form 16 · a_task a_task · ·
+    ∷ form 17 · a_role a_role · ·
+    ∷ form 18 · a_wall a_block any ·
     ∷ []
 
 -- "Request kinds:" The forms of those that the lower part takes.
-unfoldable pub lowerForms : List Form
-lowerForms =
-    form 32 · aUser · · any
-    ∷ form 33 · aUser · · ·
-    ∷ form 34 · aUser aRole · ·
-    ∷ form 35 · aUser aRole · ·
-    ∷ form 36 · aRole aPermission · ·
-    ∷ form 37 · aRole aPermission · ·
-    ∷ form 40 · aSubject aUser · any
-    ∷ form 41 · aSubject · · ·
-    ∷ form 42 · aSubject aRole · ·
-    ∷ form 43 · aSubject aRole · ·
-    ∷ form 56 · aSubject any any ·
+unfoldable pub lower_forms : List Form
+lower_forms =
+    form 32 · a_user · · any
+    ∷ form 33 · a_user · · ·
+    ∷ form 34 · a_user a_role · ·
+    ∷ form 35 · a_user a_role · ·
+    ∷ form 36 · a_role a_permission · ·
+    ∷ form 37 · a_role a_permission · ·
+    ∷ form 40 · a_subject a_user · any
+    ∷ form 41 · a_subject · · ·
+    ∷ form 42 · a_subject a_role · ·
+    ∷ form 43 · a_subject a_role · ·
+    ∷ form 56 · a_subject any any ·
     -- 02, Ask 11: "Request kind 59, commit, has the fields of kind 56"
-    ∷ form 59 · aSubject any any ·
+    ∷ form 59 · a_subject any any ·
     ∷ []
 
 -- The forms of the request kinds that only the whole engine takes.
-unfoldable pub upperForms : List Form
-upperForms =
-    form 48 · anOrder aTemplate · ·
-    ∷ form 49 · anOrder · · ·
-    ∷ form 50 · aSubject anOrder aTask ·
-    ∷ form 51 · aSubject anOrder aTask ·
-    ∷ form 52 · aSubject anOrder aTask ·
-    ∷ form 57 · aSubject anOrder aTask pair
+unfoldable pub upper_forms : List Form
+upper_forms =
+    form 48 · an_order a_template · ·
+    ∷ form 49 · an_order · · ·
+    ∷ form 50 · a_subject an_order a_task ·
+    ∷ form 51 · a_subject an_order a_task ·
+    ∷ form 52 · a_subject an_order a_task ·
+    ∷ form 57 · a_subject an_order a_task pair
     -- 02, Ask 9: "kind 58 with instance a"
-    ∷ form 58 · anOrder · · ·
+    ∷ form 58 · an_order · · ·
     -- Ask 13: "kind 60, a question about template a"
-    ∷ form 60 · aTemplate · · ·
+    ∷ form 60 · a_template · · ·
     ∷ []
 
 -- The forms of all request kinds.
-unfoldable pub requestForms : List Form
-requestForms = lowerForms ++ upperForms
+unfoldable pub request_forms : List Form
+request_forms = lower_forms ++ upper_forms
 
 -- The form of kind k, if the call takes this kind.
 unfoldable pub form_of : List Form → ℕ → Maybe Form
@@ -144,18 +144,18 @@ misshapen (just f) r =
     misplaced f.n r.n || misplaced f.a r.a || misplaced f.b r.b || misplaced f.c r.c || misplaced f.m r.m
 
 -- Whether some field of the record is above its limit.
-unfoldable pub outOfRange : Maybe Form → Record → Bool
-outOfRange none r = false
-outOfRange (just f) r = above f.n r.n || above f.a r.a || above f.b r.b || above f.c r.c || above f.m r.m
+unfoldable pub out_of_range : Maybe Form → Record → Bool
+out_of_range none r = false
+out_of_range (just f) r = above f.n r.n || above f.a r.a || above f.b r.b || above f.c r.c || above f.m r.m
 
 -- The two checks that every record meets first. SHAPE is also given for "not 16 bytes".
-unfoldable pub formChecks : List Form → Bytes → List Check
-formChecks fs s =
+unfoldable pub form_checks : List Form → Bytes → List Check
+form_checks fs s =
     (not (eqb (length s) 16) || misshapen (form_of fs (decode s).kind) (decode s), SHAPE)
-    ∷ (outOfRange (form_of fs (decode s).kind) (decode s), RANGE)
+    ∷ (out_of_range (form_of fs (decode s).kind) (decode s), RANGE)
     ∷ []
 
 -- Unfolds the tables and checks of this file at once, for proofs that compute a case.
-unfoldable pub formsOpen : Unit {0}
-unfolding policyForms lowerForms upperForms requestForms form_of misplaced above misshapen outOfRange formChecks
-formsOpen = tt
+unfoldable pub forms_open : Unit {0}
+unfolding policy_forms lower_forms upper_forms request_forms form_of misplaced above misshapen out_of_range form_checks
+forms_open = tt

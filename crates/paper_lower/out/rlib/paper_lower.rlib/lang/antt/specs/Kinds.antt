@@ -2,7 +2,7 @@
 use Rattle.std.specs.Prelude.{ℕ, true, cond, List, [], ◌∷◌, ◌++◌, eqb}
 use Rattle.paper_lower.specs.Checks.{Check, first, granted, SHAPE}
 use Rattle.paper_lower.specs.Records.{Bytes, Record, decode}
-use Rattle.paper_lower.specs.Forms.{Form, formChecks}
+use Rattle.paper_lower.specs.Forms.{Form, form_checks}
 
 -- A kind: its number, its checks after SHAPE and RANGE, and the tables after a record that no check refuses.
 pub record Kind (T : Type 0) : Type 0 where
@@ -25,12 +25,12 @@ pub record Answer (T : Type 0) : Type 0 where
   pub tables : T
 
 -- The reply to the bytes s: that of the first check that applies, SHAPE and RANGE before those of the kind.
-unfoldable pub replyTo : {T : Type 0} → List Form → List (Kind T) → T → Bytes → ℕ
-replyTo fs ks t s = first (formChecks fs s ++ (chosen ks (decode s).kind).checks t (decode s))
+unfoldable pub reply_to : {T : Type 0} → List Form → List (Kind T) → T → Bytes → ℕ
+reply_to fs ks t s = first (form_checks fs s ++ (chosen ks (decode s).kind).checks t (decode s))
 
 -- The reply to the bytes s and the tables afterwards, which stay the same if the record is refused.
 unfoldable pub answer : {T : Type 0} → List Form → List (Kind T) → T → Bytes → Answer T
-answer fs ks t s = record { reply = replyTo fs ks t s; tables = granted (replyTo fs ks t s) ((chosen ks (decode s).kind).next t (decode s)) t }
+answer fs ks t s = record { reply = reply_to fs ks t s; tables = granted (reply_to fs ks t s) ((chosen ks (decode s).kind).next t (decode s)) t }
 
 -- ---- A sequence of calls.
 
@@ -50,6 +50,6 @@ after ask t [] = t
 after ask t (s ∷ ss) = after ask (ask t s).tables ss
 
 -- Unfolds all definitions of this file at once, for proofs that compute a case.
-unfoldable pub kindsOpen : Unit {0}
-unfolding chosen replyTo answer run after
-kindsOpen = tt
+unfoldable pub kinds_open : Unit {0}
+unfolding chosen reply_to answer run after
+kinds_open = tt

@@ -1,6 +1,6 @@
 -- Tables as functions from a row number, optional values, and lists in policy order.
 use Rattle.std.specs.Prelude.{ℕ, zero, suc, ◌+◌, Bool, true, false, cond, ◌&&◌, ◌||◌, List, [], ◌∷◌, eqb}
-use Rattle.paper_lower.specs.Sets.{setsOpen}
+use Rattle.paper_lower.specs.Sets.{sets_open}
 
 -- ---- Tables.
 
@@ -9,14 +9,14 @@ unfoldable pub upd : {A : Type 0} → (ℕ → A) → ℕ → A → ℕ → A
 upd f i x k = cond (eqb k i) x (f k)
 
 -- Whether f holds for some number below n.
-unfoldable pub someBelow : ℕ → (ℕ → Bool) → Bool
-someBelow zero f = false
-someBelow (suc n) f = f n || someBelow n f
+unfoldable pub some_number_below : ℕ → (ℕ → Bool) → Bool
+some_number_below zero f = false
+some_number_below (suc n) f = f n || some_number_below n f
 
 -- The sum of f 0 to f (n - 1).
-unfoldable pub sumBelow : ℕ → (ℕ → ℕ) → ℕ
-sumBelow zero f = 0
-sumBelow (suc n) f = f n + sumBelow n f
+unfoldable pub sum_below : ℕ → (ℕ → ℕ) → ℕ
+sum_below zero f = 0
+sum_below (suc n) f = f n + sum_below n f
 
 -- ---- Optional values.
 
@@ -76,13 +76,13 @@ each f [] = []
 each f (x ∷ xs) = f x ∷ each f xs
 
 -- The place of the first element for which p holds, where the first element of the list has place k; 0 if there is none.
-unfoldable pub placeFrom : {A : Type 0} → ℕ → (A → Bool) → List A → ℕ
-placeFrom k p [] = 0
-placeFrom k p (x ∷ xs) = cond (p x) k (placeFrom (suc k) p xs)
+unfoldable pub place_from : {A : Type 0} → ℕ → (A → Bool) → List A → ℕ
+place_from k p [] = 0
+place_from k p (x ∷ xs) = cond (p x) k (place_from (suc k) p xs)
 
 -- The place, counted from 1, of the first element for which p holds; 0 if there is none.
 unfoldable pub place : {A : Type 0} → (A → Bool) → List A → ℕ
-place p xs = placeFrom 1 p xs
+place p xs = place_from 1 p xs
 
 -- The first value other than 0 among the `count` values f k, f (k + 1), ...; 0 if there is none.
 unfoldable pub first_of : ℕ → ℕ → (ℕ → ℕ) → ℕ
@@ -95,6 +95,6 @@ Every P [] = Unit {0}
 Every P (x ∷ xs) = P x × Every P xs
 
 -- Unfolds all definitions of this file and of Sets at once, for proofs that compute a case.
-unfoldable pub listsOpen : Unit {0}
-unfolding setsOpen upd someBelow sumBelow holds or_else some every many add keep each placeFrom place first_of
-listsOpen = tt
+unfoldable pub lists_open : Unit {0}
+unfolding sets_open upd some_number_below sum_below holds or_else some every many add keep each place_from place first_of
+lists_open = tt

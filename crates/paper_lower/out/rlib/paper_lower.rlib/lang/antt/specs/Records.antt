@@ -37,6 +37,6 @@ unfoldable pub put_at : Bytes → ℕ → Record → Bytes
 put_at out p r = take (16 * p) out ++ (encode r ++ drop (16 * p + 16) out)
 
 -- Unfolds number, decode, bytes and encode at once, for proofs that compute a case.
-unfoldable pub recordsOpen : Unit {0}
+unfoldable pub records_open : Unit {0}
 unfolding number decode bytes encode
-recordsOpen = tt
+records_open = tt

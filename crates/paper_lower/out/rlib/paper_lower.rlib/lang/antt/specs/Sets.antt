@@ -63,11 +63,11 @@ collect zero f = empty
 collect (suc n) f = cond (f n) (plus (collect n f) n) (collect n f)
 
 -- The union of f 0 to f (n - 1).
-unfoldable pub unionBelow : ℕ → (ℕ → Set) → Set
-unionBelow zero f = empty
-unionBelow (suc n) f = union (unionBelow n f) (f n)
+unfoldable pub union_below : ℕ → (ℕ → Set) → Set
+union_below zero f = empty
+union_below (suc n) f = union (union_below n f) (f n)
 
 -- Unfolds all definitions of this file at once, for proofs that compute a case.
-unfoldable pub setsOpen : Unit {0}
-unfolding has plus minus union cut ones_in size overlap meets within without collect unionBelow
-setsOpen = tt
+unfoldable pub sets_open : Unit {0}
+unfolding has plus minus union cut ones_in size overlap meets within without collect union_below
+sets_open = tt

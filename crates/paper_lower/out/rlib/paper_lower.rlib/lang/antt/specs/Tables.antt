@@ -32,7 +32,7 @@ pub record Permissions : Type 0 where
 -- is banned for lone workers.
 pub record Tasks : Type 0 where
   pub template : ℕ → Maybe ℕ
-  pub openTo : ℕ → Set
+  pub open_to : ℕ → Set
   pub banned : ℕ → Bool
   pub most : ℕ → Maybe ℕ
 
@@ -55,7 +55,7 @@ pub record Pair : Type 0 where
 pub record Rules : Type 0 where
   pub statics : List Limit
   pub dynamics : List Limit
-  pub taskSets : List Limit
+  pub task_sets : List Limit
   pub blocks : List Block
   pub bindings : List Pair
   pub befores : List Pair
@@ -83,7 +83,7 @@ pub record Sessions : Type 0 where
   pub user : ℕ → ℕ
   pub active : ℕ → Set
   pub had : ℕ → Set
-  pub boundTo : ℕ → ℕ → Maybe ℕ
+  pub bound_to : ℕ → ℕ → Maybe ℕ
 
 -- All tables of the lower part.
 pub record Lower : Type 0 where
@@ -91,75 +91,75 @@ pub record Lower : Type 0 where
   pub sessions : Sessions
 
 -- ---- The tables of the empty engine.
-unfoldable pub noPolicy : Policy
-noPolicy =
+unfoldable pub no_policy : Policy
+no_policy =
     record {
       people = record { users = λ _. false; roles = empty; assigned = λ _. empty };
       seniority = record { juniors = λ _. empty; below = λ _. empty };
       permissions = record { declared = λ _. none; holders = λ _. empty; carriers = λ _. empty };
-      tasks = record { template = λ _. none; openTo = λ _. empty; banned = λ _. false; most = λ _. none };
-      rules = record { statics = []; dynamics = []; taskSets = []; blocks = []; bindings = []; befores = [] };
+      tasks = record { template = λ _. none; open_to = λ _. empty; banned = λ _. false; most = λ _. none };
+      rules = record { statics = []; dynamics = []; task_sets = []; blocks = []; bindings = []; befores = [] };
       walls = [];
     }
 
 -- No subject is live, and nobody is bound in a wall.
-unfoldable pub noSessions : Sessions
-noSessions = record { live = λ _. false; user = λ _. 0; active = λ _. empty; had = λ _. empty; boundTo = λ _ _. none }
+unfoldable pub no_sessions : Sessions
+no_sessions = record { live = λ _. false; user = λ _. 0; active = λ _. empty; had = λ _. empty; bound_to = λ _ _. none }
 
 -- ---- Each of these replaces one table and keeps the others.
-abbrev pub withPeople : Policy → People → Policy
-withPeople p x = record { people = x; seniority = p.seniority; permissions = p.permissions; tasks = p.tasks; rules = p.rules; walls = p.walls }
+abbrev pub with_people : Policy → People → Policy
+with_people p x = record { people = x; seniority = p.seniority; permissions = p.permissions; tasks = p.tasks; rules = p.rules; walls = p.walls }
 
-abbrev pub withSeniority : Policy → Seniority → Policy
-withSeniority p x = record { people = p.people; seniority = x; permissions = p.permissions; tasks = p.tasks; rules = p.rules; walls = p.walls }
+abbrev pub with_seniority : Policy → Seniority → Policy
+with_seniority p x = record { people = p.people; seniority = x; permissions = p.permissions; tasks = p.tasks; rules = p.rules; walls = p.walls }
 
-abbrev pub withPermissions : Policy → Permissions → Policy
-withPermissions p x = record { people = p.people; seniority = p.seniority; permissions = x; tasks = p.tasks; rules = p.rules; walls = p.walls }
+abbrev pub with_permissions : Policy → Permissions → Policy
+with_permissions p x = record { people = p.people; seniority = p.seniority; permissions = x; tasks = p.tasks; rules = p.rules; walls = p.walls }
 
-abbrev pub withTasks : Policy → Tasks → Policy
-withTasks p x = record { people = p.people; seniority = p.seniority; permissions = p.permissions; tasks = x; rules = p.rules; walls = p.walls }
+abbrev pub with_tasks : Policy → Tasks → Policy
+with_tasks p x = record { people = p.people; seniority = p.seniority; permissions = p.permissions; tasks = x; rules = p.rules; walls = p.walls }
 
-abbrev pub withRules : Policy → Rules → Policy
-withRules p x = record { people = p.people; seniority = p.seniority; permissions = p.permissions; tasks = p.tasks; rules = x; walls = p.walls }
+abbrev pub with_rules : Policy → Rules → Policy
+with_rules p x = record { people = p.people; seniority = p.seniority; permissions = p.permissions; tasks = p.tasks; rules = x; walls = p.walls }
 
-abbrev pub withWalls : Policy → List Walled → Policy
-withWalls p x = record { people = p.people; seniority = p.seniority; permissions = p.permissions; tasks = p.tasks; rules = p.rules; walls = x }
+abbrev pub with_walls : Policy → List Walled → Policy
+with_walls p x = record { people = p.people; seniority = p.seniority; permissions = p.permissions; tasks = p.tasks; rules = p.rules; walls = x }
 
-abbrev pub withPolicy : Lower → Policy → Lower
-withPolicy t p = record { policy = p; sessions = t.sessions }
+abbrev pub with_policy : Lower → Policy → Lower
+with_policy t p = record { policy = p; sessions = t.sessions }
 
-abbrev pub withSessions : Lower → Sessions → Lower
-withSessions t s = record { policy = t.policy; sessions = s }
+abbrev pub with_sessions : Lower → Sessions → Lower
+with_sessions t s = record { policy = t.policy; sessions = s }
 
-abbrev pub withAssigned : People → (ℕ → Set) → People
-withAssigned p x = record { users = p.users; roles = p.roles; assigned = x }
+abbrev pub with_assigned : People → (ℕ → Set) → People
+with_assigned p x = record { users = p.users; roles = p.roles; assigned = x }
 
-abbrev pub withHolders : Permissions → (ℕ → Set) → Permissions
-withHolders p x = record { declared = p.declared; holders = x; carriers = p.carriers }
+abbrev pub with_holders : Permissions → (ℕ → Set) → Permissions
+with_holders p x = record { declared = p.declared; holders = x; carriers = p.carriers }
 
-abbrev pub withActive : Sessions → (ℕ → Set) → Sessions
-withActive s x = record { live = s.live; user = s.user; active = x; had = s.had; boundTo = s.boundTo }
+abbrev pub with_active : Sessions → (ℕ → Set) → Sessions
+with_active s x = record { live = s.live; user = s.user; active = x; had = s.had; bound_to = s.bound_to }
 
-abbrev pub withHad : Sessions → (ℕ → Set) → Sessions
-withHad s x = record { live = s.live; user = s.user; active = s.active; had = x; boundTo = s.boundTo }
+abbrev pub with_had : Sessions → (ℕ → Set) → Sessions
+with_had s x = record { live = s.live; user = s.user; active = s.active; had = x; bound_to = s.bound_to }
 
-abbrev pub withBoundTo : Sessions → (ℕ → ℕ → Maybe ℕ) → Sessions
-withBoundTo s x = record { live = s.live; user = s.user; active = s.active; had = s.had; boundTo = x }
+abbrev pub with_bound_to : Sessions → (ℕ → ℕ → Maybe ℕ) → Sessions
+with_bound_to s x = record { live = s.live; user = s.user; active = s.active; had = s.had; bound_to = x }
 
-abbrev pub withStatics : Rules → List Limit → Rules
-withStatics k x = record { statics = x; dynamics = k.dynamics; taskSets = k.taskSets; blocks = k.blocks; bindings = k.bindings; befores = k.befores }
+abbrev pub with_statics : Rules → List Limit → Rules
+with_statics k x = record { statics = x; dynamics = k.dynamics; task_sets = k.task_sets; blocks = k.blocks; bindings = k.bindings; befores = k.befores }
 
-abbrev pub withDynamics : Rules → List Limit → Rules
-withDynamics k x = record { statics = k.statics; dynamics = x; taskSets = k.taskSets; blocks = k.blocks; bindings = k.bindings; befores = k.befores }
+abbrev pub with_dynamics : Rules → List Limit → Rules
+with_dynamics k x = record { statics = k.statics; dynamics = x; task_sets = k.task_sets; blocks = k.blocks; bindings = k.bindings; befores = k.befores }
 
-abbrev pub withTaskSets : Rules → List Limit → Rules
-withTaskSets k x = record { statics = k.statics; dynamics = k.dynamics; taskSets = x; blocks = k.blocks; bindings = k.bindings; befores = k.befores }
+abbrev pub with_task_sets : Rules → List Limit → Rules
+with_task_sets k x = record { statics = k.statics; dynamics = k.dynamics; task_sets = x; blocks = k.blocks; bindings = k.bindings; befores = k.befores }
 
 abbrev pub with_blocks : Rules → List Block → Rules
-with_blocks k x = record { statics = k.statics; dynamics = k.dynamics; taskSets = k.taskSets; blocks = x; bindings = k.bindings; befores = k.befores }
+with_blocks k x = record { statics = k.statics; dynamics = k.dynamics; task_sets = k.task_sets; blocks = x; bindings = k.bindings; befores = k.befores }
 
-abbrev pub withBindings : Rules → List Pair → Rules
-withBindings k x = record { statics = k.statics; dynamics = k.dynamics; taskSets = k.taskSets; blocks = k.blocks; bindings = x; befores = k.befores }
+abbrev pub with_bindings : Rules → List Pair → Rules
+with_bindings k x = record { statics = k.statics; dynamics = k.dynamics; task_sets = k.task_sets; blocks = k.blocks; bindings = x; befores = k.befores }
 
-abbrev pub withBefores : Rules → List Pair → Rules
-withBefores k x = record { statics = k.statics; dynamics = k.dynamics; taskSets = k.taskSets; blocks = k.blocks; bindings = k.bindings; befores = x }
+abbrev pub with_befores : Rules → List Pair → Rules
+with_befores k x = record { statics = k.statics; dynamics = k.dynamics; task_sets = k.task_sets; blocks = k.blocks; bindings = k.bindings; befores = x }

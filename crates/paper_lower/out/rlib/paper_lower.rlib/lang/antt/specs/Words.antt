@@ -25,36 +25,36 @@ abbrev pub permission : ℕ → ℕ → ℕ → Bytes
 permission a operation object = record_of 3 0 a operation object 0
 
 -- "4 user a has role b."
-abbrev pub userHas : ℕ → ℕ → Bytes
-userHas a r = record_of 4 0 a r 0 0
+abbrev pub user_has : ℕ → ℕ → Bytes
+user_has a r = record_of 4 0 a r 0 0
 
 -- "5 role a has permission b."
-abbrev pub roleHas : ℕ → ℕ → Bytes
-roleHas a p = record_of 5 0 a p 0 0
+abbrev pub role_has : ℕ → ℕ → Bytes
+role_has a p = record_of 5 0 a p 0 0
 
 -- "6 task a of template b."
 abbrev pub task : ℕ → ℕ → Bytes
 task a j = record_of 6 0 a j 0 0
 
 -- "7 task a open to role b."
-abbrev pub openTo : ℕ → ℕ → Bytes
-openTo a r = record_of 7 0 a r 0 0
+abbrev pub open_to : ℕ → ℕ → Bytes
+open_to a r = record_of 7 0 a r 0 0
 
 -- "8 task a carries permission b."
 abbrev pub carries : ℕ → ℕ → Bytes
 carries a p = record_of 8 0 a p 0 0
 
 -- "9 static set, n, roles m."
-abbrev pub staticSet : ℕ → ℕ → Bytes
-staticSet n m = record_of 9 n 0 0 0 m
+abbrev pub static_set : ℕ → ℕ → Bytes
+static_set n m = record_of 9 n 0 0 0 m
 
 -- "10 dynamic set, n, roles m."
-abbrev pub dynamicSet : ℕ → ℕ → Bytes
-dynamicSet n m = record_of 10 n 0 0 0 m
+abbrev pub dynamic_set : ℕ → ℕ → Bytes
+dynamic_set n m = record_of 10 n 0 0 0 m
 
 -- "11 task set, n, tasks m."
-abbrev pub taskSet : ℕ → ℕ → Bytes
-taskSet n m = record_of 11 n 0 0 0 m
+abbrev pub task_set : ℕ → ℕ → Bytes
+task_set n m = record_of 11 n 0 0 0 m
 
 -- "12 block of partitioning a, tasks m."
 abbrev pub block : ℕ → ℕ → Bytes
@@ -73,12 +73,12 @@ abbrev pub bound : ℕ → ℕ → Bytes
 bound a b = record_of 15 0 a b 0 0
 
 -- "16 task a before task b."
-abbrev pub isBefore : ℕ → ℕ → Bytes
-isBefore a b = record_of 16 0 a b 0 0
+abbrev pub is_before : ℕ → ℕ → Bytes
+is_before a b = record_of 16 0 a b 0 0
 
 -- 02, Ask 7: "kind 17: role a stands above role b"
-abbrev pub standsAbove : ℕ → ℕ → Bytes
-standsAbove a b = record_of 17 0 a b 0 0
+abbrev pub stands_above : ℕ → ℕ → Bytes
+stands_above a b = record_of 17 0 a b 0 0
 
 -- 02, Ask 11: "kind 18, wall a (0 to 15), block b (0 to 15), object c"
 abbrev pub walled : ℕ → ℕ → ℕ → Bytes
@@ -87,24 +87,24 @@ walled a b object = record_of 18 0 a b object 0
 -- ---- "Request kinds:" One constructor per kind, with the same conventions.
 
 -- "32 add user a."
-abbrev pub addUser : ℕ → Bytes
-addUser a = record_of 32 0 a 0 0 0
+abbrev pub add_user : ℕ → Bytes
+add_user a = record_of 32 0 a 0 0 0
 
 -- 02, Ask 1: kind 32 with a set of roles.
 abbrev pub join : ℕ → ℕ → Bytes
 join a m = record_of 32 0 a 0 0 m
 
 -- "33 delete user a."
-abbrev pub deleteUser : ℕ → Bytes
-deleteUser a = record_of 33 0 a 0 0 0
+abbrev pub delete_user : ℕ → Bytes
+delete_user a = record_of 33 0 a 0 0 0
 
 -- "34 assign role b to user a."
 abbrev pub assign : ℕ → ℕ → Bytes
 assign a r = record_of 34 0 a r 0 0
 
 -- "35 take it back": role b from user a.
-abbrev pub takeBack : ℕ → ℕ → Bytes
-takeBack a r = record_of 35 0 a r 0 0
+abbrev pub take_back : ℕ → ℕ → Bytes
+take_back a r = record_of 35 0 a r 0 0
 
 -- "36 give role a permission b."
 abbrev pub give : ℕ → ℕ → Bytes
@@ -131,12 +131,12 @@ abbrev pub deactivate : ℕ → ℕ → Bytes
 deactivate s r = record_of 43 0 s r 0 0
 
 -- "48 open instance a of template b."
-abbrev pub openOrder : ℕ → ℕ → Bytes
-openOrder i j = record_of 48 0 i j 0 0
+abbrev pub opened_order : ℕ → ℕ → Bytes
+opened_order i j = record_of 48 0 i j 0 0
 
 -- "49 end instance a."
-abbrev pub endOrder : ℕ → Bytes
-endOrder i = record_of 49 0 i 0 0 0
+abbrev pub end_order : ℕ → Bytes
+end_order i = record_of 49 0 i 0 0 0
 
 -- "50 claim, 51 release, 52 done: subject a, instance b, task c."
 abbrev pub claim : ℕ → ℕ → ℕ → Bytes
@@ -153,8 +153,8 @@ abbrev pub check : ℕ → ℕ → ℕ → Bytes
 check s operation object = record_of 56 0 s operation object 0
 
 -- "57 task check: subject a, instance b, task c, m = operation + 65,536 x object, below 2^32."
-abbrev pub taskCheck : ℕ → ℕ → ℕ → ℕ → ℕ → Bytes
-taskCheck s i a operation object = record_of 57 0 s i a (operation + 65536 * object)
+abbrev pub task_check : ℕ → ℕ → ℕ → ℕ → ℕ → Bytes
+task_check s i a operation object = record_of 57 0 s i a (operation + 65536 * object)
 
 -- 02, Ask 9: kind 58 asks for the number of entries of an instance and its done tasks.
 abbrev pub figures : ℕ → Bytes
@@ -165,8 +165,8 @@ abbrev pub commit : ℕ → ℕ → ℕ → Bytes
 commit s operation object = record_of 59 0 s operation object 0
 
 -- 02, Ask 13: kind 60 asks for the tasks of a template that can never be claimed.
-abbrev pub stuckTasks : ℕ → Bytes
-stuckTasks j = record_of 60 0 j 0 0 0
+abbrev pub stuck_tasks : ℕ → Bytes
+stuck_tasks j = record_of 60 0 j 0 0 0
 
 -- ---- Test cases.
 
@@ -196,21 +196,21 @@ joined [] = []
 joined (s ∷ ss) = s ++ joined ss
 
 -- Whether two lists of requests have the same length and the same replies.
-unfoldable pub asExpected : List Said → List Said → Bool
-asExpected [] [] = true
-asExpected [] (y ∷ ys) = false
-asExpected (x ∷ xs) [] = false
-asExpected (x ∷ xs) (y ∷ ys) = eqb x.reply y.reply && asExpected xs ys
+unfoldable pub as_expected : List Said → List Said → Bool
+as_expected [] [] = true
+as_expected [] (y ∷ ys) = false
+as_expected (x ∷ xs) [] = false
+as_expected (x ∷ xs) (y ∷ ys) = eqb x.reply y.reply && as_expected xs ys
 
 -- Whether the load and every request of the case get the expected answers. `ask` answers one request; `start` gives the tables after the load.
-unfoldable pub comesOut : {T : Type 0} → (T → Bytes → Answer T) → (Policy → T) → Case → Bool
-comesOut ask start c =
+unfoldable pub comes_out : {T : Type 0} → (T → Bytes → Answer T) → (Policy → T) → Case → Bool
+comes_out ask start c =
     let l = load (joined c.policy) in
     eqb l.reply c.reply
     && eqb l.place c.place
-    && asExpected (run ask (start l.tables) (each (λ x. x.request) c.requests)) c.requests
+    && as_expected (run ask (start l.tables) (each (λ x. x.request) c.requests)) c.requests
 
 -- Unfolds all definitions of this file at once, for proofs that compute a case.
-unfoldable pub wordsOpen : Unit {0}
-unfolding joined asExpected comesOut
-wordsOpen = tt
+unfoldable pub words_open : Unit {0}
+unfolding joined as_expected comes_out
+words_open = tt
