@@ -1,6 +1,8 @@
 // Blocks of walls (02, Ask 11): for each of the sixteen walls at most one block, either that of an object or that to which a user is bound. They take two
 // words (docs/STATE.md). The first has a bit for each wall that has a block. The second has four planes of sixteen bits, and plane k has bit k of each wall's
 // block number, so that one operation acts on all walls at once.
+#![tactic(auto)]
+
 ghost use Rattle.std.specs.Prelude.{◌≡◌, ◌<◌};
 ghost use Rattle.paper_lower.specs.Lists.{some_number_below};
 ghost use Rattle.blocks.specs.Reading.{blocks_of, Gathered, nowhere, only, spread, over, apart};

@@ -1,5 +1,7 @@
 // Mends a damaged policy file, with the caller's engine state to work in (document 02, Ask 12). `step` does the work from one refused record to the next;
 // `mishantral_mend` is a thin function over it that writes the report. `policy_mending` handles the records, the engine's crates handle the state.
+#![tactic(auto)]
+
 ghost use Rattle.std.specs.Prelude.{◌≡◌, ◌+◌, ◌/◌, ◌≤◌, length};
 ghost use Rattle.replies.specs.Replies.{number_of};
 ghost use Rattle.engine.specs.Buffers.{buffers};

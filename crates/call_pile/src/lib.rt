@@ -1,5 +1,7 @@
 // The morning pile (document 02, Ask 3): many requests in one call. The links are checked once. If they are sound, each record is performed as a settled
 // request; if not, as an ordinary request, which writes nothing unless it is granted.
+#![tactic(auto)]
+
 ghost use Rattle.std.specs.Prelude.{◌≡◌, true, ◌*◌, ◌≤◌, length};
 ghost use Rattle.paper_lower.specs.Checks.{first};
 ghost use Rattle.replies.specs.Replies.{number_of};

@@ -1,5 +1,7 @@
 // Questions whose answer is more than a reply (document 02, Asks 9 and 13). The state is only read; the answer goes to a buffer of the caller's, of a fixed
 // length. The reply is the one that the engine's request gives to the same record.
+#![tactic(auto)]
+
 ghost use Rattle.std.specs.Prelude.{◌≡◌, true, ◌++◌, ◌<◌, length, replicate};
 ghost use Rattle.paper_lower.specs.Checks.{first};
 ghost use Rattle.paper_lower.specs.Forms.{request_forms, form_checks};

@@ -1,5 +1,7 @@
 // The settled request for C and Rust: `engine::settled_request`, with a fast path for checks. It has its own crate because a crate that exports functions is
 // compiled separately; here the compiler turns the whole request into one function.
+#![tactic(auto)]
+
 ghost use Rattle.engine.specs.Buffers.{buffers};
 ghost use Rattle.engine.specs.Settling.{SettledExported};
 

@@ -1,4 +1,6 @@
 // Writes the policy tables of a whole engine as records (document 02, Ask 8). The state is only read.
+#![tactic(auto)]
+
 ghost use Rattle.engine.specs.Buffers.{buffers};
 ghost use Rattle.call_write.specs.Promises.{WroteOut, WriteExported};
 

@@ -1,5 +1,7 @@
 // The engine: the load and the request, over three buffers that the caller lends (docs/STATE.md). They accept any bytes and any content of the buffers, and
 // always answer. "Links" are the chains of entries in the orders buffer; `order_links::is_sound` checks that they and the kept figures are consistent.
+#![tactic(auto)]
+
 ghost use Rattle.std.specs.Prelude.{◌≡◌, false, length};
 ghost use Rattle.paper_lower.specs.Forms.{request_forms};
 ghost use Rattle.records.specs.Limits.{Limits};

@@ -1,4 +1,6 @@
 // The lower part alone: policy, roles and sessions, as dealers build it. Its calls take any bytes and any buffers.
+#![tactic(auto)]
+
 ghost use Rattle.std.specs.Prelude.{◌≡◌, length};
 ghost use Rattle.paper_lower.specs.Checks.{first};
 ghost use Rattle.paper_lower.specs.Forms.{lower_forms};

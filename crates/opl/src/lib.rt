@@ -1,4 +1,6 @@
 // Translates a dealer's OPL/XML and task lines to records: the two calls for C and Rust. They accept any texts and any buffers, and always answer.
+#![tactic(auto)]
+
 ghost use Rattle.std.specs.Prelude.{◌≡◌, true, false, ◌<◌, length};
 ghost use Rattle.paper_opl.specs.Tree.{behind_mark, document_in};
 ghost use Rattle.opl_line_names.specs.Names.{accepted as readWhole};

@@ -1,4 +1,6 @@
 // Declares the names of accepted task lines, one space at a time. Its specs are also used for the names that tags declare (opl_naming).
+#![tactic(auto)]
+
 ghost use Rattle.std.specs.Prelude.{◌≡◌, true, ◌<◌, length, drop};
 ghost use Rattle.paper_opl.specs.Naming.{lines};
 ghost use Rattle.opl_names.specs.Table.{Sound};

@@ -1,4 +1,6 @@
 // Reads the task lines: each is the name of a task, one space and the name of a template. It is proved against paper_opl's `lines`.
+#![tactic(auto)]
+
 ghost use Rattle.std.specs.Prelude.{◌≤◌, ◌<◌, length, drop};
 ghost use Rattle.paper_opl.specs.Reading.{behind};
 ghost use Rattle.paper_opl.specs.Naming.{in_line, line_end, lines};

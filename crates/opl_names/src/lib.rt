@@ -1,5 +1,7 @@
 // A hash table of names in words that the caller passes. Names get numbers in the order of their declaration. The names themselves stay in the text; the table
 // keeps their places there. specs/Table defines what the words mean.
+#![tactic(auto)]
+
 ghost use Rattle.std.specs.Prelude.{◌≡◌, ◌&&◌, ◌+◌, ◌*◌, ◌-◌, ◌≤◌, ◌<◌, eqb, length, take, drop};
 ghost use Rattle.paper_opl.specs.Reading.{same};
 ghost use Rattle.paper_opl.specs.Naming.{place_of};

@@ -1,4 +1,6 @@
 // Declares the names of two accepted texts: five spaces by one pass over the tags, two by the task lines. The same pass makes the list of tags.
+#![tactic(auto)]
+
 ghost use Rattle.std.specs.Prelude.{◌≡◌, true, ◌≤◌, ◌<◌, length};
 ghost use Rattle.paper_opl.specs.Naming.{lines};
 ghost use Rattle.paper_opl.specs.Walk.{tags};

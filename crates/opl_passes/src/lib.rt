@@ -1,5 +1,7 @@
 // The passes over accepted texts after the one that declares names: whether every record can be made, how many records each kind has, and writing the records
 // to the output. s is the policy text, t the task lines and w the scratch buffer throughout.
+#![tactic(auto)]
+
 ghost use Rattle.std.specs.Prelude.{◌≡◌, true, ℕ, ◌+◌, ◌*◌, ◌≤◌, ◌<◌, length};
 ghost use Rattle.paper_lower.specs.Lists.{Every};
 ghost use Rattle.paper_opl.specs.Walk.{start, few, few_from};

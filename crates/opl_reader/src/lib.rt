@@ -1,5 +1,7 @@
 // Judges a policy text from left to right: attributes, tags, elements and their contents, prolog, document. A text is accepted as a whole or refused at a byte.
 // It uses the readers of opl_text and the table of opl_table.
+#![tactic(auto)]
+
 ghost use Rattle.std.specs.Prelude.{◌≡◌, [], ◌∷◌, ◌+◌, ◌≤◌, length, drop};
 ghost use Rattle.paper_opl.specs.Reading.{space as space_of};
 ghost use Rattle.paper_opl.specs.Elements.{elements_of, row_in};

@@ -1,5 +1,7 @@
 // The record that one tag of an accepted policy text yields, as the numbers of its fields. The names must be in the tables of the scratch buffer w already; s
 // is the policy text and t the task lines throughout.
+#![tactic(auto)]
+
 ghost use Rattle.std.specs.Prelude.{◌≡◌, ◌-◌, ◌%◌, ◌≤◌, ◌<◌, length};
 ghost use Rattle.paper_lower.specs.Lists.Maybe.{just};
 ghost use Rattle.paper_lower.specs.Sets.{plus};

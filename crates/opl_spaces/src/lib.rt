@@ -1,5 +1,7 @@
 // The seven tables of names in the caller's scratch buffer. A table is called a space and has a number: 0 users, 1 roles, 2 permissions, 3 operations,
 // 4 objects, 5 tasks, 6 templates. Each is a table of opl_names.
+#![tactic(auto)]
+
 ghost use Rattle.std.specs.Prelude.{◌≡◌, ◌+◌, ◌*◌, ◌≤◌, ◌<◌, length, take, drop};
 ghost use Rattle.opl_names.specs.Table.{Sound, found_of};
 ghost use Rattle.opl_spaces.specs.Spaces.{limit_of, base_of, scratch_words, table_of, numbered, Empties, DeclaresIn};

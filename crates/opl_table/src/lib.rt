@@ -1,6 +1,8 @@
 // The table of elements in code: which names may occur where, what may follow them, and which attributes an element has. It works as a state machine on
 // numbers: of names, of lists of children that may still follow (the states), and of lists of attributes that may still be given. specs/Numbers defines what
 // the numbers mean. The table itself is packed into words, eight numbers each.
+#![tactic(auto)]
+
 ghost use Rattle.std.specs.Prelude.{◌≡◌, ◌+◌, ◌-◌, ◌/◌, ◌<◌};
 ghost use Rattle.paper_lower.specs.Lists.{some};
 ghost use Rattle.paper_opl.specs.Reading.{same};

@@ -1,5 +1,7 @@
 // Reads the tags of an accepted policy text one after another, and the values of their attributes. The text has been judged before, so these readers check no
 // more than they need to. They are proved against paper_opl's pass from left to right (specs/Walk).
+#![tactic(auto)]
+
 ghost use Rattle.std.specs.Prelude.{◌≡◌, ◌+◌, ◌-◌, ◌≤◌, ◌<◌, length, drop};
 ghost use Rattle.paper_lower.specs.Lists.Maybe.{just};
 ghost use Rattle.paper_opl.specs.Reading.{after, behind};

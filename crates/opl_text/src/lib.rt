@@ -1,5 +1,7 @@
 // Readers for the bytes of a policy text: white space, comments, names, values, literals. Each returns the index where it stopped; a value is returned as the
 // part of the text between its quotes. They are proved against paper_opl's definitions of the same names (specs/Reading).
+#![tactic(auto)]
+
 ghost use Rattle.std.specs.Prelude.{◌≡◌, [], ◌∷◌, ◌+◌, ◌-◌, ◌≤◌, length, take, drop};
 ghost use Rattle.paper_opl.specs.Reading.{text, white as whiteOf, control as controlOf, in_name, in_value, same, starts, expect as expect_of, behind, name as name_of, value as value_in, equals as equalsOf, comment, misc};
 ghost use Rattle.opl_text.specs.Steps.{From, Reads, step_of, word_of, value_of, Surely, Runs, RunsSame};

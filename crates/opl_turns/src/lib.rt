@@ -1,5 +1,7 @@
 // Goes from tag to tag of an accepted text and determines, by the name of its element and the tags before it, which kind of record a tag yields. It also
 // keeps a list of the start tags, so that later passes need not read the text again.
+#![tactic(auto)]
+
 ghost use Rattle.std.specs.Prelude.{◌≡◌, true, ◌-◌, ◌≤◌, ◌<◌, length};
 ghost use Rattle.paper_opl.specs.Walk.{few as few_of};
 ghost use Rattle.opl_spaces.specs.Spaces.{scratch_words, list_of};

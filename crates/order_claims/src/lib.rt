@@ -1,5 +1,7 @@
 // Requests 50 to 52 and 57: claim, release, done and task check, which depend on
 // the policy, the sessions and the orders. The contracts are in specs/Promises.
+#![tactic(auto)]
+
 ghost use Rattle.std.specs.Prelude.{◌≡◌, true, ◌<◌, ◌≤◌, length};
 ghost use Rattle.paper_lower.specs.Sets.{meets};
 ghost use Rattle.paper_lower.specs.Policy.{down};

@@ -1,6 +1,8 @@
 // The ledger: the open instances and all their entries, on top of the links of the orders buffer. Each function equals its definition in paper_upper, on the
 // tables that a sound buffer reads as (specs/Reading). No function requires sound links: on any content of the right length each stays within the buffer and
 // ends, and it equals its definition if the links are sound.
+#![tactic(auto)]
+
 ghost use Rattle.std.specs.Prelude.{◌≡◌, ◌+◌, ◌<◌, length, true, false, cond, ◌&&◌};
 ghost use Rattle.paper_lower.specs.Lists.{there, some, many};
 ghost use Rattle.paper_lower.specs.Lists.Maybe.{just};

@@ -2,6 +2,8 @@
 // the done tasks of each instance are kept. The crate checks whether the links and figures of any content are sound, and changes the entries of one instance.
 // No function requires sound links: on any content of the right length each stays within the buffer and ends. What it does to the chains is promised for
 // sound links (specs/Acts, specs/Total).
+#![tactic(auto)]
+
 ghost use Rattle.std.specs.Prelude.{◌≡◌, ◌+◌, ◌/◌, ◌%◌, ◌<◌, ◌≤◌, length, true, false, not, ◌&&◌, [], eqb};
 ghost use Rattle.paper_lower.specs.Sets.{has};
 ghost use Rattle.paper_lower.specs.Lists.{some_number_below, some, add, keep, each};

@@ -1,5 +1,7 @@
 // Requests 48, 49 and 58, and requests 33 and 41 of the whole engine, which are IN USE because of entries too. For each, `..._reply` checks the request
 // without changing anything, and the function of the request also carries it out if it is granted. The contracts are in specs/Promises.
+#![tactic(auto)]
+
 ghost use Rattle.std.specs.Prelude.{◌≡◌, true, ◌<◌, length};
 ghost use Rattle.policy.specs.Layout.{policy_words};
 ghost use Rattle.sessions.specs.Reading.{sessions_words};

@@ -1,6 +1,8 @@
 // The claim rules on the policy buffer. Each function equals its definition (paper_upper, Rules; docs/RULES.md, "The ledger and the claim rules"). Those for
 // BEFORE, SEPARATION, BLOCK and BOUND return the place of the first rule broken, counted from 1 in policy order, or 0. Here d are the tasks of the claiming
 // user, called D in the rules.
+#![tactic(auto)]
+
 ghost use Rattle.std.specs.Prelude.{◌≡◌, ◌<◌, length};
 ghost use Rattle.paper_lower.specs.Lists.{some};
 ghost use Rattle.paper_lower.specs.Lists.Maybe.{just};

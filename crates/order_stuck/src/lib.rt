@@ -1,5 +1,7 @@
 // The tasks of a template that can never be claimed because of prerequisites (02, Ask 13; paper_upper, Stuck): the free tasks as a list and the others as a
 // set. The only state is `had`, the set of the tasks listed so far; prerequisites are found by a loop over the policy buffer.
+#![tactic(auto)]
+
 ghost use Rattle.std.specs.Prelude.{◌≡◌, not, ◌&&◌, ◌<◌, length, replicate};
 ghost use Rattle.paper_lower.specs.Sets.{has, collect};
 ghost use Rattle.paper_lower.specs.Policy.{tasks_of};

@@ -1,5 +1,7 @@
 // The policy buffer: getters and setters for its tables, which have one word per
 // row. The layout is defined in specs/Layout.antt and described in docs/STATE.md.
+#![tactic(auto)]
+
 ghost use Rattle.std.specs.Prelude.{◌≡◌, ◌+◌, ◌*◌, ◌<◌, ◌≤◌, min, true, leb, length};
 ghost use Rattle.paper_lower.specs.Sets.{has};
 ghost use Rattle.paper_lower.specs.Lists.{holds, there, is};

@@ -1,4 +1,6 @@
 // The load of a policy: checks and carries out its records one after the other.
+#![tactic(auto)]
+
 ghost use Rattle.std.specs.Prelude.{◌≡◌, ◌/◌, length};
 ghost use Rattle.paper_lower.specs.Forms.{policy_forms};
 ghost use Rattle.paper_lower.specs.Kinds.{chosen};

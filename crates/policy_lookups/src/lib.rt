@@ -1,5 +1,7 @@
 // Questions about the tasks, users and rules of a policy, answered by loops over the rows of the policy buffer. Each equals its definition in paper_lower,
 // Policy. The crate uses only the getters of the policy buffer, not its layout.
+#![tactic(auto)]
+
 ghost use Rattle.std.specs.Prelude.{◌≡◌, ◌&&◌, ◌<◌, leb, length};
 ghost use Rattle.paper_lower.specs.Sets.{minus, size, within};
 ghost use Rattle.paper_lower.specs.Lists.{some_number_below, some};

@@ -1,4 +1,6 @@
 // Repairs a damaged policy file (02, Ask 12), in steps that each end at the next refused record.
+#![tactic(auto)]
+
 ghost use Rattle.std.specs.Prelude.{◌≡◌, ◌+◌, ◌≤◌, length, drop};
 ghost use Rattle.std.proofs.Math.Seq.{paste};
 ghost use Rattle.policy.specs.Layout.{policy_words};

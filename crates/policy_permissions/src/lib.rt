@@ -2,6 +2,8 @@
 // carries one for it. One word lists the permissions that may be for a pair (docs/STATE.md, "The policy buffer"): two by number, and rarely some groups of
 // eight, where group t is the permissions 8 t to 8 t + 7. Within the two and within a group the tests are combined without branches, because the processor
 // could not predict them. The crate uses only the getters of the policy buffer, not its layout.
+#![tactic(auto)]
+
 ghost use Rattle.std.specs.Prelude.{◌≡◌, ◌&&◌, ◌<◌, length};
 ghost use Rattle.paper_lower.specs.Sets.{has};
 ghost use Rattle.paper_lower.specs.Lists.{some_number_below, holds};

@@ -1,4 +1,6 @@
 // Policy kinds 9 to 16, the rules of a policy. For each kind, the public function checks a record and adds its rule if the record is accepted.
+#![tactic(auto)]
+
 ghost use Rattle.std.specs.Prelude.{◌≡◌, cond, ◌<◌, leb, length};
 ghost use Rattle.paper_lower.specs.Checks.{FULL, GRANTED};
 ghost use Rattle.paper_lower.specs.Policy.{ill_made, static_checks, static_next, dynamic_checks, dynamic_next, task_set_checks, task_set_next, block_checks, block_next, ban_checks, ban_next, most_checks, most_next, bind_checks, bind_next, before_checks, before_next};

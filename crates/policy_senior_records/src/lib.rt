@@ -1,4 +1,6 @@
 // Policy kind 17: puts a role above another (02, Ask 7).
+#![tactic(auto)]
+
 ghost use Rattle.std.specs.Prelude.{◌≡◌, ◌<◌, length};
 ghost use Rattle.paper_lower.specs.Lists.{some_number_below};
 ghost use Rattle.paper_lower.specs.Policy.{raise_checks, raise_next};

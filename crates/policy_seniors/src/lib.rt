@@ -1,5 +1,7 @@
 // Senior roles (02, Ask 7): a set of roles with all roles below them, and one role put above another. The crate uses only the getters and setters of the
 // policy buffer, not its layout.
+#![tactic(auto)]
+
 ghost use Rattle.std.specs.Prelude.{◌≡◌, ◌<◌, length};
 ghost use Rattle.paper_lower.specs.Policy.{down, raised, raisings, raise_next};
 ghost use Rattle.policy.specs.Layout.{policy_words};

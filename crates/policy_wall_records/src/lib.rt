@@ -1,4 +1,6 @@
 // Policy kind 18: puts an object into a block of a wall (02, Ask 11).
+#![tactic(auto)]
+
 ghost use Rattle.std.specs.Prelude.{◌≡◌, ◌<◌, length};
 ghost use Rattle.paper_lower.specs.Lists.{some};
 ghost use Rattle.paper_lower.specs.Policy.{another, block_of, same_walled, wall_checks, wall_next};

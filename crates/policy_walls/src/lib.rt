@@ -1,4 +1,6 @@
 // The block that an object is in, for each wall (02, Ask 11). Only the rows in the object's bucket are visited.
+#![tactic(auto)]
+
 ghost use Rattle.std.specs.Prelude.{◌≡◌, ◌+◌, ◌<◌, length};
 ghost use Rattle.paper_lower.specs.Policy.{block_of};
 ghost use Rattle.blocks.specs.Reading.{blocks_of, Gathered, over};

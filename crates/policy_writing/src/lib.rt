@@ -1,4 +1,6 @@
 // Writes the policy tables as records to an output (02, Ask 8): kind after kind, and row after row within a kind.
+#![tactic(auto)]
+
 ghost use Rattle.std.specs.Prelude.{◌≡◌, [], ◌∷◌, ◌+◌, ◌≤◌, ◌<◌, length};
 ghost use Rattle.paper_lower.specs.Lists.{many};
 ghost use Rattle.paper_lower.specs.Written.{when, of_there, row, records_written};

@@ -1,4 +1,6 @@
 // Writes records to an output of bytes. The definition is `put_at` in paper_lower, Records.
+#![tactic(auto)]
+
 ghost use Rattle.std.specs.Prelude.{◌≡◌, ◌+◌, ◌*◌, ◌%◌, ◌≤◌, ◌<◌, length};
 ghost use Rattle.paper_lower.specs.Records.{put_at};
 ghost use Rattle.record_output.specs.Output.{laid, two_words, low_word, a_record_of, Fits};

@@ -1,4 +1,6 @@
 // Records, and the two checks that every record meets first: SHAPE and RANGE, which depend on its bytes only. The definitions are in paper_lower, Forms.
+#![tactic(auto)]
+
 ghost use Rattle.std.specs.Prelude.{◌≡◌, ◌+◌, ◌<◌, length};
 ghost use Rattle.paper_lower.specs.Checks.{first};
 ghost use Rattle.paper_lower.specs.Records.{number};

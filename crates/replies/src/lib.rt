@@ -1,4 +1,6 @@
 // The replies by name, and their numbers (docs/RULES.md, "The replies").
+#![tactic(auto)]
+
 ghost use Rattle.std.specs.Prelude.{◌≡◌, eqb};
 ghost use Rattle.replies.specs.Replies.{number_of};
 

@@ -1,6 +1,8 @@
 // Requests 32, 33, 35 and 37: adds a user with roles, deletes a user, takes a role from a user, takes a permission from a role. For each, `..._reply` checks
 // the request without changing anything, and the function of the request also carries it out if it is granted. The contracts are in specs/Promises. Requests
 // 34 and 36 use policy kinds 4 and 5.
+#![tactic(auto)]
+
 ghost use Rattle.std.specs.Prelude.{◌≡◌, ◌<◌, length};
 ghost use Rattle.paper_lower.specs.Roles.{user_gone, lost_by};
 ghost use Rattle.policy.specs.Layout.{policy_words};

@@ -1,5 +1,7 @@
 // Requests 40 to 43, 56 and 59: subjects, their active roles, the check and the commit. For each of 40 to 43, `..._reply` checks the request without changing
 // anything, and the function of the request also carries it out if it is granted. The contracts are in specs/Promises.
+#![tactic(auto)]
+
 ghost use Rattle.std.specs.Prelude.{◌≡◌, ◌<◌, length};
 ghost use Rattle.policy.specs.Layout.{policy_words};
 ghost use Rattle.sessions.specs.Reading.{sessions_words};

@@ -1,5 +1,7 @@
 // The sessions buffer. For each subject: its user, its active roles, and all roles that it has had active; from these, the roles of a user over all subjects.
 // For each user: the blocks of walls that the user is bound to.
+#![tactic(auto)]
+
 ghost use Rattle.std.specs.Prelude.{◌≡◌, cond, ◌+◌, ◌<◌, ◌≤◌, length};
 ghost use Rattle.paper_lower.specs.Sets.{empty};
 ghost use Rattle.paper_lower.specs.Lists.{some_number_below};

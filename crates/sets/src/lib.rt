@@ -1,5 +1,7 @@
 // Sets of roles or tasks, one word each: bit i stands for role or task i. The contract of each operation says that it equals its definition in paper_lower,
 // Sets (docs/RULES.md, "Numbers").
+#![tactic(auto)]
+
 ghost use Rattle.std.specs.Prelude.{◌≡◌, true, false, cond, ℕ, ◌<◌, eqb};
 ghost use Rattle.paper_lower.specs.Sets.{empty, has, plus, minus, union, cut, size, overlap, meets, within, without};
 

@@ -1,0 +1,8 @@
+-- `between` meets its contract: a wall that has a block in both differs in some plane exactly if the two blocks differ.
+use Rattle.blocks.proofs.BlockLaws.{between-words}
+use Rattle.blocks.proofs.between.Goals as goal
+
+pub returns : goal.returns
+returns c =
+    let args = c.args in
+    between-words args.a.walls args.a.blocks args.b.walls args.b.blocks

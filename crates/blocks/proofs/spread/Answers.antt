@@ -1,0 +1,6 @@
+-- `spread` meets its contract, which is computed for each of the 16 block numbers.
+use Rattle.blocks.proofs.BlockLaws.{spread-word}
+use Rattle.blocks.proofs.spread.Goals as goal
+
+pub returns : goal.returns
+returns c = spread-word c.args.block c.requires

@@ -1,0 +1,43 @@
+-- `mishantral_opl_all` meets its contract: the policy text is refused, or `number` answers for the rest.
+use Rattle.opl.proofs.CallLaws.{bad-inside, bad-number, policy-wider, as-wider}
+use mathlib.Core.Bool.{true}
+use lib.ListN.{length}
+use native.Mathlib.Omega.{arith}
+use Rattle.opl.proofs.mishantral_opl_all.Goals as goal
+
+pub bad_policy-requires : goal.bad_policy-requires
+bad_policy-requires c =
+    let args = c.args in
+    let good = c.well-formed in
+    let document = c.document-d in
+    omega (
+      arith,
+      bad-inside true args.policy.now args.lines.now (length args.scratch.now) args.output.now document.result document.ensures
+          c.d-1.given.0.0 c.d-1.given.1,
+      good.0.1,
+    )
+
+pub number-requires : goal.number-requires
+number-requires c =
+    let args = c.args in
+    let document = c.document-d in
+    let enum_told = c.enum_told-1 in
+    policy-wider true args.policy.now args.lines.now (length args.scratch.now) args.output.now document.result document.ensures
+    enum_told.given.0.0 enum_told.given.1
+
+pub returns-in-Bad : goal.returns-in-Bad
+returns-in-Bad c =
+    let args = c.args in
+    let document = c.document-d in
+    let d = c.d-1 in
+    rw c.bad_policy.ensures (bad-number true args.policy.now args.lines.now (length args.scratch.now) args.output.now
+    document.result document.ensures d.given.0.0 d.given.1)
+
+pub returns-in-Next : goal.returns-in-Next
+returns-in-Next c =
+    let args = c.args in
+    let document = c.document-d in
+    let enum_told = c.enum_told-1 in
+    let number = c.number in
+    as-wider true args.policy.now args.lines.now (length args.scratch.now) args.output.now document.result document.ensures
+    enum_told.given.0.0 enum_told.given.1 number.new.1.1.0 number.result number.ensures

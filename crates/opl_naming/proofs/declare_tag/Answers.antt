@@ -1,0 +1,146 @@
+-- `declare_tag` meets its contract: a start tag is listed; if it declares a name, the name is declared in its space.
+use Rattle.opl_naming.proofs.NamingLaws.{goes-stands, goes-low, goes-room, goes-sound, goes_other, goes-long, goes-halt, goes_end, goes_on}
+use mathlib.Core.Path.{sym}
+use native.Mathlib.Omega.{arith}
+use borrow.Author.Rules.{rules}
+use Rattle.opl_naming.proofs.declare_tag.Goals as goal
+
+pub slice_bounds-element-count : goal.slice_bounds-element-count
+slice_bounds-element-count c =
+    let args = c.args in
+    let pre = c.requires in
+    let read-tag = c.read_tag-t in
+    let o =
+    goes-stands args.s.now args.at read-tag.result read-tag.ensures args.w.now pre.1.0 c.t-in-Start-1.given.0.0
+    c.t-in-Start-1.given.0.1.0 c.t-in-Start-1.given.1 in
+    omega (arith, o.named)
+
+pub slice_bounds-element-start : goal.slice_bounds-element-start
+slice_bounds-element-start c =
+    let args = c.args in
+    let pre = c.requires in
+    let read-tag = c.read_tag-t in
+    let o =
+    goes-stands args.s.now args.at read-tag.result read-tag.ensures args.w.now pre.1.0 c.t-in-Start-1.given.0.0
+    c.t-in-Start-1.given.0.1.0 c.t-in-Start-1.given.1 in
+    search rules
+
+pub slice_bounds-element-end : goal.slice_bounds-element-end
+slice_bounds-element-end c =
+    let args = c.args in
+    let pre = c.requires in
+    let read-tag = c.read_tag-t in
+    let o =
+    goes-stands args.s.now args.at read-tag.result read-tag.ensures args.w.now pre.1.0 c.t-in-Start-1.given.0.0
+    c.t-in-Start-1.given.0.1.0 c.t-in-Start-1.given.1 in
+    search rules
+
+pub enter-requires : goal.enter-requires
+enter-requires c =
+    let pre = c.requires in
+    let args = c.args in
+    let read-tag = c.read_tag-t in
+    let t2 = c.t-in-Start-1 in (
+      pre.0,
+      (
+        (goes-stands args.s.now args.at read-tag.result read-tag.ensures args.w.now pre.1.0 t2.given.0.0 t2.given.0.1.0
+            t2.given.1).inside,
+        goes-low args.s.now args.at read-tag.result read-tag.ensures args.w.now pre.1.0 t2.given.0.0 t2.given.0.1.0
+            t2.given.1 c.element-e.result c.element-e.ensures,
+      ),
+    )
+
+pub returns-then-i-ge-BY_TAGS : goal.returns-then-i-ge-BY_TAGS
+returns-then-i-ge-BY_TAGS c =
+    let args = c.args in
+    let pre = c.requires in
+    let read-tag = c.read_tag-t in
+    let t2 = c.t-in-Start-1 in
+    let element = c.element-e in
+    let enter = c.enter in
+    let space = c.space-i in
+    goes_other args.s.now args.at read-tag.result read-tag.ensures args.w.now pre.1.0 t2.given.0.0 t2.given.0.1.0
+    t2.given.1 element.result element.ensures pre.0 enter.new.1.0 enter.ensures (λ i h u. omega (arith, h, u, space.ensures, c.if-i-ge-BY_TAGS.true))
+
+pub value_place-v-requires : goal.value_place-v-requires
+value_place-v-requires c =
+    let o =
+    let args = c.args in
+    let pre = c.requires in
+    let read-tag = c.read_tag-t in
+    let t2 = c.t-in-Start-1 in
+    goes-stands args.s.now args.at read-tag.result read-tag.ensures args.w.now pre.1.0 t2.given.0.0 t2.given.0.1.0
+    t2.given.1 in
+    omega (arith, o.inside)
+
+pub returns-then-size-gt-LONGEST_NAME : goal.returns-then-size-gt-LONGEST_NAME
+returns-then-size-gt-LONGEST_NAME c =
+    let args = c.args in
+    let pre = c.requires in
+    let read-tag = c.read_tag-t in
+    let t2 = c.t-in-Start-1 in
+    let element = c.element-e in
+    let enter = c.enter in
+    let space = c.space-i in
+    let if1 = c.if-i-ge-BY_TAGS in
+    let attribute = c.attribute in
+    let value-place = c.value_place-v in
+    goes-long args.s.now args.at read-tag.result read-tag.ensures args.w.now pre.1.0 t2.given.0.0 t2.given.0.1.0
+    t2.given.1 element.result element.ensures pre.0 enter.new.1.0 enter.ensures space.result
+    (omega (arith, if1.false)) (sym space.ensures) value-place.result (rw attribute.ensures at value-place.ensures) c.if-size-gt-LONGEST_NAME.true
+
+pub declare-requires : goal.declare-requires
+declare-requires c =
+    let args = c.args in
+    let pre = c.requires in
+    let read-tag = c.read_tag-t in
+    let t2 = c.t-in-Start-1 in
+    let element = c.element-e in
+    let enter = c.enter in
+    let space = c.space-i in
+    let if1 = c.if-i-ge-BY_TAGS in
+    let value-place = c.value_place-v in (
+      (
+        goes-room args.s.now args.at read-tag.result read-tag.ensures args.w.now pre.1.0 t2.given.0.0 t2.given.0.1.0
+            t2.given.1 element.result element.ensures pre.0 enter.new.1.0 enter.ensures,
+        omega (arith, if1.false),
+      ),
+      (
+        goes-sound args.s.now args.at read-tag.result read-tag.ensures args.w.now pre.1.0 t2.given.0.0 t2.given.0.1.0
+            t2.given.1 element.result element.ensures pre.0 enter.new.1.0 enter.ensures space.result (omega (arith, if1.false)),
+        (omega (arith, value-place.ensures.inside, value-place.ensures.order), c.if-size-gt-LONGEST_NAME.false),
+      ),
+    )
+
+pub returns-in-Halt : goal.returns-in-Halt
+returns-in-Halt c =
+    let args = c.args in
+    let pre = c.requires in
+    let read-tag = c.read_tag-t in
+    goes-halt args.s.now args.at read-tag.result read-tag.ensures args.w.now pre.1.0 c.enum_told-1.given.1
+
+pub returns-in-End : goal.returns-in-End
+returns-in-End c =
+    let args = c.args in
+    let pre = c.requires in
+    let read-tag = c.read_tag-t in
+    goes_end args.s.now args.at read-tag.result read-tag.ensures args.w.now pre.1.0 c.t-1.given.0.0 c.t-1.given.1
+
+pub returns-else-size-gt-LONGEST_NAME : goal.returns-else-size-gt-LONGEST_NAME
+returns-else-size-gt-LONGEST_NAME c =
+    let args = c.args in
+    let pre = c.requires in
+    let read-tag = c.read_tag-t in
+    let t2 = c.t-in-Start-1 in
+    let element = c.element-e in
+    let enter = c.enter in
+    let space = c.space-i in
+    let if1 = c.if-i-ge-BY_TAGS in
+    let attribute = c.attribute in
+    let value-place = c.value_place-v in
+    let if2 = c.if-size-gt-LONGEST_NAME in
+    let declare = c.declare in
+    goes_on args.s.now args.at read-tag.result read-tag.ensures args.w.now pre.1.0 t2.given.0.0 t2.given.0.1.0 t2.given.1
+    element.result element.ensures pre.0 enter.new.1.0 enter.ensures space.result (omega (arith, if1.false))
+    (sym space.ensures) value-place.result (rw attribute.ensures at value-place.ensures) declare.new.1.0 declare.result if2.false
+    declare.ensures

@@ -1,0 +1,11 @@
+-- `declare_tags` meets its contract: the loop invariant is `NamesLeft` (NamingLaws.antt).
+use Rattle.opl_naming.proofs.NamingLaws.{NamesLeft}
+use Prim.Native.Nat.{◌-◌}
+use lib.ListN.{length}
+use Rattle.opl_naming.proofs.declare_tags.Given as goal
+
+abbrev pub invariant-loop-at : goal.invariant-loop-at
+invariant-loop-at l = NamesLeft l.s l.from l.at l.initial.w l.w
+
+abbrev pub decreases-loop-at : goal.decreases-loop-at
+decreases-loop-at l = length l.s - l.at

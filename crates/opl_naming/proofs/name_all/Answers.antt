@@ -1,0 +1,85 @@
+-- `name_all` meets its contract: five spaces have the names of the tags, and two have those of the task lines.
+use Rattle.opl_naming.proofs.NamingLaws.{empty-sound, long-tag, long-line, tasks-sound, templates-sound, named-all}
+use borrow.Author.Tests.{not-true, not-false}
+use mathlib.Core.Path.{◌∙◌}
+use native.Mathlib.Omega.{arith}
+use Rattle.opl_naming.proofs.name_all.Goals as goal
+
+pub declare_tags-requires : goal.declare_tags-requires
+declare_tags-requires c =
+    let pre = c.requires in
+    let args = c.args in
+    let empty-all = c.empty_all in (
+      empty-all.ensures.room ∙ pre.0,
+      (
+        empty-sound args.s.now args.t.now args.from pre.1.1.0 args.w.now empty-all.new.0 empty-all.new.0 pre.0
+            empty-all.ensures,
+        pre.1.0,
+      ),
+    )
+
+pub returns-then-not-declare_tags : goal.returns-then-not-declare_tags
+returns-then-not-declare_tags c =
+    let args = c.args in
+    let pre = c.requires in
+    let declare-tags = c.declare_tags in
+    long-tag args.s.now args.t.now args.from pre.1.1.0 (rw (not-true declare-tags.result c.if-not-declare_tags.true) at declare-tags.ensures)
+
+pub declare_lines-requires : goal.declare_lines-requires
+declare_lines-requires c =
+    let pre = c.requires in
+    let args = c.args in
+    let empty-all = c.empty_all in
+    let declare-tags = c.declare_tags in (
+      ((rw (not-false declare-tags.result c.if-not-declare_tags.false) at declare-tags.ensures).room ∙ empty-all.ensures.room ∙ pre.0, omega arith),
+      (
+        tasks-sound args.s.now args.t.now args.from pre.1.1.0 args.w.now empty-all.new.0 declare-tags.new.1.0 pre.0
+            empty-all.ensures (rw (not-false declare-tags.result c.if-not-declare_tags.false) at declare-tags.ensures),
+        pre.1.1.1,
+      ),
+    )
+
+pub returns-then-not-declare_lines : goal.returns-then-not-declare_lines
+returns-then-not-declare_lines c =
+    let args = c.args in
+    let pre = c.requires in
+    let declare-tags = c.declare_tags in
+    let declare-lines = c.declare_lines in
+    long-line args.s.now args.t.now args.from pre.1.1.0 5 declare-tags.new.1.0 declare-lines.new.1.0 (omega arith) (omega arith)
+    (rw (not-true declare-lines.result c.if-not-declare_lines.true) at declare-lines.ensures)
+
+pub declare_lines-requires-2 : goal.declare_lines-requires-2
+declare_lines-requires-2 c =
+    let pre = c.requires in
+    let args = c.args in
+    let empty-all = c.empty_all in
+    let declare-tags = c.declare_tags in
+    let if1 = c.if-not-declare_tags in
+    let declare-lines = c.declare_lines in (
+      (
+        (rw (not-false declare-lines.result c.if-not-declare_lines.false) at declare-lines.ensures).apart.room ∙
+            (rw (not-false declare-tags.result if1.false) at declare-tags.ensures).room ∙ empty-all.ensures.room ∙ pre.0,
+        omega arith,
+      ),
+      (
+        templates-sound args.s.now args.t.now args.from pre.1.1.0 args.w.now empty-all.new.0 declare-tags.new.1.0 pre.0
+            empty-all.ensures (rw (not-false declare-tags.result if1.false) at declare-tags.ensures) declare-lines.new.1.0
+            (rw (not-false declare-lines.result c.if-not-declare_lines.false) at declare-lines.ensures),
+        pre.1.1.1,
+      ),
+    )
+
+pub returns : goal.returns
+returns c =
+    let args = c.args in
+    let pre = c.requires in
+    let empty-all = c.empty_all in
+    let declare-tags = c.declare_tags in
+    let if1 = c.if-not-declare_tags in
+    let declare-lines = c.declare_lines in
+    let if2 = c.if-not-declare_lines in
+    let declare-lines2 = c.declare_lines-2 in
+    named-all args.s.now args.t.now args.from pre.1.1.0 args.w.now empty-all.last.0 declare-tags.new.1.0
+    declare-lines.new.1.0 declare-lines2.new.1.0 pre.0 empty-all.ensures
+    (rw (not-false declare-tags.result if1.false) at declare-tags.ensures)
+    (rw (not-false declare-lines.result if2.false) at declare-lines.ensures) declare-lines2.result declare-lines2.ensures

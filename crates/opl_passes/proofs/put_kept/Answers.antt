@@ -1,0 +1,12 @@
+-- `put_kept` meets its contract: it writes the record's two words and adds 1 to the next place of its kind.
+use native.Mathlib.Omega.{arith}
+use Rattle.opl_passes.proofs.TagLaws.{puts-kept}
+use Rattle.opl_passes.proofs.put_kept.Goals as goal
+
+pub returns : goal.returns
+returns c =
+    let args = c.args in
+    let pre = c.requires in
+    let put-words = c.put_words in
+    puts-kept args.w.now args.j args.next.now args.out.now put-words.new.0 (omega (arith, pre.1.1.0, pre.1.1.1.0))
+    put-words.ensures put-words.auto.0

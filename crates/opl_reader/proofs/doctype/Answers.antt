@@ -1,0 +1,121 @@
+-- `doctype` meets its contract: it is a sequence of readers (Prologue.antt).
+use lib.ListN.{drop}
+use Rattle.opl_text.specs.Steps.{step_of}
+use Rattle.paper_opl.specs.Reading.{text, space}
+use Rattle.opl_reader.specs.Grammar.{spaced_read}
+use Rattle.opl_reader.proofs.Chain.{within}
+use Rattle.opl_text.proofs.Literals.{value_room}
+use Rattle.opl_reader.proofs.Prologue.{doctype-root, doctype-system, doctype-space, doctype-value, doctype-end}
+use borrow.Author.Rules.{rules}
+use Rattle.opl_reader.proofs.doctype.Goals as goal
+
+pub returns-in_default : goal.returns-in_default
+unfolding text
+returns-in_default c =
+    let args = c.args in
+    let spaced = c.spaced-root in
+    doctype-root args.s.now args.at spaced.result spaced.ensures _ c.enum_told-1.given.1
+
+pub spaced-system-requires : goal.spaced-system-requires
+unfolding text
+spaced-system-requires c =
+    let args = c.args in
+    let spaced = c.spaced-root in
+    let root = c.root-1 in
+    within args.s.now (step_of args.s.now) (spaced_read (text "policy_object") (drop args.at args.s.now)) spaced.result spaced.ensures
+    root.given.0.0 root.given.1
+
+pub returns-in_default-system : goal.returns-in_default-system
+unfolding text
+returns-in_default-system c =
+    let args = c.args in
+    let spaced = c.spaced-root in
+    let root = c.root-1 in
+    let spaced2 = c.spaced-system in
+    doctype-system args.s.now args.at spaced.result spaced.ensures root.given.0.0 root.given.1 spaced2.result spaced2.ensures _
+    c.enum_told-in_default-system-1.given.1
+
+pub space-b-requires : goal.space-b-requires
+unfolding text
+space-b-requires c =
+    let args = c.args in
+    let root = c.root-1 in
+    let spaced2 = c.spaced-system in
+    within args.s.now (step_of args.s.now) (spaced_read (text "SYSTEM") (drop root.given.0.0 args.s.now)) spaced2.result spaced2.ensures
+    c.system-1.given.0.0 c.system-1.given.1
+
+pub returns-in_default-b : goal.returns-in_default-b
+unfolding text
+returns-in_default-b c =
+    let args = c.args in
+    let spaced = c.spaced-root in
+    let root = c.root-1 in
+    let spaced2 = c.spaced-system in
+    let system = c.system-1 in
+    let space = c.space-b in
+    doctype-space args.s.now args.at spaced.result spaced.ensures root.given.0.0 root.given.1 spaced2.result spaced2.ensures
+    system.given.0.0 system.given.1 space.result space.ensures _ c.enum_told-in_default-b-1.given.1
+
+pub read_value-e-requires : goal.read_value-e-requires
+read_value-e-requires c =
+    let args = c.args in
+    let system = c.system-1 in
+    let space' = c.space-b in
+    within args.s.now (step_of args.s.now) (space (drop system.given.0.0 args.s.now)) space'.result space'.ensures
+    c.b-1.given.0.0 c.b-1.given.1
+
+pub returns-in_default-e : goal.returns-in_default-e
+unfolding text
+returns-in_default-e c =
+    let args = c.args in
+    let spaced = c.spaced-root in
+    let root = c.root-1 in
+    let spaced2 = c.spaced-system in
+    let system = c.system-1 in
+    let space = c.space-b in
+    let b = c.b-1 in
+    let read-value = c.read_value-e in
+    doctype-value args.s.now args.at spaced.result spaced.ensures root.given.0.0 root.given.1 spaced2.result spaced2.ensures
+    system.given.0.0 system.given.1 space.result space.ensures b.given.0.0 b.given.1 read-value.result read-value.ensures _
+    c.enum_told-in_default-e-1.given.1
+
+pub overflow_add-end : goal.overflow_add-end
+overflow_add-end c =
+    let h =
+    let args = c.args in
+    let system = c.system-1 in
+    let space' = c.space-b in
+    let b = c.b-1 in
+    let read-value = c.read_value-e in
+    value_room args.s.now b.given.0.0 read-value.result read-value.ensures c.e-1.given.0.0 c.e-1.given.1
+    (within args.s.now (step_of args.s.now) (space (drop system.given.0.0 args.s.now)) space'.result space'.ensures b.given.0.0
+    b.given.1) in
+    search rules
+
+pub skip_space-k-requires : goal.skip_space-k-requires
+skip_space-k-requires c =
+    let args = c.args in
+    let system = c.system-1 in
+    let space' = c.space-b in
+    let b = c.b-1 in
+    let read-value = c.read_value-e in
+    (value_room args.s.now b.given.0.0 read-value.result read-value.ensures c.e-1.given.0.0 c.e-1.given.1
+    (within args.s.now (step_of args.s.now) (space (drop system.given.0.0 args.s.now)) space'.result space'.ensures b.given.0.0
+    b.given.1)).1
+
+pub returns : goal.returns
+unfolding text
+returns c =
+    let args = c.args in
+    let spaced = c.spaced-root in
+    let root = c.root-1 in
+    let spaced2 = c.spaced-system in
+    let system = c.system-1 in
+    let space = c.space-b in
+    let b = c.b-1 in
+    let read-value = c.read_value-e in
+    let e = c.e-1 in
+    let skip-space = c.skip_space-k in
+    doctype-end args.s.now args.at spaced.result spaced.ensures root.given.0.0 root.given.1 spaced2.result spaced2.ensures
+    system.given.0.0 system.given.1 space.result space.ensures b.given.0.0 b.given.1 read-value.result read-value.ensures
+    e.given.0.0 e.given.1 skip-space.result skip-space.ensures.rest c.expect.result c.expect.ensures

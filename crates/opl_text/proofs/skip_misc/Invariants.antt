@@ -1,0 +1,12 @@
+-- `skip_misc` meets its contract: it reads white space, and then, as long as a comment follows, the comment and the white space after it.
+use Rattle.opl_text.proofs.Turns.{Clear}
+use Prim.Native.Nat.{◌-◌}
+use Prim.Native.Nat.{◌≤◌}
+use lib.ListN.{length}
+use Rattle.opl_text.proofs.skip_misc.Given as goal
+
+abbrev pub invariant-loop-r : goal.invariant-loop-r
+invariant-loop-r l = (l.i ≤ length l.s) × Clear l.s l.at l.i
+
+abbrev pub decreases-loop-r : goal.decreases-loop-r
+decreases-loop-r l = length l.s - l.i

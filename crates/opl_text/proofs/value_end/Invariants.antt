@@ -1,0 +1,12 @@
+-- `value_end` meets its contract: it advances eight bytes at a time, and then byte by byte.
+use Prim.Native.Nat.{◌-◌, ◌≤◌}
+use mathlib.Core.Path.{◌≡◌}
+use lib.ListN.{length, drop}
+use Rattle.paper_opl.specs.Reading.{behind, in_value}
+use Rattle.opl_text.proofs.value_end.Given as goal
+
+abbrev pub invariant-loop-i : goal.invariant-loop-i
+invariant-loop-i l = (l.i ≤ length l.s) × (behind (in_value l.q) (drop l.at l.s) ≡ behind (in_value l.q) (drop l.i l.s))
+
+abbrev pub decreases-loop-i : goal.decreases-loop-i
+decreases-loop-i l = length l.s - l.i

@@ -1,0 +1,25 @@
+-- `release` meets its contract: only entries of the instance are removed.
+use mathlib.Core.Bool.{true}
+use mathlib.Core.Path.{◌∙◌}
+use Rattle.order_links.proofs.ActLaws.{whole}
+use Rattle.order_entries.proofs.SearchLaws.{held-own}
+use Rattle.order_entries.proofs.ActLaws.{opened-there, releases}
+use Rattle.order_entries.proofs.release.Goals as goal
+
+pub shape_of-o : goal.shape_of-o
+shape_of-o c = c.release.ensures.room
+
+pub returns : goal.returns
+returns c =
+    let pre = c.requires in
+    let z = c.args in
+    let l = z.o.now in
+    let e = c.release.ensures in
+    record {
+      room = e.room;
+      kept = e.kept;
+      sound = λ s live.
+          let w = (whole l s).woven in
+          let did = e.sound s (opened-there l z.i true pre.1.0 live) in
+          (did.0 ∙ held-own l w z.i z.t z.a pre.1.0, releases z.i pre.1.0 l _ w z.t z.a did.1);
+    }

@@ -1,0 +1,23 @@
+-- `cut` meets its contract: for the newest entry it changes the word of the chain, and for any other the link of the entry before it.
+use Prim.Native.Nat.{◌+◌}
+use native.Mathlib.Omega.{arith}
+use lib.ListN.{length-set}
+use Rattle.order_links.proofs.TotalLaws.{any-newest, any-later}
+use Rattle.order_links.proofs.cut.Goals as goal
+
+pub returns-then-kept-eq0 : goal.returns-then-kept-eq0
+returns-then-kept-eq0 c =
+    let args = c.args in
+    let pre = c.requires in
+    any-newest args.o.now pre.0 args.i (omega arith) args.kept args.q args.k c.if-kept-eq0.true
+
+pub bounds-o-i-2 : goal.bounds-o-i-2
+bounds-o-i-2 c =
+    let args = c.args in
+    rw (length-set args.o.now (195 + args.q) _) (omega arith)
+
+pub returns : goal.returns
+returns c =
+    let args = c.args in
+    let pre = c.requires in
+    any-later args.o.now pre.0 args.i (omega arith) args.kept args.q args.k c.if-kept-eq0.false

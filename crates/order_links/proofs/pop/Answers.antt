@@ -1,0 +1,10 @@
+-- `pop` meets its contract: the chain then starts with the entry that its newest entry links to. For other contents the index stays in the buffer.
+use Rattle.order_links.proofs.TotalLaws.{any-popped}
+use Rattle.order_links.proofs.pop.Goals as goal
+
+pub returns : goal.returns
+returns c =
+    let args = c.args in
+    let pre = c.requires in
+    any-popped args.o.now pre.0 args.i pre.1 c.in_reach-k.result c.in_reach-k.ensures.1.0
+    c.in_reach-k.ensures.1.1

@@ -1,0 +1,30 @@
+-- `open_reply` meets its contract: each return gives the reply of the first check that applies.
+use Rattle.paper_upper.specs.Requests.{open_checks}
+use Rattle.order_entries.proofs.TableLaws.{open-there}
+use Rattle.order_requests.proofs.open_reply.Goals as goal
+
+pub returns-then-not-has_task : goal.returns-then-not-has_task
+unfolding open_checks
+returns-then-not-has_task c = λ s. simp (← c.has_task.ensures, c.if-not-has_task.true)
+
+pub returns-then-x : goal.returns-then-x
+unfolding open_checks
+returns-then-x c =
+    let has-task = c.has_task in
+    λ s. simp (
+      ← has-task.ensures,
+      c.if-not-has_task.false,
+      open-there c.opened-x.result c.opened-x.ensures.0,
+      c.if-x.true,
+    )
+
+pub returns : goal.returns
+unfolding open_checks
+returns c =
+    let has-task = c.has_task in
+    λ s. simp (
+      ← has-task.ensures,
+      c.if-not-has_task.false,
+      open-there c.opened-x.result c.opened-x.ensures.0,
+      c.if-x.false,
+    )

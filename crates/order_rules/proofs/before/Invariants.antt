@@ -1,0 +1,18 @@
+-- `before` meets its contract: a loop over the rows kept. Its invariant: the place
+-- of the first row for which the test holds is to be found among the rows from k on.
+use mathlib.Core.Path.{◌≡◌}
+use Prim.Native.Nat.{◌+◌, ◌-◌, ◌≤◌}
+use Rattle.paper_lower.specs.Lists.{place, place_from}
+use Rattle.policy.specs.Layout.{pair_at}
+use Rattle.policy.specs.Reading.{policy_of}
+use Rattle.replies.specs.Cells.{rows_from}
+use borrow.Author.Rules.{rules}
+use Rattle.order_rules.proofs.before.Given as goal
+
+abbrev pub invariant-loop-k : goal.invariant-loop-k
+invariant-loop-k l =
+    (l.k ≤ l.count) ×
+    (place (missing l.finished.bits l.t) (policy_of l.p).rules.befores ≡ place_from (l.k + 1) (missing l.finished.bits l.t) (rows_from (pair_at 1 l.p) l.k (l.count - l.k)))
+
+abbrev pub decreases-loop-k : goal.decreases-loop-k
+decreases-loop-k l = l.count - l.k

@@ -1,0 +1,6 @@
+-- `set_template` meets its contract: its store replaces the row and leaves every other table unchanged.
+use Rattle.policy.proofs.StoreLaws.{template-set}
+use Rattle.policy.proofs.set_template.Goals as goal
+
+pub returns : goal.returns
+returns c = template-set _ c.requires.0 _ _ c.requires.1.0 c.requires.1.1

@@ -1,0 +1,17 @@
+-- `block_repeated` meets its contract: a loop over the rows kept. Its invariant: the test holds for some row exactly if it holds for some row from k on.
+use mathlib.Core.Path.{◌≡◌}
+use Prim.Native.Nat.{◌-◌, ◌≤◌}
+use Rattle.paper_lower.specs.Lists.{some}
+use Rattle.paper_lower.specs.Policy.{is_same_block}
+use Rattle.policy.specs.Layout.{block_at}
+use Rattle.policy.specs.Reading.{policy_of}
+use Rattle.replies.specs.Cells.{rows_from}
+use borrow.Author.Rules.{rules}
+use Rattle.policy_lookups.proofs.block_repeated.Given as goal
+
+abbrev pub invariant-loop-k : goal.invariant-loop-k
+invariant-loop-k l =
+    (l.k ≤ l.count) × (some (is_same_block l.a l.m.bits) (policy_of l.p).rules.blocks ≡ some (is_same_block l.a l.m.bits) (rows_from (block_at l.p) l.k (l.count - l.k)))
+
+abbrev pub decreases-loop-k : goal.decreases-loop-k
+decreases-loop-k l = l.count - l.k

@@ -1,0 +1,17 @@
+-- `broken` meets its contract: a loop over the rows kept. Its invariant: the test holds for some row exactly if it holds for some row from k on.
+use mathlib.Core.Path.{◌≡◌}
+use Prim.Native.Nat.{◌-◌, ◌≤◌}
+use Rattle.paper_lower.specs.Lists.{some}
+use Rattle.paper_lower.specs.Policy.{breaks}
+use Rattle.policy.specs.Layout.{limit_at}
+use Rattle.policy.specs.Reading.{policy_of, limit_rows_of}
+use Rattle.replies.specs.Cells.{rows_from}
+use borrow.Author.Rules.{rules}
+use Rattle.policy_lookups.proofs.broken.Given as goal
+
+abbrev pub invariant-loop-k : goal.invariant-loop-k
+invariant-loop-k l =
+    (l.k ≤ l.n) × (some (breaks l.m.bits) (limit_rows_of (policy_of l.p).rules l.which) ≡ some (breaks l.m.bits) (rows_from (limit_at l.which l.p) l.k (l.n - l.k)))
+
+abbrev pub decreases-loop-k : goal.decreases-loop-k
+decreases-loop-k l = l.n - l.k

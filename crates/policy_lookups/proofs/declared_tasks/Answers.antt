@@ -1,0 +1,21 @@
+use mathlib.Core.Path.{◌≡◌, refl, sym, ◌∙◌}
+use Prim.Native.Nat.{◌-◌}
+use native.Mathlib.Omega.{arith}
+use Rattle.paper_lower.specs.Sets.{collect}
+use Rattle.paper_lower.specs.Policy.{declared_tasks}
+use Rattle.replies.proofs.SearchLaws.{collect-more}
+use borrow.Author.Rules.{rules}
+use Rattle.policy_lookups.proofs.declared_tasks.Goals as goal
+
+pub loop-t-init : goal.loop-t-init
+unfolding collect
+loop-t-init c = (search rules, refl)
+
+pub loop-t-preserved : goal.loop-t-preserved
+loop-t-preserved c =
+    let loop = c.loop-t in
+    (search rules, c.with_if-all.ensures ∙ rw (c.task_declared.ensures, loop.invariant.1) (sym (collect-more _ _)))
+
+pub returns : goal.returns
+unfolding declared_tasks
+returns c = let e : 64 ≡ c.loop-t.t = omega arith in rw e c.loop-t.invariant.1

@@ -1,0 +1,24 @@
+use mathlib.Core.Path.{◌≡◌, refl, sym, ap, ◌∙◌}
+use mathlib.Core.Bool.{false, not}
+use Prim.Native.Nat.{◌-◌}
+use native.Mathlib.Omega.{arith}
+use Rattle.paper_lower.specs.Lists.{some_number_below}
+use Rattle.replies.proofs.SearchLaws.{below_more, below-found}
+use Rattle.policy_lookups.proofs.Tasks.{none-lacking}
+use borrow.Author.Rules.{rules}
+use Rattle.policy_lookups.proofs.others_within.Goals as goal
+
+pub loop-i-init : goal.loop-i-init
+unfolding some_number_below
+loop-i-init c = (search rules, refl)
+
+pub returns-then-is_lacking : goal.returns-then-is_lacking
+returns-then-is_lacking c = ap not (sym (below-found _ _ _ (search rules) (sym c.is_lacking.ensures ∙ c.if-is_lacking.true))) ∙ none-lacking _ _ _ _
+
+pub loop-i-preserved : goal.loop-i-preserved
+loop-i-preserved c =
+    let loop = c.loop-i in
+    (search rules, below_more _ _ loop.invariant.1 (sym c.is_lacking.ensures ∙ c.if-is_lacking.false))
+
+pub returns : goal.returns
+returns c = let e : 64 ≡ c.loop-i.i = omega arith in ap not (sym (rw (← e) at c.loop-i.invariant.1)) ∙ none-lacking _ _ _ _

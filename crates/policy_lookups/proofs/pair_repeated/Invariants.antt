@@ -1,0 +1,17 @@
+-- `pair_repeated` meets its contract: a loop over the rows kept. Its invariant: the test holds for some row exactly if it holds for some row from k on.
+use mathlib.Core.Path.{◌≡◌}
+use Prim.Native.Nat.{◌-◌, ◌≤◌}
+use Rattle.paper_lower.specs.Lists.{some}
+use Rattle.paper_lower.specs.Policy.{same_pair}
+use Rattle.policy.specs.Layout.{pair_at}
+use Rattle.policy.specs.Reading.{policy_of, pairs_of}
+use Rattle.replies.specs.Cells.{rows_from}
+use borrow.Author.Rules.{rules}
+use Rattle.policy_lookups.proofs.pair_repeated.Given as goal
+
+abbrev pub invariant-loop-k : goal.invariant-loop-k
+invariant-loop-k l =
+    (l.k ≤ l.count) × (some (same_pair l.a l.b) (pairs_of (policy_of l.p).rules l.which) ≡ some (same_pair l.a l.b) (rows_from (pair_at l.which l.p) l.k (l.count - l.k)))
+
+abbrev pub decreases-loop-k : goal.decreases-loop-k
+decreases-loop-k l = l.count - l.k

@@ -1,0 +1,16 @@
+use mathlib.Core.Path.{◌∙◌}
+use Prim.Native.Nat.{◌-◌}
+use native.Mathlib.Omega.{arith}
+use Rattle.policy.proofs.RuleLaws.{blocks-are}
+use Rattle.policy_lookups.proofs.Walks.{none-gathered, one-gathered, all-gathered}
+use borrow.Author.Rules.{rules}
+use Rattle.policy_lookups.proofs.partitioned.Goals as goal
+
+pub loop-k-init : goal.loop-k-init
+loop-k-init c = (search rules, none-gathered _ _ _)
+
+pub loop-k-preserved : goal.loop-k-preserved
+loop-k-preserved c = (search rules, c.with_block-all.ensures ∙ one-gathered _ _ _ _ (search rules) (search rules) c.loop-k.invariant.1)
+
+pub returns : goal.returns
+returns c = all-gathered _ _ (blocks-are _) c.block_count-k.ensures.0 (omega arith) c.loop-k.invariant.1

@@ -1,0 +1,17 @@
+-- `allowed` meets its contract. The invariant of the loop: there is such a permission exactly if one was found or one of the groups that are left has one.
+use Prim.Native.Nat.{◌<◌}
+use mathlib.Core.Bool.{◌||◌}
+use mathlib.Core.Path.{◌≡◌}
+use Rattle.paper_lower.specs.Sessions.{allowed}
+use Rattle.policy.specs.Reading.{policy_of}
+use Rattle.policy_permissions.specs.Rows.{opens}
+use Rattle.policy_permissions.proofs.Eights.{in_eights}
+use Rattle.policy_permissions.proofs.allowed.Given as goal
+
+abbrev pub invariant-loop-left : goal.invariant-loop-left
+invariant-loop-left l =
+    (allowed (policy_of l.p).permissions l.m.bits l.operation l.object ≡ l.found || in_eights l.left.bits (opens l.p l.m.bits l.operation l.object)) ×
+    (l.left.bits < 4294967296)
+
+abbrev pub decreases-loop-left : goal.decreases-loop-left
+decreases-loop-left l = l.left.bits

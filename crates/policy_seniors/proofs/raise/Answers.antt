@@ -1,0 +1,28 @@
+use mathlib.Core.Path.{ap, ◌∙◌}
+use Prim.Native.Nat.{◌-◌}
+use native.Mathlib.Omega.{arith}
+use Rattle.paper_lower.specs.Sets.{plus}
+use Rattle.policy_seniors.proofs.Raising.{rows_none, rows_more, all-rows}
+use borrow.Author.Rules.{rules}
+use Rattle.policy_seniors.proofs.raise.Goals as goal
+
+pub loop-r-init : goal.loop-r-init
+loop-r-init c = (search rules, (search rules, rows_none _ _ _))
+
+pub loop-r-preserved : goal.loop-r-preserved
+loop-r-preserved c =
+    let loop = c.loop-r in
+    (search rules, (search rules, c.lower.ensures ∙ rows_more _ _ _ _ loop.invariant.1.1))
+
+pub returns : goal.returns
+returns c =
+    let pre = c.requires in
+    let args = c.args in
+    let below = c.below in
+    let with = c.with-under in
+    let juniors = c.juniors in
+    let with2 = c.with-named in
+    let loop = c.loop-r in
+    c.set_juniors.ensures ∙
+    all-rows _ _ _ pre.1.0 (with.ensures ∙ ap (λ k. plus k args.b) below.ensures) (with2.ensures ∙ ap (λ k. plus k args.b) juniors.ensures)
+    {r = loop.r} (omega arith) loop.invariant.1.1

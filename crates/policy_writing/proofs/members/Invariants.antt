@@ -1,0 +1,15 @@
+-- `members` meets its contract. The invariant of the loop: the records of all members below b are written. An empty set has no records.
+use Prim.Native.Nat.{◌≤◌, ◌-◌}
+use lib.ListN.{length}
+use mathlib.Core.Path.{◌≡◌}
+use Rattle.paper_lower.specs.Sets.{has}
+use Rattle.paper_lower.specs.Written.{in_turn, when, row}
+use Rattle.policy_writing.specs.Laying.{Laid}
+use Rattle.policy_writing.proofs.members.Given as goal
+
+abbrev pub invariant-loop-b : goal.invariant-loop-b
+invariant-loop-b l =
+    (l.b ≤ 64) × ((length l.output ≡ length l.initial.output) × Laid (in_turn l.b (λ i. when (has l.m.bits i) (row l.kind 0 l.a i 0 0))) l.b l.initial.output l.output l.place l.at)
+
+abbrev pub decreases-loop-b : goal.decreases-loop-b
+decreases-loop-b l = 64 - l.b

@@ -1,0 +1,16 @@
+-- `permissions` meets its contract. The invariant of the loop: the records of all permissions below b are written.
+use Prim.Native.Nat.{◌≤◌, ◌-◌}
+use lib.ListN.{length}
+use mathlib.Core.Path.{◌≡◌}
+use Rattle.paper_lower.specs.Sets.{has}
+use Rattle.paper_lower.specs.Written.{in_turn, when, row}
+use Rattle.policy_writing.specs.Lines.{side_in}
+use Rattle.policy_writing.specs.Laying.{Laid}
+use Rattle.policy_writing.proofs.permissions.Given as goal
+
+abbrev pub invariant-loop-b : goal.invariant-loop-b
+invariant-loop-b l =
+    (l.b ≤ 256) × ((length l.output ≡ length l.initial.output) × Laid (in_turn l.b (λ i. when (has (side_in l.p l.kind i) l.a) (row l.kind 0 l.a i 0 0))) l.b l.initial.output l.output l.place l.at)
+
+abbrev pub decreases-loop-b : goal.decreases-loop-b
+decreases-loop-b l = 256 - l.b

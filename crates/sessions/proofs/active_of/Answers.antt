@@ -1,0 +1,21 @@
+use Prim.Native.Nat.{◌-◌}
+use mathlib.Core.Path.{◌≡◌, refl, sym, ap₂, ◌∙◌}
+use native.Mathlib.Omega.{arith}
+use Rattle.paper_lower.specs.Roles.{of_subjects, active_of}
+use Rattle.paper_lower.specs.Sets.{union, union_below}
+use Rattle.replies.proofs.SearchLaws.{union_more}
+use borrow.Author.Rules.{rules}
+use Rattle.sessions.proofs.active_of.Goals as goal
+
+pub loop-a-init : goal.loop-a-init
+unfolding union_below
+loop-a-init c = (search rules, refl)
+
+pub loop-a-preserved : goal.loop-a-preserved
+loop-a-preserved c =
+    let loop = c.loop-a in
+    (search rules, c.union-all.ensures ∙ ap₂ union loop.invariant.1 c.active_in-roles.ensures ∙ sym (union_more _ _))
+
+pub returns : goal.returns
+unfolding active_of of_subjects
+returns c = let e : 128 ≡ c.loop-a.a = omega arith in rw e c.loop-a.invariant.1
