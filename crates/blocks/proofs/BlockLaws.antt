@@ -1,5 +1,4 @@
--- Laws for the contracts of this crate: how the planes of a word read, bits taken from two words by
--- a mask, one block spread over the planes, and the comparison of two block numbers plane by plane.
+-- Laws of blocks of walls: the planes of a word, bits picked from two words, and blocks that are others.
 use Prim.Native.Nat.{ℕ, zero, suc, ◌+◌, ◌*◌, ◌/◌, ◌%◌, ◌^◌, ◌<◌, ◌≤◌, min}
 use mathlib.Core.Bool.{Bool, true, false, not, cond, ◌&&◌, ◌||◌, false≢true}
 use mathlib.Core.Logic.{⊎_elim}
@@ -7,21 +6,18 @@ use mathlib.Core.Path.{◌≡◌, refl, sym, ap, ap₂, fun_ext, ◌∙◌}
 use native.Mathlib.Omega.{arith}
 use borrow.Author.Tests.{eq-eqb, ne_eqb, eqb-true, eqb-false, ltb-true, ltb-false}
 use native.Mathlib.Nat.{zero-mul, one-mul, add-mul, mul_assoc}
-use lib.Bits.{bit_and, bit_or, bit_xor, differ, and_shr, or_shr, xor_shr, and_mod, or_mod, xor_mod, and_block}
-use lib.Dec.{eqb, ltb, lit<}
-use lib.Pow.{pow-lt, pow_pos, shl_exact}
+use lib.Bits.{bit_and, bit_or, bit_xor, differ, and_shr, or_shr, xor_shr, and_mod, or_mod, xor_mod}
+use lib.Dec.{eqb, ltb}
+use lib.Pow.{pow-lt, shl_exact}
 use Rattle.paper_lower.specs.Sets.{Set, has, union, collect}
 use Rattle.paper_lower.specs.Lists.{some_number_below, holds, or_else}
 use Rattle.paper_lower.specs.Lists.Maybe.{none, just}
 use Rattle.paper_lower.specs.Policy.{another}
 use Rattle.sets.proofs.Bits.{bit-and, bit-xor, bit-one, bit-other, one_shl, same-or-other}
 use Rattle.sets.proofs.SetLaws.{digit, digit-has, has-digit, bit-has, bit-hasnt, has-empty, has-union, has_above, union-lt, same-members, some-collected, collect-below, collect-above}
-use Rattle.blocks.specs.declared.Blocks.{Blocks}
-use Rattle.blocks.specs.Reading.{told, block_within, blocks_in, blocks_of, Gathered, only, spread, over, apart}
+use Rattle.blocks.specs.Reading.{told, block_within, blocks_in, only, spread, over, apart}
 
--- ---- Members of the results of `and`, `or` and `xor`.
-
--- Whether two bits differ.
+-- ---- members
 differs : Bool → Bool → Bool
 differs true q = not q
 differs false q = q
@@ -49,11 +45,7 @@ has-xor a b i = has-digit _ i _ (bit-xor i a b ∙ ap₂ differ (digit-has a i) 
     go false true = refl
     go false false = refl
 
-and-true : (x : Bool) → (x && true) ≡ x
-and-true true = refl
-and-true false = refl
-
--- The bits of a at the positions of w, and those of b at all others.
+-- the bits of a in w, and those of b elsewhere
 abbrev picked : Set → Set → Set → Set
 picked w a b = bit_or (bit_and a w) (bit_xor b (bit_and b w))
 
@@ -74,7 +66,7 @@ has-picked w a b i =
     go false false true = refl
     go false false false = refl
 
--- `picked` acts on each part of the words separately.
+-- part by part
 picked-shr : (k w a b : ℕ) → picked w a b / 2 ^ k ≡ picked (w / 2 ^ k) (a / 2 ^ k) (b / 2 ^ k)
 picked-shr k w a b =
     or_shr (bit_and a w) (bit_xor b (bit_and b w)) k
@@ -92,7 +84,7 @@ or-below : (a b : Set) → a < 65536 → b < 65536 → bit_or a b < 65536
 unfolding union
 or-below a b h k = union-lt 16 a b h k
 
--- ---- A word made of four planes: each plane reads back, and so does the block number of each wall.
+-- ---- a word of four planes
 low_part : (p q : ℕ) → p < 65536 → (p + 65536 * q) % 65536 ≡ p
 low_part p q h = omega arith
 
@@ -132,9 +124,8 @@ pub no_words : blocks_in 0 0 ≡ (λ w. none)
 unfolding blocks_in
 no_words = fun_ext (λ w. ap (λ (t : Bool). cond t (just (block_within 0 w)) none) (has-empty w))
 
--- ---- `over`: the blocks of one word pair, and in the walls in which it has none those of another.
-
--- The block of one wall. u and v say whether the first and the second pair have a block there.
+-- ---- the blocks of one, and else of the other
+-- what `over` gives a wall, by which of the two has it
 chosen : (u v : Bool) (a₀ a₁ a₂ a₃ b₀ b₁ b₂ b₃ : Bool)
     → cond (u || v) (just (told (cond u a₀ b₀) (cond u a₁ b₁) (cond u a₂ b₂) (cond u a₃ b₃))) none
     ≡ or_else (cond u (just (told a₀ a₁ a₂ a₃)) none) (cond v (just (told b₀ b₁ b₂ b₃)) none)
@@ -143,43 +134,41 @@ chosen true v a₀ a₁ a₂ a₃ b₀ b₁ b₂ b₃ = refl
 chosen false true a₀ a₁ a₂ a₃ b₀ b₁ b₂ b₃ = refl
 chosen false false a₀ a₁ a₂ a₃ b₀ b₁ b₂ b₃ = refl
 
--- A mask that has the walls of the first pair in every plane takes the block numbers of these walls from the first pair.
-over-planes : (u a v b mask walls : ℕ) → mask % 65536 ≡ u % 65536 → mask / 65536 % 65536 ≡ u % 65536 → mask / 4294967296 % 65536 ≡ u % 65536
-    → mask / 281474976710656 % 65536 ≡ u % 65536 → walls % 65536 ≡ bit_or (u % 65536) (v % 65536)
-    → blocks_in walls (picked mask a b) ≡ over (blocks_in u a) (blocks_in v b)
+-- the walls of the first word in every plane pick
+pub over-words : (u a v b : ℕ) → blocks_in (bit_or (u % 65536) (v % 65536)) (picked (u % 65536 * 281479271743489) a b) ≡ over (blocks_in u a) (blocks_in v b)
 unfolding blocks_in block_within
-over-planes u a v b mask walls e₀ e₁ e₂ e₃ low = fun_ext at
+over-words u a v b = fun_ext at
   where
+    mask : ℕ
+    mask = u % 65536 * 281479271743489
+
+    every : (mask % 65536 ≡ u % 65536) ×
+        ((mask / 65536 % 65536 ≡ u % 65536) × ((mask / 4294967296 % 65536 ≡ u % 65536) × (mask / 281474976710656 % 65536 ≡ u % 65536)))
+    every = planes (u % 65536) (u % 65536) (u % 65536) (u % 65536) (omega arith) (omega arith) (omega arith) (omega arith) mask (omega arith)
+
     at-plane : (p m x y w : ℕ) → p ≡ picked m x y → m ≡ u % 65536 → has p w ≡ cond (has (u % 65536) w) (has x w) (has y w)
     at-plane p m x y w e is = ap (λ (k : ℕ). has k w) (e ∙ ap (λ (k : ℕ). picked k x y) is) ∙ has-picked (u % 65536) x y w
 
-    at : (w : ℕ) → blocks_in walls (picked mask a b) w ≡ or_else (blocks_in u a w) (blocks_in v b w)
+    low : bit_or (u % 65536) (v % 65536) % 65536 ≡ bit_or (u % 65536) (v % 65536)
+    low = let l = or-below (u % 65536) (v % 65536) (omega arith) (omega arith) in omega arith
+
+    at : (w : ℕ) → blocks_in (bit_or (u % 65536) (v % 65536)) (picked mask a b) w ≡ or_else (blocks_in u a w) (blocks_in v b w)
     at w =
-        let there = ap (λ (k : ℕ). has k w) low ∙ has-or (u % 65536) (v % 65536) w in
-        let q₀ = at-plane (picked mask a b % 65536) (mask % 65536) (a % 65536) (b % 65536) w (picked-mod 16 mask a b) e₀ in
+        let walls = ap (λ (k : ℕ). has k w) low ∙ has-or (u % 65536) (v % 65536) w in
+        let q₀ = at-plane (picked mask a b % 65536) (mask % 65536) (a % 65536) (b % 65536) w (picked-mod 16 mask a b) every.0 in
         let q₁ =
-        at-plane (picked mask a b / 65536 % 65536) (mask / 65536 % 65536) (a / 65536 % 65536) (b / 65536 % 65536) w (picked-part 16 mask a b) e₁ in
+        at-plane (picked mask a b / 65536 % 65536) (mask / 65536 % 65536) (a / 65536 % 65536) (b / 65536 % 65536) w (picked-part 16 mask a b)
+        every.1.0 in
         let q₂ =
         at-plane (picked mask a b / 4294967296 % 65536) (mask / 4294967296 % 65536) (a / 4294967296 % 65536) (b / 4294967296 % 65536) w
-        (picked-part 32 mask a b) e₂ in
+        (picked-part 32 mask a b) every.1.1.0 in
         let q₃ =
         at-plane (picked mask a b / 281474976710656 % 65536) (mask / 281474976710656 % 65536) (a / 281474976710656 % 65536) (b / 281474976710656 % 65536) w
-        (picked-part 48 mask a b) e₃ in
-        ap₂ (λ (t : Bool) (k : ℕ). cond t (just k) none) there (λ i. told (q₀ i) (q₁ i) (q₂ i) (q₃ i))
+        (picked-part 48 mask a b) every.1.1.1 in
+        ap₂ (λ (t : Bool) (k : ℕ). cond t (just k) none) walls (λ i. told (q₀ i) (q₁ i) (q₂ i) (q₃ i))
         ∙ chosen (has (u % 65536) w) (has (v % 65536) w) _ _ _ _ _ _ _ _
 
--- The same for the mask of `over`: the walls times one bit per plane.
-pub over-words : (u a v b : ℕ) → blocks_in (bit_or (u % 65536) (v % 65536)) (picked (u % 65536 * 281479271743489) a b) ≡ over (blocks_in u a) (blocks_in v b)
-over-words u a v b =
-    let mask = u % 65536 * 281479271743489 in
-    let every = planes (u % 65536) (u % 65536) (u % 65536) (u % 65536) (omega arith) (omega arith) (omega arith) (omega arith) mask (omega arith) in
-    let below = or-below (u % 65536) (v % 65536) (omega arith) (omega arith) in
-    let low : bit_or (u % 65536) (v % 65536) % 65536 ≡ bit_or (u % 65536) (v % 65536) = omega arith in
-    over-planes u a v b mask (bit_or (u % 65536) (v % 65536)) every.0 every.1.0 every.1.1.0 every.1.1.1 low
-
--- ---- A single block.
-
--- 2 ^ t has the member t only.
+-- ---- a single block
 power : (i t : ℕ) → has (2 ^ t) i ≡ eqb t i
 power i t =
     ⊎_elim (λ e. bit-has (2 ^ t) i (rw e (bit-one t)) ∙ sym (eq-eqb t i (sym e)))
@@ -208,11 +197,11 @@ digits x h =
 below_power : (wall : ℕ) → wall < 16 → 2 ^ wall < 65536
 below_power wall h = let s : 2 ^ wall < 2 ^ 16 = pow-lt h in s
 
--- `1 << wall` in the code is 2 ^ wall.
+-- `1 << wall` in the code
 one-wall : (wall : ℕ) → wall < 16 → (1 * 2 ^ wall) % 2 ^ 64 ≡ 2 ^ wall
 one-wall wall h = one_shl wall (omega arith)
 
--- A digit times the bit of a wall is that bit or 0.
+-- the wall's bit, or none
 digit-times : (digit one : ℕ) → digit < 2 → digit * one ≡ cond (eqb digit 1) one 0
 digit-times zero one h = zero-mul one
 digit-times (suc zero) one h = one-mul one
@@ -264,8 +253,7 @@ single-words wall block one p₀ p₁ p₂ p₃ h k o e₀ e₁ e₂ e₃ l₀ l
         go true e = ap just (ap (block_within (p₀ + 65536 * p₁ + 4294967296 * p₂ + 281474976710656 * p₃)) (sym (eqb-true wall w e)) ∙ block_in)
         go false e = refl
 
--- ---- A block's number spread over the planes. `same_below` compares two functions
--- at all numbers below n, so that `spread-word` is proved by computing the 16 cases.
+-- ---- a block's number spread over the planes
 both : (x y : Bool) → x && y ≡ true → (x ≡ true) × (y ≡ true)
 both true y e = (refl, e)
 both false y e = absurd (false≢true e)
@@ -295,7 +283,7 @@ each-plane : (a b c d one : ℕ) →
     (a + 65536 * b + 4294967296 * c + 281474976710656 * d) * one ≡ a * one + 65536 * (b * one) + 4294967296 * (c * one) + 281474976710656 * (d * one)
 each-plane a b c d one = simp (add-mul, mul_assoc)
 
-spread-single : (wall block n : ℕ) → wall < 16 → block < 16 → n ≡ spread block →
+pub spread-single : (wall block n : ℕ) → wall < 16 → block < 16 → n ≡ spread block →
     blocks_in ((1 * 2 ^ wall) % 2 ^ 64) ((n * 2 ^ wall) % 2 ^ 64) ≡ only wall block
 unfolding spread
 spread-single wall block n h k e =
@@ -311,111 +299,7 @@ spread-single wall block n h k e =
     (λ i. blocks_in (one-wall wall h i) (word i))
     ∙ single-words wall block one _ _ _ _ h k refl d₀.0 d₁.0 d₂.0 d₃.0 d₀.1 d₁.1 d₂.1 d₃.1
 
--- ---- `with`: one more block, added to gathered words.
-
--- Words that are 0 are gathered.
-pub none-gathered : Gathered (record { walls = 0; blocks = 0 })
-none-gathered = record { second = refl; third = refl; fourth = refl; within = refl }
-
--- Sixteen bits of an `or` are the `or` of these bits.
-or-part : (k a b : ℕ) → bit_or a b / 2 ^ k % 2 ^ 16 ≡ bit_or (a / 2 ^ k % 2 ^ 16) (b / 2 ^ k % 2 ^ 16)
-or-part k a b = ap (λ (x : ℕ). x % 2 ^ 16) (or_shr a b k) ∙ or_mod (a / 2 ^ k) (b / 2 ^ k) 16
-
-every-sum : (one : ℕ) → 281479271743489 * one ≡ one + 65536 * one + 4294967296 * one + 281474976710656 * one
-every-sum one = omega arith
-
--- The wall's bit in every plane, as the code computes it, and the bits of a block's number n there.
-abbrev wall_in : ℕ → ℕ
-wall_in wall = (281479271743489 * 2 ^ wall) % 2 ^ 64
-
-abbrev own_in : ℕ → ℕ → ℕ
-own_in wall n = (n * 2 ^ wall) % 2 ^ 64
-
-wall-exact : (wall : ℕ) → wall < 16 → wall_in wall ≡ 281479271743489 * 2 ^ wall
-wall-exact wall h = shl_exact 49 wall 64 (lit< tt) (omega arith)
-
--- Each plane of it has the wall only.
-wall-planes : (wall : ℕ) → wall < 16 → (wall_in wall % 65536 ≡ 2 ^ wall) ×
-    ((wall_in wall / 65536 % 65536 ≡ 2 ^ wall) × ((wall_in wall / 4294967296 % 65536 ≡ 2 ^ wall) × (wall_in wall / 281474976710656 % 65536 ≡ 2 ^ wall)))
-wall-planes wall h =
-    let small = below_power wall h in
-    planes (2 ^ wall) (2 ^ wall) (2 ^ wall) (2 ^ wall) small small small small (wall_in wall) (wall-exact wall h ∙ every-sum (2 ^ wall))
-
--- The same for `1 << wall`.
-wall-low : (wall : ℕ) → wall < 16 → (1 * 2 ^ wall) % 2 ^ 64 % 65536 ≡ 2 ^ wall
-wall-low wall h =
-    let small = below_power wall h in
-    let z : 2 ^ wall % 65536 ≡ 2 ^ wall = omega arith in
-    ap (λ (x : ℕ). x % 65536) (one-wall wall h) ∙ z
-
--- The bits of a block's number are among the lowest bits of the planes, and stay so in the wall.
-spread-within : (x : ℕ) → x < 16 → bit_and (spread x) 281479271743489 ≡ spread x
-unfolding spread same_below
-spread-within x h = same-below 16 (λ y. bit_and (spread y) 281479271743489) spread refl x h
-
-shifted-and : (k a b : ℕ) → bit_and (a * 2 ^ k) (b * 2 ^ k) ≡ bit_and a b * 2 ^ k
-shifted-and k a b =
-    let p : a * 2 ^ k + 0 ≡ a * 2 ^ k = omega arith in
-    let q : b * 2 ^ k + 0 ≡ b * 2 ^ k = omega arith in
-    let r : bit_and a b * 2 ^ k + 0 ≡ bit_and a b * 2 ^ k = omega arith in
-    sym (ap₂ bit_and p q) ∙ and_block k a b 0 0 (pow_pos k) (pow_pos k) ∙ r
-
-own-within : (wall block n : ℕ) → wall < 16 → block < 16 → n ≡ spread block → bit_and (own_in wall n) (wall_in wall) ≡ own_in wall n
-own-within wall block n h k e =
-    let own : own_in wall n ≡ spread block * 2 ^ wall = ap (own_in wall) e ∙ shl_exact 49 wall 64 (spread-small block) (omega arith) in
-    ap₂ bit_and own (wall-exact wall h)
-    ∙ shifted-and wall (spread block) 281479271743489
-    ∙ ap (λ (x : ℕ). x * 2 ^ wall) (spread-within block k)
-    ∙ sym own
-
--- If all bits of o are bits of e, the bits of a at the positions of m and those of o at all others are bits of m or e.
-picked-within : (m a o e : ℕ) → bit_and o e ≡ o → bit_and (picked m a o) (bit_or m e) ≡ picked m a o
-picked-within m a o e in_e = same-members _ _ at
-  where
-    go : (u p q r : Bool) → q && r ≡ q → cond u p q && (u || r) ≡ cond u p q
-    go true p q r h = and-true p
-    go false p q r h = h
-
-    at : (i : ℕ) → has (bit_and (picked m a o) (bit_or m e)) i ≡ has (picked m a o) i
-    at i =
-        has-and (picked m a o) (bit_or m e) i
-        ∙ ap₂ ◌&&◌ (has-picked m a o i) (has-or m e i)
-        ∙ go (has m i) (has a i) (has o i) (has e i) (sym (has-and o e i) ∙ ap (λ (x : ℕ). has x i) in_e)
-        ∙ sym (has-picked m a o i)
-
-module _ (b : Blocks) (gathered : Gathered b) (wall block n : ℕ) (h : wall < 16) (k : block < 16) (e : n ≡ spread block) where
-  -- The second word has bits of its walls only, so that the code needs no mask for it.
-  all-picked : bit_or b.blocks (bit_xor (own_in wall n) (bit_and (own_in wall n) b.walls)) ≡ picked b.walls b.blocks (own_in wall n)
-  all-picked = ap (λ (x : ℕ). bit_or x (bit_xor (own_in wall n) (bit_and (own_in wall n) b.walls))) (sym gathered.within)
-
-  -- What `with` returns.
-  abbrev more : Blocks
-  more = record { walls = bit_or b.walls (wall_in wall); blocks = bit_or b.blocks (bit_xor (own_in wall n) (bit_and (own_in wall n) b.walls)) }
-
-  -- The words that `with` returns are gathered, and read as one block more.
-  pub with-gathered : Gathered more
-  with-gathered =
-      let own = wall-planes wall h in
-      let low = or_mod b.walls (wall_in wall) 16 in
-      record {
-        second = or-part 16 b.walls (wall_in wall) ∙ ap₂ bit_or gathered.second (own.1.0 ∙ sym own.0) ∙ sym low;
-        third = or-part 32 b.walls (wall_in wall) ∙ ap₂ bit_or gathered.third (own.1.1.0 ∙ sym own.0) ∙ sym low;
-        fourth = or-part 48 b.walls (wall_in wall) ∙ ap₂ bit_or gathered.fourth (own.1.1.1 ∙ sym own.0) ∙ sym low;
-        within =
-            ap (λ (x : ℕ). bit_and x (bit_or b.walls (wall_in wall))) all-picked
-            ∙ picked-within b.walls b.blocks (own_in wall n) (wall_in wall) (own-within wall block n h k e)
-            ∙ sym all-picked;
-      }
-
-  pub with-words : blocks_of more ≡ over (blocks_of b) (only wall block)
-  with-words =
-      let own = wall-planes wall h in
-      ap (blocks_in (bit_or b.walls (wall_in wall))) all-picked
-      ∙ over-planes b.walls b.blocks ((1 * 2 ^ wall) % 2 ^ 64) (own_in wall n) b.walls (bit_or b.walls (wall_in wall)) refl gathered.second
-      gathered.third gathered.fourth (or_mod b.walls (wall_in wall) 16 ∙ ap (bit_or (b.walls % 65536)) (own.0 ∙ sym (wall-low wall h)))
-      ∙ ap (over (blocks_of b)) (spread-single wall block n h k e)
-
--- ---- Two block numbers differ exactly if one of their four bits does.
+-- ---- blocks that are others
 same-sums : (d n m : ℕ) → eqb (d + 2 * n) (d + 2 * m) ≡ eqb n m
 same-sums d n m = go (eqb n m) refl
   where
@@ -445,11 +329,15 @@ told-apart a₀ a₁ a₂ a₃ b₀ b₁ b₂ b₃ =
     ap (λ (x : Bool). differs a₀ b₀ || x)
     (digit-apart a₁ b₁ _ _ ∙ ap (λ (x : Bool). differs a₁ b₁ || x) (digit-apart a₂ b₂ _ _ ∙ ap (λ (x : Bool). differs a₂ b₂ || x) (last_apart a₃ b₃)))
 
+and-true : (x : Bool) → (x && true) ≡ x
+and-true true = refl
+and-true false = refl
+
 and-false : (x : Bool) → (x && false) ≡ false
 and-false true = refl
 and-false false = refl
 
--- The union of the four planes of differing bits.
+-- the planes in which two words differ, joined
 abbrev pub unlike : ℕ → ℕ → Set
 unlike a b =
     bit_or

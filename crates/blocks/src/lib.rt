@@ -1,20 +1,18 @@
-// Blocks of walls (02, Ask 11): for each of the sixteen walls at most one block, either that of an object or that to which a user is bound. They take two
-// words (docs/STATE.md). The first has a bit for each wall that has a block. The second has four planes of sixteen bits, and plane k has bit k of each wall's
-// block number, so that one operation acts on all walls at once.
+// Blocks of walls (document 02, Ask 11): the block of each wall that an object stands in, or that a user is bound to, as two words (docs/STATE.md).
+// The second word has four planes of sixteen bits, a bit for each wall, so that all walls are asked and joined at once.
 #![tactic(auto)]
 
 ghost use Rattle.std.specs.Prelude.{◌≡◌, ◌<◌};
 ghost use Rattle.paper_lower.specs.Lists.{some_number_below};
-ghost use Rattle.blocks.specs.Reading.{blocks_of, Gathered, nowhere, only, spread, over, apart};
+ghost use Rattle.blocks.specs.Reading.{blocks_of, nowhere, only, spread, over, apart};
 
-// At most one block per wall, in two words.
 #[derive(Clone, Copy)]
 pub struct Blocks {
     pub walls: u64,
     pub blocks: u64,
 }
 
-// The lowest plane of a word is its remainder by PLANE. Dividing by SECOND, THIRD or FOURTH moves that plane to the lowest bits.
+// A plane has a bit for each wall; the planes above the lowest stand so much higher.
 const PLANE: u64 = 65536;
 
 const SECOND: u64 = 65536;
@@ -23,12 +21,11 @@ const THIRD: u64 = 4294967296;
 
 const FOURTH: u64 = 281474976710656;
 
-// The lowest bit of each plane. A number of sixteen bits times this has the same bits in every plane.
+// A bit in each plane: sixteen bits times this are the same bits in every plane.
 const EVERY_PLANE: u64 = 281479271743489;
 
-// No block in any wall.
 pub fn none() -> Blocks
-    ensures { (Gathered result) × (blocks_of result ≡ nowhere) }
+    ensures { blocks_of result ≡ nowhere }
 {
     Blocks {
         walls: 0,
@@ -36,7 +33,7 @@ pub fn none() -> Blocks
     }
 }
 
-// The blocks of a, and in the walls in which a has no block those of b.
+// The blocks of a, and in the walls where a has none those of b.
 pub fn over(a: Blocks, b: Blocks) -> Blocks
     ensures { blocks_of result ≡ over (blocks_of a) (blocks_of b) }
 {
@@ -48,10 +45,10 @@ pub fn over(a: Blocks, b: Blocks) -> Blocks
     }
 }
 
-// A number times this is the sum of the number shifted by 0, 15, 30 and 45 bits.
+// A number times this stands beside itself, 15, 30 and 45 places higher.
 const FOURFOLD: u64 = 35185445863425;
 
-// Puts bit k of a block's number at the lowest bit of plane k: the copy shifted by 15 k bits has it at bit 15 k + k.
+// Bit k of a block's number at the lowest place of plane k: the number fourfold has it there.
 fn spread(block: u64) -> u64
     requires { block < 16 }
     ensures { result ≡ spread block }
@@ -59,20 +56,25 @@ fn spread(block: u64) -> u64
     (block * FOURFOLD) & EVERY_PLANE
 }
 
-// The blocks of b, and this block if b has none in its wall. The words of b have been gathered by this function only: the first has each wall's bit in
-// every plane, and the second no other bits, so that no mask is computed for each block (DECISIONS D260).
-pub fn with(b: Blocks, wall: u64, block: u64) -> Blocks
-    requires { (Gathered b) × ((wall < 16) × (block < 16)) }
-    ensures { (Gathered result) × (blocks_of result ≡ over (blocks_of b) (only wall block)) }
+fn single(wall: u64, block: u64) -> Blocks
+    requires { (wall < 16) × (block < 16) }
+    ensures { blocks_of result ≡ only wall block }
 {
-    let own = spread(block) << wall;
     Blocks {
-        walls: b.walls | (EVERY_PLANE << wall),
-        blocks: b.blocks | (own ^ (own & b.walls)),
+        walls: 1 << wall,
+        blocks: spread(block) << wall,
     }
 }
 
-// Whether some wall has a block in both, and not the same one.
+// One block more, unless its wall has one.
+pub fn with(b: Blocks, wall: u64, block: u64) -> Blocks
+    requires { (wall < 16) × (block < 16) }
+    ensures { blocks_of result ≡ over (blocks_of b) (only wall block) }
+{
+    over(b, single(wall, block))
+}
+
+// Whether some wall has a block in both, and not the same.
 pub fn between(a: Blocks, b: Blocks) -> bool
     ensures { result ≡ some_number_below 16 (apart (blocks_of a) (blocks_of b)) }
 {

@@ -1,12 +1,10 @@
--- The blocks of an object that the loops over the rows of walls find: each loop's start, one row, and its end.
-use Prim.Native.Nat.{ℕ, zero, suc, ◌+◌, ◌-◌, ◌*◌, ◌/◌, ◌%◌, ◌^◌, ◌<◌, ◌≤◌}
+-- A walk over an object's rows: its start, one row, its end.
+use Prim.Native.Nat.{ℕ, zero, suc, ◌+◌, ◌-◌, ◌*◌, ◌/◌, ◌%◌, ◌<◌, ◌≤◌}
 use mathlib.Core.Bool.{Bool, true, false, not, cond, ◌&&◌, ◌||◌}
 use mathlib.Core.List.{List}
 use mathlib.Core.Path.{◌≡◌, refl, sym, ap, ◌∙◌, fun_ext}
 use native.Mathlib.Omega.{arith}
 use borrow.Author.Tests.{eq-eqb, ne_eqb, eqb-true, eqb-false, leb-true, leb-false, lt-leb}
-use native.Mathlib.Nat.{pow-suc}
-use lib.Bits.{bit_and, bit_xor, differ, and_step, xor_step, and_self, xor_zero_r}
 use lib.Dec.{eqb, leb}
 use Rattle.paper_lower.specs.Sets.{Set, empty, has, minus}
 use Rattle.paper_lower.specs.Lists.{Maybe, or_else}
@@ -14,8 +12,7 @@ use Rattle.paper_lower.specs.Lists.Maybe.{none, just}
 use Rattle.paper_lower.specs.Tables.{Walled}
 use Rattle.paper_lower.specs.Policy.{block_of}
 use Rattle.replies.specs.Cells.{rows_from}
-use Rattle.sets.proofs.Bits.{bit}
-use Rattle.sets.proofs.SetLaws.{has-bit, hasnt-bit, minus-in, has-empty, has-gone, has_kept}
+use Rattle.sets.proofs.SetLaws.{has-empty, has-gone, has_kept}
 use Rattle.blocks.specs.Reading.{nowhere, only, over}
 use Rattle.policy.specs.Layout.{wall_rows, walled_is, wall_count, walled_at}
 use Rattle.policy.specs.Reading.{policy_of}
@@ -23,7 +20,7 @@ use Rattle.policy.proofs.RuleLaws.{walls-are}
 use Rattle.policy.proofs.WallLaws.{walled-for}
 use Rattle.policy_walls.specs.Found.{blocks_from, rows_block, found_from, about, blocks_left}
 
--- ---- The first of several optional blocks.
+-- ---- One block, or else another.
 or-none : (x : Maybe ℕ) → or_else x none ≡ x
 unfolding or_else
 or-none none = refl
@@ -44,14 +41,14 @@ none_over f = refl
 over-assoc : (f g h : ℕ → Maybe ℕ) → over f (over g h) ≡ over (over f g) h
 over-assoc f g h = fun_ext (λ w. or_assoc (f w) (g w) (h w))
 
--- ---- The rows that count. `block_of` is a search in which those about the object count.
+-- ---- Rows that count.
 module _ (f : ℕ → Walled) (w : ℕ) where
   of-object : (object k n : ℕ) → block_of (rows_from f k n) object w ≡ found_from (λ i. eqb (f i).object object) f k n w
   unfolding block_of rows_from found_from
   of-object object k zero = refl
   of-object object k (suc n) = ap (cond (eqb (f k).object object && eqb (f k).wall w) (just (f k).block)) (of-object object (suc k) n)
 
-  -- If the same rows count, the same block is found.
+  -- by the same rows
   found-same : (p q : ℕ → Bool) (k n : ℕ) → ((i : ℕ) → k ≤ i → i < k + n → p i ≡ q i) → found_from p f k n w ≡ found_from q f k n w
   unfolding found_from
   found-same p q k zero h = refl
@@ -59,7 +56,7 @@ module _ (f : ℕ → Walled) (w : ℕ) where
       λ x. cond (h k (omega arith) (omega arith) x && eqb (f k).wall w) (just (f k).block)
       (found-same p q (suc k) n (λ i a b. h i (omega arith) (omega arith)) x)
 
-  -- Rows that do not count may be left out at the front.
+  -- rows that do not count are passed over
   found-later : (q : ℕ → Bool) (j k n : ℕ) → ((i : ℕ) → k ≤ i → i < k + j → q i ≡ false) → found_from q f k n w ≡ found_from q f (k + j) (n - j) w
   unfolding found_from
   found-later q zero k n h = let e : k + 0 ≡ k = omega arith in let z : n - 0 ≡ n = omega arith in rw (e, z)
@@ -74,8 +71,7 @@ module _ (f : ℕ → Walled) (w : ℕ) where
   step true b x y e = refl
   step false b x y e = e
 
-  -- If by p no row before r counts, and q is p without row r, the search by p gives the
-  -- block of row r, if r counts and is of wall w, and otherwise what the search by q gives.
+  -- the first that counts, and the others
   found_first : (p q : ℕ → Bool) (r k n : ℕ) → k ≤ r → r < k + n → ((i : ℕ) → k ≤ i → i < r → p i ≡ false) → q r ≡ false → ((i : ℕ) → (i ≡ r → ⊥) → q i ≡ p i)
       → found_from p f k n w ≡ or_else (cond (p r && eqb (f r).wall w) (just (f r).block) none) (found_from q f k n w)
   unfolding found_from
@@ -95,35 +91,7 @@ module _ (f : ℕ → Walled) (w : ℕ) where
           let other = eqb-false k r e in
           rw (kept k other, before k (omega arith) (omega arith)) (later (omega arith))
 
--- ---- A set without its least member: the code clears the lowest bit of x by x & (x - 1).
-least-bit : (t x : ℕ) → bit t x ≡ 1 → ((i : ℕ) → i < t → bit i x ≡ 0) → bit_and x (x - 1) ≡ bit_xor x (2 ^ t)
-unfolding bit
-least-bit zero x here below =
-    let half : (x - 1) / 2 ≡ x / 2 = omega arith in
-    let a = and_step x (x - 1) in
-    let b : bit_and (x / 2) ((x - 1) / 2) ≡ x / 2 = ap (bit_and (x / 2)) half ∙ and_self (x / 2) in
-    let c : bit_xor x (2 ^ 0) ≡ bit_xor (x / 2) 0 * 2 + differ (x % 2) 1 = xor_step x 1 in
-    let d = xor_zero_r (x / 2) in
-    let e : differ (x % 2) 1 ≡ 0 = ap (λ (k : ℕ). differ k 1) here in
-    omega arith
-least-bit (suc t) x here below =
-    let even : x % 2 ≡ 0 = below 0 (omega arith) in
-    let half : (x - 1) / 2 ≡ x / 2 - 1 = omega arith in
-    let twice = pow-suc 2 t in
-    let power : 2 ^ suc t / 2 ≡ 2 ^ t = omega arith in
-    let zero_bit : 2 ^ suc t % 2 ≡ 0 = omega arith in
-    let a = and_step x (x - 1) in
-    let b : bit_and (x / 2) ((x - 1) / 2) ≡ bit_xor (x / 2) (2 ^ t) =
-    ap (bit_and (x / 2)) half ∙ least-bit t (x / 2) here (λ i h. below (suc i) (omega arith)) in
-    let c = xor_step x (2 ^ suc t) in
-    let d : bit_xor (x / 2) (2 ^ suc t / 2) ≡ bit_xor (x / 2) (2 ^ t) = ap (bit_xor (x / 2)) power in
-    let e : differ (x % 2) (2 ^ suc t % 2) ≡ 0 = λ i. differ (even i) (zero_bit i) in
-    omega arith
-
-pub minus-least : (m : Set) (t : ℕ) → has m t ≡ true → ((i : ℕ) → i < t → has m i ≡ false) → bit_and m (m - 1) ≡ minus m t
-minus-least m t here least = least-bit t m (has-bit m t here) (λ i h. hasnt-bit m i (least i h)) ∙ sym (minus-in m t here)
-
--- ---- The loop over the rows of one part. m has the rows of the part that are left.
+-- ---- The walk over the rows of one part.
 module _ (l : List ℕ) (object : ℕ) (small : object < 65536) where
   about-in : (part : ℕ) (m : Set) (i : ℕ) → i / 64 ≡ part → about l object part m i ≡ has m (i % 64) && walled_is l object i
   unfolding about
@@ -217,12 +185,12 @@ module _ (l : List ℕ) (object : ℕ) (small : object < 65536) where
             (λ i n. about-other part m t i n)
             ∙ ap (λ x. or_else x (blocks_left l object part (minus m t) w)) (row-found w inside)
 
-    -- One turn: the block of the lowest row of m, and then what the other rows of m give.
+    -- one row of the walk
     pub row-turn : (all : ℕ → Maybe ℕ) →
         over all (blocks_left l object part m) ≡ over (over all (rows_block l object (64 * part + t))) (blocks_left l object part (minus m t))
     row-turn all = ap (over all) row-taken ∙ over-assoc all (rows_block l object (64 * part + t)) (blocks_left l object part (minus m t))
 
--- ---- The loop over the parts.
+-- ---- The walk over the parts.
 module _ (l : List ℕ) (object : ℕ) where
   pub from_start : blocks_from l object 0 ≡ block_of (policy_of l).walls object
   unfolding blocks_from
@@ -236,7 +204,7 @@ module _ (l : List ℕ) (object : ℕ) where
       let none_left : wall_count l - 64 * part ≡ 0 = omega arith in
       (λ x. block_of (rows_from (walled_at l) (64 * part) (none_left x)) object) ∙ unfold rows_from block_of in refl
 
--- ---- One row, as `with_row` tests it: it adds nothing, or its block.
+-- ---- One row.
 module _ (l : List ℕ) (object k : ℕ) {count : ℕ} {is : Bool} (kept : count ≡ wall_count l) (test : is ≡ walled_is l object k) where
   pub row_out : (f : ℕ → Maybe ℕ) → leb count k || not is ≡ true → f ≡ over f (rows_block l object k)
   unfolding rows_block

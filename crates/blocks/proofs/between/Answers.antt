@@ -1,4 +1,4 @@
--- `between` meets its contract: a wall that has a block in both differs in some plane exactly if the two blocks differ.
+-- The planes differ in a wall of both exactly where the blocks do.
 use Rattle.blocks.proofs.BlockLaws.{between-words}
 use Rattle.blocks.proofs.between.Goals as goal
 

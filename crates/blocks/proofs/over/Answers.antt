@@ -1,4 +1,4 @@
--- `over` meets its contract: the mask takes the block numbers of a's walls from a and all others from b.
+-- The walls of the first in every plane pick its bits, and else those of the second.
 use Rattle.blocks.proofs.BlockLaws.{over-words}
 use Rattle.blocks.proofs.over.Goals as goal
 

@@ -1,4 +1,4 @@
--- `spread` meets its contract, which is computed for each of the 16 block numbers.
+-- The bits that the planes' places keep.
 use Rattle.blocks.proofs.BlockLaws.{spread-word}
 use Rattle.blocks.proofs.spread.Goals as goal
 

@@ -24,20 +24,20 @@ pub join-requires : goal.join-requires
 unfolding limits_open
 join-requires c =
     let pre = c.requires in
-    (search rules, below (limit_a lower_forms) pre.1.1.a c.in-32.keys1 1024 tt)
+    (search rules, below (limit_a lower_forms) pre.1.1.a c.in-32.is 1024 tt)
 
 pub delete-requires : goal.delete-requires
 unfolding limits_open
 delete-requires c =
     let pre = c.requires in
-    (pre.0, (pre.1.0, below (limit_a lower_forms) pre.1.1.a c.in-33.keys2 1024 tt))
+    (pre.0, (pre.1.0, below (limit_a lower_forms) pre.1.1.a c.in-33.is 1024 tt))
 
 pub assign-requires : goal.assign-requires
 unfolding limits_open
 assign-requires c =
     let pre = c.requires in (
       pre.0,
-      (below (limit_a lower_forms) pre.1.1.a c.in-34.keys3 1024 tt, below (limit_b lower_forms) pre.1.1.b c.in-34.keys3 64 tt),
+      (below (limit_a lower_forms) pre.1.1.a c.in-34.is 1024 tt, below (limit_b lower_forms) pre.1.1.b c.in-34.is 64 tt),
     )
 
 pub take_back-requires : goal.take_back-requires
@@ -45,14 +45,14 @@ unfolding limits_open
 take_back-requires c =
     let pre = c.requires in
     let match = c.in-35 in
-    (pre.0, (pre.1.0, (below (limit_a lower_forms) pre.1.1.a match.keys4 1024 tt, below (limit_b lower_forms) pre.1.1.b match.keys4 64 tt)))
+    (pre.0, (pre.1.0, (below (limit_a lower_forms) pre.1.1.a match.is 1024 tt, below (limit_b lower_forms) pre.1.1.b match.is 64 tt)))
 
 pub give-requires : goal.give-requires
 unfolding limits_open
 give-requires c =
     let pre = c.requires in (
       pre.0,
-      (below (limit_a lower_forms) pre.1.1.a c.in-36.keys5 64 tt, below (limit_b lower_forms) pre.1.1.b c.in-36.keys5 256 tt),
+      (below (limit_a lower_forms) pre.1.1.a c.in-36.is 64 tt, below (limit_b lower_forms) pre.1.1.b c.in-36.is 256 tt),
     )
 
 pub withdraw-requires : goal.withdraw-requires
@@ -60,7 +60,7 @@ unfolding limits_open
 withdraw-requires c =
     let pre = c.requires in (
       pre.0,
-      (below (limit_a lower_forms) pre.1.1.a c.in-37.keys6 64 tt, below (limit_b lower_forms) pre.1.1.b c.in-37.keys6 256 tt),
+      (below (limit_a lower_forms) pre.1.1.a c.in-37.is 64 tt, below (limit_b lower_forms) pre.1.1.b c.in-37.is 256 tt),
     )
 
 pub create-requires : goal.create-requires
@@ -68,27 +68,27 @@ unfolding limits_open
 create-requires c =
     let pre = c.requires in
     let match = c.in-40 in
-    (pre.0, (pre.1.0, (below (limit_a lower_forms) pre.1.1.a match.keys7 128 tt, below (limit_b lower_forms) pre.1.1.b match.keys7 1024 tt)))
+    (pre.0, (pre.1.0, (below (limit_a lower_forms) pre.1.1.a match.is 128 tt, below (limit_b lower_forms) pre.1.1.b match.is 1024 tt)))
 
 pub destroy-requires : goal.destroy-requires
 unfolding limits_open
 destroy-requires c =
     let pre = c.requires in
-    (pre.1.0, below (limit_a lower_forms) pre.1.1.a c.in-41.keys8 128 tt)
+    (pre.1.0, below (limit_a lower_forms) pre.1.1.a c.in-41.is 128 tt)
 
 pub activate-requires : goal.activate-requires
 unfolding limits_open
 activate-requires c =
     let pre = c.requires in
     let match = c.in-42 in
-    (pre.0, (pre.1.0, (below (limit_a lower_forms) pre.1.1.a match.keys9 128 tt, below (limit_b lower_forms) pre.1.1.b match.keys9 64 tt)))
+    (pre.0, (pre.1.0, (below (limit_a lower_forms) pre.1.1.a match.is 128 tt, below (limit_b lower_forms) pre.1.1.b match.is 64 tt)))
 
 pub deactivate-requires : goal.deactivate-requires
 unfolding limits_open
 deactivate-requires c =
     let pre = c.requires in
     let match = c.in-43 in
-    (pre.0, (pre.1.0, (below (limit_a lower_forms) pre.1.1.a match.keys10 128 tt, below (limit_b lower_forms) pre.1.1.b match.keys10 64 tt)))
+    (pre.0, (pre.1.0, (below (limit_a lower_forms) pre.1.1.a match.is 128 tt, below (limit_b lower_forms) pre.1.1.b match.is 64 tt)))
 
 pub ask-requires : goal.ask-requires
 unfolding limits_open
@@ -99,12 +99,12 @@ ask-requires c =
       (
         pre.1.0,
         (
-          ⊎_elim (λ k. below (limit_a lower_forms) pre.1.1.a k 128 tt) (λ k. below (limit_a lower_forms) pre.1.1.a k 128 tt) match.keys11,
+          ⊎_elim (λ k. below (limit_a lower_forms) pre.1.1.a k 128 tt) (λ k. below (limit_a lower_forms) pre.1.1.a k 128 tt) match.is,
           (
             ⊎_elim (λ k. below (limit_b lower_forms) pre.1.1.b k 65536 tt) (λ k. below (limit_b lower_forms) pre.1.1.b k 65536 tt)
-                match.keys11,
+                match.is,
             ⊎_elim (λ k. below (limit_c lower_forms) pre.1.1.c k 65536 tt) (λ k. below (limit_c lower_forms) pre.1.1.c k 65536 tt)
-                match.keys11,
+                match.is,
           ),
         ),
       ),
@@ -112,64 +112,64 @@ ask-requires c =
 
 pub returns-in-32 : goal.returns-in-32
 unfolding chosen lower_kinds role_kinds session_kinds
-returns-in-32 c = rw c.in-32.keys1 (of-policy c.join.ensures)
+returns-in-32 c = rw c.in-32.is (of-policy c.join.ensures)
 
 pub returns-in-33 : goal.returns-in-33
 unfolding chosen lower_kinds role_kinds session_kinds
 returns-in-33 c =
     let match = c.in-33 in
     let delete = c.delete in
-    rw match.keys2 delete.ensures
+    rw match.is delete.ensures
 
 pub returns-in-34 : goal.returns-in-34
 unfolding chosen lower_kinds role_kinds session_kinds
-returns-in-34 c = rw c.in-34.keys3 (of-policy c.assign.ensures)
+returns-in-34 c = rw c.in-34.is (of-policy c.assign.ensures)
 
 pub returns-in-35 : goal.returns-in-35
 unfolding chosen lower_kinds role_kinds session_kinds
 returns-in-35 c =
     let match = c.in-35 in
-    rw match.keys4 (of-policy c.take_back.ensures)
+    rw match.is (of-policy c.take_back.ensures)
 
 pub returns-in-36 : goal.returns-in-36
 unfolding chosen lower_kinds role_kinds session_kinds
-returns-in-36 c = rw c.in-36.keys5 (of-policy c.give.ensures)
+returns-in-36 c = rw c.in-36.is (of-policy c.give.ensures)
 
 pub returns-in-37 : goal.returns-in-37
 unfolding chosen lower_kinds role_kinds session_kinds
-returns-in-37 c = rw c.in-37.keys6 (of-policy c.withdraw.ensures)
+returns-in-37 c = rw c.in-37.is (of-policy c.withdraw.ensures)
 
 pub returns-in-40 : goal.returns-in-40
 unfolding chosen lower_kinds role_kinds session_kinds
 returns-in-40 c =
     let match = c.in-40 in
-    rw match.keys7 (of-sessions c.create.ensures)
+    rw match.is (of-sessions c.create.ensures)
 
 pub returns-in-41 : goal.returns-in-41
 unfolding chosen lower_kinds role_kinds session_kinds
 returns-in-41 c =
     let args = c.args in
     let match = c.in-41 in
-    rw match.keys8 (of-sessions (c.destroy.ensures (policy_of args.p.now)))
+    rw match.is (of-sessions (c.destroy.ensures (policy_of args.p.now)))
 
 pub returns-in-42 : goal.returns-in-42
 unfolding chosen lower_kinds role_kinds session_kinds
 returns-in-42 c =
     let match = c.in-42 in
-    rw match.keys9 (of-sessions c.activate.ensures)
+    rw match.is (of-sessions c.activate.ensures)
 
 pub returns-in-43 : goal.returns-in-43
 unfolding chosen lower_kinds role_kinds session_kinds
 returns-in-43 c =
     let match = c.in-43 in
-    rw match.keys10 (of-sessions c.deactivate.ensures)
+    rw match.is (of-sessions c.deactivate.ensures)
 
 pub returns-in-56 : goal.returns-in-56
 unfolding chosen lower_kinds role_kinds session_kinds
 returns-in-56 c =
     let match = c.in-56 in
     let ask = c.ask in
-    ⊎_elim (λ k. rw k (of-sessions (rw k at ask.ensures))) (λ k. rw k (of-sessions (rw k at ask.ensures))) match.keys11
+    ⊎_elim (λ k. rw k (of-sessions (rw k at ask.ensures))) (λ k. rw k (of-sessions (rw k at ask.ensures))) match.is
 
 pub returns-in_default : goal.returns-in_default
 unfolding limits_open

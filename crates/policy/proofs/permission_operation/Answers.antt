@@ -8,10 +8,10 @@ use Rattle.policy.proofs.BucketLaws.{declared-value}
 use Rattle.policy.proofs.permission_operation.Goals as goal
 
 pub returns-then-not-permission_declared : goal.returns-then-not-permission_declared
-returns-then-not-permission_declared c = (sym (value_none (λ x. x.operation) _ (sym c.permission_declared.ensures ∙ not-true _ c.if-not-permission_declared.true)), omega arith)
+returns-then-not-permission_declared c = (sym (value_none (λ x. x.operation) _ (sym c.permission_declared.ensures ∙ c.if-not-permission_declared.true)), omega arith)
 
 pub returns : goal.returns
 unfolding policy_of
 returns c =
     let pre = c.requires in
-    (declared-value _ _ pre.1 (λ x. x.operation) (sym c.permission_declared.ensures ∙ not-false _ c.if-not-permission_declared.false), omega arith)
+    (declared-value _ _ pre.1 (λ x. x.operation) (sym c.permission_declared.ensures ∙ c.if-not-permission_declared.false), omega arith)

@@ -12,5 +12,5 @@ returns c =
     let pre = c.requires in
     let bucket-of = c.bucket_of-bucket in
     let listing-with = c.listing_with-w in
-    rw bucket-of.ensures.0 (permission-set _ listing-with.new.0 (omega arith) _ _ _ _ pre.1.0 pre.1.1.0 pre.1.1.1
+    rw bucket-of.ensures.0 (permission-set _ listing-with.new.p (omega arith) _ _ _ _ pre.1.0 pre.1.1.0 pre.1.1.1
     (rw bucket-of.ensures.0 at listing-with.ensures))

@@ -12,49 +12,49 @@ pub user-requires : goal.user-requires
 unfolding limits_open
 user-requires c =
     let pre = c.requires in
-    (pre.0, below (limit_a policy_forms) pre.1.a c.in-1.keys1 1024 tt)
+    (pre.0, below (limit_a policy_forms) pre.1.a c.in-1.is 1024 tt)
 
 pub role-requires : goal.role-requires
 unfolding limits_open
 role-requires c =
     let pre = c.requires in
-    (pre.0, below (limit_a policy_forms) pre.1.a c.in-2.keys2 64 tt)
+    (pre.0, below (limit_a policy_forms) pre.1.a c.in-2.is 64 tt)
 
 pub permission-requires : goal.permission-requires
 unfolding limits_open
 permission-requires c =
     let pre = c.requires in
-    (pre.0, (below (limit_a policy_forms) pre.1.a c.in-3.keys3 256 tt, (pre.1.small.b, pre.1.small.c)))
+    (pre.0, (below (limit_a policy_forms) pre.1.a c.in-3.is 256 tt, (pre.1.small.b, pre.1.small.c)))
 
 pub assign-requires : goal.assign-requires
 unfolding limits_open
 assign-requires c =
     let pre = c.requires in
-    (pre.0, (below (limit_a policy_forms) pre.1.a c.in-4.keys4 1024 tt, below (limit_b policy_forms) pre.1.b c.in-4.keys4 64 tt))
+    (pre.0, (below (limit_a policy_forms) pre.1.a c.in-4.is 1024 tt, below (limit_b policy_forms) pre.1.b c.in-4.is 64 tt))
 
 pub give-requires : goal.give-requires
 unfolding limits_open
 give-requires c =
     let pre = c.requires in
-    (pre.0, (below (limit_a policy_forms) pre.1.a c.in-5.keys5 64 tt, below (limit_b policy_forms) pre.1.b c.in-5.keys5 256 tt))
+    (pre.0, (below (limit_a policy_forms) pre.1.a c.in-5.is 64 tt, below (limit_b policy_forms) pre.1.b c.in-5.is 256 tt))
 
 pub task-requires : goal.task-requires
 unfolding limits_open
 task-requires c =
     let pre = c.requires in
-    (pre.0, (below (limit_a policy_forms) pre.1.a c.in-6.keys6 64 tt, below (limit_b policy_forms) pre.1.b c.in-6.keys6 16 tt))
+    (pre.0, (below (limit_a policy_forms) pre.1.a c.in-6.is 64 tt, below (limit_b policy_forms) pre.1.b c.in-6.is 16 tt))
 
 open-to-requires : tie.Need-open-to-requires
 unfolding limits_open
 open-to-requires c κs =
     let pre = c.requires in
-    (pre.0, (below (limit_a policy_forms) pre.1.a c.in-1.keys7 64 tt, below (limit_b policy_forms) pre.1.b c.in-1.keys7 64 tt))
+    (pre.0, (below (limit_a policy_forms) pre.1.a c.in-1.is 64 tt, below (limit_b policy_forms) pre.1.b c.in-1.is 64 tt))
 
 pub carries-requires : goal.carries-requires
 unfolding limits_open
 carries-requires c =
     let pre = c.requires in
-    (pre.0, (below (limit_a policy_forms) pre.1.a c.in-8.keys8 64 tt, below (limit_b policy_forms) pre.1.b c.in-8.keys8 256 tt))
+    (pre.0, (below (limit_a policy_forms) pre.1.a c.in-8.is 64 tt, below (limit_b policy_forms) pre.1.b c.in-8.is 256 tt))
 
 pub static_set-requires : goal.static_set-requires
 static_set-requires c = c.requires.0
@@ -69,37 +69,37 @@ pub block-requires : goal.block-requires
 unfolding limits_open
 block-requires c =
     let pre = c.requires in
-    (pre.0, below (limit_a policy_forms) pre.1.a c.in-12.keys12 16 tt)
+    (pre.0, below (limit_a policy_forms) pre.1.a c.in-12.is 16 tt)
 
 pub ban-requires : goal.ban-requires
 unfolding limits_open
 ban-requires c =
     let pre = c.requires in
-    (pre.0, below (limit_a policy_forms) pre.1.a c.in-13.keys13 16 tt)
+    (pre.0, below (limit_a policy_forms) pre.1.a c.in-13.is 16 tt)
 
 pub most-requires : goal.most-requires
 unfolding limits_open
 most-requires c =
     let pre = c.requires in
-    (pre.0, (below (limit_a policy_forms) pre.1.a c.in-14.keys14 64 tt, pre.1.small.n))
+    (pre.0, (below (limit_a policy_forms) pre.1.a c.in-14.is 64 tt, pre.1.small.n))
 
 pub bind-requires : goal.bind-requires
 unfolding limits_open
 bind-requires c =
     let pre = c.requires in
-    (pre.0, (below (limit_a policy_forms) pre.1.a c.in-15.keys15 64 tt, below (limit_b policy_forms) pre.1.b c.in-15.keys15 64 tt))
+    (pre.0, (below (limit_a policy_forms) pre.1.a c.in-15.is 64 tt, below (limit_b policy_forms) pre.1.b c.in-15.is 64 tt))
 
 pub before-requires : goal.before-requires
 unfolding limits_open
 before-requires c =
     let pre = c.requires in
-    (pre.0, (below (limit_a policy_forms) pre.1.a c.in-16.keys16 64 tt, below (limit_b policy_forms) pre.1.b c.in-16.keys16 64 tt))
+    (pre.0, (below (limit_a policy_forms) pre.1.a c.in-16.is 64 tt, below (limit_b policy_forms) pre.1.b c.in-16.is 64 tt))
 
 pub raise-requires : goal.raise-requires
 unfolding limits_open
 raise-requires c =
     let pre = c.requires in
-    (pre.0, (below (limit_a policy_forms) pre.1.a c.in-17.keys17 64 tt, below (limit_b policy_forms) pre.1.b c.in-17.keys17 64 tt))
+    (pre.0, (below (limit_a policy_forms) pre.1.a c.in-17.is 64 tt, below (limit_b policy_forms) pre.1.b c.in-17.is 64 tt))
 
 pub wall-requires : goal.wall-requires
 unfolding limits_open
@@ -107,94 +107,94 @@ wall-requires c =
     let pre = c.requires in (
       pre.0,
       (
-        below (limit_a policy_forms) pre.1.a c.in-18.keys18 16 tt,
-        (below (limit_b policy_forms) pre.1.b c.in-18.keys18 16 tt, pre.1.small.c),
+        below (limit_a policy_forms) pre.1.a c.in-18.is 16 tt,
+        (below (limit_b policy_forms) pre.1.b c.in-18.is 16 tt, pre.1.small.c),
       ),
     )
 
 pub returns-in-1 : goal.returns-in-1
 unfolding chosen policy_kinds
-returns-in-1 c = rw c.in-1.keys1 c.user.ensures
+returns-in-1 c = rw c.in-1.is c.user.ensures
 
 pub returns-in-2 : goal.returns-in-2
 unfolding chosen policy_kinds
-returns-in-2 c = rw c.in-2.keys2 c.role.ensures
+returns-in-2 c = rw c.in-2.is c.role.ensures
 
 pub returns-in-3 : goal.returns-in-3
 unfolding chosen policy_kinds
-returns-in-3 c = rw c.in-3.keys3 c.permission.ensures
+returns-in-3 c = rw c.in-3.is c.permission.ensures
 
 pub returns-in-4 : goal.returns-in-4
 unfolding chosen policy_kinds
-returns-in-4 c = rw c.in-4.keys4 c.assign.ensures
+returns-in-4 c = rw c.in-4.is c.assign.ensures
 
 pub returns-in-5 : goal.returns-in-5
 unfolding chosen policy_kinds
-returns-in-5 c = rw c.in-5.keys5 c.give.ensures
+returns-in-5 c = rw c.in-5.is c.give.ensures
 
 pub returns-in-6 : goal.returns-in-6
 unfolding chosen policy_kinds
-returns-in-6 c = rw c.in-6.keys6 c.task.ensures
+returns-in-6 c = rw c.in-6.is c.task.ensures
 
 pub returns-in-7 : goal.returns-in-7
 unfolding chosen policy_kinds
-returns-in-7 c = rw c.in-7.keys7 c.open_to.ensures
+returns-in-7 c = rw c.in-7.is c.open_to.ensures
 
 pub returns-in-8 : goal.returns-in-8
 unfolding chosen policy_kinds
-returns-in-8 c = rw c.in-8.keys8 c.carries.ensures
+returns-in-8 c = rw c.in-8.is c.carries.ensures
 
 pub returns-in-9 : goal.returns-in-9
 unfolding chosen policy_kinds
 returns-in-9 c =
     let set-of = c.set_of-m in
     let match = c.in-9 in
-    rw (match.keys9, ← set-of.ensures) c.static_set.ensures
+    rw (match.is, ← set-of.ensures) c.static_set.ensures
 
 pub returns-in-10 : goal.returns-in-10
 unfolding chosen policy_kinds
 returns-in-10 c =
     let set-of = c.set_of-m in
     let match = c.in-10 in
-    rw (match.keys10, ← set-of.ensures) c.dynamic_set.ensures
+    rw (match.is, ← set-of.ensures) c.dynamic_set.ensures
 
 pub returns-in-11 : goal.returns-in-11
 unfolding chosen policy_kinds
 returns-in-11 c =
     let set-of = c.set_of-m in
     let match = c.in-11 in
-    rw (match.keys11, ← set-of.ensures) c.task_set.ensures
+    rw (match.is, ← set-of.ensures) c.task_set.ensures
 
 pub returns-in-12 : goal.returns-in-12
 unfolding chosen policy_kinds
 returns-in-12 c =
     let set-of = c.set_of-m in
     let match = c.in-12 in
-    rw (match.keys12, ← set-of.ensures) c.block.ensures
+    rw (match.is, ← set-of.ensures) c.block.ensures
 
 pub returns-in-13 : goal.returns-in-13
 unfolding chosen policy_kinds
-returns-in-13 c = rw c.in-13.keys13 c.ban.ensures
+returns-in-13 c = rw c.in-13.is c.ban.ensures
 
 pub returns-in-14 : goal.returns-in-14
 unfolding chosen policy_kinds
-returns-in-14 c = rw c.in-14.keys14 c.most.ensures
+returns-in-14 c = rw c.in-14.is c.most.ensures
 
 pub returns-in-15 : goal.returns-in-15
 unfolding chosen policy_kinds
-returns-in-15 c = rw c.in-15.keys15 c.bind.ensures
+returns-in-15 c = rw c.in-15.is c.bind.ensures
 
 pub returns-in-16 : goal.returns-in-16
 unfolding chosen policy_kinds
-returns-in-16 c = rw c.in-16.keys16 c.before-in-16.ensures
+returns-in-16 c = rw c.in-16.is c.before-in-16.ensures
 
 pub returns-in-17 : goal.returns-in-17
 unfolding chosen policy_kinds
-returns-in-17 c = rw c.in-17.keys17 c.raise.ensures
+returns-in-17 c = rw c.in-17.is c.raise.ensures
 
 pub returns-in-18 : goal.returns-in-18
 unfolding chosen policy_kinds
-returns-in-18 c = rw c.in-18.keys18 c.wall.ensures
+returns-in-18 c = rw c.in-18.is c.wall.ensures
 
 pub returns-in_default : goal.returns-in_default
 unfolding chosen policy_kinds

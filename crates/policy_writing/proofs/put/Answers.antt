@@ -8,17 +8,17 @@ use Rattle.policy_writing.proofs.put.Goals as goal
 pub returns-then-not-there : goal.returns-then-not-there
 returns-then-not-there c =
     let args = c.args in
-    absent (row args.kind args.n args.a args.b args.c args.m) args.output.now args.place args.there (not-true _ c.if-not-there.true)
+    absent (row args.kind args.n args.a args.b args.c args.m) args.output.now args.place args.there c.if-not-there.true
 
 pub returns-then-output-next : goal.returns-then-output-next
 returns-then-output-next c =
     let args = c.args in
     no_room (row args.kind args.n args.a args.b args.c args.m) args.output.now args.place args.there
-    (not-false _ c.if-not-there.false) (omega arith)
+    c.if-not-there.false (omega arith)
 
 pub returns : goal.returns
 returns c =
     let args = c.args in
     let if1 = c.if-not-there in
-    present (row args.kind args.n args.a args.b args.c args.m) args.output.now args.place args.there _ (not-false _ if1.false)
+    present (row args.kind args.n args.a args.b args.c args.m) args.output.now args.place args.there _ (if1.false)
     (omega arith) c.put.ensures
