@@ -1,5 +1,7 @@
 // The block of each wall that an object stands in (document 02, Ask 11), found by the object's bucket of rows alone.
 // It rests on the rows of walls in the policy buffer and on blocks of walls.
+#![tactic(auto)]
+
 ghost use Rattle.std.specs.Prelude.{◌≡◌, ◌+◌, ◌<◌, length};
 ghost use Rattle.paper_lower.specs.Policy.{block_of};
 ghost use Rattle.blocks.specs.Reading.{blocks_of, over};

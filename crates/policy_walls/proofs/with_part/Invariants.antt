@@ -1,0 +1,11 @@
+-- Over the rows of the part, in rising order; what was found stands before what is left to find.
+use mathlib.Core.Path.{◌≡◌}
+use Rattle.blocks.specs.Reading.{blocks_of, over}
+use Rattle.policy_walls.specs.Found.{blocks_from, blocks_left}
+use Rattle.policy_walls.proofs.with_part.Given as goal
+
+abbrev pub invariant-loop-left : goal.invariant-loop-left
+invariant-loop-left l = over (blocks_of l.all) (blocks_left l.p l.object l.part l.left.bits) ≡ over (blocks_of l.initial.all) (blocks_from l.p l.object l.part)
+
+abbrev pub decreases-loop-left : goal.decreases-loop-left
+decreases-loop-left l = l.left.bits
