@@ -10,7 +10,7 @@ use Rattle.paper_lower.specs.Lists.{Maybe, many, each, Every}
 use Rattle.paper_lower.specs.Lists.Maybe.{just}
 use Rattle.paper_lower.specs.Checks.{GRANTED}
 use Rattle.paper_lower.specs.Records.{Bytes, Record, encode}
-use Rattle.paper_opl.specs.Reading.{Text, text, same, expect, word, misc}
+use Rattle.paper_opl.specs.Reading.{Text, same, expect, word, misc}
 use Rattle.paper_opl.specs.Reading.Read.{got}
 use Rattle.paper_opl.specs.Elements.{elements_of}
 use Rattle.paper_opl.specs.Tree.{Elements, opening, element, behind_mark, prolog, DEPTH, document_in}

@@ -9,11 +9,11 @@ use borrow.Author.Tests.{leb-true}
 use Rattle.paper_lower.specs.Lists.{every, keep, Every, lists_open}
 use Rattle.paper_lower.specs.Lists.Maybe.{just}
 use Rattle.paper_lower.proofs.ListLaws.{both, every_append}
-use Rattle.paper_opl.specs.Reading.{Text, text, same, name, value, reading_open}
+use Rattle.paper_opl.specs.Reading.{Text, text, same, reading_open}
 use Rattle.paper_opl.specs.Reading.Read.{got}
 use Rattle.paper_opl.specs.Elements.{next, Class, Attribute, Child, elements_of, row_in, elements_open}
 use Rattle.paper_opl.specs.Elements.Class.{names, number, any, spare}
-use Rattle.paper_opl.specs.Tree.{Given, Elements, digit, decimal, fits, find, without, attributes, document_in}
+use Rattle.paper_opl.specs.Tree.{Given, Elements, digit, decimal, fits, find, without, document_in}
 use Rattle.paper_opl.specs.Tree.Elements.{nothing, node}
 use Rattle.paper_opl.specs.Layout.{attributes_fit, elements_fit}
 use Rattle.paper_opl.specs.Naming.{Found, those, insides, in_all, in_each, in_walls, value_of}

@@ -12,7 +12,7 @@ use Rattle.paper_opl.specs.Reading.{Text, text, same, starts, expect, name}
 use Rattle.paper_opl.specs.Reading.Read.{got}
 use Rattle.paper_opl.specs.Elements.{Times, Child, Element, elements_of, row_in, one, needed, follow, next}
 use Rattle.paper_opl.specs.Elements.Times.{once, perhaps, often, least}
-use Rattle.paper_opl.specs.Tree.{Elements, attributes, Opened, opening}
+use Rattle.paper_opl.specs.Tree.{Elements, Opened, opening}
 use Rattle.paper_opl.specs.Tree.Elements.{nothing, node}
 use Rattle.paper_opl.proofs.Inversion.{on, on_test, on-found, bad≢got, got-value, none≢just, just-value}
 

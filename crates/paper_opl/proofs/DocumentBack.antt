@@ -10,7 +10,7 @@ use borrow.Author.Tests.{eqb-true, eq-eqb, ltb-true, not-true}
 use Rattle.paper_lower.specs.Lists.{Maybe, some, every, lists_open}
 use Rattle.paper_lower.specs.Lists.Maybe.{none, just}
 use Rattle.paper_lower.proofs.ListLaws.{both, and-false}
-use Rattle.paper_opl.specs.Reading.{Text, after, text, same, starts, expect, white, skip, in_name, value, misc, reading_open}
+use Rattle.paper_opl.specs.Reading.{Text, after, text, same, starts, expect, white, skip, in_name, misc, reading_open}
 use Rattle.paper_opl.specs.Reading.Read.{got}
 use Rattle.paper_opl.specs.Elements.{Child, elements_of, next, may_end, row_in}
 use Rattle.paper_opl.specs.Tree.{Elements, Inside, element, DEPTH, pseudo, optional, is_version, is_encoding, is_standalone, declaration, doctype, byte_order_mark, declared, prolog, document_in}

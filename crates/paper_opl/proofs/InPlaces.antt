@@ -9,7 +9,7 @@ use lib.ListN.{length, take, drop, length-append, length-drop, take-append-drop}
 use lib.Seq.{take_at, drop_at, drop-append-le, drop-drop, length-take-le}
 use borrow.Author.Tests.{eqb-true, eqb-false, eq-eqb, ne_eqb}
 use Rattle.paper_lower.specs.Lists.{upd, many, Every}
-use Rattle.paper_lower.specs.Records.{Bytes, Record, bytes, encode, put_at}
+use Rattle.paper_lower.specs.Records.{Bytes, Record, encode, put_at}
 use Rattle.paper_lower.proofs.ListLaws.{upd_same, upd_other, many-append}
 use Rattle.paper_lower.proofs.ReadBack.{sixteen}
 use Rattle.paper_opl.specs.Naming.{written}
@@ -180,7 +180,8 @@ module _ (next : ℕ → ℕ) (k : ℕ) (r : Record) (ys : List Kinded) (d l : �
       on_test (eqb i k)
       (λ q.
       let g = eqb-true i k q in
-      rw (upd_same d k i (d k ++ encode r) g, g, eq-eqb k k refl) (append_assoc (d k) (encode r) (written (picked k ys))))
+      subst (λ (j : ℕ). done j ++ written (picked j ys) ≡ d j ++ written (picked j ((k, r) ∷ ys))) (sym g)
+      (rw (upd_same d k k (d k ++ encode r) refl, eq-eqb k k refl) (append_assoc (d k) (encode r) (written (picked k ys)))))
       (λ q.
       let g = eqb-false i k q in
       rw (upd_other d k i (d k ++ encode r) g, ne_eqb k i (λ h. g (sym h))))

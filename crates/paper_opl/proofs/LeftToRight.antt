@@ -23,7 +23,7 @@ use Rattle.paper_opl.proofs.Wider.{document-fits}
 use Rattle.paper_opl.proofs.Groups.{inner_name, told, told_is}
 use Rattle.paper_opl.proofs.KindByKind.{keep_append, each_append, of_kind, simple_test, simple, static, dynamic, in_separation_names, role-sets, partitions}
 use Rattle.paper_opl.proofs.Walls.{in-all-walls, few-are}
-use Rattle.paper_opl.proofs.Tags.{walk, tags-are}
+use Rattle.paper_opl.proofs.Tags.{tags-are}
 
 -- ---- Names.
 

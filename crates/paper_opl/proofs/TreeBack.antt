@@ -10,7 +10,7 @@ use borrow.Author.Tests.{eqb-true, eq-eqb, not-true}
 use Rattle.paper_lower.specs.Lists.{some, every, each, lists_open}
 use Rattle.paper_lower.specs.Lists.Maybe.{just}
 use Rattle.paper_lower.proofs.ListLaws.{both}
-use Rattle.paper_opl.specs.Reading.{Text, text, same, behind, starts, expect, white, in_name, name, value, reading_open}
+use Rattle.paper_opl.specs.Reading.{Text, text, same, starts, expect, white, in_name, name, reading_open}
 use Rattle.paper_opl.specs.Reading.Read.{got}
 use Rattle.paper_opl.specs.Elements.{Attribute, Child, elements_of, row_in, next, may_end, elements_open}
 use Rattle.paper_opl.specs.Tree.{Elements, fits, required, find, without, attribute, attributes, opening, ending, Inside, content, element}

@@ -8,7 +8,7 @@ use Rattle.paper_lower.specs.Lists.{some, every, each}
 use Rattle.paper_lower.proofs.ListLaws.{both}
 use Rattle.paper_opl.specs.Reading.{Text, Read, text, same, run, starts, expect, white, skip, space, name, in_name, value, equals, misc}
 use Rattle.paper_opl.specs.Reading.Read.{got}
-use Rattle.paper_opl.specs.Elements.{Attribute, Child, Element, elements, row_in, may_end}
+use Rattle.paper_opl.specs.Elements.{Attribute, Child, Element, row_in, may_end}
 use Rattle.paper_opl.specs.Tree.{Given, Elements, fits, required, find, without, attribute, attributes, opening, ending, Inside, content, element}
 use Rattle.paper_opl.specs.Tree.Elements.{nothing, node}
 use Rattle.paper_opl.specs.Layout.{blank, Gap, gap, gap_fits, Value, value_text, value_fits, Attributed, attributes_text, attributes_laid, given_by, Layout, layout_text, layout_fits, tree_of}
