@@ -2,7 +2,6 @@ use Prim.Native.Nat.{◌+◌}
 use Rattle.opl_text.proofs.Laws.{comment-end, comment-hit, comment-bad, comment-more, closing_end, closing-yes, closing-not}
 use native.Mathlib.Omega.{arith}
 use mathlib.Core.Path.{refl, sym, ◌∙◌}
-use Prim.Native.Nat.{◌-◌}
 use lib.ListN.{drop}
 use Rattle.opl_text.proofs.comment_end.Goals as goal
 

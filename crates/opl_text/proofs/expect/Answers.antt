@@ -1,8 +1,8 @@
-use mathlib.Core.Path.{sym, ◌∙◌}
+use mathlib.Core.Bool.{not}
+use mathlib.Core.Path.{sym, ◌∙◌, ap}
 use native.Mathlib.Omega.{arith}
 use native.Mathlib.Nat.{add-zero}
 use Rattle.opl_text.proofs.Literals.{literal-end, literal-cut, literal-room, literal-more}
-use Prim.Native.Nat.{◌-◌}
 use borrow.Author.Rules.{rules}
 use Rattle.opl_text.proofs.expect.Goals as goal
 
@@ -17,7 +17,7 @@ returns-then-not-is_at c =
     record {
       read_is =
           literal-cut args.s.now args.w.now args.at loop.i loop-test.true c.is_at.result c.is_at.ensures
-          c.if-not-is_at.true ∙ sym loop.invariant.2;
+          (ap not c.if-not-is_at.true) ∙ sym loop.invariant.2;
       inside = loop.invariant.1;
     }
 
@@ -28,10 +28,10 @@ loop-i-preserved c =
     let loop-test = c.loop-i-test in (
       omega arith,
       literal-room args.s.now args.w.now args.at loop.i loop-test.true c.is_at.result c.is_at.ensures
-          c.if-not-is_at.false,
+          (ap not c.if-not-is_at.false),
       loop.invariant.2 ∙
           literal-more args.s.now args.w.now args.at loop.i loop-test.true c.is_at.result c.is_at.ensures
-          c.if-not-is_at.false,
+          (ap not c.if-not-is_at.false),
     )
 
 pub returns : goal.returns

@@ -1,7 +1,5 @@
-use Prim.Native.Nat.{◌-◌}
 use mathlib.Core.Path.{refl, sym, ◌∙◌}
 use native.Mathlib.Omega.{arith}
-use borrow.Author.Tests.{not-false}
 use Rattle.opl_text.proofs.Same.{other_length}
 use Rattle.opl_text.proofs.same_by_eights.Goals as goal
 
@@ -33,7 +31,7 @@ pub loop-i-preserved : goal.loop-i-preserved
 loop-i-preserved c =
     let loop = c.loop-i in (
       omega (arith, loop.invariant.0, c.loop-i-test.true),
-      loop.invariant.1 ∙ c.same_run.ensures (not-false c.same_run.result c.if-not-same_run.false),
+      loop.invariant.1 ∙ c.same_run.ensures c.if-not-same_run.false,
     )
 
 pub same_rest-requires-2 : goal.same_rest-requires-2

@@ -1,7 +1,6 @@
 use Rattle.opl_text.proofs.Same.{other_length, same_more, same_not, same_end}
 use native.Mathlib.Omega.{arith}
 use mathlib.Core.Path.{refl, sym, ◌∙◌}
-use Prim.Native.Nat.{◌-◌}
 use Rattle.opl_text.proofs.same_bytes.Goals as goal
 
 pub returns-then-v-w : goal.returns-then-v-w

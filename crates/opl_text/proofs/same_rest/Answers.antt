@@ -1,7 +1,6 @@
 use Rattle.opl_text.proofs.Same.{same_more, same_not, same_end}
 use native.Mathlib.Omega.{arith}
 use mathlib.Core.Path.{refl, sym, ◌∙◌}
-use Prim.Native.Nat.{◌-◌}
 use Rattle.opl_text.proofs.same_rest.Goals as goal
 
 pub loop-i-init : goal.loop-i-init

@@ -2,7 +2,6 @@ use Rattle.opl_text.proofs.Turns.{opening-room}
 use Prim.Native.Nat.{◌<◌}
 use Rattle.opl_text.proofs.Turns.{misc-first, misc-done, misc-refused, misc-again, misc-past, within}
 use native.Mathlib.Omega.{arith}
-use Prim.Native.Nat.{◌-◌}
 use Rattle.opl_text.proofs.skip_misc.Goals as goal
 
 pub loop-r-init : goal.loop-r-init
@@ -23,7 +22,7 @@ returns-in_default c =
     let if1 = c.loop-r-test in
     let comment-end = c.comment_end-r in
     misc-refused args.s.now args.at loop.i loop.invariant.1 loop.invariant.0 opens-comment.result opens-comment.ensures if1.true
-    comment-end.result comment-end.ensures _ c.enum_told-1.given.1
+    comment-end.result comment-end.ensures _ c.in_default.is
 
 pub skip_space-i-requires-in-loop-r : goal.skip_space-i-requires-in-loop-r
 skip_space-i-requires-in-loop-r c =
@@ -33,7 +32,7 @@ skip_space-i-requires-in-loop-r c =
     let if1 = c.loop-r-test in
     let comment-end = c.comment_end-r in
     within args.s.now args.at loop.i loop.invariant.1 loop.invariant.0 opens-comment.result opens-comment.ensures if1.true
-    comment-end.result comment-end.ensures c.r-1.given.0.0 c.r-1.given.1
+    comment-end.result comment-end.ensures c.in-Next.e c.in-Next.is
 
 pub loop-r-smaller : goal.loop-r-smaller
 loop-r-smaller c =
@@ -42,10 +41,9 @@ loop-r-smaller c =
     let opens-comment = c.opens_comment in
     let if1 = c.loop-r-test in
     let comment-end = c.comment_end-r in
-    let r = c.r-1 in
     let p : loop.i < c.skip_space-i-in-loop-r.result =
     misc-past args.s.now args.at loop.i loop.invariant.1 loop.invariant.0 opens-comment.result opens-comment.ensures if1.true
-    comment-end.result comment-end.ensures r.given.0.0 r.given.1 c.skip_space-i-in-loop-r.result c.skip_space-i-in-loop-r.ensures.rest
+    comment-end.result comment-end.ensures c.in-Next.e c.in-Next.is c.skip_space-i-in-loop-r.result c.skip_space-i-in-loop-r.ensures.rest
     c.skip_space-i-in-loop-r.ensures.inside in
     let q = c.skip_space-i-in-loop-r.ensures.inside in
     omega arith
@@ -56,11 +54,10 @@ loop-r-preserved c =
     let loop = c.loop-r in
     let opens-comment = c.opens_comment in
     let if1 = c.loop-r-test in
-    let comment-end = c.comment_end-r in
-    let r = c.r-1 in (
+    let comment-end = c.comment_end-r in (
       c.skip_space-i-in-loop-r.ensures.inside,
       misc-again args.s.now args.at loop.i loop.invariant.1 loop.invariant.0 opens-comment.result opens-comment.ensures if1.true
-          comment-end.result comment-end.ensures r.given.0.0 r.given.1 c.skip_space-i-in-loop-r.result c.skip_space-i-in-loop-r.ensures.rest
+          comment-end.result comment-end.ensures c.in-Next.e c.in-Next.is c.skip_space-i-in-loop-r.result c.skip_space-i-in-loop-r.ensures.rest
           c.skip_space-i-in-loop-r.ensures.inside,
     )
 

@@ -6,10 +6,10 @@ pub returns-in-Next : goal.returns-in-Next
 returns-in-Next c =
     let args = c.args in
     let expect = c.expect-r in
-    starts-yes args.s.now args.w.now args.at expect.result expect.ensures _ c.enum_told-1.given.1
+    starts-yes args.s.now args.w.now args.at expect.result expect.ensures _ c.in-Next.is
 
 pub returns-in-Bad : goal.returns-in-Bad
 returns-in-Bad c =
     let args = c.args in
     let expect = c.expect-r in
-    starts-not args.s.now args.w.now args.at expect.result expect.ensures _ c.enum_told-in-Bad-1.given.1
+    starts-not args.s.now args.w.now args.at expect.result expect.ensures _ c.in-Bad.is

@@ -1,7 +1,5 @@
-use Prim.Native.Nat.{◌-◌}
 use mathlib.Core.Path.{refl, sym, ◌∙◌}
 use native.Mathlib.Omega.{arith}
-use borrow.Author.Tests.{not-false}
 use Rattle.opl_text.proofs.value_end.Goals as goal
 
 pub loop-i-init : goal.loop-i-init
@@ -26,7 +24,7 @@ pub loop-i-preserved : goal.loop-i-preserved
 loop-i-preserved c =
     let loop = c.loop-i in (
       omega (arith, loop.invariant.0, c.loop-i-test.true),
-      loop.invariant.1 ∙ c.value_run.ensures (not-false c.value_run.result c.if-not-value_run.false),
+      loop.invariant.1 ∙ c.value_run.ensures c.if-not-value_run.false,
     )
 
 pub value_rest-requires-2 : goal.value_rest-requires-2

@@ -1,8 +1,8 @@
+use mathlib.Core.Bool.{not}
 use Rattle.opl_text.proofs.Laws.{behind-end, behind-stop, behind_more}
 use Rattle.paper_opl.specs.Reading.{in_value}
 use native.Mathlib.Omega.{arith}
-use mathlib.Core.Path.{refl, sym, ◌∙◌}
-use Prim.Native.Nat.{◌-◌}
+use mathlib.Core.Path.{refl, sym, ◌∙◌, ap}
 use Rattle.opl_text.proofs.value_rest.Goals as goal
 
 pub loop-i-init : goal.loop-i-init
@@ -16,7 +16,7 @@ returns-then-not-in_value c =
     record {
       rest =
           behind-stop (in_value args.q) args.s.now loop.i loop-test.true c.in_value.result c.in_value.ensures
-          c.if-not-in_value.true ∙ sym loop.invariant.1;
+          (ap not c.if-not-in_value.true) ∙ sym loop.invariant.1;
       inside = loop.invariant.0;
     }
 
@@ -28,7 +28,7 @@ loop-i-preserved c =
       omega arith,
       loop.invariant.1 ∙
           behind_more (in_value args.q) args.s.now loop.i loop-test.true c.in_value.result c.in_value.ensures
-          c.if-not-in_value.false,
+          (ap not c.if-not-in_value.false),
     )
 
 pub returns : goal.returns
