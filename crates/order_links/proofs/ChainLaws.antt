@@ -6,7 +6,6 @@ use mathlib.Core.Path.{◌≡◌, refl, sym, ap, ◌∙◌}
 use native.Mathlib.Omega.{arith}
 use borrow.Author.Tests.{eq-eqb, ne_eqb, eqb-true, eqb-false, ltb-true, ltb-false, le-ltb, not-true, not-false}
 use lib.Dec.{eqb, ltb}
-use lib.ListN.{length}
 use Rattle.paper_lower.specs.Sets.{plus}
 use Rattle.paper_lower.proofs.ListLaws.{or-none, both}
 use Rattle.paper_upper.specs.Orders.{Entry, is_done, are_in_order, tasks_where, tasks_done}

@@ -1,6 +1,6 @@
 -- Marking entries as done in their places: the word of an entry, the done tasks of the instance, and the loop of `turn`.
 use Prim.Native.Nat.{ℕ, zero, suc, ◌+◌, ◌-◌, ◌*◌, ◌/◌, ◌%◌, ◌≤◌, ◌<◌}
-use mathlib.Core.Bool.{Bool, true, false, not, cond, ◌&&◌, ◌||◌}
+use mathlib.Core.Bool.{Bool, true, false, cond, ◌&&◌, ◌||◌}
 use mathlib.Core.List.{List, [], ◌∷◌}
 use mathlib.Core.Path.{◌≡◌, refl, sym, ap, ap₂, ◌∙◌}
 use native.Mathlib.Omega.{arith}
@@ -12,7 +12,6 @@ use Rattle.paper_lower.specs.Sets.{Set, has, plus}
 use Rattle.paper_lower.specs.Lists.{some, each}
 use Rattle.paper_lower.proofs.ListLaws.{both, or-none}
 use Rattle.paper_upper.specs.Orders.{Entry, is_done, is_held_by, are_in_order, of_task, held_of, tasks_where, tasks_done}
-use Rattle.paper_upper.specs.Orders.Standing.{done}
 use Rattle.paper_upper.specs.Requests.{turned}
 use Rattle.sets.proofs.SetLaws.{same-members, has-plus}
 use Rattle.order_links.specs.Chains.{orders_words, mark_of, open_of, head_of, count_of, chain_word, owner_of, link_of, word_at, entries_in, Fine, Linked}

@@ -1,7 +1,7 @@
 -- `chain_sound` meets its contract. The invariant of the loop: the check of the rest of
 -- the chain gives the result for the whole chain, and so does gathering its done tasks.
 use Rattle.order_links.specs.Chains.{head_of, count_of, chain_word, walk_over, take_done, leads}
-use Prim.Native.Nat.{◌≤◌, ◌-◌}
+use Prim.Native.Nat.{◌≤◌}
 use mathlib.Core.Path.{◌≡◌}
 use Rattle.order_links.proofs.chain_sound.Given as goal
 

@@ -16,7 +16,7 @@ returns c =
     let z = c.args in
     let l = z.o.now in
     let i = z.i in
-    let l₁ = c.drop_all.new.0 in (
+    let l₁ = c.drop_all.new.o in (
       length-set l₁ 1 _ ∙ drop_all.ensures.0,
       λ s.
           let w = whole l s in

@@ -5,7 +5,6 @@ use mathlib.Core.List.{List}
 use mathlib.Core.Bool.{true≢false}
 use native.Mathlib.Omega.{arith}
 use lib.ListN.{length-set}
-use borrow.Author.Tests.{not-true, not-false}
 use Rattle.paper_lower.specs.Sets.{plus}
 use Rattle.paper_lower.specs.Lists.{each}
 use Rattle.paper_upper.specs.Requests.{turned}
@@ -32,7 +31,7 @@ returns-then-not-turn c =
     let hi = c.requires.1.0 in
     let ht = c.requires.1.1.0 in
     let ha = c.requires.1.1.1 in
-    let f = not-true _ c.if-not-turn.true in
+    let f = c.if-not-turn.true in
     let k = turn.ensures.kept f in
     let es = each (turned z.i z.t z.a) (entries_in l z.i) in
     record {
@@ -54,11 +53,11 @@ returns c =
     let if1 = c.if-not-turn in
     let z = c.args in
     let l = z.o.now in
-    let l₁ = c.turn.new.0 in
+    let l₁ = c.turn.new.o in
     let hi = c.requires.1.0 in
     let ht = c.requires.1.1.0 in
     let ha = c.requires.1.1.1 in
-    let t = not-false _ if1.false in
+    let t = if1.false in
     record {
       room = length-set l₁ (132 + z.i) _ ∙ turn.ensures.room;
       kept = λ e. absurd (true≢false e);

@@ -1,5 +1,4 @@
 use borrow.Author.Tests.{ltb-false}
-use Prim.Native.Nat.{◌-◌}
 use mathlib.Core.Path.{refl, ◌∙◌, sym}
 use native.Mathlib.Omega.{arith}
 use Rattle.order_links.proofs.CutLaws.{begun, ends, any_gone}
@@ -44,7 +43,7 @@ loop-kept-preserved-then-w-key c =
           omega arith,
           (
             λ h. let n : ⊥ = omega arith in absurd n,
-            any-takes z.i z.key z.o.now v.o v.h v.n v.auto v.q in_reach.result word.result pre.1 (omega arith) e
+            any-takes z.i z.key z.o.now v.o v.h v.n v.kept v.q in_reach.result word.result pre.1 (omega arith) e
                 word.ensures
                 v.invariant.1.1.1.1 _ if1.true free.ensures,
           ),
@@ -69,7 +68,7 @@ loop-kept-preserved c =
           v.invariant.1.1.0,
           (
             v.invariant.1.1.1.0,
-            any-goes z.i z.key z.o.now v.o v.h v.n v.auto v.q in_reach.result c.word-w.result pre.1 (omega arith) e
+            any-goes z.i z.key z.o.now v.o v.h v.n v.kept v.q in_reach.result c.word-w.result pre.1 (omega arith) e
                 c.word-w.ensures
                 v.invariant.1.1.1.1 c.if-w-key.false,
           ),
@@ -91,7 +90,7 @@ returns c =
       kept = λ e. v.invariant.1.1.1.0 (ltb-false _ _ e);
       sound = λ w.
           let s = v.invariant.1.1.1.1 w in (
-            ends z.i z.key z.o.now v.o v.h v.n v.auto v.q pre.1 s (omega arith),
-            any_gone z.i z.key z.o.now v.o v.h v.n v.auto v.q pre.1 s (omega arith) chain.result chain.ensures,
+            ends z.i z.key z.o.now v.o v.h v.n v.kept v.q pre.1 s (omega arith),
+            any_gone z.i z.key z.o.now v.o v.h v.n v.kept v.q pre.1 s (omega arith) chain.result chain.ensures,
           );
     }
