@@ -1,5 +1,5 @@
 use Prim.Native.Nat.{ℕ, ◌-◌}
-use mathlib.Core.Bool.{true, false}
+use mathlib.Core.Bool.{false}
 use mathlib.Core.Path.{sym, ap, subst, ◌∙◌}
 use native.Mathlib.Omega.{arith}
 use Rattle.order_links.specs.Chains.{mark_of, head_of, count_of, walk_over, Fine, Linked}

@@ -1,6 +1,5 @@
 -- `any_in` meets its contract. The invariant of the loop, for sound links: following the
 -- rest of the chain gives the whole result. The loop ends for any content, since n falls.
-use Prim.Native.Nat.{◌-◌}
 use mathlib.Core.Bool.{true}
 use mathlib.Core.Path.{◌≡◌}
 use Rattle.order_links.specs.Chains.{mark_of, walk_over, sound_of, Fine, Linked}

@@ -1,6 +1,6 @@
 -- `gather` meets its contract. The invariant of the loop, for sound links: following the rest
 -- of the chain gives all that is gathered. The loop ends for any content, since n falls.
-use Prim.Native.Nat.{◌≤◌, ◌+◌, ◌-◌}
+use Prim.Native.Nat.{◌≤◌, ◌+◌}
 use mathlib.Core.Bool.{true}
 use mathlib.Core.Path.{◌≡◌}
 use Rattle.order_links.specs.Chains.{mark_of, head_of, count_of, chain_word, walk_over, sound_of, Fine, Linked}

@@ -3,11 +3,7 @@ use mathlib.Core.Bool.{false}
 use Rattle.order_links.proofs.ActLaws.{whole}
 use Rattle.order_entries.proofs.OwnLaws.{closed_none}
 use Rattle.order_entries.proofs.ActLaws.{opened-there, opens}
-use borrow.Author.Rules.{rules}
 use Rattle.order_entries.proofs.set_opened.Goals as goal
-
-open-chain-requires : tie.Need-open-chain-requires
-open-chain-requires c κs = search rules
 
 pub returns : goal.returns
 returns c =
