@@ -8,10 +8,10 @@ use borrow.Author.Tests.{eqb-true}
 use lib.Dec.{eqb}
 use Rattle.paper_lower.specs.Sets.{Set, has, plus}
 use Rattle.paper_lower.specs.Lists.{upd, Maybe, holds, there, some, keep, Every}
-use Rattle.paper_lower.specs.Lists.Maybe.{none, just}
+use Rattle.paper_lower.specs.Lists.Maybe.{just}
 use Rattle.paper_lower.specs.Records.{Bytes, Record}
 use Rattle.paper_lower.specs.Forms.{policy_forms, form_of, above, out_of_range}
-use Rattle.paper_lower.specs.Kinds.{chosen, answer, after}
+use Rattle.paper_lower.specs.Kinds.{chosen, after}
 use Rattle.paper_lower.specs.Tables.{Permission, Policy, Lower, no_policy}
 use Rattle.paper_lower.specs.Policy.{user_next, role_next, permission_checks, permission_next, assign_next, give_next, task_next, open_to_next, carries_next, static_next, dynamic_next, task_set_next, block_next, ban_next, most_next, bind_next, before_next, raise_next, wall_next, policy_kinds}
 use Rattle.paper_lower.specs.Load.{load, records_of}

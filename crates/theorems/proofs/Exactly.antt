@@ -6,7 +6,7 @@ use mathlib.Core.Logic.{◌↔◌}
 use mathlib.Core.List.{List, [], ◌∷◌}
 use native.Mathlib.Omega.{arith}
 use borrow.Author.Tests.{eqb-true, eq-eqb, ne_eqb, ltb-false, le-ltb, leb-false, lt-leb, not-false}
-use lib.Dec.{eqb, ltb, leb}
+use lib.Dec.{eqb}
 use lib.ListN.{length}
 use Rattle.paper_lower.specs.Lists.{Maybe, keep, each, Every}
 use Rattle.paper_lower.specs.Lists.Maybe.{none, just}
@@ -25,7 +25,7 @@ use Rattle.paper_upper.specs.Requests.{upper_kinds}
 use Rattle.paper_upper.specs.Engine.{widened, shared_kinds, request_kinds, request}
 use Rattle.theorems.specs.Theorems.{tables_next, lower_after, fixed}
 use Rattle.theorems.specs.Walls.{Commits, commits_after, lower_commits_after}
-use Rattle.theorems.specs.Exactly.{Not, Known, GivenExactly, Fits, WithinLimit, OfFields, Asked, asked, refusals_of, lower_kinds_asked, engine_kinds_asked, Answered, EveryReply}
+use Rattle.theorems.specs.Exactly.{Not, Known, GivenExactly, Fits, WithinLimit, OfFields, Asked, refusals_of, lower_kinds_asked, engine_kinds_asked, Answered, EveryReply}
 use Rattle.theorems.proofs.Keeps.{Kept, LowerKept, kept-after, lower-kept-after}
 use Rattle.theorems.proofs.Outside.{told-is-true, lower-told}
 use Rattle.theorems.proofs.Walls.{Told, told-after, lower-told-after}

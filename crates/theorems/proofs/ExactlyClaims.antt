@@ -16,7 +16,7 @@ use Rattle.paper_lower.specs.Records.{Record}
 use Rattle.paper_lower.specs.Policy.{down, tasks_of}
 use Rattle.paper_lower.proofs.ListLaws.{every_map, place_none, none-place, some-none, none-some, first-none}
 use Rattle.paper_upper.specs.Orders.{is_done, Entry, Engine, are_in_order, of_task, of_user, tasks_where, tasks_by, tasks_done, tasks_others}
-use Rattle.paper_upper.specs.Orders.Standing.{held, done}
+use Rattle.paper_upper.specs.Orders.Standing.{done}
 use Rattle.paper_upper.specs.Rules.{missing, before, crowded, separation, own, strange, block_within, block, alone, tied, bound, spent, found, gathered_checks, rule_checks}
 use Rattle.paper_upper.specs.Requests.{claim_checks}
 use Rattle.sets.proofs.SetLaws.{collect-below, has_within, within_has}

@@ -8,7 +8,7 @@ use mathlib.Core.List.{List}
 use native.Mathlib.Omega.{arith}
 use borrow.Author.Tests.{not-false}
 use lib.Dec.{eqb}
-use Rattle.paper_lower.specs.Sets.{Set, has, plus, minus, union, meets, within, without}
+use Rattle.paper_lower.specs.Sets.{Set, has, plus, minus, union, meets, within}
 use Rattle.paper_lower.specs.Lists.{some_number_below, holds, there, some}
 use Rattle.paper_lower.specs.Checks.{first}
 use Rattle.paper_lower.specs.Records.{Record}

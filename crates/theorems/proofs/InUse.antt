@@ -92,7 +92,7 @@ module _ (o : Orders) (x : Tally) (h : Tallied o x) where
   tally-claim a b u c stands = record {
     all = let m = h.all in omega arith;
     since = λ k l. ⊎_elim
-        (λ (e : k ≡ b). let m = h.since b stands in upd_same x.since b k (x.since b + 1) e ∙ rw (e, eq-eqb b b refl) (omega arith))
+        (λ (e : k ≡ b). let m = h.since b stands in upd_same x.since b k (x.since b + 1) e ∙ rw (eq-eqb b k (sym e), ap (λ (i : ℕ). many (keep (are_in_order i) o.entries)) e) (omega arith))
         (λ n. upd_other x.since b k (x.since b + 1) n ∙ h.since k l ∙ rw (ne_eqb b k (λ q. n (sym q)))) (same-or-other k b);
   }
 

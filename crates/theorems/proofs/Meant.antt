@@ -8,8 +8,8 @@ use mathlib.Core.List.{List, [], ◌∷◌}
 use native.Mathlib.Omega.{arith}
 use borrow.Author.Tests.{eqb-true, eq-eqb}
 use lib.Dec.{eqb}
-use Rattle.paper_lower.specs.Sets.{Set, empty, has, plus, overlap, union_below}
-use Rattle.paper_lower.specs.Lists.{some, many, keep}
+use Rattle.paper_lower.specs.Sets.{Set, empty, has, plus, overlap}
+use Rattle.paper_lower.specs.Lists.{many, keep}
 use Rattle.paper_lower.specs.Records.{Record}
 use Rattle.paper_lower.specs.Tables.{Sessions}
 use Rattle.paper_lower.specs.Roles.{subject_of, of_subjects, counted_of}

@@ -9,9 +9,9 @@ use native.Mathlib.Omega.{arith}
 use borrow.Author.Tests.{eqb-true, eq-eqb, ltb-true, ltb-false, lt-ltb, leb-true, le-leb, not-false}
 use lib.Dec.{eqb, ltb, leb}
 use lib.ListN.{length}
-use Rattle.paper_lower.specs.Sets.{Set, empty, has, plus, union, size, overlap, meets, within, collect}
+use Rattle.paper_lower.specs.Sets.{Set, empty, has, plus, union, size, meets, within}
 use Rattle.paper_lower.specs.Lists.{some_number_below, holds, there, is, some, many, keep, each, Every}
-use Rattle.paper_lower.specs.Lists.Maybe.{none, just}
+use Rattle.paper_lower.specs.Lists.Maybe.{just}
 use Rattle.paper_lower.specs.Checks.{first}
 use Rattle.paper_lower.specs.Records.{Record}
 use Rattle.paper_lower.specs.Forms.{policy_forms, form_of, above, out_of_range}

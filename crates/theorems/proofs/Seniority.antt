@@ -13,7 +13,7 @@ use Rattle.paper_lower.specs.Lists.{some_number_below, some, many, keep, each, E
 use Rattle.paper_lower.specs.Checks.{Check, first, granted, SHAPE, UNKNOWN, TAKEN, IN-USE, RULE, NOT-ASSIGNED, STATIC, DYNAMIC, NO-ROLE, DENIED, FULL, WALL}
 use Rattle.paper_lower.specs.Records.{Bytes, Record, decode}
 use Rattle.paper_lower.specs.Forms.{Form, policy_forms, lower_forms, request_forms, form_checks}
-use Rattle.paper_lower.specs.Kinds.{Kind, chosen, Answer, reply_to, answer, after}
+use Rattle.paper_lower.specs.Kinds.{Kind, chosen, Answer, reply_to, answer}
 use Rattle.paper_lower.specs.Tables.{Seniority, Policy, Lower, no_policy}
 use Rattle.paper_lower.specs.Policy.{down, breaks, same_limit, ill_made, assign_checks, static_checks, raised, policy_kinds}
 use Rattle.paper_lower.specs.Load.{Loaded, accepted, refused, policy_answer, load_on, load, records_from, records_of}
