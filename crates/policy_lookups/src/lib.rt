@@ -110,7 +110,7 @@ pub fn two_tasks(p: &[u64], j: u64) -> bool
     requires { (length p.now ≡ policy_words) × (j < 16) }
     ensures { result ≡ leb 2 (size (tasks_of (policy_of p.now).tasks j)) }
 {
-    let mut n = 0;
+    let mut n = 0u64;
     let mut i = 0;
     while i < 64 {
         if policy::task_is_of(p, i, j) {

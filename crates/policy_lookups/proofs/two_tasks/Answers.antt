@@ -11,6 +11,7 @@ use Rattle.policy.specs.Reading.{policy_of}
 use Rattle.policy_lookups.proofs.Tasks.{size_in, size-out, size-grows}
 use borrow.Author.Rules.{rules}
 use Rattle.policy_lookups.proofs.two_tasks.Goals as goal
+use Rattle.policy_lookups.proofs.two_tasks.Goals.{then-task_is_of+else-n-eq1, else-task_is_of}
 
 pub loop-i-init : goal.loop-i-init
 unfolding collect size ones_in
@@ -35,17 +36,10 @@ loop-i-preserved c =
     let loop = c.loop-i in
     let f : ℕ → Bool = λ t. is args.j ((policy_of args.p.now).tasks.template t) in
     let q : loop.n ≡ size (collect loop.i f) = loop.invariant.1.1 in
-    ⊎_elim
-    (λ w.
-    let z : loop.n ≡ 0 = omega arith in
-    let m : c.if-task_is_of.n ≡ 1 = omega arith in
-    let s = size_in loop.i f (sym c.task_is_of.ensures ∙ w.0.taken) in
-    (omega arith, (omega arith, omega arith)))
-    (λ w.
-    let n : c.if-task_is_of.n ≡ loop.n = omega arith in
-    let s = size-out loop.i f (sym c.task_is_of.ensures ∙ w.0.left) in
-    (omega arith, (omega arith, omega arith)))
-    c.if-task_is_of.branch
+    elim c.if-task_is_of.branch [
+      | then-task_is_of+else-n-eq1 w ↦ let s = size_in loop.i f (sym c.task_is_of.ensures ∙ w.if-task_is_of.true) in (omega arith, (omega arith, omega arith))
+      | else-task_is_of w ↦ let s = size-out loop.i f (sym c.task_is_of.ensures ∙ w.if-task_is_of.false) in (omega arith, (omega arith, omega arith))
+    ]
 
 pub returns : goal.returns
 unfolding tasks_of
