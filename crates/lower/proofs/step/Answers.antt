@@ -177,4 +177,4 @@ returns-in_default c =
     let args = c.args in
     let pre = c.requires in
     absurd (no_other (λ k. there (form_of lower_forms k)) (λ k. k) ((56 ∷ 59 ∷ []) ∷ one_each kinds) 256 tt args.r.kind pre.1.1.small.kind
-    pre.1.1.known c.in_default.rest)
+    pre.1.1.known c.in_default.in_default-own.rest)

@@ -1,4 +1,6 @@
 -- `load` meets its contract: it returns ROOM for a buffer of another length, empties the buffer after a refusal, and otherwise keeps what `run` left.
+use mathlib.Core.Bool.{not}
+use mathlib.Core.Path.{ap}
 use mathlib.Core.Path.{refl}
 use Rattle.policy_loading.proofs.Turns.{ends-refused, ends-accepted}
 use Rattle.policy_loading.proofs.load.Goals as goal
@@ -14,7 +16,7 @@ returns-then-not-accepted c =
     let run = c.run-x in
     let accepted = c.accepted in
     let if2 = c.if-not-accepted in
-    ends-refused args.bytes.now args.p.now _ _ _ _ if1.false clear.ensures run.ensures accepted.ensures _ if2.true
+    ends-refused args.bytes.now args.p.now _ _ _ _ if1.false clear.ensures run.ensures accepted.ensures _ (ap not if2.true)
     c.clear-then-not-accepted.ensures
 
 pub returns : goal.returns
@@ -23,4 +25,4 @@ returns c =
     let if1 = c.if-p-ne-POLICY_WORDS in
     let clear = c.clear in
     let run = c.run-x in
-    ends-accepted args.bytes.now args.p.now _ _ _ _ if1.false clear.ensures run.ensures c.accepted.ensures _ c.if-not-accepted.false refl
+    ends-accepted args.bytes.now args.p.now _ _ _ _ if1.false clear.ensures run.ensures c.accepted.ensures _ (ap not c.if-not-accepted.false) refl

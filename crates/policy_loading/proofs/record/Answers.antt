@@ -1,4 +1,6 @@
 -- `record` meets its contract: it returns the refusal of `judge`, or carries out the record that passed by `step`.
+use mathlib.Core.Bool.{not}
+use mathlib.Core.Path.{ap}
 use mathlib.Core.Path.{refl}
 use Rattle.paper_lower.specs.Forms.{policy_forms}
 use Rattle.paper_lower.specs.Policy.{policy_kinds}
@@ -16,14 +18,14 @@ returns-then-not-accepted c =
     let args = c.args in
     let judge = c.judge-r in
     rw (refused-answer policy_forms args.bytes.now policy_kinds (policy_of args.p.now) judge.result judge.ensures c.accepted.ensures
-    c.if-not-accepted.true)
+    (ap not c.if-not-accepted.true))
     (refused refl c.accepted.ensures c.if-not-accepted.true)
 
 pub decode-requires : goal.decode-requires
 decode-requires c =
     let args = c.args in
     let judge = c.judge-r in
-    sized policy_forms args.bytes.now judge.result judge.ensures c.accepted.ensures c.if-not-accepted.false
+    sized policy_forms args.bytes.now judge.result judge.ensures c.accepted.ensures (ap not c.if-not-accepted.false)
 
 pub step-requires : goal.step-requires
 step-requires c =
@@ -32,7 +34,7 @@ step-requires c =
     let judge = c.judge-r in
     let accepted = c.accepted in (
       pre,
-      passed policy_forms args.bytes.now judge.result judge.ensures accepted.ensures c.if-not-accepted.false c.decode.ensures,
+      passed policy_forms args.bytes.now judge.result judge.ensures accepted.ensures (ap not c.if-not-accepted.false) c.decode.ensures,
     )
 
 pub returns : goal.returns
@@ -43,6 +45,6 @@ returns c =
     let accepted = c.accepted in
     let if1 = c.if-not-accepted in
     let decode = c.decode in
-    rw (passed-answer policy_forms args.bytes.now judge.result judge.ensures accepted.ensures if1.false decode.ensures policy_kinds
+    rw (passed-answer policy_forms args.bytes.now judge.result judge.ensures accepted.ensures (ap not if1.false) decode.ensures policy_kinds
     (policy_of args.p.now))
     (settles c.step.ensures)

@@ -7,15 +7,15 @@ use Rattle.policy_loading.proofs.run.Goals as goal
 pub loop-left-init : goal.loop-left-init
 loop-left-init c = (c.requires, (omega arith, (omega arith, refl)))
 
-record-requires : tie.Need-record-requires invariant-loop decreases-loop
-record-requires c κs = c.loop-left.invariant.0
+pub record-x-requires : goal.record-x-requires
+record-x-requires c = c.loop-left.invariant.0
 
 pub returns-then-not-accepted : goal.returns-then-not-accepted
 returns-then-not-accepted c =
     let args = c.args in
     let loop = c.loop-left in
     let loop-test = c.loop-left-test in
-    let record' = c.«record» in
+    let record' = c.record-x in
     let h : loop.at + 16 - loop.at ≡ 16 = omega arith in
     stop loop.place loop.at args.bytes.now loop.p (loop.at + 16 - loop.at) _ _ h record'.ensures c.accepted.ensures loop.left
     loop-test.true c.if-not-accepted.true ∙ loop.invariant.1.1.1
@@ -25,7 +25,7 @@ loop-left-preserved c =
     let args = c.args in
     let loop = c.loop-left in
     let loop-test = c.loop-left-test in
-    let record' = c.«record» in
+    let record' = c.record-x in
     let h : loop.at + 16 - loop.at ≡ 16 = omega arith in (
       omega arith,
       (

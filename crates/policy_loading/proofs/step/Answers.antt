@@ -44,11 +44,11 @@ task-requires c =
     let pre = c.requires in
     (pre.0, (below (limit_a policy_forms) pre.1.a c.in-6.is 64 tt, below (limit_b policy_forms) pre.1.b c.in-6.is 16 tt))
 
-open-to-requires : tie.Need-open-to-requires
+pub open_to-requires : goal.open_to-requires
 unfolding limits_open
-open-to-requires c κs =
+open_to-requires c =
     let pre = c.requires in
-    (pre.0, (below (limit_a policy_forms) pre.1.a c.in-1.is 64 tt, below (limit_b policy_forms) pre.1.b c.in-1.is 64 tt))
+    (pre.0, (below (limit_a policy_forms) pre.1.a c.in-7.is 64 tt, below (limit_b policy_forms) pre.1.b c.in-7.is 64 tt))
 
 pub carries-requires : goal.carries-requires
 unfolding limits_open
@@ -200,22 +200,22 @@ pub returns-in_default : goal.returns-in_default
 unfolding chosen policy_kinds
 returns-in_default c =
     simp (
-      apart _ _ c.in_default.rest.0.0.0.0.0.0.0.0.0.0.0.0.0.0.0.0.0.1,
-      apart _ _ c.in_default.rest.0.0.0.0.0.0.0.0.0.0.0.0.0.0.0.0.1,
-      apart _ _ c.in_default.rest.0.0.0.0.0.0.0.0.0.0.0.0.0.0.0.1,
-      apart _ _ c.in_default.rest.0.0.0.0.0.0.0.0.0.0.0.0.0.0.1,
-      apart _ _ c.in_default.rest.0.0.0.0.0.0.0.0.0.0.0.0.0.1,
-      apart _ _ c.in_default.rest.0.0.0.0.0.0.0.0.0.0.0.0.1,
-      apart _ _ c.in_default.rest.0.0.0.0.0.0.0.0.0.0.0.1,
-      apart _ _ c.in_default.rest.0.0.0.0.0.0.0.0.0.0.1,
-      apart _ _ c.in_default.rest.0.0.0.0.0.0.0.0.0.1,
-      apart _ _ c.in_default.rest.0.0.0.0.0.0.0.0.1,
-      apart _ _ c.in_default.rest.0.0.0.0.0.0.0.1,
-      apart _ _ c.in_default.rest.0.0.0.0.0.0.1,
-      apart _ _ c.in_default.rest.0.0.0.0.0.1,
-      apart _ _ c.in_default.rest.0.0.0.0.1,
-      apart _ _ c.in_default.rest.0.0.0.1,
-      apart _ _ c.in_default.rest.0.0.1,
-      apart _ _ c.in_default.rest.0.1,
-      apart _ _ c.in_default.rest.1,
+      apart _ _ c.in_default.in_default-own.rest.0.0.0.0.0.0.0.0.0.0.0.0.0.0.0.0.0.1,
+      apart _ _ c.in_default.in_default-own.rest.0.0.0.0.0.0.0.0.0.0.0.0.0.0.0.0.1,
+      apart _ _ c.in_default.in_default-own.rest.0.0.0.0.0.0.0.0.0.0.0.0.0.0.0.1,
+      apart _ _ c.in_default.in_default-own.rest.0.0.0.0.0.0.0.0.0.0.0.0.0.0.1,
+      apart _ _ c.in_default.in_default-own.rest.0.0.0.0.0.0.0.0.0.0.0.0.0.1,
+      apart _ _ c.in_default.in_default-own.rest.0.0.0.0.0.0.0.0.0.0.0.0.1,
+      apart _ _ c.in_default.in_default-own.rest.0.0.0.0.0.0.0.0.0.0.0.1,
+      apart _ _ c.in_default.in_default-own.rest.0.0.0.0.0.0.0.0.0.0.1,
+      apart _ _ c.in_default.in_default-own.rest.0.0.0.0.0.0.0.0.0.1,
+      apart _ _ c.in_default.in_default-own.rest.0.0.0.0.0.0.0.0.1,
+      apart _ _ c.in_default.in_default-own.rest.0.0.0.0.0.0.0.1,
+      apart _ _ c.in_default.in_default-own.rest.0.0.0.0.0.0.1,
+      apart _ _ c.in_default.in_default-own.rest.0.0.0.0.0.1,
+      apart _ _ c.in_default.in_default-own.rest.0.0.0.0.1,
+      apart _ _ c.in_default.in_default-own.rest.0.0.0.1,
+      apart _ _ c.in_default.in_default-own.rest.0.0.1,
+      apart _ _ c.in_default.in_default-own.rest.0.1,
+      apart _ _ c.in_default.in_default-own.rest.1,
     ) (record { replies = refl; tables = refl; kept = λ _. refl })

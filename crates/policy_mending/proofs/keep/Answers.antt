@@ -5,8 +5,8 @@ use native.Mathlib.Omega.{arith}
 use Rattle.policy_mending.proofs.Rests.{not-kept, is-kept}
 use Rattle.policy_mending.proofs.keep.Goals as goal
 
-record-requires : tie.Need-record-requires
-record-requires c κs = c.requires.0
+pub record-r-requires : goal.record-r-requires
+record-r-requires c = c.requires.0
 
 pub returns-then-not-accepted : goal.returns-then-not-accepted
 returns-then-not-accepted c =

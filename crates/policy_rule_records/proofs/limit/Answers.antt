@@ -1,10 +1,12 @@
 -- `limit` meets its contract: if `limit_reply` refuses, nothing is stored, and otherwise the buffer reads as the next tables.
+use mathlib.Core.Bool.{not}
+use mathlib.Core.Path.{ap}
 use Rattle.policy_rule_records.proofs.Room.{limit-room}
 use Rattle.replies.proofs.DoneLaws.{refused, done}
 use Rattle.policy_rule_records.proofs.limit.Goals as goal
 
 pub returns-then-not-accepted : goal.returns-then-not-accepted
-returns-then-not-accepted c = refused c.limit_reply-r.ensures c.accepted.ensures c.if-not-accepted.true
+returns-then-not-accepted c = refused c.limit_reply-r.ensures c.accepted.ensures (ap not c.if-not-accepted.true)
 
 pub add_limit-requires : goal.add_limit-requires
 add_limit-requires c =
@@ -14,7 +16,7 @@ add_limit-requires c =
       pre.0,
       (
         pre.1,
-        limit-room args.p.now limit-reply.result c.accepted.ensures c.if-not-accepted.false _ _ _ _ _ _ pre.1
+        limit-room args.p.now limit-reply.result c.accepted.ensures (ap not c.if-not-accepted.false) _ _ _ _ _ _ pre.1
             limit-reply.ensures,
       ),
     )
@@ -24,4 +26,4 @@ returns c =
     let limit-reply = c.limit_reply-r in
     let accepted = c.accepted in
     let if1 = c.if-not-accepted in
-    done limit-reply.ensures accepted.ensures if1.false c.add_limit.ensures
+    done limit-reply.ensures accepted.ensures (ap not if1.false) c.add_limit.ensures

@@ -12,5 +12,5 @@ returns c =
     let none = c.none in
     c.between.ensures
     ∙ (λ x. some_number_below 16
-    (apart (c.blocks_of.ensures x) ((c.with-here.ensures.1 ∙ ap (λ f. over f (only args.a args.b)) none.ensures.1) x)))
+    (apart (c.blocks_of.ensures x) ((c.with-here.ensures ∙ ap (λ f. over f (only args.a args.b)) none.ensures) x)))
     ∙ apart-one _ _ _ pre.1.0

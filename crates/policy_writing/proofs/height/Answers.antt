@@ -80,4 +80,4 @@ returns-in-18 c = rw c.in-18.is (c.wall_count.ensures.0, omega arith)
 pub returns-in_default : goal.returns-in_default
 returns-in_default c =
     let args = c.args in
-    (sym (ap (λ (x : Line). x.height) (other-kind args.p.now args.kind c.in_default.rest)), omega arith)
+    (sym (ap (λ (x : Line). x.height) (other-kind args.p.now args.kind c.in_default.in_default-own.rest)), omega arith)

@@ -87,12 +87,12 @@ task-requires c =
     let args = c.args in
     (omega arith, (pre.1.0, below args.p.now 6 64 pre.1.1 c.in-6.is (omega arith)))
 
-open-to-requires : tie.Need-open-to-requires
+pub open_to-requires : goal.open_to-requires
 unfolding line_of lines_in limit_count block_count pair_count
-open-to-requires c κs =
+open_to-requires c =
     let pre = c.requires in
     let args = c.args in
-    (pre.1.0, below args.p.now 7 64 pre.1.1 c.in-1.is (omega arith))
+    (pre.1.0, below args.p.now 7 64 pre.1.1 c.in-7.is (omega arith))
 
 pub members-requires-in-7 : goal.members-requires-in-7
 unfolding line_of lines_in limit_count block_count pair_count
@@ -322,4 +322,4 @@ pub returns-in_default : goal.returns-in_default
 returns-in_default c =
     let args = c.args in
     as_row 256 (nothing args.output.now args.place)
-    (sym (ap (λ (x : Line). x.cells args.a) (other-kind args.p.now args.kind c.in_default.rest))) (omega arith)
+    (sym (ap (λ (x : Line). x.cells args.a) (other-kind args.p.now args.kind c.in_default.in_default-own.rest))) (omega arith)

@@ -12,5 +12,5 @@ returns c =
     let none = c.none-nowhere in
     λ i. record {
       policy = set-user.ensures i;
-      sessions = (c.set_bound_to.ensures ∙ ap (bound_anew (sessions_of args.s.now) args.a) none.ensures.1) i;
+      sessions = (c.set_bound_to.ensures ∙ ap (bound_anew (sessions_of args.s.now) args.a) none.ensures) i;
     }

@@ -55,12 +55,9 @@ broken-requires c =
     let pre = c.requires in
     (pre.0, omega arith)
 
--- After the checks before DYNAMIC passed: the reply is DYNAMIC if `broken` holds, otherwise GRANTED.
-last : (c : tie.After-broken) → let z =
-    c.args in
-    first (activate_checks (lower_tables z.p.now z.s.now) z.a z.b) ≡ cond c.broken.result DYNAMIC 0
+pub returns-then-broken : goal.returns-then-broken
 unfolding activate_checks
-last c =
+returns-then-broken c =
     let live = c.live in
     let declared-roles = c.declared_roles in
     let has = c.has in
@@ -73,7 +70,7 @@ last c =
     let down = c.down in
     let has3 = c.has-3 in
     let if3 = c.if-not-has in
-    let Counted-of = c.Counted-of in
+    let Counted-of = c.counted_of-all in
     simp (
       ← live.ensures,
       ← declared-roles.ensures,
@@ -91,10 +88,41 @@ last c =
       ← c.with.ensures,
       ← c.down-2.ensures,
       ← c.broken.ensures,
+      c.if-broken.true,
     )
 
-pub returns-then-broken : goal.returns-then-broken
-returns-then-broken c = rw (last c, c.if-broken.true)
-
 pub returns : goal.returns
-returns c = rw (last c, c.if-broken.false)
+unfolding activate_checks
+returns c =
+    let live = c.live in
+    let declared-roles = c.declared_roles in
+    let has = c.has in
+    let if1 = c.if-live-has in
+    let active = c.active-here in
+    let has2 = c.has-2 in
+    let if2 = c.if-has in
+    let user = c.user-user in
+    let assigned = c.assigned in
+    let down = c.down in
+    let has3 = c.has-3 in
+    let if3 = c.if-not-has in
+    let Counted-of = c.counted_of-all in
+    simp (
+      ← live.ensures,
+      ← declared-roles.ensures,
+      ← has.ensures,
+      if1.false,
+      ← active.ensures,
+      ← has2.ensures,
+      if2.false,
+      ← user.ensures.0,
+      ← assigned.ensures,
+      ← down.ensures,
+      ← has3.ensures,
+      if3.false,
+      ← Counted-of.ensures,
+      ← c.with.ensures,
+      ← c.down-2.ensures,
+      ← c.broken.ensures,
+      c.if-broken.false,
+    )

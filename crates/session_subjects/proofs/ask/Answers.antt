@@ -1,4 +1,5 @@
 -- `ask` meets its contract at each return: a check before WALL refuses, WALL does, a check is granted and stores nothing, or a commit is granted and binds.
+use mathlib.Core.Bool.{not}
 use Prim.Native.Nat.{ℕ}
 use mathlib.Core.Path.{ap, ◌∙◌}
 use Rattle.paper_lower.specs.Sessions.{wall_between, commit_next}
@@ -8,16 +9,13 @@ use Rattle.session_subjects.proofs.WallLaws.{stopped, walled, walls-between, com
 use borrow.Author.Rules.{rules}
 use Rattle.session_subjects.proofs.ask.Goals as goal
 
-open-reply-requires : tie.Need-open-reply-requires
-open-reply-requires c κs = search rules
-
 pub returns-then-not-accepted : goal.returns-then-not-accepted
 returns-then-not-accepted c =
     let open-reply = c.open_reply-r in
     let z = c.args in
     let t = lower_tables z.p.now z.s.now in
-    refused (stopped t z.a z.operation z.object open-reply.result open-reply.ensures c.accepted.ensures c.if-not-accepted.true)
-    c.accepted.ensures c.if-not-accepted.true
+    refused (stopped t z.a z.operation z.object open-reply.result open-reply.ensures c.accepted.ensures (ap not c.if-not-accepted.true))
+    c.accepted.ensures (ap not c.if-not-accepted.true)
 
 pub returns-then-between : goal.returns-then-between
 returns-then-between c =
@@ -32,7 +30,7 @@ returns-then-between c =
     c.between.ensures ∙ walls-between t user.result z.object _ _ blocks-of.ensures c.bound_to-bound.ensures ∙
     ap (λ (u : ℕ). wall_between t u z.object) user.ensures.0 in
     refused-wall z.kind _ _
-    (walled t z.a z.operation z.object open-reply.result open-reply.ensures accepted.ensures if1.false w ∙ rw c.if-between.true)
+    (walled t z.a z.operation z.object open-reply.result open-reply.ensures accepted.ensures (ap not if1.false) w ∙ rw c.if-between.true)
 
 pub returns-then-kind-eq56 : goal.returns-then-kind-eq56
 returns-then-kind-eq56 c =
@@ -48,7 +46,7 @@ returns-then-kind-eq56 c =
     c.between.ensures ∙ walls-between t user.result z.object _ _ blocks-of.ensures bound-to.ensures ∙
     ap (λ (u : ℕ). wall_between t u z.object) user.ensures.0 in
     asked z.kind _ _
-    (walled t z.a z.operation z.object open-reply.result open-reply.ensures accepted.ensures if1.false w ∙ rw c.if-between.false)
+    (walled t z.a z.operation z.object open-reply.result open-reply.ensures accepted.ensures (ap not if1.false) w ∙ rw c.if-between.false)
     c.if-kind-eq56.true
 
 pub returns : goal.returns
@@ -69,6 +67,6 @@ returns c =
     between.ensures ∙ walls-between t user.result z.object _ _ blocks-of.ensures bound-to.ensures ∙
     ap (λ (u : ℕ). wall_between t u z.object) user.ensures.0 in
     committed-all z.kind _ (commit_next t z.a z.object)
-    (walled t z.a z.operation z.object open-reply.result open-reply.ensures accepted.ensures if1.false w ∙ rw if2.false) if3.false
+    (walled t z.a z.operation z.object open-reply.result open-reply.ensures accepted.ensures (ap not if1.false) w ∙ rw if2.false) if3.false
     (c.set_bound_to.ensures ∙
     committed t z.a z.object user.result _ _ _ user.ensures.0 blocks-of.ensures bound-to.ensures over.ensures)

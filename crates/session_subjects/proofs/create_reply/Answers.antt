@@ -43,12 +43,9 @@ returns-then-not-within c =
       c.if-not-within.true,
     )
 
--- After the checks before DYNAMIC passed: the reply is DYNAMIC if `broken` holds, otherwise GRANTED.
-last : (c : tie.After-broken) → let z =
-    c.args in
-    first (create_checks (lower_tables z.p.now z.s.now) z.a z.b z.m.bits) ≡ cond c.broken.result DYNAMIC 0
+pub returns-then-broken : goal.returns-then-broken
 unfolding create_checks
-last c =
+returns-then-broken c =
     let user-declared = c.user_declared in
     let declared-roles = c.declared_roles in
     let within = c.within in
@@ -59,7 +56,7 @@ last c =
     let down = c.down in
     let within2 = c.within-2 in
     let if3 = c.if-not-within in
-    let Counted-of = c.Counted-of in
+    let Counted-of = c.counted_of in
     simp (
       ← user-declared.ensures,
       ← declared-roles.ensures,
@@ -75,10 +72,37 @@ last c =
       ← c.union-all.ensures,
       ← c.down-counted.ensures,
       ← c.broken.ensures,
+      c.if-broken.true,
     )
 
-pub returns-then-broken : goal.returns-then-broken
-returns-then-broken c = rw (last c, c.if-broken.true)
-
 pub returns : goal.returns
-returns c = rw (last c, c.if-broken.false)
+unfolding create_checks
+returns c =
+    let user-declared = c.user_declared in
+    let declared-roles = c.declared_roles in
+    let within = c.within in
+    let if1 = c.if-user_declared-within in
+    let live = c.live in
+    let if2 = c.if-live in
+    let assigned = c.assigned in
+    let down = c.down in
+    let within2 = c.within-2 in
+    let if3 = c.if-not-within in
+    let Counted-of = c.counted_of in
+    simp (
+      ← user-declared.ensures,
+      ← declared-roles.ensures,
+      ← within.ensures,
+      if1.false,
+      ← live.ensures,
+      if2.false,
+      ← assigned.ensures,
+      ← down.ensures,
+      ← within2.ensures,
+      if3.false,
+      ← Counted-of.ensures,
+      ← c.union-all.ensures,
+      ← c.down-counted.ensures,
+      ← c.broken.ensures,
+      c.if-broken.false,
+    )
