@@ -84,6 +84,7 @@ pub const LOWER_ROLE: u64 = 75;
 pub const NO_NAME: u64 = 127;
 
 // Whether a name has the number 0 + i. The functions is_name_0 to is_name_7 each cover ten names.
+#[tactic(auto, unfolding(crate::specs::Numbers::name_of, crate::specs::Numbers::names, paper_lower::specs::Lists::each, paper_opl::specs::Elements::elements, paper_opl::specs::Reading::text))]
 fn is_name_0(v: &[u8], i: u64) -> bool
     requires { i < 10 }
     ensures { result ≡ same v.now (name_of (0 + i)) }
@@ -103,6 +104,7 @@ fn is_name_0(v: &[u8], i: u64) -> bool
 }
 
 // Whether a name has the number 10 + i.
+#[tactic(auto, unfolding(crate::specs::Numbers::name_of, crate::specs::Numbers::names, paper_lower::specs::Lists::each, paper_opl::specs::Elements::elements, paper_opl::specs::Reading::text))]
 fn is_name_1(v: &[u8], i: u64) -> bool
     requires { i < 10 }
     ensures { result ≡ same v.now (name_of (10 + i)) }
@@ -122,6 +124,7 @@ fn is_name_1(v: &[u8], i: u64) -> bool
 }
 
 // Whether a name has the number 20 + i.
+#[tactic(auto, unfolding(crate::specs::Numbers::name_of, crate::specs::Numbers::names, paper_lower::specs::Lists::each, paper_opl::specs::Elements::elements, paper_opl::specs::Reading::text))]
 fn is_name_2(v: &[u8], i: u64) -> bool
     requires { i < 10 }
     ensures { result ≡ same v.now (name_of (20 + i)) }
@@ -141,6 +144,7 @@ fn is_name_2(v: &[u8], i: u64) -> bool
 }
 
 // Whether a name has the number 30 + i.
+#[tactic(auto, unfolding(crate::specs::Numbers::name_of, crate::specs::Numbers::names, paper_lower::specs::Lists::each, paper_opl::specs::Elements::elements, paper_opl::specs::Reading::text))]
 fn is_name_3(v: &[u8], i: u64) -> bool
     requires { i < 10 }
     ensures { result ≡ same v.now (name_of (30 + i)) }
@@ -160,6 +164,7 @@ fn is_name_3(v: &[u8], i: u64) -> bool
 }
 
 // Whether a name has the number 40 + i.
+#[tactic(auto, unfolding(crate::specs::Numbers::name_of, crate::specs::Numbers::names, paper_lower::specs::Lists::each, paper_opl::specs::Elements::elements, paper_opl::specs::Reading::text))]
 fn is_name_4(v: &[u8], i: u64) -> bool
     requires { i < 10 }
     ensures { result ≡ same v.now (name_of (40 + i)) }
@@ -179,6 +184,7 @@ fn is_name_4(v: &[u8], i: u64) -> bool
 }
 
 // Whether a name has the number 50 + i.
+#[tactic(auto, unfolding(crate::specs::Numbers::name_of, crate::specs::Numbers::names, paper_lower::specs::Lists::each, paper_opl::specs::Elements::elements, paper_opl::specs::Reading::text))]
 fn is_name_5(v: &[u8], i: u64) -> bool
     requires { i < 10 }
     ensures { result ≡ same v.now (name_of (50 + i)) }
@@ -198,6 +204,7 @@ fn is_name_5(v: &[u8], i: u64) -> bool
 }
 
 // Whether a name has the number 60 + i.
+#[tactic(auto, unfolding(crate::specs::Numbers::name_of, crate::specs::Numbers::names, paper_lower::specs::Lists::each, paper_opl::specs::Elements::elements, paper_opl::specs::Reading::text))]
 fn is_name_6(v: &[u8], i: u64) -> bool
     requires { i < 10 }
     ensures { result ≡ same v.now (name_of (60 + i)) }
@@ -217,6 +224,7 @@ fn is_name_6(v: &[u8], i: u64) -> bool
 }
 
 // Whether a name has the number 70 + i.
+#[tactic(auto, unfolding(crate::specs::Numbers::name_of, crate::specs::Numbers::names, paper_lower::specs::Lists::each, paper_opl::specs::Elements::elements, paper_opl::specs::Reading::text))]
 fn is_name_7(v: &[u8], i: u64) -> bool
     requires { i < 10 }
     ensures { result ≡ same v.now (name_of (70 + i)) }
@@ -260,6 +268,7 @@ fn digit(w: u64, k: u64) -> u64
 // ---- The packed lists of specs/Numbers, one function for the words of each.
 
 // Word j of `state_from`.
+#[tactic(auto, using(crate::proofs::Cases::past), unfolding(crate::specs::Numbers::state_from, crate::specs::Numbers::word_at, crate::specs::Numbers::packed))]
 fn state_from_word(j: u64) -> u64
     ensures { result ≡ word_at state_from j }
 {
@@ -277,6 +286,7 @@ fn state_from_word(j: u64) -> u64
 }
 
 // Word j of `list_from`.
+#[tactic(auto, using(crate::proofs::Cases::past), unfolding(crate::specs::Numbers::list_from, crate::specs::Numbers::word_at, crate::specs::Numbers::packed))]
 fn list_from_word(j: u64) -> u64
     ensures { result ≡ word_at list_from j }
 {
@@ -291,6 +301,7 @@ fn list_from_word(j: u64) -> u64
 }
 
 // Word j of `place_name`.
+#[tactic(auto, using(crate::proofs::Cases::past), unfolding(crate::specs::Numbers::place_name, crate::specs::Numbers::word_at, crate::specs::Numbers::packed))]
 fn place_name_word(j: u64) -> u64
     ensures { result ≡ word_at place_name j }
 {
@@ -318,6 +329,7 @@ fn place_name_word(j: u64) -> u64
 }
 
 // Word j of `place_then`.
+#[tactic(auto, using(crate::proofs::Cases::past), unfolding(crate::specs::Numbers::place_then, crate::specs::Numbers::word_at, crate::specs::Numbers::packed))]
 fn place_then_word(j: u64) -> u64
     ensures { result ≡ word_at place_then j }
 {
@@ -345,6 +357,7 @@ fn place_then_word(j: u64) -> u64
 }
 
 // Word j of `first_state`.
+#[tactic(auto, using(crate::proofs::Cases::past), unfolding(crate::specs::Numbers::first_state, crate::specs::Numbers::word_at, crate::specs::Numbers::packed))]
 fn first_state_word(j: u64) -> u64
     ensures { result ≡ word_at first_state j }
 {
@@ -363,6 +376,7 @@ fn first_state_word(j: u64) -> u64
 }
 
 // Word j of `first_list`.
+#[tactic(auto, using(crate::proofs::Cases::past), unfolding(crate::specs::Numbers::first_list, crate::specs::Numbers::word_at, crate::specs::Numbers::packed))]
 fn first_list_word(j: u64) -> u64
     ensures { result ≡ word_at first_list j }
 {

@@ -14,9 +14,8 @@ returns-in-Here c =
     let list-from = c.list_from in
     let list-from2 = c.list_from-2 in
     let pick = c.pick-p in
-    let p = c.p-1 in
     attribute-known args.v.now args.list list-from.result list-from2.result if1.false list-from.ensures list-from2.ensures pick.result
-    pick.ensures p.given.0.0 c.place_then-then.result p.given.1 c.place_then-then.ensures
+    pick.ensures c.in-Here.k c.place_then-then.result c.in-Here.is c.place_then-then.ensures
 
 pub returns-in-Nowhere : goal.returns-in-Nowhere
 returns-in-Nowhere c =
@@ -26,4 +25,4 @@ returns-in-Nowhere c =
     let list-from2 = c.list_from-2 in
     let pick = c.pick-p in
     attribute-unknown args.v.now args.list list-from.result list-from2.result if1.false list-from.ensures list-from2.ensures
-    pick.result pick.ensures c.enum_told-1.given.1
+    pick.result pick.ensures c.in-Nowhere.is

@@ -14,9 +14,8 @@ returns-in-Here c =
     let state-from = c.state_from in
     let state-from2 = c.state_from-2 in
     let pick = c.pick-p in
-    let p = c.p-1 in
     child-known args.v.now args.left state-from.result state-from2.result if1.false state-from.ensures state-from2.ensures pick.result
-    pick.ensures p.given.0.0 c.place_name.result c.place_then.result p.given.1 c.place_name.ensures
+    pick.ensures c.in-Here.k c.place_name.result c.place_then.result c.in-Here.is c.place_name.ensures
     c.place_then.ensures
 
 pub returns-in-Nowhere : goal.returns-in-Nowhere
@@ -27,4 +26,4 @@ returns-in-Nowhere c =
     let state-from2 = c.state_from-2 in
     let pick = c.pick-p in
     child-unknown args.v.now args.left state-from.result state-from2.result if1.false state-from.ensures state-from2.ensures
-    pick.result pick.ensures c.enum_told-1.given.1
+    pick.result pick.ensures c.in-Nowhere.is

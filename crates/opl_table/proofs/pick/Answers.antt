@@ -1,5 +1,4 @@
 use Rattle.opl_table.proofs.Ways.{place_here, place-more, no_place}
-use Prim.Native.Nat.{◌-◌}
 use mathlib.Core.Path.{refl, sym, ◌∙◌}
 use Rattle.opl_table.proofs.pick.Goals as goal
 
