@@ -13,18 +13,18 @@ part-requires c =
     let args = c.args in
     let read_name = c.read_name-n in (
       let h =
-          name-room args.s.now args.at read_name.result read_name.ensures c.n-in-Next-1.given.0.0 c.n-in-Next-1.given.1 in omega arith,
+          name-room args.s.now args.at read_name.result read_name.ensures c.in-Next.e c.in-Next.is in omega arith,
       within args.s.now (word_of args.s.now args.at) (name (drop args.at args.s.now)) read_name.result read_name.ensures
-          c.n-in-Next-1.given.0.0 c.n-in-Next-1.given.1,
+          c.in-Next.e c.in-Next.is,
     )
 
 pub strange_value-requires : goal.strange_value-requires
 strange_value-requires c =
     let args = c.args in
     let read_name = c.read_name-n in
-    let n2 = c.n-in-Next-1 in (
+    let n2 = c.in-Next in (
       within args.s.now (word_of args.s.now args.at) (name (drop args.at args.s.now)) read_name.result read_name.ensures
-          n2.given.0.0 n2.given.1,
+          n2.e n2.is,
       search rules,
     )
 
@@ -32,34 +32,34 @@ pub attribute_value-requires : goal.attribute_value-requires
 attribute_value-requires c =
     let args = c.args in
     let read_name = c.read_name-n in
-    let n2 = c.n-in-Next-1 in
+    let n2 = c.in-Next in
     within args.s.now (word_of args.s.now args.at) (name (drop args.at args.s.now)) read_name.result read_name.ensures
-    n2.given.0.0 n2.given.1
+    n2.e n2.is
 
 pub returns-in-Bad : goal.returns-in-Bad
 returns-in-Bad c =
     let args = c.args in
     let read_name = c.read_name-n in
-    attribute-none args.s.now args.at args.list read_name.result read_name.ensures c.n-1.given.0.0 c.n-1.given.1
+    attribute-none args.s.now args.at args.list read_name.result read_name.ensures c.in-Bad.p c.in-Bad.is
 
 pub returns-in-Unknown : goal.returns-in-Unknown
 returns-in-Unknown c =
     let args = c.args in
     let read_name = c.read_name-n in
-    let n2 = c.n-in-Next-1 in
+    let n2 = c.in-Next in
     let part = c.part in
     let attribute = c.attribute-found in
-    attribute-unknown args.s.now args.at args.list read_name.result read_name.ensures n2.given.0.0 n2.given.1 part.result.now
-    part.ensures attribute.result attribute.ensures c.enum_told-1.given.1 c.strange_value.result c.strange_value.ensures
+    attribute-unknown args.s.now args.at args.list read_name.result read_name.ensures n2.e n2.is part.result.now
+    part.ensures attribute.result attribute.ensures c.in-Unknown.is c.strange_value.result c.strange_value.ensures
 
 pub returns-in-Known : goal.returns-in-Known
 returns-in-Known c =
     let args = c.args in
     let read_name = c.read_name-n in
-    let n2 = c.n-in-Next-1 in
+    let n2 = c.in-Next in
     let part = c.part in
     let attribute = c.attribute-found in
-    let found = c.found-1 in
-    attribute-known args.s.now args.at args.list read_name.result read_name.ensures n2.given.0.0 n2.given.1 part.result.now
-    part.ensures attribute.result attribute.ensures found.given.0.0 found.given.0.1.0 found.given.1 c.attribute_value.result
+    let found = c.in-Known in
+    attribute-known args.s.now args.at args.list read_name.result read_name.ensures n2.e n2.is part.result.now
+    part.ensures attribute.result attribute.ensures found.class found.more found.is c.attribute_value.result
     c.attribute_value.ensures

@@ -10,19 +10,19 @@ pub class_value-requires : goal.class_value-requires
 class_value-requires c =
     let args = c.args in
     let equals' = c.equals-q in
-    within args.s.now (step_of args.s.now) (equals (drop args.at args.s.now)) equals'.result equals'.ensures c.q-in-Next-1.given.0.0
-    c.q-in-Next-1.given.1
+    within args.s.now (step_of args.s.now) (equals (drop args.at args.s.now)) equals'.result equals'.ensures c.in-Next.u
+    c.in-Next.is
 
 pub returns-in-Bad : goal.returns-in-Bad
 returns-in-Bad c =
     let args = c.args in
     let equals = c.equals-q in
-    value-bad args.s.now args.at args.class args.more equals.result equals.ensures c.q-1.given.0.0 c.q-1.given.1
+    value-bad args.s.now args.at args.class args.more equals.result equals.ensures c.in-Bad.p c.in-Bad.is
 
 pub returns-in-Next : goal.returns-in-Next
 returns-in-Next c =
     let args = c.args in
     let equals = c.equals-q in
-    let q2 = c.q-in-Next-1 in
-    value_on args.s.now args.at args.class args.more equals.result equals.ensures q2.given.0.0 q2.given.1 c.class_value.result
+    let q2 = c.in-Next in
+    value_on args.s.now args.at args.class args.more equals.result equals.ensures q2.u q2.is c.class_value.result
     c.class_value.ensures

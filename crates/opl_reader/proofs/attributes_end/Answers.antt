@@ -1,6 +1,6 @@
 use native.Mathlib.Omega.{arith}
 use mathlib.Core.Path.{refl, sym, ◌∙◌}
-use Prim.Native.Nat.{◌-◌, ◌≤◌, ◌<◌}
+use Prim.Native.Nat.{◌≤◌, ◌<◌}
 use lib.ListN.{length}
 use Rattle.opl_reader.proofs.Chain.{moved}
 use Rattle.opl_reader.proofs.Attributes.{none_left, tag-missing, tag-whole, no-space, attribute-refused, more-inside, more-past, more-on}
@@ -72,7 +72,7 @@ returns-in-Refused c =
     let attribute = c.attribute-a in
     moved loop.invariant.1 (attribute-refused args.s.now loop.i loop.l loop-test.true skip-space.result skip-space.ensures.rest
     skip-space.ensures.inside is_at.result is-at2.result is_at.ensures is-at2.ensures if1.false if3.false attribute.result
-    attribute.ensures c.a-1.given.0.0 c.a-1.given.1)
+    attribute.ensures c.in-Refused.p c.in-Refused.is)
 
 pub loop-i-smaller : goal.loop-i-smaller
 loop-i-smaller c =
@@ -85,14 +85,14 @@ loop-i-smaller c =
     let if1 = c.if-is_at in
     let if3 = c.if-j-i in
     let attribute = c.attribute-a in
-    let p : loop.i < c.a-in-Behind-1.given.0.0 =
+    let p : loop.i < c.in-Behind.k =
     more-past args.s.now loop.i loop.l loop-test.true skip-space.result skip-space.ensures.rest skip-space.ensures.inside
     is_at.result is-at2.result is_at.ensures is-at2.ensures if1.false if3.false attribute.result attribute.ensures
-    c.a-in-Behind-1.given.0.0 c.a-in-Behind-1.given.0.1.0 c.a-in-Behind-1.given.1 in
-    let q : c.a-in-Behind-1.given.0.0 ≤ length args.s.now =
+    c.in-Behind.k c.in-Behind.more c.in-Behind.is in
+    let q : c.in-Behind.k ≤ length args.s.now =
     more-inside args.s.now loop.i loop.l loop-test.true skip-space.result skip-space.ensures.rest skip-space.ensures.inside
     is_at.result is-at2.result is_at.ensures is-at2.ensures if1.false if3.false attribute.result attribute.ensures
-    c.a-in-Behind-1.given.0.0 c.a-in-Behind-1.given.0.1.0 c.a-in-Behind-1.given.1 in
+    c.in-Behind.k c.in-Behind.more c.in-Behind.is in
     omega arith
 
 pub loop-i-preserved : goal.loop-i-preserved
@@ -108,11 +108,11 @@ loop-i-preserved c =
     let attribute = c.attribute-a in (
       more-inside args.s.now loop.i loop.l loop-test.true skip-space.result skip-space.ensures.rest skip-space.ensures.inside
           is_at.result is-at2.result is_at.ensures is-at2.ensures if1.false if3.false attribute.result attribute.ensures
-          c.a-in-Behind-1.given.0.0 c.a-in-Behind-1.given.0.1.0 c.a-in-Behind-1.given.1,
+          c.in-Behind.k c.in-Behind.more c.in-Behind.is,
       loop.invariant.1 ∙
           more-on args.s.now loop.i loop.l loop-test.true skip-space.result skip-space.ensures.rest skip-space.ensures.inside
           is_at.result is-at2.result is_at.ensures is-at2.ensures if1.false if3.false attribute.result attribute.ensures
-          c.a-in-Behind-1.given.0.0 c.a-in-Behind-1.given.0.1.0 c.a-in-Behind-1.given.1,
+          c.in-Behind.k c.in-Behind.more c.in-Behind.is,
     )
 
 pub returns : goal.returns

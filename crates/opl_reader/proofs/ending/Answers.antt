@@ -1,4 +1,6 @@
 -- `ending` meets its contract: the end tag has the name of the open element, and no child that must occur is missing.
+use mathlib.Core.Bool.{not}
+use mathlib.Core.Path.{ap}
 use native.Mathlib.Omega.{arith}
 use Prim.Native.Nat.{◌+◌}
 use lib.ListN.{drop}
@@ -12,16 +14,16 @@ pub returns-in_default : goal.returns-in_default
 returns-in_default c =
     let args = c.args in
     let read_name = c.read_name-n in
-    ending-bad args.s.now args.at args.id args.left read_name.result read_name.ensures _ c.enum_told-1.given.1
+    ending-bad args.s.now args.at args.id args.left read_name.result read_name.ensures _ c.in_default.is
 
 pub part-requires : goal.part-requires
 part-requires c =
     let args = c.args in
     let read_name = c.read_name-n in (
       let h =
-          name-room args.s.now (args.at + 2) read_name.result read_name.ensures c.n-1.given.0.0 c.n-1.given.1 in omega arith,
+          name-room args.s.now (args.at + 2) read_name.result read_name.ensures c.in-Next.e c.in-Next.is in omega arith,
       within args.s.now (word_of args.s.now (args.at + 2)) (name (drop (args.at + 2) args.s.now)) read_name.result read_name.ensures
-          c.n-1.given.0.0 c.n-1.given.1,
+          c.in-Next.e c.in-Next.is,
     )
 
 pub returns-then-not-is_name-may_end : goal.returns-then-not-is_name-may_end
@@ -29,13 +31,13 @@ returns-then-not-is_name-may_end c =
     let args = c.args in
     let pre = c.requires in
     let read_name = c.read_name-n in
-    let n = c.n-1 in
+    let n = c.in-Next in
     let part = c.part in
     let is_name = c.is_name in
     record {
       read_is =
-          ending-other args.s.now args.at args.id args.left read_name.result read_name.ensures n.given.0.0 n.given.1
-          part.result.now part.ensures is_name.result c.may_end.result is_name.ensures c.may_end.ensures c.if-not-is_name-may_end.true;
+          ending-other args.s.now args.at args.id args.left read_name.result read_name.ensures n.e n.is
+          part.result.now part.ensures is_name.result c.may_end.result is_name.ensures c.may_end.ensures (ap not c.if-not-is_name-may_end.true);
       inside = let h = pre in omega arith;
     }
 
@@ -43,15 +45,15 @@ pub skip_space-i-requires : goal.skip_space-i-requires
 skip_space-i-requires c =
     let args = c.args in
     let read_name = c.read_name-n in
-    let n = c.n-1 in
+    let n = c.in-Next in
     within args.s.now (word_of args.s.now (args.at + 2)) (name (drop (args.at + 2) args.s.now)) read_name.result read_name.ensures
-    n.given.0.0 n.given.1
+    n.e n.is
 
 pub returns-then-not-is_at : goal.returns-then-not-is_at
 returns-then-not-is_at c =
     let args = c.args in
     let read_name = c.read_name-n in
-    let n = c.n-1 in
+    let n = c.in-Next in
     let part = c.part in
     let is_name = c.is_name in
     let may-end = c.may_end in
@@ -59,9 +61,9 @@ returns-then-not-is_at c =
     let skip-space = c.skip_space-i in
     record {
       read_is =
-          ending-cut args.s.now args.at args.id args.left read_name.result read_name.ensures n.given.0.0 n.given.1
-          part.result.now part.ensures is_name.result may-end.result is_name.ensures may-end.ensures if1.false skip-space.result
-          skip-space.ensures.rest c.is_at.result c.is_at.ensures c.if-not-is_at.true;
+          ending-cut args.s.now args.at args.id args.left read_name.result read_name.ensures n.e n.is
+          part.result.now part.ensures is_name.result may-end.result is_name.ensures may-end.ensures (ap not if1.false) skip-space.result
+          skip-space.ensures.rest c.is_at.result c.is_at.ensures (ap not c.if-not-is_at.true);
       inside = skip-space.ensures.inside;
     }
 
@@ -69,7 +71,7 @@ pub returns : goal.returns
 returns c =
     let args = c.args in
     let read_name = c.read_name-n in
-    let n = c.n-1 in
+    let n = c.in-Next in
     let part = c.part in
     let is_name = c.is_name in
     let may-end = c.may_end in
@@ -77,11 +79,11 @@ returns c =
     let skip-space = c.skip_space-i in
     record {
       read_is =
-          ending-done args.s.now args.at args.id args.left read_name.result read_name.ensures n.given.0.0 n.given.1
-          part.result.now part.ensures is_name.result may-end.result is_name.ensures may-end.ensures if1.false skip-space.result
-          skip-space.ensures.rest c.is_at.result c.is_at.ensures c.if-not-is_at.false;
+          ending-done args.s.now args.at args.id args.left read_name.result read_name.ensures n.e n.is
+          part.result.now part.ensures is_name.result may-end.result is_name.ensures may-end.ensures (ap not if1.false) skip-space.result
+          skip-space.ensures.rest c.is_at.result c.is_at.ensures (ap not c.if-not-is_at.false);
       inside =
-          ending-room args.s.now args.at args.id args.left read_name.result read_name.ensures n.given.0.0 n.given.1
-          part.result.now part.ensures is_name.result may-end.result is_name.ensures may-end.ensures if1.false skip-space.result
-          skip-space.ensures.rest c.is_at.result c.is_at.ensures c.if-not-is_at.false;
+          ending-room args.s.now args.at args.id args.left read_name.result read_name.ensures n.e n.is
+          part.result.now part.ensures is_name.result may-end.result is_name.ensures may-end.ensures (ap not if1.false) skip-space.result
+          skip-space.ensures.rest c.is_at.result c.is_at.ensures (ap not c.if-not-is_at.false);
     }

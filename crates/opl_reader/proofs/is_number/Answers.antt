@@ -1,4 +1,5 @@
-use mathlib.Core.Path.{sym, ◌∙◌}
+use mathlib.Core.Bool.{not}
+use mathlib.Core.Path.{sym, ◌∙◌, ap}
 use Prim.Native.Nat.{◌+◌, ◌-◌, ◌*◌, ◌≤◌}
 use lib.ListN.{drop}
 use Rattle.opl_reader.proofs.Numbers.{number-empty, number-some, count-over, count-end, count-not, count-more, digit_low}
@@ -18,17 +19,17 @@ returns-then-not-digit c =
     let loop-test = c.loop-i-test in
     let wide = c.wide-b in
     count-not args.v.now loop.n loop.i loop-test.true wide.result wide.ensures.0 c.digit.result c.digit.ensures
-    c.if-not-digit.true ∙ sym loop.invariant.1
+    (ap not c.if-not-digit.true) ∙ sym loop.invariant.1
 
 pub overflow_sub-n : goal.overflow_sub-n
 overflow_sub-n c =
     let wide = c.wide-b in
-    let h : 48 ≤ wide.result = digit_low wide.result c.digit.result c.digit.ensures c.if-not-digit.false in search rules
+    let h : 48 ≤ wide.result = digit_low wide.result c.digit.result c.digit.ensures (ap not c.if-not-digit.false) in search rules
 
 pub overflow_add-n : goal.overflow_add-n
 overflow_add-n c =
     let wide = c.wide-b in
-    let h : 48 ≤ wide.result = digit_low wide.result c.digit.result c.digit.ensures c.if-not-digit.false in search rules
+    let h : 48 ≤ wide.result = digit_low wide.result c.digit.result c.digit.ensures (ap not c.if-not-digit.false) in search rules
 
 pub returns-then-n-gt255 : goal.returns-then-n-gt255
 returns-then-n-gt255 c =
@@ -39,7 +40,7 @@ returns-then-n-gt255 c =
     let digit = c.digit in
     count-over (10 * loop.n + (wide.result - 48)) (drop (loop.i + 1) args.v.now) c.if-n-gt255.true ∙
     sym (loop.invariant.1 ∙
-    count-more args.v.now loop.n loop.i loop-test.true wide.result wide.ensures.0 digit.result digit.ensures c.if-not-digit.false)
+    count-more args.v.now loop.n loop.i loop-test.true wide.result wide.ensures.0 digit.result digit.ensures (ap not c.if-not-digit.false))
 
 pub loop-i-preserved : goal.loop-i-preserved
 loop-i-preserved c =
@@ -51,7 +52,7 @@ loop-i-preserved c =
       search rules,
       loop.invariant.1 ∙
           count-more args.v.now loop.n loop.i loop-test.true wide.result wide.ensures.0 digit.result digit.ensures
-          c.if-not-digit.false,
+          (ap not c.if-not-digit.false),
     )
 
 pub returns : goal.returns

@@ -1,4 +1,6 @@
 -- `named` meets its contract: it reads "<", which must begin a start tag, and a name, and looks the name up in the state.
+use mathlib.Core.Bool.{not}
+use mathlib.Core.Path.{ap}
 use native.Mathlib.Omega.{arith}
 use Prim.Native.Nat.{◌+◌}
 use lib.ListN.{drop}
@@ -12,7 +14,7 @@ pub returns-then-not-is_at : goal.returns-then-not-is_at
 returns-then-not-is_at c =
     let args = c.args in
     let pre = c.requires in
-    record { read_is = no-opening args.s.now args.at args.left c.is_at.result c.is_at.ensures c.if-not-is_at.true; inside = pre }
+    record { read_is = no-opening args.s.now args.at args.left c.is_at.result c.is_at.ensures (ap not c.if-not-is_at.true); inside = pre }
 
 pub returns-then-is_at : goal.returns-then-is_at
 returns-then-is_at c =
@@ -23,7 +25,7 @@ returns-then-is_at c =
     let is-at2 = c.is_at-2 in
     record {
       read_is =
-          other-opening args.s.now args.at args.left is_at.result is_at.ensures if1.false is-at2.result c.is_at-3.result
+          other-opening args.s.now args.at args.left is_at.result is_at.ensures (ap not if1.false) is-at2.result c.is_at-3.result
           is-at2.ensures c.is_at-3.ensures c.if-is_at.true;
       inside = pre;
     }
@@ -33,17 +35,17 @@ read_name-n-requires c =
     let args = c.args in
     let is_at = c.is_at in
     let if1 = c.if-not-is_at in
-    opening-room args.s.now args.at args.left is_at.result is_at.ensures if1.false
+    opening-room args.s.now args.at args.left is_at.result is_at.ensures (ap not if1.false)
 
 pub part-requires : goal.part-requires
 part-requires c =
     let args = c.args in
     let read_name = c.read_name-n in (
       let h =
-          name-room args.s.now (args.at + 1) read_name.result read_name.ensures c.n-in-Next-1.given.0.0 c.n-in-Next-1.given.1 in omega
+          name-room args.s.now (args.at + 1) read_name.result read_name.ensures c.in-Next.e c.in-Next.is in omega
           arith,
       within args.s.now (word_of args.s.now (args.at + 1)) (name (drop (args.at + 1) args.s.now)) read_name.result read_name.ensures
-          c.n-in-Next-1.given.0.0 c.n-in-Next-1.given.1,
+          c.in-Next.e c.in-Next.is,
     )
 
 pub returns-in-Bad : goal.returns-in-Bad
@@ -55,8 +57,8 @@ returns-in-Bad c =
     let is-at3 = c.is_at-3 in
     let if2 = c.if-is_at in
     let read_name = c.read_name-n in
-    opening-bad args.s.now args.at args.left is_at.result is_at.ensures if1.false is-at2.result is-at3.result is-at2.ensures
-    is-at3.ensures if2.false read_name.result read_name.ensures c.n-1.given.0.0 c.n-1.given.1
+    opening-bad args.s.now args.at args.left is_at.result is_at.ensures (ap not if1.false) is-at2.result is-at3.result is-at2.ensures
+    is-at3.ensures if2.false read_name.result read_name.ensures c.in-Bad.p c.in-Bad.is
 
 pub returns-in-Unknown : goal.returns-in-Unknown
 returns-in-Unknown c =
@@ -68,14 +70,14 @@ returns-in-Unknown c =
     let is-at3 = c.is_at-3 in
     let if2 = c.if-is_at in
     let read_name = c.read_name-n in
-    let n2 = c.n-in-Next-1 in
+    let n2 = c.in-Next in
     let part = c.part in
     let next = c.next-found in
     record {
       read_is =
-          opening-other args.s.now args.at args.left is_at.result is_at.ensures if1.false is-at2.result is-at3.result is-at2.ensures
-          is-at3.ensures if2.false read_name.result read_name.ensures n2.given.0.0 n2.given.1 part.result.now part.ensures
-          next.result next.ensures c.enum_told-1.given.1;
+          opening-other args.s.now args.at args.left is_at.result is_at.ensures (ap not if1.false) is-at2.result is-at3.result is-at2.ensures
+          is-at3.ensures if2.false read_name.result read_name.ensures n2.e n2.is part.result.now part.ensures
+          next.result next.ensures c.in-Unknown.is;
       inside = pre;
     }
 
@@ -88,9 +90,9 @@ returns-in-Known c =
     let is-at3 = c.is_at-3 in
     let if2 = c.if-is_at in
     let read_name = c.read_name-n in
-    let n2 = c.n-in-Next-1 in
+    let n2 = c.in-Next in
     let part = c.part in
     let next = c.next-found in
-    opening-got args.s.now args.at args.left is_at.result is_at.ensures if1.false is-at2.result is-at3.result is-at2.ensures
-    is-at3.ensures if2.false read_name.result read_name.ensures n2.given.0.0 n2.given.1 part.result.now part.ensures next.result
-    next.ensures c.found-1.given.0.0 c.found-1.given.0.1.0 c.found-1.given.1
+    opening-got args.s.now args.at args.left is_at.result is_at.ensures (ap not if1.false) is-at2.result is-at3.result is-at2.ensures
+    is-at3.ensures if2.false read_name.result read_name.ensures n2.e n2.is part.result.now part.ensures next.result
+    next.ensures c.in-Known.id c.in-Known.more c.in-Known.is

@@ -15,7 +15,7 @@ returns-in_default c =
     let args = c.args in
     let behind-mark = c.behind_mark in
     let declared = c.declared-d in
-    prolog-declared args.s.now behind-mark.result behind-mark.ensures declared.result declared.ensures _ c.enum_told-1.given.1
+    prolog-declared args.s.now behind-mark.result behind-mark.ensures declared.result declared.ensures _ c.in_default.is
 
 pub skip_misc-m-requires : goal.skip_misc-m-requires
 skip_misc-m-requires c =
@@ -23,33 +23,33 @@ skip_misc-m-requires c =
     let behind-mark = c.behind_mark in
     let declared' = c.declared-d in
     within args.s.now (step_of args.s.now) (declared (drop behind-mark.result args.s.now)) declared'.result declared'.ensures
-    c.d-1.given.0.0 c.d-1.given.1
+    c.in-Next.i c.in-Next.is
 
 pub returns-in_default-m : goal.returns-in_default-m
 returns-in_default-m c =
     let args = c.args in
     let behind-mark = c.behind_mark in
     let declared = c.declared-d in
-    let d = c.d-1 in
+    let d = c.in-Next in
     let skip-misc = c.skip_misc-m in
-    prolog-misc args.s.now behind-mark.result behind-mark.ensures declared.result declared.ensures d.given.0.0 d.given.1
-    skip-misc.result skip-misc.ensures _ c.enum_told-in_default-m-1.given.1
+    prolog-misc args.s.now behind-mark.result behind-mark.ensures declared.result declared.ensures d.i d.is
+    skip-misc.result skip-misc.ensures _ c.in_default-m.is
 
 pub typed-requires : goal.typed-requires
 typed-requires c =
     let args = c.args in
-    let d = c.d-1 in
+    let d = c.in-Next in
     let skip-misc = c.skip_misc-m in
-    within args.s.now (step_of args.s.now) (misc (length (drop d.given.0.0 args.s.now)) (drop d.given.0.0 args.s.now))
-    skip-misc.result skip-misc.ensures c.m-1.given.0.0 c.m-1.given.1
+    within args.s.now (step_of args.s.now) (misc (length (drop d.i args.s.now)) (drop d.i args.s.now))
+    skip-misc.result skip-misc.ensures c.in-Next-m.u c.in-Next-m.is
 
 pub returns : goal.returns
 returns c =
     let args = c.args in
     let behind-mark = c.behind_mark in
     let declared = c.declared-d in
-    let d = c.d-1 in
+    let d = c.in-Next in
     let skip-misc = c.skip_misc-m in
-    let m = c.m-1 in
-    prolog-typed args.s.now behind-mark.result behind-mark.ensures declared.result declared.ensures d.given.0.0 d.given.1
-    skip-misc.result skip-misc.ensures m.given.0.0 m.given.1 c.type-inv.result c.type-inv.ensures
+    let m = c.in-Next-m in
+    prolog-typed args.s.now behind-mark.result behind-mark.ensures declared.result declared.ensures d.i d.is
+    skip-misc.result skip-misc.ensures m.u m.is c.typed.result c.typed.ensures

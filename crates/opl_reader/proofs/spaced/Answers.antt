@@ -10,19 +10,19 @@ pub returns-in_default : goal.returns-in_default
 returns-in_default c =
     let args = c.args in
     let space = c.space-b in
-    spaced-not args.s.now args.at args.w.now space.result space.ensures _ c.enum_told-1.given.1
+    spaced-not args.s.now args.at args.w.now space.result space.ensures _ c.in_default.is
 
 pub expect-requires : goal.expect-requires
 expect-requires c =
     let args = c.args in
     let space' = c.space-b in
-    within args.s.now (step_of args.s.now) (space (drop args.at args.s.now)) space'.result space'.ensures c.b-1.given.0.0
-    c.b-1.given.1
+    within args.s.now (step_of args.s.now) (space (drop args.at args.s.now)) space'.result space'.ensures c.in-Next.i
+    c.in-Next.is
 
 pub returns : goal.returns
 returns c =
     let args = c.args in
     let space = c.space-b in
-    let b = c.b-1 in
-    spaced-on args.s.now args.at args.w.now space.result space.ensures b.given.0.0 b.given.1 c.expect.result
+    let b = c.in-Next in
+    spaced-on args.s.now args.at args.w.now space.result space.ensures b.i b.is c.expect.result
     c.expect.ensures

@@ -10,32 +10,32 @@ pub read_value-v-requires : goal.read_value-v-requires
 read_value-v-requires c =
     let args = c.args in
     let equals' = c.equals-q in
-    within args.s.now (step_of args.s.now) (equals (drop args.at args.s.now)) equals'.result equals'.ensures c.q-in-Next-1.given.0.0
-    c.q-in-Next-1.given.1
+    within args.s.now (step_of args.s.now) (equals (drop args.at args.s.now)) equals'.result equals'.ensures c.in-Next.u
+    c.in-Next.is
 
 pub returns-in-Bad : goal.returns-in-Bad
 returns-in-Bad c =
     let args = c.args in
     let pre = c.requires in
     let equals = c.equals-q in
-    strange-none args.s.now args.at args.name pre.1 equals.result equals.ensures c.q-1.given.0.0 c.q-1.given.1
+    strange-none args.s.now args.at args.name pre.1 equals.result equals.ensures c.in-Bad.p c.in-Bad.is
 
 pub returns-in-Bad-v : goal.returns-in-Bad-v
 returns-in-Bad-v c =
     let args = c.args in
     let pre = c.requires in
     let equals = c.equals-q in
-    let q2 = c.q-in-Next-1 in
+    let q2 = c.in-Next in
     let read-value = c.read_value-v in
-    strange-bad args.s.now args.at args.name pre.1 equals.result equals.ensures q2.given.0.0 q2.given.1 read-value.result
-    read-value.ensures c.v-1.given.0.0 c.v-1.given.1
+    strange-bad args.s.now args.at args.name pre.1 equals.result equals.ensures q2.u q2.is read-value.result
+    read-value.ensures c.in-Bad-v.p c.in-Bad-v.is
 
 pub returns-in-Next-v : goal.returns-in-Next-v
 returns-in-Next-v c =
     let args = c.args in
     let pre = c.requires in
     let equals = c.equals-q in
-    let q2 = c.q-in-Next-1 in
+    let q2 = c.in-Next in
     let read-value = c.read_value-v in
-    strange-whole args.s.now args.at args.name pre.1 equals.result equals.ensures q2.given.0.0 q2.given.1 read-value.result
-    read-value.ensures c.v-in-Next-v-1.given.0.0 c.v-in-Next-v-1.given.1
+    strange-whole args.s.now args.at args.name pre.1 equals.result equals.ensures q2.u q2.is read-value.result
+    read-value.ensures _ c.in-Next-v.is

@@ -18,8 +18,8 @@ returns-in-Bad c =
     let if1 = c.if-d-lt2 in
     let tag-end = c.tag_end-t in
     tag-bad args.s.now args.at (wider_by args.d) (deep_by args.d) args.id args.more (λ z. let h = if1.false in omega arith) tag-end.result
-    tag-end.ensures c.t-1.given.0.0
-    c.t-1.given.1
+    tag-end.ensures c.in-Bad.p
+    c.in-Bad.is
 
 pub returns-in-Next : goal.returns-in-Next
 returns-in-Next c =
@@ -27,5 +27,5 @@ returns-in-Next c =
     let if1 = c.if-d-lt2 in
     let tag-end = c.tag_end-t in
     tag-got args.s.now args.at (wider_by args.d) (deep_by args.d) args.id args.more (λ z. let h = if1.false in omega arith) tag-end.result
-    tag-end.ensures c.t-in-Next-1.given.0.0
-    c.t-in-Next-1.given.1
+    tag-end.ensures c.in-Next.i
+    c.in-Next.is

@@ -1,4 +1,6 @@
 -- `typed` meets its contract: it reads the DOCTYPE, if there is one, and the white space and comments after it.
+use mathlib.Core.Bool.{not}
+use mathlib.Core.Path.{ap}
 use Prim.Native.Nat.{◌+◌}
 use lib.ListN.{drop}
 use Rattle.opl_text.specs.Steps.{step_of}
@@ -13,13 +15,13 @@ unfolding text
 returns-then-not-starts_with c =
     let args = c.args in
     let pre = c.requires in
-    record { read_is = untyped args.s.now args.at c.starts_with.result c.starts_with.ensures c.if-not-starts_with.true; inside = pre }
+    record { read_is = untyped args.s.now args.at c.starts_with.result c.starts_with.ensures (ap not c.if-not-starts_with.true); inside = pre }
 
 pub doctype-d-requires : goal.doctype-d-requires
 unfolding text
 doctype-d-requires c =
     let args = c.args in
-    typed-room args.s.now args.at c.starts_with.result c.starts_with.ensures c.if-not-starts_with.false
+    typed-room args.s.now args.at c.starts_with.result c.starts_with.ensures (ap not c.if-not-starts_with.false)
 
 pub returns-in_default : goal.returns-in_default
 unfolding text
@@ -28,15 +30,15 @@ returns-in_default c =
     let starts_with = c.starts_with in
     let if1 = c.if-not-starts_with in
     let doctype = c.doctype-d in
-    typed-not args.s.now args.at starts_with.result starts_with.ensures if1.false doctype.result doctype.ensures _
-    c.enum_told-1.given.1
+    typed-not args.s.now args.at starts_with.result starts_with.ensures (ap not if1.false) doctype.result doctype.ensures _
+    c.in_default.is
 
 pub skip_misc-requires : goal.skip_misc-requires
 skip_misc-requires c =
     let args = c.args in
     let doctype' = c.doctype-d in
     within args.s.now (step_of args.s.now) (doctype (drop (args.at + 9) args.s.now)) doctype'.result doctype'.ensures
-    c.d-1.given.0.0 c.d-1.given.1
+    c.in-Next.i c.in-Next.is
 
 pub returns : goal.returns
 unfolding text
@@ -45,6 +47,6 @@ returns c =
     let starts_with = c.starts_with in
     let if1 = c.if-not-starts_with in
     let doctype = c.doctype-d in
-    let d = c.d-1 in
-    typed-on args.s.now args.at starts_with.result starts_with.ensures if1.false doctype.result doctype.ensures d.given.0.0
-    d.given.1 c.skip_misc.result c.skip_misc.ensures
+    let d = c.in-Next in
+    typed-on args.s.now args.at starts_with.result starts_with.ensures (ap not if1.false) doctype.result doctype.ensures d.i
+    d.is c.skip_misc.result c.skip_misc.ensures
