@@ -1,14 +1,15 @@
-use mathlib.Core.Path.{sym, ◌∙◌}
-use Prim.Native.Nat.{◌-◌}
+use mathlib.Core.Bool.{not}
+use mathlib.Core.Path.{sym, ◌∙◌, ap}
 use native.Mathlib.Omega.{arith}
 use Rattle.policy.proofs.RuleLaws.{pairs-are}
 use Rattle.replies.proofs.SearchLaws.{place-start, place_here, place-later, place_end}
 use Rattle.order_rules.proofs.Looks.{none_before}
 use borrow.Author.Rules.{rules}
+use Rattle.paper_upper.specs.Rules.{before}
 use Rattle.order_rules.proofs.before.Goals as goal
 
 pub returns-then-not-has_before : goal.returns-then-not-has_before
-returns-then-not-has_before c = none_before _ _ _ c.has_before.ensures c.if-not-has_before.true
+returns-then-not-has_before c = none_before _ _ _ c.has_before.ensures (ap not c.if-not-has_before.true)
 
 pub loop-k-init : goal.loop-k-init
 loop-k-init c = (search rules, place-start _ (pairs-are _ 1 (omega arith)) c.pair_count-count.ensures.0 _)

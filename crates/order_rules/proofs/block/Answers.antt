@@ -1,16 +1,18 @@
-use mathlib.Core.Path.{◌≡◌, refl, sym, ◌∙◌}
-use mathlib.Core.Logic.{⊎_elim}
-use Prim.Native.Nat.{◌+◌, ◌-◌}
+use mathlib.Core.Bool.{not}
+use mathlib.Core.Path.{◌≡◌, refl, sym, ◌∙◌, ap}
+use Prim.Native.Nat.{◌+◌}
 use native.Mathlib.Omega.{arith}
 use Rattle.policy.specs.Reading.{policy_of}
 use Rattle.policy.proofs.RuleLaws.{blocks-are}
 use Rattle.replies.proofs.SearchLaws.{place-start, place_here, place-later, place_end, first-here, first-later, first-end}
 use Rattle.order_rules.proofs.BlockLaws.{in-own, in-none, none_apart}
 use borrow.Author.Rules.{rules}
+use Rattle.paper_upper.specs.Rules.{block_within, block}
+use Rattle.order_rules.proofs.block.Goals.{then-has_own+else-loop-k-test, else-has_own}
 use Rattle.order_rules.proofs.block.Goals as goal
 
 pub returns-then-not-has_apart : goal.returns-then-not-has_apart
-returns-then-not-has_apart c = none_apart _ _ _ c.has_apart.ensures c.if-not-has_apart.true
+returns-then-not-has_apart c = none_apart _ _ _ c.has_apart.ensures (ap not c.if-not-has_apart.true)
 
 pub search-init : goal.search-init
 unfolding block
@@ -31,10 +33,10 @@ search-preserved c =
       search rules,
       search'.invariant.1
           ∙ first-later _ _ _ (search rules)
-          (⊎_elim
-          (λ w. in-own _ _ _ _ c.has_own.ensures w.0.taken ∙ w.1.inv.1 ∙ place_end _ _ _ _ w.2.left)
-          (λ w. in-none _ _ _ _ c.has_own.ensures w.left)
-          c.if-has_own.branch),
+          (elim c.if-has_own.branch [
+            | then-has_own+else-loop-k-test w ↦ in-own _ _ _ _ c.has_own.ensures w.if-has_own.true ∙ w.loop-k.invariant.1 ∙ place_end _ _ _ _ w.loop-k-test.false
+            | else-has_own w ↦ in-none _ _ _ _ c.has_own.ensures w.if-has_own.false
+          ]),
     )
 
 pub returns-then-q-eq16 : goal.returns-then-q-eq16

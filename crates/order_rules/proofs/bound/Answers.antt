@@ -1,10 +1,10 @@
 use mathlib.Core.Path.{sym, ◌∙◌}
-use Prim.Native.Nat.{◌-◌}
 use native.Mathlib.Omega.{arith}
 use Rattle.policy.proofs.RuleLaws.{pairs-are}
 use Rattle.replies.proofs.SearchLaws.{place-start, place_here, place-later, place_end}
 use Rattle.order_rules.proofs.Looks.{none-tied}
 use borrow.Author.Rules.{rules}
+use Rattle.paper_upper.specs.Rules.{bound}
 use Rattle.order_rules.proofs.bound.Goals as goal
 
 pub returns-then-is_empty : goal.returns-then-is_empty
@@ -17,12 +17,12 @@ pub returns-then-is_tied : goal.returns-then-is_tied
 unfolding bound
 returns-then-is_tied c =
     let loop = c.loop-k in
-    sym (loop.invariant.1 ∙ place_here _ _ _ _ (search rules) (sym c.is_Tied.ensures ∙ c.if-is_tied.true))
+    sym (loop.invariant.1 ∙ place_here _ _ _ _ (search rules) (sym c.is_tied.ensures ∙ c.if-is_tied.true))
 
 pub loop-k-preserved : goal.loop-k-preserved
 loop-k-preserved c =
     let loop = c.loop-k in
-    (search rules, loop.invariant.1 ∙ place-later _ _ _ _ (search rules) (sym c.is_Tied.ensures ∙ c.if-is_tied.false))
+    (search rules, loop.invariant.1 ∙ place-later _ _ _ _ (search rules) (sym c.is_tied.ensures ∙ c.if-is_tied.false))
 
 pub returns : goal.returns
 unfolding bound

@@ -6,7 +6,7 @@ use Rattle.paper_lower.specs.Lists.{place, place_from}
 use Rattle.policy.specs.Layout.{pair_at}
 use Rattle.policy.specs.Reading.{policy_of}
 use Rattle.replies.specs.Cells.{rows_from}
-use borrow.Author.Rules.{rules}
+use Rattle.paper_upper.specs.Rules.{tied}
 use Rattle.order_rules.proofs.bound.Given as goal
 
 abbrev pub invariant-loop-k : goal.invariant-loop-k

@@ -1,5 +1,4 @@
 use mathlib.Core.Path.{sym, ◌∙◌}
-use Prim.Native.Nat.{◌-◌}
 use Rattle.policy.specs.Layout.{block_at}
 use Rattle.policy.specs.Reading.{policy_of}
 use Rattle.policy.proofs.RuleLaws.{blocks-are}

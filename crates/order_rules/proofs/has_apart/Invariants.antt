@@ -7,7 +7,6 @@ use Rattle.policy.specs.Layout.{block_at}
 use Rattle.policy.specs.Reading.{policy_of}
 use Rattle.replies.specs.Cells.{rows_from}
 use Rattle.order_rules.specs.Blocks.{apart}
-use borrow.Author.Rules.{rules}
 use Rattle.order_rules.proofs.has_apart.Given as goal
 
 abbrev pub invariant-loop-k : goal.invariant-loop-k

@@ -1,5 +1,4 @@
 use mathlib.Core.Path.{sym, ◌∙◌}
-use Prim.Native.Nat.{◌-◌}
 use native.Mathlib.Omega.{arith}
 use Rattle.policy.specs.Layout.{pair_at}
 use Rattle.policy.proofs.RuleLaws.{pairs-are}

@@ -5,7 +5,7 @@ use Rattle.paper_lower.specs.Lists.{some}
 use Rattle.policy.specs.Layout.{block_at}
 use Rattle.policy.specs.Reading.{policy_of}
 use Rattle.replies.specs.Cells.{rows_from}
-use borrow.Author.Rules.{rules}
+use Rattle.paper_upper.specs.Rules.{own}
 use Rattle.order_rules.proofs.has_own.Given as goal
 
 abbrev pub invariant-loop-k : goal.invariant-loop-k

@@ -1,4 +1,5 @@
 -- `is_missing` meets its contract: its tests of the pair are those of the definition.
+use Rattle.paper_upper.specs.Rules.{missing}
 use Rattle.order_rules.proofs.is_missing.Goals as goal
 
 pub returns : goal.returns

@@ -1,4 +1,5 @@
 -- `is_strange` meets its contract: its tests of the block are those of the definition.
+use Rattle.paper_upper.specs.Rules.{strange}
 use Rattle.order_rules.proofs.is_strange.Goals as goal
 
 pub returns : goal.returns

@@ -1,5 +1,6 @@
 -- `is_tied` meets its contract: its tests of the pair, from either side, are those of the definition.
 use Rattle.order_rules.proofs.Looks.{none-side}
+use Rattle.paper_upper.specs.Rules.{tied}
 use Rattle.order_rules.proofs.is_tied.Goals as goal
 
 pub returns-then-a-t : goal.returns-then-a-t

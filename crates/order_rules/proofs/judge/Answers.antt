@@ -2,6 +2,7 @@
 use mathlib.Core.Path.{refl}
 use Rattle.replies.specs.declared.Reply.TheVariants.{Granted, Before, Separation, Block, Alone, Bound, Count}
 use Rattle.order_rules.proofs.Chain.{by_place, no_place, by-test, not-by-test, by-none}
+use Rattle.paper_upper.specs.Rules.{spent, gathered_checks, rule_place}
 use Rattle.order_rules.proofs.judge.Goals as goal
 
 pub returns-then-missing-ne0 : goal.returns-then-missing-ne0

@@ -1,9 +1,9 @@
 use mathlib.Core.Path.{sym, ◌∙◌}
-use Prim.Native.Nat.{◌-◌}
 use native.Mathlib.Omega.{arith}
 use Rattle.policy.proofs.RuleLaws.{limits-are}
 use Rattle.replies.proofs.SearchLaws.{place-start, place_here, place-later, place_end}
 use borrow.Author.Rules.{rules}
+use Rattle.paper_upper.specs.Rules.{separation}
 use Rattle.order_rules.proofs.separation.Goals as goal
 
 pub loop-k-init : goal.loop-k-init
