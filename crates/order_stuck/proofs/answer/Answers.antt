@@ -2,7 +2,7 @@
 use Prim.Native.Nat.{ℕ}
 use mathlib.Core.Path.{◌≡◌, ap, ◌∙◌}
 use native.Mathlib.Omega.{arith}
-use lib.ListN.{length, length-set, length-replicate}
+use lib.ListN.{length, length-replicate}
 use Rattle.paper_upper.specs.Questions.{answer_words}
 use Rattle.order_stuck.proofs.Words.{written, of-template}
 use Rattle.order_stuck.proofs.answer.Goals as goal
@@ -11,15 +11,8 @@ pub bounds-out-0 : goal.bounds-out-0
 bounds-out-0 c =
     let args = c.args in
     let pre = c.requires in
-    let list = c.list-had in
     let l : length args.out.now ≡ answer_words = ap length pre.1.1 ∙ length-replicate {A = ℕ} answer_words 0 in
-    let e : length list.new.1.1.0 ≡ length args.out.now = c.out-1.given in
     omega arith
-
-pub shape_of-out : goal.shape_of-out
-shape_of-out c =
-    let list = c.list-had in
-    length-set list.new.1.1.0 0 c.others.result.bits ∙ c.out-1.given
 
 pub returns : goal.returns
 returns c =

@@ -1,11 +1,10 @@
-use Prim.Native.Nat.{◌-◌}
-use mathlib.Core.Logic.{⊎_elim}
 use mathlib.Core.Path.{◌≡◌, sym, ◌∙◌}
 use native.Mathlib.Omega.{arith}
 use lib.ListN.{length-set}
 use Rattle.order_stuck.proofs.Zeros.{found_below}
 use Rattle.order_stuck.proofs.Walk.{begin, turn, none_left, all_done}
 use borrow.Author.Rules.{rules}
+use Rattle.order_stuck.proofs.list.Goals.{else-loop-n-test, then-loop-n-test+then-t-eq64}
 use Rattle.order_stuck.proofs.list.Goals as goal
 
 pub loop-n-init : goal.loop-n-init
@@ -28,5 +27,9 @@ shape_of-out c =
 
 pub returns : goal.returns
 returns c =
-    ⊎_elim (λ w. all_done _ _ _ _ _ _ w.left c.loop-n.invariant.1.1)
-    (λ w. let e : 64 ≡ w.1.result = omega arith in none_left _ _ _ _ _ _ w.0.taken (e ∙ w.1.ensures) c.loop-n.invariant.1.1) c.loop-n-test.branch
+    elim c.loop-n-test.branch [
+      | else-loop-n-test w ↦ all_done _ _ _ _ _ _ w.loop-n-test.false c.loop-n.invariant.1.1
+      | then-loop-n-test+then-t-eq64 w ↦
+          let e : 64 ≡ w.next-t.result = omega arith in
+          none_left _ _ _ _ _ _ w.loop-n-test.true (e ∙ w.next-t.ensures) c.loop-n.invariant.1.1
+    ]

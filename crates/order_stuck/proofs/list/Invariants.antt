@@ -5,7 +5,6 @@ use lib.ListN.{length}
 use Rattle.policy.specs.Reading.{policy_of}
 use Rattle.paper_upper.specs.Questions.{answer_words}
 use Rattle.order_stuck.proofs.Walk.{Going}
-use borrow.Author.Rules.{rules}
 use Rattle.order_stuck.proofs.list.Given as goal
 
 abbrev pub invariant-loop-n : goal.invariant-loop-n

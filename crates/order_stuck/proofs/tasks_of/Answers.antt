@@ -1,11 +1,10 @@
-use mathlib.Core.Logic.{⊎_elim}
 use mathlib.Core.Path.{◌≡◌, refl, ap, ◌∙◌}
-use Prim.Native.Nat.{◌-◌}
 use native.Mathlib.Omega.{arith}
 use Rattle.paper_lower.specs.Sets.{collect}
 use Rattle.paper_lower.specs.Policy.{tasks_of}
 use Rattle.order_stuck.proofs.Words.{taken_in, left_out}
 use borrow.Author.Rules.{rules}
+use Rattle.order_stuck.proofs.tasks_of.Goals.{then-task_is_of, else-task_is_of}
 use Rattle.order_stuck.proofs.tasks_of.Goals as goal
 
 pub loop-t-init : goal.loop-t-init
@@ -16,9 +15,10 @@ pub loop-t-preserved : goal.loop-t-preserved
 loop-t-preserved c =
     let loop = c.loop-t in (
       search rules,
-      ⊎_elim
-          (λ w. ap (λ s. s.bits) w.2 ∙ w.1.ensures ∙ taken_in _ _ loop.invariant.1 c.task_is_of.ensures w.0.taken)
-          (λ w. ap (λ s. s.bits) w.1 ∙ left_out _ _ loop.invariant.1 c.task_is_of.ensures w.0.left) c.if-task_is_of.branch,
+      elim c.if-task_is_of.branch [
+        | then-task_is_of w ↦ ap (λ s. s.bits) w.all-is ∙ w.with-all.ensures ∙ taken_in _ _ loop.invariant.1 c.task_is_of.ensures w.if-task_is_of.true
+        | else-task_is_of w ↦ ap (λ s. s.bits) w.all-is ∙ left_out _ _ loop.invariant.1 c.task_is_of.ensures w.if-task_is_of.false
+      ],
     )
 
 pub returns : goal.returns

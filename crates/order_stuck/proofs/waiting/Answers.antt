@@ -1,5 +1,4 @@
 use mathlib.Core.Path.{◌∙◌}
-use Prim.Native.Nat.{◌-◌}
 use native.Mathlib.Omega.{arith}
 use Rattle.policy.proofs.RuleLaws.{pairs-are}
 use Rattle.order_stuck.proofs.WaitLaws.{none-waits, one-waits, all-wait}
