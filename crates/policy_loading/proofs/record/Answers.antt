@@ -19,7 +19,7 @@ returns-then-not-accepted c =
     let judge = c.judge-r in
     rw (refused-answer policy_forms args.bytes.now policy_kinds (policy_of args.p.now) judge.result judge.ensures c.accepted.ensures
     (ap not c.if-not-accepted.true))
-    (refused refl c.accepted.ensures c.if-not-accepted.true)
+    (refused refl c.accepted.ensures (ap not c.if-not-accepted.true))
 
 pub decode-requires : goal.decode-requires
 decode-requires c =

@@ -1,3 +1,5 @@
+use mathlib.Core.Bool.{not}
+use mathlib.Core.Path.{ap}
 use Prim.Native.Nat.{◌+◌, ◌-◌}
 use mathlib.Core.Path.{◌≡◌, refl, sym, ◌∙◌}
 use native.Mathlib.Omega.{arith}
@@ -18,7 +20,7 @@ returns-then-not-accepted c =
     let record' = c.record-x in
     let h : loop.at + 16 - loop.at ≡ 16 = omega arith in
     stop loop.place loop.at args.bytes.now loop.p (loop.at + 16 - loop.at) _ _ h record'.ensures c.accepted.ensures loop.left
-    loop-test.true c.if-not-accepted.true ∙ loop.invariant.1.1.1
+    loop-test.true (ap not c.if-not-accepted.true) ∙ loop.invariant.1.1.1
 
 pub loop-left-preserved : goal.loop-left-preserved
 loop-left-preserved c =
@@ -33,7 +35,7 @@ loop-left-preserved c =
         (
           omega arith,
           sym (more loop.place loop.at args.bytes.now loop.p (loop.at + 16 - loop.at) _ _ h record'.ensures
-              c.accepted.ensures loop.left loop-test.true c.if-not-accepted.false) ∙ loop.invariant.1.1.1,
+              c.accepted.ensures loop.left loop-test.true (ap not c.if-not-accepted.false)) ∙ loop.invariant.1.1.1,
         ),
       ),
     )
