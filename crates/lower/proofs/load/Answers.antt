@@ -1,4 +1,5 @@
 -- `load` meets its contract: buffers of the wrong length give ROOM, and otherwise the sessions are cleared and the policy is loaded.
+use borrow.Author.Rules.{rules}
 use Rattle.lower.proofs.Ways.{lengths, no-load, loaded}
 use Rattle.lower.proofs.load.Goals as goal
 
@@ -16,4 +17,4 @@ pub returns : goal.returns
 returns c =
     let if1 = c.if-p-s in
     let clear = c.clear in
-    loaded if1.false clear.ensures c.load.ensures (same_length c, same-length-2 c)
+    loaded if1.false clear.ensures c.load.ensures (search rules, search rules)

@@ -1,4 +1,7 @@
 -- `request` meets its contract: buffers of the wrong length give ROOM, a refusal by SHAPE or RANGE stores nothing, and any other record is answered by `step`.
+use borrow.Author.Rules.{rules}
+use mathlib.Core.Bool.{not}
+use mathlib.Core.Path.{ap}
 use mathlib.Core.Path.{refl}
 use Rattle.paper_lower.specs.Forms.{lower_forms}
 use Rattle.paper_lower.specs.Sessions.{lower_kinds, lower_request}
@@ -22,14 +25,14 @@ returns-then-not-accepted c =
     let judge = c.judge-r in
     answered if1.false
     (refused-answer lower_forms args.bytes.now lower_kinds (lower_tables args.p.now args.s.now) judge.result judge.ensures
-    c.accepted.ensures c.if-not-accepted.true)
+    c.accepted.ensures (ap not c.if-not-accepted.true))
     (of-neither refl) (refl, refl)
 
 pub decode-requires : goal.decode-requires
 decode-requires c =
     let args = c.args in
     let judge = c.judge-r in
-    sized lower_forms args.bytes.now judge.result judge.ensures c.accepted.ensures c.if-not-accepted.false
+    sized lower_forms args.bytes.now judge.result judge.ensures c.accepted.ensures (ap not c.if-not-accepted.false)
 
 pub step-requires : goal.step-requires
 step-requires c =
@@ -39,7 +42,7 @@ step-requires c =
     let accepted = c.accepted in
     let if2 = c.if-not-accepted in
     let l = lengths args.p.now args.s.now if1.false in
-    (l.0, (l.1, passed lower_forms args.bytes.now judge.result judge.ensures accepted.ensures if2.false c.decode.ensures))
+    (l.0, (l.1, passed lower_forms args.bytes.now judge.result judge.ensures accepted.ensures (ap not if2.false) c.decode.ensures))
 
 pub returns : goal.returns
 unfolding lower_request settled
@@ -52,6 +55,6 @@ returns c =
     let decode = c.decode in
     let step = c.step in
     answered if1.false
-    (passed-answer lower_forms args.bytes.now judge.result judge.ensures accepted.ensures if2.false decode.ensures lower_kinds
+    (passed-answer lower_forms args.bytes.now judge.result judge.ensures accepted.ensures (ap not if2.false) decode.ensures lower_kinds
     (lower_tables args.p.now args.s.now))
-    step.ensures (same_length c, same-length-2 c)
+    step.ensures (search rules, search rules)

@@ -1,3 +1,5 @@
+use mathlib.Core.Bool.{not}
+use mathlib.Core.Path.{ap}
 use Prim.Native.Nat.{◌-◌}
 use mathlib.Core.Path.{refl, ◌∙◌}
 use native.Mathlib.Omega.{arith}
@@ -29,7 +31,7 @@ returns-then-not-accepted c =
     let loop = c.loop-i in
     let keep = c.keep-x in
     rw c.number.ensures (onto loop.invariant.1.1.1.1.1 (stops loop.i args.dropped args.input.now loop.output loop.p _ _ _ (omega arith)
-    (omega arith) (omega arith) keep.ensures c.accepted.ensures c.if-not-accepted.true))
+    (omega arith) (omega arith) keep.ensures c.accepted.ensures (ap not c.if-not-accepted.true)))
 
 pub loop-i-preserved : goal.loop-i-preserved
 loop-i-preserved c =
@@ -46,7 +48,7 @@ loop-i-preserved c =
             (
               omega arith,
               goes_on loop.i args.dropped args.input.now loop.output loop.p _ _ _ (omega arith) (omega arith) (omega arith)
-                  keep.ensures c.accepted.ensures c.if-not-accepted.false ∙ loop.invariant.1.1.1.1.1,
+                  keep.ensures c.accepted.ensures (ap not c.if-not-accepted.false) ∙ loop.invariant.1.1.1.1.1,
             ),
           ),
         ),
