@@ -1,6 +1,6 @@
 -- `claim` meets its contract: if `claim_reply` refuses, nothing is stored, and otherwise the entry is added, for which there is room.
-use mathlib.Core.Path.{◌≡◌, refl, sym, subst, ◌∙◌}
-use borrow.Author.Tests.{not-false}
+use mathlib.Core.Bool.{not}
+use mathlib.Core.Path.{◌≡◌, refl, sym, subst, ◌∙◌, ap}
 use Rattle.paper_upper.specs.Requests.{claim_checks, claim_next}
 use Rattle.replies.specs.Replies.{number_of}
 use Rattle.replies.specs.Done.{Done}
@@ -26,7 +26,7 @@ returns-then-not-accepted c =
             let q = claim-reply.ensures.1 s in
             let d : Done (engine_tables z.p.now z.s.now) (first (claim_checks t z.a z.b z.c)) (claim_next t z.a z.b z.c) z.o.now
             z.o.now claim-reply.result.reply =
-            refused q.replies c.accepted.ensures c.if-not-accepted.true in
+            refused q.replies c.accepted.ensures (ap not c.if-not-accepted.true) in
             record {
               replies = d.replies;
               places = q.places ∙ rw q.replies;
@@ -51,7 +51,7 @@ returns c =
     let if1 = c.if-not-accepted in
     let user = c.user-user in
     let r = c.claim_reply-j.result.reply in
-    let n : number_of r ≡ 0 = is_zero r accepted.ensures (not-false _ if1.false) in (
+    let n : number_of r ≡ 0 = is_zero r accepted.ensures if1.false in (
       claim-reply.ensures.0,
       record {
         kept = λ h. absurd (h n);
@@ -60,8 +60,8 @@ returns c =
             let t = engine_tables z.p.now z.s.now z.o.now in
             let q = claim-reply.ensures.1 s in
             let e =
-            c.enter.ensures.1 s (claim-opened t z.a z.b z.c r q.replies accepted.ensures if1.false)
-            (room t z.a z.b z.c r q.replies accepted.ensures if1.false) in
+            c.enter.ensures.1 s (claim-opened t z.a z.b z.c r q.replies accepted.ensures (ap not if1.false))
+            (room t z.a z.b z.c r q.replies accepted.ensures (ap not if1.false)) in
             record {
               replies = q.replies;
               places = q.places ∙ rw q.replies;

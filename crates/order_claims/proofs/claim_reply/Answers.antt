@@ -1,7 +1,7 @@
 -- `claim_reply` meets its contract: each return gives the reply of the first check
 -- that applies. The rules are judged on what `gather` collected from the entries.
-use mathlib.Core.Path.{◌≡◌, refl, sym}
-use mathlib.Core.Bool.{true}
+use mathlib.Core.Path.{◌≡◌, refl, sym, ap}
+use mathlib.Core.Bool.{Bool, true, false, not}
 use mathlib.Core.List.{◌++◌}
 use borrow.Author.Tests.{not-false, eq-eqb, ne_eqb, le-leb, lt-leb}
 use Rattle.paper_lower.specs.Checks.{first}
@@ -10,48 +10,34 @@ use Rattle.replies.specs.Replies.{number_of}
 use Rattle.replies.specs.declared.Reply.TheVariants.{Granted, Unknown, Taken, NoRole, Full}
 use Rattle.order_rules.proofs.JudgeLaws.{plainly}
 use Rattle.order_rules.proofs.PlaceLaws.{judged-place, plain-place}
-use Rattle.order_links.specs.Chains.{sound_of}
 use Rattle.order_requests.specs.Tables.{engine_tables}
 use Rattle.order_claims.proofs.ClaimLaws.{rules_of, full_of, known-not, known_is, rules-next, held-is, place-by-entries, by_entries, by-rule, by-room}
-use borrow.Author.Rules.{rules}
+use Rattle.paper_upper.specs.Rules.{rule_place, gathered_checks}
+use Prim.Native.Nat.{ℕ}
+use Rattle.paper_upper.specs.Orders.{Engine}
+use Rattle.paper_lower.specs.Sets.{meets}
+use Rattle.paper_lower.specs.Policy.{down}
+use Rattle.paper_lower.specs.Lists.Maybe.{just}
+use Rattle.replies.specs.declared.Reply.{Reply}
+use Rattle.order_entries.specs.declared.Instance.{Instance}
+use Rattle.order_entries.specs.declared.Gathered.{Gathered}
+use Rattle.order_entries.specs.Gathering.{gathered_of}
+use Rattle.order_claims.specs.Promises.{Known}
 use Rattle.order_claims.proofs.claim_reply.Goals as goal
 
 -- After the call of `judge`: the checks before the rules do not apply. `judged` below: the reply of `judge` is that of the rules.
-passes : (c : tie.After-judge) →
-    let args = c.args in
-    sound_of args.o.now ≡ true →
-    let z = args in
-    let t = engine_tables z.p.now z.s.now z.o.now in
-    first (claim_checks t z.a z.b z.c) ≡ first (rules_of t z.a z.b z.c ++ full_of t z.a z.b z.c)
-passes c s =
-    let known = c.known-x in
-    let if1 = c.if-not-x in
-    let user = c.user-user in
-    let gather = c.gather-g in
-    let if2 = c.if-g-eq1 in
-    let has-role = c.has_role in
-    let z = c.args in
-    let t = engine_tables z.p.now z.s.now z.o.now in
-    rules-next t z.a z.b z.c (known_is t z.a z.b z.c known.ensures if1.false)
-    (held-is t z.a z.b z.c user.ensures.0 (gather.ensures s) (ne_eqb _ _ if2.false))
-    has-role.ensures c.if-not-has_role.false
+passes : (t : Engine) (a b c : ℕ) {x : Instance} {u : ℕ} {g : Gathered} {m : Bool} → Known t a b c x → not x.open ≡ false
+    → u ≡ t.lower.sessions.user a → g ≡ gathered_of b u c t.orders.entries → (g.held ≡ 1 → ⊥)
+    → m ≡ meets (t.lower.policy.tasks.open_to c) (down t.lower.policy.seniority (t.lower.sessions.active a)) → m ≡ true
+    → first (claim_checks t a b c) ≡ first (rules_of t a b c ++ full_of t a b c)
+passes t a b c known is of gathers not_held e has =
+    rules-next t a b c (known_is t a b c known is) (held-is t a b c of gathers (ne_eqb _ _ not_held)) e (ap not has)
 
-judged : (c : tie.After-judge) →
-    let args = c.args in
-    sound_of args.o.now ≡ true →
-    let z = args in
-    let t = engine_tables z.p.now z.s.now z.o.now in
-    number_of c.judge-ruled.result.reply ≡ first (rules_of t z.a z.b z.c)
-judged c s =
-    let known = c.known-x in
-    let if1 = c.if-not-x in
-    let user = c.user-user in
-    let gather = c.gather-g in
-    let z = c.args in
-    let t = engine_tables z.p.now z.s.now z.o.now in
-    by_entries t z.a z.b z.c user.ensures.0 (gather.ensures s) c.judge-ruled.result.reply
-    (known.ensures.template (not-false _ if1.false))
-    c.judge-ruled.ensures.replies
+judged : (t : Engine) (a b c : ℕ) {x : Instance} {u : ℕ} {g : Gathered} (r : Reply) → Known t a b c x → not x.open ≡ false
+    → u ≡ t.lower.sessions.user a → g ≡ gathered_of b u c t.orders.entries
+    → number_of r ≡ first (gathered_checks t.lower.policy.tasks t.lower.policy.rules (just x.template) g.mine.bits g.done.bits g.others.bits g.times c)
+    → number_of r ≡ first (rules_of t a b c)
+judged t a b c r known is of gathers q = by_entries t a b c of gathers r (known.template (not-false _ is)) q
 
 pub returns-then-not-x : goal.returns-then-not-x
 unfolding claim_checks claim_place rule_place
@@ -118,12 +104,12 @@ returns-then-not-accepted c =
     let user = c.user-user in
     let gather = c.gather-g in
     let z = c.args in
-    let t = engine_tables z.p.now z.s.now z.o.now in
-    let k = c in (
-      judged-place z.p.now gather.result.mine.bits gather.result.done.bits gather.result.others.bits z.c k.judge-ruled.ensures,
+    let t = engine_tables z.p.now z.s.now z.o.now in (
+      judged-place z.p.now gather.result.mine.bits gather.result.done.bits gather.result.others.bits z.c c.judge-ruled.ensures,
       λ s. record {
-        replies = by-rule t z.a z.b z.c k.judge-ruled.result.reply (passes k s) (judged k s) c.accepted.ensures c.if-not-accepted.true;
-        places = place-by-entries t z.a z.b z.c user.ensures.0 (gather.ensures s) _ k.judge-ruled.ensures.places;
+        replies = by-rule t z.a z.b z.c c.judge-ruled.result.reply (passes t z.a z.b z.c c.known-x.ensures c.if-not-x.false c.user-user.ensures.0 (c.gather-g.ensures s) c.if-g-eq1.false c.has_role.ensures c.if-not-has_role.false)
+            (judged t z.a z.b z.c c.judge-ruled.result.reply c.known-x.ensures c.if-not-x.false c.user-user.ensures.0 (c.gather-g.ensures s) c.judge-ruled.ensures.replies) c.accepted.ensures (ap not c.if-not-accepted.true);
+        places = place-by-entries t z.a z.b z.c user.ensures.0 (gather.ensures s) _ c.judge-ruled.ensures.places;
       },
     )
 
@@ -136,12 +122,12 @@ returns-then-in_use-ge-MOST c =
     let accepted = c.accepted in
     let if4 = c.if-not-accepted in
     let z = c.args in
-    let t = engine_tables z.p.now z.s.now z.o.now in
-    let k = c in (
+    let t = engine_tables z.p.now z.s.now z.o.now in (
       plain-place c.plain-then-in_use-ge-MOST.ensures,
       λ s.
           plainly Full c.plain-then-in_use-ge-MOST.ensures
-          (sym (by-room t z.a z.b z.c k.judge-ruled.result.reply (passes k s) (judged k s) accepted.ensures if4.false
+          (sym (by-room t z.a z.b z.c c.judge-ruled.result.reply (passes t z.a z.b z.c c.known-x.ensures c.if-not-x.false c.user-user.ensures.0 (c.gather-g.ensures s) c.if-g-eq1.false c.has_role.ensures c.if-not-has_role.false)
+          (judged t z.a z.b z.c c.judge-ruled.result.reply c.known-x.ensures c.if-not-x.false c.user-user.ensures.0 (c.gather-g.ensures s) c.judge-ruled.ensures.replies) accepted.ensures (ap not if4.false)
           (c.in_use.ensures s) (le-leb _ _ c.if-in_use-ge-MOST.true))) refl,
     )
 
@@ -151,11 +137,11 @@ returns c =
     let accepted = c.accepted in
     let if4 = c.if-not-accepted in
     let z = c.args in
-    let t = engine_tables z.p.now z.s.now z.o.now in
-    let k = c in (
+    let t = engine_tables z.p.now z.s.now z.o.now in (
       plain-place c.plain-2.ensures,
       λ s.
           plainly Granted c.plain-2.ensures
-          (sym (by-room t z.a z.b z.c k.judge-ruled.result.reply (passes k s) (judged k s) accepted.ensures if4.false
+          (sym (by-room t z.a z.b z.c c.judge-ruled.result.reply (passes t z.a z.b z.c c.known-x.ensures c.if-not-x.false c.user-user.ensures.0 (c.gather-g.ensures s) c.if-g-eq1.false c.has_role.ensures c.if-not-has_role.false)
+          (judged t z.a z.b z.c c.judge-ruled.result.reply c.known-x.ensures c.if-not-x.false c.user-user.ensures.0 (c.gather-g.ensures s) c.judge-ruled.ensures.replies) accepted.ensures (ap not if4.false)
           (c.in_use.ensures s) (lt-leb _ _ c.if-in_use-ge-MOST.false))) refl,
     )

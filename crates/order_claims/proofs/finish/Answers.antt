@@ -2,7 +2,6 @@
 use mathlib.Core.Path.{refl, sym, subst, ◌∙◌}
 use mathlib.Core.List.{List}
 use Prim.Native.Nat.{ℕ}
-use borrow.Author.Tests.{not-true}
 use Rattle.paper_upper.specs.Requests.{hold_checks, done_next}
 use Rattle.replies.specs.declared.Reply.TheVariants.{NotYours}
 use Rattle.replies.proofs.DoneLaws.{refused, done}
@@ -28,7 +27,7 @@ returns-then-not-finish c =
     let finish = c.finish in
     let z = c.args in
     let t = engine_tables z.p.now z.s.now z.o.now in
-    let k = finish.ensures.kept (not-true _ c.if-not-finish.true) in
+    let k = finish.ensures.kept c.if-not-finish.true in
     record {
       kept = λ _. k;
       sound = λ s.

@@ -1,10 +1,6 @@
 -- `has_role` meets its contract: both sets are those of the tables.
 use mathlib.Core.Path.{◌∙◌}
-use borrow.Author.Rules.{rules}
 use Rattle.order_claims.proofs.has_role.Goals as goal
-
-open-to-requires : tie.Need-open-to-requires
-open-to-requires c κs = search rules
 
 pub returns : goal.returns
 returns c =

@@ -2,7 +2,6 @@
 use mathlib.Core.Path.{refl, sym, subst, ◌∙◌}
 use mathlib.Core.List.{List}
 use Prim.Native.Nat.{ℕ}
-use borrow.Author.Tests.{not-true}
 use Rattle.paper_upper.specs.Requests.{hold_checks, release_next}
 use Rattle.replies.specs.declared.Reply.TheVariants.{NotYours}
 use Rattle.replies.proofs.DoneLaws.{refused, done}
@@ -28,7 +27,7 @@ returns-then-not-release c =
     let release = c.release in
     let z = c.args in
     let t = engine_tables z.p.now z.s.now z.o.now in
-    let k = release.ensures.kept (not-true _ c.if-not-release.true) in
+    let k = release.ensures.kept c.if-not-release.true in
     record {
       kept = λ _. k;
       sound = λ s.
