@@ -6,7 +6,7 @@ use mathlib.Core.Path.{◌≡◌, refl, sym, ap, ◌∙◌, fun_ext}
 use native.Mathlib.Omega.{arith}
 use borrow.Author.Tests.{eqb-true, eqb-false, ne_eqb, lt-ltb, le-ltb, ltb-true, ltb-false}
 use lib.Dec.{eqb, ltb}
-use Rattle.paper_lower.specs.Sets.{Set, empty, has, plus, union}
+use Rattle.paper_lower.specs.Sets.{Set, has, plus, union}
 use Rattle.paper_lower.specs.Lists.{upd}
 use Rattle.paper_lower.specs.Tables.{Policy, with_seniority}
 use Rattle.paper_lower.specs.Policy.{raised, raise_next}

@@ -1,6 +1,5 @@
 -- `below` meets its contract: by one test of the roles that have a role below them it returns the row, or no role.
 use mathlib.Core.Path.{sym, ◌∙◌}
-use borrow.Author.Tests.{not-true, not-false}
 use Rattle.policy.proofs.SeniorLaws.{none_below}
 use Rattle.policy.proofs.below.Goals as goal
 

@@ -1,7 +1,6 @@
 -- `permission_operation` meets its contract: it reads the operation in the word of a row that counts.
 use mathlib.Core.Path.{sym, ◌∙◌}
 use native.Mathlib.Omega.{arith}
-use borrow.Author.Tests.{not-true, not-false}
 use Rattle.policy.specs.Reading.{policy_of}
 use Rattle.policy.proofs.WordLaws.{value_none}
 use Rattle.policy.proofs.BucketLaws.{declared-value}

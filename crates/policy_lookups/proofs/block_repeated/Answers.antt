@@ -1,5 +1,4 @@
 use mathlib.Core.Path.{sym, ◌∙◌}
-use Prim.Native.Nat.{◌-◌}
 use Rattle.policy.proofs.RuleLaws.{blocks-are}
 use Rattle.replies.proofs.SearchLaws.{some-start, some-here, some-later, some_end}
 use borrow.Author.Rules.{rules}

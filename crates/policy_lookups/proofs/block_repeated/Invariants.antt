@@ -6,7 +6,6 @@ use Rattle.paper_lower.specs.Policy.{is_same_block}
 use Rattle.policy.specs.Layout.{block_at}
 use Rattle.policy.specs.Reading.{policy_of}
 use Rattle.replies.specs.Cells.{rows_from}
-use borrow.Author.Rules.{rules}
 use Rattle.policy_lookups.proofs.block_repeated.Given as goal
 
 abbrev pub invariant-loop-k : goal.invariant-loop-k

@@ -1,5 +1,4 @@
 use mathlib.Core.Path.{◌≡◌, refl, sym, ◌∙◌}
-use Prim.Native.Nat.{◌-◌}
 use native.Mathlib.Omega.{arith}
 use Rattle.paper_lower.specs.Sets.{collect}
 use Rattle.paper_lower.specs.Policy.{declared_tasks}

@@ -6,7 +6,6 @@ use Rattle.paper_lower.specs.Policy.{same_pair}
 use Rattle.policy.specs.Layout.{pair_at}
 use Rattle.policy.specs.Reading.{policy_of, pairs_of}
 use Rattle.replies.specs.Cells.{rows_from}
-use borrow.Author.Rules.{rules}
 use Rattle.policy_lookups.proofs.pair_repeated.Given as goal
 
 abbrev pub invariant-loop-k : goal.invariant-loop-k

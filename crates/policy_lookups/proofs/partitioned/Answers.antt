@@ -1,5 +1,4 @@
 use mathlib.Core.Path.{◌∙◌}
-use Prim.Native.Nat.{◌-◌}
 use native.Mathlib.Omega.{arith}
 use Rattle.policy.proofs.RuleLaws.{blocks-are}
 use Rattle.policy_lookups.proofs.Walks.{none-gathered, one-gathered, all-gathered}

@@ -1,5 +1,4 @@
 use mathlib.Core.Path.{ap, ◌∙◌}
-use Prim.Native.Nat.{◌-◌}
 use native.Mathlib.Omega.{arith}
 use Rattle.paper_lower.specs.Sets.{plus}
 use Rattle.policy_seniors.proofs.Raising.{rows_none, rows_more, all-rows}

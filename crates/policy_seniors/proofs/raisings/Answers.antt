@@ -1,5 +1,4 @@
 use mathlib.Core.Path.{ap, ◌∙◌}
-use Prim.Native.Nat.{◌-◌}
 use native.Mathlib.Omega.{arith}
 use Rattle.paper_lower.specs.Sets.{size}
 use Rattle.paper_lower.specs.Lists.{sum_below}
