@@ -1,6 +1,5 @@
 -- `act` meets its contract: on sound links it is a `step`; other links read as the empty engine, and there it is `as_empty`.
 use mathlib.Core.Path.{sym, ◌∙◌}
-use borrow.Author.Tests.{not-true, not-false}
 use Rattle.engine.specs.Buffers.{buffers}
 use Rattle.engine.proofs.EmptyLaws.{broken-step, sound-step}
 use Rattle.engine.proofs.act.Goals as goal
@@ -10,7 +9,7 @@ as_empty-requires c =
     let pre = c.requires in
     let is-sound = c.is_sound in
     let if1 = c.if-not-is_sound in
-    (pre.0, (pre.1, sym is-sound.ensures ∙ not-true _ if1.true))
+    (pre.0, (pre.1, sym is-sound.ensures ∙ if1.true))
 
 pub returns-then-not-is_sound : goal.returns-then-not-is_sound
 returns-then-not-is_sound c =
@@ -18,7 +17,7 @@ returns-then-not-is_sound c =
     let if1 = c.if-not-is_sound in
     let as-empty = c.as_empty in
     let z = c.args in
-    broken-step z.r (buffers z.p.now z.s.now z.o.now) _ (sym is-sound.ensures ∙ not-true _ if1.true) as-empty.ensures
+    broken-step z.r (buffers z.p.now z.s.now z.o.now) _ (sym is-sound.ensures ∙ if1.true) as-empty.ensures
 
 pub step-requires : goal.step-requires
 step-requires c = c.requires
@@ -30,6 +29,6 @@ returns c =
     let step = c.step in
     let z = c.args in
     let x = buffers z.p.now z.s.now z.o.now in
-    let w = sym is-sound.ensures ∙ not-false _ if1.false in
+    let w = sym is-sound.ensures ∙ if1.false in
     let d = step.ensures.sound w in
     (sound-step z.r x _ w d, λ _. d.1)

@@ -19,7 +19,7 @@ returns c =
     let clear3 = c.clear-3 in
     let step = c.step in
     let z = c.args in
-    let e = that-kind z.r.kind z.r.m if1.left in
+    let e = that-kind z.r.kind z.r.m if1.false in
     let d = step.ensures.sound clear3.ensures.sound in
     joined_step z.r (buffers z.p.now z.s.now z.o.now) _ _
     (emptied _ _ _ clear.ensures.tables clear2.ensures.tables clear3.ensures.tables) d.1

@@ -1,5 +1,6 @@
 -- `settled_request` meets its contract: as `request`, but it goes to `step` without checking the links.
-use mathlib.Core.Path.{refl}
+use mathlib.Core.Bool.{not}
+use mathlib.Core.Path.{refl, ap}
 use Rattle.paper_lower.specs.Records.{decode}
 use Rattle.paper_lower.specs.Forms.{request_forms}
 use Rattle.paper_upper.specs.Engine.{request_kinds, request}
@@ -12,18 +13,19 @@ use Rattle.engine.proofs.PlaceLaws.{no-form}
 use Rattle.engine.proofs.EmptyLaws.{sound-step}
 use Rattle.engine.proofs.Ways.{fit-yes, fit-no, same-lengths, fit-lengths, answered, not-granted}
 use Rattle.engine.proofs.SettleLaws.{no-settled-room, settled-refused, settled-step}
+use borrow.Author.Rules.{rules}
 use Rattle.engine.proofs.settled_request.Goals as goal
 
 pub returns-then-not-fit : goal.returns-then-not-fit
 returns-then-not-fit c =
     let z = c.args in
     no-settled-room z.bytes.now (buffers z.policy.now z.sessions.now z.orders.now) c.plain.ensures
-    (fit-no c.fit.ensures c.if-not-fit.true)
+    (fit-no c.fit.ensures (ap not c.if-not-fit.true))
 
 pub returns-then-not-accepted : goal.returns-then-not-accepted
 unfolding request
 returns-then-not-accepted c =
-    let fit = fit-yes c.fit.ensures c.if-not-fit.false in
+    let fit = fit-yes c.fit.ensures (ap not c.if-not-fit.false) in
     let judge = c.judge-r in
     let accepted = c.accepted in
     let z = c.args in
@@ -31,28 +33,28 @@ returns-then-not-accepted c =
     let x = buffers z.policy.now z.sessions.now z.orders.now in
     settled-refused bytes x fit (plain-place c.plain-then-not-accepted.ensures)
     (answered fit
-    (refused-answer request_forms bytes request_kinds (tables_of x) judge.result judge.ensures accepted.ensures c.if-not-accepted.true) refl
+    (refused-answer request_forms bytes request_kinds (tables_of x) judge.result judge.ensures accepted.ensures (ap not c.if-not-accepted.true)) refl
     (of_none c.plain-then-not-accepted.ensures (no-form request_forms bytes (tables_of x) (decode bytes) judge.ensures) refl)
-    (not-granted c.plain-then-not-accepted.ensures accepted.ensures c.if-not-accepted.true) (same-lengths refl refl refl))
+    (not-granted c.plain-then-not-accepted.ensures accepted.ensures (ap not c.if-not-accepted.true)) (same-lengths refl refl refl))
 
 pub decode-requires : goal.decode-requires
 decode-requires c =
     let args = c.args in
     let judge = c.judge-r in
-    sized request_forms args.bytes.now judge.result judge.ensures c.accepted.ensures c.if-not-accepted.false
+    sized request_forms args.bytes.now judge.result judge.ensures c.accepted.ensures (ap not c.if-not-accepted.false)
 
 pub step-requires : goal.step-requires
 step-requires c =
     let args = c.args in
     let measured = c.fit in
     let if1 = c.if-not-fit in
-    let fit = fit-yes measured.ensures if1.false in
+    let fit = fit-yes measured.ensures (ap not if1.false) in
     let judge = c.judge-r in
     let accepted = c.accepted in
     let if2 = c.if-not-accepted in
     let decode = c.decode in (
       fit-lengths (buffers args.policy.now args.sessions.now args.orders.now) fit,
-      passed request_forms args.bytes.now judge.result judge.ensures accepted.ensures if2.false decode.ensures,
+      passed request_forms args.bytes.now judge.result judge.ensures accepted.ensures (ap not if2.false) decode.ensures,
     )
 
 pub returns : goal.returns
@@ -60,7 +62,7 @@ unfolding request settled
 returns c =
     let measured = c.fit in
     let if1 = c.if-not-fit in
-    let fit = fit-yes measured.ensures if1.false in
+    let fit = fit-yes measured.ensures (ap not if1.false) in
     let judge = c.judge-r in
     let accepted = c.accepted in
     let if2 = c.if-not-accepted in
@@ -69,9 +71,9 @@ returns c =
     let z = c.args in
     let bytes = z.bytes.now in
     let x = buffers z.policy.now z.sessions.now z.orders.now in
-    let l = same-lengths (same_length c) (same-length-2 c) (same-length-3 c) in
+    let l = same-lengths (search rules) (search rules) (search rules) in
     settled-step bytes x _ decode.result fit l step.ensures
     (λ d s.
     answered fit
-    (passed-answer request_forms bytes judge.result judge.ensures accepted.ensures if2.false decode.ensures request_kinds (tables_of x))
+    (passed-answer request_forms bytes judge.result judge.ensures accepted.ensures (ap not if2.false) decode.ensures request_kinds (tables_of x))
     decode.ensures.reads (sound-step decode.result x _ s d) (λ _. d.1) l)

@@ -41,71 +41,71 @@ unfolding limits_open
 delete-requires c =
     let pre = c.requires in
     let match = c.in-33 in
-    (pre.0.0, (pre.0.1.0, (pre.0.1.1, below (limit_a request_forms) pre.1.a match.keys1 1024 tt)))
+    (pre.0.0, (pre.0.1.0, (pre.0.1.1, below (limit_a request_forms) pre.1.a match.is 1024 tt)))
 
 pub destroy-requires : goal.destroy-requires
 unfolding limits_open
 destroy-requires c =
     let pre = c.requires in
-    (pre.0.1.0, (pre.0.1.1, below (limit_a request_forms) pre.1.a c.in-41.keys2 128 tt))
+    (pre.0.1.0, (pre.0.1.1, below (limit_a request_forms) pre.1.a c.in-41.is 128 tt))
 
-open-order-requires : tie.Need-open-order-requires
+pub open_order-requires : goal.open_order-requires
 unfolding limits_open
-open-order-requires c κs =
+open_order-requires c =
     let pre = c.requires in
-    let match = c.in-33 in
-    (pre.0.0, (pre.0.1.1, (below (limit_a request_forms) pre.1.a match.keys3 64 tt, below (limit_b request_forms) pre.1.b match.keys3 16 tt)))
+    let match = c.in-48 in
+    (pre.0.0, (pre.0.1.1, (below (limit_a request_forms) pre.1.a match.is 64 tt, below (limit_b request_forms) pre.1.b match.is 16 tt)))
 
 pub end_order-requires : goal.end_order-requires
 unfolding limits_open
 end_order-requires c =
     let pre = c.requires in
-    (pre.0.1.1, below (limit_a request_forms) pre.1.a c.in-49.keys4 64 tt)
+    (pre.0.1.1, below (limit_a request_forms) pre.1.a c.in-49.is 64 tt)
 
 pub claim-requires : goal.claim-requires
 unfolding limits_open
 claim-requires c =
     let pre = c.requires in
     let match = c.in-50 in
-    of-subject pre match.keys5 tt tt tt
+    of-subject pre match.is tt tt tt
 
 pub release-requires : goal.release-requires
 unfolding limits_open
 release-requires c =
     let pre = c.requires in
     let match = c.in-51 in
-    of-subject pre match.keys6 tt tt tt
+    of-subject pre match.is tt tt tt
 
 pub finish-requires : goal.finish-requires
 unfolding limits_open
 finish-requires c =
     let pre = c.requires in
     let match = c.in-52 in
-    of-subject pre match.keys7 tt tt tt
+    of-subject pre match.is tt tt tt
 
 pub task_check_reply-requires : goal.task_check_reply-requires
 unfolding limits_open
 task_check_reply-requires c =
     let pre = c.requires in
     let match = c.in-57 in
-    (of-subject pre match.keys8 tt tt tt, below (limit_m request_forms) pre.1.m match.keys8 4294967296 tt)
+    (of-subject pre match.is tt tt tt, below (limit_m request_forms) pre.1.m match.is 4294967296 tt)
 
 pub figures_reply-requires : goal.figures_reply-requires
 unfolding limits_open
 figures_reply-requires c =
     let pre = c.requires in
-    (pre.0.1.1, below (limit_a request_forms) pre.1.a c.in-58.keys9 64 tt)
+    (pre.0.1.1, below (limit_a request_forms) pre.1.a c.in-58.is 64 tt)
 
 pub judge-requires : goal.judge-requires
 unfolding limits_open
 judge-requires c =
     let pre = c.requires in
-    (pre.0.0, below (limit_a request_forms) pre.1.a c.in-60.keys10 16 tt)
+    (pre.0.0, below (limit_a request_forms) pre.1.a c.in-60.is 16 tt)
 
 pub step-requires : goal.step-requires
 step-requires c =
     let pre = c.requires in
-    (pre.0.0, (pre.0.1.0, lower-limits c.in_default.rest pre.1))
+    (pre.0.0, (pre.0.1.0, lower-limits c.in_default.in_default-own.rest pre.1))
 
 pub returns-in-33 : goal.returns-in-33
 unfolding chosen request_kinds upper_kinds place_of
@@ -114,7 +114,7 @@ returns-in-33 c =
     let match = c.in-33 in
     let delete = c.delete in
     any_step c.plain.ensures (λ n. λ i. buffers ((delete.ensures.kept n).0 i) ((delete.ensures.kept n).1 i) args.o.now)
-    (λ w. rw match.keys1 (of-both c.plain.ensures refl (delete.ensures.sound w), w))
+    (λ w. rw match.is (of-both c.plain.ensures refl (delete.ensures.sound w), w))
 
 pub returns-in-41 : goal.returns-in-41
 unfolding chosen request_kinds upper_kinds place_of
@@ -123,7 +123,7 @@ returns-in-41 c =
     let match = c.in-41 in
     let destroy = c.destroy in
     any_step c.plain-in-41.ensures (λ n. λ i. buffers args.p.now (destroy.ensures.kept n i) args.o.now)
-    (λ w. rw match.keys2 (of-sessions c.plain-in-41.ensures refl (destroy.ensures.sound w args.p.now), w))
+    (λ w. rw match.is (of-sessions c.plain-in-41.ensures refl (destroy.ensures.sound w args.p.now), w))
 
 pub returns-in-48 : goal.returns-in-48
 unfolding chosen request_kinds upper_kinds place_of
@@ -132,7 +132,7 @@ returns-in-48 c =
     let match = c.in-48 in
     let open_order = c.open_order in
     any_step c.plain-in-48.ensures (λ n. λ i. buffers args.p.now args.s.now (open_order.ensures.kept n i))
-    (λ w. rw match.keys3 (of-orders c.plain-in-48.ensures refl ((open_order.ensures.sound w).0 args.s.now), (open_order.ensures.sound w).1))
+    (λ w. rw match.is (of-orders c.plain-in-48.ensures refl ((open_order.ensures.sound w).0 args.s.now), (open_order.ensures.sound w).1))
 
 pub returns-in-49 : goal.returns-in-49
 unfolding chosen request_kinds upper_kinds place_of
@@ -141,7 +141,7 @@ returns-in-49 c =
     let match = c.in-49 in
     let end-order = c.end_order in
     any_step c.plain-in-49.ensures (λ n. λ i. buffers args.p.now args.s.now (end-order.ensures.kept n i))
-    (λ w. rw match.keys4 (of-orders c.plain-in-49.ensures refl ((end-order.ensures.sound w).0 args.p.now args.s.now), (end-order.ensures.sound w).1))
+    (λ w. rw match.is (of-orders c.plain-in-49.ensures refl ((end-order.ensures.sound w).0 args.p.now args.s.now), (end-order.ensures.sound w).1))
 
 pub returns-in-50 : goal.returns-in-50
 unfolding chosen request_kinds upper_kinds place_of
@@ -152,7 +152,7 @@ returns-in-50 c =
     record {
       kept = λ n. λ i. buffers args.p.now args.s.now (e.kept n i);
       small = c.claim.ensures.0;
-      sound = λ w. rw match.keys5 (of-claim (e.sound w), (e.sound w).sound);
+      sound = λ w. rw match.is (of-claim (e.sound w), (e.sound w).sound);
     }
 
 pub returns-in-51 : goal.returns-in-51
@@ -162,7 +162,7 @@ returns-in-51 c =
     let match = c.in-51 in
     let release = c.release in
     any_step c.plain-in-51.ensures (λ n. λ i. buffers args.p.now args.s.now (release.ensures.kept n i))
-    (λ w. rw match.keys6 (of-orders c.plain-in-51.ensures refl (release.ensures.sound w).0, (release.ensures.sound w).1))
+    (λ w. rw match.is (of-orders c.plain-in-51.ensures refl (release.ensures.sound w).0, (release.ensures.sound w).1))
 
 pub returns-in-52 : goal.returns-in-52
 unfolding chosen request_kinds upper_kinds place_of
@@ -171,14 +171,14 @@ returns-in-52 c =
     let match = c.in-52 in
     let finish = c.finish in
     any_step c.plain-in-52.ensures (λ n. λ i. buffers args.p.now args.s.now (finish.ensures.kept n i))
-    (λ w. rw match.keys7 (of-orders c.plain-in-52.ensures refl (finish.ensures.sound w).0, (finish.ensures.sound w).1))
+    (λ w. rw match.is (of-orders c.plain-in-52.ensures refl (finish.ensures.sound w).0, (finish.ensures.sound w).1))
 
 pub returns-in-57 : goal.returns-in-57
 unfolding chosen request_kinds upper_kinds place_of
 returns-in-57 c =
     let match = c.in-57 in
     any_step c.plain-in-57.ensures (λ _. refl)
-    (λ w. rw match.keys8 (of_none c.plain-in-57.ensures refl (c.task_check_reply.ensures w), w))
+    (λ w. rw match.is (of_none c.plain-in-57.ensures refl (c.task_check_reply.ensures w), w))
 
 pub returns-in-58 : goal.returns-in-58
 unfolding chosen request_kinds upper_kinds place_of
@@ -186,14 +186,14 @@ returns-in-58 c =
     let args = c.args in
     let match = c.in-58 in
     any_step c.plain-in-58.ensures (λ _. refl)
-    (λ w. rw match.keys9 (of_none c.plain-in-58.ensures refl (c.figures_reply.ensures args.p.now args.s.now), w))
+    (λ w. rw match.is (of_none c.plain-in-58.ensures refl (c.figures_reply.ensures args.p.now args.s.now), w))
 
 pub returns-in-60 : goal.returns-in-60
 unfolding chosen request_kinds upper_kinds place_of
 returns-in-60 c =
     let match = c.in-60 in
     any_step c.plain-in-60.ensures (λ _. refl)
-    (λ w. rw match.keys10 (of_none c.plain-in-60.ensures refl c.judge.ensures, w))
+    (λ w. rw match.is (of_none c.plain-in-60.ensures refl c.judge.ensures, w))
 
 pub returns-in_default : goal.returns-in_default
 unfolding widened
@@ -202,4 +202,4 @@ returns-in_default c =
     let match = c.in_default in
     let step = c.step in
     any_step c.plain-in_default.ensures (λ n. λ i. buffers ((step.ensures.kept n).0 i) ((step.ensures.kept n).1 i) args.o.now)
-    (λ w. rw (lower-row match.rest) (of-lower c.plain-in_default.ensures (no-claim _ _ _ (no-claim-number match.rest)) step.ensures, w))
+    (λ w. rw (lower-row match.in_default-own.rest) (of-lower c.plain-in_default.ensures (no-claim _ _ _ (no-claim-number match.in_default-own.rest)) step.ensures, w))
