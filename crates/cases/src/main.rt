@@ -12,6 +12,8 @@
 //   garble P S O               fills the buffers with meaningless numbers, drawn from the seeds P, S and O; 0 leaves a buffer as it is
 //   try KIND N A B C M         makes a request on such buffers: whether reply and place are in range, and whether a refusal changed a word
 // The buffers are passed from line to line by value, because a proof about a value is much cheaper than a proof about a borrowed buffer.
+#![tactic(auto)]
+
 ghost use Rattle.std.specs.Prelude.{◌<◌, ◌≤◌, length};
 
 use order_links::ORDERS_WORDS;
@@ -20,6 +22,7 @@ use policy::POLICY_WORDS;
 use policy_loading::Loaded;
 use scripts::{Fields, Handed};
 use sessions::SESSIONS_WORDS;
+use std::io;
 
 // The three buffers, each one word longer than the engine requires.
 #[derive(Drop)]
@@ -185,94 +188,94 @@ fn garbled(w: Words, seeds: Each) -> Words {
     Words { p: p, s: s, o: o }
 }
 
+// The same buffers once more.
+fn copied(w: &Words) -> Words {
+    Words {
+        p: w.p,
+        s: w.s,
+        o: w.o,
+    }
+}
+
 // Whether the buffers have the same words.
-fn same(w: Words, v: Words) -> bool {
-    let p = w.p;
-    let s = w.s;
-    let o = w.o;
-    let q = v.p;
-    let t = v.s;
-    let u = v.o;
-    scripts::same(&p, &q) & scripts::same(&s, &t) & scripts::same(&o, &u)
+fn same(w: &Words, v: &Words) -> bool {
+    scripts::same(&w.p, &v.p) & scripts::same(&w.s, &v.s) & scripts::same(&w.o, &v.o)
 }
 
 // Whether all words that were passed to the call are zero.
-fn zeros(w: Words, room: Each) -> bool {
-    let p = w.p;
-    let s = w.s;
-    let o = w.o;
-    scripts::zeros_in(&p, room.p as usize)
-        & scripts::zeros_in(&s, room.s as usize)
-        & scripts::zeros_in(&o, room.o as usize)
+fn zeros(w: &Words, room: Each) -> bool {
+    scripts::zeros_in(&w.p, room.p as usize)
+        & scripts::zeros_in(&w.s, room.s as usize)
+        & scripts::zeros_in(&w.o, room.o as usize)
 }
 
 // Runs a line that loads. The buffers are filled with meaningless numbers first, because a load must not depend on them.
-fn load(line: &[u8], h: Handed, w: Words) -> Words {
+fn load(out: &impl Print, line: &[u8], h: Handed, w: Words) -> io::Result<Words> {
     let before = garbled(w, Each { p: 1, s: 2, o: 3 });
-    let c = called(line, h, before);
+    let c = called(line, h, copied(&before));
     let a = c.answer;
     let v = c.words;
-    scripts::say_reply(line, a.reply);
-    scripts::say_place(a.place);
-    scripts::say_if(zeros(v, room_of(line)), b", zeros");
-    scripts::say_if(same(v, before), b", as before");
-    scripts::say(b"\n");
-    v
+    scripts::say_reply(out, line, a.reply)?;
+    scripts::say_place(out, a.place)?;
+    scripts::say_if(out, zeros(&v, room_of(line)), b", zeros")?;
+    scripts::say_if(out, same(&v, &before), b", as before")?;
+    scripts::say(out, b"\n")?;
+    Ok(v)
 }
 
 // Prints the result of a request.
-fn say_asked(line: &[u8], a: Answer) {
+fn say_asked(out: &impl Print, line: &[u8], a: Answer) -> io::Result<()> {
     if scripts::letter(line) == b't' {
-        scripts::say(line);
-        scripts::say_if((a.reply <= 24) & (a.place <= 64), b": answered");
-        return;
+        scripts::say(out, line)?;
+        return scripts::say_if(out, (a.reply <= 24) & (a.place <= 64), b": answered");
     }
-    scripts::say_reply(line, a.reply);
+    scripts::say_reply(out, line, a.reply)?;
     if a.place != 0 {
-        scripts::say_place(a.place);
+        scripts::say_place(out, a.place)?;
     }
+    Ok(())
 }
 
 // Runs a line that asks.
-fn ask(line: &[u8], h: Handed, w: Words) -> Words {
-    let c = called(line, h, w);
+fn ask(out: &impl Print, line: &[u8], h: Handed, w: Words) -> io::Result<Words> {
+    let c = called(line, h, copied(&w));
     let a = c.answer;
     let v = c.words;
-    say_asked(line, a);
-    scripts::say_if((a.reply != 0) & !same(v, w), b", and words changed");
-    scripts::say(b"\n");
-    v
+    say_asked(out, line, a)?;
+    scripts::say_if(out, (a.reply != 0) & !same(&v, &w), b", and words changed")?;
+    scripts::say(out, b"\n")?;
+    Ok(v)
 }
 
 // Runs a line that fills.
-fn fill(line: &[u8], w: Words) -> Words {
+fn fill(out: &impl Print, line: &[u8], w: Words) -> io::Result<Words> {
     let c = called(line, scripts::nothing(), w);
     let a = c.answer;
-    scripts::say_reply(line, a.reply);
-    scripts::say(b"\n");
-    c.words
+    scripts::say_reply(out, line, a.reply)?;
+    scripts::say(out, b"\n")?;
+    Ok(c.words)
 }
 
 // Runs a line of the script and returns the buffers after it.
-fn run(line: &[u8], policy: Handed, w: Words) -> Words {
+fn run(out: &impl Print, line: &[u8], policy: &Handed, w: Words) -> io::Result<Words> {
     match scripts::letter(line) {
-        b'\n' | b'+' | b'n' => w,
-        b'w' | b'l' | b'r' => load(line, scripts::handed_by(line, policy, 3), w),
-        b'a' | b'i' | b'c' | b't' => ask(line, scripts::handed_by(line, policy, 3), w),
-        b'f' => fill(line, w),
+        b'\n' | b'+' | b'n' => Ok(w),
+        b'w' | b'l' | b'r' => load(out, line, scripts::handed_by(line, policy, 3), w),
+        b'a' | b'i' | b'c' | b't' => ask(out, line, scripts::handed_by(line, policy, 3), w),
+        b'f' => fill(out, line, w),
         b'g' => {
-            scripts::say_line(line);
-            garbled(w, first_three(line))
+            scripts::say_line(out, line)?;
+            Ok(garbled(w, first_three(line)))
         }
         _ => {
-            scripts::say_line(line);
-            w
+            scripts::say_line(out, line)?;
+            Ok(w)
         }
     }
 }
 
 // Runs all lines of the script.
-fn run_lines(text: &[u8])
+fn run_lines(out: &impl Print, text: &[u8]) -> io::Result<()>
     requires { length text.now ≤ 65536 }
 {
     let mut policy = scripts::nothing();
@@ -282,13 +285,14 @@ fn run_lines(text: &[u8])
         let end = scripts::line_end(text, at);
         let line = &text[at..end];
         policy = scripts::policy_behind(line, policy);
-        words = run(line, policy, words);
+        words = run(out, line, &policy, words)?;
         at = end + 1;
     }
+    Ok(())
 }
 
-fn main() {
+fn main(rt: HostRuntime) -> io::Result<()> {
     let mut text = [0u8; 65536];
-    let n = io::read_full(0, &mut text);
-    run_lines(&text[0..n]);
+    let n = scripts::read_script(&mut rt.stdin(), &mut text)?;
+    run_lines(&rt, &text[0..n])
 }

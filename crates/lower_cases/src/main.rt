@@ -11,12 +11,15 @@
 //   garble P S                 fills the buffers with meaningless numbers, drawn from the seeds P and S; 0 leaves a buffer as it is
 //   try KIND N A B C M         makes a request on such buffers: whether the reply is one of the table, and whether a refusal changed a word
 // The buffers are passed from line to line by value, because a proof about a value is much cheaper than a proof about a borrowed buffer.
+#![tactic(auto)]
+
 ghost use Rattle.std.specs.Prelude.{◌<◌, ◌≤◌, length};
 
 use policy::POLICY_WORDS;
 use policy_loading::Loaded;
 use scripts::Handed;
 use sessions::SESSIONS_WORDS;
+use std::io;
 
 // Both buffers, each one word longer than the lower part requires.
 #[derive(Drop)]
@@ -122,76 +125,75 @@ fn garbled(w: Words, seeds: Each) -> Words {
     Words { p: p, s: s }
 }
 
+// The same buffers once more.
+fn copied(w: &Words) -> Words {
+    Words { p: w.p, s: w.s }
+}
+
 // Whether two pairs of buffers have the same words.
-fn same(w: Words, v: Words) -> bool {
-    let p = w.p;
-    let s = w.s;
-    let q = v.p;
-    let t = v.s;
-    scripts::same(&p, &q) & scripts::same(&s, &t)
+fn same(w: &Words, v: &Words) -> bool {
+    scripts::same(&w.p, &v.p) & scripts::same(&w.s, &v.s)
 }
 
 // Whether all words that were passed to the call are zero.
-fn zeros(w: Words, room: Each) -> bool {
-    let p = w.p;
-    let s = w.s;
-    scripts::zeros_in(&p, room.p as usize) & scripts::zeros_in(&s, room.s as usize)
+fn zeros(w: &Words, room: Each) -> bool {
+    scripts::zeros_in(&w.p, room.p as usize) & scripts::zeros_in(&w.s, room.s as usize)
 }
 
 // Runs a line that loads. The buffers are filled with meaningless numbers first, because a load must not depend on them.
-fn load(line: &[u8], h: Handed, w: Words) -> Words {
+fn load(out: &impl Print, line: &[u8], h: Handed, w: Words) -> io::Result<Words> {
     let before = garbled(w, Each { p: 1, s: 2 });
-    let c = called(line, h, before);
+    let c = called(line, h, copied(&before));
     let a = c.answer;
     let v = c.words;
-    scripts::say_reply(line, a.reply);
-    scripts::say_place(a.place);
-    scripts::say_if(zeros(v, room_of(line)), b", zeros");
-    scripts::say_if(same(v, before), b", as before");
-    scripts::say(b"\n");
-    v
+    scripts::say_reply(out, line, a.reply)?;
+    scripts::say_place(out, a.place)?;
+    scripts::say_if(out, zeros(&v, room_of(line)), b", zeros")?;
+    scripts::say_if(out, same(&v, &before), b", as before")?;
+    scripts::say(out, b"\n")?;
+    Ok(v)
 }
 
 // Prints the result of a request.
-fn say_asked(line: &[u8], reply: u64) {
+fn say_asked(out: &impl Print, line: &[u8], reply: u64) -> io::Result<()> {
     if scripts::letter(line) == b't' {
-        scripts::say(line);
-        scripts::say_if(reply <= 24, b": answered");
+        scripts::say(out, line)?;
+        scripts::say_if(out, reply <= 24, b": answered")
     } else {
-        scripts::say_reply(line, reply);
+        scripts::say_reply(out, line, reply)
     }
 }
 
 // Runs a line that asks.
-fn ask(line: &[u8], h: Handed, w: Words) -> Words {
-    let c = called(line, h, w);
+fn ask(out: &impl Print, line: &[u8], h: Handed, w: Words) -> io::Result<Words> {
+    let c = called(line, h, copied(&w));
     let a = c.answer;
     let v = c.words;
-    say_asked(line, a.reply);
-    scripts::say_if((a.reply != 0) & !same(v, w), b", and words changed");
-    scripts::say(b"\n");
-    v
+    say_asked(out, line, a.reply)?;
+    scripts::say_if(out, (a.reply != 0) & !same(&v, &w), b", and words changed")?;
+    scripts::say(out, b"\n")?;
+    Ok(v)
 }
 
 // Runs a line of the script and returns the buffers after it.
-fn run(line: &[u8], policy: Handed, w: Words) -> Words {
+fn run(out: &impl Print, line: &[u8], policy: &Handed, w: Words) -> io::Result<Words> {
     match scripts::letter(line) {
-        b'\n' | b'+' | b'n' => w,
-        b'w' | b'l' | b'r' => load(line, scripts::handed_by(line, policy, 2), w),
-        b'a' | b'i' | b'c' | b't' => ask(line, scripts::handed_by(line, policy, 2), w),
+        b'\n' | b'+' | b'n' => Ok(w),
+        b'w' | b'l' | b'r' => load(out, line, scripts::handed_by(line, policy, 2), w),
+        b'a' | b'i' | b'c' | b't' => ask(out, line, scripts::handed_by(line, policy, 2), w),
         b'g' => {
-            scripts::say_line(line);
-            garbled(w, first_two(line))
+            scripts::say_line(out, line)?;
+            Ok(garbled(w, first_two(line)))
         }
         _ => {
-            scripts::say_line(line);
-            w
+            scripts::say_line(out, line)?;
+            Ok(w)
         }
     }
 }
 
 // Runs all lines of the script.
-fn run_lines(text: &[u8])
+fn run_lines(out: &impl Print, text: &[u8]) -> io::Result<()>
     requires { length text.now ≤ 65536 }
 {
     let mut policy = scripts::nothing();
@@ -201,13 +203,14 @@ fn run_lines(text: &[u8])
         let end = scripts::line_end(text, at);
         let line = &text[at..end];
         policy = scripts::policy_behind(line, policy);
-        words = run(line, policy, words);
+        words = run(out, line, &policy, words)?;
         at = end + 1;
     }
+    Ok(())
 }
 
-fn main() {
+fn main(rt: HostRuntime) -> io::Result<()> {
     let mut text = [0u8; 65536];
-    let n = io::read_full(0, &mut text);
-    run_lines(&text[0..n]);
+    let n = scripts::read_script(&mut rt.stdin(), &mut text)?;
+    run_lines(&rt, &text[0..n])
 }

@@ -1,7 +1,12 @@
 // What the programs that run cases share: reading a line of a script with its numbers and its record, the bytes that a line passes to a call, printing, and
 // comparing words. It knows no rule of the engine. A line has a first letter that says what to do, then numbers, and then words for the reader.
-ghost use Rattle.std.specs.Prelude.{ℕ, ◌+◌, ◌-◌, ◌%◌, ◌<◌, ◌≤◌, true, cond, ◌≡◌, length, get_or, take};
+#![tactic(auto)]
+
+ghost use Rattle.std.specs.Prelude.{ℕ, ◌+◌, ◌-◌, ◌%◌, ◌<◌, ◌≤◌, true, cond, ◌≡◌, length, get_or, take, IfOk};
 ghost use Rattle.scripts.specs.Lines.{LineEnd, digit_more, space_more, number_of, bytes_of, a_record_of, Put, drawn, garbled, letter_of, Garbled};
+
+use std::io;
+use std::io::Read;
 
 // The fields of a record.
 #[derive(Clone, Copy)]
@@ -85,6 +90,7 @@ pub fn line_end(text: &[u8], at: usize) -> usize
 }
 
 // A number with one more digit, if the byte is a digit and the number stays below 2^64.
+#[tactic(auto, unfolding(crate::specs::Lines::digit_more))]
 fn digit(x: u64, b: u8) -> u64
     ensures { result ≡ digit_more x b }
 {
@@ -117,6 +123,7 @@ pub fn number(line: &[u8], k: u64) -> u64
 }
 
 // The number of spaces after one more byte; it stops at about a thousand, so that it cannot overflow.
+#[tactic(auto, unfolding(crate::specs::Lines::space_more))]
 fn spaces_with(spaces: u64, b: u8) -> u64
     ensures { result ≡ space_more spaces b }
 {
@@ -252,6 +259,16 @@ pub fn nothing() -> Handed
     }
 }
 
+// The same bytes once more.
+fn copied(h: &Handed) -> Handed
+    ensures { result ≡ h.now }
+{
+    Handed {
+        bytes: h.bytes,
+        len: h.len,
+    }
+}
+
 // The same bytes with one more record after them, if there is room.
 fn with_record(h: Handed, r: Fields) -> Handed
     ensures { Put h.len r h.bytes result.bytes result.len }
@@ -288,6 +305,7 @@ fn less(x: usize, y: usize) -> usize
 }
 
 // The first byte of a line. For an empty line it is a newline, with which no line begins.
+#[tactic(auto, unfolding(crate::specs::Lines::letter_of))]
 pub fn letter(line: &[u8]) -> u8
     ensures { result ≡ letter_of line.now }
 {
@@ -305,46 +323,63 @@ pub fn policy_behind(line: &[u8], policy: Handed) -> Handed {
 
 // The bytes that a line which loads or asks passes to its call, given the policy that is being collected. In a line `in`, the lengths of `buffers` buffers come
 // before the record.
-pub fn handed_by(line: &[u8], policy: Handed, buffers: u64) -> Handed
+pub fn handed_by(line: &[u8], policy: &Handed, buffers: u64) -> Handed
     requires { buffers < 10 }
 {
     match letter(line) {
-        b'w' => with_record(policy, record_of(line, 1)),
-        b'l' => of_length(policy, less(policy.len, number(line, 1) as usize)),
-        b'r' => policy,
+        b'w' => with_record(copied(policy), record_of(line, 1)),
+        b'l' => of_length(copied(policy), less(policy.len, number(line, 1) as usize)),
+        b'r' => copied(policy),
         b'i' => request_of(record_of(line, buffers + 1)),
         b'c' => of_length(request_of(record_of(line, 2)), number(line, 1) as usize),
         _ => request_of(record_of(line, 1)),
     }
 }
 
+// Reads a script from its start on, until the text is full or the input ends, and returns the number of its bytes.
+pub fn read_script(input: &mut impl Read, text: &mut [u8]) -> io::Result<usize>
+    ensures { IfOk result (λ n. n ≤ length text.new) }
+{
+    let mut at = 0;
+    for _ in 0..u64::MAX {
+        if at >= text.len() {
+            break;
+        }
+        let n = input.read(&mut text[at..])?;
+        if n == 0 {
+            break;
+        }
+        at += n;
+    }
+    Ok(at)
+}
+
 // Prints a text.
-pub fn say(text: &[u8]) {
-    io::write_all(1, text);
+pub fn say(out: &impl Print, text: &[u8]) -> io::Result<()> {
+    out.write_all(text)
 }
 
 // Prints a text if the condition holds.
-pub fn say_if(yes: bool, text: &[u8]) {
+pub fn say_if(out: &impl Print, yes: bool, text: &[u8]) -> io::Result<()> {
     if yes {
-        say(text);
+        say(out, text)?;
     }
+    Ok(())
 }
 
 // Prints a line.
-pub fn say_line(line: &[u8]) {
-    say(line);
-    say(b"\n");
+pub fn say_line(out: &impl Print, line: &[u8]) -> io::Result<()> {
+    say(out, line)?;
+    say(out, b"\n")
 }
 
 // Prints a line and a reply after it.
-pub fn say_reply(line: &[u8], reply: u64) {
-    say(line);
-    say(b": ");
-    io::print_decimal(1, reply);
+pub fn say_reply(out: &impl Print, line: &[u8], reply: u64) -> io::Result<()> {
+    say(out, line)?;
+    print!(out; ": {reply}")
 }
 
 // Prints a place after a reply.
-pub fn say_place(place: u64) {
-    say(b" at ");
-    io::print_decimal(1, place);
+pub fn say_place(out: &impl Print, place: u64) -> io::Result<()> {
+    print!(out; " at {place}")
 }
