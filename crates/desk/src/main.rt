@@ -1,61 +1,51 @@
 // The desk program (docs/RULES.md): loads the file policy.rec, then answers the request records of standard input, one line for each, as soon as it is
 // complete. The crate engine makes every decision.
-ghost use Rattle.std.specs.Prelude.{◌+◌, ◌%◌, ◌<◌, ◌≤◌, min, ◌≡◌, length};
+#![tactic(auto)]
+
+ghost use Rattle.std.specs.Prelude.{◌+◌, ◌%◌, ◌<◌, ◌≤◌, min, ◌≡◌, length, IfOk};
 ghost use Rattle.engine.specs.Buffers.{buffers};
 ghost use Rattle.engine.specs.Settling.{Settling};
 
+use itoa::Buffer;
 use order_links::ORDERS_WORDS;
 use policy::POLICY_WORDS;
 use policy_loading::Loaded;
 use replies::Reply;
 use sessions::SESSIONS_WORDS;
-
-// The number of bytes that were read; or `Failed`, if a read failed.
-#[derive(Clone, Copy)]
-enum Got {
-    Bytes(usize),
-    Failed,
-}
+use std::fs::File;
+use std::io;
+use std::io::Read;
+use std::rt::Files;
 
 // One read into the buffer from `at` on: the number of bytes, 0 at the end of the input, or a failure.
-fn read_some(fd: i32, buffer: &mut [u8], at: usize) -> Got
+fn read_some(input: &mut impl Read, buffer: &mut [u8], at: usize) -> io::Result<usize>
     requires { at ≤ length buffer.old }
+    ensures { IfOk result (λ n. at + n ≤ length buffer.new) }
 {
-    let part = &mut buffer[at..];
-    let got = libc::read(fd, part);
-    if got < 0 {
-        return Got::Failed;
-    }
-    Got::Bytes(io::count(got, part))
+    input.read(&mut buffer[at..])
 }
 
 // Reads until the buffer is full or the input ends.
-fn read_all(fd: i32, buffer: &mut [u8]) -> Got {
+fn read_all(input: &mut impl Read, buffer: &mut [u8]) -> io::Result<usize>
+    ensures { IfOk result (λ n. n ≤ length buffer.new) }
+{
     let mut at = 0;
     while at < buffer.len() {
-        let Got::Bytes(n) = read_some(fd, buffer, at) else {
-            return Got::Failed;
-        };
+        let n = read_some(input, buffer, at)?;
         if n == 0 {
-            return Got::Bytes(at);
-        }
-        if buffer.len() - at < n {
-            return Got::Failed;
+            break;
         }
         at += n;
     }
-    Got::Bytes(at)
+    Ok(at)
 }
 
 // Reads the policy file. A folder of that name opens, but fails when it is read.
-fn read_policy(buffer: &mut [u8]) -> Got {
-    let fd = os::open_read(b"policy.rec");
-    if fd < 0 {
-        return Got::Failed;
-    }
-    let got = read_all(fd, buffer);
-    libc::close(fd);
-    got
+fn read_policy(rt: &impl Files, buffer: &mut [u8]) -> io::Result<usize>
+    ensures { IfOk result (λ n. n ≤ length buffer.new) }
+{
+    let mut file = File::open(rt, "policy.rec")?;
+    read_all(&mut file, buffer)
 }
 
 // The three buffers. They are passed by value, because a proof about a value is much cheaper than a proof about a borrowed buffer.
@@ -96,15 +86,12 @@ fn put_number(out: &mut [u8; 16384], at: usize, number: u64, then: u8) -> usize
     requires { at + 21 ≤ 16384 }
     ensures { result ≤ at + 21 }
 {
-    let mut text = [0u8; 20];
-    let digits = io::decimal(number, &mut text);
-    let mut i = 0;
-    while i < 20 && i < digits {
-        out[at + i] = text[i];
-        i += 1;
-    }
-    out[at + i] = then;
-    at + i + 1
+    let mut digits = Buffer::new();
+    let text = digits.format(number).as_bytes();
+    let end = at + text.len();
+    out[at..end].copy_from_slice(text);
+    out[end] = then;
+    end + 1
 }
 
 // Writes a line of two numbers, at most 42 bytes.
@@ -173,13 +160,13 @@ fn answer(
 }
 
 // Prints the first n bytes of a text; false if that failed.
-fn write_front(text: &[u8], n: usize) -> bool {
-    n <= text.len() && io::write_all(1, &text[0..n])
+fn write_front(out: &impl Print, text: &[u8], n: usize) -> bool {
+    n <= text.len() && out.write_all(&text[0..n]).is_ok()
 }
 
 // Prints the first n bytes of the lines.
-fn write_lines(out: &[u8; 16384], n: usize) -> bool {
-    write_front(out, n)
+fn write_lines(out: &impl Print, lines: &[u8; 16384], n: usize) -> bool {
+    write_front(out, lines, n)
 }
 
 // Whether the lines were printed, and the state after the requests.
@@ -190,24 +177,24 @@ struct Served {
 }
 
 // Answers the records in the first n bytes of the buffer.
-fn serve_front(buffer: &[u8], n: usize, first: u64, state: State) -> Served
+fn serve_front(out: &impl Print, buffer: &[u8], n: usize, first: u64, state: State) -> Served
     requires { (n ≤ length buffer.now) × ((length buffer.now ≤ 4096) × ((first < 1152921504606846976) × Settling (buffers state.policy state.sessions state.orders))) }
     ensures { Settling (buffers result.state.policy result.state.sessions result.state.orders) }
 {
     let mut policy = state.policy;
     let mut sessions = state.sessions;
     let mut orders = state.orders;
-    let mut out = [0u8; 16384];
+    let mut lines = [0u8; 16384];
     let length = answer(
         &buffer[0..n],
         first,
         &mut policy,
         &mut sessions,
         &mut orders,
-        &mut out,
+        &mut lines,
     );
     Served {
-        written: write_lines(&out, length),
+        written: write_lines(out, &lines, length),
         state: State {
             policy,
             sessions,
@@ -248,20 +235,23 @@ struct Turn {
 
 // Reads what is there, after the bytes of an incomplete record, and answers what can be answered now. `seen` stays the same if there is nothing more to do: at
 // the end of the input, or if a read or a write failed.
-fn serve_some(buffer: &mut [u8; 4096], seen: u64, state: State) -> Turn
+fn serve_some(
+    input: &mut impl Read,
+    out: &impl Print,
+    buffer: &mut [u8; 4096],
+    seen: u64,
+    state: State,
+) -> Turn
     requires { (seen < 1152921504606846976) × Settling (buffers state.policy state.sessions state.orders) }
     ensures { (result.seen ≤ seen + 4096) × Settling (buffers result.state.policy result.state.sessions result.state.orders) }
 {
     let kept = (seen % 16) as usize;
-    let Got::Bytes(n) = read_some(0, buffer, kept) else {
+    let Ok(n) = read_some(input, buffer, kept) else {
         return Turn { seen, state };
     };
-    if 4096 - kept < n {
-        return Turn { seen, state };
-    }
     let bytes = kept + n;
     let now = answered(bytes, n);
-    let served = serve_front(buffer, now, seen / 16 + 1, state);
+    let served = serve_front(out, buffer, now, seen / 16 + 1, state);
     let after = served.state;
     if !served.written {
         return Turn { seen, state: after };
@@ -274,14 +264,14 @@ fn serve_some(buffer: &mut [u8; 4096], seen: u64, state: State) -> Turn
 }
 
 // Answers requests until the input ends. The bound of 2^60 bytes makes the end of the loop easy to prove; no input is that long.
-fn serve(begun: State)
+fn serve(input: &mut impl Read, out: &impl Print, begun: State)
     requires { Settling (buffers begun.policy begun.sessions begun.orders) }
 {
     let mut buffer = [0u8; 4096];
     let mut state = begun;
     let mut seen = 0;
     while seen < 1152921504606846976 {
-        let turn = serve_some(&mut buffer, seen, state);
+        let turn = serve_some(input, out, &mut buffer, seen, state);
         if turn.seen <= seen {
             return;
         }
@@ -291,39 +281,39 @@ fn serve(begun: State)
 }
 
 // Prints the line of the load.
-fn write_load(reply: u64, place: u64) -> bool {
-    let mut out = [0u8; 16384];
-    let length = put_line(&mut out, 0, reply, place);
-    io::write_all(1, b"load ") && write_lines(&out, length)
+fn write_load(out: &impl Print, reply: u64, place: u64) -> bool {
+    let mut lines = [0u8; 16384];
+    let length = put_line(&mut lines, 0, reply, place);
+    out.write_all(b"load ").is_ok() && write_lines(out, &lines, length)
 }
 
 // The answer if the policy file is missing, too large or cannot be read.
-fn refuse() {
-    write_load(replies::number(Reply::Room), 0);
+fn refuse(out: &impl Print) {
+    write_load(out, replies::number(Reply::Room), 0);
 }
 
 // Loads the policy and answers the requests.
-fn run(policy_file: &[u8]) {
+fn run(input: &mut impl Read, out: &impl Print, policy_file: &[u8]) {
     let begun = load_bytes(policy_file);
     let loaded = begun.loaded;
     let state = begun.state;
     let reply = loaded.reply;
     let number = replies::number(reply);
-    if write_load(number, loaded.place) && number == 0 {
-        serve(state);
+    if write_load(out, number, loaded.place) && number == 0 {
+        serve(input, out, state);
     }
 }
 
 // The buffer is one byte longer than a policy file may be, so that a larger file is noticed.
-fn main() {
+fn main(rt: HostRuntime) {
     let mut buffer = [0u8; 65537];
-    let Got::Bytes(n) = read_policy(&mut buffer) else {
-        refuse();
+    let Ok(n) = read_policy(&rt, &mut buffer) else {
+        refuse(&rt);
         return;
     };
     if n <= 65536 {
-        run(&buffer[0..n]);
+        run(&mut rt.stdin(), &rt, &buffer[0..n]);
     } else {
-        refuse();
+        refuse(&rt);
     }
 }

@@ -341,10 +341,7 @@ pub fn read_script(input: &mut impl Read, text: &mut [u8]) -> io::Result<usize>
     ensures { IfOk result (λ n. n ≤ length text.new) }
 {
     let mut at = 0;
-    for _ in 0..u64::MAX {
-        if at >= text.len() {
-            break;
-        }
+    while at < text.len() {
         let n = input.read(&mut text[at..])?;
         if n == 0 {
             break;
