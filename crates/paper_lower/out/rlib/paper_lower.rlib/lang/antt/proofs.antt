@@ -1,4 +1,0 @@
-pub mod ListLaws
-pub mod CheckLaws
-pub mod KindLaws
-pub mod ReadBack
