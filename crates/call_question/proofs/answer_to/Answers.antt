@@ -9,28 +9,28 @@ pub figures-requires : goal.figures-requires
 unfolding limits_open
 figures-requires c =
     let pre = c.requires in
-    (pre.0.0, (pre.0.1.1, below (limit_a request_forms) pre.1.0.a c.in-58.keys1 64 tt))
+    (pre.0.0, (pre.0.1.1, below (limit_a request_forms) pre.1.0.a c.in-58.is 64 tt))
 
 pub stuck_tasks-requires : goal.stuck_tasks-requires
 unfolding limits_open
 stuck_tasks-requires c =
     let pre = c.requires in
-    (pre.0.0, (pre.0.1.0, below (limit_a request_forms) pre.1.0.a c.in-60.keys2 16 tt))
+    (pre.0.0, (pre.0.1.0, below (limit_a request_forms) pre.1.0.a c.in-60.is 16 tt))
 
 pub returns-in-58 : goal.returns-in-58
 returns-in-58 c =
     let args = c.args in
     let match = c.in-58 in
-    of-figures args.p.now args.o.now args.r match.keys1 c.figures.ensures
+    of-figures args.p.now args.o.now args.r match.is c.figures.ensures
 
 pub returns-in-60 : goal.returns-in-60
 returns-in-60 c =
     let args = c.args in
     let match = c.in-60 in
-    of-stuck args.p.now args.o.now args.r match.keys2 c.stuck_tasks.ensures
+    of-stuck args.p.now args.o.now args.r match.is c.stuck_tasks.ensures
 
 pub returns-in_default : goal.returns-in_default
 returns-in_default c =
     let args = c.args in
     let pre = c.requires in
-    absurd (no-other-question args.r.kind pre.1.1 c.in_default.rest)
+    absurd (no-other-question args.r.kind pre.1.1 c.in_default.in_default-own.rest)
