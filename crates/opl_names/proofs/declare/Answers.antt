@@ -14,7 +14,7 @@ returns-in_default c =
     let find-marked = c.find_marked-r in
     let z : args.at + args.size - args.at ≡ args.size = omega arith in
     declared-there args.s.now args.n args.t.now (take args.size (drop args.at args.s.now)) pre.0 find-marked.result _
-    c.enum_told-in_default-1.given.1 (rw z at find-marked.ensures)
+    c.in_default.is (rw z at find-marked.ensures)
 
 pub returns-then-n-k : goal.returns-then-n-k
 returns-then-n-k c =
@@ -23,7 +23,7 @@ returns-then-n-k c =
     let find-marked = c.find_marked-r in
     let z : args.at + args.size - args.at ≡ args.size = omega arith in
     declared-full args.s.now args.n args.t.now (take args.size (drop args.at args.s.now)) pre.0 find-marked.result
-    c.enum_told-1.given.1 (rw z at find-marked.ensures) (omega (arith, c.if-n-k.true))
+    c.in-Nowhere.is (rw z at find-marked.ensures) (omega (arith, c.if-n-k.true))
 
 pub returns : goal.returns
 returns c =
@@ -31,10 +31,9 @@ returns c =
     let pre = c.requires in
     let mark = c.mark-m in
     let find-marked = c.find_marked-r in
-    let enum_told = c.enum_told-1 in
     let if1 = c.if-n-k in
     let append = c.append in
     let z : args.at + args.size - args.at ≡ args.size = omega arith in
     declared-new args.s.now args.n args.t.now (take args.size (drop args.at args.s.now)) pre.0 args.at args.size mark.result
-    (sym (rw z at find-marked.ensures) ∙ ap found_of enum_told.given.1) (omega (arith, if1.false)) pre.1.0 pre.1.1 refl
-    (rw z at mark.ensures.0) append.new.0 append.ensures
+    (sym (rw z at find-marked.ensures) ∙ ap found_of c.in-Nowhere.is) (omega (arith, if1.false)) pre.1.0 pre.1.1 refl
+    (rw z at mark.ensures.0) append.new.t append.ensures

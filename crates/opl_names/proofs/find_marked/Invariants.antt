@@ -1,5 +1,4 @@
 -- `find_marked` meets its contract: it searches one bucket, from its newest number down.
-use Prim.Native.Nat.{◌-◌}
 use Rattle.opl_names.specs.Table.{bucket_of}
 use Rattle.opl_names.proofs.TableLaws.{Walking}
 use Rattle.opl_names.proofs.find_marked.Given as goal
