@@ -1,4 +1,3 @@
-use Prim.Native.Nat.{◌-◌}
 use mathlib.Core.Path.{refl, sym, ◌∙◌}
 use native.Mathlib.Omega.{arith}
 use Rattle.opl_lines.proofs.LineLaws.{judge-bad, judge-past, judge-on, judge-end}
@@ -15,10 +14,10 @@ loop-at-smaller c =
     let read-line = c.read_line-r in
     omega (
       arith,
-      (judge-past args.t.now loop.at loop-test.true read-line.result read-line.ensures c.r-1.given.0.0
-          c.r-1.given.0.1.0 c.r-1.given.0.1.1.0 c.r-1.given.1).0,
-      (judge-past args.t.now loop.at loop-test.true read-line.result read-line.ensures c.r-1.given.0.0
-          c.r-1.given.0.1.0 c.r-1.given.0.1.1.0 c.r-1.given.1).1,
+      (judge-past args.t.now loop.at loop-test.true read-line.result read-line.ensures c.in-Line.task
+          c.in-Line.template c.in-Line.next c.in-Line.is).0,
+      (judge-past args.t.now loop.at loop-test.true read-line.result read-line.ensures c.in-Line.task
+          c.in-Line.template c.in-Line.next c.in-Line.is).1,
     )
 
 pub loop-at-preserved : goal.loop-at-preserved
@@ -27,11 +26,11 @@ loop-at-preserved c =
     let loop = c.loop-at in
     let loop-test = c.loop-at-test in
     let read-line = c.read_line-r in (
-      (judge-past args.t.now loop.at loop-test.true read-line.result read-line.ensures c.r-1.given.0.0
-          c.r-1.given.0.1.0 c.r-1.given.0.1.1.0 c.r-1.given.1).1,
+      (judge-past args.t.now loop.at loop-test.true read-line.result read-line.ensures c.in-Line.task
+          c.in-Line.template c.in-Line.next c.in-Line.is).1,
       loop.invariant.1 ∙
-          judge-on args.t.now loop.at loop-test.true read-line.result read-line.ensures c.r-1.given.0.0
-          c.r-1.given.0.1.0 c.r-1.given.0.1.1.0 c.r-1.given.1,
+          judge-on args.t.now loop.at loop-test.true read-line.result read-line.ensures c.in-Line.task
+          c.in-Line.template c.in-Line.next c.in-Line.is,
     )
 
 pub returns-in-Bad : goal.returns-in-Bad
@@ -41,7 +40,7 @@ returns-in-Bad c =
     let loop-test = c.loop-at-test in
     let read-line = c.read_line-r in
     let e =
-    judge-bad args.t.now loop.at loop-test.true read-line.result read-line.ensures c.r-in-Bad-1.given.0.0 c.r-in-Bad-1.given.1 in
+    judge-bad args.t.now loop.at loop-test.true read-line.result read-line.ensures c.in-Bad.i c.in-Bad.is in
     record { read_is = e.0 ∙ sym loop.invariant.1; inside = e.1 }
 
 pub returns : goal.returns

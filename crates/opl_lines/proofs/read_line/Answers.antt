@@ -1,4 +1,6 @@
 -- `read_line` meets its contract: each return by the bytes that were read (LineLaws.antt).
+use mathlib.Core.Bool.{not}
+use mathlib.Core.Path.{ap}
 use Prim.Native.Nat.{◌+◌}
 use native.Mathlib.Omega.{arith}
 use lib.ListN.{drop}
@@ -26,7 +28,7 @@ returns-then-not-is_at c =
     record {
       read_is =
           line-unspaced args.t.now args.at name-end.result pre name-end.ensures.rest name-end.ensures.inside c.if-task-at.false
-          c.is_at.result c.is_at.ensures c.if-not-is_at.true;
+          c.is_at.result c.is_at.ensures (ap not c.if-not-is_at.true);
       stands = name-end.ensures.inside;
     }
 
@@ -36,7 +38,7 @@ name_end-template-requires c =
     let pre = c.requires in
     let name-end = c.name_end-task in
     line-past args.t.now args.at name-end.result pre name-end.ensures.rest name-end.ensures.inside c.if-task-at.false
-    c.is_at.result c.is_at.ensures c.if-not-is_at.false
+    c.is_at.result c.is_at.ensures (ap not c.if-not-is_at.false)
 
 pub returns-then-template-from : goal.returns-then-template-from
 returns-then-template-from c =
@@ -48,7 +50,7 @@ returns-then-template-from c =
     record {
       read_is =
           line-one args.t.now args.at name-end.result pre name-end.ensures.rest name-end.ensures.inside if1.false is_at.result
-          is_at.ensures c.if-not-is_at.false c.name_end-template.result c.name_end-template.ensures.rest
+          is_at.ensures (ap not c.if-not-is_at.false) c.name_end-template.result c.name_end-template.ensures.rest
           c.name_end-template.ensures.inside c.if-template-from.true;
       stands = c.name_end-template.ensures.inside;
     }
@@ -67,9 +69,9 @@ returns-in-Bad c =
     record {
       read_is =
           line-unended args.t.now args.at name-end.result pre name-end.ensures.rest name-end.ensures.inside if1.false is_at.result
-          is_at.ensures if2.false name-end2.result name-end2.ensures.rest name-end2.ensures.inside if3.false line-end.result
-          line-end.ensures c.e-1.given.0.0 c.e-1.given.1;
-      stands = line-stop args.t.now line-end.result (line_end (drop name-end2.result args.t.now)) line-end.ensures _ c.e-1.given.1;
+          is_at.ensures (ap not if2.false) name-end2.result name-end2.ensures.rest name-end2.ensures.inside if3.false line-end.result
+          line-end.ensures c.in-Bad.i c.in-Bad.is;
+      stands = line-stop args.t.now line-end.result (line_end (drop name-end2.result args.t.now)) line-end.ensures _ c.in-Bad.is;
     }
 
 pub returns-in-Next : goal.returns-in-Next
@@ -85,13 +87,13 @@ returns-in-Next c =
     let line-end = c.line_end-e in
     let o =
     line-onward args.t.now args.at name-end.result pre name-end.ensures.rest name-end.ensures.inside if1.false is_at.result
-    is_at.ensures if2.false name-end2.result name-end2.ensures.rest name-end2.ensures.inside if3.false line-end.result line-end.ensures
-    c.e-in-Next-1.given.0.0 c.e-in-Next-1.given.1 in
+    is_at.ensures (ap not if2.false) name-end2.result name-end2.ensures.rest name-end2.ensures.inside if3.false line-end.result line-end.ensures
+    c.in-Next.next c.in-Next.is in
     record {
       read_is =
           line-whole args.t.now args.at name-end.result pre name-end.ensures.rest name-end.ensures.inside if1.false is_at.result
-          is_at.ensures if2.false name-end2.result name-end2.ensures.rest name-end2.ensures.inside if3.false line-end.result
-          line-end.ensures c.e-in-Next-1.given.0.0 c.e-in-Next-1.given.1;
+          is_at.ensures (ap not if2.false) name-end2.result name-end2.ensures.rest name-end2.ensures.inside if3.false line-end.result
+          line-end.ensures c.in-Next.next c.in-Next.is;
       stands =
           record {
             task =
@@ -100,7 +102,7 @@ returns-in-Next c =
                 omega (
                   arith,
                   onward in_line args.t.now (name-end.result + 1) name-end2.result (line-past args.t.now args.at name-end.result pre
-                      name-end.ensures.rest name-end.ensures.inside if1.false is_at.result is_at.ensures if2.false) name-end2.ensures.rest
+                      name-end.ensures.rest name-end.ensures.inside if1.false is_at.result is_at.ensures (ap not if2.false)) name-end2.ensures.rest
                       name-end2.ensures.inside,
                   if3.false,
                 );
