@@ -10,7 +10,7 @@ use lib.ListN.{length, drop}
 use borrow.Author.Tests.{eqb-true}
 use Rattle.paper_opl.specs.Reading.{Text, Read, text, same, behind, word, starts, expect, white, skip, space, in_name, name, in_value, up_to, value, equals, misc}
 use Rattle.paper_opl.specs.Reading.Read.{got, bad}
-use Rattle.paper_opl.specs.Elements.{Attribute, Child, Element, elements_of, row_in, one, next, may_end}
+use Rattle.paper_opl.specs.Elements.{Attribute, Child, Element, elements_of, row_in, one, may_end}
 use Rattle.paper_opl.specs.Tree.{Given, Elements, Tag as Tagged, tags_of, attributes, opening, ending, Inside, content, element, prolog, DEPTH, document_in}
 use Rattle.paper_opl.specs.Tree.Elements.{nothing}
 use Rattle.paper_opl.specs.Walk.{plain, givens, closed, tags}

@@ -1,7 +1,5 @@
-use Prim.Native.Nat.{◌-◌}
 use mathlib.Core.Path.{refl, sym, ◌∙◌}
 use native.Mathlib.Omega.{arith}
-use borrow.Author.Tests.{not-false}
 use Rattle.opl_tags.proofs.open_at.Goals as goal
 
 pub loop-i-init : goal.loop-i-init
@@ -26,7 +24,7 @@ pub loop-i-preserved : goal.loop-i-preserved
 loop-i-preserved c =
     let loop = c.loop-i in (
       omega (arith, loop.invariant.0, c.loop-i-test.true),
-      loop.invariant.1 ∙ c.shut_run.ensures (not-false c.shut_run.result c.if-not-shut_run.false),
+      loop.invariant.1 ∙ c.shut_run.ensures c.if-not-shut_run.false,
     )
 
 pub open_rest-requires-2 : goal.open_rest-requires-2

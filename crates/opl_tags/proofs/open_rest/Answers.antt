@@ -1,8 +1,8 @@
+use mathlib.Core.Bool.{not}
 use Rattle.opl_text.proofs.Laws.{behind-end, behind-stop, behind_more}
 use Rattle.opl_tags.specs.Tags.{shut}
 use native.Mathlib.Omega.{arith}
-use mathlib.Core.Path.{refl, sym, ◌∙◌}
-use Prim.Native.Nat.{◌-◌}
+use mathlib.Core.Path.{refl, sym, ◌∙◌, ap}
 use Rattle.opl_tags.proofs.open_rest.Goals as goal
 
 pub loop-i-init : goal.loop-i-init
@@ -15,7 +15,7 @@ returns-then-not-shut c =
     let loop-test = c.loop-i-test in
     record {
       rest =
-          behind-stop shut args.s.now loop.i loop-test.true c.shut.result c.shut.ensures c.if-not-shut.true ∙
+          behind-stop shut args.s.now loop.i loop-test.true c.shut.result c.shut.ensures (ap not c.if-not-shut.true) ∙
           sym loop.invariant.1;
       inside = loop.invariant.0;
     }
@@ -26,7 +26,7 @@ loop-i-preserved c =
     let loop = c.loop-i in
     let loop-test = c.loop-i-test in (
       omega arith,
-      loop.invariant.1 ∙ behind_more shut args.s.now loop.i loop-test.true c.shut.result c.shut.ensures c.if-not-shut.false,
+      loop.invariant.1 ∙ behind_more shut args.s.now loop.i loop-test.true c.shut.result c.shut.ensures (ap not c.if-not-shut.false),
     )
 
 pub returns : goal.returns

@@ -1,4 +1,3 @@
-use Prim.Native.Nat.{◌-◌}
 use mathlib.Core.Path.{ap}
 use native.Mathlib.Omega.{arith}
 use lib.ListN.{length, drop, length-drop}
@@ -25,7 +24,7 @@ returns-in-Done c =
     let loop = c.loop-i in
     let given = c.given-g in
     value_none args.s.now args.at loop.i (name_of args.id) loop.invariant.1
-    (collected-done args.s.now loop.i given.result given.ensures (length args.s.now) _ c.enum_told-1.given.1)
+    (collected-done args.s.now loop.i given.result given.ensures (length args.s.now) _ c.in-Done.is)
 
 pub returns-in-Stop : goal.returns-in-Stop
 returns-in-Stop c =
@@ -33,7 +32,7 @@ returns-in-Stop c =
     let loop = c.loop-i in
     let given = c.given-g in
     value_none args.s.now args.at loop.i (name_of args.id) loop.invariant.1
-    (collected-stop args.s.now loop.i given.result given.ensures (length args.s.now) c.enum_told-in-Stop-1.given.1)
+    (collected-stop args.s.now loop.i given.result given.ensures (length args.s.now) c.in-Stop.is)
 
 pub slice_bounds-is_name-count : goal.slice_bounds-is_name-count
 slice_bounds-is_name-count c =
@@ -41,8 +40,8 @@ slice_bounds-is_name-count c =
     let loop = c.loop-i in
     let given = c.given-g in
     let w =
-    within args.s.now loop.i given.result given.ensures c.g-1.given.0.0 c.g-1.given.0.1.0
-    c.g-1.given.0.1.1.0 c.g-1.given.0.1.1.1.0 c.g-1.given.1 in
+    within args.s.now loop.i given.result given.ensures c.in-Pair.from c.in-Pair.end
+    c.in-Pair.value c.in-Pair.close c.in-Pair.is in
     omega (arith, w.name)
 
 pub slice_bounds-is_name-start : goal.slice_bounds-is_name-start
@@ -51,8 +50,8 @@ slice_bounds-is_name-start c =
     let loop = c.loop-i in
     let given = c.given-g in
     let w =
-    within args.s.now loop.i given.result given.ensures c.g-1.given.0.0 c.g-1.given.0.1.0
-    c.g-1.given.0.1.1.0 c.g-1.given.0.1.1.1.0 c.g-1.given.1 in
+    within args.s.now loop.i given.result given.ensures c.in-Pair.from c.in-Pair.end
+    c.in-Pair.value c.in-Pair.close c.in-Pair.is in
     search rules
 
 pub slice_bounds-is_name-end : goal.slice_bounds-is_name-end
@@ -61,8 +60,8 @@ slice_bounds-is_name-end c =
     let loop = c.loop-i in
     let given = c.given-g in
     let w =
-    within args.s.now loop.i given.result given.ensures c.g-1.given.0.0 c.g-1.given.0.1.0
-    c.g-1.given.0.1.1.0 c.g-1.given.0.1.1.1.0 c.g-1.given.1 in
+    within args.s.now loop.i given.result given.ensures c.in-Pair.from c.in-Pair.end
+    c.in-Pair.value c.in-Pair.close c.in-Pair.is in
     search rules
 
 pub is_name-requires : goal.is_name-requires
@@ -73,9 +72,9 @@ returns-then-is_name c =
     let args = c.args in
     let loop = c.loop-i in
     let given = c.given-g in
-    let g = c.g-1 in
-    value-here args.s.now args.at loop.i (name_of args.id) loop.invariant.1 given.result given.ensures g.given.0.0 g.given.0.1.0
-    g.given.0.1.1.0 g.given.0.1.1.1.0 g.given.1 c.is_name.result c.is_name.ensures c.if-is_name.true
+    let g = c.in-Pair in
+    value-here args.s.now args.at loop.i (name_of args.id) loop.invariant.1 given.result given.ensures g.from g.end
+    g.value g.close g.is c.is_name.result c.is_name.ensures c.if-is_name.true
 
 pub overflow_add-i : goal.overflow_add-i
 overflow_add-i c =
@@ -83,9 +82,9 @@ overflow_add-i c =
     let args = c.args in
     let loop = c.loop-i in
     let given = c.given-g in
-    let g = c.g-1 in
-    within args.s.now loop.i given.result given.ensures g.given.0.0 g.given.0.1.0 g.given.0.1.1.0 g.given.0.1.1.1.0
-    g.given.1 in
+    let g = c.in-Pair in
+    within args.s.now loop.i given.result given.ensures g.from g.end g.value g.close
+    g.is in
     search rules
 
 pub loop-i-smaller : goal.loop-i-smaller
@@ -94,9 +93,9 @@ loop-i-smaller c =
     let args = c.args in
     let loop = c.loop-i in
     let given = c.given-g in
-    let g = c.g-1 in
-    within args.s.now loop.i given.result given.ensures g.given.0.0 g.given.0.1.0 g.given.0.1.1.0 g.given.0.1.1.1.0
-    g.given.1 in
+    let g = c.in-Pair in
+    within args.s.now loop.i given.result given.ensures g.from g.end g.value g.close
+    g.is in
     omega (arith, w.inside, w.behind, w.name, w.apart, w.order)
 
 pub loop-i-preserved : goal.loop-i-preserved
@@ -104,13 +103,13 @@ loop-i-preserved c =
     let args = c.args in
     let loop = c.loop-i in
     let given = c.given-g in
-    let g = c.g-1 in
+    let g = c.in-Pair in
     let w =
-    within args.s.now loop.i given.result given.ensures g.given.0.0 g.given.0.1.0 g.given.0.1.1.0 g.given.0.1.1.1.0
-    g.given.1 in (
+    within args.s.now loop.i given.result given.ensures g.from g.end g.value g.close
+    g.is in (
       w.inside,
-      value-later args.s.now args.at loop.i (name_of args.id) loop.invariant.1 given.result given.ensures g.given.0.0 g.given.0.1.0
-          g.given.0.1.1.0 g.given.0.1.1.1.0 g.given.1 c.is_name.result c.is_name.ensures c.if-is_name.false,
+      value-later args.s.now args.at loop.i (name_of args.id) loop.invariant.1 given.result given.ensures g.from g.end
+          g.value g.close g.is c.is_name.result c.is_name.ensures c.if-is_name.false,
     )
 
 pub returns : goal.returns
