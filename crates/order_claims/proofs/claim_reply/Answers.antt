@@ -106,11 +106,14 @@ returns-then-not-accepted c =
     let z = c.args in
     let t = engine_tables z.p.now z.s.now z.o.now in (
       judged-place z.p.now gather.result.mine.bits gather.result.done.bits gather.result.others.bits z.c c.judge-ruled.ensures,
-      λ s. record {
-        replies = by-rule t z.a z.b z.c c.judge-ruled.result.reply (passes t z.a z.b z.c c.known-x.ensures c.if-not-x.false c.user-user.ensures.0 (c.gather-g.ensures s) c.if-g-eq1.false c.has_role.ensures c.if-not-has_role.false)
-            (judged t z.a z.b z.c c.judge-ruled.result.reply c.known-x.ensures c.if-not-x.false c.user-user.ensures.0 (c.gather-g.ensures s) c.judge-ruled.ensures.replies) c.accepted.ensures (ap not c.if-not-accepted.true);
-        places = place-by-entries t z.a z.b z.c user.ensures.0 (gather.ensures s) _ c.judge-ruled.ensures.places;
-      },
+      λ s.
+          let g = c.gather-g.ensures s in
+          let next = passes t z.a z.b z.c c.known-x.ensures c.if-not-x.false c.user-user.ensures.0 g c.if-g-eq1.false c.has_role.ensures c.if-not-has_role.false in
+          let ruled = judged t z.a z.b z.c c.judge-ruled.result.reply c.known-x.ensures c.if-not-x.false c.user-user.ensures.0 g c.judge-ruled.ensures.replies in
+          record {
+            replies = by-rule t z.a z.b z.c c.judge-ruled.result.reply next ruled c.accepted.ensures (ap not c.if-not-accepted.true);
+            places = place-by-entries t z.a z.b z.c user.ensures.0 (gather.ensures s) _ c.judge-ruled.ensures.places;
+          },
     )
 
 pub in_use-requires : goal.in_use-requires
@@ -125,9 +128,11 @@ returns-then-in_use-ge-MOST c =
     let t = engine_tables z.p.now z.s.now z.o.now in (
       plain-place c.plain-then-in_use-ge-MOST.ensures,
       λ s.
+          let g = c.gather-g.ensures s in
+          let next = passes t z.a z.b z.c c.known-x.ensures c.if-not-x.false c.user-user.ensures.0 g c.if-g-eq1.false c.has_role.ensures c.if-not-has_role.false in
+          let ruled = judged t z.a z.b z.c c.judge-ruled.result.reply c.known-x.ensures c.if-not-x.false c.user-user.ensures.0 g c.judge-ruled.ensures.replies in
           plainly Full c.plain-then-in_use-ge-MOST.ensures
-          (sym (by-room t z.a z.b z.c c.judge-ruled.result.reply (passes t z.a z.b z.c c.known-x.ensures c.if-not-x.false c.user-user.ensures.0 (c.gather-g.ensures s) c.if-g-eq1.false c.has_role.ensures c.if-not-has_role.false)
-          (judged t z.a z.b z.c c.judge-ruled.result.reply c.known-x.ensures c.if-not-x.false c.user-user.ensures.0 (c.gather-g.ensures s) c.judge-ruled.ensures.replies) accepted.ensures (ap not if4.false)
+          (sym (by-room t z.a z.b z.c c.judge-ruled.result.reply next ruled accepted.ensures (ap not if4.false)
           (c.in_use.ensures s) (le-leb _ _ c.if-in_use-ge-MOST.true))) refl,
     )
 
@@ -140,8 +145,10 @@ returns c =
     let t = engine_tables z.p.now z.s.now z.o.now in (
       plain-place c.plain-2.ensures,
       λ s.
+          let g = c.gather-g.ensures s in
+          let next = passes t z.a z.b z.c c.known-x.ensures c.if-not-x.false c.user-user.ensures.0 g c.if-g-eq1.false c.has_role.ensures c.if-not-has_role.false in
+          let ruled = judged t z.a z.b z.c c.judge-ruled.result.reply c.known-x.ensures c.if-not-x.false c.user-user.ensures.0 g c.judge-ruled.ensures.replies in
           plainly Granted c.plain-2.ensures
-          (sym (by-room t z.a z.b z.c c.judge-ruled.result.reply (passes t z.a z.b z.c c.known-x.ensures c.if-not-x.false c.user-user.ensures.0 (c.gather-g.ensures s) c.if-g-eq1.false c.has_role.ensures c.if-not-has_role.false)
-          (judged t z.a z.b z.c c.judge-ruled.result.reply c.known-x.ensures c.if-not-x.false c.user-user.ensures.0 (c.gather-g.ensures s) c.judge-ruled.ensures.replies) accepted.ensures (ap not if4.false)
+          (sym (by-room t z.a z.b z.c c.judge-ruled.result.reply next ruled accepted.ensures (ap not if4.false)
           (c.in_use.ensures s) (lt-leb _ _ c.if-in_use-ge-MOST.false))) refl,
     )
