@@ -234,7 +234,7 @@ module _ {L T A : Type 0} (P : A → L → L → Type 0) (Q : List A → L → L
 pub told-fitting : {X : Type 0} (f : X → Record → X) (x : X) (said : List Said) → followed f x (fitting (λ y. y) said) ≡ followed f x said
 unfolding followed keep
 told-fitting f x [] = refl
-told-fitting f x (y ∷ ys) = go (eqb y.reply ROOM) refl (told-fitting f _ ys)
+told-fitting f x (y ∷ ys) = go (eqb y.reply ROOM) refl (told-fitting f (granted y.reply (f x (decode y.request)) x) ys)
   where
     go : (b : Bool) → eqb y.reply ROOM ≡ b
         → followed f (granted y.reply (f x (decode y.request)) x) (fitting (λ y. y) ys) ≡ followed f (granted y.reply (f x (decode y.request)) x) ys
