@@ -59,4 +59,4 @@ returns c =
     let base = c.base-from in
     let declare = c.declare in
     declares-in args.i pre.0.1 args.w.now limit.result base.result limit.ensures base.ensures pre.0.0 args.s.now _
-    declare.new.1.0 declare.result declare.ensures
+    declare.new.t declare.result declare.ensures

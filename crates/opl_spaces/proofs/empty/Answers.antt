@@ -58,4 +58,4 @@ returns c =
     let limit = c.limit-n in
     let base = c.base-from in
     let empty = c.empty in
-    empties args.i pre.1 args.w.now limit.result base.result limit.ensures base.ensures pre.0 empty.new.0 empty.ensures
+    empties args.i pre.1 args.w.now limit.result base.result limit.ensures base.ensures pre.0 empty.new.t empty.ensures

@@ -63,7 +63,7 @@ returns-in-At c =
     let limit = c.limit-n in
     let base = c.base-from in
     let find = c.find-r in
-    rw (le-leb _ 64 if1.false) (ap found_of (sym c.r-1.given.1) ∙
+    rw (le-leb _ 64 if1.false) (ap found_of (sym c.in-At.is) ∙
     rw (lent_is args.i pre.0.1 args.w.now limit.result base.result limit.ensures base.ensures pre.0.0) at find.ensures)
 
 pub returns-in-Nowhere : goal.returns-in-Nowhere
@@ -73,6 +73,6 @@ returns-in-Nowhere c =
     let if1 = c.if-name-gt-LONGEST_NAME in
     let limit = c.limit-n in
     let base = c.base-from in
-    rw (le-leb _ 64 if1.false) (ap found_of (sym c.enum_told-1.given.1) ∙
+    rw (le-leb _ 64 if1.false) (ap found_of (sym c.in-Nowhere.is) ∙
     rw (lent_is args.i pre.0.1 args.w.now limit.result base.result limit.ensures base.ensures pre.0.0) at
     c.find-r.ensures)
