@@ -9,33 +9,33 @@ part_of-p-requires c =
     let pre = c.requires in
     let read-line = c.read_line-r in
     line-order args.t.now args.i args.at pre.1.1.0 pre.1.1.1 read-line.result read-line.ensures args.w.now pre.1.0
-    c.r-1.given.0.0 c.r-1.given.0.1.0 c.r-1.given.0.1.1.0 c.r-1.given.1
+    c.in-Line.task c.in-Line.template c.in-Line.next c.in-Line.is
 
 pub overflow_sub-size : goal.overflow_sub-size
 overflow_sub-size c =
     let args = c.args in
     let pre = c.requires in
     let read-line = c.read_line-r in
-    let r = c.r-1 in
+    let r = c.in-Line in
     (part_in args.t.now args.i args.at pre.1.1.0 pre.1.1.1 read-line.result read-line.ensures args.w.now pre.1.0
-    r.given.0.0 r.given.0.1.0 r.given.0.1.1.0 r.given.1 c.part_of-p.result c.part_of-p.ensures).0
+    r.task r.template r.next r.is c.part_of-p.result c.part_of-p.ensures).0
 
 pub returns-then-size-gt64 : goal.returns-then-size-gt64
 returns-then-size-gt64 c =
     let args = c.args in
     let pre = c.requires in
     let read-line = c.read_line-r in
-    let r = c.r-1 in
+    let r = c.in-Line in
     let part_of = c.part_of-p in
     line-long args.t.now args.i args.at pre.1.1.0 pre.1.1.1 read-line.result read-line.ensures args.w.now pre.1.0
-    r.given.0.0 r.given.0.1.0 r.given.0.1.1.0 r.given.1 part_of.result part_of.ensures c.if-size-gt64.true
+    r.task r.template r.next r.is part_of.result part_of.ensures c.if-size-gt64.true
 
 pub declare-requires : goal.declare-requires
 declare-requires c =
     let pre = c.requires in
     let args = c.args in
     let read-line = c.read_line-r in
-    let r = c.r-1 in
+    let r = c.in-Line in
     let part_of = c.part_of-p in (
       pre.0,
       (
@@ -44,9 +44,9 @@ declare-requires c =
           omega (
             arith,
             (part_in args.t.now args.i args.at pre.1.1.0 pre.1.1.1 read-line.result read-line.ensures args.w.now
-                pre.1.0 r.given.0.0 r.given.0.1.0 r.given.0.1.1.0 r.given.1 part_of.result part_of.ensures).0,
+                pre.1.0 r.task r.template r.next r.is part_of.result part_of.ensures).0,
             (part_in args.t.now args.i args.at pre.1.1.0 pre.1.1.1 read-line.result read-line.ensures args.w.now
-                pre.1.0 r.given.0.0 r.given.0.1.0 r.given.0.1.1.0 r.given.1 part_of.result part_of.ensures).1,
+                pre.1.0 r.task r.template r.next r.is part_of.result part_of.ensures).1,
           ),
           c.if-size-gt64.false,
         ),
@@ -59,17 +59,17 @@ returns-in-Bad c =
     let pre = c.requires in
     let read-line = c.read_line-r in
     line-never args.t.now args.i args.at pre.1.1.0 pre.1.1.1 read-line.result read-line.ensures args.w.now pre.1.0 _
-    c.enum_told-1.given.1
+    c.in-Bad.is
 
 pub returns-else-size-gt64 : goal.returns-else-size-gt64
 returns-else-size-gt64 c =
     let args = c.args in
     let pre = c.requires in
     let read-line = c.read_line-r in
-    let r = c.r-1 in
+    let r = c.in-Line in
     let part_of = c.part_of-p in
     let if1 = c.if-size-gt64 in
     let declare = c.declare in
     line_on args.t.now args.i args.at pre.1.1.0 pre.1.1.1 read-line.result read-line.ensures args.w.now pre.1.0
-    r.given.0.0 r.given.0.1.0 r.given.0.1.1.0 r.given.1 part_of.result part_of.ensures declare.new.1.0 declare.result
+    r.task r.template r.next r.is part_of.result part_of.ensures declare.new.w declare.result
     if1.false declare.ensures

@@ -1,6 +1,4 @@
-use Prim.Native.Nat.{◌-◌}
 use mathlib.Core.Path.{◌∙◌}
-use mathlib.Core.Bool.{true}
 use native.Mathlib.Omega.{arith}
 use Rattle.opl_line_names.specs.Names.{line_names}
 use Rattle.opl_line_names.proofs.DeclaredLaws.{left-first, left-done, left-long, left-past, left-on, left-last}
@@ -30,8 +28,8 @@ returns-in-Done c =
     let args = c.args in
     let loop = c.loop-at in
     let declare-line = c.declare_line-r in
-    left-done args.t.now args.i (line_names args.t.now args.i) 0 loop.at args.w.now loop.w loop.invariant.0 declare-line.new.1.0
-    declare-line.result declare-line.ensures.walking c.enum_told-1.given.1
+    left-done args.t.now args.i (line_names args.t.now args.i) 0 loop.at args.w.now loop.w loop.invariant.0 declare-line.new.w
+    declare-line.result declare-line.ensures.walking c.in-Done.is
 
 pub shape_of-w-in-Long : goal.shape_of-w-in-Long
 shape_of-w-in-Long c =
@@ -44,8 +42,8 @@ returns-in-Long c =
     let args = c.args in
     let loop = c.loop-at in
     let declare-line = c.declare_line-r in
-    left-long args.t.now args.i (line_names args.t.now args.i) 0 loop.at args.w.now loop.w loop.invariant.0 declare-line.new.1.0
-    declare-line.result declare-line.ensures.walking c.enum_told-in-Long-1.given.1
+    left-long args.t.now args.i (line_names args.t.now args.i) 0 loop.at args.w.now loop.w loop.invariant.0 declare-line.new.w
+    declare-line.result declare-line.ensures.walking c.in-Long.is
 
 pub loop-at-smaller : goal.loop-at-smaller
 loop-at-smaller c =
@@ -54,10 +52,10 @@ loop-at-smaller c =
     let declare-line = c.declare_line-r in
     omega (
       arith,
-      left-past args.t.now args.i (line_names args.t.now args.i) 0 loop.at args.w.now loop.w loop.invariant.0 declare-line.new.1.0
-          declare-line.result declare-line.ensures.walking c.r-1.given.0.0 c.r-1.given.1,
-      (left-on args.t.now args.i (line_names args.t.now args.i) 0 loop.at args.w.now loop.w loop.invariant.0 declare-line.new.1.0
-          declare-line.result declare-line.ensures.walking c.r-1.given.0.0 c.r-1.given.1).inside,
+      left-past args.t.now args.i (line_names args.t.now args.i) 0 loop.at args.w.now loop.w loop.invariant.0 declare-line.new.w
+          declare-line.result declare-line.ensures.walking c.in-Next.n c.in-Next.is,
+      (left-on args.t.now args.i (line_names args.t.now args.i) 0 loop.at args.w.now loop.w loop.invariant.0 declare-line.new.w
+          declare-line.result declare-line.ensures.walking c.in-Next.n c.in-Next.is).inside,
     )
 
 pub loop-at-preserved : goal.loop-at-preserved
@@ -65,9 +63,9 @@ loop-at-preserved c =
     let args = c.args in
     let loop = c.loop-at in
     let declare-line = c.declare_line-r in (
-      left-on args.t.now args.i (line_names args.t.now args.i) 0 loop.at args.w.now loop.w loop.invariant.0 declare-line.new.1.0
-          declare-line.result declare-line.ensures.walking c.r-1.given.0.0 c.r-1.given.1,
-      declare-line.ensures.goes_on c.r-1.given.0.0 c.r-1.given.1,
+      left-on args.t.now args.i (line_names args.t.now args.i) 0 loop.at args.w.now loop.w loop.invariant.0 declare-line.new.w
+          declare-line.result declare-line.ensures.walking c.in-Next.n c.in-Next.is,
+      declare-line.ensures.goes_on c.in-Next.n c.in-Next.is,
     )
 
 pub shape_of-w : goal.shape_of-w
