@@ -1,42 +1,42 @@
 -- `guess_word` meets its contract: each arm is a word packed from eight numbers of the table.
 use native.Mathlib.Omega.{arith}
-use Rattle.opl_table.proofs.Cases.{apart, past}
+use Rattle.opl_table.proofs.Cases.{past}
 use Rattle.opl_table.specs.Numbers.{packed, word_at}
 use Rattle.opl_turns.specs.Meaning.{guesses}
 use Rattle.opl_turns.proofs.guess_word.Goals as goal
 
 pub returns-in-0 : goal.returns-in-0
 unfolding guesses word_at packed
-returns-in-0 c = rw c.in-0.keys1
+returns-in-0 c = rw c.in-0.is
 
 pub returns-in-1 : goal.returns-in-1
 unfolding guesses word_at packed
-returns-in-1 c = rw c.in-1.keys2
+returns-in-1 c = rw c.in-1.is
 
 pub returns-in-2 : goal.returns-in-2
 unfolding guesses word_at packed
-returns-in-2 c = rw c.in-2.keys3
+returns-in-2 c = rw c.in-2.is
 
 pub returns-in-3 : goal.returns-in-3
 unfolding guesses word_at packed
-returns-in-3 c = rw c.in-3.keys4
+returns-in-3 c = rw c.in-3.is
 
 pub returns-in-4 : goal.returns-in-4
 unfolding guesses word_at packed
-returns-in-4 c = rw c.in-4.keys5
+returns-in-4 c = rw c.in-4.is
 
 pub returns-in-5 : goal.returns-in-5
 unfolding guesses word_at packed
-returns-in-5 c = rw c.in-5.keys6
+returns-in-5 c = rw c.in-5.is
 
 pub returns-in-6 : goal.returns-in-6
 unfolding guesses word_at packed
-returns-in-6 c = rw c.in-6.keys7
+returns-in-6 c = rw c.in-6.is
 
 pub returns-in-7 : goal.returns-in-7
 unfolding guesses word_at packed
-returns-in-7 c = rw c.in-7.keys8
+returns-in-7 c = rw c.in-7.is
 
 pub returns-in_default : goal.returns-in_default
 unfolding guesses
-returns-in_default c = let h = apart 8 c.args.j c.in_default.rest in past guesses c.args.j (omega arith)
+returns-in_default c = past guesses c.args.j (omega arith)

@@ -1,50 +1,50 @@
 -- `kind_word` meets its contract: each arm is a word packed from eight numbers of the table.
 use native.Mathlib.Omega.{arith}
-use Rattle.opl_table.proofs.Cases.{apart, past}
+use Rattle.opl_table.proofs.Cases.{past}
 use Rattle.opl_table.specs.Numbers.{packed, word_at}
 use Rattle.opl_turns.specs.Meaning.{kind_list}
 use Rattle.opl_turns.proofs.kind_word.Goals as goal
 
 pub returns-in-0 : goal.returns-in-0
 unfolding kind_list word_at packed
-returns-in-0 c = rw c.in-0.keys1
+returns-in-0 c = rw c.in-0.is
 
 pub returns-in-1 : goal.returns-in-1
 unfolding kind_list word_at packed
-returns-in-1 c = rw c.in-1.keys2
+returns-in-1 c = rw c.in-1.is
 
 pub returns-in-2 : goal.returns-in-2
 unfolding kind_list word_at packed
-returns-in-2 c = rw c.in-2.keys3
+returns-in-2 c = rw c.in-2.is
 
 pub returns-in-3 : goal.returns-in-3
 unfolding kind_list word_at packed
-returns-in-3 c = rw c.in-3.keys4
+returns-in-3 c = rw c.in-3.is
 
 pub returns-in-4 : goal.returns-in-4
 unfolding kind_list word_at packed
-returns-in-4 c = rw c.in-4.keys5
+returns-in-4 c = rw c.in-4.is
 
 pub returns-in-5 : goal.returns-in-5
 unfolding kind_list word_at packed
-returns-in-5 c = rw c.in-5.keys6
+returns-in-5 c = rw c.in-5.is
 
 pub returns-in-6 : goal.returns-in-6
 unfolding kind_list word_at packed
-returns-in-6 c = rw c.in-6.keys7
+returns-in-6 c = rw c.in-6.is
 
 pub returns-in-7 : goal.returns-in-7
 unfolding kind_list word_at packed
-returns-in-7 c = rw c.in-7.keys8
+returns-in-7 c = rw c.in-7.is
 
 pub returns-in-8 : goal.returns-in-8
 unfolding kind_list word_at packed
-returns-in-8 c = rw c.in-8.keys9
+returns-in-8 c = rw c.in-8.is
 
 pub returns-in-9 : goal.returns-in-9
 unfolding kind_list word_at packed
-returns-in-9 c = rw c.in-9.keys10
+returns-in-9 c = rw c.in-9.is
 
 pub returns-in_default : goal.returns-in_default
 unfolding kind_list
-returns-in_default c = let h = apart 10 c.args.j c.in_default.rest in past kind_list c.args.j (omega arith)
+returns-in_default c = past kind_list c.args.j (omega arith)

@@ -10,8 +10,8 @@ slice_bounds-element-count c =
     let args = c.args in
     let read-tag = c.read_tag-t in
     let o =
-    read-stands args.s.now args.at read-tag.result read-tag.ensures c.t-in-Start-1.given.0.0 c.t-in-Start-1.given.0.1.0
-    c.t-in-Start-1.given.1 in
+    read-stands args.s.now args.at read-tag.result read-tag.ensures c.in-Start.name c.in-Start.end
+    c.in-Start.is in
     omega (arith, o.named)
 
 pub slice_bounds-element-start : goal.slice_bounds-element-start
@@ -19,8 +19,8 @@ slice_bounds-element-start c =
     let args = c.args in
     let read-tag = c.read_tag-t in
     let o =
-    read-stands args.s.now args.at read-tag.result read-tag.ensures c.t-in-Start-1.given.0.0 c.t-in-Start-1.given.0.1.0
-    c.t-in-Start-1.given.1 in
+    read-stands args.s.now args.at read-tag.result read-tag.ensures c.in-Start.name c.in-Start.end
+    c.in-Start.is in
     search rules
 
 pub slice_bounds-element-end : goal.slice_bounds-element-end
@@ -28,28 +28,28 @@ slice_bounds-element-end c =
     let args = c.args in
     let read-tag = c.read_tag-t in
     let o =
-    read-stands args.s.now args.at read-tag.result read-tag.ensures c.t-in-Start-1.given.0.0 c.t-in-Start-1.given.0.1.0
-    c.t-in-Start-1.given.1 in
+    read-stands args.s.now args.at read-tag.result read-tag.ensures c.in-Start.name c.in-Start.end
+    c.in-Start.is in
     search rules
 
 pub returns-in-Halt : goal.returns-in-Halt
 returns-in-Halt c =
     let args = c.args in
     let read-tag = c.read_tag-t in
-    read-over args.s.now args.at read-tag.result read-tag.ensures c.enum_told-1.given.1
+    read-over args.s.now args.at read-tag.result read-tag.ensures c.in-Halt.is
 
 pub returns-in-End : goal.returns-in-End
 returns-in-End c =
     let args = c.args in
     let read-tag = c.read_tag-t in
-    read-ended args.s.now args.at read-tag.result read-tag.ensures c.t-1.given.0.0 c.t-1.given.1
+    read-ended args.s.now args.at read-tag.result read-tag.ensures c.in-End.next c.in-End.is
 
 pub returns-in-Start : goal.returns-in-Start
 returns-in-Start c =
     let args = c.args in
     let read-tag = c.read_tag-t in
-    let t2 = c.t-in-Start-1 in (
-      read-begun args.s.now args.at read-tag.result read-tag.ensures t2.given.0.0 t2.given.0.1.0 t2.given.1 c.element-id.result
+    let t2 = c.in-Start in (
+      read-begun args.s.now args.at read-tag.result read-tag.ensures t2.name t2.end t2.is c.element-id.result
           c.element-id.ensures,
       refl,
     )

@@ -8,21 +8,21 @@ returns-in-Over c =
     let args = c.args in
     let pre = c.requires in
     let meet = c.meet-t in
-    turn-over args.s.now (list_of args.w.now) args.c pre.1.0 pre.1.1.0 meet.result meet.ensures c.enum_told-1.given.1
+    turn-over args.s.now (list_of args.w.now) args.c pre.1.0 pre.1.1.0 meet.result meet.ensures c.in-Over.is
 
 pub returns-in-Ended : goal.returns-in-Ended
 returns-in-Ended c =
     let args = c.args in
     let pre = c.requires in
     let meet = c.meet-t in
-    turn-ended args.s.now (list_of args.w.now) args.c pre.1.0 pre.1.1.0 meet.result meet.ensures c.t-1.given.0.0
-    c.t-1.given.1
+    turn-ended args.s.now (list_of args.w.now) args.c pre.1.0 pre.1.1.0 meet.result meet.ensures c.in-Ended.next
+    c.in-Ended.is
 
 pub returns-in-Begun : goal.returns-in-Begun
 returns-in-Begun c =
     let args = c.args in
     let pre = c.requires in
     let meet = c.meet-t in
-    let t2 = c.t-in-Begun-1 in
-    rw c.told.ensures (turn-begun args.s.now (list_of args.w.now) args.c pre.1.0 pre.1.1.0 meet.result meet.ensures t2.given.0.0
-    t2.given.0.1.0 t2.given.0.1.1.0 t2.given.1)
+    let t2 = c.in-Begun in
+    rw c.told.ensures (turn-begun args.s.now (list_of args.w.now) args.c pre.1.0 pre.1.1.0 meet.result meet.ensures t2.id
+    t2.end t2.entry t2.is)
