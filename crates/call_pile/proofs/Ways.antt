@@ -8,7 +8,7 @@ use native.Mathlib.Omega.{arith}
 use lib.Dec.{eqb, ltb}
 use lib.ListN.{length, take, drop, length-drop, drop_of_length-le}
 use lib.Seq.{drop-drop, take_all}
-use borrow.Author.Tests.{eqb-true, ltb-false, not-true, not-false}
+use borrow.Author.Tests.{eqb-true, ltb-false, not-false}
 use Rattle.paper_lower.specs.Lists.{each}
 use Rattle.paper_lower.specs.Checks.{first}
 use Rattle.paper_lower.specs.Records.{Bytes}
@@ -41,9 +41,9 @@ module _ (s answers : Bytes) (at : ℕ) (x : Buffers) where
     settles = inr refl;
   }
 
-  pub refused : (r : Reply) {b : Bool} → number_of r ≡ first (pile_checks (fit x) s answers at) → b ≡ eqb (number_of r) 0 → not b ≡ true →
+  pub refused : (r : Reply) {b : Bool} → number_of r ≡ first (pile_checks (fit x) s answers at) → b ≡ eqb (number_of r) 0 → b ≡ false →
       PileDone s answers at answers x x (number_of r)
-  refused r {b} e a n = kept_back (number_of r) (not-zero r a (not-true b n)) (sym e)
+  refused r {b} e a n = kept_back (number_of r) (not-zero r a n) (sym e)
 
   -- ---- Accepted: no check applies, so all lengths are right.
   pub record Taken : Type 0 where
@@ -58,10 +58,10 @@ module _ (s answers : Bytes) (at : ℕ) (x : Buffers) where
   none_of false false true d e h = absurd (omega arith)
   none_of false false false d e h = (refl, refl, refl)
 
-  pub taken : (r : Reply) {b : Bool} → number_of r ≡ first (pile_checks (fit x) s answers at) → b ≡ eqb (number_of r) 0 → not b ≡ false → Taken
+  pub taken : (r : Reply) {b : Bool} → number_of r ≡ first (pile_checks (fit x) s answers at) → b ≡ eqb (number_of r) 0 → b ≡ true → Taken
   unfolding pile_checks
   taken r {b} e a n =
-      let z : first (pile_checks (fit x) s answers at) ≡ 0 = sym e ∙ is_zero r a (not-false b n) in
+      let z : first (pile_checks (fit x) s answers at) ≡ 0 = sym e ∙ is_zero r a n in
       let h = none_of (not (fit x)) (ltb (length answers) at) (ltb (length answers) (at + count s)) (ltb MOST (count s)) (not (eqb (length s % 16) 0)) z in
       record { none-applies = z; fits = not-false (fit x) h.0; inside = ltb-false _ _ h.1; room = ltb-false _ _ h.2 }
 
