@@ -1,5 +1,5 @@
--- The invariant of the loop in `mishantral_mend` (`Going`): what is written so far, and what is left to do, together make the whole answer. It holds at first,
--- each turn preserves it, and at the end the contract of the call follows from it.
+-- The invariant of the loop in `mishantral_mend` (`Going`): what is written so far, and what is left to do, together make the whole answer. Each turn preserves it,
+-- and at the end the contract of the call follows from it.
 use Prim.Native.Nat.{ℕ, zero, suc, ◌+◌, ◌-◌, ◌*◌, ◌/◌, ◌%◌, ◌≤◌, ◌<◌}
 use mathlib.Core.Bool.{Bool, true, false, cond}
 use mathlib.Core.List.{List, [], ◌∷◌, ◌++◌, append-nil}
@@ -10,7 +10,7 @@ use lib.ListN.{length, take, drop, set, length-take, length-append, length-set, 
 use lib.Seq.{drop-drop, take-suc-set, drop-set-lt, append_snoc, length-take-le}
 use borrow.Author.Tests.{ne_eqb, le-ltb}
 use Rattle.paper_lower.specs.Lists.{each}
-use Rattle.paper_lower.specs.Checks.{SHAPE, first, granted}
+use Rattle.paper_lower.specs.Checks.{SHAPE, granted}
 use Rattle.paper_lower.specs.Records.{Bytes}
 use Rattle.paper_lower.specs.Tables.{Policy, no_policy}
 use Rattle.paper_lower.specs.Load.{policy_answer}
@@ -97,7 +97,7 @@ module _ (input : Bytes) (room : ℕ) (z₀ : Now) where
   refusal = checked input z₀.out room (state z₀)
 
   -- What is left to do for the rest of the file, and, below it, for the whole file.
-  abbrev left-of : Now → Ending
+  abbrev pub left-of : Now → Ending
   left-of z = ending (rest_from z.place z.k input z.out (tables_at z.k z.p))
 
   abbrev all : Ending
@@ -129,36 +129,15 @@ module _ (input : Bytes) (room : ℕ) (z₀ : Now) where
     pub untouched : (refusal ≡ 0 → ⊥) → (z.out ≡ z₀.out) × ((z.ys ≡ z₀.ys) × (state z ≡ state z₀))
     pub left : refusal ≡ 0 → Left t z
 
-  abbrev pub turns : ℕ
-  turns = length all.report
-
-  pub start : Going turns (record { place = 0; k = 0; out = z₀.out; ys = z₀.ys; p = z₀.p; s = z₀.s; o = z₀.o })
-  start =
-      record {
-        within = omega arith;
-        fewer = omega arith;
-        lengths = record { of-out = refl; of-p = refl; of-s = refl; of-o = refl };
-        entries = refl;
-        untouched = λ _. (refl, (refl, refl));
-        left = λ _. record {
-          number = refl;
-          output = refl;
-          report = refl;
-          tables = refl;
-          past = refl;
-          many = refl;
-          filled = omega arith;
-          alone = λ h. let z : ⊥ = omega arith in absurd z;
-        };
-      }
-
   same-checks : (out p s o : List ℕ) → Lengths out p s o → checked input out room (buffers p s o) ≡ refusal
   unfolding mend_checks
   same-checks out p s o l = rw (l.of-out, l.of-p, l.of-s, l.of-o)
 
   module _ (t : ℕ) (z : Now) (g : Going t z) where
-    pub before : (z.place ≤ length input / 16 + 1) × (z.k ≤ z.place)
-    before = (g.within, g.fewer)
+    pub same-lengths : {out p s o : List ℕ} → length out ≡ length z.out → length p ≡ length z.p → length s ≡ length z.s → length o ≡ length z.o →
+        Lengths out p s o
+    same-lengths a b c d =
+        record { of-out = a ∙ g.lengths.of-out; of-p = b ∙ g.lengths.of-p; of-s = c ∙ g.lengths.of-s; of-o = d ∙ g.lengths.of-o }
 
     checks : checked input z.out room (state z) ≡ refusal
     checks = same-checks z.out z.p z.s z.o g.lengths

@@ -1,5 +1,3 @@
-mod Again
-mod Lent
 mod Steps
 mod Going
 pub mod Statements

@@ -6,7 +6,7 @@ use mathlib.Core.Path.{◌≡◌, refl, sym, ap, subst, ◌∙◌}
 use native.Mathlib.Omega.{arith}
 use lib.Dec.{eqb, ltb}
 use lib.ListN.{length}
-use borrow.Author.Tests.{eq-eqb, ne_eqb, lt-ltb, le-ltb, ltb-false, not-true, not-false}
+use borrow.Author.Tests.{eq-eqb, ne_eqb, lt-ltb, le-ltb, ltb-false, not-false}
 use Rattle.paper_lower.specs.Checks.{first, granted, GRANTED, ROOM}
 use Rattle.paper_lower.specs.Records.{Bytes}
 use Rattle.paper_lower.specs.Tables.{Policy}
@@ -113,9 +113,9 @@ emptied s o c d p =
 
 -- ---- The ways in which a step returns: refused, as the first step on emptied buffers, or as a later step.
 module _ (s out : Bytes) (room place k : ℕ) (x : Buffers) (r : Reply) {b : Bool} (e : number_of r ≡ checked s out room x) (a : b ≡ eqb (number_of r) 0) where
-  pub no-turn : {n : ℕ} → not b ≡ true → n ≡ number_of r → Turned room place k s out x out x (record { place = n; reply = 0 })
+  pub no-turn : {n : ℕ} → b ≡ false → n ≡ number_of r → Turned room place k s out x out x (record { place = n; reply = 0 })
   no-turn {n} f m =
-      let z : checked s out room x ≡ 0 → ⊥ = λ h. not-zero r a (not-true b f) (e ∙ h) in
+      let z : checked s out room x ≡ 0 → ⊥ = λ h. not-zero r a f (e ∙ h) in
       record {
         refused = λ _. (ap (λ (i : ℕ). record { place = i; reply = 0 }) (m ∙ e), (refl, refl));
         told = λ h. absurd (z h);
@@ -123,13 +123,13 @@ module _ (s out : Bytes) (room place k : ℕ) (x : Buffers) (r : Reply) {b : Boo
         alone = λ h. absurd (z h);
       }
 
-  none : not b ≡ false → checked s out room x ≡ 0
-  none f = sym e ∙ is_zero r a (not-false b f)
+  none : b ≡ true → checked s out room x ≡ 0
+  none f = sym e ∙ is_zero r a f
 
-  pub roomed : not b ≡ false → Room s out room x
+  pub roomed : b ≡ true → Room s out room x
   roomed f = there-is s out room x (none f)
 
-  turned : (out' : Bytes) (p₁ p' s' o' : List ℕ) (d₀ d : Dropped) → not b ≡ false → policy_of p₁ ≡ tables_at k x.policy
+  turned : (out' : Bytes) (p₁ p' s' o' : List ℕ) (d₀ d : Dropped) → b ≡ true → policy_of p₁ ≡ tables_at k x.policy
       → Found place k s out (policy_of p₁) out' (policy_of p') d₀ → d ≡ numbered d₀ → ((0 < k → Alone x) → Alone (buffers p' s' o')) →
       Turned room place k s out x out' (buffers p' s' o') d
   turned out' p₁ p' s' o' d₀ d f at found is only =
@@ -150,12 +150,12 @@ module _ (s out : Bytes) (room place k : ℕ) (x : Buffers) (r : Reply) {b : Boo
           let h = found.ahead (λ z. n (ap (λ (y : Dropped). y.reply) g ∙ z)) in
           subst (λ (y : Dropped). (k < y.place) × (y.place ≤ length s / 16 + 1)) (sym g) h
 
-  pub first-turn : {out' : Bytes} {p₁ p' s' o' : List ℕ} {d₀ d : Dropped} → not b ≡ false → k ≡ 0 → policy.Cleared p₁ → sessions.Cleared s' → entries.Cleared o'
+  pub first-turn : {out' : Bytes} {p₁ p' s' o' : List ℕ} {d₀ d : Dropped} → b ≡ true → k ≡ 0 → policy.Cleared p₁ → sessions.Cleared s' → entries.Cleared o'
       → Found place k s out (policy_of p₁) out' (policy_of p') d₀ → d ≡ numbered d₀ → Turned room place k s out x out' (buffers p' s' o') d
   first-turn {out'} {p₁} {p'} {s'} {o'} {d₀} {d} f z c cs co found is =
       turned out' p₁ p' s' o' d₀ d f (c.tables ∙ rw (eq-eqb k 0 z)) found is (λ _. record { tables = emptied s' o' cs co; sound = co.sound })
 
-  pub later-turn : {out' : Bytes} {p' : List ℕ} {d₀ d : Dropped} → not b ≡ false → (k ≡ 0 → ⊥) →
+  pub later-turn : {out' : Bytes} {p' : List ℕ} {d₀ d : Dropped} → b ≡ true → (k ≡ 0 → ⊥) →
       Found place k s out (policy_of x.policy) out' (policy_of p') d₀ → d ≡ numbered d₀
       → Turned room place k s out x out' (buffers p' x.sessions x.orders) d
   later-turn {out'} {p'} {d₀} {d} f n found is =

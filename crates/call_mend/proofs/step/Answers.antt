@@ -63,7 +63,7 @@ returns-then-dropped-eq0 c =
     let clear3 = c.clear-then-dropped-eq0-2 in
     let next = c.next in
     first-turn args.input.now args.output.now args.room args.place args.dropped
-    (buffers args.policy.now args.sessions.now args.orders.now) judge.result judge.ensures accepted.ensures if1.left if2.taken
+    (buffers args.policy.now args.sessions.now args.orders.now) judge.result judge.ensures accepted.ensures if1.false if2.true
     clear.ensures clear2.ensures clear3.ensures next.ensures c.ended.ensures
 
 pub next-requires-2 : goal.next-requires-2
