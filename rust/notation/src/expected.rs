@@ -182,8 +182,7 @@ fn found(expected: &[Expected], token: Token, names: &Names) -> String {
     match unnamed.next() {
         Some(sort) if name_of(token.text).is_some() => {
             let word = sort.word();
-            let article = if word.starts_with('o') { "an" } else { "a" };
-            format!("{text}, and no line above names {article} {word}")
+            format!("{text}, and no line above names a {word}")
         }
         _ => text,
     }

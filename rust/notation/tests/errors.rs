@@ -183,7 +183,7 @@ fn bytes_that_are_no_text() {
 
 #[test]
 fn all_errors_of_a_text() {
-    let text = b"user x\nuser 3\nus\xffer 4\nclaim 5 0\nclaim 5 mill 0\nbytes 01\nuser 5\nuser 6\n";
+    let text = b"user x\nuser 3\nus\xffer 4\nclaim 5 0\nbytes 01\nuser 5\nuser 6\n";
     let errors = read(text).unwrap_err();
     let told: Vec<String> = errors.iter().map(ToString::to_string).collect();
     assert_eq!(
@@ -192,8 +192,7 @@ fn all_errors_of_a_text() {
             "line 1, column 6: expected a number up to 1023, found \"x\", and no line above names a user",
             "line 3, column 3: expected text in UTF-8, found the byte 0xff",
             "line 4, column 10: expected the task, a number up to 63, found the end of the line",
-            "line 5, column 9: expected the order, a number up to 63, found \"mill\", and no line above names an order",
-            "line 7, column 1: expected no record after a cut one, found \"user\"",
+            "line 6, column 1: expected no record after a cut one, found \"user\"",
         ]
     );
 }

@@ -174,23 +174,17 @@ impl Display for Why {
     }
 }
 
-/// What a name of the space names, with its article: "a role", "an operation".
-fn one(space: Space) -> String {
-    let name = space.name();
-    let article = if name.starts_with('o') { "an" } else { "a" };
-    format!("{article} {name}")
-}
-
 impl Display for NameWhy {
     fn fmt(&self, f: &mut Formatter) -> fmt::Result {
         match self {
             NameWhy::TooLong(space) => {
-                write!(f, "{} of more than {LONGEST} bytes", one(*space))
+                write!(f, "a {} of more than {LONGEST} bytes", space.name())
             }
             NameWhy::Undeclared(space @ (Space::Task | Space::Template)) => {
-                write!(f, "{} that the task lines do not have", one(*space))
+                let name = space.name();
+                write!(f, "a {name} that the task lines do not have")
             }
-            NameWhy::Undeclared(space) => write!(f, "{} declared nowhere", one(*space)),
+            NameWhy::Undeclared(space) => write!(f, "a {} declared nowhere", space.name()),
             NameWhy::TooMany(space) => {
                 write!(f, "more than {} {}s", space.limit(), space.name())
             }

@@ -1,6 +1,6 @@
 //! The records that the elements yield, the numbers that names get, and refusals in words.
 
-use opl::{read, NameWhy, Refusal, Space};
+use opl::{read, Refusal, Space};
 
 fn policy(modules: &str) -> String {
     format!(
@@ -236,10 +236,6 @@ fn long_and_undeclared_names_are_told() {
     assert_eq!(
         judged(&text, "").unwrap(),
         "line 6, column 39: NAMES: a role declared nowhere, \"r\""
-    );
-    assert_eq!(
-        NameWhy::TooLong(Space::Operation).to_string(),
-        "an operation of more than 64 bytes"
     );
     let lone = "<module_wf_sep_duty_policy><hdsodsl><critical_workflow_template template_id=\"t\"/></hdsodsl></module_wf_sep_duty_policy>";
     let said = judged(&policy(lone), "t w\n").unwrap();
