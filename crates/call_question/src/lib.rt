@@ -14,9 +14,11 @@ ghost use Rattle.engine.specs.Buffers.{buffers, fit};
 ghost use Rattle.call_question.specs.Question.{question_checks};
 ghost use Rattle.call_question.specs.Promises.{FiguresAnswered, StuckAnswered, Answered, Questioned};
 
-use engine::ANSWER_WORDS;
 use records::{Call, Record};
 use replies::{Reply, accepted};
+
+// The length of an answer, which mishantral_words(3) tells.
+pub const ANSWER_WORDS: usize = 66;
 
 // Whether a kind is a question: 58 or 60.
 fn is_question(kind: u64) -> bool
