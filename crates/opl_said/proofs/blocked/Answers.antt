@@ -9,13 +9,13 @@ returns-then-number-ge-BLOCKS c = wall-none c.args.number _ c.if-number-ge-BLOCK
 pub returns-in_default : goal.returns-in_default
 returns-in_default c =
     let args = c.args in
-    wall-unnamed args.number _ (omega (arith, c.if-number-ge-BLOCKS.false)) (number-none c.field-f.ensures c.enum_told-1.given.1)
+    wall-unnamed args.number _ (omega (arith, c.if-number-ge-BLOCKS.false)) (number-none c.field-f.ensures c.in_default.is)
 
 pub returns : goal.returns
 returns c =
     let args = c.args in
     let if1 = c.if-number-ge-BLOCKS in
     let field = c.field-f in
-    let f = c.f-1 in
-    wall-is args.number _ f.given.0.0 (omega (arith, if1.false)) (number-some field.ensures f.given.0.0 f.given.1)
-    (number_fits 4 (omega arith) field.ensures f.given.0.0 f.given.1)
+    let f = c.in-At in
+    wall-is args.number _ f.c (omega (arith, if1.false)) (number-some field.ensures f.c f.is)
+    (number_fits 4 (omega arith) field.ensures f.c f.is)

@@ -6,8 +6,8 @@ use Rattle.opl_said.proofs.cardinality.Goals as goal
 
 pub decimal-requires : goal.decimal-requires
 unfolding name_of names elements each
-decimal-requires c = rw c.value_of_lem.ensures c.requires.1
+decimal-requires c = rw c.value_of.ensures c.requires.1
 
 pub returns : goal.returns
 unfolding name_of names elements each
-returns c = rw c.value_of_lem.ensures at c.decimal.ensures
+returns c = rw c.value_of.ensures at c.decimal.ensures

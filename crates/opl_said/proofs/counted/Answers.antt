@@ -5,14 +5,14 @@ use Rattle.opl_said.proofs.FormLaws.{number-none, number-some, number_fits, unna
 use Rattle.opl_said.proofs.counted.Goals as goal
 
 pub returns-in_default : goal.returns-in_default
-returns-in_default c = unnamed-are _ (rw (number-none c.field-f.ensures c.enum_told-1.given.1))
+returns-in_default c = unnamed-are _ (rw (number-none c.field-f.ensures c.in_default.is))
 
 pub returns : goal.returns
 returns c =
     let args = c.args in
     let pre = c.requires in
     let field = c.field-f in
-    let f = c.f-1 in
-    rw c.cardinality.ensures (one-is (cardinality_at args.s.now args.end) f.given.0.0 _
-    (number-some field.ensures f.given.0.0 f.given.1) (omega (arith, pre.1.1))
-    (number_fits 5 (omega arith) field.ensures f.given.0.0 f.given.1))
+    let f = c.in-At in
+    rw c.cardinality.ensures (one-is (cardinality_at args.s.now args.end) f.a _
+    (number-some field.ensures f.a f.is) (omega (arith, pre.1.1))
+    (number_fits 5 (omega arith) field.ensures f.a f.is))

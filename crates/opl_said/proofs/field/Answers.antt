@@ -2,4 +2,4 @@
 use Rattle.opl_said.proofs.field.Goals as goal
 
 pub returns : goal.returns
-returns c = rw c.value_of_lem.ensures at c.number_of.ensures
+returns c = rw c.value_of.ensures at c.number_of.ensures

@@ -14,7 +14,7 @@ returns-in_default c =
     let args = c.args in
     let next-member = c.next_member-r in
     first-nothing (all_names args.s.now args.t.now) args.s.now (list_of args.w.now) args.e args.id args.i args.from
-    (limit_of args.i) next-member.result next-member.ensures c.enum_told-1.given.1
+    (limit_of args.i) next-member.result next-member.ensures c.in_default.is
 
 pub field-requires : goal.field-requires
 field-requires c =
@@ -24,7 +24,7 @@ field-requires c =
       pre.0,
       (
         (there-is (all_names args.s.now args.t.now) args.s.now (list_of args.w.now) args.e args.id args.i args.from
-            next-member.result next-member.ensures c.r-1.given.0.0 c.r-1.given.0.1.0 c.r-1.given.1).inside,
+            next-member.result next-member.ensures c.in-There.end c.in-There.entry c.in-There.is).inside,
         pre.1.1.1,
       ),
     )
@@ -33,6 +33,6 @@ pub returns : goal.returns
 returns c =
     let args = c.args in
     let next-member = c.next_member-r in
-    let r = c.r-1 in
+    let r = c.in-There in
     first-there (all_names args.s.now args.t.now) args.s.now (list_of args.w.now) args.e args.id args.i args.from
-    next-member.result next-member.ensures r.given.0.0 r.given.0.1.0 r.given.1 (limit_of args.i) c.field.result c.field.ensures
+    next-member.result next-member.ensures r.end r.entry r.is (limit_of args.i) c.field.result c.field.ensures

@@ -9,36 +9,36 @@ returns-then-id-e c =
     let args = c.args in
     let pre = c.requires in
     let meet = c.meet-t in
-    let t2 = c.t-in-Begun-1 in
-    member-here args.s.now (list_of args.w.now) args.e args.at args.entry meet.result meet.ensures t2.given.0.0
-    t2.given.0.1.0 t2.given.0.1.1.0 t2.given.1 pre.0.1 c.if-id-e.true
+    let t2 = c.in-Begun in
+    member-here args.s.now (list_of args.w.now) args.e args.at args.entry meet.result meet.ensures t2.id
+    t2.end t2.behind t2.is pre.0.1 c.if-id-e.true
 
 pub returns-then-inner : goal.returns-then-inner
 returns-then-inner c =
     let args = c.args in
     let pre = c.requires in
     let meet = c.meet-t in
-    let t2 = c.t-in-Begun-1 in
-    member-other args.s.now (list_of args.w.now) args.e args.at args.entry meet.result meet.ensures t2.given.0.0
-    t2.given.0.1.0 t2.given.0.1.1.0 t2.given.1 pre.0.1 c.if-id-e.false (sym c.inner.ensures ∙ c.if-inner.true)
+    let t2 = c.in-Begun in
+    member-other args.s.now (list_of args.w.now) args.e args.at args.entry meet.result meet.ensures t2.id
+    t2.end t2.behind t2.is pre.0.1 c.if-id-e.false (sym c.inner.ensures ∙ c.if-inner.true)
 
 pub returns-in-Over : goal.returns-in-Over
 returns-in-Over c =
     let args = c.args in
     let meet = c.meet-t in
-    member-over args.s.now (list_of args.w.now) args.e args.at args.entry meet.result meet.ensures c.enum_told-1.given.1
+    member-over args.s.now (list_of args.w.now) args.e args.at args.entry meet.result meet.ensures c.in-Over.is
 
 pub returns-in-Ended : goal.returns-in-Ended
 returns-in-Ended c =
     let args = c.args in
     let meet = c.meet-t in
-    member-ended args.s.now (list_of args.w.now) args.e args.at args.entry meet.result meet.ensures c.t-1.given.0.0
-    c.t-1.given.1
+    member-ended args.s.now (list_of args.w.now) args.e args.at args.entry meet.result meet.ensures c.in-Ended.next
+    c.in-Ended.is
 
 pub returns-else-inner : goal.returns-else-inner
 returns-else-inner c =
     let args = c.args in
     let meet = c.meet-t in
-    let t2 = c.t-in-Begun-1 in
-    member-past args.s.now (list_of args.w.now) args.e args.at args.entry meet.result meet.ensures t2.given.0.0
-    t2.given.0.1.0 t2.given.0.1.1.0 t2.given.1 (sym c.inner.ensures ∙ c.if-inner.false)
+    let t2 = c.in-Begun in
+    member-past args.s.now (list_of args.w.now) args.e args.at args.entry meet.result meet.ensures t2.id
+    t2.end t2.behind t2.is (sym c.inner.ensures ∙ c.if-inner.false)

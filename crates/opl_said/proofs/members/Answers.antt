@@ -1,4 +1,3 @@
-use Prim.Native.Nat.{◌-◌}
 use native.Mathlib.Omega.{arith}
 use Rattle.opl_said.specs.Said.{all_names}
 use Rattle.opl_said.proofs.MemberLaws.{no-members, there-is, set_first, set-end, set-unnamed, set_on}
@@ -24,7 +23,7 @@ returns-in_default c =
     let args = c.args in
     let loop = c.loop-at in
     set-end (all_names args.s.now args.t.now) args.s.now (list_of args.w.now) args.e args.id args.i args.from loop.m loop.at
-    loop.invariant.0.1 (let z = rw c.enum_told-1.given.1 at c.next_member-r.ensures in z)
+    loop.invariant.0.1 (let z = rw c.in_default.is at c.next_member-r.ensures in z)
 
 pub field-f-requires : goal.field-f-requires
 field-f-requires c =
@@ -35,7 +34,7 @@ field-f-requires c =
       pre.0,
       (
         (there-is (all_names args.s.now args.t.now) args.s.now (list_of args.w.now) args.e args.id args.i loop.at
-            next-member.result next-member.ensures c.r-1.given.0.0 c.r-1.given.0.1.0 c.r-1.given.1).inside,
+            next-member.result next-member.ensures c.in-There.end c.in-There.behind c.in-There.is).inside,
         pre.1.1.1.0,
       ),
     )
@@ -45,18 +44,18 @@ returns-in_default-f c =
     let args = c.args in
     let loop = c.loop-at in
     let next-member = c.next_member-r in
-    let r = c.r-1 in
+    let r = c.in-There in
     let field = c.field-f in
     set-unnamed (all_names args.s.now args.t.now) args.s.now (list_of args.w.now) args.e args.id args.i args.from loop.m
-    loop.at loop.invariant.0.1 (limit_of args.i) r.given.0.0 r.given.0.1.0 (there-is (all_names args.s.now args.t.now) args.s.now
-    (list_of args.w.now) args.e args.id args.i loop.at next-member.result next-member.ensures r.given.0.0 r.given.0.1.0
-    r.given.1) field.result field.ensures c.enum_told-in_default-f-1.given.1
+    loop.at loop.invariant.0.1 (limit_of args.i) r.end r.behind (there-is (all_names args.s.now args.t.now) args.s.now
+    (list_of args.w.now) args.e args.id args.i loop.at next-member.result next-member.ensures r.end r.behind
+    r.is) field.result field.ensures c.in_default-f.is
 
 pub with-m-requires : goal.with-m-requires
 with-m-requires c =
     let pre = c.requires in
     let field = c.field-f in
-    omega (arith, number_small field.ensures c.f-1.given.0.0 c.f-1.given.1, pre.1.1.1.1)
+    omega (arith, number_small field.ensures c.in-At.n c.in-At.is, pre.1.1.1.1)
 
 pub loop-at-smaller : goal.loop-at-smaller
 loop-at-smaller c =
@@ -64,9 +63,9 @@ loop-at-smaller c =
     let args = c.args in
     let loop = c.loop-at in
     let next-member = c.next_member-r in
-    let r = c.r-1 in
+    let r = c.in-There in
     (there-is (all_names args.s.now args.t.now) args.s.now (list_of args.w.now) args.e args.id args.i loop.at
-    next-member.result next-member.ensures r.given.0.0 r.given.0.1.0 r.given.1) in
+    next-member.result next-member.ensures r.end r.behind r.is) in
     omega (arith, o.past, o.inside)
 
 pub loop-at-preserved : goal.loop-at-preserved
@@ -74,20 +73,20 @@ loop-at-preserved c =
     let args = c.args in
     let loop = c.loop-at in
     let next-member = c.next_member-r in
-    let r = c.r-1 in
+    let r = c.in-There in
     let field = c.field-f in
-    let f = c.f-1 in (
+    let f = c.in-At in (
       (
         (there-is (all_names args.s.now args.t.now) args.s.now (list_of args.w.now) args.e args.id args.i loop.at
-            next-member.result next-member.ensures r.given.0.0 r.given.0.1.0 r.given.1).inside,
+            next-member.result next-member.ensures r.end r.behind r.is).inside,
         rw c.with-m.ensures (set_on (all_names args.s.now args.t.now) args.s.now (list_of args.w.now) args.e args.id args.i
-            args.from loop.m loop.at loop.invariant.0.1 (limit_of args.i) r.given.0.0 r.given.0.1.0
+            args.from loop.m loop.at loop.invariant.0.1 (limit_of args.i) r.end r.behind
             (there-is (all_names args.s.now args.t.now) args.s.now (list_of args.w.now) args.e args.id args.i loop.at
-            next-member.result next-member.ensures r.given.0.0 r.given.0.1.0 r.given.1) field.result field.ensures
-            f.given.0.0 f.given.1),
+            next-member.result next-member.ensures r.end r.behind r.is) field.result field.ensures
+            f.n f.is),
       ),
       (there-is (all_names args.s.now args.t.now) args.s.now (list_of args.w.now) args.e args.id args.i loop.at
-          next-member.result next-member.ensures r.given.0.0 r.given.0.1.0 r.given.1).leads,
+          next-member.result next-member.ensures r.end r.behind r.is).leads,
     )
 
 pub returns : goal.returns

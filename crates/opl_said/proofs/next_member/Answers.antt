@@ -1,4 +1,3 @@
-use Prim.Native.Nat.{◌-◌}
 use mathlib.Core.Path.{refl, ◌∙◌}
 use native.Mathlib.Omega.{arith}
 use Rattle.opl_spaces.specs.Spaces.{list_of}
@@ -21,7 +20,7 @@ returns-in-Last c =
     let loop = c.loop-at in
     let member-at = c.member_at-r in
     next_last args.s.now (list_of args.w.now) args.e args.from loop.at loop.invariant.1.1.0 loop.invariant.1.0 member-at.result
-    member-at.ensures c.enum_told-1.given.1
+    member-at.ensures c.in-Last.is
 
 pub returns-in-Here : goal.returns-in-Here
 returns-in-Here c =
@@ -29,7 +28,7 @@ returns-in-Here c =
     let loop = c.loop-at in
     let member-at = c.member_at-r in
     next_here args.s.now (list_of args.w.now) args.e args.from loop.at loop.invariant.1.1.0 loop.invariant.1.0 member-at.result
-    member-at.ensures c.r-1.given.0.0 c.r-1.given.0.1.0 c.r-1.given.1
+    member-at.ensures c.in-Here.end c.in-Here.behind c.in-Here.is
 
 pub loop-at-smaller : goal.loop-at-smaller
 loop-at-smaller c =
@@ -38,7 +37,7 @@ loop-at-smaller c =
     let loop = c.loop-at in
     let member-at = c.member_at-r in
     next-on args.s.now (list_of args.w.now) args.e args.from loop.at loop.invariant.1.1.0 loop.invariant.1.0 member-at.result
-    member-at.ensures c.r-in-Other-1.given.0.0 c.r-in-Other-1.given.0.1.0 c.r-in-Other-1.given.1 in
+    member-at.ensures c.in-Other.next c.in-Other.behind c.in-Other.is in
     omega (arith, o.past, o.inside)
 
 pub loop-at-preserved : goal.loop-at-preserved
@@ -48,13 +47,13 @@ loop-at-preserved c =
     let member-at = c.member_at-r in
     let o =
     next-on args.s.now (list_of args.w.now) args.e args.from loop.at loop.invariant.1.1.0 loop.invariant.1.0 member-at.result
-    member-at.ensures c.r-in-Other-1.given.0.0 c.r-in-Other-1.given.0.1.0 c.r-in-Other-1.given.1 in (
+    member-at.ensures c.in-Other.next c.in-Other.behind c.in-Other.is in (
       o.inside,
       (
         omega (arith, o.past, loop.invariant.1.0),
         (
           next-left args.s.now (list_of args.w.now) args.e args.from loop.at loop.invariant.1.1.0 loop.invariant.1.0
-              member-at.result member-at.ensures c.r-in-Other-1.given.0.0 c.r-in-Other-1.given.0.1.0 c.r-in-Other-1.given.1,
+              member-at.result member-at.ensures c.in-Other.next c.in-Other.behind c.in-Other.is,
           o.leads,
         ),
       ),

@@ -6,11 +6,11 @@ pub returns-in_default : goal.returns-in_default
 returns-in_default c =
     let args = c.args in
     let members = c.members-g in
-    set-none args.n args.a _ members.result members.ensures c.enum_told-1.given.1
+    set-none args.n args.a _ members.result members.ensures c.in_default.is
 
 pub returns : goal.returns
 returns c =
     let args = c.args in
     let pre = c.requires in
     let members = c.members-g in
-    set_is args.n args.a _ members.result members.ensures c.g-1.given.0.0 c.g-1.given.1 pre.1.0.0 pre.1.0.1
+    set_is args.n args.a _ members.result members.ensures c.in-Bits.m c.in-Bits.is pre.1.0.0 pre.1.0.1

@@ -3,22 +3,22 @@ use Rattle.opl_said.proofs.FormLaws.{number-none, number-some, number_fits, unna
 use Rattle.opl_said.proofs.two.Goals as goal
 
 pub returns-in_default : goal.returns-in_default
-returns-in_default c = unnamed-are _ (rw (number-none c.field-f.ensures c.enum_told-1.given.1))
+returns-in_default c = unnamed-are _ (rw (number-none c.field-f.ensures c.in_default.is))
 
 pub returns-in_default-g : goal.returns-in_default-g
 returns-in_default-g c =
     let field = c.field-f in
-    let f = c.f-1 in
-    unnamed-are _ (rw (number-some field.ensures f.given.0.0 f.given.1, number-none c.field-g.ensures c.enum_told-in_default-g-1.given.1))
+    let f = c.in-At in
+    unnamed-are _ (rw (number-some field.ensures f.a f.is, number-none c.field-g.ensures c.in_default-g.is))
 
 pub returns : goal.returns
 returns c =
     let args = c.args in
     let pre = c.requires in
     let field = c.field-f in
-    let f = c.f-1 in
+    let f = c.in-At in
     let field2 = c.field-g in
-    two-are f.given.0.0 c.g-1.given.0.0 _ _ (number-some field.ensures f.given.0.0 f.given.1)
-    (number-some field2.ensures c.g-1.given.0.0 c.g-1.given.1)
-    (number_fits args.i pre.1.1.0 field.ensures f.given.0.0 f.given.1)
-    (number_fits args.i2 pre.1.1.1 field2.ensures c.g-1.given.0.0 c.g-1.given.1)
+    two-are f.a c.in-At-g.b _ _ (number-some field.ensures f.a f.is)
+    (number-some field2.ensures c.in-At-g.b c.in-At-g.is)
+    (number_fits args.i pre.1.1.0 field.ensures f.a f.is)
+    (number_fits args.i2 pre.1.1.1 field2.ensures c.in-At-g.b c.in-At-g.is)
