@@ -1,5 +1,4 @@
 use native.Mathlib.Omega.{arith}
-use Prim.Native.Nat.{◌-◌}
 use Rattle.opl_passes.proofs.TagLaws.{begin-first, begin-over, begin-on, begin-end}
 use Rattle.opl_passes.proofs.begin.Goals as goal
 

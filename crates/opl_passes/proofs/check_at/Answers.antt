@@ -21,9 +21,9 @@ said-f-requires c =
     let args = c.args in
     let pre = c.requires in
     let turn = c.turn-x in
-    let x2 = c.x-in-Says-1 in
+    let x2 = c.in-Says in
     let b : Turns args.s.now (list_of args.w.now) args.c
-    (Says x2.given.0.0 x2.given.0.1.0 x2.given.0.1.1.0 x2.given.0.1.1.1.0) = rw x2.given.1 at turn.ensures in
+    (Says x2.kind x2.number x2.end x2.next) = rw x2.is at turn.ensures in
     let t = b.0 in
     (pre.0, ((rw t.ends at t.steps.stood.inside, rw t.ends at b.1), t.cardinal))
 
@@ -31,13 +31,13 @@ pub returns-in_default : goal.returns-in_default
 returns-in_default c =
     let args = c.args in
     let turn = c.turn-x in
-    let x2 = c.x-in-Says-1 in
+    let x2 = c.in-Says in
     let said = c.said-f in
     let b : Turns args.s.now (list_of args.w.now) args.c
-    (Says x2.given.0.0 x2.given.0.1.0 x2.given.0.1.1.0 x2.given.0.1.1.1.0) = rw x2.given.1 at turn.ensures in
+    (Says x2.kind x2.number x2.end x2.next) = rw x2.is at turn.ensures in
     let t = b.0 in
-    told_none (all_names args.s.now args.t.now) args.s.now args.c x2.given.0.0 x2.given.0.1.0 x2.given.0.1.1.0
-    x2.given.0.1.1.1.0 t said.result said.ensures c.enum_told-in_default-1.given.1
+    told_none (all_names args.s.now args.t.now) args.s.now args.c x2.kind x2.number x2.end
+    x2.next t said.result said.ensures c.in_default.is
 
 pub overflow_add-i : goal.overflow_add-i
 overflow_add-i c =
@@ -48,9 +48,9 @@ pub offset_bounds-counts-k : goal.offset_bounds-counts-k
 offset_bounds-counts-k c =
     let args = c.args in
     let turn = c.turn-x in
-    let x2 = c.x-in-Says-1 in
+    let x2 = c.in-Says in
     let b : Turns args.s.now (list_of args.w.now) args.c
-    (Says x2.given.0.0 x2.given.0.1.0 x2.given.0.1.1.0 x2.given.0.1.1.1.0) = rw x2.given.1 at turn.ensures in
+    (Says x2.kind x2.number x2.end x2.next) = rw x2.is at turn.ensures in
     let t = b.0 in
     record { fits = omega (arith, t.small) }
 
@@ -58,25 +58,25 @@ pub bounds-counts-k : goal.bounds-counts-k
 bounds-counts-k c =
     let args = c.args in
     let turn = c.turn-x in
-    let x2 = c.x-in-Says-1 in
+    let x2 = c.in-Says in
     let b : Turns args.s.now (list_of args.w.now) args.c
-    (Says x2.given.0.0 x2.given.0.1.0 x2.given.0.1.1.0 x2.given.0.1.1.1.0) = rw x2.given.1 at turn.ensures in
+    (Says x2.kind x2.number x2.end x2.next) = rw x2.is at turn.ensures in
     let t = b.0 in
     t.small
 
 pub overflow_add-counts : goal.overflow_add-counts
 overflow_add-counts c =
     let pre = c.requires in
-    let x2 = c.x-in-Says-1 in
-    record { fits = omega (arith, pre.1.1.1 x2.given.0.0, pre.1.0.0.0.inside) }
+    let x2 = c.in-Says in
+    record { fits = omega (arith, pre.1.1.1 x2.kind, pre.1.0.0.0.inside) }
 
 pub offset_bounds-counts-k-in-Says : goal.offset_bounds-counts-k-in-Says
 offset_bounds-counts-k-in-Says c =
     let args = c.args in
     let turn = c.turn-x in
-    let x2 = c.x-in-Says-1 in
+    let x2 = c.in-Says in
     let b : Turns args.s.now (list_of args.w.now) args.c
-    (Says x2.given.0.0 x2.given.0.1.0 x2.given.0.1.1.0 x2.given.0.1.1.1.0) = rw x2.given.1 at turn.ensures in
+    (Says x2.kind x2.number x2.end x2.next) = rw x2.is at turn.ensures in
     let t = b.0 in
     record { fits = omega (arith, t.small) }
 
@@ -84,9 +84,9 @@ pub bounds-counts-k-in-Says : goal.bounds-counts-k-in-Says
 bounds-counts-k-in-Says c =
     let args = c.args in
     let turn = c.turn-x in
-    let x2 = c.x-in-Says-1 in
+    let x2 = c.in-Says in
     let b : Turns args.s.now (list_of args.w.now) args.c
-    (Says x2.given.0.0 x2.given.0.1.0 x2.given.0.1.1.0 x2.given.0.1.1.1.0) = rw x2.given.1 at turn.ensures in
+    (Says x2.kind x2.number x2.end x2.next) = rw x2.is at turn.ensures in
     let t = b.0 in
     t.small
 
@@ -94,13 +94,13 @@ pub low_word-low-requires : goal.low_word-low-requires
 low_word-low-requires c =
     let args = c.args in
     let turn = c.turn-x in
-    let x2 = c.x-in-Says-1 in
+    let x2 = c.in-Says in
     let said = c.said-f in
-    let f = c.f-1 in
+    let f = c.in-Numbers in
     let b : Turns args.s.now (list_of args.w.now) args.c
-    (Says x2.given.0.0 x2.given.0.1.0 x2.given.0.1.1.0 x2.given.0.1.1.1.0) = rw x2.given.1 at turn.ensures in
+    (Says x2.kind x2.number x2.end x2.next) = rw x2.is at turn.ensures in
     let t = b.0 in
-    let z : Small f.given.0.0 f.given.0.1.0 f.given.0.1.1.0 f.given.0.1.1.1.0 = rw f.given.1 at said.ensures.fits in
+    let z : Small f.n f.a f.b f.c = rw f.is at said.ensures.fits in
     (omega (arith, t.small), (z.n-fits, (z.a-fits, (z.b-fits, z.c-fits))))
 
 pub keep-requires : goal.keep-requires
@@ -108,17 +108,17 @@ keep-requires c =
     c.requires.0.room
 
 pub returns-in-Done : goal.returns-in-Done
-returns-in-Done c = (rw c.enum_told-1.given.1 at c.turn-x.ensures, (refl, refl))
+returns-in-Done c = (rw c.in-Done.is at c.turn-x.ensures, (refl, refl))
 
 pub returns-in-Silent : goal.returns-in-Silent
 returns-in-Silent c =
     let args = c.args in
     let pre = c.requires in
     let turn = c.turn-x in
-    let p : Turns args.s.now (list_of args.w.now) args.c (Silent c.x-1.given.0.0) = rw c.x-1.given.1 at turn.ensures in (
-      passed (all_names args.s.now args.t.now) args.s.now args.c args.counts.now c.x-1.given.0.0 pre.1.1.1 p.0,
+    let p : Turns args.s.now (list_of args.w.now) args.c (Silent c.in-Silent.n) = rw c.in-Silent.is at turn.ensures in (
+      passed (all_names args.s.now args.t.now) args.s.now args.c args.counts.now c.in-Silent.n pre.1.1.1 p.0,
       kept-passed (all_names args.s.now args.t.now) args.s.now args.t.now args.c args.j args.w.now pre.0 pre.1.0.1
-          c.x-1.given.0.0 p.0 p.1,
+          c.in-Silent.n p.0 p.1,
     )
 
 pub returns-in-Numbers : goal.returns-in-Numbers
@@ -126,19 +126,19 @@ returns-in-Numbers c =
     let args = c.args in
     let pre = c.requires in
     let turn = c.turn-x in
-    let x2 = c.x-in-Says-1 in
+    let x2 = c.in-Says in
     let said = c.said-f in
-    let f = c.f-1 in
+    let f = c.in-Numbers in
     let low_word = c.low_word-low in
     let keep = c.keep in
     let b : Turns args.s.now (list_of args.w.now) args.c
-    (Says x2.given.0.0 x2.given.0.1.0 x2.given.0.1.1.0 x2.given.0.1.1.1.0) = rw x2.given.1 at turn.ensures in
+    (Says x2.kind x2.number x2.end x2.next) = rw x2.is at turn.ensures in
     let t = b.0 in (
-      counted (all_names args.s.now args.t.now) args.s.now args.c x2.given.0.0 x2.given.0.1.0 x2.given.0.1.1.0
-          x2.given.0.1.1.1.0 t said.result said.ensures f.given.0.0 f.given.0.1.0 f.given.0.1.1.0 f.given.0.1.1.1.0
-          f.given.0.1.1.1.1.0 f.given.1 args.counts.now pre.1.1.0 pre.1.1.1,
+      counted (all_names args.s.now args.t.now) args.s.now args.c x2.kind x2.number x2.end
+          x2.next t said.result said.ensures f.n f.a f.b f.c
+          f.m f.is args.counts.now pre.1.1.0 pre.1.1.1,
       kept_on (all_names args.s.now args.t.now) args.s.now args.t.now args.c args.j args.w.now pre.0 pre.1.0.1
-          x2.given.0.0 x2.given.0.1.0 x2.given.0.1.1.0 x2.given.0.1.1.1.0 t said.result said.ensures f.given.0.0
-          f.given.0.1.0 f.given.0.1.1.0 f.given.0.1.1.1.0 f.given.0.1.1.1.1.0 f.given.1 keep.new.0
-          (keep.ensures ∙ ap (λ (x : ℕ). kept_with args.w.now args.j x f.given.0.1.1.1.1.0) low_word.ensures) b.1,
+          x2.kind x2.number x2.end x2.next t said.result said.ensures f.n
+          f.a f.b f.c f.m f.is keep.new.w
+          (keep.ensures ∙ ap (λ (x : ℕ). kept_with args.w.now args.j x f.m) low_word.ensures) b.1,
     )

@@ -1,5 +1,4 @@
 use native.Mathlib.Omega.{arith}
-use Prim.Native.Nat.{◌-◌}
 use Rattle.opl_said.specs.Said.{all_names}
 use Rattle.opl_passes.proofs.LineLaws.{lines-first, lines-on, lines-unnamed, lines_end, paired-past}
 use Rattle.opl_passes.proofs.check_lines.Goals as goal
@@ -20,7 +19,7 @@ returns-in-Nameless c =
     let args = c.args in
     let loop = c.loop-at in
     lines-unnamed (all_names args.s.now args.t.now) args.t.now loop.n loop.at loop.invariant
-    (rw c.enum_told-1.given.1 at c.row_at-r.ensures)
+    (rw c.in-Nameless.is at c.row_at-r.ensures)
 
 pub overflow_add-n : goal.overflow_add-n
 overflow_add-n c =
@@ -33,13 +32,13 @@ loop-at-smaller c =
     let loop = c.loop-at in
     let row_at = c.row_at-r in
     let o =
-    lines-on (all_names args.s.now args.t.now) args.t.now loop.n loop.at loop.invariant c.r-1.given.0.0
-    c.r-1.given.0.1.0 c.r-1.given.0.1.1.0 (rw c.r-1.given.1 at row_at.ensures) in
+    lines-on (all_names args.s.now args.t.now) args.t.now loop.n loop.at loop.invariant c.in-Pair.a
+    c.in-Pair.b c.in-Pair.next (rw c.in-Pair.is at row_at.ensures) in
     omega (
       arith,
       o.inside,
-      paired-past c.r-1.given.0.0 c.r-1.given.0.1.0 c.r-1.given.0.1.1.0
-          (rw c.r-1.given.1 at row_at.ensures),
+      paired-past c.in-Pair.a c.in-Pair.b c.in-Pair.next
+          (rw c.in-Pair.is at row_at.ensures),
     )
 
 pub loop-at-preserved : goal.loop-at-preserved
@@ -47,8 +46,8 @@ loop-at-preserved c =
     let args = c.args in
     let loop = c.loop-at in
     let row_at = c.row_at-r in
-    lines-on (all_names args.s.now args.t.now) args.t.now loop.n loop.at loop.invariant c.r-1.given.0.0
-    c.r-1.given.0.1.0 c.r-1.given.0.1.1.0 (rw c.r-1.given.1 at row_at.ensures)
+    lines-on (all_names args.s.now args.t.now) args.t.now loop.n loop.at loop.invariant c.in-Pair.a
+    c.in-Pair.b c.in-Pair.next (rw c.in-Pair.is at row_at.ensures)
 
 pub returns : goal.returns
 returns c =

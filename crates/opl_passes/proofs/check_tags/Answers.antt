@@ -1,6 +1,4 @@
-use borrow.Author.Tests.{not-true, not-false}
 use native.Mathlib.Omega.{arith}
-use Prim.Native.Nat.{◌-◌}
 use mathlib.Core.Path.{sym, ◌∙◌}
 use Rattle.opl_said.specs.Said.{all_names}
 use Rattle.opl_passes.proofs.TagLaws.{kept-first, kept-done, kept-unnamed, kept-many, kept-past, kept_again, kept-end}
@@ -25,14 +23,14 @@ returns-then-not-few c =
     let loop = c.loop-c in
     let few = c.few in
     kept-many (all_names args.s.now args.t.now) args.s.now args.t.now args.from args.counts.now args.w.now loop.c loop.j
-    loop.counts loop.w loop.invariant (sym few.ensures ∙ not-true few.result c.if-not-few.true)
+    loop.counts loop.w loop.invariant (sym few.ensures ∙ c.if-not-few.true)
 
 pub check_at-r-requires : goal.check_at-r-requires
 check_at-r-requires c =
     let pre = c.requires in
     let loop = c.loop-c in
     let few = c.few in
-    let now-few = sym few.ensures ∙ not-false few.result c.if-not-few.false in
+    let now-few = sym few.ensures ∙ c.if-not-few.false in
     (loop.invariant.held, (((loop.invariant.left.stood, (now-few, loop.invariant.led)), loop.invariant.few), (loop.invariant.left.room ∙ pre.1.1.1.0, loop.invariant.left.few)))
 
 pub shape_of-w-in-Done : goal.shape_of-w-in-Done
@@ -40,7 +38,7 @@ shape_of-w-in-Done c =
     let pre = c.requires in
     let loop = c.loop-c in
     let check-at = c.check_at-r in
-    check-at.auto.1.1.0 ∙ (loop.invariant.held.room ∙ sym pre.0.room)
+    check-at.auto.w ∙ (loop.invariant.held.room ∙ sym pre.0.room)
 
 pub returns-in-Done : goal.returns-in-Done
 returns-in-Done c =
@@ -48,15 +46,15 @@ returns-in-Done c =
     let loop = c.loop-c in
     let check-at = c.check_at-r in
     kept-done (all_names args.s.now args.t.now) args.s.now args.t.now args.from args.counts.now args.w.now loop.c loop.j
-    loop.counts loop.w loop.invariant check-at.result check-at.new.1.1.1.0 check-at.new.1.1.0 check-at.ensures c.few_parts.result
-    c.few_parts.ensures c.enum_told-1.given.1
+    loop.counts loop.w loop.invariant check-at.result check-at.new.counts check-at.new.w check-at.ensures c.few_parts.result
+    c.few_parts.ensures c.in-Done.is
 
 pub shape_of-w-in-Unnamed : goal.shape_of-w-in-Unnamed
 shape_of-w-in-Unnamed c =
     let pre = c.requires in
     let loop = c.loop-c in
     let check-at = c.check_at-r in
-    check-at.auto.1.1.0 ∙ (loop.invariant.held.room ∙ sym pre.0.room)
+    check-at.auto.w ∙ (loop.invariant.held.room ∙ sym pre.0.room)
 
 pub returns-in-Unnamed : goal.returns-in-Unnamed
 returns-in-Unnamed c =
@@ -64,8 +62,8 @@ returns-in-Unnamed c =
     let loop = c.loop-c in
     let check-at = c.check_at-r in
     kept-unnamed (all_names args.s.now args.t.now) args.s.now args.t.now args.from args.counts.now args.w.now loop.c
-    loop.j loop.counts loop.w loop.invariant check-at.result check-at.new.1.1.1.0 check-at.new.1.1.0 check-at.ensures
-    c.enum_told-in-Unnamed-1.given.1
+    loop.j loop.counts loop.w loop.invariant check-at.result check-at.new.counts check-at.new.w check-at.ensures
+    c.in-Unnamed.is
 
 pub loop-c-smaller : goal.loop-c-smaller
 loop-c-smaller c =
@@ -74,8 +72,8 @@ loop-c-smaller c =
     let loop = c.loop-c in
     let check-at = c.check_at-r in
     kept-past (all_names args.s.now args.t.now) args.s.now args.t.now args.from args.counts.now args.w.now loop.c loop.j
-    loop.counts loop.w loop.invariant check-at.result check-at.new.1.1.1.0 check-at.new.1.1.0 check-at.ensures
-    c.r-1.given.0.0 c.r-1.given.0.1.0 c.r-1.given.1 in
+    loop.counts loop.w loop.invariant check-at.result check-at.new.counts check-at.new.w check-at.ensures
+    c.in-Next.n c.in-Next.i c.in-Next.is in
     omega (arith, p.0, p.1)
 
 pub loop-c-preserved : goal.loop-c-preserved
@@ -84,8 +82,8 @@ loop-c-preserved c =
     let loop = c.loop-c in
     let check-at = c.check_at-r in
     kept_again (all_names args.s.now args.t.now) args.s.now args.t.now args.from args.counts.now args.w.now loop.c loop.j
-    loop.counts loop.w loop.invariant check-at.result check-at.new.1.1.1.0 check-at.new.1.1.0 check-at.ensures
-    c.r-1.given.0.0 c.r-1.given.0.1.0 c.r-1.given.1
+    loop.counts loop.w loop.invariant check-at.result check-at.new.counts check-at.new.w check-at.ensures
+    c.in-Next.n c.in-Next.i c.in-Next.is
 
 pub shape_of-w : goal.shape_of-w
 shape_of-w c =

@@ -10,24 +10,24 @@ returns-in_default c =
     let args = c.args in
     let number-of = c.number_of-x in
     no-task (all_names args.s.now args.t.now) (take (args.task - args.at) (drop args.at args.t.now))
-    (take (args.template - (args.task + 1)) (drop (args.task + 1) args.t.now)) number-of.result number-of.ensures c.enum_told-1.given.1
+    (take (args.template - (args.task + 1)) (drop (args.task + 1) args.t.now)) number-of.result number-of.ensures c.in_default.is
 
 pub returns-in_default-y : goal.returns-in_default-y
 returns-in_default-y c =
     let args = c.args in
     let number-of = c.number_of-x in
-    let x = c.x-1 in
+    let x = c.in-At in
     let number-of2 = c.number_of-y in
     no-template (all_names args.s.now args.t.now) (take (args.task - args.at) (drop args.at args.t.now))
-    (take (args.template - (args.task + 1)) (drop (args.task + 1) args.t.now)) number-of.result number-of.ensures x.given.0.0 x.given.1
-    number-of2.result number-of2.ensures c.enum_told-in_default-y-1.given.1
+    (take (args.template - (args.task + 1)) (drop (args.task + 1) args.t.now)) number-of.result number-of.ensures x.a x.is
+    number-of2.result number-of2.ensures c.in_default-y.is
 
 pub returns : goal.returns
 returns c =
     let args = c.args in
     let number-of = c.number_of-x in
-    let x = c.x-1 in
+    let x = c.in-At in
     let number-of2 = c.number_of-y in
     both-named (all_names args.s.now args.t.now) (take (args.task - args.at) (drop args.at args.t.now))
-    (take (args.template - (args.task + 1)) (drop (args.task + 1) args.t.now)) number-of.result number-of.ensures x.given.0.0 x.given.1
-    number-of2.result number-of2.ensures c.y-1.given.0.0 args.next c.y-1.given.1
+    (take (args.template - (args.task + 1)) (drop (args.task + 1) args.t.now)) number-of.result number-of.ensures x.a x.is
+    number-of2.result number-of2.ensures c.in-At-y.b args.next c.in-At-y.is

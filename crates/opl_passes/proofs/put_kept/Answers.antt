@@ -8,5 +8,5 @@ returns c =
     let args = c.args in
     let pre = c.requires in
     let put-words = c.put_words in
-    puts-kept args.w.now args.j args.next.now args.out.now put-words.new.0 (omega (arith, pre.1.1.0, pre.1.1.1.0))
-    put-words.ensures put-words.auto.0
+    puts-kept args.w.now args.j args.next.now args.out.now put-words.new.out (omega (arith, pre.1.1.0, pre.1.1.1.0))
+    put-words.ensures put-words.auto.out

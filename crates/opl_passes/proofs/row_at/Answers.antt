@@ -10,7 +10,7 @@ numbers-requires c =
     let read-line = c.read_line-r in (
       pre.0,
       row_apart (all_names args.s.now args.t.now) args.t.now args.at pre.1.0 pre.1.1 read-line.result read-line.ensures
-          c.r-1.given.0.0 c.r-1.given.0.1.0 c.r-1.given.0.1.1.0 c.r-1.given.1,
+          c.in-Line.task c.in-Line.template c.in-Line.next c.in-Line.is,
     )
 
 pub returns-in-Bad : goal.returns-in-Bad
@@ -19,13 +19,13 @@ returns-in-Bad c =
     let pre = c.requires in
     let read-line = c.read_line-r in
     row-never (all_names args.s.now args.t.now) args.t.now args.at pre.1.0 pre.1.1 read-line.result read-line.ensures
-    c.enum_told-1.given.0.0 c.enum_told-1.given.1
+    c.in-Bad.field-0 c.in-Bad.is
 
 pub returns-in-Line : goal.returns-in-Line
 returns-in-Line c =
     let args = c.args in
     let pre = c.requires in
     let read-line = c.read_line-r in
-    let r = c.r-1 in
+    let r = c.in-Line in
     row_is (all_names args.s.now args.t.now) args.t.now args.at pre.1.0 pre.1.1 read-line.result read-line.ensures
-    r.given.0.0 r.given.0.1.0 r.given.0.1.1.0 r.given.1 c.numbers.result c.numbers.ensures
+    r.task r.template r.next r.is c.numbers.result c.numbers.ensures

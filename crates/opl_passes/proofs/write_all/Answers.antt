@@ -34,4 +34,4 @@ returns c =
     let pre = c.requires in
     let args = c.args in
     let if1 = c.if-n-gt-KEPT in
-    c.write-Kept.ensures ∙ sym ((pre.1 if1.false).fills (of args.next.now) args.out.now)
+    c.write_kept.ensures ∙ sym ((pre.1 if1.false).fills (of args.next.now) args.out.now)

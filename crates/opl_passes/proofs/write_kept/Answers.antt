@@ -1,4 +1,3 @@
-use Prim.Native.Nat.{◌-◌}
 use native.Mathlib.Omega.{arith}
 use mathlib.Core.Path.{◌∙◌}
 use Rattle.opl_passes.proofs.TagLaws.{put_first, put-fits, put-again, put_last}
@@ -37,7 +36,7 @@ loop-j-preserved c =
     let loop-test = c.loop-j-test in
     let put-kept = c.put_kept in
     put-again args.w.now args.next.now args.out.now args.n pre.1.1.1 loop.next loop.out loop.j loop.invariant loop-test.true
-    put-kept.new.1.0 put-kept.new.1.1.0 put-kept.ensures
+    put-kept.new.next put-kept.new.out put-kept.ensures
 
 pub shape_of-out : goal.shape_of-out
 shape_of-out c = c.loop-j.invariant.room

@@ -8,23 +8,23 @@ put-requires c =
     let args = c.args in
     let pre = c.requires in
     let row_at = c.row_at-r in
-    let r = c.r-1 in
-    line-fits (all_names args.s.now args.t.now) args.t.now args.at pre.1.0 r.given.0.0 r.given.0.1.0 r.given.0.1.1.0
-    (rw r.given.1 at row_at.ensures) args.place args.out.now pre.1.1
+    let r = c.in-Pair in
+    line-fits (all_names args.s.now args.t.now) args.t.now args.at pre.1.0 r.a r.b r.next
+    (rw r.is at row_at.ensures) args.place args.out.now pre.1.1
 
 pub returns-in-Nameless : goal.returns-in-Nameless
 returns-in-Nameless c =
     let args = c.args in
     let pre = c.requires in
     named-all (all_names args.s.now args.t.now) args.t.now args.at pre.1.0
-    (rw c.enum_told-1.given.1 at c.row_at-r.ensures)
+    (rw c.in-Nameless.is at c.row_at-r.ensures)
 
 pub returns-in-Pair : goal.returns-in-Pair
 returns-in-Pair c =
     let args = c.args in
     let pre = c.requires in
     let row_at = c.row_at-r in
-    let r = c.r-1 in
+    let r = c.in-Pair in
     let put = c.put in
-    line-written (all_names args.s.now args.t.now) args.t.now args.at pre.1.0 r.given.0.0 r.given.0.1.0 r.given.0.1.1.0
-    (rw r.given.1 at row_at.ensures) args.place args.out.now put.new.0 put.ensures put.auto.0
+    line-written (all_names args.s.now args.t.now) args.t.now args.at pre.1.0 r.a r.b r.next
+    (rw r.is at row_at.ensures) args.place args.out.now put.new.out put.ensures put.auto.out

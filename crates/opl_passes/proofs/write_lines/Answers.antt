@@ -1,5 +1,4 @@
 use native.Mathlib.Omega.{arith}
-use Prim.Native.Nat.{◌-◌}
 use Rattle.opl_said.specs.Said.{all_names}
 use Rattle.opl_passes.proofs.LineLaws.{put_first, put_on, put-end}
 use Rattle.opl_passes.proofs.write_lines.Goals as goal
@@ -32,7 +31,7 @@ loop-at-preserved c =
     let loop = c.loop-at in
     let write-line = c.write_line-at in
     put_on (all_names args.s.now args.t.now) args.t.now args.place args.out.now loop.at loop.p loop.out loop.invariant
-    write-line.result write-line.new.1.1.1.0 write-line.ensures
+    write-line.result write-line.new.out write-line.ensures
 
 pub shape_of-out : goal.shape_of-out
 shape_of-out c = c.loop-at.invariant.room

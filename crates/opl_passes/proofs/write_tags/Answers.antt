@@ -4,7 +4,6 @@ use Rattle.opl_passes.specs.declared.Wrote.TheVariants.{Onward}
 use mathlib.Core.Path.{◌∙◌}
 use Rattle.opl_said.specs.Said.{all_names}
 use Rattle.opl_spaces.specs.Spaces.{list_of}
-use Prim.Native.Nat.{◌-◌}
 use native.Mathlib.Omega.{arith}
 use Rattle.opl_passes.proofs.write_tags.Goals as goal
 
@@ -29,7 +28,7 @@ pub shape_of-out-in_default : goal.shape_of-out-in_default
 shape_of-out-in_default c =
     let loop = c.loop-c in
     let write-at = c.write_at-r in
-    write-at.auto.1.1.1.1.0 ∙ loop.invariant.room
+    write-at.auto.out ∙ loop.invariant.room
 
 pub returns-in_default : goal.returns-in_default
 returns-in_default c =
@@ -37,19 +36,19 @@ returns-in_default c =
     let loop = c.loop-c in
     let write-at = c.write_at-r in
     write-ended (all_names args.s.now args.t.now) args.s.now (list_of args.w.now) args.from args.next.now args.out.now loop.c
-    loop.next loop.out loop.invariant write-at.result write-at.new.1.1.1.0 write-at.new.1.1.1.1.0 write-at.ensures
-    c.enum_told-1.given.1
+    loop.next loop.out loop.invariant write-at.result write-at.new.next write-at.new.out write-at.ensures
+    c.in_default.is
 
 pub loop-c-smaller : goal.loop-c-smaller
 loop-c-smaller c =
     let args = c.args in
     let loop = c.loop-c in
     let write-at = c.write_at-r in
-    let w : Writes (all_names args.s.now args.t.now) args.s.now (list_of args.w.now) loop.c loop.next write-at.new.1.1.1.0
-    loop.out write-at.new.1.1.1.1.0 (Onward c.r-1.given.0.0) = rw c.r-1.given.1 at write-at.ensures in
+    let w : Writes (all_names args.s.now args.t.now) args.s.now (list_of args.w.now) loop.c loop.next write-at.new.next
+    loop.out write-at.new.out (Onward c.in-Onward.n) = rw c.in-Onward.is at write-at.ensures in
     let p =
     write-past (all_names args.s.now args.t.now) args.s.now (list_of args.w.now) args.from args.next.now args.out.now loop.c
-    loop.next loop.out loop.invariant c.r-1.given.0.0 write-at.new.1.1.1.0 write-at.new.1.1.1.1.0 w.0 in
+    loop.next loop.out loop.invariant c.in-Onward.n write-at.new.next write-at.new.out w.0 in
     omega (arith, p.0, p.1)
 
 pub loop-c-preserved : goal.loop-c-preserved
@@ -57,10 +56,10 @@ loop-c-preserved c =
     let args = c.args in
     let loop = c.loop-c in
     let write-at = c.write_at-r in
-    let w : Writes (all_names args.s.now args.t.now) args.s.now (list_of args.w.now) loop.c loop.next write-at.new.1.1.1.0
-    loop.out write-at.new.1.1.1.1.0 (Onward c.r-1.given.0.0) = rw c.r-1.given.1 at write-at.ensures in
+    let w : Writes (all_names args.s.now args.t.now) args.s.now (list_of args.w.now) loop.c loop.next write-at.new.next
+    loop.out write-at.new.out (Onward c.in-Onward.n) = rw c.in-Onward.is at write-at.ensures in
     write-on (all_names args.s.now args.t.now) args.s.now (list_of args.w.now) args.from args.next.now args.out.now loop.c
-    loop.next loop.out loop.invariant c.r-1.given.0.0 write-at.new.1.1.1.0 write-at.new.1.1.1.1.0 w.0 w.1
+    loop.next loop.out loop.invariant c.in-Onward.n write-at.new.next write-at.new.out w.0 w.1
 
 pub shape_of-out : goal.shape_of-out
 shape_of-out c = c.loop-c.invariant.room
