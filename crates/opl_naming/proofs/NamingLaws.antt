@@ -16,8 +16,7 @@ use Rattle.paper_opl.specs.Walk.{tags}
 use Rattle.paper_opl.proofs.Inversion.{on_test}
 use Rattle.opl_names.specs.Table.{names_in, Sound, Emptied}
 use Rattle.opl_names.specs.declared.Found.{Found}
-use Rattle.opl_table.specs.Numbers.{OBJECT-ID, name_of}
-use Rattle.opl_table.proofs.Cases.{Beside, last}
+use Rattle.opl_table.specs.Numbers.{name_of}
 use Rattle.opl_tags.specs.Tags.{given_at, Valued, next_tag, walk_at, Opens, ReadsTag}
 use Rattle.opl_tags.specs.declared.Tag.{Tag}
 use Rattle.opl_tags.specs.declared.Tag.TheVariants.{Start, End, Halt}
@@ -35,11 +34,6 @@ use Rattle.opl_turns.specs.Listing.{count_in, entered, Opened, Leads, Listing}
 use Rattle.opl_turns.proofs.MeaningLaws.{meant, declares-by, objects-by}
 use Rattle.opl_turns.proofs.ListLaws.{read-ended, read-stands, read-begun, count_at, entered-table, entered-length, listing-first, listing-led, listing-passed, listing-entered}
 use Rattle.opl_naming.specs.Naming.{space_by, Keeps, Onwards, LongFrom, Goes, AllSound, AllFilled, Fills, AllEmptied, declared_of, LongName, Names}
-
--- The last of the five spaces is the one that is left after four cases.
-pub last-attribute : (i : ℕ) → i < 5 → Beside 4 i → OBJECT-ID ≡ attribute_of i
-unfolding attribute_of
-last-attribute i h b = rw (last 4 i h b)
 
 -- ---- The space of an element.
 

@@ -11,8 +11,8 @@ slice_bounds-element-count c =
     let pre = c.requires in
     let read-tag = c.read_tag-t in
     let o =
-    goes-stands args.s.now args.at read-tag.result read-tag.ensures args.w.now pre.1.0 c.t-in-Start-1.given.0.0
-    c.t-in-Start-1.given.0.1.0 c.t-in-Start-1.given.1 in
+    goes-stands args.s.now args.at read-tag.result read-tag.ensures args.w.now pre.1.0 c.in-Start.name
+    c.in-Start.end c.in-Start.is in
     omega (arith, o.named)
 
 pub slice_bounds-element-start : goal.slice_bounds-element-start
@@ -21,8 +21,8 @@ slice_bounds-element-start c =
     let pre = c.requires in
     let read-tag = c.read_tag-t in
     let o =
-    goes-stands args.s.now args.at read-tag.result read-tag.ensures args.w.now pre.1.0 c.t-in-Start-1.given.0.0
-    c.t-in-Start-1.given.0.1.0 c.t-in-Start-1.given.1 in
+    goes-stands args.s.now args.at read-tag.result read-tag.ensures args.w.now pre.1.0 c.in-Start.name
+    c.in-Start.end c.in-Start.is in
     search rules
 
 pub slice_bounds-element-end : goal.slice_bounds-element-end
@@ -31,8 +31,8 @@ slice_bounds-element-end c =
     let pre = c.requires in
     let read-tag = c.read_tag-t in
     let o =
-    goes-stands args.s.now args.at read-tag.result read-tag.ensures args.w.now pre.1.0 c.t-in-Start-1.given.0.0
-    c.t-in-Start-1.given.0.1.0 c.t-in-Start-1.given.1 in
+    goes-stands args.s.now args.at read-tag.result read-tag.ensures args.w.now pre.1.0 c.in-Start.name
+    c.in-Start.end c.in-Start.is in
     search rules
 
 pub enter-requires : goal.enter-requires
@@ -40,13 +40,13 @@ enter-requires c =
     let pre = c.requires in
     let args = c.args in
     let read-tag = c.read_tag-t in
-    let t2 = c.t-in-Start-1 in (
+    let t2 = c.in-Start in (
       pre.0,
       (
-        (goes-stands args.s.now args.at read-tag.result read-tag.ensures args.w.now pre.1.0 t2.given.0.0 t2.given.0.1.0
-            t2.given.1).inside,
-        goes-low args.s.now args.at read-tag.result read-tag.ensures args.w.now pre.1.0 t2.given.0.0 t2.given.0.1.0
-            t2.given.1 c.element-e.result c.element-e.ensures,
+        (goes-stands args.s.now args.at read-tag.result read-tag.ensures args.w.now pre.1.0 t2.name t2.end
+            t2.is).inside,
+        goes-low args.s.now args.at read-tag.result read-tag.ensures args.w.now pre.1.0 t2.name t2.end
+            t2.is c.element-e.result c.element-e.ensures,
       ),
     )
 
@@ -55,12 +55,12 @@ returns-then-i-ge-BY_TAGS c =
     let args = c.args in
     let pre = c.requires in
     let read-tag = c.read_tag-t in
-    let t2 = c.t-in-Start-1 in
+    let t2 = c.in-Start in
     let element = c.element-e in
     let enter = c.enter in
     let space = c.space-i in
-    goes_other args.s.now args.at read-tag.result read-tag.ensures args.w.now pre.1.0 t2.given.0.0 t2.given.0.1.0
-    t2.given.1 element.result element.ensures pre.0 enter.new.1.0 enter.ensures (λ i h u. omega (arith, h, u, space.ensures, c.if-i-ge-BY_TAGS.true))
+    goes_other args.s.now args.at read-tag.result read-tag.ensures args.w.now pre.1.0 t2.name t2.end
+    t2.is element.result element.ensures pre.0 enter.new.w enter.ensures (λ i h u. omega (arith, h, u, space.ensures, c.if-i-ge-BY_TAGS.true))
 
 pub value_place-v-requires : goal.value_place-v-requires
 value_place-v-requires c =
@@ -68,9 +68,9 @@ value_place-v-requires c =
     let args = c.args in
     let pre = c.requires in
     let read-tag = c.read_tag-t in
-    let t2 = c.t-in-Start-1 in
-    goes-stands args.s.now args.at read-tag.result read-tag.ensures args.w.now pre.1.0 t2.given.0.0 t2.given.0.1.0
-    t2.given.1 in
+    let t2 = c.in-Start in
+    goes-stands args.s.now args.at read-tag.result read-tag.ensures args.w.now pre.1.0 t2.name t2.end
+    t2.is in
     omega (arith, o.inside)
 
 pub returns-then-size-gt-LONGEST_NAME : goal.returns-then-size-gt-LONGEST_NAME
@@ -78,15 +78,15 @@ returns-then-size-gt-LONGEST_NAME c =
     let args = c.args in
     let pre = c.requires in
     let read-tag = c.read_tag-t in
-    let t2 = c.t-in-Start-1 in
+    let t2 = c.in-Start in
     let element = c.element-e in
     let enter = c.enter in
     let space = c.space-i in
     let if1 = c.if-i-ge-BY_TAGS in
     let attribute = c.attribute in
     let value-place = c.value_place-v in
-    goes-long args.s.now args.at read-tag.result read-tag.ensures args.w.now pre.1.0 t2.given.0.0 t2.given.0.1.0
-    t2.given.1 element.result element.ensures pre.0 enter.new.1.0 enter.ensures space.result
+    goes-long args.s.now args.at read-tag.result read-tag.ensures args.w.now pre.1.0 t2.name t2.end
+    t2.is element.result element.ensures pre.0 enter.new.w enter.ensures space.result
     (omega (arith, if1.false)) (sym space.ensures) value-place.result (rw attribute.ensures at value-place.ensures) c.if-size-gt-LONGEST_NAME.true
 
 pub declare-requires : goal.declare-requires
@@ -94,20 +94,20 @@ declare-requires c =
     let args = c.args in
     let pre = c.requires in
     let read-tag = c.read_tag-t in
-    let t2 = c.t-in-Start-1 in
+    let t2 = c.in-Start in
     let element = c.element-e in
     let enter = c.enter in
     let space = c.space-i in
     let if1 = c.if-i-ge-BY_TAGS in
     let value-place = c.value_place-v in (
       (
-        goes-room args.s.now args.at read-tag.result read-tag.ensures args.w.now pre.1.0 t2.given.0.0 t2.given.0.1.0
-            t2.given.1 element.result element.ensures pre.0 enter.new.1.0 enter.ensures,
+        goes-room args.s.now args.at read-tag.result read-tag.ensures args.w.now pre.1.0 t2.name t2.end
+            t2.is element.result element.ensures pre.0 enter.new.w enter.ensures,
         omega (arith, if1.false),
       ),
       (
-        goes-sound args.s.now args.at read-tag.result read-tag.ensures args.w.now pre.1.0 t2.given.0.0 t2.given.0.1.0
-            t2.given.1 element.result element.ensures pre.0 enter.new.1.0 enter.ensures space.result (omega (arith, if1.false)),
+        goes-sound args.s.now args.at read-tag.result read-tag.ensures args.w.now pre.1.0 t2.name t2.end
+            t2.is element.result element.ensures pre.0 enter.new.w enter.ensures space.result (omega (arith, if1.false)),
         (omega (arith, value-place.ensures.inside, value-place.ensures.order), c.if-size-gt-LONGEST_NAME.false),
       ),
     )
@@ -117,21 +117,21 @@ returns-in-Halt c =
     let args = c.args in
     let pre = c.requires in
     let read-tag = c.read_tag-t in
-    goes-halt args.s.now args.at read-tag.result read-tag.ensures args.w.now pre.1.0 c.enum_told-1.given.1
+    goes-halt args.s.now args.at read-tag.result read-tag.ensures args.w.now pre.1.0 c.in-Halt.is
 
 pub returns-in-End : goal.returns-in-End
 returns-in-End c =
     let args = c.args in
     let pre = c.requires in
     let read-tag = c.read_tag-t in
-    goes_end args.s.now args.at read-tag.result read-tag.ensures args.w.now pre.1.0 c.t-1.given.0.0 c.t-1.given.1
+    goes_end args.s.now args.at read-tag.result read-tag.ensures args.w.now pre.1.0 c.in-End.next c.in-End.is
 
 pub returns-else-size-gt-LONGEST_NAME : goal.returns-else-size-gt-LONGEST_NAME
 returns-else-size-gt-LONGEST_NAME c =
     let args = c.args in
     let pre = c.requires in
     let read-tag = c.read_tag-t in
-    let t2 = c.t-in-Start-1 in
+    let t2 = c.in-Start in
     let element = c.element-e in
     let enter = c.enter in
     let space = c.space-i in
@@ -140,7 +140,7 @@ returns-else-size-gt-LONGEST_NAME c =
     let value-place = c.value_place-v in
     let if2 = c.if-size-gt-LONGEST_NAME in
     let declare = c.declare in
-    goes_on args.s.now args.at read-tag.result read-tag.ensures args.w.now pre.1.0 t2.given.0.0 t2.given.0.1.0 t2.given.1
-    element.result element.ensures pre.0 enter.new.1.0 enter.ensures space.result (omega (arith, if1.false))
-    (sym space.ensures) value-place.result (rw attribute.ensures at value-place.ensures) declare.new.1.0 declare.result if2.false
+    goes_on args.s.now args.at read-tag.result read-tag.ensures args.w.now pre.1.0 t2.name t2.end t2.is
+    element.result element.ensures pre.0 enter.new.w enter.ensures space.result (omega (arith, if1.false))
+    (sym space.ensures) value-place.result (rw attribute.ensures at value-place.ensures) declare.new.w declare.result if2.false
     declare.ensures

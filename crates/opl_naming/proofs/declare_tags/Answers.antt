@@ -1,6 +1,5 @@
 use Rattle.opl_naming.proofs.NamingLaws.{names-first, names-done, names-long, names-past, names-on, names-end}
 use mathlib.Core.Path.{◌∙◌}
-use Prim.Native.Nat.{◌-◌}
 use native.Mathlib.Omega.{arith}
 use Rattle.opl_naming.proofs.declare_tags.Goals as goal
 
@@ -20,29 +19,29 @@ pub shape_of-w-in-Done : goal.shape_of-w-in-Done
 shape_of-w-in-Done c =
     let loop = c.loop-at in
     let declare-tag = c.declare_tag-r in
-    declare-tag.auto.1.0 ∙ loop.invariant.room
+    declare-tag.auto.w ∙ loop.invariant.room
 
 pub returns-in-Done : goal.returns-in-Done
 returns-in-Done c =
     let args = c.args in
     let loop = c.loop-at in
     let declare-tag = c.declare_tag-r in
-    names-done args.s.now args.from args.w.now loop.at loop.w loop.invariant declare-tag.result declare-tag.new.1.0
-    declare-tag.ensures c.enum_told-1.given.1
+    names-done args.s.now args.from args.w.now loop.at loop.w loop.invariant declare-tag.result declare-tag.new.w
+    declare-tag.ensures c.in-Done.is
 
 pub shape_of-w-in-Long : goal.shape_of-w-in-Long
 shape_of-w-in-Long c =
     let loop = c.loop-at in
     let declare-tag = c.declare_tag-r in
-    declare-tag.auto.1.0 ∙ loop.invariant.room
+    declare-tag.auto.w ∙ loop.invariant.room
 
 pub returns-in-Long : goal.returns-in-Long
 returns-in-Long c =
     let args = c.args in
     let loop = c.loop-at in
     let declare-tag = c.declare_tag-r in
-    names-long args.s.now args.from args.w.now loop.at loop.w loop.invariant declare-tag.result declare-tag.new.1.0
-    declare-tag.ensures c.enum_told-in-Long-1.given.1
+    names-long args.s.now args.from args.w.now loop.at loop.w loop.invariant declare-tag.result declare-tag.new.w
+    declare-tag.ensures c.in-Long.is
 
 pub loop-at-smaller : goal.loop-at-smaller
 loop-at-smaller c =
@@ -50,8 +49,8 @@ loop-at-smaller c =
     let args = c.args in
     let loop = c.loop-at in
     let declare-tag = c.declare_tag-r in
-    names-past args.s.now args.from args.w.now loop.at loop.w loop.invariant declare-tag.result declare-tag.new.1.0
-    declare-tag.ensures c.r-1.given.0.0 c.r-1.given.1 in
+    names-past args.s.now args.from args.w.now loop.at loop.w loop.invariant declare-tag.result declare-tag.new.w
+    declare-tag.ensures c.in-Next.n c.in-Next.is in
     omega (arith, p.0, p.1)
 
 pub loop-at-preserved : goal.loop-at-preserved
@@ -59,8 +58,8 @@ loop-at-preserved c =
     let args = c.args in
     let loop = c.loop-at in
     let declare-tag = c.declare_tag-r in
-    names-on args.s.now args.from args.w.now loop.at loop.w loop.invariant declare-tag.result declare-tag.new.1.0
-    declare-tag.ensures c.r-1.given.0.0 c.r-1.given.1
+    names-on args.s.now args.from args.w.now loop.at loop.w loop.invariant declare-tag.result declare-tag.new.w
+    declare-tag.ensures c.in-Next.n c.in-Next.is
 
 pub shape_of-w : goal.shape_of-w
 shape_of-w c = c.loop-at.invariant.room

@@ -2,7 +2,6 @@ use Rattle.opl_naming.proofs.NamingLaws.{empty-first, empty-on, empty-end}
 use mathlib.Core.Path.{◌∙◌}
 use lib.ListN.{length-set}
 use Rattle.opl_spaces.specs.Spaces.{list_place}
-use Prim.Native.Nat.{◌-◌}
 use native.Mathlib.Omega.{arith}
 use Rattle.opl_naming.proofs.empty_all.Goals as goal
 
@@ -23,7 +22,7 @@ loop-i-preserved c =
     let loop = c.loop-i in
     let loop-test = c.loop-i-test in
     let empty = c.empty in
-    empty-on args.w.now loop.w empty.new.0 loop.i loop-test.true loop.invariant empty.ensures
+    empty-on args.w.now loop.w empty.new.w loop.i loop-test.true loop.invariant empty.ensures
 
 pub bounds-w-659639 : goal.bounds-w-659639
 bounds-w-659639 c = omega (arith, c.loop-i.invariant.room, c.requires)

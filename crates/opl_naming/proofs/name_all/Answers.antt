@@ -1,6 +1,5 @@
 -- `name_all` meets its contract: five spaces have the names of the tags, and two have those of the task lines.
 use Rattle.opl_naming.proofs.NamingLaws.{empty-sound, long-tag, long-line, tasks-sound, templates-sound, named-all}
-use borrow.Author.Tests.{not-true, not-false}
 use mathlib.Core.Path.{◌∙◌}
 use native.Mathlib.Omega.{arith}
 use Rattle.opl_naming.proofs.name_all.Goals as goal
@@ -12,7 +11,7 @@ declare_tags-requires c =
     let empty-all = c.empty_all in (
       empty-all.ensures.room ∙ pre.0,
       (
-        empty-sound args.s.now args.t.now args.from pre.1.1.0 args.w.now empty-all.new.0 empty-all.new.0 pre.0
+        empty-sound args.s.now args.t.now args.from pre.1.1.0 args.w.now empty-all.new.w empty-all.new.w pre.0
             empty-all.ensures,
         pre.1.0,
       ),
@@ -23,7 +22,7 @@ returns-then-not-declare_tags c =
     let args = c.args in
     let pre = c.requires in
     let declare-tags = c.declare_tags in
-    long-tag args.s.now args.t.now args.from pre.1.1.0 (rw (not-true declare-tags.result c.if-not-declare_tags.true) at declare-tags.ensures)
+    long-tag args.s.now args.t.now args.from pre.1.1.0 (rw c.if-not-declare_tags.true at declare-tags.ensures)
 
 pub declare_lines-requires : goal.declare_lines-requires
 declare_lines-requires c =
@@ -31,10 +30,10 @@ declare_lines-requires c =
     let args = c.args in
     let empty-all = c.empty_all in
     let declare-tags = c.declare_tags in (
-      ((rw (not-false declare-tags.result c.if-not-declare_tags.false) at declare-tags.ensures).room ∙ empty-all.ensures.room ∙ pre.0, omega arith),
+      ((rw c.if-not-declare_tags.false at declare-tags.ensures).room ∙ empty-all.ensures.room ∙ pre.0, omega arith),
       (
-        tasks-sound args.s.now args.t.now args.from pre.1.1.0 args.w.now empty-all.new.0 declare-tags.new.1.0 pre.0
-            empty-all.ensures (rw (not-false declare-tags.result c.if-not-declare_tags.false) at declare-tags.ensures),
+        tasks-sound args.s.now args.t.now args.from pre.1.1.0 args.w.now empty-all.new.w declare-tags.new.w pre.0
+            empty-all.ensures (rw c.if-not-declare_tags.false at declare-tags.ensures),
         pre.1.1.1,
       ),
     )
@@ -45,8 +44,8 @@ returns-then-not-declare_lines c =
     let pre = c.requires in
     let declare-tags = c.declare_tags in
     let declare-lines = c.declare_lines in
-    long-line args.s.now args.t.now args.from pre.1.1.0 5 declare-tags.new.1.0 declare-lines.new.1.0 (omega arith) (omega arith)
-    (rw (not-true declare-lines.result c.if-not-declare_lines.true) at declare-lines.ensures)
+    long-line args.s.now args.t.now args.from pre.1.1.0 5 declare-tags.new.w declare-lines.new.w (omega arith) (omega arith)
+    (rw c.if-not-declare_lines.true at declare-lines.ensures)
 
 pub declare_lines-requires-2 : goal.declare_lines-requires-2
 declare_lines-requires-2 c =
@@ -57,14 +56,14 @@ declare_lines-requires-2 c =
     let if1 = c.if-not-declare_tags in
     let declare-lines = c.declare_lines in (
       (
-        (rw (not-false declare-lines.result c.if-not-declare_lines.false) at declare-lines.ensures).apart.room ∙
-            (rw (not-false declare-tags.result if1.false) at declare-tags.ensures).room ∙ empty-all.ensures.room ∙ pre.0,
+        (rw c.if-not-declare_lines.false at declare-lines.ensures).apart.room ∙
+            (rw if1.false at declare-tags.ensures).room ∙ empty-all.ensures.room ∙ pre.0,
         omega arith,
       ),
       (
-        templates-sound args.s.now args.t.now args.from pre.1.1.0 args.w.now empty-all.new.0 declare-tags.new.1.0 pre.0
-            empty-all.ensures (rw (not-false declare-tags.result if1.false) at declare-tags.ensures) declare-lines.new.1.0
-            (rw (not-false declare-lines.result c.if-not-declare_lines.false) at declare-lines.ensures),
+        templates-sound args.s.now args.t.now args.from pre.1.1.0 args.w.now empty-all.new.w declare-tags.new.w pre.0
+            empty-all.ensures (rw if1.false at declare-tags.ensures) declare-lines.new.w
+            (rw c.if-not-declare_lines.false at declare-lines.ensures),
         pre.1.1.1,
       ),
     )
@@ -79,7 +78,7 @@ returns c =
     let declare-lines = c.declare_lines in
     let if2 = c.if-not-declare_lines in
     let declare-lines2 = c.declare_lines-2 in
-    named-all args.s.now args.t.now args.from pre.1.1.0 args.w.now empty-all.last.0 declare-tags.new.1.0
-    declare-lines.new.1.0 declare-lines2.new.1.0 pre.0 empty-all.ensures
-    (rw (not-false declare-tags.result if1.false) at declare-tags.ensures)
-    (rw (not-false declare-lines.result if2.false) at declare-lines.ensures) declare-lines2.result declare-lines2.ensures
+    named-all args.s.now args.t.now args.from pre.1.1.0 args.w.now empty-all.new.w declare-tags.new.w
+    declare-lines.new.w declare-lines2.new.w pre.0 empty-all.ensures
+    (rw if1.false at declare-tags.ensures)
+    (rw if2.false at declare-lines.ensures) declare-lines2.result declare-lines2.ensures
