@@ -12,32 +12,32 @@ overflow_sub-t c =
     let judge = c.judge-l in
     (line-inside args.s.now args.t.now (length args.w.now) args.out.now pre unmarked.result.now unmarked.ensures judge.result
     judge.ensures
-    c.l-1.given.0.0 c.l-1.given.1).0
+    c.in-Bad.i c.in-Bad.is).0
 
 pub overflow_add-t : goal.overflow_add-t
 overflow_add-t c =
     let args = c.args in
     let pre = c.requires in
-    let good = c.well-formed in
+    let good = c.well_formed in
     let unmarked = c.unmarked-u in
     let judge = c.judge-l in
     let h =
     line-inside args.s.now args.t.now (length args.w.now) args.out.now pre unmarked.result.now unmarked.ensures judge.result
     judge.ensures
-    c.l-1.given.0.0 c.l-1.given.1 in
+    c.in-Bad.i c.in-Bad.is in
     omega (arith, good.1.0.1)
 
 pub bad_text-requires : goal.bad_text-requires
 bad_text-requires c =
     let args = c.args in
     let pre = c.requires in
-    let good = c.well-formed in
+    let good = c.well_formed in
     let unmarked = c.unmarked-u in
     let judge = c.judge-l in
     omega (
       arith,
       (line-inside args.s.now args.t.now (length args.w.now) args.out.now pre unmarked.result.now unmarked.ensures judge.result
-          judge.ensures c.l-1.given.0.0 c.l-1.given.1).1,
+          judge.ensures c.in-Bad.i c.in-Bad.is).1,
       good.1.0.1,
     )
 
@@ -47,10 +47,10 @@ accepted-requires c =
     let pre = c.requires in
     let unmarked = c.unmarked-u in
     let judge = c.judge-l in
-    let enum_told = c.enum_told-1 in
+    let next = c.in-Next in
     both-accepted args.s.now args.t.now (length args.w.now) args.out.now pre unmarked.result.now unmarked.ensures judge.result
     judge.ensures
-    enum_told.given.0.0 enum_told.given.1
+    next.field-0 next.is
 
 pub returns-in-Bad : goal.returns-in-Bad
 returns-in-Bad c =
@@ -58,10 +58,10 @@ returns-in-Bad c =
     let pre = c.requires in
     let unmarked = c.unmarked-u in
     let judge = c.judge-l in
-    let l = c.l-1 in
+    let l = c.in-Bad in
     rw c.bad_text.ensures (bad-lines args.s.now args.t.now (length args.w.now) args.out.now pre unmarked.result.now
     unmarked.ensures
-    judge.result judge.ensures l.given.0.0 l.given.1)
+    judge.result judge.ensures l.i l.is)
 
 pub returns-in-Next : goal.returns-in-Next
 returns-in-Next c =
@@ -69,9 +69,9 @@ returns-in-Next c =
     let pre = c.requires in
     let unmarked = c.unmarked-u in
     let judge = c.judge-l in
-    let enum_told = c.enum_told-1 in
+    let next = c.in-Next in
     let accepted = c.accepted in
     accepted-is args.s.now args.t.now unmarked.result.now unmarked.ensures (length args.w.now) args.out.now
     (both-accepted args.s.now args.t.now (length args.w.now) args.out.now pre unmarked.result.now unmarked.ensures judge.result
-    judge.ensures enum_told.given.0.0 enum_told.given.1)
-    accepted.new.1.1.0 accepted.result accepted.ensures
+    judge.ensures next.field-0 next.is)
+    accepted.new.out accepted.result accepted.ensures

@@ -13,7 +13,7 @@ overflow_add-result c =
     let b =
     let args = c.args in
     let behind-policy = c.behind_policy-a in
-    small-reply true args.s.now args.t.now (length args.w.now) args.out.now behind-policy.new.1.1.0 behind-policy.result
+    small-reply true args.s.now args.t.now (length args.w.now) args.out.now behind-policy.new.out behind-policy.result
     behind-policy.ensures in
     omega (arith, b.0, b.1)
 
@@ -22,7 +22,7 @@ overflow_mul-result-2 c =
     let b =
     let args = c.args in
     let behind-policy = c.behind_policy-a in
-    small-reply true args.s.now args.t.now (length args.w.now) args.out.now behind-policy.new.1.1.0 behind-policy.result
+    small-reply true args.s.now args.t.now (length args.w.now) args.out.now behind-policy.new.out behind-policy.result
     behind-policy.ensures in
     omega (arith, b.0, b.1)
 
@@ -31,7 +31,7 @@ overflow_add-result-2 c =
     let b =
     let args = c.args in
     let behind-policy = c.behind_policy-a in
-    small-reply true args.s.now args.t.now (length args.w.now) args.out.now behind-policy.new.1.1.0 behind-policy.result
+    small-reply true args.s.now args.t.now (length args.w.now) args.out.now behind-policy.new.out behind-policy.result
     behind-policy.ensures in
     omega (arith, b.0, b.1)
 
@@ -40,4 +40,4 @@ returns c =
     let args = c.args in
     let behind-policy = c.behind_policy-a in
     rw c.shown-n.ensures (exported true args.s.now args.t.now (length args.w.now) args.out.now
-    behind-policy.new.1.1.0 behind-policy.result behind-policy.ensures)
+    behind-policy.new.out behind-policy.result behind-policy.ensures)
