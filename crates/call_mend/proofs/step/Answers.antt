@@ -1,4 +1,5 @@
 -- `step` meets its contract: a refused call changes nothing; the first step empties the state and then mends; a later step goes on in the state that is there.
+use borrow.Author.Rules.{rules}
 use Rattle.engine.specs.Buffers.{buffers}
 use Rattle.call_mend.proofs.Steps.{no-turn, roomed, first-turn, later-turn}
 use Rattle.call_mend.proofs.step.Goals as goal
@@ -76,7 +77,7 @@ next-requires-2 c =
     let r =
     roomed args.input.now args.output.now args.room args.place args.dropped
     (buffers args.policy.now args.sessions.now args.orders.now) judge.result judge.ensures accepted.ensures if1.false in
-    record { words = r.words; room = r.output; within = pre.0; fewer = pre.1 }
+    record { words = search rules; room = r.output; within = pre.0; fewer = pre.1 }
 
 pub returns : goal.returns
 returns c =
