@@ -1,10 +1,6 @@
 -- `activate_reply` meets its contract: each return gives the reply of the first check that applies.
-use mathlib.Core.Bool.{cond}
-use mathlib.Core.Path.{◌≡◌}
 use native.Mathlib.Omega.{arith}
-use Rattle.paper_lower.specs.Checks.{first, DYNAMIC}
 use Rattle.paper_lower.specs.Sessions.{activate_checks}
-use Rattle.sessions.specs.Lower.{lower_tables}
 use Rattle.session_subjects.proofs.activate_reply.Goals as goal
 
 pub returns-then-live-has : goal.returns-then-live-has

@@ -6,7 +6,6 @@ use Rattle.paper_lower.specs.Sessions.{wall_between, commit_next}
 use Rattle.replies.proofs.DoneLaws.{refused}
 use Rattle.sessions.specs.Lower.{lower_tables}
 use Rattle.session_subjects.proofs.WallLaws.{stopped, walled, walls-between, committed, refused-wall, asked, committed-all}
-use borrow.Author.Rules.{rules}
 use Rattle.session_subjects.proofs.ask.Goals as goal
 
 pub returns-then-not-accepted : goal.returns-then-not-accepted

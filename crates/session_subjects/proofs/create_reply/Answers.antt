@@ -1,9 +1,5 @@
 -- `create_reply` meets its contract: each return gives the reply of the first check that applies.
-use mathlib.Core.Bool.{cond}
-use mathlib.Core.Path.{◌≡◌}
-use Rattle.paper_lower.specs.Checks.{first, DYNAMIC}
 use Rattle.paper_lower.specs.Sessions.{create_checks}
-use Rattle.sessions.specs.Lower.{lower_tables}
 use Rattle.session_subjects.proofs.create_reply.Goals as goal
 
 pub returns-then-user_declared-within : goal.returns-then-user_declared-within

