@@ -2,7 +2,7 @@
 // comparing words. It knows no rule of the engine. A line has a first letter that says what to do, then numbers, and then words for the reader.
 #![tactic(auto)]
 
-ghost use Rattle.std.specs.Prelude.{ℕ, ◌+◌, ◌-◌, ◌%◌, ◌<◌, ◌≤◌, true, cond, ◌≡◌, length, get_or, take, IfOk};
+ghost use Rattle.std.specs.Prelude.{◌≢◌, ℕ, ◌+◌, ◌-◌, ◌%◌, ◌<◌, ◌≤◌, true, cond, ◌≡◌, length, get_or, take, IfOk};
 ghost use Rattle.scripts.specs.Lines.{LineEnd, digit_more, space_more, number_of, bytes_of, a_record_of, Put, drawn, garbled, letter_of, Garbled};
 
 use std::io;
@@ -313,7 +313,11 @@ pub fn letter(line: &[u8]) -> u8
 }
 
 // The policy that is being collected, after this line: with one more record, empty, or unchanged.
-pub fn policy_behind(line: &[u8], policy: Handed) -> Handed {
+pub fn policy_behind(line: &[u8], policy: Handed) -> Handed
+    ensures one_more { letter_of line.now ≡ 43 → Put policy.len (a_record_of line.now 1) policy.bytes result.bytes result.len }
+    ensures emptied { letter_of line.now ≡ 110 → result.len ≡ 0 }
+    ensures unchanged { letter_of line.now ≢ 43 → letter_of line.now ≢ 110 → result ≡ policy }
+{
     match letter(line) {
         b'+' => with_record(policy, record_of(line, 1)),
         b'n' => nothing(),
@@ -325,6 +329,10 @@ pub fn policy_behind(line: &[u8], policy: Handed) -> Handed {
 // before the record.
 pub fn handed_by(line: &[u8], policy: &Handed, buffers: u64) -> Handed
     requires { buffers < 10 }
+    ensures one_more { letter_of line.now ≡ 119 → Put policy.now.len (a_record_of line.now 1) policy.now.bytes result.bytes result.len }
+    ensures cut { letter_of line.now ≡ 108 → (result.bytes ≡ policy.now.bytes) × (result.len ≡ policy.now.len - number_of line.now 1) }
+    ensures whole { letter_of line.now ≡ 114 → result ≡ policy.now }
+    ensures of_length { letter_of line.now ≡ 99 → result.len ≡ number_of line.now 1 }
 {
     match letter(line) {
         b'w' => with_record(copied(policy), record_of(line, 1)),
@@ -351,7 +359,7 @@ pub fn read_script(input: &mut impl Read, text: &mut [u8]) -> io::Result<usize>
     Ok(at)
 }
 
-// Prints a text.
+// Prints a text. No contract can say what a stream takes, so this function and the next ones promise nothing but their return.
 pub fn say(out: &impl Print, text: &[u8]) -> io::Result<()> {
     out.write_all(text)
 }
