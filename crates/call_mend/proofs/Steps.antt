@@ -12,8 +12,7 @@ use Rattle.paper_lower.specs.Records.{Bytes}
 use Rattle.paper_lower.specs.Tables.{Policy}
 use Rattle.paper_lower.specs.Sessions.{lower_of}
 use Rattle.paper_upper.specs.Engine.{engine_of}
-use Rattle.replies.specs.Replies.{number_of}
-use Rattle.replies.specs.declared.Reply.{Reply}
+use Rattle.replies.specs.Replies.{Reply, number_of}
 use Rattle.replies.proofs.ReplyLaws.{is_zero, not-zero}
 use Rattle.policy.specs.Layout.{policy_words}
 use Rattle.policy.specs.Reading as policy

@@ -7,8 +7,11 @@ ghost use Rattle.replies.specs.Replies.{number_of};
 ghost use Rattle.engine.specs.Buffers.{buffers};
 ghost use Rattle.call_mend.specs.Promises.{MendDone, Turned, checked, numbered};
 
+use order_links::ORDERS_WORDS;
+use policy::POLICY_WORDS;
 use policy_mending::Dropped;
-use replies::Reply;
+use replies::{Refusal, Reply};
+use sessions::SESSIONS_WORDS;
 
 // Checks for the refusals of the call, before anything is written. `room` is the number of entries that the report can hold.
 fn judge(
@@ -22,15 +25,15 @@ fn judge(
     ensures { number_of result ≡ checked input.now output.now room (buffers policy.now sessions.now orders.now) }
 {
     if !engine::fit(policy.len(), sessions.len(), orders.len()) {
-        return Reply::Room;
+        return Err(Refusal::Room);
     }
     if output.len() < input.len() {
-        return Reply::Room;
+        return Err(Refusal::Room);
     }
     if room < input.len() / 16 + 1 {
-        return Reply::Room;
+        return Err(Refusal::Room);
     }
-    Reply::Granted
+    Ok(())
 }
 
 // If `d` ends the call (reply 0), puts the call's number in its place field: 256 times the number of records kept.
@@ -59,20 +62,28 @@ pub fn step(
     requires { (place ≤ length input.now / 16 + 1) × (dropped ≤ place) }
     ensures { Turned room place dropped input.now output.old (buffers policy.old sessions.old orders.old) output.new (buffers policy.new sessions.new orders.new) result }
 {
-    let r = judge(input, output, room, policy, sessions, orders);
-    if !replies::accepted(r) {
+    if let Err(refusal) = judge(input, output, room, policy, sessions, orders) {
         return Dropped {
-            place: replies::number(r),
+            place: u64::from(refusal),
             reply: 0,
         };
     }
+    let (Some(p), Some(s), Some(o)) = (
+        policy.as_mut_array::<POLICY_WORDS>(),
+        sessions.as_mut_array::<SESSIONS_WORDS>(),
+        orders.as_mut_array::<ORDERS_WORDS>(),
+    ) else {
+        return Dropped {
+            place: u64::from(Refusal::Room),
+            reply: 0,
+        };
+    };
     if dropped == 0 {
-        policy::clear(policy);
-        sessions::clear(sessions);
-        order_entries::clear(orders);
-        return ended(policy_mending::next(input, place, dropped, output, policy));
+        policy::clear(p);
+        sessions::clear(s);
+        order_entries::clear(o);
     }
-    ended(policy_mending::next(input, place, dropped, output, policy))
+    ended(policy_mending::next(input, place, dropped, output, p))
 }
 
 // Mends `input` into `output`, for C and Rust: the number is the reply + 256 times the number of records kept. Each answer of `step` that names a dropped

@@ -16,8 +16,7 @@ use Rattle.paper_lower.specs.Records.{Bytes}
 use Rattle.paper_lower.specs.Kinds.{after}
 use Rattle.paper_upper.specs.Orders.{SameTables}
 use Rattle.paper_upper.specs.Engine.{request, Placed, placed_run}
-use Rattle.replies.specs.Replies.{number_of}
-use Rattle.order_rules.specs.declared.Judged.{Judged}
+use Rattle.replies.specs.Replies.{number_of, Outcome, outcome_number, outcome_place}
 use Rattle.engine.specs.Buffers.{Buffers, tables_of, fit, SameLengths}
 use Rattle.engine.specs.Answers.{Requested}
 use Rattle.order_links.specs.Chains.{sound_of}
@@ -30,7 +29,7 @@ use Rattle.call_pile.specs.Pile.{whole_from, replies_of}
 use Rattle.call_pile.specs.Promises.{NotGranted, Answers}
 
 -- A reply fits in a byte.
-pub small : {bytes : Bytes} {x y : Buffers} {j : Judged} → Requested bytes x y j → number_of j.reply ≤ 255
+pub small : {bytes : Bytes} {x y : Buffers} {j : Outcome} → Requested bytes x y j → outcome_number j ≤ 255
 small {bytes} {x} q = let e = q.replies in let l = in-byte _ (request-listed bytes x) in omega arith
 
 -- i of n requests are done, and the next record begins at index `at`.
@@ -57,23 +56,23 @@ begun n bytes x out f =
       settles = inr refl;
     }
 
-module _ (bytes : Bytes) (at : ℕ) {k : ℕ} {x y : Buffers} {j : Judged} (k16 : k ≡ 16) (q : Requested (take k (drop at bytes)) x y j) (f : fit x ≡ true) where
-  asked-one : (number_of j.reply ≡ (request (tables_of x) (take 16 (drop at bytes))).reply) ×
+module _ (bytes : Bytes) (at : ℕ) {k : ℕ} {x y : Buffers} {j : Outcome} (k16 : k ≡ 16) (q : Requested (take k (drop at bytes)) x y j) (f : fit x ≡ true) where
+  asked-one : (outcome_number j ≡ (request (tables_of x) (take 16 (drop at bytes))).reply) ×
       SameTables (tables_of y) (request (tables_of x) (take 16 (drop at bytes))).tables
   asked-one =
       let a = answers (within q) f in
-      let e : number_of j.reply ≡ (request (tables_of x) (take 16 (drop at bytes))).reply = rw k16 at a.0 in
+      let e : outcome_number j ≡ (request (tables_of x) (take 16 (drop at bytes))).reply = rw k16 at a.0 in
       let t : SameTables (tables_of y) (request (tables_of x) (take 16 (drop at bytes))).tables = rw k16 at a.2 in (e, t)
 
   next-replies : (left : ℕ) → 0 < left
       → replies_of (placed_run (tables_of x) (whole_from left (drop at bytes))) ≡
-      number_of j.reply ∷ replies_of (placed_run (tables_of y) (whole_from (left - 1) (drop (at + 16) bytes)))
+      outcome_number j ∷ replies_of (placed_run (tables_of y) (whole_from (left - 1) (drop (at + 16) bytes)))
   unfolding whole_from placed_run each
   next-replies zero l = absurd (not-suc-le-zero l)
   next-replies (suc n) l =
       let e = asked-one in
       let h = runs-respect _ _ e.1 (whole_from n (drop (at + 16) bytes)) in
-      rw (sub-one, drop-drop 16 at bytes, ← e.0) (ap (λ (said : List Placed). number_of j.reply ∷ replies_of said) (sym h.0))
+      rw (sub-one, drop-drop 16 at bytes, ← e.0) (ap (λ (said : List Placed). outcome_number j ∷ replies_of said) (sym h.0))
 
   next-tables : (left : ℕ) → 0 < left
       → SameTables (after request (tables_of y) (whole_from (left - 1) (drop (at + 16) bytes))) (after request (tables_of x) (whole_from left (drop at bytes)))
@@ -90,19 +89,19 @@ untouched out₀ out i v e =
     drop-set-lt (i + 1) out i v l ∙ sym (drop-drop 1 i out) ∙ ap (drop 1) e ∙ drop-drop 1 i out₀
 
 -- After a request the links are sound or the state is the first one, if that was so before it: a granted request leaves sound links, a refusal changes nothing.
-granted-or-not : {bytes : Bytes} {x₀ x y : Buffers} {j : Judged} → Requested bytes x y j → (sound_of x.orders ≡ true) ⊎ (x ≡ x₀) →
+granted-or-not : {bytes : Bytes} {x₀ x y : Buffers} {j : Outcome} → Requested bytes x y j → (sound_of x.orders ≡ true) ⊎ (x ≡ x₀) →
     (sound_of y.orders ≡ true) ⊎ (y ≡ x₀)
-granted-or-not {x₀ = x₀} {x} {y} {j} q was = go (eqb (number_of j.reply) 0) refl
+granted-or-not {x₀ = x₀} {x} {y} {j} q was = go (eqb (outcome_number j) 0) refl
   where
-    go : (b : Bool) → eqb (number_of j.reply) 0 ≡ b → (sound_of y.orders ≡ true) ⊎ (y ≡ x₀)
+    go : (b : Bool) → eqb (outcome_number j) 0 ≡ b → (sound_of y.orders ≡ true) ⊎ (y ≡ x₀)
     go true e = inl (q.settles (eqb-true _ _ e))
     go false e = rw (q.kept (eqb-false _ _ e)) was
 
-pub still-sound : {bytes : Bytes} {x y : Buffers} {j : Judged} → Requested bytes x y j → sound_of x.orders ≡ true → sound_of y.orders ≡ true
+pub still-sound : {bytes : Bytes} {x y : Buffers} {j : Outcome} → Requested bytes x y j → sound_of x.orders ≡ true → sound_of y.orders ≡ true
 still-sound q s = stays-sound (within q) s
 
-pub turned : {n : ℕ} {bytes : Bytes} {x₀ x y : Buffers} {i at k : ℕ} {out₀ out : Bytes} {j : Judged} {v : ℕ}
-    → Left n bytes x₀ x i at out₀ out → k ≡ 16 → Requested (take k (drop at bytes)) x y j → v ≡ number_of j.reply → i < n → i < length out
+pub turned : {n : ℕ} {bytes : Bytes} {x₀ x y : Buffers} {i at k : ℕ} {out₀ out : Bytes} {j : Outcome} {v : ℕ}
+    → Left n bytes x₀ x i at out₀ out → k ≡ 16 → Requested (take k (drop at bytes)) x y j → v ≡ outcome_number j → i < n → i < length out
     → Left n bytes x₀ y (i + 1) (at + 16) out₀ (set out i v)
 turned {n} {bytes} {x₀} {x} {y} {i} {at} {k} {out₀} {out} {j} {v} l k16 q e m h =
     let z : n - i - 1 ≡ n - (i + 1) = omega arith in
@@ -121,7 +120,7 @@ turned {n} {bytes} {x₀} {x} {y} {i} {at} {k} {out₀} {out} {j} {v} l k16 q e 
       fits = fit-kept q.lengths ∙ f;
       still = λ all.
           let s = l.still all in
-          let t : Every NotGranted (number_of j.reply ∷ replies_of (placed_run (tables_of y) (whole_from (n - i - 1) (drop (at + 16) bytes)))) = rw a at s.0 in
+          let t : Every NotGranted (outcome_number j ∷ replies_of (placed_run (tables_of y) (whole_from (n - i - 1) (drop (at + 16) bytes)))) = rw a at s.0 in
           (rw (← z) t.1, q.kept t.0 ∙ s.1);
       settles = granted-or-not q l.settles;
     }

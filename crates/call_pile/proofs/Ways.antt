@@ -14,8 +14,7 @@ use Rattle.paper_lower.specs.Checks.{first}
 use Rattle.paper_lower.specs.Records.{Bytes}
 use Rattle.paper_upper.specs.Orders.{Engine}
 use Rattle.paper_upper.specs.Engine.{request, placed_run}
-use Rattle.replies.specs.Replies.{number_of}
-use Rattle.replies.specs.declared.Reply.{Reply}
+use Rattle.replies.specs.Replies.{Reply, number_of}
 use Rattle.replies.proofs.ReplyLaws.{is_zero, not-zero}
 use Rattle.engine.specs.Buffers.{Buffers, tables_of, fit}
 use Rattle.paper_lower.proofs.ListLaws.{both}

@@ -11,9 +11,8 @@ ghost use Rattle.engine.specs.Answers.{Requested};
 ghost use Rattle.call_pile.specs.Pile.{pile_checks};
 ghost use Rattle.call_pile.specs.Promises.{PileDone, Answers};
 
-use engine::UNTOLD;
-use order_rules::{Judged, plain};
-use replies::Reply;
+use order_links::ORDERS_WORDS;
+use replies::{Outcome, Refusal, Reply};
 
 // The largest number of records in one call.
 pub const MOST: usize = 4096;
@@ -25,14 +24,13 @@ fn ask(
     policy: &mut [u64],
     sessions: &mut [u64],
     orders: &mut [u64],
-) -> Judged
+) -> Outcome
     requires { sound ≡ true → sound_of orders.old ≡ true }
     ensures { Requested bytes.now (buffers policy.old sessions.old orders.old) (buffers policy.new sessions.new orders.new) result }
 {
     if sound {
-        let r = engine::quick(bytes, policy, sessions, orders);
-        if replies::number(r) != UNTOLD {
-            return plain(r);
+        if let Some(reply) = engine::quick(bytes, policy, sessions, orders) {
+            return replies::plain(reply);
         }
         return engine::settled_request(bytes, policy, sessions, orders);
     }
@@ -53,14 +51,11 @@ fn answer_all(
     ensures { Answers n bytes.now (buffers policy.old sessions.old orders.old) (buffers policy.new sessions.new orders.new) out.old out.new }
 {
     let mut at = 0;
-    let mut i = 0;
-    while i < n {
+    for i in 0..n {
         let end = at + 16;
-        let j = ask(&bytes[at..end], sound, policy, sessions, orders);
-        let r = j.reply;
-        out[i] = replies::number(r) as u8;
+        let outcome = ask(&bytes[at..end], sound, policy, sessions, orders);
+        out[i] = replies::number(replies::reply(outcome)) as u8;
         at = end;
-        i += 1;
     }
 }
 
@@ -76,22 +71,22 @@ fn judge(
     ensures { number_of result ≡ first (pile_checks (fit (buffers policy.now sessions.now orders.now)) bytes.now answers.now at) }
 {
     if !engine::fit(policy.len(), sessions.len(), orders.len()) {
-        return Reply::Room;
+        return Err(Refusal::Room);
     }
     if answers.len() < at {
-        return Reply::Room;
+        return Err(Refusal::Room);
     }
     let n = bytes.len() / 16;
     if answers.len() - at < n {
-        return Reply::Room;
+        return Err(Refusal::Room);
     }
     if MOST < n {
-        return Reply::Room;
+        return Err(Refusal::Room);
     }
     if bytes.len() % 16 != 0 {
-        return Reply::Shape;
+        return Err(Refusal::Shape);
     }
-    Reply::Granted
+    Ok(())
 }
 
 // Performs the records of `bytes` as requests, and writes their replies into `answers` from index `at` on.
@@ -105,11 +100,11 @@ pub fn pile(
 ) -> Reply
     ensures { PileDone bytes.now answers.old at answers.new (buffers policy.old sessions.old orders.old) (buffers policy.new sessions.new orders.new) (number_of result) }
 {
-    let r = judge(bytes, answers, at, policy, sessions, orders);
-    if !replies::accepted(r) {
-        return r;
-    }
-    let sound = order_links::is_sound(orders);
+    judge(bytes, answers, at, policy, sessions, orders)?;
+    let sound = match orders.as_array::<ORDERS_WORDS>() {
+        Some(o) => order_links::is_sound(o),
+        None => false,
+    };
     answer_all(
         bytes,
         bytes.len() / 16,
@@ -119,7 +114,7 @@ pub fn pile(
         sessions,
         orders,
     );
-    Reply::Granted
+    Ok(())
 }
 
 // `pile` for C and Rust: the reply's number.

@@ -17,9 +17,8 @@ use Rattle.paper_upper.specs.Stuck.{stuck_of}
 use Rattle.paper_upper.specs.Requests.{stuck_checks, upper_kinds}
 use Rattle.paper_upper.specs.Questions.{figures_of, figure_words, answer_words, padded, question_numbers, asks, answered, answer_to}
 use Rattle.paper_upper.specs.Engine.{request_kinds, request}
-use Rattle.replies.specs.Replies.{number_of}
-use Rattle.replies.specs.declared.Reply.{Reply}
-use Rattle.replies.specs.declared.Reply.TheVariants.{Unknown}
+use Rattle.replies.specs.Replies.{Reply, number_of}
+use Rattle.replies.specs.declared.Refusal.TheVariants.{Unknown}
 use Rattle.replies.proofs.ReplyLaws.{is_zero, not-zero}
 use Rattle.replies.proofs.DoneLaws.{granted-old}
 use Rattle.records.specs.Reading.{paper_of, Decoded}

@@ -8,13 +8,11 @@ use Rattle.paper_upper.specs.Stuck.{stuck_of}
 use Rattle.paper_upper.specs.Requests.{figures_checks, stuck_checks}
 use Rattle.paper_upper.specs.Questions.{figures_of, figure_words, answer_words, padded, asks, answer_to}
 use Rattle.paper_upper.specs.Engine.{request_kinds}
-use Rattle.replies.specs.Replies.{number_of}
-use Rattle.replies.specs.declared.Reply.{Reply}
+use Rattle.replies.specs.Replies.{Reply, number_of, Outcome, outcome_number, outcome_place}
 use Rattle.records.specs.Reading.{paper_of}
 use Rattle.records.specs.declared.Record.{Record}
 use Rattle.policy.specs.Reading.{policy_of}
 use Rattle.order_entries.specs.Reading.{orders_of}
-use Rattle.order_rules.specs.declared.Judged.{Judged}
 use Rattle.order_requests.specs.Tables.{engine_tables}
 use Rattle.engine.specs.Buffers.{Buffers, tables_of, fit}
 use Rattle.engine.specs.Answers.{Requested}
@@ -45,8 +43,8 @@ pub record Answered (p o : List ℕ) (r : Record) (answer answer' : List ℕ) (r
 -- The reply is the one that the request gives to the same record.
 abbrev pub AsRequested : Type 0
 AsRequested =
-    (bytes : Bytes) (answer answer' : List ℕ) (x x' : Buffers) (number : ℕ) (j : Judged) → asks (decode bytes).kind ≡ true → length answer ≡ answer_words
-    → Questioned bytes answer answer' x number → Requested bytes x x' j → number ≡ number_of j.reply
+    (bytes : Bytes) (answer answer' : List ℕ) (x x' : Buffers) (number : ℕ) (j : Outcome) → asks (decode bytes).kind ≡ true → length answer ≡ answer_words
+    → Questioned bytes answer answer' x number → Requested bytes x x' j → number ≡ outcome_number j
 
 -- If granted, every word of the answer is the defined one.
 abbrev pub AnswersAsDefined : Type 0

@@ -14,8 +14,10 @@ ghost use Rattle.engine.specs.Buffers.{buffers, fit};
 ghost use Rattle.call_question.specs.Question.{question_checks};
 ghost use Rattle.call_question.specs.Promises.{FiguresAnswered, StuckAnswered, Answered, Questioned};
 
+use order_links::{ORDERS_WORDS, OrdersBuffer};
+use policy::{POLICY_WORDS, PolicyBuffer};
 use records::{Call, Record};
-use replies::{Reply, accepted};
+use replies::{Refusal, Reply};
 
 // The length of an answer, which mishantral_words(3) tells.
 pub const ANSWER_WORDS: usize = 66;
@@ -32,17 +34,17 @@ fn judge(bytes: &[u8], answer: &[u64], policy: &[u64], sessions: &[u64], orders:
     ensures { number_of result ≡ first (question_checks (fit (buffers policy.now sessions.now orders.now)) answer.now bytes.now ++ form_checks request_forms bytes.now) }
 {
     if !engine::fit(policy.len(), sessions.len(), orders.len()) {
-        return Reply::Room;
+        return Err(Refusal::Room);
     }
     if answer.len() != ANSWER_WORDS {
-        return Reply::Room;
+        return Err(Refusal::Room);
     }
     if bytes.len() != 16 {
-        return Reply::Shape;
+        return Err(Refusal::Shape);
     }
     let r = records::decode(bytes);
     if !is_question(r.kind) {
-        return Reply::Shape;
+        return Err(Refusal::Shape);
     }
     records::judge(Call::Request, bytes)
 }
@@ -52,54 +54,46 @@ fn clear(answer: &mut [u64])
     requires { length answer.old ≡ answer_words }
     ensures { answer.new ≡ replicate answer_words 0 }
 {
-    let mut k = 0;
-    while k < ANSWER_WORDS {
+    for k in 0..ANSWER_WORDS {
         answer[k] = 0;
-        k += 1;
     }
 }
 
 // Kind 58: the number of entries of instance a, and the set of its done tasks.
-fn figures(answer: &mut [u64], o: &[u64], a: u64) -> Reply
+fn figures(answer: &mut [u64], o: &OrdersBuffer, a: u64) -> Reply
     requires { (length answer.old ≡ answer_words) × (Ready o.now × (a < 64)) }
     ensures { FiguresAnswered o.now a answer.old answer.new result }
 {
-    let r = order_requests::figures_reply(o, a);
-    if !accepted(r) {
-        return r;
-    }
+    order_requests::figures_reply(o, a)?;
     let f = order_entries::figures_of(o, a);
     let done = f.done;
     clear(answer);
     answer[0] = f.entries;
     answer[1] = done.bits;
-    r
+    Ok(())
 }
 
 // Kind 60: the stuck tasks of template a, and the list of its free tasks.
-fn stuck_tasks(answer: &mut [u64], p: &[u64], a: u64) -> Reply
-    requires { (length answer.old ≡ answer_words) × ((length p.now ≡ policy_words) × (a < 16)) }
+fn stuck_tasks(answer: &mut [u64], p: &PolicyBuffer, a: u64) -> Reply
+    requires { (length answer.old ≡ answer_words) × (a < 16) }
     ensures { StuckAnswered p.now a answer.old answer.new result }
 {
-    let r = order_stuck::judge(p, a);
-    if !accepted(r) {
-        return r;
-    }
+    order_stuck::judge(p, a)?;
     clear(answer);
     order_stuck::answer(p, a, answer);
-    r
+    Ok(())
 }
 
 // Answers a question by its kind; `judge` has refused all other kinds before.
-fn answer_to(r: Record, answer: &mut [u64], p: &[u64], o: &[u64]) -> Reply
-    requires { ((length answer.old ≡ answer_words) × ((length p.now ≡ policy_words) × Ready o.now)) × (Limits request_forms r × (asks r.kind ≡ true)) }
+fn answer_to(r: Record, answer: &mut [u64], p: &PolicyBuffer, o: &OrdersBuffer) -> Reply
+    requires { (length answer.old ≡ answer_words) × ((Ready o.now) × ((Limits request_forms r) × (asks r.kind ≡ true))) }
     ensures { Answered p.now o.now r answer.old answer.new result }
 {
     let kind = r.kind;
     match kind {
         58 => figures(answer, o, r.a),
         60 => stuck_tasks(answer, p, r.a),
-        _ => Reply::Shape,
+        _ => Err(Refusal::Shape),
     }
 }
 
@@ -113,15 +107,17 @@ pub fn question(
 ) -> Reply
     ensures { Questioned bytes.now answer.old answer.new (buffers policy.now sessions.now orders.now) (number_of result) }
 {
-    let r = judge(bytes, answer, policy, sessions, orders);
-    if !accepted(r) {
-        return r;
+    judge(bytes, answer, policy, sessions, orders)?;
+    let (Some(p), Some(o)) = (
+        policy.as_array::<POLICY_WORDS>(),
+        orders.as_array::<ORDERS_WORDS>(),
+    ) else {
+        return Err(Refusal::Room);
+    };
+    if !order_links::is_sound(o) {
+        return Err(Refusal::Unknown);
     }
-    let d = records::decode(bytes);
-    if !order_links::is_sound(orders) {
-        return Reply::Unknown;
-    }
-    answer_to(d, answer, policy, orders)
+    answer_to(records::decode(bytes), answer, p, o)
 }
 
 // `question` for C and Rust: the reply's number.

@@ -5,16 +5,13 @@
 ghost use Rattle.engine.specs.Buffers.{buffers};
 ghost use Rattle.engine.specs.Settling.{SettledExported};
 
-use engine::UNTOLD;
-
 // Performs any request. Two details of the source keep this a separate function in the compiled code, reached by one jump, so that a check does not need its
 // stack frame: it has two callers, and it passes the bytes on as `&*bytes` (DECISIONS D166).
 fn general(bytes: &[u8], policy: &mut [u64], sessions: &mut [u64], orders: &mut [u64]) -> u64
     ensures { SettledExported bytes.now (buffers policy.old sessions.old orders.old) (buffers policy.new sessions.new orders.new) result }
 {
-    let r = engine::settled_request(&*bytes, policy, sessions, orders);
-    let reply = r.reply;
-    replies::number(reply) + 256 * r.place
+    let outcome = engine::settled_request(&*bytes, policy, sessions, orders);
+    replies::number(replies::reply(outcome)) + 256 * replies::place(outcome)
 }
 
 // Performs one request without checking the links; it requires nothing of its caller. On sound links, which mishantral_settle and a load leave and this call
@@ -32,10 +29,8 @@ pub extern "C" fn mishantral_settled_request(
     if !records::is_check(bytes) {
         return general(bytes, policy, sessions, orders);
     }
-    let r = engine::quick(bytes, policy, sessions, orders);
-    let n = replies::number(r);
-    if n == UNTOLD {
-        return general(bytes, policy, sessions, orders);
+    match engine::quick(bytes, policy, sessions, orders) {
+        Some(reply) => replies::number(reply),
+        None => general(bytes, policy, sessions, orders),
     }
-    n
 }

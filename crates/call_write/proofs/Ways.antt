@@ -9,7 +9,7 @@ use Rattle.paper_lower.specs.Records.{Bytes}
 use Rattle.paper_lower.specs.Tables.{no_policy}
 use Rattle.paper_lower.specs.Sessions.{lower_of}
 use Rattle.paper_upper.specs.Engine.{engine_of}
-use Rattle.replies.specs.declared.Reply.TheVariants.{Granted, Room}
+use Rattle.replies.specs.declared.Refusal.TheVariants.{Granted, Room}
 use Rattle.policy.specs.Layout.{policy_words}
 use Rattle.policy.specs.Reading.{policy_of}
 use Rattle.order_links.specs.Chains.{sound_of}

@@ -5,10 +5,8 @@ use Rattle.paper_lower.specs.Records.{Bytes}
 use Rattle.paper_lower.specs.Tables.{Policy}
 use Rattle.paper_lower.specs.Written.{written}
 use Rattle.paper_upper.specs.Orders.{SameTables}
-use Rattle.replies.specs.Replies.{number_of}
 use Rattle.policy_writing.specs.Laying.{far}
-use Rattle.policy_writing.specs.Answers.{answer, records_of, write_of, Exported}
-use Rattle.policy_writing.specs.declared.Written.{Written}
+use Rattle.policy_writing.specs.Answers.{Written, written_number, written_records, answer, records_of, write_of, Exported}
 use Rattle.engine.specs.Buffers.{Buffers, tables_of, fit}
 
 -- The policy tables that the buffers read as.
@@ -17,8 +15,8 @@ policy_in x = (tables_of x).lower.policy
 
 -- The contract of `write`: reply, number of records and output are those of `write_of`; the number of records is small enough for the exported number.
 pub record WroteOut (x : Buffers) (output output' : Bytes) (w : Written) : Type 0 where
-  pub answers : answer (number_of w.reply) w.records output' ≡ write_of (fit x) (policy_in x) output
-  pub few : w.records ≤ far
+  pub answers : answer (written_number w) (written_records w) output' ≡ write_of (fit x) (policy_in x) output
+  pub few : written_records w ≤ far
 
 -- The contract of `mishantral_write`.
 abbrev pub WriteExported : Buffers → Bytes → Bytes → ℕ → Type 0
@@ -26,7 +24,7 @@ WriteExported x output output' number = Exported (fit x) (policy_in x) output ou
 
 -- The policy of x was written by either function, with this reply and this number of records. The exported number is the reply + 256 times the records.
 pub data WrittenBy (x : Buffers) (output output' : Bytes) : ℕ → ℕ → Type 0 where
-  within : {w : Written} → WroteOut x output output' w → WrittenBy x output output' (number_of w.reply) w.records
+  within : {w : Written} → WroteOut x output output' w → WrittenBy x output output' (written_number w) (written_records w)
   exported : {n : ℕ} → WriteExported x output output' n → WrittenBy x output output' (n % 256) (n / 256)
 
 -- ---- What follows.

@@ -4,24 +4,26 @@
 ghost use Rattle.engine.specs.Buffers.{buffers};
 ghost use Rattle.call_write.specs.Promises.{WroteOut, WriteExported};
 
-use policy_writing::Written;
-use replies::Reply;
+use order_links::ORDERS_WORDS;
+use replies::Refusal;
 
 // Writes the policy to the front of `output`. Links that are not sound read as the empty engine, which has no record to write.
-pub fn write(output: &mut [u8], policy: &[u64], sessions: &[u64], orders: &[u64]) -> Written
+pub fn write(
+    output: &mut [u8],
+    policy: &[u64],
+    sessions: &[u64],
+    orders: &[u64],
+) -> Result<usize, Refusal>
     ensures { WroteOut (buffers policy.now sessions.now orders.now) output.old output.new result }
 {
     if !engine::fit(policy.len(), sessions.len(), orders.len()) {
-        return Written {
-            reply: Reply::Room,
-            records: 0,
-        };
+        return Err(Refusal::Room);
     }
-    if !order_links::is_sound(orders) {
-        return Written {
-            reply: Reply::Granted,
-            records: 0,
-        };
+    let Some(o) = orders.as_array::<ORDERS_WORDS>() else {
+        return Err(Refusal::Room);
+    };
+    if !order_links::is_sound(o) {
+        return Ok(0);
     }
     policy_writing::write(output, policy)
 }
@@ -36,7 +38,5 @@ pub extern "C" fn mishantral_write(
 ) -> u64
     ensures { WriteExported (buffers policy.now sessions.now orders.now) output.old output.new result }
 {
-    let x = write(output, policy, sessions, orders);
-    let reply = x.reply;
-    replies::number(reply) + 256 * x.records as u64
+    policy_writing::packed(write(output, policy, sessions, orders))
 }

@@ -13,8 +13,7 @@ use Rattle.paper_lower.specs.Kinds.{Answer, Said, after}
 use Rattle.paper_lower.specs.Load.{load}
 use Rattle.paper_upper.specs.Orders.{Engine, SameTables}
 use Rattle.paper_upper.specs.Engine.{request, place_to, Placed, placed_run, engine_of}
-use Rattle.order_rules.specs.declared.Judged.{Judged}
-use Rattle.replies.specs.Replies.{number_of}
+use Rattle.replies.specs.Replies.{number_of, Outcome, outcome_number, outcome_place}
 use Rattle.order_links.specs.Chains.{sound_of}
 use Rattle.engine.specs.Buffers.{Buffers, tables_of, fit, SameLengths}
 use Rattle.engine.specs.Answers.{CallAnswer, request_answer, Requested, load_answer}
@@ -60,7 +59,7 @@ pub record Answered (bytes : Bytes) (x y : Buffers) (reply place : ℕ) : Type 0
   pub kept : (reply ≡ 0 → ⊥) → y ≡ x
   pub settles : reply ≡ 0 → sound_of y.orders ≡ true
 
-from-call : {bytes : Bytes} {x y : Buffers} {j : Judged} → Requested bytes x y j → Answered bytes x y (number_of j.reply) j.place
+from-call : {bytes : Bytes} {x y : Buffers} {j : Outcome} → Requested bytes x y j → Answered bytes x y (outcome_number j) (outcome_place j)
 from-call d = record { replies = d.replies; places = d.places; tables = d.tables; lengths = d.lengths; kept = d.kept; settles = d.settles }
 
 from-number : {bytes : Bytes} {x y : Buffers} (n : ℕ) → RequestExported bytes x y n → Answered bytes x y (n % 256) (n / 256)

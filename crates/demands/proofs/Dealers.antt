@@ -14,7 +14,7 @@ use Rattle.paper_lower.specs.Policy.{user_checks, user_next}
 use Rattle.paper_lower.specs.Words.{add_user, join}
 use Rattle.paper_lower.specs.Load.{Loaded, load, records_of}
 use Rattle.paper_lower.specs.Sessions.{lower_request, lower_of}
-use Rattle.replies.specs.declared.Reply.{Reply}
+use Rattle.replies.specs.Replies.{Reply}
 use Rattle.lower.specs.Answers as lower
 use Rattle.lower.specs.Exports as exports
 use Rattle.lower.proofs.Ways.{request-exported, load-exported}

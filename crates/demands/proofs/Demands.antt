@@ -21,10 +21,8 @@ use Rattle.paper_lower.specs.Load.{Loaded, load, records_of}
 use Rattle.paper_lower.specs.Sessions.{lower_of}
 use Rattle.paper_upper.specs.Orders.{Entry, Engine, SameTables, with_lower, are_in_order, of_order}
 use Rattle.paper_upper.specs.Engine.{request_kinds, request, place_to, Placed, placed_run, engine_of}
-use Rattle.replies.specs.Replies.{number_of}
-use Rattle.replies.specs.declared.Reply.{Reply}
-use Rattle.replies.specs.declared.Reply.TheVariants.{Granted, Room, Shape, Range, Unknown, Taken, InUse, Rule, NotAssigned, Static, Dynamic, NoRole, NotYours, Denied, Before, Separation, Block, Alone, Bound, Count, Full, Loop, Wall}
-use Rattle.order_rules.specs.declared.Judged.{Judged}
+use Rattle.replies.specs.Replies.{Reply, number_of, Outcome, outcome_number, outcome_place}
+use Rattle.replies.specs.declared.Refusal.TheVariants.{Granted, Room, Shape, Range, Unknown, Taken, InUse, Rule, NotAssigned, Static, Dynamic, NoRole, NotYours, Denied, Before, Separation, Block, Alone, Bound, Count, Full, Loop, Wall}
 use Rattle.replies.proofs.ReplyLaws.{one-reply}
 use Rattle.lower.specs.Exports.{inside_one}
 use Rattle.order_links.specs.Chains.{entries_in, sound_of}
@@ -123,7 +121,7 @@ listed-reply Full = refl
 listed-reply Loop = refl
 listed-reply Wall = refl
 
-unlooked : {bytes : Bytes} {x y : Buffers} {j : Judged} → SettledRequest bytes x y j → Unlooked x y (number_of j.reply) j.place
+unlooked : {bytes : Bytes} {x y : Buffers} {j : Outcome} → SettledRequest bytes x y j → Unlooked x y (outcome_number j) (outcome_place j)
 unlooked {j = j} d =
     record {
       answers = listed-reply j.reply;

@@ -7,9 +7,7 @@ use Rattle.paper_lower.specs.Records.{Bytes}
 use Rattle.paper_lower.specs.Kinds.{Said, after}
 use Rattle.paper_upper.specs.Orders.{SameTables}
 use Rattle.paper_upper.specs.Engine.{request, Placed, placed_run}
-use Rattle.replies.specs.Replies.{number_of}
-use Rattle.replies.specs.declared.Reply.{Reply}
-use Rattle.order_rules.specs.declared.Judged.{Judged}
+use Rattle.replies.specs.Replies.{Reply, number_of, Outcome, outcome_number, outcome_place}
 use Rattle.order_links.specs.Chains.{sound_of}
 use Rattle.engine.specs.Buffers.{Buffers, tables_of, fit, SameLengths}
 use Rattle.engine.specs.Answers.{Requested, LoadDone}
@@ -20,9 +18,9 @@ use Rattle.engine.specs.Exports.{RequestExported, LoadExported}
 -- the reply plus 256 times the place. The functions that do not check the links count as requests only on sound links; what they promise on other contents is
 -- part of demand 1.
 pub data Request (bytes : Bytes) (x y : Buffers) : ℕ → ℕ → Type 0 where
-  within : {j : Judged} → Requested bytes x y j → Request bytes x y (number_of j.reply) j.place
+  within : {j : Outcome} → Requested bytes x y j → Request bytes x y (outcome_number j) (outcome_place j)
   exported : {n : ℕ} → RequestExported bytes x y n → Request bytes x y (n % 256) (n / 256)
-  settled : {j : Judged} → sound_of x.orders ≡ true → SettledRequest bytes x y j → Request bytes x y (number_of j.reply) j.place
+  settled : {j : Outcome} → sound_of x.orders ≡ true → SettledRequest bytes x y j → Request bytes x y (outcome_number j) (outcome_place j)
   settled-exported : {n : ℕ} → sound_of x.orders ≡ true → SettledExported bytes x y n → Request bytes x y (n % 256) (n / 256)
 
 -- A load by either function.

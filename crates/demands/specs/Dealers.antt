@@ -11,8 +11,7 @@ use Rattle.paper_lower.specs.Sessions.{lower_request, lower_of}
 use Rattle.paper_lower.specs.Tables.{Lower, with_policy}
 use Rattle.paper_lower.specs.Policy.{user_checks, user_next, block_of}
 use Rattle.paper_lower.specs.Words.{add_user, join}
-use Rattle.replies.specs.Replies.{number_of}
-use Rattle.replies.specs.declared.Reply.{Reply}
+use Rattle.replies.specs.Replies.{Reply, number_of}
 use Rattle.sessions.specs.Lower.{lower_tables}
 use Rattle.lower.specs.Answers as lower
 use Rattle.lower.specs.Exports as exports

@@ -13,10 +13,8 @@ use Rattle.paper_lower.specs.Words.{add_user, join}
 use Rattle.paper_lower.specs.Load.{load, records_of}
 use Rattle.paper_upper.specs.Orders.{SameTables, with_lower}
 use Rattle.paper_upper.specs.Engine.{request_kinds, request, place_to, Placed, engine_of}
-use Rattle.replies.specs.Replies.{number_of}
-use Rattle.replies.specs.declared.Reply.{Reply}
+use Rattle.replies.specs.Replies.{Reply, number_of, Outcome, outcome_number, outcome_place}
 use Rattle.lower.specs.Exports.{inside_one}
-use Rattle.order_rules.specs.declared.Judged.{Judged}
 use Rattle.order_links.specs.Chains.{entries_in, sound_of}
 use Rattle.engine.specs.Buffers.{Buffers, tables_of, fit, SameLengths}
 use Rattle.engine.specs.Answers.{LoadDone, Zeros}
@@ -66,7 +64,7 @@ pub record DemandOne : Type 0 where
   pub misfit-place : {bytes : Bytes} {x y : Buffers} {r : Reply} {place : ℕ} → fit x ≡ false → LoadDone bytes x y r place → place ≡ 0
   pub misfit-number : {bytes : Bytes} {x y : Buffers} {number : ℕ} → fit x ≡ false → LoadExported bytes x y number → number ≡ inside_one ROOM 0
   -- The settled request on any content, whether its links are sound or not.
-  pub settled-request : {bytes : Bytes} {x y : Buffers} {j : Judged} → SettledRequest bytes x y j → Unlooked x y (number_of j.reply) j.place
+  pub settled-request : {bytes : Bytes} {x y : Buffers} {j : Outcome} → SettledRequest bytes x y j → Unlooked x y (outcome_number j) (outcome_place j)
   pub settled-number : {bytes : Bytes} {x y : Buffers} {n : ℕ} → SettledExported bytes x y n → Unlooked x y (n % 256) (n / 256)
 
 -- ---- 02, Ask 9: "The links never cross, never loop and reach every entry once." Sound links have these properties, and each call that changes the state

@@ -2,8 +2,7 @@
 -- theorems/specs/Records. "A load .. gives the record's place, counted from 1".
 use Rattle.std.specs.Prelude.{ℕ, true, List, ◌≡◌}
 use Rattle.paper_lower.specs.Records.{Bytes}
-use Rattle.replies.specs.Replies.{number_of}
-use Rattle.replies.specs.declared.Reply.{Reply}
+use Rattle.replies.specs.Replies.{Reply, number_of}
 use Rattle.lower.specs.Answers as lower
 use Rattle.lower.specs.Exports as exports
 use Rattle.engine.specs.Buffers.{Buffers, fit}

@@ -1,4 +1,5 @@
 -- What the empty engine answers: it grants kind 32, a new user, when the record names no roles. To every other request its reply is UNKNOWN.
+use Rattle.replies.specs.Replies.{Outcome, outcome_number, outcome_place}
 use Prim.Native.Nat.{ℕ, zero, suc}
 use mathlib.Core.Bool.{Bool, true, false, not, cond, ◌||◌, false≢true}
 use mathlib.Core.List.{List, [], ◌∷◌}
@@ -30,8 +31,7 @@ use Rattle.order_requests.specs.Tables.{engine_tables}
 use Rattle.order_links.specs.Chains.{sound_of}
 use Rattle.records.specs.Reading.{paper_of}
 use Rattle.records.specs.declared.Record.{Record as Decoded}
-use Rattle.order_rules.specs.declared.Judged.{Judged}
-use Rattle.replies.specs.declared.Reply.TheVariants.{Unknown}
+use Rattle.replies.specs.declared.Refusal.TheVariants.{Unknown}
 use Rattle.engine.specs.Buffers.{Buffers, product_of, no_engine, tables_of}
 use Rattle.engine.specs.Step.{StepOf, SoundStep, SettlingStep}
 use Rattle.engine.proofs.Lifts.{alike}
@@ -115,7 +115,7 @@ all-unknown r t h = go (eqb r.kind 32) refl
         (λ e. false≢true (sym q ∙ ap (λ (n : ℕ). eqb n 32) e))
 
 -- ---- A step on links that are not sound, which read as the empty engine.
-pub unknown-step : (r : Decoded) (x : Buffers) {j : Judged} → j ≡ record { reply = Unknown; place = 0 } → sound_of x.orders ≡ false
+pub unknown-step : (r : Decoded) (x : Buffers) {j : Outcome} → j ≡ record { reply = Unknown; place = 0 } → sound_of x.orders ≡ false
     → first ((chosen request_kinds r.kind).checks no_engine (paper_of r)) ≡ UNKNOWN → SettlingStep no_engine r x x j
 unknown-step r x is broken e =
     rw is (
@@ -123,18 +123,18 @@ unknown-step r x is broken e =
       λ z. let n : ⊥ = omega arith in absurd n,
     )
 
-pub joined_step : (r : Decoded) (x z x' : Buffers) {j : Judged} → product_of z ≡ no_engine → sound_of x'.orders ≡ true
+pub joined_step : (r : Decoded) (x z x' : Buffers) {j : Outcome} → product_of z ≡ no_engine → sound_of x'.orders ≡ true
     → first ((chosen request_kinds r.kind).checks no_engine (paper_of r)) ≡ 0 → StepOf (product_of z) (product_of x') r z x' j → SettlingStep no_engine r x x' j
 joined_step r x z x' {j} e s zero-reply d₀ =
     let d : StepOf no_engine (product_of x') r z x' j = subst (λ (t : Engine). StepOf t (product_of x') r z x' j) e d₀ in
     (record { replies = d.replies; places = d.places; tables = rw (tables-sound x' s) d.tables; kept = λ h. absurd (h (d.replies ∙ zero-reply)) }, λ _. s)
 
 -- ---- A step on any content.
-pub broken-step : (r : Decoded) (x x' : Buffers) {j : Judged} → sound_of x.orders ≡ false → SettlingStep no_engine r x x' j →
+pub broken-step : (r : Decoded) (x x' : Buffers) {j : Outcome} → sound_of x.orders ≡ false → SettlingStep no_engine r x x' j →
     SettlingStep (tables_of x) r x x' j
 broken-step r x x' {j} b d = subst (λ (t : Engine). SettlingStep t r x x' j) (sym (tables-broken x b)) d
 
-pub sound-step : (r : Decoded) (x x' : Buffers) {j : Judged} → sound_of x.orders ≡ true → SoundStep r x x' j → StepOf (tables_of x) (tables_of x') r x x' j
+pub sound-step : (r : Decoded) (x x' : Buffers) {j : Outcome} → sound_of x.orders ≡ true → SoundStep r x x' j → StepOf (tables_of x) (tables_of x') r x x' j
 sound-step r x x' {j} b d =
     subst (λ (t : Engine). StepOf t (tables_of x') r x x' j) (sym (tables-sound x b))
     (subst (λ (u : Engine). StepOf (product_of x) u r x x' j) (sym (tables-sound x' d.1)) d.0)

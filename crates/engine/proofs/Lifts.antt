@@ -7,15 +7,13 @@ use Rattle.paper_lower.specs.Checks.{first, granted}
 use Rattle.paper_lower.specs.Tables.{Lower}
 use Rattle.paper_upper.specs.Orders.{Engine, SameTables, with_lower}
 use Rattle.paper_upper.specs.Requests.{claim_checks, claim_place, claim_next}
-use Rattle.replies.specs.Replies.{number_of}
+use Rattle.replies.specs.Replies.{Reply, number_of, Outcome, outcome_number, outcome_place}
 use Rattle.replies.specs.Done.{Done}
-use Rattle.replies.specs.declared.Reply.{Reply}
 use Rattle.sessions.specs.Lower.{lower_tables}
 use Rattle.sessions.specs.Both.{Both}
 use Rattle.order_entries.specs.Reading.{orders_of}
 use Rattle.paper_upper.proofs.OrderedLaws.{tables-refl}
 use Rattle.lower.specs.Stepped.{Stepped}
-use Rattle.order_rules.specs.declared.Judged.{Judged}
 use Rattle.order_rules.proofs.PlaceLaws.{plain-place}
 use Rattle.records.specs.declared.Record.{Record}
 use Rattle.order_links.specs.Chains.{sound_of}
@@ -25,16 +23,16 @@ use Rattle.engine.specs.Buffers.{Buffers, buffers}
 use Rattle.engine.specs.Step.{Step, SoundStep, AnyStep}
 
 -- A reply that is about no rule has place 0. With it, a step on sound links is a step on any content.
-pub any_step : {x x' : Buffers} {d : Record} {r : Reply} {j : Judged} → j ≡ record { reply = r; place = 0 } → ((number_of r ≡ 0 → ⊥) → x' ≡ x)
+pub any_step : {x x' : Buffers} {d : Record} {r : Reply} {j : Outcome} → j ≡ record { reply = r; place = 0 } → ((number_of r ≡ 0 → ⊥) → x' ≡ x)
     → (sound_of x.orders ≡ true → SoundStep d x x' j) → AnyStep d x x' j
 any_step is kept sound =
-    record { kept = λ n. kept (λ z. n (ap (λ (y : Judged). number_of y.reply) is ∙ z)); small = plain-place is; sound = sound }
+    record { kept = λ n. kept (λ z. n (ap (λ (y : Outcome). outcome_number y) is ∙ z)); small = plain-place is; sound = sound }
 
 pub alike : {t u : Engine} → t ≡ u → SameTables t u
 alike {t} e = subst (λ (x : Engine). SameTables t x) e (tables-refl t)
 
 -- Replies that are about no rule: their place is 0.
-module _ {p s o : List ℕ} {reply place : ℕ} {next : Engine} {r : Reply} {j : Judged} (is : j ≡ record { reply = r; place = 0 }) (none : 0 ≡ place) where
+module _ {p s o : List ℕ} {reply place : ℕ} {next : Engine} {r : Reply} {j : Outcome} (is : j ≡ record { reply = r; place = 0 }) (none : 0 ≡ place) where
   pub of-both : {p' s' : List ℕ} → Both (λ k l. engine_tables k l o) reply next p s p' s' r →
       Step (engine_tables p s o) (engine_tables p' s' o) reply place next (buffers p s o) (buffers p' s' o) j
   of-both d =
@@ -49,7 +47,7 @@ module _ {p s o : List ℕ} {reply place : ℕ} {next : Engine} {r : Reply} {j :
   of-orders d = rw is (record { replies = d.replies; places = none; tables = alike d.tables; kept = λ h. ap (λ (l : List ℕ). buffers p s l) (d.kept h) })
 
 -- A claim: its reply has the place that the rules define.
-pub of-claim : {p s o o' : List ℕ} {a b c : ℕ} {j : Judged} → Claimed p s o o' a b c j
+pub of-claim : {p s o o' : List ℕ} {a b c : ℕ} {j : Outcome} → Claimed p s o o' a b c j
     → let t = engine_tables p s o in
     Step t (engine_tables p s o') (first (claim_checks t a b c)) (claim_place t a b c (first (claim_checks t a b c))) (claim_next t a b c) (buffers p s o)
     (buffers p s o') j
@@ -60,7 +58,7 @@ same : (t : Engine) (k : ℕ) → t ≡ granted k t t
 same t zero = refl
 same t (suc k) = refl
 
-pub of_none : {t : Engine} {x : Buffers} {reply place : ℕ} {r : Reply} {j : Judged} → j ≡ record { reply = r; place = 0 } → 0 ≡ place → number_of r ≡ reply
+pub of_none : {t : Engine} {x : Buffers} {reply place : ℕ} {r : Reply} {j : Outcome} → j ≡ record { reply = r; place = 0 } → 0 ≡ place → number_of r ≡ reply
     → Step t t reply place t x x j
 of_none {t} {x} {reply} is none e = rw is (record { replies = e; places = none; tables = alike (same t reply); kept = λ h. refl })
 
@@ -70,7 +68,7 @@ raise : (o : List ℕ) (k : ℕ) (next old : Lower) {new : Lower} → new ≡ gr
 raise o zero next old e = ap (λ (x : Lower). record { lower = x; orders = orders_of o }) e
 raise o (suc k) next old e = ap (λ (x : Lower). record { lower = x; orders = orders_of o }) e
 
-pub of-lower : {p s o p' s' : List ℕ} {reply place : ℕ} {next : Lower} {r : Reply} {j : Judged} → j ≡ record { reply = r; place = 0 } → 0 ≡ place
+pub of-lower : {p s o p' s' : List ℕ} {reply place : ℕ} {next : Lower} {r : Reply} {j : Outcome} → j ≡ record { reply = r; place = 0 } → 0 ≡ place
     → Stepped reply next p s p' s' r →
     Step (engine_tables p s o) (engine_tables p' s' o) reply place (with_lower (engine_tables p s o) next) (buffers p s o) (buffers p' s' o) j
 of-lower {p} {s} {o} {p'} {s'} {reply} {next = next} is none d =

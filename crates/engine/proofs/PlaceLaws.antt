@@ -1,4 +1,5 @@
 -- The place of a reply is at most 64. It is 0 for a refusal of the form (SHAPE, RANGE), for UNKNOWN, and for every kind but a claim.
+use Rattle.replies.specs.Replies.{Outcome, outcome_number, outcome_place}
 use Prim.Native.Nat.{ℕ, ◌≤◌}
 use mathlib.Core.Bool.{Bool, true, false, not, cond, ◌||◌}
 use mathlib.Core.List.{List}
@@ -18,7 +19,6 @@ use Rattle.paper_upper.specs.Rules.{rule_place}
 use Rattle.paper_upper.specs.Requests.{claim_place}
 use Rattle.paper_upper.specs.Engine.{request, place_of, place_to, engine_of}
 use Rattle.order_rules.proofs.PlaceLaws.{either-within, rule-place-within, policy-place}
-use Rattle.order_rules.specs.declared.Judged.{Judged}
 use Rattle.order_links.specs.Chains.{sound_of}
 use Rattle.engine.specs.Buffers.{Buffers, product_of, no_engine, tables_of, fit}
 use Rattle.engine.specs.Answers.{CallAnswer, request_answer, Requested}
@@ -37,7 +37,7 @@ place-small x s = go (sound_of x.orders)
         (rule-place-within 64 no_policy.rules (omega arith) (omega arith) (omega arith) (omega arith) _ _ _ (decode s).c (request no_engine s).reply)
         (omega arith)
 
-pub requested-small : {bytes : Bytes} {x x' : Buffers} {j : Judged} → Requested bytes x x' j → j.place ≤ 64
+pub requested-small : {bytes : Bytes} {x x' : Buffers} {j : Outcome} → Requested bytes x x' j → outcome_place j ≤ 64
 unfolding request_answer
 requested-small {bytes} {x} d = rw d.places (go (fit x))
   where

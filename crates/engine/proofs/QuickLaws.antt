@@ -13,9 +13,8 @@ use Rattle.paper_lower.specs.Sessions.{check_checks, session_kinds, lower_kinds}
 use Rattle.paper_upper.specs.Orders.{Engine}
 use Rattle.paper_upper.specs.Requests.{upper_kinds}
 use Rattle.paper_upper.specs.Engine.{widened, shared_kinds, request_kinds, request, place_of}
-use Rattle.replies.specs.Replies.{number_of}
-use Rattle.replies.specs.declared.Reply.{Reply}
-use Rattle.replies.specs.declared.Reply.TheVariants.{Granted}
+use Rattle.replies.specs.Replies.{Reply, number_of}
+use Rattle.replies.specs.declared.Refusal.TheVariants.{Granted}
 use Rattle.records.specs.Reading.{paper_of, Decoded}
 use Rattle.records.specs.Calls.{settled}
 use Rattle.records.specs.Check.{is_check}

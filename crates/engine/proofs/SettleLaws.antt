@@ -5,10 +5,9 @@ use mathlib.Core.List.{List}
 use mathlib.Core.Path.{◌≡◌, refl, sym, ap, ◌∙◌}
 use native.Mathlib.Omega.{arith}
 use Rattle.paper_lower.specs.Records.{Bytes}
-use Rattle.replies.specs.Replies.{number_of}
-use Rattle.order_rules.specs.declared.Judged.{Judged}
+use Rattle.replies.specs.Replies.{number_of, Outcome, outcome_number, outcome_place}
 use Rattle.records.specs.declared.Record.{Record}
-use Rattle.replies.specs.declared.Reply.TheVariants.{Granted, Room}
+use Rattle.replies.specs.declared.Refusal.TheVariants.{Granted, Room}
 use Rattle.policy.specs.Reading.{Cleared as ClearedPolicy}
 use Rattle.sessions.specs.Reading.{Cleared as ClearedSessions}
 use Rattle.order_links.specs.Chains.{sound_of}
@@ -33,19 +32,19 @@ settled-sound x f s =
     { replies = rw f; tables = refl; lengths = same-lengths refl refl refl; settles = λ _. (l.0, (l.1.0, (l.1.1, s))); kept = λ _. refl; room = λ _. refl }
 
 -- ---- `settled_request`, which does not check the links.
-pub no-settled-room : (bytes : Bytes) (x : Buffers) {j : Judged} → j ≡ record { reply = Room; place = 0 } → fit x ≡ false → SettledRequest bytes x x j
+pub no-settled-room : (bytes : Bytes) (x : Buffers) {j : Outcome} → j ≡ record { reply = Room; place = 0 } → fit x ≡ false → SettledRequest bytes x x j
 no-settled-room bytes x {j} is h =
     let d = no_room x bytes is h in
     record {
       lengths = same-lengths refl refl refl;
-      room = λ _. (ap (λ (y : Judged). number_of y.reply) is, (ap (λ (y : Judged). y.place) is, refl));
+      room = λ _. (ap (λ (y : Outcome). outcome_number y) is, (ap (λ (y : Outcome). y.place) is, refl));
       small = rw is (omega arith);
       kept = λ _. refl;
       sound = λ s. (d, s);
     }
 
 -- A record that is refused for its form.
-pub settled-refused : (bytes : Bytes) (x : Buffers) {j : Judged} → fit x ≡ true → j.place ≤ 64 → Requested bytes x x j → SettledRequest bytes x x j
+pub settled-refused : (bytes : Bytes) (x : Buffers) {j : Outcome} → fit x ≡ true → outcome_place j ≤ 64 → Requested bytes x x j → SettledRequest bytes x x j
 settled-refused bytes x {j} h small d =
     record {
       lengths = same-lengths refl refl refl;
@@ -56,7 +55,7 @@ settled-refused bytes x {j} h small d =
     }
 
 -- Any other record: a step.
-pub settled-step : (bytes : Bytes) (x x' : Buffers) (r : Record) {j : Judged} → fit x ≡ true → SameLengths x x' → AnyStep r x x' j
+pub settled-step : (bytes : Bytes) (x x' : Buffers) (r : Record) {j : Outcome} → fit x ≡ true → SameLengths x x' → AnyStep r x x' j
     → (SoundStep r x x' j → sound_of x.orders ≡ true → Requested bytes x x' j) → SettledRequest bytes x x' j
 settled-step bytes x x' r {j} h l a d =
     record {
@@ -68,7 +67,7 @@ settled-step bytes x x' r {j} h l a d =
     }
 
 -- ---- Settled buffers stay settled, and on them a settled request meets the contract of a request.
-pub settled_on : {bytes : Bytes} {x x' : Buffers} {j : Judged} → Settling x → SettledRequest bytes x x' j → Requested bytes x x' j × Settling x'
+pub settled_on : {bytes : Bytes} {x x' : Buffers} {j : Outcome} → Settling x → SettledRequest bytes x x' j → Requested bytes x x' j × Settling x'
 settled_on s d =
     let r = d.sound s.1.1.1 in
     let l = d.lengths in

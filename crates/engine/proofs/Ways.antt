@@ -15,11 +15,9 @@ use Rattle.paper_upper.specs.Orders.{Engine, SameTables}
 use Rattle.paper_lower.specs.Load.{load}
 use Rattle.paper_lower.specs.Sessions.{lower_of}
 use Rattle.paper_upper.specs.Engine.{request, place_of, place_to, engine_of}
-use Rattle.replies.specs.Replies.{number_of}
-use Rattle.replies.specs.declared.Reply.{Reply}
-use Rattle.replies.specs.declared.Reply.TheVariants.{Room}
+use Rattle.replies.specs.Replies.{Reply, number_of, Outcome, outcome_number, outcome_place}
+use Rattle.replies.specs.declared.Refusal.TheVariants.{Room}
 use Rattle.replies.proofs.ReplyLaws.{not-zero}
-use Rattle.order_rules.specs.declared.Judged.{Judged}
 use Rattle.policy.specs.Layout.{policy_words}
 use Rattle.sessions.specs.Reading.{sessions_words}
 use Rattle.sessions.specs.Lower.{lower_tables}
@@ -60,7 +58,7 @@ module _ (x : Buffers) where
       let d = both (eqb (length x.policy) policy_words) (eqb (length x.sessions) sessions_words) e.0 in
       (eqb-true _ _ d.0, (eqb-true _ _ d.1, eqb-true _ _ e.1))
 
-  pub no_room : (bytes : Bytes) {j : Judged} → j ≡ record { reply = Room; place = 0 } → fit x ≡ false → Requested bytes x x j
+  pub no_room : (bytes : Bytes) {j : Outcome} → j ≡ record { reply = Room; place = 0 } → fit x ≡ false → Requested bytes x x j
   unfolding request_answer
   no_room bytes is f =
       rw is (record {
@@ -73,10 +71,10 @@ module _ (x : Buffers) where
       })
 
 -- A step with the reply, the place and the tables that the rules define for the bytes: the contract of `request`.
-pub answered : {bytes : Bytes} {x x' : Buffers} {r : Record} {reply : ℕ} {next : Engine} {j : Judged} → fit x ≡ true
+pub answered : {bytes : Bytes} {x x' : Buffers} {r : Record} {reply : ℕ} {next : Engine} {j : Outcome} → fit x ≡ true
     → request (tables_of x) bytes ≡ record { reply = reply; tables = granted reply next (tables_of x) }
     → r ≡ decode bytes → Step (tables_of x) (tables_of x') reply (place_of (tables_of x) r reply) next x x' j →
-    (number_of j.reply ≡ 0 → sound_of x'.orders ≡ true)
+    (outcome_number j ≡ 0 → sound_of x'.orders ≡ true)
     → SameLengths x x' → Requested bytes x x' j
 unfolding request_answer place_to
 answered {bytes} {x} {x'} {r} {reply} {next} {j} f e is d w l =
@@ -91,9 +89,9 @@ answered {bytes} {x} {x'} {r} {reply} {next} {j} f e is d w l =
     }
 
 -- A record that is refused for its form is not granted.
-pub not-granted : {r : Reply} {j : Judged} {b : Bool} {A : Type 0} → j ≡ record { reply = r; place = 0 } → b ≡ eqb (number_of r) 0 → not b ≡ true →
-    number_of j.reply ≡ 0 → A
-not-granted {r} {j} {b} is a n z = absurd (not-zero r a (not-true b n) (sym (ap (λ (y : Judged). number_of y.reply) is) ∙ z))
+pub not-granted : {r : Reply} {j : Outcome} {b : Bool} {A : Type 0} → j ≡ record { reply = r; place = 0 } → b ≡ eqb (number_of r) 0 → not b ≡ true →
+    outcome_number j ≡ 0 → A
+not-granted {r} {j} {b} is a n z = absurd (not-zero r a (not-true b n) (sym (ap (λ (y : Outcome). outcome_number y) is) ∙ z))
 
 -- ---- The load.
 pub no-load : (bytes : Bytes) (x : Buffers) → fit x ≡ false → LoadDone bytes x x Room 0
@@ -143,8 +141,8 @@ load-exported d e =
       settles = d.settles;
     }
 
-pub request-exported : {bytes : Bytes} {x x' : Buffers} {j : Judged} {number : ℕ} → Requested bytes x x' j → number ≡ number_of j.reply
-    → RequestExported bytes x x' (number + 256 * j.place)
+pub request-exported : {bytes : Bytes} {x x' : Buffers} {j : Outcome} {number : ℕ} → Requested bytes x x' j → number ≡ outcome_number j
+    → RequestExported bytes x x' (number + 256 * outcome_place j)
 request-exported d e =
     record {
       answers = rw (e, d.replies, d.places);

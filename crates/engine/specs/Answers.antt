@@ -5,9 +5,7 @@ use Rattle.paper_lower.specs.Records.{Bytes}
 use Rattle.paper_lower.specs.Load.{load}
 use Rattle.paper_upper.specs.Orders.{Engine, SameTables}
 use Rattle.paper_upper.specs.Engine.{request, place_to, engine_of}
-use Rattle.replies.specs.Replies.{number_of}
-use Rattle.replies.specs.declared.Reply.{Reply}
-use Rattle.order_rules.specs.declared.Judged.{Judged}
+use Rattle.replies.specs.Replies.{Reply, number_of, Outcome, outcome_number, outcome_place}
 use Rattle.order_links.specs.Chains.{sound_of}
 use Rattle.engine.specs.Buffers.{Buffers, tables_of, fit, SameLengths}
 
@@ -28,15 +26,15 @@ request_answer bytes x =
     (record { reply = ROOM; place = 0; tables = tables_of x })
 
 -- The contract of `request`: bytes, the buffers before and after, and the result.
-pub record Requested (bytes : Bytes) (x x' : Buffers) (j : Judged) : Type 0 where
-  pub replies : number_of j.reply ≡ (request_answer bytes x).reply
-  pub places : j.place ≡ (request_answer bytes x).place
+pub record Requested (bytes : Bytes) (x x' : Buffers) (j : Outcome) : Type 0 where
+  pub replies : outcome_number j ≡ (request_answer bytes x).reply
+  pub places : outcome_place j ≡ (request_answer bytes x).place
   pub tables : SameTables (tables_of x') (request_answer bytes x).tables
   pub lengths : SameLengths x x'
   -- "Refused requests change no byte of the state."
-  pub kept : (number_of j.reply ≡ 0 → ⊥) → x' ≡ x
+  pub kept : (outcome_number j ≡ 0 → ⊥) → x' ≡ x
   -- A granted request leaves sound links, whatever the links were before.
-  pub settles : number_of j.reply ≡ 0 → sound_of x'.orders ≡ true
+  pub settles : outcome_number j ≡ 0 → sound_of x'.orders ≡ true
 
 -- ---- The load.
 

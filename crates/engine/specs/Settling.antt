@@ -1,10 +1,8 @@
 -- The contracts for callers who own their buffers: the links are made sound once, and requests are then made without checking them again.
-use Rattle.std.specs.Prelude.{ℕ, ◌+◌, ◌*◌, ◌≤◌, true, false, cond, ◌≡◌, length}
+use Rattle.std.specs.Prelude.{ℕ, ◌+◌, ◌*◌, ◌≤◌, true, false, cond, ◌≡◌, length, Option, Some, None}
 use Rattle.paper_lower.specs.Checks.{ROOM}
 use Rattle.paper_lower.specs.Records.{Bytes}
-use Rattle.replies.specs.Replies.{number_of}
-use Rattle.replies.specs.declared.Reply.{Reply}
-use Rattle.order_rules.specs.declared.Judged.{Judged}
+use Rattle.replies.specs.Replies.{Reply, number_of, Outcome, outcome_number, outcome_place, plain}
 use Rattle.policy.specs.Layout.{policy_words}
 use Rattle.sessions.specs.Reading.{sessions_words}
 use Rattle.order_links.specs.Chains.{sound_of}
@@ -32,21 +30,18 @@ Settled x x' r = SettledAs x x' (number_of r)
 
 -- ---- A request that does not check the links, on any content. If a length is wrong: ROOM, and nothing is written. A place is at most 64, and a refusal
 -- changes no word. On sound links it promises all that a request promises, and leaves sound links.
-pub record SettledRequest (bytes : Bytes) (x x' : Buffers) (j : Judged) : Type 0 where
+pub record SettledRequest (bytes : Bytes) (x x' : Buffers) (j : Outcome) : Type 0 where
   pub lengths : SameLengths x x'
-  pub room : fit x ≡ false → (number_of j.reply ≡ ROOM) × ((j.place ≡ 0) × (x' ≡ x))
-  pub small : j.place ≤ 64
-  pub kept : (number_of j.reply ≡ 0 → ⊥) → x' ≡ x
+  pub room : fit x ≡ false → (outcome_number j ≡ ROOM) × (((outcome_place j) ≡ 0) × (x' ≡ x))
+  pub small : outcome_place j ≤ 64
+  pub kept : (outcome_number j ≡ 0 → ⊥) → x' ≡ x
   pub sound : sound_of x.orders ≡ true → Requested bytes x x' j × (sound_of x'.orders ≡ true)
 
--- A result without a place.
-abbrev pub placeless : Reply → Judged
-placeless r = record { reply = r; place = 0 }
-
--- The contract of `quick`: any reply but ROOM is the reply of a request that changes nothing. ROOM promises nothing.
-abbrev pub QuickRequest : Bytes → Buffers → Reply → Type 0
-QuickRequest bytes x r = (number_of r ≡ ROOM → ⊥) → SettledRequest bytes x x (placeless r)
+-- The contract of `quick`: a reply is that of a request that changes nothing. Without a reply it promises nothing.
+abbrev pub QuickRequest : Bytes → Buffers → Option Reply → Type 0
+QuickRequest bytes x (Some r) = SettledRequest bytes x x (plain r)
+QuickRequest bytes x None = Unit {0}
 
 -- The contract of the settled request for C and Rust: the result as one number, the reply + 256 times the place.
 abbrev pub SettledExported : Bytes → Buffers → Buffers → ℕ → Type 0
-SettledExported bytes x x' number = (j : Judged) × (number ≡ number_of j.reply + 256 * j.place) × SettledRequest bytes x x' j
+SettledExported bytes x x' number = (j : Outcome) × (number ≡ outcome_number j + 256 * outcome_place j) × SettledRequest bytes x x' j

@@ -4,6 +4,7 @@
 
 ghost use Rattle.std.specs.Prelude.{◌≡◌, false, length};
 ghost use Rattle.paper_lower.specs.Forms.{request_forms};
+ghost use Rattle.replies.specs.Replies.{outcome_reply, outcome_place};
 ghost use Rattle.records.specs.Limits.{Limits};
 ghost use Rattle.policy.specs.Layout.{policy_words};
 ghost use Rattle.sessions.specs.Reading.{sessions_words};
@@ -14,18 +15,16 @@ ghost use Rattle.engine.specs.Answers.{Requested, LoadDone};
 ghost use Rattle.engine.specs.Settling.{Settled, SettledAs, SettledRequest, QuickRequest};
 ghost use Rattle.engine.specs.Exports.{LoadExported, RequestExported, words_of};
 
-use order_links::ORDERS_WORDS;
-use order_rules::{Judged, plain};
-use policy::POLICY_WORDS;
-use policy_loading::Loaded;
+use order_links::{ORDERS_WORDS, OrdersBuffer};
+use policy::{POLICY_WORDS, PolicyBuffer};
 use records::{Call, Record};
-use replies::Reply;
-use sessions::SESSIONS_WORDS;
+use replies::{Outcome, Refusal, Refused, Reply, plain};
+use sessions::{SESSIONS_WORDS, SessionsBuffer};
 
 // Performs a request that has passed SHAPE and RANGE, without checking the links. Kinds that need entries, orders or claim rules are handled here, all others
 // by the lower part. Only a claim's reply carries a place.
-fn step(r: Record, p: &mut [u64], s: &mut [u64], o: &mut [u64]) -> Judged
-    requires { ((length p.old ≡ policy_words) × ((length s.old ≡ sessions_words) × (length o.old ≡ orders_words))) × Limits request_forms r }
+fn step(r: Record, p: &mut PolicyBuffer, s: &mut SessionsBuffer, o: &mut OrdersBuffer) -> Outcome
+    requires { Limits request_forms r }
     ensures { AnyStep r (buffers p.old s.old o.old) (buffers p.new s.new o.new) result }
 {
     let kind = r.kind;
@@ -45,12 +44,17 @@ fn step(r: Record, p: &mut [u64], s: &mut [u64], o: &mut [u64]) -> Judged
 }
 
 // Performs such a request on links that are not sound. That state reads as the empty engine, which grants only one request: to add a user without roles.
-fn as_empty(r: Record, p: &mut [u64], s: &mut [u64], o: &mut [u64]) -> Judged
-    requires { ((length p.old ≡ policy_words) × ((length s.old ≡ sessions_words) × (length o.old ≡ orders_words))) × (Limits request_forms r × (sound_of o.old ≡ false)) }
+fn as_empty(
+    r: Record,
+    p: &mut PolicyBuffer,
+    s: &mut SessionsBuffer,
+    o: &mut OrdersBuffer,
+) -> Outcome
+    requires { (Limits request_forms r) × (sound_of o.old ≡ false) }
     ensures { SettlingStep no_engine r (buffers p.old s.old o.old) (buffers p.new s.new o.new) result }
 {
     if (r.kind != 32) | (r.m != 0) {
-        return plain(Reply::Unknown);
+        return Err(Refused::from(Refusal::Unknown));
     }
     policy::clear(p);
     sessions::clear(s);
@@ -59,8 +63,8 @@ fn as_empty(r: Record, p: &mut [u64], s: &mut [u64], o: &mut [u64]) -> Judged
 }
 
 // Performs such a request on any content: checks the links first.
-fn act(r: Record, p: &mut [u64], s: &mut [u64], o: &mut [u64]) -> Judged
-    requires { ((length p.old ≡ policy_words) × ((length s.old ≡ sessions_words) × (length o.old ≡ orders_words))) × Limits request_forms r }
+fn act(r: Record, p: &mut PolicyBuffer, s: &mut SessionsBuffer, o: &mut OrdersBuffer) -> Outcome
+    requires { Limits request_forms r }
     ensures { SettlingStep (tables_of (buffers p.old s.old o.old)) r (buffers p.old s.old o.old) (buffers p.new s.new o.new) result }
 {
     if !order_links::is_sound(o) {
@@ -77,33 +81,43 @@ pub fn fit(policy: usize, sessions: usize, orders: usize) -> bool
 }
 
 // Performs one request, given as any bytes, on any content of the buffers.
-pub fn request(bytes: &[u8], policy: &mut [u64], sessions: &mut [u64], orders: &mut [u64]) -> Judged
+pub fn request(
+    bytes: &[u8],
+    policy: &mut [u64],
+    sessions: &mut [u64],
+    orders: &mut [u64],
+) -> Outcome
     ensures { Requested bytes.now (buffers policy.old sessions.old orders.old) (buffers policy.new sessions.new orders.new) result }
 {
-    if !fit(policy.len(), sessions.len(), orders.len()) {
-        return plain(Reply::Room);
-    }
-    let r = records::judge(Call::Request, bytes);
-    if !replies::accepted(r) {
-        return plain(r);
-    }
-    act(records::decode(bytes), policy, sessions, orders)
+    let (Some(p), Some(s), Some(o)) = (
+        policy.as_mut_array::<POLICY_WORDS>(),
+        sessions.as_mut_array::<SESSIONS_WORDS>(),
+        orders.as_mut_array::<ORDERS_WORDS>(),
+    ) else {
+        return Err(Refused::from(Refusal::Room));
+    };
+    records::judge(Call::Request, bytes).map_err(Refused::from)?;
+    act(records::decode(bytes), p, s, o)
 }
 
 // Makes the links sound without changing what the buffers read as. A caller who owns the buffers calls it once and then uses `settled_request`.
 pub fn settle(policy: &mut [u64], sessions: &mut [u64], orders: &mut [u64]) -> Reply
     ensures { Settled (buffers policy.old sessions.old orders.old) (buffers policy.new sessions.new orders.new) result }
 {
-    if !fit(policy.len(), sessions.len(), orders.len()) {
-        return Reply::Room;
+    let (Some(p), Some(s), Some(o)) = (
+        policy.as_mut_array::<POLICY_WORDS>(),
+        sessions.as_mut_array::<SESSIONS_WORDS>(),
+        orders.as_mut_array::<ORDERS_WORDS>(),
+    ) else {
+        return Err(Refusal::Room);
+    };
+    if order_links::is_sound(o) {
+        return Ok(());
     }
-    if order_links::is_sound(orders) {
-        return Reply::Granted;
-    }
-    policy::clear(policy);
-    sessions::clear(sessions);
-    order_entries::clear(orders);
-    Reply::Granted
+    policy::clear(p);
+    sessions::clear(s);
+    order_entries::clear(o);
+    Ok(())
 }
 
 // Performs one request without checking the links. On links that are not sound it promises only two things: the buffers keep their lengths, and a refusal
@@ -113,45 +127,49 @@ pub fn settled_request(
     policy: &mut [u64],
     sessions: &mut [u64],
     orders: &mut [u64],
-) -> Judged
+) -> Outcome
     ensures { SettledRequest bytes.now (buffers policy.old sessions.old orders.old) (buffers policy.new sessions.new orders.new) result }
 {
-    if !fit(policy.len(), sessions.len(), orders.len()) {
-        return plain(Reply::Room);
-    }
-    let r = records::judge(Call::Request, bytes);
-    if !replies::accepted(r) {
-        return plain(r);
-    }
-    step(records::decode(bytes), policy, sessions, orders)
+    let (Some(p), Some(s), Some(o)) = (
+        policy.as_mut_array::<POLICY_WORDS>(),
+        sessions.as_mut_array::<SESSIONS_WORDS>(),
+        orders.as_mut_array::<ORDERS_WORDS>(),
+    ) else {
+        return Err(Refused::from(Refusal::Room));
+    };
+    records::judge(Call::Request, bytes).map_err(Refused::from)?;
+    step(records::decode(bytes), p, s, o)
 }
 
-// The number of ROOM, which `quick` returns when it has no answer. A check on buffers of the right lengths never gets ROOM.
-pub const UNTOLD: u64 = 1;
-
-// Answers a check (kind 56) in the usual case: a policy without walls, and at most two permissions in the bucket of the pair. Otherwise it returns ROOM, and
+// Answers a check (kind 56) in the usual case: a policy without walls, and at most two permissions in the bucket of the pair. Otherwise it returns `None`, and
 // the caller makes a full request of the same bytes. It writes nothing, and its compiled code uses no stack.
-pub fn quick(bytes: &[u8], policy: &[u64], sessions: &[u64], orders: &[u64]) -> Reply
+pub fn quick(bytes: &[u8], policy: &[u64], sessions: &[u64], orders: &[u64]) -> Option<Reply>
     ensures { QuickRequest bytes.now (buffers policy.now sessions.now orders.now) result }
 {
-    if !fit(policy.len(), sessions.len(), orders.len()) | !records::is_check(bytes) {
-        return Reply::Room;
+    let (Some(p), Some(s)) = (
+        policy.as_array::<POLICY_WORDS>(),
+        sessions.as_array::<SESSIONS_WORDS>(),
+    ) else {
+        return None;
+    };
+    if (orders.len() != ORDERS_WORDS) | !records::is_check(bytes) {
+        return None;
     }
     let r = records::decode(bytes);
-    session_subjects::quick_reply(policy, sessions, r.a, r.b, r.c)
+    session_subjects::quick_reply(p, s, r.a, r.b, r.c)
 }
 
 // Loads a policy, given as any bytes. Afterwards no subject is live, no order is open and no entry is in use.
-pub fn load(bytes: &[u8], policy: &mut [u64], sessions: &mut [u64], orders: &mut [u64]) -> Loaded
-    ensures { LoadDone bytes.now (buffers policy.old sessions.old orders.old) (buffers policy.new sessions.new orders.new) result.reply result.place }
+pub fn load(bytes: &[u8], policy: &mut [u64], sessions: &mut [u64], orders: &mut [u64]) -> Outcome
+    ensures { LoadDone bytes.now (buffers policy.old sessions.old orders.old) (buffers policy.new sessions.new orders.new) (outcome_reply result) (outcome_place result) }
 {
     if !fit(policy.len(), sessions.len(), orders.len()) {
-        return Loaded {
-            reply: Reply::Room,
-            place: 0,
-        };
+        return Err(Refused::from(Refusal::Room));
     }
-    order_entries::clear(orders);
+    let Some(o) = orders.as_mut_array::<ORDERS_WORDS>() else {
+        return Err(Refused::from(Refusal::Room));
+    };
+    order_entries::clear(o);
     lower::load(bytes, policy, sessions)
 }
 
@@ -167,9 +185,8 @@ pub extern "C" fn mishantral_load(
 ) -> u64
     ensures { LoadExported bytes.now (buffers policy.old sessions.old orders.old) (buffers policy.new sessions.new orders.new) result }
 {
-    let x = load(bytes, policy, sessions, orders);
-    let reply = x.reply;
-    replies::number(reply) + 256 * (x.place % 36028797018963968)
+    let outcome = load(bytes, policy, sessions, orders);
+    replies::number(replies::reply(outcome)) + 256 * (replies::place(outcome) % 36028797018963968)
 }
 
 // `request` for C and Rust.
@@ -182,9 +199,8 @@ pub extern "C" fn mishantral_request(
 ) -> u64
     ensures { RequestExported bytes.now (buffers policy.old sessions.old orders.old) (buffers policy.new sessions.new orders.new) result }
 {
-    let j = request(bytes, policy, sessions, orders);
-    let reply = j.reply;
-    replies::number(reply) + 256 * j.place
+    let outcome = request(bytes, policy, sessions, orders);
+    replies::number(replies::reply(outcome)) + 256 * replies::place(outcome)
 }
 
 // `settle` for C and Rust: the reply's number, since there is no place.

@@ -4,9 +4,8 @@ use mathlib.Core.List.{List}
 use mathlib.Core.Path.{◌≡◌, refl, ap}
 use Rattle.paper_lower.specs.Checks.{granted}
 use Rattle.paper_lower.specs.Tables.{Policy, Sessions, Lower, with_policy, with_sessions}
-use Rattle.replies.specs.Replies.{number_of}
+use Rattle.replies.specs.Replies.{Reply, number_of}
 use Rattle.replies.specs.Done.{Done}
-use Rattle.replies.specs.declared.Reply.{Reply}
 use Rattle.policy.specs.Reading.{policy_of}
 use Rattle.sessions.specs.Reading.{sessions_of}
 use Rattle.sessions.specs.Lower.{lower_tables}

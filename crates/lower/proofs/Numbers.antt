@@ -1,9 +1,8 @@
 -- The number of a reply is at most 24, so that a reply and a place fit one number of 64 bits.
 use Prim.Native.Nat.{◌≤◌}
 use native.Mathlib.Omega.{arith}
-use Rattle.replies.specs.Replies.{number_of}
-use Rattle.replies.specs.declared.Reply.{Reply}
-use Rattle.replies.specs.declared.Reply.TheVariants.{Granted, Room, Shape, Range, Unknown, Taken, InUse, Rule, NotAssigned, Static, Dynamic, NoRole, NotYours, Denied, Before, Separation, Block, Alone, Bound, Count, Full, Loop, Wall}
+use Rattle.replies.specs.Replies.{Reply, number_of}
+use Rattle.replies.specs.declared.Refusal.TheVariants.{Granted, Room, Shape, Range, Unknown, Taken, InUse, Rule, NotAssigned, Static, Dynamic, NoRole, NotYours, Denied, Before, Separation, Block, Alone, Bound, Count, Full, Loop, Wall}
 
 pub number_small : (r : Reply) → number_of r ≤ 24
 number_small Granted = omega arith

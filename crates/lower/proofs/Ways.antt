@@ -12,14 +12,13 @@ use Rattle.paper_lower.specs.Kinds.{Answer}
 use Rattle.paper_lower.specs.Tables.{Lower}
 use Rattle.paper_lower.specs.Load.{Loaded}
 use Rattle.paper_lower.specs.Sessions.{lower_request, lower_of}
-use Rattle.replies.specs.declared.Reply.{Reply}
-use Rattle.replies.specs.declared.Reply.TheVariants.{Room}
+use Rattle.replies.specs.declared.Refusal.TheVariants.{Room}
 use Rattle.policy.specs.Layout.{policy_words}
 use Rattle.sessions.specs.Reading.{sessions_words, Cleared}
 use Rattle.sessions.specs.Lower.{lower_tables}
 use Rattle.policy_loading.specs.LoadDone.{LoadDone}
 use Rattle.lower.specs.Stepped.{Stepped}
-use Rattle.replies.specs.Replies.{number_of}
+use Rattle.replies.specs.Replies.{Reply, number_of}
 use Rattle.lower.specs.Exports.{inside_one, LoadExported, RequestExported}
 use Rattle.lower.specs.Answers.{fit, SameLengths, request_answer, Requested, Loads}
 

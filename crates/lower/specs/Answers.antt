@@ -6,8 +6,7 @@ use Rattle.paper_lower.specs.Kinds.{Answer}
 use Rattle.paper_lower.specs.Tables.{Lower}
 use Rattle.paper_lower.specs.Load.{load}
 use Rattle.paper_lower.specs.Sessions.{lower_request, lower_of}
-use Rattle.replies.specs.Replies.{number_of}
-use Rattle.replies.specs.declared.Reply.{Reply}
+use Rattle.replies.specs.Replies.{Reply, number_of}
 use Rattle.policy.specs.Layout.{policy_words}
 use Rattle.sessions.specs.Reading.{sessions_words}
 use Rattle.sessions.specs.Lower.{lower_tables}

@@ -1,7 +1,7 @@
 -- What a request does to the two buffers of the lower part: its reply, the tables afterwards, and no change by a refusal.
 use Rattle.std.specs.Prelude.{ℕ, List}
 use Rattle.paper_lower.specs.Tables.{Lower}
-use Rattle.replies.specs.declared.Reply.{Reply}
+use Rattle.replies.specs.Replies.{Reply}
 use Rattle.sessions.specs.Lower.{lower_tables}
 use Rattle.sessions.specs.Both.{Both}
 

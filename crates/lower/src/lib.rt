@@ -6,6 +6,7 @@ ghost use Rattle.paper_lower.specs.Checks.{first};
 ghost use Rattle.paper_lower.specs.Forms.{lower_forms};
 ghost use Rattle.paper_lower.specs.Kinds.{chosen};
 ghost use Rattle.paper_lower.specs.Sessions.{lower_kinds};
+ghost use Rattle.replies.specs.Replies.{outcome_reply, outcome_place};
 ghost use Rattle.records.specs.Reading.{paper_of};
 ghost use Rattle.records.specs.Limits.{Limits};
 ghost use Rattle.policy.specs.Layout.{policy_words};
@@ -15,16 +16,15 @@ ghost use Rattle.lower.specs.Stepped.{Stepped};
 ghost use Rattle.lower.specs.Answers.{Requested, Loads};
 ghost use Rattle.lower.specs.Exports.{LoadExported, RequestExported, words_of};
 
-use policy::POLICY_WORDS;
-use policy_loading::Loaded;
+use policy::{POLICY_WORDS, PolicyBuffer};
 use records::{Call, Record};
-use replies::Reply;
-use sessions::SESSIONS_WORDS;
+use replies::{Outcome, Refusal, Refused, Reply};
+use sessions::{SESSIONS_WORDS, SessionsBuffer};
 use sets::Set;
 
 // Carries out a request that passed SHAPE and RANGE.
-pub fn step(r: Record, p: &mut [u64], s: &mut [u64]) -> Reply
-    requires { (length p.old ≡ policy_words) × ((length s.old ≡ sessions_words) × Limits lower_forms r) }
+pub fn step(r: Record, p: &mut PolicyBuffer, s: &mut SessionsBuffer) -> Reply
+    requires { Limits lower_forms r }
     ensures { Stepped (first ((chosen lower_kinds r.kind).checks (lower_tables p.old s.old) (paper_of r))) ((chosen lower_kinds r.kind).next (lower_tables p.old s.old) (paper_of r)) p.old s.old p.new s.new result }
 {
     let kind = r.kind;
@@ -40,36 +40,36 @@ pub fn step(r: Record, p: &mut [u64], s: &mut [u64]) -> Reply
         42 => session_subjects::activate(p, s, r.a, r.b),
         43 => session_subjects::deactivate(p, s, r.a, r.b),
         56 | 59 => session_subjects::ask(p, s, kind, r.a, r.b, r.c),
-        _ => Reply::Shape,
+        _ => Err(Refusal::Shape),
     }
 }
 
 // Answers any bytes as a request to the lower part.
-pub fn request(bytes: &[u8], p: &mut [u64], s: &mut [u64]) -> Reply
-    ensures { Requested bytes.now p.old s.old p.new s.new result }
+pub fn request(bytes: &[u8], policy: &mut [u64], sessions: &mut [u64]) -> Reply
+    ensures { Requested bytes.now policy.old sessions.old policy.new sessions.new result }
 {
-    if (p.len() != POLICY_WORDS) | (s.len() != SESSIONS_WORDS) {
-        return Reply::Room;
-    }
-    let r = records::judge(Call::Lower, bytes);
-    if !replies::accepted(r) {
-        return r;
-    }
+    let (Some(p), Some(s)) = (
+        policy.as_mut_array::<POLICY_WORDS>(),
+        sessions.as_mut_array::<SESSIONS_WORDS>(),
+    ) else {
+        return Err(Refusal::Room);
+    };
+    records::judge(Call::Lower, bytes)?;
     step(records::decode(bytes), p, s)
 }
 
 // Loads any bytes as a policy. Afterwards no subject is live.
-pub fn load(bytes: &[u8], p: &mut [u64], s: &mut [u64]) -> Loaded
-    ensures { Loads bytes.now p.old s.old p.new s.new result.reply result.place }
+pub fn load(bytes: &[u8], policy: &mut [u64], sessions: &mut [u64]) -> Outcome
+    ensures { Loads bytes.now policy.old sessions.old policy.new sessions.new (outcome_reply result) (outcome_place result) }
 {
-    if (p.len() != POLICY_WORDS) | (s.len() != SESSIONS_WORDS) {
-        return Loaded {
-            reply: Reply::Room,
-            place: 0,
-        };
+    if policy.len() != POLICY_WORDS {
+        return Err(Refused::from(Refusal::Room));
     }
+    let Some(s) = sessions.as_mut_array::<SESSIONS_WORDS>() else {
+        return Err(Refused::from(Refusal::Room));
+    };
     sessions::clear(s);
-    policy_loading::load(bytes, p)
+    policy_loading::load(bytes, policy)
 }
 
 // ---- For C and Rust. The answer is one number: the reply plus 256 times the place.
@@ -83,9 +83,8 @@ pub extern "C" fn mishantral_lower_load(
 ) -> u64
     ensures { LoadExported bytes.now policy.old sessions.old policy.new sessions.new result }
 {
-    let x = load(bytes, policy, sessions);
-    let reply = x.reply;
-    replies::number(reply) + 256 * (x.place % 36028797018963968)
+    let answer = load(bytes, policy, sessions);
+    replies::number(replies::reply(answer)) + 256 * (replies::place(answer) % 36028797018963968)
 }
 
 // The request. Requests to the lower part have no place.

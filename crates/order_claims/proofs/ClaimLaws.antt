@@ -15,8 +15,7 @@ use Rattle.paper_lower.proofs.CheckLaws.{Numbered, passed}
 use Rattle.paper_upper.specs.Orders.{Engine, is_held, of_task}
 use Rattle.paper_upper.specs.Rules.{gathered_checks, rule_checks, rule_place}
 use Rattle.paper_upper.specs.Requests.{unknown, claim_checks, claim_place}
-use Rattle.replies.specs.Replies.{number_of}
-use Rattle.replies.specs.declared.Reply.{Reply}
+use Rattle.replies.specs.Replies.{Reply, number_of}
 use Rattle.replies.proofs.ReplyLaws.{is_zero}
 use Rattle.replies.proofs.DoneLaws.{stops}
 use Rattle.order_entries.specs.Reading.{opened_of}

@@ -6,14 +6,12 @@ use Rattle.paper_lower.specs.Lists.Maybe.{just}
 use Rattle.paper_lower.specs.Checks.{first, granted}
 use Rattle.paper_upper.specs.Orders.{Engine, SameTables}
 use Rattle.paper_upper.specs.Requests.{unknown, claim_checks, claim_place, claim_next, hold_checks, release_next, done_next, task_check_checks}
-use Rattle.replies.specs.Replies.{number_of}
+use Rattle.replies.specs.Replies.{Reply, number_of, Outcome, outcome_number, outcome_place}
 use Rattle.replies.specs.Done.{Done}
-use Rattle.replies.specs.declared.Reply.{Reply}
 use Rattle.policy.specs.Layout.{policy_words}
 use Rattle.sessions.specs.Reading.{sessions_words}
 use Rattle.order_links.specs.Chains.{orders_words, sound_of}
 use Rattle.order_entries.specs.declared.Instance.{Instance}
-use Rattle.order_rules.specs.declared.Judged.{Judged}
 use Rattle.order_rules.specs.Judging.{Verdict}
 use Rattle.order_requests.specs.Tables.{engine_tables}
 
@@ -30,15 +28,15 @@ pub record Known (t : Engine) (a b c : ℕ) (r : Instance) : Type 0 where
   pub small : r.template < 16
 
 -- ---- 50: the contract of `claim_reply`.
-abbrev pub ClaimJudged : List ℕ → List ℕ → List ℕ → ℕ → ℕ → ℕ → Judged → Type 0
+abbrev pub ClaimJudged : List ℕ → List ℕ → List ℕ → ℕ → ℕ → ℕ → Outcome → Type 0
 ClaimJudged p s o a b c j = Verdict (claim_checks (engine_tables p s o) a b c) (claim_place (engine_tables p s o) a b c) j
 
 -- The same, and the tables afterwards, with the new entry as the newest of its instance. The place is that of 02, Ask 2.
-pub record Claimed (p s o o' : List ℕ) (a b c : ℕ) (j : Judged) : Type 0 where
-  pub replies : number_of j.reply ≡ first (claim_checks (engine_tables p s o) a b c)
-  pub places : j.place ≡ claim_place (engine_tables p s o) a b c (first (claim_checks (engine_tables p s o) a b c))
+pub record Claimed (p s o o' : List ℕ) (a b c : ℕ) (j : Outcome) : Type 0 where
+  pub replies : outcome_number j ≡ first (claim_checks (engine_tables p s o) a b c)
+  pub places : outcome_place j ≡ claim_place (engine_tables p s o) a b c (first (claim_checks (engine_tables p s o) a b c))
   pub tables : SameTables (engine_tables p s o') (granted (first (claim_checks (engine_tables p s o) a b c)) (claim_next (engine_tables p s o) a b c) (engine_tables p s o))
-  pub kept : (number_of j.reply ≡ 0 → ⊥) → o' ≡ o
+  pub kept : (outcome_number j ≡ 0 → ⊥) → o' ≡ o
   pub sound : sound_of o' ≡ true
 
 -- ---- 51 and 52: the reply of their checks, which task checks share.

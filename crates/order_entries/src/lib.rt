@@ -14,8 +14,8 @@ ghost use Rattle.order_entries.specs.Acts.{InLimits, after_enter, after_release,
 ghost use Rattle.order_entries.specs.Gathering.{gathered_of, taken_within, kept};
 
 use order_links::{
-    FREE, HAS_USER, HELD_BY, HOLDER, LINK, NUMBERS, ORDER_HELD, ORDERS_WORDS, WORD_SUBJECT,
-    WORD_TASK, WORD_USER,
+    FREE, HAS_USER, HELD_BY, HOLDER, LINK, NUMBERS, ORDER_HELD, ORDERS_WORDS, OrdersBuffer,
+    WORD_SUBJECT, WORD_TASK, WORD_USER,
 };
 use sets::{Set, pick, set_of};
 
@@ -27,8 +27,8 @@ pub struct Instance {
 }
 
 // Instance i.
-pub fn opened(o: &[u64], i: u64) -> Instance
-    requires { (length o.now ≡ orders_words) × (i < 64) }
+pub fn opened(o: &OrdersBuffer, i: u64) -> Instance
+    requires { i < 64 }
     ensures { (opened_of result ≡ (orders_of o.now).opened i) × (result.template < 16) }
 {
     let open = order_links::is_open(o, i);
@@ -37,16 +37,15 @@ pub fn opened(o: &[u64], i: u64) -> Instance
 }
 
 // Opens instance i, of template j.
-pub fn set_opened(o: &mut [u64], i: u64, j: u64)
-    requires { (length o.old ≡ orders_words) × ((i < 64) × (j < 16)) }
+pub fn set_opened(o: &mut OrdersBuffer, i: u64, j: u64)
+    requires { (i < 64) × (j < 16) }
     ensures { (length o.new ≡ length o.old) × (sound_of o.old ≡ true → there ((orders_of o.old).opened i) ≡ false → Acts (with_instance (orders_of o.old) i (just j)) o.new) }
 {
     order_links::open_chain(o, i, j);
 }
 
 // The number of entries in use: those that were ever in use, less the free ones.
-pub fn in_use(o: &[u64]) -> usize
-    requires { length o.now ≡ orders_words }
+pub fn in_use(o: &OrdersBuffer) -> usize
     ensures { sound_of o.now ≡ true → result ≡ many (orders_of o.now).entries }
 {
     let free = order_links::chain(o, FREE);
@@ -100,8 +99,8 @@ fn take_in(g: Gathered, w: u64, u: u64, t: u64) -> Gathered
 }
 
 // Collects what a claim of task t by user u in instance i needs: one pass over the entries of the instance, and its kept set of done tasks.
-pub fn gather(o: &[u64], i: u64, u: u64, t: u64) -> Gathered
-    requires { (length o.now ≡ orders_words) × (i < 64) }
+pub fn gather(o: &OrdersBuffer, i: u64, u: u64, t: u64) -> Gathered
+    requires { i < 64 }
     ensures { sound_of o.now ≡ true → result ≡ gathered_of i u t (orders_of o.now).entries }
 {
     let x = order_links::chain(o, i);
@@ -127,8 +126,8 @@ pub fn gather(o: &[u64], i: u64, u: u64, t: u64) -> Gathered
 // ---- Searches through the entries.
 
 // Whether some entry of instance i has a word that equals the key under the mask.
-fn any_in(o: &[u64], i: u64, mask: u64, key: u64) -> bool
-    requires { (length o.now ≡ orders_words) × (i < 64) }
+fn any_in(o: &OrdersBuffer, i: u64, mask: u64, key: u64) -> bool
+    requires { i < 64 }
     ensures { sound_of o.now ≡ true → result ≡ any_in o.now i mask key }
 {
     let x = order_links::chain(o, i);
@@ -163,18 +162,15 @@ fn one_more(hit: bool, n: u32) -> u32
 
 // Whether some entry up to the mark has a word that equals the key under the mask. It goes through the words in order and not along the links, without an
 // early exit, so that the compiler can vectorise it.
-fn any(o: &[u64], mask: u32, key: u32) -> bool
-    requires { length o.now ≡ orders_words }
+fn any(o: &OrdersBuffer, mask: u32, key: u32) -> bool
     ensures { sound_of o.now ≡ true → result ≡ any_up_to o.now (mark_of o.now) mask key }
 {
     let m = order_links::mark(o);
-    let mut k = 0;
     let mut hits: u32 = 0;
-    while k < m {
+    for k in 0..m {
         let w = order_links::word(o, k + 1);
         let hit = half_fits(w, mask, key);
         hits = one_more(hit, hits);
-        k += 1;
     }
     0 < hits
 }
@@ -188,8 +184,8 @@ fn key_of(i: u64, t: u64, a: u64) -> u64
 }
 
 // Whether subject a holds task t of instance i.
-pub fn holds_task(o: &[u64], i: u64, t: u64, a: u64) -> bool
-    requires { (length o.now ≡ orders_words) × InLimits i t a }
+pub fn holds_task(o: &OrdersBuffer, i: u64, t: u64, a: u64) -> bool
+    requires { InLimits i t a }
     ensures { sound_of o.now ≡ true → result ≡ some (held_of i t a) (orders_of o.now).entries }
 {
     let key = key_of(i, t, a);
@@ -197,24 +193,24 @@ pub fn holds_task(o: &[u64], i: u64, t: u64, a: u64) -> bool
 }
 
 // Whether some task of instance i is held.
-pub fn order_held(o: &[u64], i: u64) -> bool
-    requires { (length o.now ≡ orders_words) × (i < 64) }
+pub fn order_held(o: &OrdersBuffer, i: u64) -> bool
+    requires { i < 64 }
     ensures { sound_of o.now ≡ true → result ≡ some (λ e. are_in_order i e && is_held e.standing) (orders_of o.now).entries }
 {
     any_in(o, i, ORDER_HELD, i)
 }
 
 // Whether subject a holds any task, in any instance.
-pub fn holds_any(o: &[u64], a: u64) -> bool
-    requires { (length o.now ≡ orders_words) × (a < 128) }
+pub fn holds_any(o: &OrdersBuffer, a: u64) -> bool
+    requires { a < 128 }
     ensures { sound_of o.now ≡ true → result ≡ some (λ e. is_held_by a e.standing) (orders_of o.now).entries }
 {
     any(o, HOLDER, (WORD_SUBJECT * a) as u32)
 }
 
 // Whether user u has an entry in an open instance. Closed instances have no entries, so all entries in use are searched.
-pub fn in_open_order(o: &[u64], u: u64) -> bool
-    requires { (length o.now ≡ orders_words) × (u < 1024) }
+pub fn in_open_order(o: &OrdersBuffer, u: u64) -> bool
+    requires { u < 1024 }
     ensures { sound_of o.now ≡ true → result ≡ some (in_open_order (orders_of o.now) u) (orders_of o.now).entries }
 {
     any(o, HAS_USER, (WORD_USER * u) as u32)
@@ -230,8 +226,8 @@ pub struct Figures {
 }
 
 // The figures of instance i, as they are kept.
-pub fn figures_of(o: &[u64], i: u64) -> Figures
-    requires { (length o.now ≡ orders_words) × (i < 64) }
+pub fn figures_of(o: &OrdersBuffer, i: u64) -> Figures
+    requires { i < 64 }
     ensures { sound_of o.now ≡ true → result ≡ kept (figures_of i (orders_of o.now).entries) }
 {
     let x = order_links::chain(o, i);
@@ -246,45 +242,42 @@ pub fn figures_of(o: &[u64], i: u64) -> Figures
 // ---- Changes.
 
 // Adds an entry: instance i, user u, task t, held by subject a.
-pub fn enter(o: &mut [u64], i: u64, u: u64, t: u64, a: u64)
-    requires { (length o.old ≡ orders_words) × ((u < 1024) × InLimits i t a) }
+pub fn enter(o: &mut OrdersBuffer, i: u64, u: u64, t: u64, a: u64)
+    requires { (u < 1024) × (InLimits i t a) }
     ensures { (length o.new ≡ length o.old) × (sound_of o.old ≡ true → there ((orders_of o.old).opened i) ≡ true → many (orders_of o.old).entries < 2048 → Enters (after_enter (orders_of o.old) i u t a) o.new) }
 {
     order_links::enter(o, i, u, t, a);
 }
 
 // Removes that entry, if subject a holds the task. Returns whether it did.
-pub fn release(o: &mut [u64], i: u64, t: u64, a: u64) -> bool
-    requires { (length o.old ≡ orders_words) × InLimits i t a }
+pub fn release(o: &mut OrdersBuffer, i: u64, t: u64, a: u64) -> bool
+    requires { InLimits i t a }
     ensures { Tried i (some (held_of i t a) (orders_of o.old).entries) (after_release (orders_of o.old) i t a) o.old o.new result }
 {
     order_links::release(o, i, t, a)
 }
 
 // Marks that entry as done, if subject a holds the task. Returns whether it did.
-pub fn finish(o: &mut [u64], i: u64, t: u64, a: u64) -> bool
-    requires { (length o.old ≡ orders_words) × InLimits i t a }
+pub fn finish(o: &mut OrdersBuffer, i: u64, t: u64, a: u64) -> bool
+    requires { InLimits i t a }
     ensures { Tried i (some (held_of i t a) (orders_of o.old).entries) (after_finish (orders_of o.old) i t a) o.old o.new result }
 {
     order_links::finish(o, i, t, a)
 }
 
 // Closes instance i and removes its entries.
-pub fn end_order(o: &mut [u64], i: u64)
-    requires { (length o.old ≡ orders_words) × (i < 64) }
+pub fn end_order(o: &mut OrdersBuffer, i: u64)
+    requires { i < 64 }
     ensures { (length o.new ≡ length o.old) × (sound_of o.old ≡ true → Acts (after_end (orders_of o.old) i) o.new) }
 {
     order_links::close_chain(o, i);
 }
 
 // Empties the buffer: no instance is open, and there are no entries.
-pub fn clear(o: &mut [u64])
-    requires { length o.old ≡ orders_words }
+pub fn clear(o: &mut OrdersBuffer)
     ensures { Cleared o.new }
 {
-    let mut k = 0;
-    while k < ORDERS_WORDS {
+    for k in 0..ORDERS_WORDS {
         o[k] = 0;
-        k += 1;
     }
 }

@@ -21,6 +21,9 @@ use sets::{Set, pick, set_of};
 // The length of the buffer in words.
 pub const ORDERS_WORDS: usize = 2244;
 
+// The orders buffer: the words that a caller lends for orders and their entries.
+pub type OrdersBuffer = [u64; ORDERS_WORDS];
+
 // The most entries.
 const MOST: u64 = 2048;
 
@@ -141,24 +144,24 @@ pub fn is_done(w: u64) -> bool
 // ---- Getters.
 
 // Whether instance i is open.
-pub fn is_open(o: &[u64], i: u64) -> bool
-    requires { (length o.now ≡ orders_words) × (i < 64) }
+pub fn is_open(o: &OrdersBuffer, i: u64) -> bool
+    requires { i < 64 }
     ensures { result ≡ has (open_of o.now) i }
 {
     set_of(o[OPEN]).has(i)
 }
 
 // The template of instance i. It has a meaning only while i is open.
-pub fn template(o: &[u64], i: u64) -> u64
-    requires { (length o.now ≡ orders_words) × (i < 64) }
+pub fn template(o: &OrdersBuffer, i: u64) -> u64
+    requires { i < 64 }
     ensures { result ≡ template_in o.now i }
 {
     o[TEMPLATES + i as usize] % 16
 }
 
 // The done tasks of instance i, as a set; none if it is closed.
-pub fn done(o: &[u64], i: u64) -> u64
-    requires { (length o.now ≡ orders_words) × (i < 64) }
+pub fn done(o: &OrdersBuffer, i: u64) -> u64
+    requires { i < 64 }
     ensures { result ≡ done_word o.now i }
 {
     let open = is_open(o, i);
@@ -166,8 +169,7 @@ pub fn done(o: &[u64], i: u64) -> u64
 }
 
 // The mark: the number of entries that were ever in use. It is capped at the most there can be.
-pub fn mark(o: &[u64]) -> u64
-    requires { length o.now ≡ orders_words }
+pub fn mark(o: &OrdersBuffer) -> u64
     ensures { (result ≤ 2048) × (mark_of o.now ≤ 2048 → result ≡ mark_of o.now) }
 {
     let m = o[0];
@@ -175,8 +177,8 @@ pub fn mark(o: &[u64]) -> u64
 }
 
 // The word of chain i, or 0 if i is a closed instance.
-pub fn chain(o: &[u64], i: u64) -> u64
-    requires { (length o.now ≡ orders_words) × (i ≤ 65) }
+pub fn chain(o: &OrdersBuffer, i: u64) -> u64
+    requires { i ≤ 65 }
     ensures { result ≡ chain_word o.now i }
 {
     let x = o[CHAINS + i as usize];
@@ -188,8 +190,8 @@ pub fn chain(o: &[u64], i: u64) -> u64
 }
 
 // The word of entry k.
-pub fn word(o: &[u64], k: u64) -> u64
-    requires { (length o.now ≡ orders_words) × (k ≤ 2048) }
+pub fn word(o: &OrdersBuffer, k: u64) -> u64
+    requires { k ≤ 2048 }
     ensures { result ≡ word_at o.now k }
 {
     o[BEFORE + k as usize]
@@ -203,8 +205,7 @@ fn in_reach(k: u64) -> u64
 }
 
 // The word of the entry that a link names.
-pub fn linked(o: &[u64], h: u64) -> u64
-    requires { length o.now ≡ orders_words }
+pub fn linked(o: &OrdersBuffer, h: u64) -> u64
     ensures { 0 < h → h ≤ 2048 → result ≡ word_at o.now h }
 {
     let k = in_reach(h);
@@ -212,8 +213,8 @@ pub fn linked(o: &[u64], h: u64) -> u64
 }
 
 // The number of entries of chain i.
-fn count(o: &[u64], i: u64) -> u64
-    requires { (length o.now ≡ orders_words) × (i ≤ 65) }
+fn count(o: &OrdersBuffer, i: u64) -> u64
+    requires { i ≤ 65 }
     ensures { result ≡ count_of (chain_word o.now i) }
 {
     let x = chain(o, i);
@@ -223,8 +224,8 @@ fn count(o: &[u64], i: u64) -> u64
 // ---- Soundness: whether the links and the kept figures of any content agree (docs/STATE.md, "The orders buffer").
 
 // Whether link h does not name an entry of chain i among the first m entries.
-fn is_astray(o: &[u64], i: u64, m: u64, h: u64) -> bool
-    requires { (length o.now ≡ orders_words) × (m ≤ 2048) }
+fn is_astray(o: &OrdersBuffer, i: u64, m: u64, h: u64) -> bool
+    requires { m ≤ 2048 }
     ensures { result ≡ astray o.now i m h }
 {
     if h == 0 {
@@ -238,8 +239,8 @@ fn is_astray(o: &[u64], i: u64, m: u64, h: u64) -> bool
 }
 
 // Whether the kept figures of chain i are right; d is the set of its done tasks and n its number of entries.
-fn figures_fit(o: &[u64], i: u64, n: u64, d: u64) -> bool
-    requires { (length o.now ≡ orders_words) × ((i ≤ 65) × ((is_read_as o.now i ≡ true) × (n ≡ count_of (chain_word o.now i)))) }
+fn figures_fit(o: &OrdersBuffer, i: u64, n: u64, d: u64) -> bool
+    requires { (i ≤ 65) × ((is_read_as o.now i ≡ true) × (n ≡ count_of (chain_word o.now i))) }
     ensures { result ≡ figures o.now i d }
 {
     if FREE <= i {
@@ -249,8 +250,8 @@ fn figures_fit(o: &[u64], i: u64, n: u64, d: u64) -> bool
 }
 
 // Whether chain i is sound: its links end after as many entries as its word x says, all of them its own, and its figures are right.
-fn chain_sound(o: &[u64], m: u64, i: u64, x: u64) -> bool
-    requires { (length o.now ≡ orders_words) × ((m ≤ 2048) × ((i ≤ 65) × ((is_read_as o.now i ≡ true) × (x ≡ chain_word o.now i)))) }
+fn chain_sound(o: &OrdersBuffer, m: u64, i: u64, x: u64) -> bool
+    requires { (m ≤ 2048) × ((i ≤ 65) × ((is_read_as o.now i ≡ true) × (x ≡ chain_word o.now i))) }
     ensures { result ≡ chain_sound o.now m i }
 {
     let mut h = x % NUMBERS;
@@ -271,8 +272,8 @@ fn chain_sound(o: &[u64], m: u64, i: u64, x: u64) -> bool
 
 // n plus the number of entries of chain i, or a number above m if that sum is above m or the chain is not sound. The links are followed only if the sum is at
 // most m. `reads` is false for a closed instance.
-fn counted(o: &[u64], m: u64, i: u64, n: u64, reads: bool) -> u64
-    requires { (length o.now ≡ orders_words) × ((m ≤ 2048) × ((n ≤ m) × ((i ≤ 65) × (reads ≡ is_read_as o.now i)))) }
+fn counted(o: &OrdersBuffer, m: u64, i: u64, n: u64, reads: bool) -> u64
+    requires { (m ≤ 2048) × ((n ≤ m) × ((i ≤ 65) × (reads ≡ is_read_as o.now i))) }
     ensures { Counted o.now m i n result }
 {
     if !reads {
@@ -288,8 +289,8 @@ fn counted(o: &[u64], m: u64, i: u64, n: u64, reads: bool) -> u64
 }
 
 // Whether the chains of all open instances are sound and have m entries, with s entries in other chains. The loop ends after the highest open instance.
-fn orders_sound(o: &[u64], m: u64, s: u64, opened: u64) -> bool
-    requires { (length o.now ≡ orders_words) × ((m ≤ 2048) × ((s ≤ m) × (opened ≡ open_of o.now))) }
+fn orders_sound(o: &OrdersBuffer, m: u64, s: u64, opened: u64) -> bool
+    requires { (m ≤ 2048) × ((s ≤ m) × (opened ≡ open_of o.now)) }
     ensures { result ≡ (eqb (s + sum_to (λ i. count_of (chain_word o.now i)) 64) m && not (some_number_below 64 (λ i. not (chain_sound o.now m i)))) }
 {
     let mut rest = opened;
@@ -307,8 +308,7 @@ fn orders_sound(o: &[u64], m: u64, s: u64, opened: u64) -> bool
 }
 
 // Whether the links, the numbers of entries and the sets of done tasks are sound, for any content of the words.
-pub fn is_sound(o: &[u64]) -> bool
-    requires { length o.now ≡ orders_words }
+pub fn is_sound(o: &OrdersBuffer) -> bool
     ensures { result ≡ sound_of o.now }
 {
     let m = o[0];
@@ -329,16 +329,16 @@ pub fn is_sound(o: &[u64]) -> bool
 // ---- Chains as stacks.
 
 // The payload of entry k.
-fn payload(o: &[u64], k: u64) -> u64
-    requires { (length o.now ≡ orders_words) × (k ≤ 2048) }
+fn payload(o: &OrdersBuffer, k: u64) -> u64
+    requires { k ≤ 2048 }
     ensures { (result ≡ payload_of (word_at o.now k)) × (result < 16777216) }
 {
     o[BEFORE + k as usize] / PAYLOAD % PAYLOADS
 }
 
 // Takes the newest entry from chain i and returns its number.
-fn pop(o: &mut [u64], i: u64) -> u64
-    requires { (length o.old ≡ orders_words) × (i ≤ 65) }
+fn pop(o: &mut OrdersBuffer, i: u64) -> u64
+    requires { i ≤ 65 }
     ensures { Safe o.old o.new result × (Woven o.old → 0 < count_of (chain_word o.old i) → Popped o.old o.new i result) }
 {
     let x = o[CHAINS + i as usize];
@@ -350,8 +350,8 @@ fn pop(o: &mut [u64], i: u64) -> u64
 }
 
 // Puts entry k, which is in no chain, on chain i with payload p.
-fn push(o: &mut [u64], i: u64, k: u64, p: u64)
-    requires { (length o.old ≡ orders_words) × ((k ≤ 2048) × ((i ≤ 65) × (p < 16777216))) }
+fn push(o: &mut OrdersBuffer, i: u64, k: u64, p: u64)
+    requires { (k ≤ 2048) × ((i ≤ 65) × (p < 16777216)) }
     ensures { Safe o.old o.new k × (Loose o.old k → is_read_as o.old i ≡ true → Pushed o.old o.new i p) }
 {
     let x = o[CHAINS + i as usize];
@@ -363,8 +363,7 @@ fn push(o: &mut [u64], i: u64, k: u64, p: u64)
 }
 
 // Takes a free entry: from the free chain, or the next one that was never in use.
-fn take_free(o: &mut [u64]) -> u64
-    requires { length o.old ≡ orders_words }
+fn take_free(o: &mut OrdersBuffer) -> u64
     ensures { Safe o.old o.new result × (Woven o.old → (count_of (chain_word o.old 64) ≡ 0 → mark_of o.old < 2048) → Taken o.old o.new result) }
 {
     let n = count(o, FREE);
@@ -379,8 +378,8 @@ fn take_free(o: &mut [u64]) -> u64
 // ---- Opening an instance, and adding an entry.
 
 // Opens instance i, of template j.
-pub fn open_chain(o: &mut [u64], i: u64, j: u64)
-    requires { (length o.old ≡ orders_words) × ((i < 64) × (j < 16)) }
+pub fn open_chain(o: &mut OrdersBuffer, i: u64, j: u64)
+    requires { (i < 64) × (j < 16) }
     ensures { (length o.new ≡ length o.old) × (sound_of o.old ≡ true → has (open_of o.old) i ≡ false → Leaves i (just j) [] o.old o.new) }
 {
     let more = set_of(o[OPEN]).with(i);
@@ -391,8 +390,8 @@ pub fn open_chain(o: &mut [u64], i: u64, j: u64)
 }
 
 // Adds an entry to instance i: user u, task t, held by subject a.
-pub fn enter(o: &mut [u64], i: u64, u: u64, t: u64, a: u64)
-    requires { (length o.old ≡ orders_words) × ((u < 1024) × ((i < 64) × ((t < 64) × (a < 128)))) }
+pub fn enter(o: &mut OrdersBuffer, i: u64, u: u64, t: u64, a: u64)
+    requires { (u < 1024) × ((i < 64) × ((t < 64) × (a < 128))) }
     ensures { (length o.new ≡ length o.old) × (sound_of o.old ≡ true → has (open_of o.old) i ≡ true → (count_of (chain_word o.old 64) ≡ 0 → mark_of o.old < 2048) → Leaves i (template_at o.old i) (add (entries_in o.old i) (entry i u t (held a))) o.old o.new) }
 {
     let k = take_free(o);
@@ -402,8 +401,8 @@ pub fn enter(o: &mut [u64], i: u64, u: u64, t: u64, a: u64)
 // ---- Taking an entry out of the middle of a chain.
 
 // Unlinks entry k of chain i, which comes after the first `kept` entries of the chain; q is the last of these.
-fn cut(o: &mut [u64], i: u64, kept: u64, q: u64, k: u64)
-    requires { (length o.old ≡ orders_words) × ((i < 64) × ((q ≤ 2048) × (k ≤ 2048))) }
+fn cut(o: &mut OrdersBuffer, i: u64, kept: u64, q: u64, k: u64)
+    requires { (i < 64) × ((q ≤ 2048) × (k ≤ 2048)) }
     ensures { Cuts o.old o.new i kept q k }
 {
     let x = o[CHAINS + i as usize];
@@ -420,8 +419,8 @@ fn cut(o: &mut [u64], i: u64, kept: u64, q: u64, k: u64)
 }
 
 // The same, and makes the entry free.
-fn free(o: &mut [u64], i: u64, kept: u64, q: u64, k: u64)
-    requires { (length o.old ≡ orders_words) × ((i < 64) × ((q ≤ 2048) × (k ≤ 2048))) }
+fn free(o: &mut OrdersBuffer, i: u64, kept: u64, q: u64, k: u64)
+    requires { (i < 64) × ((q ≤ 2048) × (k ≤ 2048)) }
     ensures { Frees o.old o.new i kept q k }
 {
     cut(o, i, kept, q, k);
@@ -431,8 +430,8 @@ fn free(o: &mut [u64], i: u64, kept: u64, q: u64, k: u64)
 
 // Makes all entries of instance i that fit the key free, in one pass. Returns whether
 // there was one. A key is a task and the subject that holds it, as in a payload.
-fn sift(o: &mut [u64], i: u64, key: u64) -> bool
-    requires { (length o.old ≡ orders_words) × (i < 64) }
+fn sift(o: &mut OrdersBuffer, i: u64, key: u64) -> bool
+    requires { i < 64 }
     ensures { Sifts i key o.old o.new result }
 {
     let x = chain(o, i);
@@ -457,8 +456,8 @@ fn sift(o: &mut [u64], i: u64, key: u64) -> bool
 }
 
 // Subject a releases task t of instance i. Returns whether it held the task.
-pub fn release(o: &mut [u64], i: u64, t: u64, a: u64) -> bool
-    requires { (length o.old ≡ orders_words) × ((i < 64) × ((t < 64) × (a < 128))) }
+pub fn release(o: &mut OrdersBuffer, i: u64, t: u64, a: u64) -> bool
+    requires { (i < 64) × ((t < 64) × (a < 128)) }
     ensures { Acted i (some (held_of i t a) (entries_in o.old i)) (keep (λ e. not (held_of i t a e)) (entries_in o.old i)) o.old o.new result }
 {
     sift(o, i, TASK * t + SUBJECT * a)
@@ -479,8 +478,8 @@ fn turned_word(w: u64, key: u64) -> u64
 }
 
 // Marks all entries of instance i that fit the key as done, in one pass. Returns whether there was one.
-fn turn(o: &mut [u64], i: u64, key: u64) -> bool
-    requires { (length o.old ≡ orders_words) × ((i < 64) × (key % 2 ≡ 0)) }
+fn turn(o: &mut OrdersBuffer, i: u64, key: u64) -> bool
+    requires { (i < 64) × (key % 2 ≡ 0) }
     ensures { Turns i key o.old o.new result }
 {
     let x = chain(o, i);
@@ -500,8 +499,8 @@ fn turn(o: &mut [u64], i: u64, key: u64) -> bool
 }
 
 // Subject a completes task t of instance i. Returns whether it held the task.
-pub fn finish(o: &mut [u64], i: u64, t: u64, a: u64) -> bool
-    requires { (length o.old ≡ orders_words) × ((i < 64) × ((t < 64) × (a < 128))) }
+pub fn finish(o: &mut OrdersBuffer, i: u64, t: u64, a: u64) -> bool
+    requires { (i < 64) × ((t < 64) × (a < 128)) }
     ensures { Acted i (some (held_of i t a) (entries_in o.old i)) (each (turned i t a) (entries_in o.old i)) o.old o.new result }
 {
     if !turn(o, i, TASK * t + SUBJECT * a) {
@@ -515,8 +514,8 @@ pub fn finish(o: &mut [u64], i: u64, t: u64, a: u64) -> bool
 // ---- Closing an instance.
 
 // Makes the newest entry of instance i free, and returns its payload.
-fn drop_one(o: &mut [u64], i: u64) -> u64
-    requires { (length o.old ≡ orders_words) × (i < 64) }
+fn drop_one(o: &mut OrdersBuffer, i: u64) -> u64
+    requires { i < 64 }
     ensures { Drops i o.old o.new result }
 {
     let k = pop(o, i);
@@ -526,8 +525,8 @@ fn drop_one(o: &mut [u64], i: u64) -> u64
 }
 
 // Makes all entries of instance i free.
-fn drop_all(o: &mut [u64], i: u64)
-    requires { (length o.old ≡ orders_words) × (i < 64) }
+fn drop_all(o: &mut OrdersBuffer, i: u64)
+    requires { i < 64 }
     ensures { Empties i o.old o.new }
 {
     let mut n = count(o, i);
@@ -538,8 +537,8 @@ fn drop_all(o: &mut [u64], i: u64)
 }
 
 // Closes instance i and removes its entries.
-pub fn close_chain(o: &mut [u64], i: u64)
-    requires { (length o.old ≡ orders_words) × (i < 64) }
+pub fn close_chain(o: &mut OrdersBuffer, i: u64)
+    requires { i < 64 }
     ensures { (length o.new ≡ length o.old) × (sound_of o.old ≡ true → Leaves i none [] o.old o.new) }
 {
     drop_all(o, i);

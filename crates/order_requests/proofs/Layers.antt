@@ -9,8 +9,7 @@ use Rattle.paper_lower.specs.Checks.{Check, first}
 use Rattle.paper_lower.specs.Lists.{there}
 use Rattle.paper_lower.proofs.CheckLaws.{Numbered, passed}
 use Rattle.paper_upper.specs.Requests.{open_checks}
-use Rattle.replies.specs.Replies.{number_of}
-use Rattle.replies.specs.declared.Reply.{Reply}
+use Rattle.replies.specs.Replies.{Reply, number_of}
 use Rattle.replies.proofs.ReplyLaws.{is_zero}
 use Rattle.replies.proofs.DoneLaws.{goes_on}
 use Rattle.order_entries.specs.Reading.{orders_of}

@@ -5,9 +5,8 @@
 use Rattle.std.specs.Prelude.{ℕ, true, List, ◌≡◌}
 use Rattle.paper_lower.specs.Checks.{first}
 use Rattle.paper_upper.specs.Requests.{open_checks, open_next, end_checks, end_next, figures_checks}
-use Rattle.replies.specs.Replies.{number_of}
+use Rattle.replies.specs.Replies.{Reply, number_of}
 use Rattle.replies.specs.Done.{Done}
-use Rattle.replies.specs.declared.Reply.{Reply}
 use Rattle.sessions.specs.Both.{Both}
 use Rattle.order_links.specs.Chains.{sound_of}
 use Rattle.order_requests.specs.Tables.{engine_tables, delete_whole, delete_whole_next, destroy_whole, destroy_whole_next}

@@ -7,12 +7,10 @@ use mathlib.Core.Path.{◌≡◌, sym, ◌∙◌}
 use borrow.Author.Tests.{eq-eqb, ne_eqb}
 use Rattle.paper_lower.specs.Checks.{Check}
 use Rattle.paper_upper.specs.Rules.{found}
-use Rattle.replies.specs.Replies.{number_of}
-use Rattle.replies.specs.declared.Reply.{Reply}
-use Rattle.order_rules.specs.declared.Judged.{Judged}
+use Rattle.replies.specs.Replies.{Reply, number_of, Outcome, outcome_number, outcome_place}
 use Rattle.order_rules.specs.Judging.{Verdict}
 
-module _ {f : ℕ → ℕ} {cs : List Check} {r : Judged} where
+module _ {f : ℕ → ℕ} {cs : List Check} {r : Outcome} where
   pub by_place : {n x v : ℕ} (y : Reply) → r ≡ record { reply = y; place = x } → number_of y ≡ n → v ≡ f (number_of y) → x ≡ v → (x ≡ 0 → ⊥) →
       Verdict ((found v, n) ∷ cs) f r
   by_place {x = x} y e m g h ne = rw (e, ← h, ne_eqb x 0 ne) (record { replies = m; places = h ∙ g })
@@ -27,5 +25,5 @@ module _ {f : ℕ → ℕ} {cs : List Check} {r : Judged} where
   pub not-by-test : {n : ℕ} {x b : Bool} → x ≡ b → x ≡ false → Verdict cs f r → Verdict ((b, n) ∷ cs) f r
   not-by-test h b rest = rw (sym h ∙ b) (record { replies = rest.replies; places = rest.places })
 
-pub by-none : {f : ℕ → ℕ} {r : Judged} (y : Reply) → r ≡ record { reply = y; place = 0 } → number_of y ≡ 0 → 0 ≡ f (number_of y) → Verdict [] f r
+pub by-none : {f : ℕ → ℕ} {r : Outcome} (y : Reply) → r ≡ record { reply = y; place = 0 } → number_of y ≡ 0 → 0 ≡ f (number_of y) → Verdict [] f r
 by-none y e m g = rw e (record { replies = m; places = g })

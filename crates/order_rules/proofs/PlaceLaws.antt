@@ -10,11 +10,10 @@ use Rattle.paper_lower.specs.Lists.{some, many, place_from, place, first_of}
 use Rattle.paper_lower.specs.Checks.{Check, BEFORE, SEPARATION, BLOCK, BOUND}
 use Rattle.paper_lower.specs.Tables.{Rules}
 use Rattle.paper_upper.specs.Rules.{before, separation, own, strange, block_within, block, bound, rule_place}
-use Rattle.replies.specs.declared.Reply.{Reply}
+use Rattle.replies.specs.Replies.{Reply, Outcome, outcome_number, outcome_place}
 use Rattle.policy.specs.Layout.{limit_count, block_count, pair_count}
 use Rattle.policy.specs.Reading.{policy_of}
 use Rattle.policy.proofs.RuleLaws.{limits-many, blocks-many, pairs-many}
-use Rattle.order_rules.specs.declared.Judged.{Judged}
 use Rattle.order_rules.specs.Judging.{Verdict}
 
 from-within : {A : Type 0} (k : ℕ) (p : A → Bool) (xs : List A) → place_from (suc k) p xs ≤ k + many xs
@@ -59,9 +58,9 @@ policy-place p d finished others t reply =
     let e = pairs-many p 1 (omega arith) in
     rule-place-within 64 (policy_of p).rules (omega arith) (omega arith) (omega arith) (omega arith) d finished others t reply
 
-pub judged-place : (p : List ℕ) {cs : List Check} (d finished others : Set) (t : ℕ) {j : Judged} →
-    Verdict cs (rule_place (policy_of p).rules d finished others t) j → j.place ≤ 64
+pub judged-place : (p : List ℕ) {cs : List Check} (d finished others : Set) (t : ℕ) {j : Outcome} →
+    Verdict cs (rule_place (policy_of p).rules d finished others t) j → outcome_place j ≤ 64
 judged-place p d finished others t v = rw v.places (policy-place p d finished others t _)
 
-pub plain-place : {r : Reply} {j : Judged} → j ≡ record { reply = r; place = 0 } → j.place ≤ 64
+pub plain-place : {r : Reply} {j : Outcome} → j ≡ record { reply = r; place = 0 } → outcome_place j ≤ 64
 plain-place e = rw e (omega arith)

@@ -12,52 +12,47 @@ ghost use Rattle.policy.specs.Reading.{policy_of};
 ghost use Rattle.order_rules.specs.Blocks.{after, apart};
 ghost use Rattle.order_rules.specs.Judging.{Judging};
 
-use replies::Reply;
+use policy::{PairKind, PolicyBuffer, SetKind};
+use replies::{Outcome, Refusal, Refused};
 use sets::Set;
 
 // ---- BEFORE.
 
 // Whether prerequisite k requires a task before t that is not done.
-fn is_missing(p: &[u64], k: usize, finished: Set, t: u64) -> bool
-    requires { (length p.now ≡ policy_words) × (k < 64) }
+fn is_missing(p: &PolicyBuffer, k: usize, finished: Set, t: u64) -> bool
+    requires { k < 64 }
     ensures { result ≡ missing finished.bits t (pair_at 1 p.now k) }
 {
-    let a = policy::pair_a(p, 1, k);
-    let b = policy::pair_b(p, 1, k);
+    let a = policy::pair_a(p, PairKind::Prerequisite, k);
+    let b = policy::pair_b(p, PairKind::Prerequisite, k);
     (b == t) & !finished.has(a)
 }
 
 // Whether anything is required before t. Most claims need no further search. The loop has no early exit, so that the compiler can vectorise it.
-fn has_before(p: &[u64], t: u64) -> bool
-    requires { length p.now ≡ policy_words }
+fn has_before(p: &PolicyBuffer, t: u64) -> bool
     ensures { result ≡ some (after t) (policy_of p.now).rules.befores }
 {
-    let count = policy::pair_count(p, 1);
-    let mut k = 0;
+    let count = policy::pair_count(p, PairKind::Prerequisite);
     let mut found = false;
-    while k < count {
-        let b = policy::pair_b(p, 1, k);
+    for k in 0..count {
+        let b = policy::pair_b(p, PairKind::Prerequisite, k);
         found = (b == t) | found;
-        k += 1;
     }
     found
 }
 
 // The place of the first prerequisite that refuses t.
-fn before(p: &[u64], finished: Set, t: u64) -> u64
-    requires { length p.now ≡ policy_words }
+fn before(p: &PolicyBuffer, finished: Set, t: u64) -> u64
     ensures { result ≡ before (policy_of p.now).rules finished.bits t }
 {
     if !has_before(p, t) {
         return 0;
     }
-    let count = policy::pair_count(p, 1);
-    let mut k = 0;
-    while k < count {
+    let count = policy::pair_count(p, PairKind::Prerequisite);
+    for k in 0..count {
         if is_missing(p, k, finished, t) {
             return k as u64 + 1;
         }
-        k += 1;
     }
     0
 }
@@ -65,31 +60,29 @@ fn before(p: &[u64], finished: Set, t: u64) -> u64
 // ---- SEPARATION.
 
 // Whether task set k has t and n or more other members in d.
-fn is_crowded(p: &[u64], k: usize, d: Set, t: u64) -> bool
-    requires { (length p.now ≡ policy_words) × ((k < 32) × (t < 64)) }
+fn is_crowded(p: &PolicyBuffer, k: usize, d: Set, t: u64) -> bool
+    requires { (k < 32) × (t < 64) }
     ensures { result ≡ crowded d.bits t (limit_at 2 p.now k) }
 {
-    let members = policy::limit_members(p, 2, k);
+    let members = policy::limit_members(p, SetKind::Task, k);
     if !members.has(t) {
         return false;
     }
-    let n = policy::limit_n(p, 2, k);
+    let n = policy::limit_n(p, SetKind::Task, k);
     let others = d.without(t);
     n <= members.overlap(others)
 }
 
 // The place of the first task set that refuses t.
-fn separation(p: &[u64], d: Set, t: u64) -> u64
-    requires { (length p.now ≡ policy_words) × (t < 64) }
+fn separation(p: &PolicyBuffer, d: Set, t: u64) -> u64
+    requires { t < 64 }
     ensures { result ≡ separation (policy_of p.now).rules d.bits t }
 {
-    let count = policy::limit_count(p, 2);
-    let mut k = 0;
-    while k < count {
+    let count = policy::limit_count(p, SetKind::Task);
+    for k in 0..count {
         if is_crowded(p, k, d, t) {
             return k as u64 + 1;
         }
-        k += 1;
     }
     0
 }
@@ -97,8 +90,8 @@ fn separation(p: &[u64], d: Set, t: u64) -> u64
 // ---- BLOCK.
 
 // Whether block k is of partitioning q and has t.
-fn is_own(p: &[u64], k: usize, q: u64, t: u64) -> bool
-    requires { (length p.now ≡ policy_words) × ((k < 64) × (t < 64)) }
+fn is_own(p: &PolicyBuffer, k: usize, q: u64, t: u64) -> bool
+    requires { (k < 64) × (t < 64) }
     ensures { result ≡ own q t (block_at p.now k) }
 {
     let tasks = policy::block_tasks(p, k);
@@ -106,24 +99,22 @@ fn is_own(p: &[u64], k: usize, q: u64, t: u64) -> bool
 }
 
 // Whether some block of partitioning q has t.
-fn has_own(p: &[u64], q: u64, t: u64) -> bool
-    requires { (length p.now ≡ policy_words) × (t < 64) }
+fn has_own(p: &PolicyBuffer, q: u64, t: u64) -> bool
+    requires { t < 64 }
     ensures { result ≡ some (own q t) (policy_of p.now).rules.blocks }
 {
     let count = policy::block_count(p);
-    let mut k = 0;
-    while k < count {
+    for k in 0..count {
         if is_own(p, k, q, t) {
             return true;
         }
-        k += 1;
     }
     false
 }
 
 // Whether block k is of partitioning q, does not have t, and has a task of d.
-fn is_strange(p: &[u64], k: usize, q: u64, d: Set, t: u64) -> bool
-    requires { (length p.now ≡ policy_words) × ((k < 64) × (t < 64)) }
+fn is_strange(p: &PolicyBuffer, k: usize, q: u64, d: Set, t: u64) -> bool
+    requires { (k < 64) × (t < 64) }
     ensures { result ≡ strange q d.bits t (block_at p.now k) }
 {
     let tasks = policy::block_tasks(p, k);
@@ -131,8 +122,8 @@ fn is_strange(p: &[u64], k: usize, q: u64, d: Set, t: u64) -> bool
 }
 
 // Whether block k, of any partitioning, does not have t and has a task of d.
-fn is_apart(p: &[u64], k: usize, d: Set, t: u64) -> bool
-    requires { (length p.now ≡ policy_words) × ((k < 64) × (t < 64)) }
+fn is_apart(p: &PolicyBuffer, k: usize, d: Set, t: u64) -> bool
+    requires { (k < 64) × (t < 64) }
     ensures { result ≡ apart d.bits t (block_at p.now k) }
 {
     let tasks = policy::block_tasks(p, k);
@@ -141,26 +132,24 @@ fn is_apart(p: &[u64], k: usize, d: Set, t: u64) -> bool
 
 // Whether there is such a block. Without one no claim is refused, so that most claims need no further search. The loop has no early exit, so that the
 // compiler can vectorise it.
-fn has_apart(p: &[u64], d: Set, t: u64) -> bool
-    requires { (length p.now ≡ policy_words) × (t < 64) }
+fn has_apart(p: &PolicyBuffer, d: Set, t: u64) -> bool
+    requires { t < 64 }
     ensures { result ≡ some (apart d.bits t) (policy_of p.now).rules.blocks }
 {
     if d.is_empty() {
         return false;
     }
     let count = policy::block_count(p);
-    let mut k = 0;
     let mut found = false;
-    while k < count {
+    for k in 0..count {
         found = is_apart(p, k, d, t) | found;
-        k += 1;
     }
     found
 }
 
 // The place of the block that refuses t: the first block with a task of d, but without t, in the first partitioning that also has t in a block.
-fn block(p: &[u64], d: Set, t: u64) -> u64
-    requires { (length p.now ≡ policy_words) × (t < 64) }
+fn block(p: &PolicyBuffer, d: Set, t: u64) -> u64
+    requires { t < 64 }
     ensures { result ≡ block (policy_of p.now).rules d.bits t }
 {
     if !has_apart(p, d, t) {
@@ -173,12 +162,10 @@ fn block(p: &[u64], d: Set, t: u64) -> u64
             break 'search 0;
         }
         if has_own(p, q, t) {
-            let mut k: usize = 0;
-            while k < count {
+            for k in 0..count {
                 if is_strange(p, k, q, d, t) {
                     break 'search k as u64 + 1;
                 }
-                k += 1;
             }
         }
         q += 1;
@@ -189,8 +176,8 @@ fn block(p: &[u64], d: Set, t: u64) -> u64
 // ---- ALONE.
 
 // Whether the template is banned for lone workers and has two or more tasks, all of which other than t are in d.
-fn alone(p: &[u64], template: u64, d: Set, t: u64) -> bool
-    requires { (length p.now ≡ policy_words) × ((template < 16) × (t < 64)) }
+fn alone(p: &PolicyBuffer, template: u64, d: Set, t: u64) -> bool
+    requires { (template < 16) × (t < 64) }
     ensures { result ≡ alone (policy_of p.now).tasks (just template) d.bits t }
 {
     if !policy::banned(p, template as usize) {
@@ -205,12 +192,12 @@ fn alone(p: &[u64], template: u64, d: Set, t: u64) -> bool
 // ---- BOUND.
 
 // Whether t is on one side of binding k and another user has an entry of the task on the other side.
-fn is_tied(p: &[u64], k: usize, others: Set, t: u64) -> bool
-    requires { (length p.now ≡ policy_words) × (k < 64) }
+fn is_tied(p: &PolicyBuffer, k: usize, others: Set, t: u64) -> bool
+    requires { k < 64 }
     ensures { result ≡ tied others.bits t (pair_at 0 p.now k) }
 {
-    let a = policy::pair_a(p, 0, k);
-    let b = policy::pair_b(p, 0, k);
+    let a = policy::pair_a(p, PairKind::Binding, k);
+    let b = policy::pair_b(p, PairKind::Binding, k);
     if (a != t) & (b != t) {
         return false;
     }
@@ -218,81 +205,69 @@ fn is_tied(p: &[u64], k: usize, others: Set, t: u64) -> bool
 }
 
 // The place of the first binding that refuses t.
-fn bound(p: &[u64], others: Set, t: u64) -> u64
-    requires { length p.now ≡ policy_words }
+fn bound(p: &PolicyBuffer, others: Set, t: u64) -> u64
     ensures { result ≡ bound (policy_of p.now).rules others.bits t }
 {
     if others.is_empty() {
         return 0;
     }
-    let count = policy::pair_count(p, 0);
-    let mut k = 0;
-    while k < count {
+    let count = policy::pair_count(p, PairKind::Binding);
+    for k in 0..count {
         if is_tied(p, k, others, t) {
             return k as u64 + 1;
         }
-        k += 1;
     }
     0
 }
 
 // ---- All rules.
 
-// A reply, and the place of the rule that gives it, or 0.
-#[derive(Clone, Copy)]
-pub struct Judged {
-    pub reply: Reply,
-    pub place: u64,
-}
-
 // The reply of the first claim rule that refuses task t, in the order of the rules, and its place.
 pub fn judge(
-    p: &[u64],
+    p: &PolicyBuffer,
     template: u64,
     mine: Set,
     done: Set,
     others: Set,
     times: u64,
     t: u64,
-) -> Judged
-    requires { (length p.now ≡ policy_words) × ((template < 16) × (t < 64)) }
+) -> Outcome
+    requires { (template < 16) × (t < 64) }
     ensures { Judging (policy_of p.now).tasks (policy_of p.now).rules (just template) mine.bits done.bits others.bits times t result }
 {
     let missing = before(p, done, t);
     if missing != 0 {
-        return answer(Reply::Before, missing);
+        return Err(Refused {
+            refusal: Refusal::Before,
+            place: missing,
+        });
     }
     let crowded = separation(p, mine, t);
     if crowded != 0 {
-        return answer(Reply::Separation, crowded);
+        return Err(Refused {
+            refusal: Refusal::Separation,
+            place: crowded,
+        });
     }
     let strange = block(p, mine, t);
     if strange != 0 {
-        return answer(Reply::Block, strange);
+        return Err(Refused {
+            refusal: Refusal::Block,
+            place: strange,
+        });
     }
     if alone(p, template, mine, t) {
-        return answer(Reply::Alone, 0);
+        return Err(Refused::from(Refusal::Alone));
     }
     let tied = bound(p, others, t);
     if tied != 0 {
-        return answer(Reply::Bound, tied);
+        return Err(Refused {
+            refusal: Refusal::Bound,
+            place: tied,
+        });
     }
     if policy::limit_reached(p, t as usize, times) {
-        return answer(Reply::Count, 0);
+        return Err(Refused::from(Refusal::Count));
     }
-    answer(Reply::Granted, 0)
-}
-
-// A reply without a place.
-pub fn plain(reply: Reply) -> Judged
-    ensures { result ≡ record { reply = reply; place = 0 } }
-{
-    answer(reply, 0)
-}
-
-// A reply with a place.
-fn answer(reply: Reply, place: u64) -> Judged
-    ensures { result ≡ record { reply = reply; place = place } }
-{
-    Judged { reply, place }
+    Ok(())
 }

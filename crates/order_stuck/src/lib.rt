@@ -13,42 +13,42 @@ ghost use Rattle.policy.specs.Reading.{policy_of};
 ghost use Rattle.policy.specs.Promises.{Judged};
 ghost use Rattle.order_stuck.specs.Listing.{waits, waiting, or_else, Listed};
 
-use replies::Reply;
+use policy::{PairKind, PolicyBuffer};
+use replies::{Refusal, Reply};
 use sets::Set;
 
 // ---- The reply.
 
 // The reply to request 60 about template j.
-pub fn judge(p: &[u64], j: u64) -> Reply
-    requires { (length p.now ≡ policy_words) × (j < 16) }
+pub fn judge(p: &PolicyBuffer, j: u64) -> Reply
+    requires { j < 16 }
     ensures { Judged (λ k. stuck_checks k.tasks j) p.now result }
 {
     if policy_lookups::has_task(p, j) {
-        Reply::Granted
+        Ok(())
     } else {
-        Reply::Unknown
+        Err(Refusal::Unknown)
     }
 }
 
 // ---- The next task of the list.
 
 // The set `rest`, with the later task of pair k added unless the earlier one is in `had`.
-fn with_pair(p: &[u64], k: usize, had: Set, rest: Set) -> Set
-    requires { (length p.now ≡ policy_words) × (k < 64) }
+fn with_pair(p: &PolicyBuffer, k: usize, had: Set, rest: Set) -> Set
+    requires { k < 64 }
     ensures { result.bits ≡ waits had.bits (pair_at 1 p.now k) rest.bits }
 {
-    let a = policy::pair_a(p, 1, k);
-    let b = policy::pair_b(p, 1, k);
+    let a = policy::pair_a(p, PairKind::Prerequisite, k);
+    let b = policy::pair_b(p, PairKind::Prerequisite, k);
     if had.has(a) { rest } else { rest.with(b) }
 }
 
 // The tasks that wait for a task that is not in `had`.
-fn waiting(p: &[u64], had: Set) -> Set
-    requires { length p.now ≡ policy_words }
+fn waiting(p: &PolicyBuffer, had: Set) -> Set
     ensures { result.bits ≡ waiting had.bits (policy_of p.now).rules.befores }
 {
     let mut all = Set::EMPTY;
-    let mut k = policy::pair_count(p, 1);
+    let mut k = policy::pair_count(p, PairKind::Prerequisite);
     while 0 < k {
         k -= 1;
         all = with_pair(p, k, had, all);
@@ -73,8 +73,7 @@ fn lowest(m: Set) -> u64
 }
 
 // The lowest task of m that may follow the tasks in `had`, or 64 if there is none.
-fn next(p: &[u64], m: Set, had: Set) -> u64
-    requires { length p.now ≡ policy_words }
+fn next(p: &PolicyBuffer, m: Set, had: Set) -> u64
     ensures { result ≡ or_else 64 (lowest_from 0 64 (may m.bits (policy_of p.now).rules.befores had.bits)) }
 {
     let wait = waiting(p, had);
@@ -84,8 +83,8 @@ fn next(p: &[u64], m: Set, had: Set) -> u64
 // ---- The list.
 
 // Writes the free tasks of m from word 2 on and their number to word 1, and returns them as a set.
-fn list(p: &[u64], m: Set, out: &mut [u64]) -> Set
-    requires { (length p.now ≡ policy_words) × (length out.old ≡ answer_words) }
+fn list(p: &PolicyBuffer, m: Set, out: &mut [u64]) -> Set
+    requires { length out.old ≡ answer_words }
     ensures { Listed m.bits (policy_of p.now).rules.befores out.old out.new result.bits }
 {
     let mut had = Set::EMPTY;
@@ -106,24 +105,22 @@ fn list(p: &[u64], m: Set, out: &mut [u64]) -> Set
 // ---- The answer.
 
 // The tasks of template j.
-fn tasks_of(p: &[u64], j: u64) -> Set
-    requires { (length p.now ≡ policy_words) × (j < 16) }
+fn tasks_of(p: &PolicyBuffer, j: u64) -> Set
+    requires { j < 16 }
     ensures { result.bits ≡ tasks_of (policy_of p.now).tasks j }
 {
     let mut all = Set::EMPTY;
-    let mut t = 0;
-    while t < 64 {
+    for t in 0..64 {
         if policy::task_is_of(p, t, j) {
             all = all.with(t as u64);
         }
-        t += 1;
     }
     all
 }
 
 // Writes the answer about template j, into words that are 0: the set of its stuck tasks, the number of free ones, and the free ones in their order.
-pub fn answer(p: &[u64], j: u64, out: &mut [u64])
-    requires { (length p.now ≡ policy_words) × ((j < 16) × (out.old ≡ replicate answer_words 0)) }
+pub fn answer(p: &PolicyBuffer, j: u64, out: &mut [u64])
+    requires { (j < 16) × (out.old ≡ replicate answer_words 0) }
     ensures { out.new ≡ padded (stuck_of (policy_of p.now).tasks (policy_of p.now).rules j) }
 {
     let m = tasks_of(p, j);

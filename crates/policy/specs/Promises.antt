@@ -2,8 +2,7 @@
 use Rattle.std.specs.Prelude.{ℕ, List, ◌≡◌}
 use Rattle.paper_lower.specs.Checks.{Check, first}
 use Rattle.paper_lower.specs.Tables.{Policy}
-use Rattle.replies.specs.Replies.{number_of}
-use Rattle.replies.specs.declared.Reply.{Reply}
+use Rattle.replies.specs.Replies.{Reply, number_of}
 use Rattle.replies.specs.Done.{Done}
 use Rattle.policy.specs.Reading.{policy_of}
 

@@ -7,6 +7,7 @@ ghost use Rattle.paper_lower.specs.Sets.{has};
 ghost use Rattle.paper_lower.specs.Lists.{holds, there, is};
 ghost use Rattle.paper_lower.specs.Policy.{together};
 ghost use Rattle.policy.specs.Layout.{policy_words, same, seniors_in, flag_of, permission_of, table_in, bucket_table, bucket_of, first_in, second_in, eights_in, first_anew, second_anew, eights_anew, among, listing_for, row_holds, in_bucket, unless_in, unless_stray, limit_count, limit_at, block_count, block_at, pair_count, pair_at, wall_word, wall_count, walled_at, wall_rows, walled_is};
+ghost use Rattle.policy.specs.Kinds.{set_index, pair_index};
 ghost use Rattle.policy.specs.Reading.{policy_of, value_of, Cleared, Ready, Tidied, roles_anew, user_anew, assigned_anew, juniors_anew, below_anew, permission_anew, holders_anew, carriers_anew, template_anew, open_to_anew, banned_anew, most_anew, limit_added, block_added, pair_added, wall_added};
 
 use sets::Set;
@@ -66,35 +67,78 @@ const WALL_BUCKETS: usize = WALLED + 256;
 // The length of the buffer. A new table goes here, at the end, so that it moves no other.
 pub const POLICY_WORDS: usize = WALL_BUCKETS + 256;
 
+// The policy buffer: the words that a caller lends for the policy.
+pub type PolicyBuffer = [u64; POLICY_WORDS];
+
+// ---- The kinds of rules whose tables stand side by side.
+
+// The sets of roles or tasks of which no one may have more than n members.
+#[derive(Clone, Copy, PartialEq, Eq)]
+pub enum SetKind {
+    Static,
+    Dynamic,
+    Task,
+}
+
+impl SetKind {
+    // The position of the kind's tables.
+    pub fn index(self) -> usize
+        ensures { (result ≡ set_index self) × (result < 3) }
+    {
+        match self {
+            SetKind::Static => 0,
+            SetKind::Dynamic => 1,
+            SetKind::Task => 2,
+        }
+    }
+}
+
+// The pairs of tasks.
+#[derive(Clone, Copy, PartialEq, Eq)]
+pub enum PairKind {
+    Binding,
+    Prerequisite,
+}
+
+impl PairKind {
+    // The position of the kind's tables.
+    pub fn index(self) -> usize
+        ensures { (result ≡ pair_index self) × (result < 2) }
+    {
+        match self {
+            PairKind::Binding => 0,
+            PairKind::Prerequisite => 1,
+        }
+    }
+}
+
 // ---- People.
 
 // The declared roles.
-pub fn declared_roles(p: &[u64]) -> Set
-    requires { length p.now ≡ policy_words }
+pub fn declared_roles(p: &PolicyBuffer) -> Set
     ensures { result.bits ≡ (policy_of p.now).people.roles }
 {
     Set { bits: p[ROLES] }
 }
 
 // Replaces the set of declared roles.
-pub fn set_declared_roles(p: &mut [u64], roles: Set)
-    requires { length p.old ≡ policy_words }
+pub fn set_declared_roles(p: &mut PolicyBuffer, roles: Set)
     ensures { policy_of p.new ≡ roles_anew (policy_of p.old) roles.bits }
 {
     p[ROLES] = roles.bits;
 }
 
 // Whether user a is declared.
-pub fn user_declared(p: &[u64], a: usize) -> bool
-    requires { (length p.now ≡ policy_words) × (a < 1024) }
+pub fn user_declared(p: &PolicyBuffer, a: usize) -> bool
+    requires { a < 1024 }
     ensures { result ≡ (policy_of p.now).people.users a }
 {
     p[USERS + a] % 2 == 1
 }
 
 // Declares user a (1) or removes the declaration (0), and replaces the user's roles.
-pub fn set_user(p: &mut [u64], a: usize, declared: u64, roles: Set)
-    requires { (length p.old ≡ policy_words) × (a < 1024) }
+pub fn set_user(p: &mut PolicyBuffer, a: usize, declared: u64, roles: Set)
+    requires { a < 1024 }
     ensures { policy_of p.new ≡ user_anew (policy_of p.old) a (flag_of declared) roles.bits }
 {
     p[USERS + a] = declared;
@@ -102,8 +146,8 @@ pub fn set_user(p: &mut [u64], a: usize, declared: u64, roles: Set)
 }
 
 // The roles assigned to user a.
-pub fn assigned(p: &[u64], a: usize) -> Set
-    requires { (length p.now ≡ policy_words) × (a < 1024) }
+pub fn assigned(p: &PolicyBuffer, a: usize) -> Set
+    requires { a < 1024 }
     ensures { result.bits ≡ (policy_of p.now).people.assigned a }
 {
     Set {
@@ -112,8 +156,8 @@ pub fn assigned(p: &[u64], a: usize) -> Set
 }
 
 // Replaces the roles assigned to user a.
-pub fn set_assigned(p: &mut [u64], a: usize, roles: Set)
-    requires { (length p.old ≡ policy_words) × (a < 1024) }
+pub fn set_assigned(p: &mut PolicyBuffer, a: usize, roles: Set)
+    requires { a < 1024 }
     ensures { policy_of p.new ≡ assigned_anew (policy_of p.old) a roles.bits }
 {
     p[ASSIGNED + a] = roles.bits;
@@ -122,8 +166,8 @@ pub fn set_assigned(p: &mut [u64], a: usize, roles: Set)
 // ---- Senior roles.
 
 // The roles that records of kind 17 put below role r.
-pub fn juniors(p: &[u64], r: usize) -> Set
-    requires { (length p.now ≡ policy_words) × (r < 64) }
+pub fn juniors(p: &PolicyBuffer, r: usize) -> Set
+    requires { r < 64 }
     ensures { result.bits ≡ (policy_of p.now).seniority.juniors r }
 {
     Set {
@@ -132,24 +176,23 @@ pub fn juniors(p: &[u64], r: usize) -> Set
 }
 
 // Replaces these roles.
-pub fn set_juniors(p: &mut [u64], r: usize, roles: Set)
-    requires { (length p.old ≡ policy_words) × (r < 64) }
+pub fn set_juniors(p: &mut PolicyBuffer, r: usize, roles: Set)
+    requires { r < 64 }
     ensures { policy_of p.new ≡ juniors_anew (policy_of p.old) r roles.bits }
 {
     p[JUNIORS + r] = roles.bits;
 }
 
 // The roles that have a role below them.
-pub fn seniors(p: &[u64]) -> Set
-    requires { length p.now ≡ policy_words }
+pub fn seniors(p: &PolicyBuffer) -> Set
     ensures { result.bits ≡ seniors_in p.now }
 {
     Set { bits: p[SENIORS] }
 }
 
 // All roles below role r, at any distance.
-pub fn below(p: &[u64], r: usize) -> Set
-    requires { (length p.now ≡ policy_words) × (r < 64) }
+pub fn below(p: &PolicyBuffer, r: usize) -> Set
+    requires { r < 64 }
     ensures { result.bits ≡ (policy_of p.now).seniority.below r }
 {
     if !seniors(p).has(r as u64) {
@@ -159,16 +202,16 @@ pub fn below(p: &[u64], r: usize) -> Set
 }
 
 // The same for a role that is known to have a role below it.
-pub fn below_senior(p: &[u64], r: usize) -> Set
-    requires { (length p.now ≡ policy_words) × ((r < 64) × (has (seniors_in p.now) r ≡ true)) }
+pub fn below_senior(p: &PolicyBuffer, r: usize) -> Set
+    requires { (r < 64) × (has (seniors_in p.now) r ≡ true) }
     ensures { result.bits ≡ (policy_of p.now).seniority.below r }
 {
     Set { bits: p[BELOW + r] }
 }
 
 // Replaces all roles below role r, and marks r as a role that has a role below it. The old row need not be read.
-pub fn set_below(p: &mut [u64], r: usize, roles: Set)
-    requires { (length p.old ≡ policy_words) × (r < 64) }
+pub fn set_below(p: &mut PolicyBuffer, r: usize, roles: Set)
+    requires { r < 64 }
     ensures { policy_of p.new ≡ below_anew (policy_of p.old) r roles.bits }
 {
     let more = seniors(p).with(r as u64);
@@ -193,8 +236,8 @@ fn bucket_of(operation: u64, object: u64) -> usize
 }
 
 // The word of a bucket, which lists permissions.
-fn listing_in(p: &[u64], bucket: usize) -> u64
-    requires { (length p.now ≡ policy_words) × (bucket < 1024) }
+fn listing_in(p: &PolicyBuffer, bucket: usize) -> u64
+    requires { bucket < 1024 }
     ensures { result ≡ table_in bucket_table p.now bucket }
 {
     p[BUCKETS + bucket]
@@ -234,8 +277,8 @@ fn among(w: u64, b: usize) -> bool
 }
 
 // Whether permission b is declared: its row has a pair, and the bucket of that pair lists b.
-pub fn permission_declared(p: &[u64], b: usize) -> bool
-    requires { (length p.now ≡ policy_words) × (b < 256) }
+pub fn permission_declared(p: &PolicyBuffer, b: usize) -> bool
+    requires { b < 256 }
     ensures { result ≡ there ((policy_of p.now).permissions.declared b) }
 {
     let word = p[PERMISSIONS + b];
@@ -245,8 +288,8 @@ pub fn permission_declared(p: &[u64], b: usize) -> bool
 }
 
 // The operation of permission b, or 0 if b is not declared.
-pub fn permission_operation(p: &[u64], b: usize) -> u64
-    requires { (length p.now ≡ policy_words) × (b < 256) }
+pub fn permission_operation(p: &PolicyBuffer, b: usize) -> u64
+    requires { b < 256 }
     ensures { (result ≡ value_of (λ x. x.operation) ((policy_of p.now).permissions.declared b)) × (result < 65536) }
 {
     if !permission_declared(p, b) {
@@ -256,8 +299,8 @@ pub fn permission_operation(p: &[u64], b: usize) -> u64
 }
 
 // The object of permission b, or 0 if b is not declared.
-pub fn permission_object(p: &[u64], b: usize) -> u64
-    requires { (length p.now ≡ policy_words) × (b < 256) }
+pub fn permission_object(p: &PolicyBuffer, b: usize) -> u64
+    requires { b < 256 }
     ensures { (result ≡ value_of (λ x. x.object) ((policy_of p.now).permissions.declared b)) × (result < 65536) }
 {
     if !permission_declared(p, b) {
@@ -267,16 +310,16 @@ pub fn permission_object(p: &[u64], b: usize) -> u64
 }
 
 // The word that lists every permission for this operation on this object, and possibly others.
-pub fn listing_for(p: &[u64], operation: u64, object: u64) -> u64
-    requires { (length p.now ≡ policy_words) × ((operation < 65536) × (object < 65536)) }
+pub fn listing_for(p: &PolicyBuffer, operation: u64, object: u64) -> u64
+    requires { (operation < 65536) × (object < 65536) }
     ensures { result ≡ listing_for p.now operation object }
 {
     listing_in(p, bucket_of(operation, object))
 }
 
 // Whether row b has this pair, by one comparison of its word. It is a declared permission only if listing_for lists it too.
-pub fn row_is(p: &[u64], b: usize, operation: u64, object: u64) -> bool
-    requires { (length p.now ≡ policy_words) × ((b < 256) × ((operation < 65536) × (object < 65536))) }
+pub fn row_is(p: &PolicyBuffer, b: usize, operation: u64, object: u64) -> bool
+    requires { (b < 256) × ((operation < 65536) × (object < 65536)) }
     ensures { result ≡ row_holds p.now operation object b }
 {
     p[PERMISSIONS + b] == DECLARED + operation + 65536 * object
@@ -312,15 +355,13 @@ fn is_in(word: u64, bucket: usize) -> bool
 
 // Empties those rows of a group of eight that the bucket does not list although their pair has this bucket. They do not count now, but would count once the
 // bucket lists the group. No load leaves such rows; other contents of the buffer may have them and must read as before.
-fn empty_strays(p: &mut [u64], eight: usize, bucket: usize)
-    requires { (length p.old ≡ policy_words) × ((eight < 32) × (bucket < 1024)) }
+fn empty_strays(p: &mut PolicyBuffer, eight: usize, bucket: usize)
+    requires { (eight < 32) × (bucket < 1024) }
     ensures { Tidied p.old eight bucket (8 * eight + 8) p.new }
 {
     let w = listing_in(p, bucket);
-    let mut b = 8 * eight;
-    while b < 8 * eight + 8 {
+    for b in 8 * eight..8 * eight + 8 {
         p[PERMISSIONS + b] = unless_stray(p[PERMISSIONS + b], bucket, among(w, b));
-        b += 1;
     }
 }
 
@@ -351,8 +392,8 @@ fn eights_anew(w: u64, a: usize) -> u64
 
 // The bucket's word with permission a listed too. If both numbers are equal, a replaces the first. If the row of the second number is not of this bucket,
 // listing it has no effect, and a replaces it. Otherwise the group of a is added.
-fn listing_with(p: &mut [u64], a: usize, bucket: usize) -> u64
-    requires { (length p.old ≡ policy_words) × ((a < 256) × (bucket < 1024)) }
+fn listing_with(p: &mut PolicyBuffer, a: usize, bucket: usize) -> u64
+    requires { (a < 256) × (bucket < 1024) }
     ensures { Ready p.old a bucket p.new result }
 {
     let w = listing_in(p, bucket);
@@ -369,8 +410,8 @@ fn listing_with(p: &mut [u64], a: usize, bucket: usize) -> u64
 }
 
 // Declares permission a: writes its row, and lists it in the bucket of its pair.
-pub fn set_permission(p: &mut [u64], a: usize, operation: u64, object: u64)
-    requires { (length p.old ≡ policy_words) × ((a < 256) × ((operation < 65536) × (object < 65536))) }
+pub fn set_permission(p: &mut PolicyBuffer, a: usize, operation: u64, object: u64)
+    requires { (a < 256) × ((operation < 65536) × (object < 65536)) }
     ensures { policy_of p.new ≡ permission_anew (policy_of p.old) a operation object }
 {
     let bucket = bucket_of(operation, object);
@@ -380,8 +421,8 @@ pub fn set_permission(p: &mut [u64], a: usize, operation: u64, object: u64)
 }
 
 // The roles that have permission b.
-pub fn holders(p: &[u64], b: usize) -> Set
-    requires { (length p.now ≡ policy_words) × (b < 256) }
+pub fn holders(p: &PolicyBuffer, b: usize) -> Set
+    requires { b < 256 }
     ensures { result.bits ≡ (policy_of p.now).permissions.holders b }
 {
     Set {
@@ -390,16 +431,16 @@ pub fn holders(p: &[u64], b: usize) -> Set
 }
 
 // Replaces the roles that have permission b.
-pub fn set_holders(p: &mut [u64], b: usize, roles: Set)
-    requires { (length p.old ≡ policy_words) × (b < 256) }
+pub fn set_holders(p: &mut PolicyBuffer, b: usize, roles: Set)
+    requires { b < 256 }
     ensures { policy_of p.new ≡ holders_anew (policy_of p.old) b roles.bits }
 {
     p[HOLDERS + b] = roles.bits;
 }
 
 // The tasks that carry permission b.
-pub fn carriers(p: &[u64], b: usize) -> Set
-    requires { (length p.now ≡ policy_words) × (b < 256) }
+pub fn carriers(p: &PolicyBuffer, b: usize) -> Set
+    requires { b < 256 }
     ensures { result.bits ≡ (policy_of p.now).permissions.carriers b }
 {
     Set {
@@ -408,8 +449,8 @@ pub fn carriers(p: &[u64], b: usize) -> Set
 }
 
 // Replaces the tasks that carry permission b.
-pub fn set_carriers(p: &mut [u64], b: usize, tasks: Set)
-    requires { (length p.old ≡ policy_words) × (b < 256) }
+pub fn set_carriers(p: &mut PolicyBuffer, b: usize, tasks: Set)
+    requires { b < 256 }
     ensures { policy_of p.new ≡ carriers_anew (policy_of p.old) b tasks.bits }
 {
     p[CARRIERS + b] = tasks.bits;
@@ -418,16 +459,16 @@ pub fn set_carriers(p: &mut [u64], b: usize, tasks: Set)
 // ---- Tasks.
 
 // Whether task t is declared.
-pub fn task_declared(p: &[u64], t: usize) -> bool
-    requires { (length p.now ≡ policy_words) × (t < 64) }
+pub fn task_declared(p: &PolicyBuffer, t: usize) -> bool
+    requires { t < 64 }
     ensures { result ≡ there ((policy_of p.now).tasks.template t) }
 {
     p[TEMPLATES + t] / 16 % 2 == 1
 }
 
 // The template of task t, or 0 if t is not declared.
-pub fn template(p: &[u64], t: usize) -> u64
-    requires { (length p.now ≡ policy_words) × (t < 64) }
+pub fn template(p: &PolicyBuffer, t: usize) -> u64
+    requires { t < 64 }
     ensures { (result ≡ value_of same ((policy_of p.now).tasks.template t)) × (result < 16) }
 {
     let word = p[TEMPLATES + t];
@@ -438,16 +479,16 @@ pub fn template(p: &[u64], t: usize) -> u64
 }
 
 // Whether task t is declared and of template j.
-pub fn task_is_of(p: &[u64], t: usize, j: u64) -> bool
-    requires { (length p.now ≡ policy_words) × ((t < 64) × (j < 16)) }
+pub fn task_is_of(p: &PolicyBuffer, t: usize, j: u64) -> bool
+    requires { (t < 64) × (j < 16) }
     ensures { result ≡ is j ((policy_of p.now).tasks.template t) }
 {
     p[TEMPLATES + t] % 32 == 16 + j
 }
 
 // Whether tasks a and b are declared and of the same template.
-pub fn same_template(p: &[u64], a: usize, b: usize) -> bool
-    requires { (length p.now ≡ policy_words) × ((a < 64) × (b < 64)) }
+pub fn same_template(p: &PolicyBuffer, a: usize, b: usize) -> bool
+    requires { (a < 64) × (b < 64) }
     ensures { result ≡ together (policy_of p.now).tasks a b }
 {
     let word = p[TEMPLATES + a];
@@ -455,16 +496,16 @@ pub fn same_template(p: &[u64], a: usize, b: usize) -> bool
 }
 
 // Declares task t, of template j.
-pub fn set_template(p: &mut [u64], t: usize, j: u64)
-    requires { (length p.old ≡ policy_words) × ((t < 64) × (j < 16)) }
+pub fn set_template(p: &mut PolicyBuffer, t: usize, j: u64)
+    requires { (t < 64) × (j < 16) }
     ensures { policy_of p.new ≡ template_anew (policy_of p.old) t j }
 {
     p[TEMPLATES + t] = 16 + j;
 }
 
 // The roles that task t is open to.
-pub fn open_to(p: &[u64], t: usize) -> Set
-    requires { (length p.now ≡ policy_words) × (t < 64) }
+pub fn open_to(p: &PolicyBuffer, t: usize) -> Set
+    requires { t < 64 }
     ensures { result.bits ≡ (policy_of p.now).tasks.open_to t }
 {
     Set {
@@ -473,48 +514,48 @@ pub fn open_to(p: &[u64], t: usize) -> Set
 }
 
 // Replaces the roles that task t is open to.
-pub fn set_open_to(p: &mut [u64], t: usize, roles: Set)
-    requires { (length p.old ≡ policy_words) × (t < 64) }
+pub fn set_open_to(p: &mut PolicyBuffer, t: usize, roles: Set)
+    requires { t < 64 }
     ensures { policy_of p.new ≡ open_to_anew (policy_of p.old) t roles.bits }
 {
     p[OPEN_TO + t] = roles.bits;
 }
 
 // Whether template j is banned for lone workers.
-pub fn banned(p: &[u64], j: usize) -> bool
-    requires { (length p.now ≡ policy_words) × (j < 16) }
+pub fn banned(p: &PolicyBuffer, j: usize) -> bool
+    requires { j < 16 }
     ensures { result ≡ (policy_of p.now).tasks.banned j }
 {
     p[BANNED + j] % 2 == 1
 }
 
 // Bans template j for lone workers.
-pub fn set_banned(p: &mut [u64], j: usize)
-    requires { (length p.old ≡ policy_words) × (j < 16) }
+pub fn set_banned(p: &mut PolicyBuffer, j: usize)
+    requires { j < 16 }
     ensures { policy_of p.new ≡ banned_anew (policy_of p.old) j }
 {
     p[BANNED + j] = 1;
 }
 
 // Whether task t has a count limit.
-pub fn task_limited(p: &[u64], t: usize) -> bool
-    requires { (length p.now ≡ policy_words) × (t < 64) }
+pub fn task_limited(p: &PolicyBuffer, t: usize) -> bool
+    requires { t < 64 }
     ensures { result ≡ there ((policy_of p.now).tasks.most t) }
 {
     p[MOST + t] % 256 != 0
 }
 
 // The count limit of task t, or 0 if it has none.
-pub fn most(p: &[u64], t: usize) -> u64
-    requires { (length p.now ≡ policy_words) × (t < 64) }
+pub fn most(p: &PolicyBuffer, t: usize) -> u64
+    requires { t < 64 }
     ensures { (result ≡ value_of same ((policy_of p.now).tasks.most t)) × (result < 256) }
 {
     p[MOST + t] % 256
 }
 
 // Whether task t has a count limit and `times` has reached it.
-pub fn limit_reached(p: &[u64], t: usize, times: u64) -> bool
-    requires { (length p.now ≡ policy_words) × (t < 64) }
+pub fn limit_reached(p: &PolicyBuffer, t: usize, times: u64) -> bool
+    requires { t < 64 }
     ensures { result ≡ holds (λ n. leb n times) ((policy_of p.now).tasks.most t) }
 {
     let most = p[MOST + t] % 256;
@@ -522,22 +563,20 @@ pub fn limit_reached(p: &[u64], t: usize, times: u64) -> bool
 }
 
 // Gives task t the count limit n.
-pub fn set_most(p: &mut [u64], t: usize, n: u64)
-    requires { (length p.old ≡ policy_words) × ((t < 64) × ((0 < n) × (n < 256))) }
+pub fn set_most(p: &mut PolicyBuffer, t: usize, n: u64)
+    requires { (t < 64) × ((0 < n) × (n < 256)) }
     ensures { policy_of p.new ≡ most_anew (policy_of p.old) t n }
 {
     p[MOST + t] = n;
 }
 
-// ---- Rules. Sets are chosen by `which`: static sets 0, dynamic sets 1, task sets 2; pairs of tasks likewise: bindings 0, prerequisites 1. Row k is the rule
-// with place k + 1.
+// ---- Rules. Row k is the rule with place k + 1.
 
 // The number of sets of a kind.
-pub fn limit_count(p: &[u64], which: usize) -> usize
-    requires { (length p.now ≡ policy_words) × (which < 3) }
-    ensures { (result ≡ limit_count which p.now) × (result ≤ 32) }
+pub fn limit_count(p: &PolicyBuffer, which: SetKind) -> usize
+    ensures { (result ≡ limit_count (set_index which) p.now) × (result ≤ 32) }
 {
-    cut(p[LIMIT_COUNTS + which], 32)
+    cut(p[LIMIT_COUNTS + which.index()], 32)
 }
 
 // A number of rows as the buffer has it, capped at its limit, because any content of the buffer must read as some tables.
@@ -553,53 +592,52 @@ fn cut(count: u64, most: usize) -> usize
 }
 
 // The n of set k: at most n members.
-pub fn limit_n(p: &[u64], which: usize, k: usize) -> u64
-    requires { (length p.now ≡ policy_words) × ((which < 3) × (k < 32)) }
-    ensures { result ≡ (limit_at which p.now k).n }
+pub fn limit_n(p: &PolicyBuffer, which: SetKind, k: usize) -> u64
+    requires { k < 32 }
+    ensures { result ≡ (limit_at (set_index which) p.now k).n }
 {
-    p[LIMITS + 64 * which + k]
+    p[LIMITS + 64 * which.index() + k]
 }
 
 // The members of set k.
-pub fn limit_members(p: &[u64], which: usize, k: usize) -> Set
-    requires { (length p.now ≡ policy_words) × ((which < 3) × (k < 32)) }
-    ensures { result.bits ≡ (limit_at which p.now k).members }
+pub fn limit_members(p: &PolicyBuffer, which: SetKind, k: usize) -> Set
+    requires { k < 32 }
+    ensures { result.bits ≡ (limit_at (set_index which) p.now k).members }
 {
     Set {
-        bits: p[MEMBERS + 64 * which + k],
+        bits: p[MEMBERS + 64 * which.index() + k],
     }
 }
 
 // Adds a set, as the last of its kind.
-pub fn add_limit(p: &mut [u64], which: usize, n: u64, members: Set)
-    requires { (length p.old ≡ policy_words) × ((which < 3) × (limit_count which p.old < 32)) }
-    ensures { policy_of p.new ≡ limit_added (policy_of p.old) which n members.bits }
+pub fn add_limit(p: &mut PolicyBuffer, which: SetKind, n: u64, members: Set)
+    requires { limit_count (set_index which) p.old < 32 }
+    ensures { policy_of p.new ≡ limit_added (policy_of p.old) (set_index which) n members.bits }
 {
     let k = limit_count(p, which);
-    p[LIMITS + 64 * which + k] = n;
-    p[MEMBERS + 64 * which + k] = members.bits;
-    p[LIMIT_COUNTS + which] = k as u64 + 1;
+    p[LIMITS + 64 * which.index() + k] = n;
+    p[MEMBERS + 64 * which.index() + k] = members.bits;
+    p[LIMIT_COUNTS + which.index()] = k as u64 + 1;
 }
 
 // The number of blocks.
-pub fn block_count(p: &[u64]) -> usize
-    requires { length p.now ≡ policy_words }
+pub fn block_count(p: &PolicyBuffer) -> usize
     ensures { (result ≡ block_count p.now) × (result ≤ 64) }
 {
     cut(p[BLOCK_COUNT], 64)
 }
 
 // The partitioning of block k.
-pub fn block_partitioning(p: &[u64], k: usize) -> u64
-    requires { (length p.now ≡ policy_words) × (k < 64) }
+pub fn block_partitioning(p: &PolicyBuffer, k: usize) -> u64
+    requires { k < 64 }
     ensures { result ≡ (block_at p.now k).partitioning }
 {
     p[PARTITIONINGS + k] % 16
 }
 
 // The tasks of block k.
-pub fn block_tasks(p: &[u64], k: usize) -> Set
-    requires { (length p.now ≡ policy_words) × (k < 64) }
+pub fn block_tasks(p: &PolicyBuffer, k: usize) -> Set
+    requires { k < 64 }
     ensures { result.bits ≡ (block_at p.now k).tasks }
 {
     Set {
@@ -608,8 +646,8 @@ pub fn block_tasks(p: &[u64], k: usize) -> Set
 }
 
 // Adds a block, as the last one.
-pub fn add_block(p: &mut [u64], partitioning: u64, tasks: Set)
-    requires { (length p.old ≡ policy_words) × ((partitioning < 16) × (block_count p.old < 64)) }
+pub fn add_block(p: &mut PolicyBuffer, partitioning: u64, tasks: Set)
+    requires { (partitioning < 16) × (block_count p.old < 64) }
     ensures { policy_of p.new ≡ block_added (policy_of p.old) partitioning tasks.bits }
 {
     let k = block_count(p);
@@ -619,68 +657,66 @@ pub fn add_block(p: &mut [u64], partitioning: u64, tasks: Set)
 }
 
 // The number of pairs of a kind.
-pub fn pair_count(p: &[u64], which: usize) -> usize
-    requires { (length p.now ≡ policy_words) × (which < 2) }
-    ensures { (result ≡ pair_count which p.now) × (result ≤ 64) }
+pub fn pair_count(p: &PolicyBuffer, which: PairKind) -> usize
+    ensures { (result ≡ pair_count (pair_index which) p.now) × (result ≤ 64) }
 {
-    cut(p[PAIR_COUNTS + which], 64)
+    cut(p[PAIR_COUNTS + which.index()], 64)
 }
 
 // The task a of pair k.
-pub fn pair_a(p: &[u64], which: usize, k: usize) -> u64
-    requires { (length p.now ≡ policy_words) × ((which < 2) × (k < 64)) }
-    ensures { (result ≡ (pair_at which p.now k).a) × (result < 64) }
+pub fn pair_a(p: &PolicyBuffer, which: PairKind, k: usize) -> u64
+    requires { k < 64 }
+    ensures { (result ≡ (pair_at (pair_index which) p.now k).a) × (result < 64) }
 {
-    p[PAIRS + 64 * which + k] % 64
+    p[PAIRS + 64 * which.index() + k] % 64
 }
 
 // The task b of pair k.
-pub fn pair_b(p: &[u64], which: usize, k: usize) -> u64
-    requires { (length p.now ≡ policy_words) × ((which < 2) × (k < 64)) }
-    ensures { (result ≡ (pair_at which p.now k).b) × (result < 64) }
+pub fn pair_b(p: &PolicyBuffer, which: PairKind, k: usize) -> u64
+    requires { k < 64 }
+    ensures { (result ≡ (pair_at (pair_index which) p.now k).b) × (result < 64) }
 {
-    p[PAIRS + 64 * which + k] / 64 % 64
+    p[PAIRS + 64 * which.index() + k] / 64 % 64
 }
 
 // Adds a pair, as the last of its kind.
-pub fn add_pair(p: &mut [u64], which: usize, a: u64, b: u64)
-    requires { (length p.old ≡ policy_words) × ((which < 2) × ((a < 64) × ((b < 64) × (pair_count which p.old < 64)))) }
-    ensures { policy_of p.new ≡ pair_added (policy_of p.old) which a b }
+pub fn add_pair(p: &mut PolicyBuffer, which: PairKind, a: u64, b: u64)
+    requires { (a < 64) × ((b < 64) × (pair_count (pair_index which) p.old < 64)) }
+    ensures { policy_of p.new ≡ pair_added (policy_of p.old) (pair_index which) a b }
 {
     let k = pair_count(p, which);
-    p[PAIRS + 64 * which + k] = a + 64 * b;
-    p[PAIR_COUNTS + which] = k as u64 + 1;
+    p[PAIRS + 64 * which.index() + k] = a + 64 * b;
+    p[PAIR_COUNTS + which.index()] = k as u64 + 1;
 }
 
 // ---- Walls. Each row has a wall, a block and an object.
 
 // The number of rows.
-pub fn wall_count(p: &[u64]) -> usize
-    requires { length p.now ≡ policy_words }
+pub fn wall_count(p: &PolicyBuffer) -> usize
     ensures { (result ≡ wall_count p.now) × (result ≤ 256) }
 {
     cut(p[WALL_COUNT], 256)
 }
 
 // The wall of row k.
-pub fn walled_wall(p: &[u64], k: usize) -> u64
-    requires { (length p.now ≡ policy_words) × (k < 256) }
+pub fn walled_wall(p: &PolicyBuffer, k: usize) -> u64
+    requires { k < 256 }
     ensures { (result ≡ (walled_at p.now k).wall) × (result < 16) }
 {
     p[WALLED + k] % 16
 }
 
 // The block of row k.
-pub fn walled_block(p: &[u64], k: usize) -> u64
-    requires { (length p.now ≡ policy_words) × (k < 256) }
+pub fn walled_block(p: &PolicyBuffer, k: usize) -> u64
+    requires { k < 256 }
     ensures { (result ≡ (walled_at p.now k).block) × (result < 16) }
 {
     p[WALLED + k] / 16 % 16
 }
 
 // The object of row k, or 65,536, which is no object, if the object's bucket does not have the row.
-pub fn walled_object(p: &[u64], k: usize) -> u64
-    requires { (length p.now ≡ policy_words) × (k < 256) }
+pub fn walled_object(p: &PolicyBuffer, k: usize) -> u64
+    requires { k < 256 }
     ensures { (result ≡ (walled_at p.now k).object) × (result ≤ 65536) }
 {
     let object = p[WALLED + k] / 256 % 65536;
@@ -699,8 +735,8 @@ fn wall_word(object: u64, part: usize) -> usize
 }
 
 // The rows of the object's bucket among the rows 64 part to 64 part + 63. Every row about the object is in its bucket.
-pub fn wall_rows(p: &[u64], object: u64, part: usize) -> Set
-    requires { (length p.now ≡ policy_words) × (part < 4) }
+pub fn wall_rows(p: &PolicyBuffer, object: u64, part: usize) -> Set
+    requires { part < 4 }
     ensures { result.bits ≡ wall_rows p.now object part }
 {
     Set {
@@ -709,16 +745,16 @@ pub fn wall_rows(p: &[u64], object: u64, part: usize) -> Set
 }
 
 // Whether row k has this object, by one comparison of its word. It counts only if wall_rows has it too.
-pub fn walled_is(p: &[u64], k: usize, object: u64) -> bool
-    requires { (length p.now ≡ policy_words) × (k < 256) }
+pub fn walled_is(p: &PolicyBuffer, k: usize, object: u64) -> bool
+    requires { k < 256 }
     ensures { result ≡ walled_is p.now object k }
 {
     p[WALLED + k] / 256 % 65536 == object
 }
 
 // Adds a row, as the last one, and adds it to the bucket of its object.
-pub fn add_wall(p: &mut [u64], wall: u64, block: u64, object: u64)
-    requires { (length p.old ≡ policy_words) × ((wall < 16) × ((block < 16) × ((object < 65536) × (wall_count p.old < 256)))) }
+pub fn add_wall(p: &mut PolicyBuffer, wall: u64, block: u64, object: u64)
+    requires { (wall < 16) × ((block < 16) × ((object < 65536) × (wall_count p.old < 256))) }
     ensures { policy_of p.new ≡ wall_added (policy_of p.old) wall block object }
 {
     let k = wall_count(p);
@@ -730,13 +766,10 @@ pub fn add_wall(p: &mut [u64], wall: u64, block: u64, object: u64)
 }
 
 // ---- Empties the policy: every word is 0.
-pub fn clear(p: &mut [u64])
-    requires { length p.old ≡ policy_words }
+pub fn clear(p: &mut PolicyBuffer)
     ensures { Cleared p.new }
 {
-    let mut i = 0;
-    while i < POLICY_WORDS {
+    for i in 0..POLICY_WORDS {
         p[i] = 0;
-        i += 1;
     }
 }

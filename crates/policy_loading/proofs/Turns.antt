@@ -14,8 +14,7 @@ use Rattle.paper_lower.specs.Checks.{SHAPE, granted}
 use Rattle.paper_lower.specs.Records.{Bytes}
 use Rattle.paper_lower.specs.Tables.{Policy, no_policy}
 use Rattle.paper_lower.specs.Load.{accepted, refused, policy_answer, load_on, load}
-use Rattle.replies.specs.Replies.{number_of}
-use Rattle.replies.specs.declared.Reply.{Reply}
+use Rattle.replies.specs.Replies.{Reply, number_of}
 use Rattle.replies.specs.Done.{Done}
 use Rattle.replies.proofs.ReplyLaws.{is_zero, not-zero}
 use Rattle.replies.proofs.DoneLaws.{granted-old}

@@ -4,8 +4,7 @@ use Rattle.paper_lower.specs.Checks.{ROOM, granted}
 use Rattle.paper_lower.specs.Records.{Bytes}
 use Rattle.paper_lower.specs.Tables.{Policy, no_policy}
 use Rattle.paper_lower.specs.Load.{Loaded, load}
-use Rattle.replies.specs.Replies.{number_of}
-use Rattle.replies.specs.declared.Reply.{Reply}
+use Rattle.replies.specs.Replies.{Reply, number_of}
 use Rattle.policy.specs.Layout.{policy_words}
 use Rattle.policy.specs.Reading.{policy_of, Cleared}
 

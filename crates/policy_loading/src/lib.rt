@@ -7,6 +7,7 @@ ghost use Rattle.paper_lower.specs.Kinds.{chosen};
 ghost use Rattle.paper_lower.specs.Policy.{policy_kinds};
 ghost use Rattle.paper_lower.specs.Load.{policy_answer, load_on};
 ghost use Rattle.replies.specs.Done.{Done};
+ghost use Rattle.replies.specs.Replies.{outcome_reply, outcome_place};
 ghost use Rattle.records.specs.Reading.{paper_of};
 ghost use Rattle.records.specs.Limits.{Limits};
 ghost use Rattle.policy.specs.Layout.{policy_words};
@@ -14,20 +15,13 @@ ghost use Rattle.policy.specs.Promises.{Recorded};
 ghost use Rattle.policy.specs.Reading.{policy_of};
 ghost use Rattle.policy_loading.specs.LoadDone.{LoadDone, leaves};
 
-use policy::POLICY_WORDS;
+use policy::{POLICY_WORDS, PolicyBuffer};
 use records::{Call, Record};
-use replies::Reply;
-
-// The reply to a load, and the place of the refused record, counted from 1; 0 if the load was accepted or the buffer has the wrong length.
-#[derive(Clone, Copy)]
-pub struct Loaded {
-    pub reply: Reply,
-    pub place: u64,
-}
+use replies::{Outcome, Refusal, Refused, Reply};
 
 // Carries out one record that passed SHAPE and RANGE.
-fn step(r: Record, p: &mut [u64]) -> Reply
-    requires { (length p.old ≡ policy_words) × Limits policy_forms r }
+fn step(r: Record, p: &mut PolicyBuffer) -> Reply
+    requires { Limits policy_forms r }
     ensures { Recorded (λ t. (chosen policy_kinds r.kind).checks t (paper_of r)) (λ t. (chosen policy_kinds r.kind).next t (paper_of r)) p.old p.new result }
 {
     let kind = r.kind;
@@ -55,68 +49,54 @@ fn step(r: Record, p: &mut [u64]) -> Reply
         16 => policy_rule_records::before(p, a, b),
         17 => policy_senior_records::raise(p, a, b),
         18 => policy_wall_records::wall(p, a, b, c),
-        _ => Reply::Shape,
+        _ => Err(Refusal::Shape),
     }
 }
 
 // Checks and carries out one record, whatever its bytes are.
-pub fn record(bytes: &[u8], p: &mut [u64]) -> Reply
-    requires { length p.old ≡ policy_words }
+pub fn record(bytes: &[u8], p: &mut PolicyBuffer) -> Reply
     ensures { Done policy_of (policy_answer (policy_of p.old) bytes.now).reply (policy_answer (policy_of p.old) bytes.now).tables p.old p.new result }
 {
-    let r = records::judge(Call::Load, bytes);
-    if !replies::accepted(r) {
-        return r;
-    }
+    records::judge(Call::Load, bytes)?;
     step(records::decode(bytes), p)
 }
 
 // Carries out the records of a policy, each on the tables that the previous ones left. It stops at the first that is refused.
-fn run(bytes: &[u8], p: &mut [u64]) -> Loaded
-    requires { length p.old ≡ policy_words }
-    ensures { leaves result.reply result.place (policy_of p.new) ≡ load_on (length bytes.now / 16) 1 bytes.now (policy_of p.old) }
+fn run(bytes: &[u8], p: &mut PolicyBuffer) -> Outcome
+    ensures { leaves (outcome_reply result) (outcome_place result) (policy_of p.new) ≡ load_on (length bytes.now / 16) 1 bytes.now (policy_of p.old) }
 {
     let mut left = bytes.len() / 16;
     let mut at = 0;
     let mut place = 1;
     while 0 < left {
         let end = at + 16;
-        let x = record(&bytes[at..end], p);
-        if !replies::accepted(x) {
-            return Loaded { reply: x, place };
+        if let Err(refusal) = record(&bytes[at..end], p) {
+            return Err(Refused { refusal, place });
         }
         at = end;
         place += 1;
         left -= 1;
     }
     if at < bytes.len() {
-        return Loaded {
-            reply: Reply::Shape,
+        return Err(Refused {
+            refusal: Refusal::Shape,
             place,
-        };
+        });
     }
-    Loaded {
-        reply: Reply::Granted,
-        place: 0,
-    }
+    Ok(())
 }
 
 // Loads a policy into the buffer, whatever the buffer contains. A refused load leaves the policy empty.
-pub fn load(bytes: &[u8], p: &mut [u64]) -> Loaded
-    ensures { LoadDone bytes.now p.old p.new result.reply result.place }
+pub fn load(bytes: &[u8], policy: &mut [u64]) -> Outcome
+    ensures { LoadDone bytes.now policy.old policy.new (outcome_reply result) (outcome_place result) }
 {
-    if p.len() != POLICY_WORDS {
-        return Loaded {
-            reply: Reply::Room,
-            place: 0,
-        };
-    }
+    let Some(p) = policy.as_mut_array::<POLICY_WORDS>() else {
+        return Err(Refused::from(Refusal::Room));
+    };
     policy::clear(p);
-    let x = run(bytes, p);
-    let reply = x.reply;
-    if !replies::accepted(reply) {
+    let answer = run(bytes, p);
+    if answer.is_err() {
         policy::clear(p);
-        return x;
     }
-    x
+    answer
 }

@@ -16,8 +16,7 @@ use Rattle.paper_lower.specs.Records.{Bytes}
 use Rattle.paper_lower.specs.Tables.{Policy}
 use Rattle.paper_lower.specs.Load.{policy_answer}
 use Rattle.paper_lower.specs.Mend.{Mended, dropped, keeping, dropping, mend_from}
-use Rattle.replies.specs.Replies.{number_of}
-use Rattle.replies.specs.declared.Reply.{Reply}
+use Rattle.replies.specs.Replies.{Reply, number_of}
 use Rattle.replies.specs.Done.{Done}
 use Rattle.replies.proofs.ReplyLaws.{is_zero, not-zero}
 use Rattle.replies.proofs.DoneLaws.{granted-old}

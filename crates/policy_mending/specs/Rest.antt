@@ -8,8 +8,7 @@ use Rattle.paper_lower.specs.Tables.{Policy}
 use Rattle.paper_lower.specs.Load.{policy_answer}
 use Rattle.paper_lower.specs.Mend as paper
 use Rattle.paper_lower.specs.Mend.{Mended, mend_from}
-use Rattle.replies.specs.Replies.{number_of}
-use Rattle.replies.specs.declared.Reply.{Reply}
+use Rattle.replies.specs.Replies.{Reply, number_of}
 use Rattle.replies.specs.Done.{Done}
 use Rattle.policy.specs.Layout.{policy_words}
 use Rattle.policy.specs.Reading.{policy_of}

@@ -7,7 +7,8 @@ ghost use Rattle.policy.specs.Layout.{policy_words};
 ghost use Rattle.policy.specs.Reading.{policy_of};
 ghost use Rattle.policy_mending.specs.Rest.{Kept, Ready, Found};
 
-use replies::Reply;
+use policy::PolicyBuffer;
+use replies::{Refusal, Reply};
 
 // An entry of the report: the place of a dropped record, counted from 1, and its refusal.
 #[repr(C)]
@@ -22,30 +23,31 @@ fn copy(input: &[u8], at: usize, output: &mut [u8], to: usize)
     requires { (at + 16 ≤ length input.now) × (to + 16 ≤ length output.old) }
     ensures { output.new ≡ paste output.old to (drop at input.now) 16 }
 {
-    let mut i = 0;
-    while i < 16 {
+    for i in 0..16 {
         output[to + i] = input[at + i];
-        i += 1;
     }
 }
 
 // Carries out one record and copies it to the output if it is accepted.
-fn keep(input: &[u8], at: usize, output: &mut [u8], to: usize, p: &mut [u64]) -> Reply
-    requires { (length p.old ≡ policy_words) × ((at + 16 ≤ length input.now) × (to + 16 ≤ length output.old)) }
+fn keep(input: &[u8], at: usize, output: &mut [u8], to: usize, p: &mut PolicyBuffer) -> Reply
+    requires { (at + 16 ≤ length input.now) × (to + 16 ≤ length output.old) }
     ensures { Kept input.now at output.old to p.old output.new p.new result }
 {
     let end = at + 16;
-    let r = policy_loading::record(&input[at..end], p);
-    if !replies::accepted(r) {
-        return r;
-    }
+    policy_loading::record(&input[at..end], p)?;
     copy(input, at, output, to);
-    r
+    Ok(())
 }
 
 // Continues after the first `place` records, of which `dropped` were dropped, up to the next record that is refused, and returns its place and refusal. The
 // reply 0 means that no record is refused any more; the place is then the number of records kept.
-pub fn next(input: &[u8], place: u64, dropped: usize, output: &mut [u8], p: &mut [u64]) -> Dropped
+pub fn next(
+    input: &[u8],
+    place: u64,
+    dropped: usize,
+    output: &mut [u8],
+    p: &mut PolicyBuffer,
+) -> Dropped
     requires { Ready place dropped input.now output.old p.old }
     ensures { Found place dropped input.now output.old (policy_of p.old) output.new (policy_of p.new) result }
 {
@@ -60,7 +62,7 @@ pub fn next(input: &[u8], place: u64, dropped: usize, output: &mut [u8], p: &mut
     while i < whole {
         let x = keep(input, 16 * i, output, 16 * (i - dropped), p);
         i += 1;
-        if !replies::accepted(x) {
+        if x.is_err() {
             return Dropped {
                 place: i as u64,
                 reply: replies::number(x),
@@ -70,7 +72,7 @@ pub fn next(input: &[u8], place: u64, dropped: usize, output: &mut [u8], p: &mut
     if 16 * i < input.len() {
         return Dropped {
             place: i as u64 + 1,
-            reply: replies::number(Reply::Shape),
+            reply: replies::number(Err(Refusal::Shape)),
         };
     }
     Dropped {

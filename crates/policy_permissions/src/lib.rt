@@ -13,11 +13,12 @@ ghost use Rattle.policy.specs.Layout.{policy_words, listing_for, row_holds};
 ghost use Rattle.policy.specs.Reading.{policy_of};
 ghost use Rattle.policy_permissions.specs.Rows.{in_two, in_eight, opens, bears};
 
+use policy::PolicyBuffer;
 use sets::Set;
 
 // Whether one of the two permissions in w is for this operation on this object.
-fn two_suit(p: &[u64], w: u64, operation: u64, object: u64) -> bool
-    requires { (length p.now ≡ policy_words) × ((operation < 65536) × (object < 65536)) }
+fn two_suit(p: &PolicyBuffer, w: u64, operation: u64, object: u64) -> bool
+    requires { (operation < 65536) × (object < 65536) }
     ensures { result ≡ in_two (row_holds p.now operation object) w }
 {
     policy::row_is(p, policy::first_in(w), operation, object)
@@ -25,8 +26,8 @@ fn two_suit(p: &[u64], w: u64, operation: u64, object: u64) -> bool
 }
 
 // Whether a permission of the group of eight is for this operation on this object.
-fn eight_suit(p: &[u64], eight: usize, operation: u64, object: u64) -> bool
-    requires { (length p.now ≡ policy_words) × ((eight < 32) × ((operation < 65536) × (object < 65536))) }
+fn eight_suit(p: &PolicyBuffer, eight: usize, operation: u64, object: u64) -> bool
+    requires { (eight < 32) × ((operation < 65536) × (object < 65536)) }
     ensures { result ≡ in_eight (row_holds p.now operation object) eight }
 {
     let b = 8 * eight;
@@ -41,8 +42,8 @@ fn eight_suit(p: &[u64], eight: usize, operation: u64, object: u64) -> bool
 }
 
 // Whether some permission is for this operation on this object.
-pub fn pair_declared(p: &[u64], operation: u64, object: u64) -> bool
-    requires { (length p.now ≡ policy_words) × ((operation < 65536) × (object < 65536)) }
+pub fn pair_declared(p: &PolicyBuffer, operation: u64, object: u64) -> bool
+    requires { (operation < 65536) × (object < 65536) }
     ensures { result ≡ some_number_below 256 (λ i. holds (is_for operation object) ((policy_of p.now).permissions.declared i)) }
 {
     let w = policy::listing_for(p, operation, object);
@@ -61,16 +62,16 @@ pub fn pair_declared(p: &[u64], operation: u64, object: u64) -> bool
 }
 
 // Whether permission b is for this operation on this object and one of the roles m has it.
-fn row_opens(p: &[u64], b: usize, m: Set, operation: u64, object: u64) -> bool
-    requires { (length p.now ≡ policy_words) × ((b < 256) × ((operation < 65536) × (object < 65536))) }
+fn row_opens(p: &PolicyBuffer, b: usize, m: Set, operation: u64, object: u64) -> bool
+    requires { (b < 256) × ((operation < 65536) × (object < 65536)) }
     ensures { result ≡ opens p.now m.bits operation object b }
 {
     policy::row_is(p, b, operation, object) & policy::holders(p, b).meets(m)
 }
 
 // Whether that holds for one of the two permissions in w.
-fn two_open(p: &[u64], w: u64, m: Set, operation: u64, object: u64) -> bool
-    requires { (length p.now ≡ policy_words) × ((operation < 65536) × (object < 65536)) }
+fn two_open(p: &PolicyBuffer, w: u64, m: Set, operation: u64, object: u64) -> bool
+    requires { (operation < 65536) × (object < 65536) }
     ensures { result ≡ in_two (opens p.now m.bits operation object) w }
 {
     row_opens(p, policy::first_in(w), m, operation, object)
@@ -78,8 +79,8 @@ fn two_open(p: &[u64], w: u64, m: Set, operation: u64, object: u64) -> bool
 }
 
 // Whether that holds for a permission of the group of eight.
-fn eight_open(p: &[u64], eight: usize, m: Set, operation: u64, object: u64) -> bool
-    requires { (length p.now ≡ policy_words) × ((eight < 32) × ((operation < 65536) × (object < 65536))) }
+fn eight_open(p: &PolicyBuffer, eight: usize, m: Set, operation: u64, object: u64) -> bool
+    requires { (eight < 32) × ((operation < 65536) × (object < 65536)) }
     ensures { result ≡ in_eight (opens p.now m.bits operation object) eight }
 {
     let b = 8 * eight;
@@ -95,8 +96,8 @@ fn eight_open(p: &[u64], eight: usize, m: Set, operation: u64, object: u64) -> b
 
 // Whether one of the roles m has a permission for this operation on this object. It goes through all groups without stopping at a match, because the
 // processor could not predict where the match is.
-pub fn allowed(p: &[u64], m: Set, operation: u64, object: u64) -> bool
-    requires { (length p.now ≡ policy_words) × ((operation < 65536) × (object < 65536)) }
+pub fn allowed(p: &PolicyBuffer, m: Set, operation: u64, object: u64) -> bool
+    requires { (operation < 65536) × (object < 65536) }
     ensures { result ≡ allowed (policy_of p.now).permissions m.bits operation object }
 {
     let w = policy::listing_for(p, operation, object);
@@ -111,24 +112,24 @@ pub fn allowed(p: &[u64], m: Set, operation: u64, object: u64) -> bool
 }
 
 // The same for a pair whose word w lists no group of eight.
-pub fn allowed_by_two(p: &[u64], w: u64, m: Set, operation: u64, object: u64) -> bool
-    requires { ((length p.now ≡ policy_words) × ((operation < 65536) × (object < 65536))) × ((w ≡ listing_for p.now operation object) × (w < 4294967296)) }
+pub fn allowed_by_two(p: &PolicyBuffer, w: u64, m: Set, operation: u64, object: u64) -> bool
+    requires { (operation < 65536) × ((object < 65536) × ((w ≡ listing_for p.now operation object) × (w < 4294967296))) }
     ensures { result ≡ allowed (policy_of p.now).permissions m.bits operation object }
 {
     two_open(p, w, m, operation, object)
 }
 
 // Whether permission b is for this operation on this object and task t carries it.
-fn row_bears(p: &[u64], b: usize, t: u64, operation: u64, object: u64) -> bool
-    requires { (length p.now ≡ policy_words) × ((b < 256) × ((t < 64) × ((operation < 65536) × (object < 65536)))) }
+fn row_bears(p: &PolicyBuffer, b: usize, t: u64, operation: u64, object: u64) -> bool
+    requires { (b < 256) × ((t < 64) × ((operation < 65536) × (object < 65536))) }
     ensures { result ≡ bears p.now t operation object b }
 {
     policy::row_is(p, b, operation, object) & policy::carriers(p, b).has(t)
 }
 
 // Whether that holds for one of the two permissions in w.
-fn two_bear(p: &[u64], w: u64, t: u64, operation: u64, object: u64) -> bool
-    requires { (length p.now ≡ policy_words) × ((t < 64) × ((operation < 65536) × (object < 65536))) }
+fn two_bear(p: &PolicyBuffer, w: u64, t: u64, operation: u64, object: u64) -> bool
+    requires { (t < 64) × ((operation < 65536) × (object < 65536)) }
     ensures { result ≡ in_two (bears p.now t operation object) w }
 {
     row_bears(p, policy::first_in(w), t, operation, object)
@@ -136,8 +137,8 @@ fn two_bear(p: &[u64], w: u64, t: u64, operation: u64, object: u64) -> bool
 }
 
 // Whether that holds for a permission of the group of eight.
-fn eight_bear(p: &[u64], eight: usize, t: u64, operation: u64, object: u64) -> bool
-    requires { (length p.now ≡ policy_words) × ((eight < 32) × ((t < 64) × ((operation < 65536) × (object < 65536)))) }
+fn eight_bear(p: &PolicyBuffer, eight: usize, t: u64, operation: u64, object: u64) -> bool
+    requires { (eight < 32) × ((t < 64) × ((operation < 65536) × (object < 65536))) }
     ensures { result ≡ in_eight (bears p.now t operation object) eight }
 {
     let b = 8 * eight;
@@ -152,8 +153,8 @@ fn eight_bear(p: &[u64], eight: usize, t: u64, operation: u64, object: u64) -> b
 }
 
 // Whether task t carries a permission for this operation on this object.
-pub fn carried(p: &[u64], t: u64, operation: u64, object: u64) -> bool
-    requires { (length p.now ≡ policy_words) × ((t < 64) × ((operation < 65536) × (object < 65536))) }
+pub fn carried(p: &PolicyBuffer, t: u64, operation: u64, object: u64) -> bool
+    requires { (t < 64) × ((operation < 65536) × (object < 65536)) }
     ensures { result ≡ some_number_below 256 (λ i. holds (is_for operation object) ((policy_of p.now).permissions.declared i) && has ((policy_of p.now).permissions.carriers i) t) }
 {
     let w = policy::listing_for(p, operation, object);

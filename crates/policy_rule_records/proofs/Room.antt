@@ -10,8 +10,7 @@ use Rattle.paper_lower.specs.Sets.{Set}
 use Rattle.paper_lower.specs.Checks.{Check, first}
 use Rattle.paper_lower.specs.Policy.{block_checks, most_checks}
 use Rattle.paper_lower.proofs.CheckLaws.{Numbered, Passed, passed}
-use Rattle.replies.specs.Replies.{number_of}
-use Rattle.replies.specs.declared.Reply.{Reply}
+use Rattle.replies.specs.Replies.{Reply, number_of}
 use Rattle.replies.proofs.ReplyLaws.{is_zero}
 use Rattle.policy.specs.Layout.{limit_count, block_count, pair_count}
 use Rattle.policy.specs.Reading.{policy_of}

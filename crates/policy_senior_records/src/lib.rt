@@ -9,34 +9,30 @@ ghost use Rattle.policy.specs.Promises.{Judged, Recorded};
 ghost use Rattle.policy.specs.Reading.{policy_of};
 ghost use Rattle.policy_senior_records.specs.Rows.{would_break};
 
-use replies::Reply;
-
-// The number by which policy_lookups knows the static sets.
-const STATIC: usize = 0;
+use policy::{PolicyBuffer, SetKind};
+use replies::{Refusal, Reply};
 
 // Whether user u is declared and would break a static set if role a were put above role b.
-fn user_would_break(p: &[u64], u: usize, a: u64, b: u64) -> bool
-    requires { (length p.now ≡ policy_words) × ((u < 1024) × ((a < 64) × (b < 64))) }
+fn user_would_break(p: &PolicyBuffer, u: usize, a: u64, b: u64) -> bool
+    requires { (u < 1024) × ((a < 64) × (b < 64)) }
     ensures { result ≡ would_break (policy_of p.now) a b u }
 {
     if !policy::user_declared(p, u) {
         return false;
     }
     let roles = policy_seniors::down_with(p, policy::assigned(p, u), a, b);
-    policy_lookups::broken(p, STATIC, roles)
+    policy_lookups::broken(p, SetKind::Static, roles)
 }
 
 // Whether some user would break a static set.
-fn would_break(p: &[u64], a: u64, b: u64) -> bool
-    requires { (length p.now ≡ policy_words) × ((a < 64) × (b < 64)) }
+fn would_break(p: &PolicyBuffer, a: u64, b: u64) -> bool
+    requires { (a < 64) × (b < 64) }
     ensures { result ≡ some_number_below 1024 (would_break (policy_of p.now) a b) }
 {
-    let mut u = 0;
-    while u < 1024 {
+    for u in 0..1024 {
         if user_would_break(p, u, a, b) {
             return true;
         }
-        u += 1;
     }
     false
 }
@@ -44,41 +40,38 @@ fn would_break(p: &[u64], a: u64, b: u64) -> bool
 // ---- "kind 17: role a stands above role b"
 
 // The reply to the record.
-fn raise_reply(p: &[u64], a: u64, b: u64) -> Reply
-    requires { (length p.now ≡ policy_words) × ((a < 64) × (b < 64)) }
+fn raise_reply(p: &PolicyBuffer, a: u64, b: u64) -> Reply
+    requires { (a < 64) × (b < 64) }
     ensures { Judged (λ t. raise_checks t a b) p.now result }
 {
     let roles = policy::declared_roles(p);
     if !roles.has(a) | !roles.has(b) {
-        return Reply::Unknown;
+        return Err(Refusal::Unknown);
     }
     if policy::juniors(p, a as usize).has(b) {
-        return Reply::Taken;
+        return Err(Refusal::Taken);
     }
     if a == b {
-        return Reply::Rule;
+        return Err(Refusal::Rule);
     }
     if policy::below(p, b as usize).has(a) {
-        return Reply::Loop;
+        return Err(Refusal::Loop);
     }
     if would_break(p, a, b) {
-        return Reply::Static;
+        return Err(Refusal::Static);
     }
     if 64 <= policy_seniors::raisings(p) {
-        return Reply::Full;
+        return Err(Refusal::Full);
     }
-    Reply::Granted
+    Ok(())
 }
 
 // Checks the record and, if it is accepted, puts role a above role b.
-pub fn raise(p: &mut [u64], a: u64, b: u64) -> Reply
-    requires { (length p.old ≡ policy_words) × ((a < 64) × (b < 64)) }
+pub fn raise(p: &mut PolicyBuffer, a: u64, b: u64) -> Reply
+    requires { (a < 64) × (b < 64) }
     ensures { Recorded (λ t. raise_checks t a b) (λ t. raise_next t a b) p.old p.new result }
 {
-    let r = raise_reply(p, a, b);
-    if !replies::accepted(r) {
-        return r;
-    }
+    raise_reply(p, a, b)?;
     policy_seniors::raise(p, a, b);
-    r
+    Ok(())
 }

@@ -8,12 +8,12 @@ ghost use Rattle.policy.specs.Layout.{policy_words};
 ghost use Rattle.policy.specs.Reading.{policy_of};
 ghost use Rattle.policy_seniors.specs.Rows.{lowered_at};
 
+use policy::PolicyBuffer;
 use sets::Set;
 
 // The roles m and all roles below one of them. Only roles that have others below them are visited. The table has all roles below a role, at any distance, so
 // one union per role is enough.
-fn gathered(p: &[u64], m: Set) -> Set
-    requires { length p.now ≡ policy_words }
+fn gathered(p: &PolicyBuffer, m: Set) -> Set
     ensures { result.bits ≡ down (policy_of p.now).seniority m.bits }
 {
     let mut all = m;
@@ -28,8 +28,7 @@ fn gathered(p: &[u64], m: Set) -> Set
 }
 
 // The roles m and all roles below one of them. If none of them has a role below it, one test is enough.
-pub fn down(p: &[u64], m: Set) -> Set
-    requires { length p.now ≡ policy_words }
+pub fn down(p: &PolicyBuffer, m: Set) -> Set
     ensures { result.bits ≡ down (policy_of p.now).seniority m.bits }
 {
     if !m.meets(policy::seniors(p)) {
@@ -39,8 +38,8 @@ pub fn down(p: &[u64], m: Set) -> Set
 }
 
 // The same as if role a had also been put above role b.
-pub fn down_with(p: &[u64], m: Set, a: u64, b: u64) -> Set
-    requires { (length p.now ≡ policy_words) × ((a < 64) × (b < 64)) }
+pub fn down_with(p: &PolicyBuffer, m: Set, a: u64, b: u64) -> Set
+    requires { (a < 64) × (b < 64) }
     ensures { result.bits ≡ down (raised (policy_of p.now).seniority a b) m.bits }
 {
     let all = down(p, m);
@@ -51,22 +50,19 @@ pub fn down_with(p: &[u64], m: Set, a: u64, b: u64) -> Set
 }
 
 // The number of records of kind 17 in the policy.
-pub fn raisings(p: &[u64]) -> u64
-    requires { length p.now ≡ policy_words }
+pub fn raisings(p: &PolicyBuffer) -> u64
     ensures { result ≡ raisings (policy_of p.now).seniority }
 {
     let mut n = 0;
-    let mut r = 0;
-    while r < 64 {
+    for r in 0..64 {
         n += policy::juniors(p, r).count();
-        r += 1;
     }
     n
 }
 
 // Adds the roles `under` to those below role r, if r is role a or is above it.
-fn lower(p: &mut [u64], r: usize, a: u64, under: Set)
-    requires { (length p.old ≡ policy_words) × ((r < 64) × (a < 64)) }
+fn lower(p: &mut PolicyBuffer, r: usize, a: u64, under: Set)
+    requires { (r < 64) × (a < 64) }
     ensures { policy_of p.new ≡ lowered_at (policy_of p.old) r a under.bits }
 {
     let roles = policy::below(p, r);
@@ -76,16 +72,14 @@ fn lower(p: &mut [u64], r: usize, a: u64, under: Set)
 }
 
 // Puts role a above role b: in the table of records, and in the table of all roles below each role.
-pub fn raise(p: &mut [u64], a: u64, b: u64)
-    requires { (length p.old ≡ policy_words) × ((a < 64) × (b < 64)) }
+pub fn raise(p: &mut PolicyBuffer, a: u64, b: u64)
+    requires { (a < 64) × (b < 64) }
     ensures { policy_of p.new ≡ raise_next (policy_of p.old) a b }
 {
     let under = policy::below(p, b as usize).with(b);
     let named = policy::juniors(p, a as usize).with(b);
-    let mut r = 0;
-    while r < 64 {
+    for r in 0..64 {
         lower(p, r, a, under);
-        r += 1;
     }
     policy::set_juniors(p, a as usize, named);
 }

@@ -13,8 +13,7 @@ use Rattle.paper_lower.specs.Checks.{first}
 use Rattle.paper_lower.specs.Policy.{another, same_walled, wall_checks}
 use Rattle.paper_lower.proofs.ListLaws.{and-false, some_below, below_none}
 use Rattle.paper_lower.proofs.CheckLaws.{passed}
-use Rattle.replies.specs.Replies.{number_of}
-use Rattle.replies.specs.declared.Reply.{Reply}
+use Rattle.replies.specs.Replies.{Reply, number_of}
 use Rattle.replies.proofs.ReplyLaws.{is_zero}
 use Rattle.blocks.specs.Reading.{nowhere, only, over, apart}
 use Rattle.policy.specs.Layout.{wall_rows, walled_is, wall_count, walled_at}

@@ -8,11 +8,12 @@ ghost use Rattle.policy.specs.Layout.{policy_words, walled_at};
 ghost use Rattle.policy.specs.Promises.{Judged, Recorded};
 ghost use Rattle.policy.specs.Reading.{policy_of};
 
-use replies::Reply;
+use policy::PolicyBuffer;
+use replies::{Refusal, Reply};
 
 // Whether row k puts object c into block b of wall a.
-fn row_says(p: &[u64], k: usize, a: u64, b: u64, c: u64) -> bool
-    requires { (length p.now ≡ policy_words) × ((k < 256) × (c < 65536)) }
+fn row_says(p: &PolicyBuffer, k: usize, a: u64, b: u64, c: u64) -> bool
+    requires { (k < 256) × (c < 65536) }
     ensures { result ≡ same_walled a b c (walled_at p.now k) }
 {
     if !policy::walled_is(p, k, c) {
@@ -24,24 +25,22 @@ fn row_says(p: &[u64], k: usize, a: u64, b: u64, c: u64) -> bool
 }
 
 // Whether some row is the same as the record.
-fn wall_repeated(p: &[u64], a: u64, b: u64, c: u64) -> bool
-    requires { (length p.now ≡ policy_words) × (c < 65536) }
+fn wall_repeated(p: &PolicyBuffer, a: u64, b: u64, c: u64) -> bool
+    requires { c < 65536 }
     ensures { result ≡ some (same_walled a b c) (policy_of p.now).walls }
 {
     let count = policy::wall_count(p);
-    let mut k = 0;
-    while k < count {
+    for k in 0..count {
         if row_says(p, k, a, b, c) {
             return true;
         }
-        k += 1;
     }
     false
 }
 
 // Whether object c is in a block of wall a other than b.
-fn elsewhere(p: &[u64], a: u64, b: u64, c: u64) -> bool
-    requires { (length p.now ≡ policy_words) × ((a < 16) × ((b < 16) × (c < 65536))) }
+fn elsewhere(p: &PolicyBuffer, a: u64, b: u64, c: u64) -> bool
+    requires { (a < 16) × ((b < 16) × (c < 65536)) }
     ensures { result ≡ another b (block_of (policy_of p.now).walls c a) }
 {
     let here = blocks::with(blocks::none(), a, b);
@@ -51,31 +50,28 @@ fn elsewhere(p: &[u64], a: u64, b: u64, c: u64) -> bool
 // ---- "policy kind 18, wall a, block b, object c"
 
 // The reply to the record.
-fn wall_reply(p: &[u64], a: u64, b: u64, c: u64) -> Reply
-    requires { (length p.now ≡ policy_words) × ((a < 16) × ((b < 16) × (c < 65536))) }
+fn wall_reply(p: &PolicyBuffer, a: u64, b: u64, c: u64) -> Reply
+    requires { (a < 16) × ((b < 16) × (c < 65536)) }
     ensures { Judged (λ t. wall_checks t a b c) p.now result }
 {
     if wall_repeated(p, a, b, c) {
-        return Reply::Taken;
+        return Err(Refusal::Taken);
     }
     if elsewhere(p, a, b, c) {
-        return Reply::Rule;
+        return Err(Refusal::Rule);
     }
     if 256 <= policy::wall_count(p) {
-        return Reply::Full;
+        return Err(Refusal::Full);
     }
-    Reply::Granted
+    Ok(())
 }
 
 // Checks the record and, if it is accepted, adds its row.
-pub fn wall(p: &mut [u64], a: u64, b: u64, c: u64) -> Reply
-    requires { (length p.old ≡ policy_words) × ((a < 16) × ((b < 16) × (c < 65536))) }
+pub fn wall(p: &mut PolicyBuffer, a: u64, b: u64, c: u64) -> Reply
+    requires { (a < 16) × ((b < 16) × (c < 65536)) }
     ensures { Recorded (λ t. wall_checks t a b c) (λ t. wall_next t a b c) p.old p.new result }
 {
-    let r = wall_reply(p, a, b, c);
-    if !replies::accepted(r) {
-        return r;
-    }
+    wall_reply(p, a, b, c)?;
     policy::add_wall(p, a, b, c);
-    r
+    Ok(())
 }

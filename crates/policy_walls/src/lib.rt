@@ -10,10 +10,11 @@ ghost use Rattle.policy.specs.Reading.{policy_of};
 ghost use Rattle.policy_walls.specs.Found.{blocks_from, rows_block};
 
 use blocks::Blocks;
+use policy::PolicyBuffer;
 
 // Row k's block too, if the row is about the object and one of the kept ones.
-fn with_row(p: &[u64], object: u64, k: usize, count: usize, b: Blocks) -> Blocks
-    requires { (length p.now ≡ policy_words) × ((k < 256) × (count ≡ wall_count p.now)) }
+fn with_row(p: &PolicyBuffer, object: u64, k: usize, count: usize, b: Blocks) -> Blocks
+    requires { (k < 256) × (count ≡ wall_count p.now) }
     ensures { blocks_of result ≡ over (blocks_of b) (rows_block p.now object k) }
 {
     if (count <= k) | !policy::walled_is(p, k, object) {
@@ -23,8 +24,8 @@ fn with_row(p: &[u64], object: u64, k: usize, count: usize, b: Blocks) -> Blocks
 }
 
 // The blocks by the rows 64 part to 64 part + 63 too, in policy order.
-fn with_part(p: &[u64], object: u64, part: usize, count: usize, b: Blocks) -> Blocks
-    requires { (length p.now ≡ policy_words) × ((object < 65536) × ((part < 4) × (count ≡ wall_count p.now))) }
+fn with_part(p: &PolicyBuffer, object: u64, part: usize, count: usize, b: Blocks) -> Blocks
+    requires { (object < 65536) × ((part < 4) × (count ≡ wall_count p.now)) }
     ensures { over (blocks_of result) (blocks_from p.now object (part + 1)) ≡ over (blocks_of b) (blocks_from p.now object part) }
 {
     let mut left = policy::wall_rows(p, object, part);
@@ -38,8 +39,8 @@ fn with_part(p: &[u64], object: u64, part: usize, count: usize, b: Blocks) -> Bl
 }
 
 // The object's block in each wall that has it.
-pub fn blocks_of(p: &[u64], object: u64) -> Blocks
-    requires { (length p.now ≡ policy_words) × (object < 65536) }
+pub fn blocks_of(p: &PolicyBuffer, object: u64) -> Blocks
+    requires { object < 65536 }
     ensures { blocks_of result ≡ block_of (policy_of p.now).walls object }
 {
     let count = policy::wall_count(p);

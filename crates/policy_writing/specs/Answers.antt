@@ -1,17 +1,17 @@
 -- The contract of writing a policy. 02, Ask 8: "ROOM when the output is too short, nothing written." The same is given if a state buffer has the wrong
 -- length. Otherwise the output starts with the records, and the bytes after them are unchanged.
-use Rattle.std.specs.Prelude.{ℕ, ◌+◌, ◌*◌, ◌≤◌, Bool, cond, ◌&&◌, List, ◌++◌, ◌≡◌, eqb, leb, length, drop}
+use Rattle.std.specs.Prelude.{ℕ, ◌+◌, ◌*◌, ◌≤◌, Bool, cond, ◌&&◌, List, ◌++◌, ◌≡◌, eqb, leb, length, drop, Result, Ok, Err}
 use Rattle.paper_lower.specs.Lists.{many}
 use Rattle.paper_lower.specs.Checks.{GRANTED, ROOM}
 use Rattle.paper_lower.specs.Records.{Bytes}
 use Rattle.paper_lower.specs.Tables.{Policy}
 use Rattle.paper_lower.specs.Written.{records_written, written}
-use Rattle.replies.specs.Replies.{number_of}
+use Rattle.replies.specs.Replies.{refusal_number}
+use Rattle.replies.specs.declared.Refusal.{Refusal}
 use Rattle.policy.specs.Layout.{policy_words}
 use Rattle.policy.specs.Reading.{policy_of}
 use Rattle.sessions.specs.Reading.{sessions_words}
 use Rattle.policy_writing.specs.Laying.{far}
-use Rattle.policy_writing.specs.declared.Written.{Written}
 
 -- The answer: the reply, the number of records, and the output afterwards.
 pub record Answer : Type 0 where
@@ -34,10 +34,22 @@ write_of fits p output =
     (answer GRANTED (records_of p) (written p ++ drop (16 * records_of p) output))
     (answer ROOM 0 output)
 
+-- ---- What a function that writes returns: the number of records, or the refusal.
+abbrev pub Written : Type 0
+Written = Result ℕ Refusal
+
+abbrev pub written_number : Written → ℕ
+written_number (Ok _) = GRANTED
+written_number (Err e) = refusal_number e
+
+abbrev pub written_records : Written → ℕ
+written_records (Ok n) = n
+written_records (Err _) = 0
+
 -- ---- For a policy buffer alone. The bound on the number of records is for callers that multiply it.
 pub record Wrote (l : List ℕ) (output output' : Bytes) (x : Written) : Type 0 where
-  pub answers : answer (number_of x.reply) x.records output' ≡ write_of (eqb (length l) policy_words) (policy_of l) output
-  pub few : x.records ≤ far
+  pub answers : answer (written_number x) (written_records x) output' ≡ write_of (eqb (length l) policy_words) (policy_of l) output
+  pub few : written_records x ≤ far
 
 -- ---- For C and Rust, on the two buffers of the lower part: one number, the reply plus 256 times the number of records.
 

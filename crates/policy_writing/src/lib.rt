@@ -8,19 +8,12 @@ ghost use Rattle.policy.specs.Layout.{policy_words, limit_at, block_at, pair_at,
 ghost use Rattle.policy.specs.Reading.{policy_of};
 ghost use Rattle.policy_writing.specs.Lines.{spread, across, limit_row, block_row, row_of_pair, wall_row, height_in, row_in, kind_in, side_in};
 ghost use Rattle.policy_writing.specs.Laying.{Laid, Whole, far};
-ghost use Rattle.policy_writing.specs.Answers.{fit, Wrote, Exported};
+ghost use Rattle.policy_writing.specs.Answers.{fit, Wrote, Exported, written_number, written_records};
 
-use policy::POLICY_WORDS;
-use replies::Reply;
+use policy::{POLICY_WORDS, PairKind, PolicyBuffer, SetKind};
+use replies::Refusal;
 use sessions::SESSIONS_WORDS;
 use sets::Set;
-
-// The reply, and the number of records written.
-#[derive(Clone, Copy)]
-pub struct Written {
-    pub reply: Reply,
-    pub records: usize,
-}
 
 // ---- One record.
 
@@ -53,8 +46,8 @@ fn put(
 // ---- One row of a kind. Each function returns the index after its records.
 
 // Permission a, if it is declared.
-fn permission(output: &mut [u8], place: usize, p: &[u64], a: usize) -> usize
-    requires { (place < far) × ((length p.now ≡ policy_words) × (a < 256)) }
+fn permission(output: &mut [u8], place: usize, p: &PolicyBuffer, a: usize) -> usize
+    requires { (place < far) × (a < 256) }
     ensures { Laid (of_there (λ x. row 3 0 a x.operation x.object 0) ((policy_of p.now).permissions.declared a)) 1 output.old output.new place result }
 {
     let there = policy::permission_declared(p, a);
@@ -64,8 +57,8 @@ fn permission(output: &mut [u8], place: usize, p: &[u64], a: usize) -> usize
 }
 
 // Task a, if it is declared.
-fn task(output: &mut [u8], place: usize, p: &[u64], a: usize) -> usize
-    requires { (place < far) × ((length p.now ≡ policy_words) × (a < 64)) }
+fn task(output: &mut [u8], place: usize, p: &PolicyBuffer, a: usize) -> usize
+    requires { (place < far) × (a < 64) }
     ensures { Laid (of_there (λ j. row 6 0 a j 0 0) ((policy_of p.now).tasks.template a)) 1 output.old output.new place result }
 {
     let there = policy::task_declared(p, a);
@@ -74,8 +67,8 @@ fn task(output: &mut [u8], place: usize, p: &[u64], a: usize) -> usize
 }
 
 // The count limit of task a, if it has one.
-fn most(output: &mut [u8], place: usize, p: &[u64], a: usize) -> usize
-    requires { (place < far) × ((length p.now ≡ policy_words) × (a < 64)) }
+fn most(output: &mut [u8], place: usize, p: &PolicyBuffer, a: usize) -> usize
+    requires { (place < far) × (a < 64) }
     ensures { Laid (of_there (λ n. row 14 n a 0 0 0) ((policy_of p.now).tasks.most a)) 1 output.old output.new place result }
 {
     let there = policy::task_limited(p, a);
@@ -84,18 +77,28 @@ fn most(output: &mut [u8], place: usize, p: &[u64], a: usize) -> usize
 }
 
 // Set k of a kind (static sets 0, dynamic sets 1, task sets 2).
-fn limit(output: &mut [u8], place: usize, p: &[u64], which: usize, k: usize) -> usize
-    requires { (place < far) × ((length p.now ≡ policy_words) × ((which < 3) × (k < 32))) }
-    ensures { Laid (limit_row (9 + which) (limit_at which p.now k) ∷ []) 1 output.old output.new place result }
+fn limit(output: &mut [u8], place: usize, p: &PolicyBuffer, which: SetKind, k: usize) -> usize
+    requires { (place < far) × (k < 32) }
+    ensures { Laid (limit_row (9 + set_index which) (limit_at (set_index which) p.now k) ∷ []) 1 output.old output.new place result }
 {
     let n = policy::limit_n(p, which, k) % 256;
     let m = policy::limit_members(p, which, k);
-    put(output, place, true, 9 + which as u64, n, 0, 0, 0, m.bits)
+    put(
+        output,
+        place,
+        true,
+        9 + which.index() as u64,
+        n,
+        0,
+        0,
+        0,
+        m.bits,
+    )
 }
 
 // Block k.
-fn block(output: &mut [u8], place: usize, p: &[u64], k: usize) -> usize
-    requires { (place < far) × ((length p.now ≡ policy_words) × (k < 64)) }
+fn block(output: &mut [u8], place: usize, p: &PolicyBuffer, k: usize) -> usize
+    requires { (place < far) × (k < 64) }
     ensures { Laid (block_row (block_at p.now k) ∷ []) 1 output.old output.new place result }
 {
     let a = policy::block_partitioning(p, k);
@@ -104,18 +107,28 @@ fn block(output: &mut [u8], place: usize, p: &[u64], k: usize) -> usize
 }
 
 // Pair k of a kind (bindings 0, prerequisites 1).
-fn pair(output: &mut [u8], place: usize, p: &[u64], which: usize, k: usize) -> usize
-    requires { (place < far) × ((length p.now ≡ policy_words) × ((which < 2) × (k < 64))) }
-    ensures { Laid (row_of_pair (15 + which) (pair_at which p.now k) ∷ []) 1 output.old output.new place result }
+fn pair(output: &mut [u8], place: usize, p: &PolicyBuffer, which: PairKind, k: usize) -> usize
+    requires { (place < far) × (k < 64) }
+    ensures { Laid (row_of_pair (15 + pair_index which) (pair_at (pair_index which) p.now k) ∷ []) 1 output.old output.new place result }
 {
     let a = policy::pair_a(p, which, k);
     let b = policy::pair_b(p, which, k);
-    put(output, place, true, 15 + which as u64, 0, a, b, 0, 0)
+    put(
+        output,
+        place,
+        true,
+        15 + which.index() as u64,
+        0,
+        a,
+        b,
+        0,
+        0,
+    )
 }
 
 // Row k of the walls. The field c has two bytes; a row without an object, which no load makes, is written with object 0.
-fn walled(output: &mut [u8], place: usize, p: &[u64], k: usize) -> usize
-    requires { (place < far) × ((length p.now ≡ policy_words) × (k < 256)) }
+fn walled(output: &mut [u8], place: usize, p: &PolicyBuffer, k: usize) -> usize
+    requires { (place < far) × (k < 256) }
     ensures { Laid (wall_row (walled_at p.now k) ∷ []) 1 output.old output.new place result }
 {
     let a = policy::walled_wall(p, k);
@@ -133,17 +146,15 @@ fn members(output: &mut [u8], place: usize, kind: u64, a: u64, m: Set) -> usize
         return place;
     }
     let mut at = place;
-    let mut b = 0;
-    while b < 64 {
+    for b in 0..64 {
         at = put(output, at, m.has(b), kind, 0, a, b, 0, 0);
-        b += 1;
     }
     at
 }
 
 // The roles that have permission b (kind 5) or the tasks that carry it (other kinds).
-fn side(p: &[u64], kind: u64, b: usize) -> Set
-    requires { (length p.now ≡ policy_words) × (b < 256) }
+fn side(p: &PolicyBuffer, kind: u64, b: usize) -> Set
+    requires { b < 256 }
     ensures { result.bits ≡ side_in p.now kind b }
 {
     if kind == 5 {
@@ -153,16 +164,14 @@ fn side(p: &[u64], kind: u64, b: usize) -> Set
 }
 
 // A record (a, b) for each permission b whose set has a.
-fn permissions(output: &mut [u8], place: usize, p: &[u64], kind: u64, a: u64) -> usize
-    requires { (place + 256 < far) × ((length p.now ≡ policy_words) × ((kind < 256) × (a < 64))) }
+fn permissions(output: &mut [u8], place: usize, p: &PolicyBuffer, kind: u64, a: u64) -> usize
+    requires { (place + 256 < far) × ((kind < 256) × (a < 64)) }
     ensures { Laid (across kind a (side_in p.now kind)) 256 output.old output.new place result }
 {
     let mut at = place;
-    let mut b = 0;
-    while b < 256 {
+    for b in 0..256 {
         let there = side(p, kind, b).has(a);
         at = put(output, at, there, kind, 0, a, b as u64, 0, 0);
-        b += 1;
     }
     at
 }
@@ -170,8 +179,7 @@ fn permissions(output: &mut [u8], place: usize, p: &[u64], kind: u64, a: u64) ->
 // ---- One kind.
 
 // The number of rows of a kind.
-fn height(p: &[u64], kind: u64) -> usize
-    requires { length p.now ≡ policy_words }
+fn height(p: &PolicyBuffer, kind: u64) -> usize
     ensures { (result ≡ height_in p.now kind) × (result ≤ 1024) }
 {
     match kind {
@@ -183,14 +191,14 @@ fn height(p: &[u64], kind: u64) -> usize
         6 => 64,
         7 => 64,
         8 => 64,
-        9 => policy::limit_count(p, 0),
-        10 => policy::limit_count(p, 1),
-        11 => policy::limit_count(p, 2),
+        9 => policy::limit_count(p, SetKind::Static),
+        10 => policy::limit_count(p, SetKind::Dynamic),
+        11 => policy::limit_count(p, SetKind::Task),
         12 => policy::block_count(p),
         13 => 16,
         14 => 64,
-        15 => policy::pair_count(p, 0),
-        16 => policy::pair_count(p, 1),
+        15 => policy::pair_count(p, PairKind::Binding),
+        16 => policy::pair_count(p, PairKind::Prerequisite),
         17 => 64,
         18 => policy::wall_count(p),
         _ => 0,
@@ -198,8 +206,8 @@ fn height(p: &[u64], kind: u64) -> usize
 }
 
 // Row a of a kind.
-fn line(output: &mut [u8], place: usize, p: &[u64], kind: u64, a: usize) -> usize
-    requires { (place + 256 < far) × ((length p.now ≡ policy_words) × (a < height_in p.now kind)) }
+fn line(output: &mut [u8], place: usize, p: &PolicyBuffer, kind: u64, a: usize) -> usize
+    requires { (place + 256 < far) × (a < height_in p.now kind) }
     ensures { Laid (row_in p.now kind a) 256 output.old output.new place result }
 {
     let i = a as u64;
@@ -222,14 +230,14 @@ fn line(output: &mut [u8], place: usize, p: &[u64], kind: u64, a: usize) -> usiz
         6 => task(output, place, p, a),
         7 => members(output, place, 7, i, policy::open_to(p, a)),
         8 => permissions(output, place, p, 8, i),
-        9 => limit(output, place, p, 0, a),
-        10 => limit(output, place, p, 1, a),
-        11 => limit(output, place, p, 2, a),
+        9 => limit(output, place, p, SetKind::Static, a),
+        10 => limit(output, place, p, SetKind::Dynamic, a),
+        11 => limit(output, place, p, SetKind::Task, a),
         12 => block(output, place, p, a),
         13 => put(output, place, policy::banned(p, a), 13, 0, i, 0, 0, 0),
         14 => most(output, place, p, a),
-        15 => pair(output, place, p, 0, a),
-        16 => pair(output, place, p, 1, a),
+        15 => pair(output, place, p, PairKind::Binding, a),
+        16 => pair(output, place, p, PairKind::Prerequisite, a),
         17 => members(output, place, 17, i, policy::juniors(p, a)),
         18 => walled(output, place, p, a),
         _ => place,
@@ -237,16 +245,14 @@ fn line(output: &mut [u8], place: usize, p: &[u64], kind: u64, a: usize) -> usiz
 }
 
 // All rows of a kind.
-fn lines(output: &mut [u8], place: usize, p: &[u64], kind: u64) -> usize
-    requires { (place + 524288 < far) × (length p.now ≡ policy_words) }
+fn lines(output: &mut [u8], place: usize, p: &PolicyBuffer, kind: u64) -> usize
+    requires { place + 524288 < far }
     ensures { Laid (kind_in p.now kind) 262144 output.old output.new place result }
 {
     let rows = height(p, kind);
     let mut at = place;
-    let mut a = 0;
-    while a < rows {
+    for a in 0..rows {
         at = line(output, at, p, kind, a);
-        a += 1;
     }
     at
 }
@@ -254,49 +260,47 @@ fn lines(output: &mut [u8], place: usize, p: &[u64], kind: u64) -> usize
 // ---- The whole policy.
 
 // Writes all kinds from the start of the output and returns the number of records.
-fn all(output: &mut [u8], p: &[u64]) -> usize
-    requires { length p.now ≡ policy_words }
+fn all(output: &mut [u8], p: &PolicyBuffer) -> usize
     ensures { Laid (records_written (policy_of p.now)) far output.old output.new 0 result }
 {
     let mut at = 0;
-    let mut kind = 0;
-    while kind < 19 {
+    for kind in 0..19 {
         at = lines(output, at, p, kind);
-        kind += 1;
     }
     at
 }
 
 // The number of records. It writes them to an output that has no room for any, which only counts them.
-fn count(p: &[u64]) -> usize
-    requires { length p.now ≡ policy_words }
+fn count(p: &PolicyBuffer) -> usize
     ensures { (result ≡ many (records_written (policy_of p.now))) × (result ≤ far) }
 {
     let mut none = [0; 1];
     all(&mut none, p)
 }
 
-// Writes the policy, unless the buffer has the wrong length or the output is too short.
-pub fn write(output: &mut [u8], p: &[u64]) -> Written
-    ensures { Wrote p.now output.old output.new result }
+// Writes the policy, unless the buffer has the wrong length or the output is too short, and returns the number of records.
+pub fn write(output: &mut [u8], policy: &[u64]) -> Result<usize, Refusal>
+    ensures { Wrote policy.now output.old output.new result }
 {
-    if p.len() != POLICY_WORDS {
-        return Written {
-            reply: Reply::Room,
-            records: 0,
-        };
-    }
+    let Some(p) = policy.as_array::<POLICY_WORDS>() else {
+        return Err(Refusal::Room);
+    };
     let records = count(p);
     if output.len() < 16 * records {
-        return Written {
-            reply: Reply::Room,
-            records: 0,
-        };
+        return Err(Refusal::Room);
     }
     all(output, p);
-    Written {
-        reply: Reply::Granted,
-        records,
+    Ok(records)
+}
+
+// The number of records that were written, or the refusal, as one number: the reply + 256 times the number of records.
+pub fn packed(written: Result<usize, Refusal>) -> u64
+    requires { written_records written ≤ far }
+    ensures { result ≡ written_number written + 256 * written_records written }
+{
+    match written {
+        Ok(records) => 256 * records as u64,
+        Err(refusal) => u64::from(refusal),
     }
 }
 
@@ -306,9 +310,7 @@ pub extern "C" fn mishantral_lower_write(output: &mut [u8], policy: &[u64], sess
     ensures { Exported (fit policy.now sessions.now) (policy_of policy.now) output.old output.new result }
 {
     if sessions.len() != SESSIONS_WORDS {
-        return 1;
+        return u64::from(Refusal::Room);
     }
-    let x = write(output, policy);
-    let reply = x.reply;
-    replies::number(reply) + 256 * x.records as u64
+    packed(write(output, policy))
 }

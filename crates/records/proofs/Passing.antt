@@ -15,8 +15,7 @@ use Rattle.paper_lower.specs.Records.{Bytes, decode}
 use Rattle.paper_lower.specs.Forms.{Field, Form, form_of, misplaced, above, misshapen, out_of_range, form_checks}
 use Rattle.paper_lower.specs.Forms.Field.{·, to, any, pair}
 use Rattle.paper_lower.specs.Kinds.{Kind, chosen, reply_to, answer}
-use Rattle.replies.specs.Replies.{number_of}
-use Rattle.replies.specs.declared.Reply.{Reply}
+use Rattle.replies.specs.Replies.{Reply, number_of}
 use Rattle.replies.proofs.ReplyLaws.{is_zero, not-zero}
 use Rattle.replies.proofs.DoneLaws.{granted-old}
 use Rattle.records.specs.Reading.{paper_of, Small, Decoded}

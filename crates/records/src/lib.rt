@@ -11,7 +11,7 @@ ghost use Rattle.records.specs.Table.{bit_of, table_at, misshapes, outranges};
 ghost use Rattle.records.specs.Calls.{forms_of};
 ghost use Rattle.records.specs.Check.{is_check};
 
-use replies::Reply;
+use replies::{Refusal, Reply};
 
 // A record of sixteen bytes, decoded (docs/RULES.md, "A record").
 #[derive(Clone, Copy)]
@@ -220,7 +220,7 @@ pub fn judge(call: Call, s: &[u8]) -> Reply
     ensures { number_of result ≡ first (form_checks (forms_of call) s.now) }
 {
     if s.len() != 16 {
-        return Reply::Shape;
+        return Err(Refusal::Shape);
     }
     let r = decode(s);
     let kind = r.kind;
@@ -228,12 +228,12 @@ pub fn judge(call: Call, s: &[u8]) -> Reply
     let head = word(s, 0);
     let f = form_of(kind);
     if misshapen(call, f, head, m) {
-        return Reply::Shape;
+        return Err(Refusal::Shape);
     }
     if out_of_range(f, r) {
-        return Reply::Range;
+        return Err(Refusal::Range);
     }
-    Reply::Granted
+    Ok(())
 }
 
 // Whether the bytes are a check (kind 56) that passes SHAPE and RANGE. The four tests are combined without branches.

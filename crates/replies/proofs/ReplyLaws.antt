@@ -1,12 +1,39 @@
--- Laws of replies: what `accepted` says of a reply's number, and that different replies have different numbers.
+-- Laws of replies: a refusal's number is not 0, what `accepted` says of a reply's number, and that different replies have different numbers.
 use Prim.Native.Nat.{ℕ}
 use mathlib.Core.Bool.{Bool, true, false, cond}
 use mathlib.Core.Path.{◌≡◌, refl, sym, ap, ◌∙◌}
+use native.Mathlib.Omega.{arith}
 use borrow.Author.Tests.{eqb-true, eqb-false}
 use lib.Dec.{eqb}
-use Rattle.replies.specs.Replies.{number_of}
-use Rattle.replies.specs.declared.Reply.{Reply}
-use Rattle.replies.specs.declared.Reply.TheVariants.{Granted, Room, Shape, Range, Unknown, Taken, InUse, Rule, NotAssigned, Static, Dynamic, NoRole, NotYours, Denied, Before, Separation, Block, Alone, Bound, Count, Full, Loop, Wall}
+use Rattle.std.specs.Prelude.{Ok, Err}
+use Rattle.replies.specs.Replies.{Reply, Outcome, number_of, refusal_number, outcome_number}
+use Rattle.replies.specs.declared.Refusal.{Refusal}
+use Rattle.replies.specs.declared.Refusal.TheVariants.{Room, Shape, Range, Unknown, Taken, InUse, Rule, NotAssigned, Static, Dynamic, NoRole, NotYours, Denied, Before, Separation, Block, Alone, Bound, Count, Full, Loop, Wall}
+
+-- A refusal's number is not 0.
+pub not-granted : (e : Refusal) → refusal_number e ≡ 0 → ⊥
+not-granted Room h = omega (arith, h)
+not-granted Shape h = omega (arith, h)
+not-granted Range h = omega (arith, h)
+not-granted Unknown h = omega (arith, h)
+not-granted Taken h = omega (arith, h)
+not-granted InUse h = omega (arith, h)
+not-granted Rule h = omega (arith, h)
+not-granted NotAssigned h = omega (arith, h)
+not-granted Static h = omega (arith, h)
+not-granted Dynamic h = omega (arith, h)
+not-granted NoRole h = omega (arith, h)
+not-granted NotYours h = omega (arith, h)
+not-granted Denied h = omega (arith, h)
+not-granted Before h = omega (arith, h)
+not-granted Separation h = omega (arith, h)
+not-granted Block h = omega (arith, h)
+not-granted Alone h = omega (arith, h)
+not-granted Bound h = omega (arith, h)
+not-granted Count h = omega (arith, h)
+not-granted Full h = omega (arith, h)
+not-granted Loop h = omega (arith, h)
+not-granted Wall h = omega (arith, h)
 
 -- If b is what `accepted` returned for r: b is true if the number of r is 0, and false if it is not.
 pub is_zero : (r : Reply) {b : Bool} → b ≡ eqb (number_of r) 0 → b ≡ true → number_of r ≡ 0
@@ -15,8 +42,8 @@ is_zero r a t = eqb-true (number_of r) 0 (sym a ∙ t)
 pub not-zero : (r : Reply) {b : Bool} → b ≡ eqb (number_of r) 0 → b ≡ false → number_of r ≡ 0 → ⊥
 not-zero r a f = eqb-false (number_of r) 0 (sym a ∙ f)
 
--- The reply with number n.
-named : ℕ → Reply
+-- The refusal with number n.
+named : ℕ → Refusal
 named n =
     cond (eqb n 1) Room
     (cond (eqb n 2) Shape
@@ -39,12 +66,10 @@ named n =
     (cond (eqb n 19) Count
     (cond (eqb n 20) Full
     (cond (eqb n 23) Loop
-    (cond (eqb n 24) Wall
-    Granted)))))))))))))))))))))
+    Wall))))))))))))))))))))
 
-named-number : (r : Reply) → named (number_of r) ≡ r
+named-number : (e : Refusal) → named (refusal_number e) ≡ e
 unfolding named
-named-number Granted = refl
 named-number Room = refl
 named-number Shape = refl
 named-number Range = refl
@@ -70,4 +95,7 @@ named-number Wall = refl
 
 -- Two replies with the same number are equal.
 pub one-reply : (r s : Reply) → number_of r ≡ number_of s → r ≡ s
-one-reply r s e = sym (named-number r) ∙ ap named e ∙ named-number s
+one-reply (Ok u) (Ok v) e = refl
+one-reply (Ok u) (Err f) e = absurd (not-granted f (sym e))
+one-reply (Err e') (Ok u) e = absurd (not-granted e' e)
+one-reply (Err e') (Err f) e = ap Err (sym (named-number e') ∙ ap named e ∙ named-number f)

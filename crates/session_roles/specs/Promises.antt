@@ -3,9 +3,8 @@
 use Rattle.std.specs.Prelude.{ℕ, List, ◌≡◌}
 use Rattle.paper_lower.specs.Checks.{first}
 use Rattle.paper_lower.specs.Roles.{join_checks, join_next, delete_checks, user_gone, take_back_checks, take_back_next, withdraw_checks, withdraw_next}
-use Rattle.replies.specs.Replies.{number_of}
+use Rattle.replies.specs.Replies.{Reply, number_of}
 use Rattle.replies.specs.Done.{Done}
-use Rattle.replies.specs.declared.Reply.{Reply}
 use Rattle.policy.specs.Reading.{policy_of}
 use Rattle.sessions.specs.Lower.{lower_tables}
 use Rattle.sessions.specs.Both.{Both}

@@ -11,60 +11,56 @@ ghost use Rattle.sessions.specs.Reading.{sessions_words};
 ghost use Rattle.sessions.specs.Lower.{lower_tables};
 ghost use Rattle.session_roles.specs.Promises.{JoinJudged, Joined, DeleteJudged, Deleted, TakeBackJudged, TakenBack, WithdrawJudged, Withdrawn};
 
-use replies::{Reply, accepted};
+use policy::{PolicyBuffer, SetKind};
+use replies::{Refusal, Reply};
+use sessions::SessionsBuffer;
 use sets::Set;
-
-// The number by which policy_lookups knows the static sets.
-const STATIC: usize = 0;
 
 // ---- 32: add user a with roles m.
 
-fn join_reply(p: &[u64], a: u64, m: Set) -> Reply
-    requires { (length p.now ≡ policy_words) × (a < 1024) }
+fn join_reply(p: &PolicyBuffer, a: u64, m: Set) -> Reply
+    requires { a < 1024 }
     ensures { JoinJudged p.now a m.bits result }
 {
     if !m.within(policy::declared_roles(p)) {
-        return Reply::Unknown;
+        return Err(Refusal::Unknown);
     }
     if policy::user_declared(p, a as usize) {
-        return Reply::Taken;
+        return Err(Refusal::Taken);
     }
-    if policy_lookups::broken(p, STATIC, policy_seniors::down(p, m)) {
-        return Reply::Static;
+    if policy_lookups::broken(p, SetKind::Static, policy_seniors::down(p, m)) {
+        return Err(Refusal::Static);
     }
-    Reply::Granted
+    Ok(())
 }
 
 // Adds user a with the roles m, unless a check refuses it.
-pub fn join(p: &mut [u64], a: u64, m: Set) -> Reply
-    requires { (length p.old ≡ policy_words) × (a < 1024) }
+pub fn join(p: &mut PolicyBuffer, a: u64, m: Set) -> Reply
+    requires { a < 1024 }
     ensures { Joined p.old p.new a m.bits result }
 {
-    let r = join_reply(p, a, m);
-    if !accepted(r) {
-        return r;
-    }
+    join_reply(p, a, m)?;
     policy::set_user(p, a as usize, 1, m);
-    r
+    Ok(())
 }
 
 // ---- 33: delete user a. The upper part has further checks, so it calls `delete_reply` and `remove` itself.
 
 // The reply of the lower part's checks.
-pub fn delete_reply(p: &[u64], s: &[u64], a: u64) -> Reply
-    requires { (length p.now ≡ policy_words) × ((length s.now ≡ sessions_words) × (a < 1024)) }
+pub fn delete_reply(p: &PolicyBuffer, s: &SessionsBuffer, a: u64) -> Reply
+    requires { a < 1024 }
     ensures { DeleteJudged p.now s.now a result }
 {
     if !policy::user_declared(p, a as usize) {
-        return Reply::Unknown;
+        return Err(Refusal::Unknown);
     }
     let used = sessions::has_subject(s, a);
-    if used { Reply::InUse } else { Reply::Granted }
+    if used { Err(Refusal::InUse) } else { Ok(()) }
 }
 
 // Removes the declaration of the user, the user's roles, and the blocks that the user is bound to. The caller has checked the request.
-pub fn remove(p: &mut [u64], s: &mut [u64], a: u64)
-    requires { (length p.old ≡ policy_words) × ((length s.old ≡ sessions_words) × (a < 1024)) }
+pub fn remove(p: &mut PolicyBuffer, s: &mut SessionsBuffer, a: u64)
+    requires { a < 1024 }
     ensures { lower_tables p.new s.new ≡ user_gone (lower_tables p.old s.old) a }
 {
     policy::set_user(p, a as usize, 0, Set::EMPTY);
@@ -73,23 +69,20 @@ pub fn remove(p: &mut [u64], s: &mut [u64], a: u64)
 }
 
 // Deletes user a, unless a check of the lower part refuses it.
-pub fn delete(p: &mut [u64], s: &mut [u64], a: u64) -> Reply
-    requires { (length p.old ≡ policy_words) × ((length s.old ≡ sessions_words) × (a < 1024)) }
+pub fn delete(p: &mut PolicyBuffer, s: &mut SessionsBuffer, a: u64) -> Reply
+    requires { a < 1024 }
     ensures { Deleted p.old s.old p.new s.new a result }
 {
-    let r = delete_reply(p, s, a);
-    if !accepted(r) {
-        return r;
-    }
+    delete_reply(p, s, a)?;
     remove(p, s, a);
-    r
+    Ok(())
 }
 
 // ---- 35: take role b from user a.
 
 // The roles that user a would no longer have without role b, counting the roles below those assigned.
-fn lost_by(p: &[u64], a: u64, b: u64) -> Set
-    requires { (length p.now ≡ policy_words) × ((a < 1024) × (b < 64)) }
+fn lost_by(p: &PolicyBuffer, a: u64, b: u64) -> Set
+    requires { (a < 1024) × (b < 64) }
     ensures { result.bits ≡ lost_by (policy_of p.now) a b }
 {
     let roles = policy::assigned(p, a as usize);
@@ -99,62 +92,56 @@ fn lost_by(p: &[u64], a: u64, b: u64) -> Set
     before.beyond(after)
 }
 
-fn take_back_reply(p: &[u64], s: &[u64], a: u64, b: u64) -> Reply
-    requires { (length p.now ≡ policy_words) × ((length s.now ≡ sessions_words) × ((a < 1024) × (b < 64))) }
+fn take_back_reply(p: &PolicyBuffer, s: &SessionsBuffer, a: u64, b: u64) -> Reply
+    requires { (a < 1024) × (b < 64) }
     ensures { TakeBackJudged p.now s.now a b result }
 {
     if !policy::user_declared(p, a as usize)
         | !policy::declared_roles(p).has(b)
         | !policy::assigned(p, a as usize).has(b)
     {
-        return Reply::Unknown;
+        return Err(Refusal::Unknown);
     }
     if sessions::active_of(s, a).meets(lost_by(p, a, b)) {
-        Reply::InUse
+        Err(Refusal::InUse)
     } else {
-        Reply::Granted
+        Ok(())
     }
 }
 
 // Takes role b from user a, unless a check refuses it.
-pub fn take_back(p: &mut [u64], s: &[u64], a: u64, b: u64) -> Reply
-    requires { (length p.old ≡ policy_words) × ((length s.now ≡ sessions_words) × ((a < 1024) × (b < 64))) }
+pub fn take_back(p: &mut PolicyBuffer, s: &SessionsBuffer, a: u64, b: u64) -> Reply
+    requires { (a < 1024) × (b < 64) }
     ensures { TakenBack p.old p.new s.now a b result }
 {
-    let r = take_back_reply(p, s, a, b);
-    if !accepted(r) {
-        return r;
-    }
+    take_back_reply(p, s, a, b)?;
     let left = policy::assigned(p, a as usize).without(b);
     policy::set_assigned(p, a as usize, left);
-    r
+    Ok(())
 }
 
 // ---- 37: take permission b from role a.
 
-fn withdraw_reply(p: &[u64], a: u64, b: u64) -> Reply
-    requires { (length p.now ≡ policy_words) × ((a < 64) × (b < 256)) }
+fn withdraw_reply(p: &PolicyBuffer, a: u64, b: u64) -> Reply
+    requires { (a < 64) × (b < 256) }
     ensures { WithdrawJudged p.now a b result }
 {
     if !policy::declared_roles(p).has(a)
         | !policy::permission_declared(p, b as usize)
         | !policy::holders(p, b as usize).has(a)
     {
-        return Reply::Unknown;
+        return Err(Refusal::Unknown);
     }
-    Reply::Granted
+    Ok(())
 }
 
 // Takes permission b from role a, unless a check refuses it.
-pub fn withdraw(p: &mut [u64], a: u64, b: u64) -> Reply
-    requires { (length p.old ≡ policy_words) × ((a < 64) × (b < 256)) }
+pub fn withdraw(p: &mut PolicyBuffer, a: u64, b: u64) -> Reply
+    requires { (a < 64) × (b < 256) }
     ensures { Withdrawn p.old p.new a b result }
 {
-    let r = withdraw_reply(p, a, b);
-    if !accepted(r) {
-        return r;
-    }
+    withdraw_reply(p, a, b)?;
     let left = policy::holders(p, b as usize).without(a);
     policy::set_holders(p, b as usize, left);
-    r
+    Ok(())
 }

@@ -14,9 +14,8 @@ use Rattle.paper_lower.specs.Tables.{Walled, Sessions, Lower}
 use Rattle.paper_lower.specs.Policy.{block_of, down}
 use Rattle.paper_lower.specs.Sessions.{allowed, wall_between, check_checks, commit_next}
 use Rattle.replies.specs.Cells.{rows, rows_from}
-use Rattle.replies.specs.Replies.{number_of}
-use Rattle.replies.specs.declared.Reply.{Reply}
-use Rattle.replies.specs.declared.Reply.TheVariants.{Granted, Wall}
+use Rattle.replies.specs.Replies.{Reply, number_of}
+use Rattle.replies.specs.declared.Refusal.TheVariants.{Granted, Wall}
 use Rattle.replies.specs.Done.{Done}
 use Rattle.replies.proofs.ReplyLaws.{is_zero, not-zero}
 use Rattle.policy.specs.Layout.{wall_count, walled_at}

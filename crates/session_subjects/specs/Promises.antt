@@ -1,12 +1,11 @@
 -- The contracts of requests 40 to 43, 56 and 59 on the policy buffer p and the sessions buffer s. `...Judged` says that the reply is that of the definition's
 -- checks. The other definition of a request also says which sessions the request leaves, and that a refusal changes no word.
-use Rattle.std.specs.Prelude.{ℕ, cond, List, ◌≡◌, eqb, take}
-use Rattle.paper_lower.specs.Checks.{first, ROOM}
+use Rattle.std.specs.Prelude.{ℕ, cond, List, ◌≡◌, eqb, take, Option, Some, None}
+use Rattle.paper_lower.specs.Checks.{first}
 use Rattle.paper_lower.specs.Tables.{Policy, Lower}
 use Rattle.paper_lower.specs.Sessions.{create_checks, create_next, destroy_checks, destroy_next, activate_checks, activate_next, deactivate_checks, deactivate_next, check_checks, commit_next}
-use Rattle.replies.specs.Replies.{number_of}
+use Rattle.replies.specs.Replies.{Reply, number_of}
 use Rattle.replies.specs.Done.{Done}
-use Rattle.replies.specs.declared.Reply.{Reply}
 use Rattle.sessions.specs.Reading.{sessions_of}
 use Rattle.sessions.specs.Lower.{lower_tables}
 
@@ -52,9 +51,10 @@ Deactivated p s s' a b r = Done sessions_of (first (deactivate_checks (lower_tab
 abbrev pub OpenJudged : List ℕ → List ℕ → ℕ → ℕ → ℕ → Reply → Type 0
 OpenJudged p s a operation object r = number_of r ≡ first (take 2 (check_checks (lower_tables p s) a operation object))
 
--- The reply is that of all checks, unless it is ROOM, which says nothing.
-abbrev pub QuickJudged : List ℕ → List ℕ → ℕ → ℕ → ℕ → Reply → Type 0
-QuickJudged p s a operation object r = (number_of r ≡ ROOM → ⊥) → number_of r ≡ first (check_checks (lower_tables p s) a operation object)
+-- A reply is that of all checks. Without a reply it promises nothing.
+abbrev pub QuickJudged : List ℕ → List ℕ → ℕ → ℕ → ℕ → Option Reply → Type 0
+QuickJudged p s a operation object (Some r) = number_of r ≡ first (check_checks (lower_tables p s) a operation object)
+QuickJudged p s a operation object None = Unit {0}
 
 -- ---- 59, and 56, which has the same checks and changes nothing.
 abbrev pub Asked : List ℕ → List ℕ → List ℕ → ℕ → ℕ → ℕ → ℕ → Reply → Type 0

@@ -7,204 +7,201 @@ ghost use Rattle.policy.specs.Layout.{policy_words};
 ghost use Rattle.sessions.specs.Reading.{sessions_words};
 ghost use Rattle.session_subjects.specs.Promises.{CreateJudged, Created, DestroyJudged, Destroyed, ActivateJudged, Activated, DeactivateJudged, Deactivated, OpenJudged, QuickJudged, Asked};
 
-use replies::{Reply, accepted};
+use policy::{PolicyBuffer, SetKind};
+use replies::{Refusal, Reply};
+use sessions::SessionsBuffer;
 use sets::Set;
-
-// The number by which policy_lookups knows the dynamic sets.
-const DYNAMIC: usize = 1;
 
 // ---- 40: create subject a for user b with active roles m.
 
-fn create_reply(p: &[u64], s: &[u64], a: u64, b: u64, m: Set) -> Reply
-    requires { (length p.now ≡ policy_words) × ((length s.now ≡ sessions_words) × ((a < 128) × (b < 1024))) }
+fn create_reply(p: &PolicyBuffer, s: &SessionsBuffer, a: u64, b: u64, m: Set) -> Reply
+    requires { (a < 128) × (b < 1024) }
     ensures { CreateJudged p.now s.now a b m.bits result }
 {
     if !policy::user_declared(p, b as usize) | !m.within(policy::declared_roles(p)) {
-        return Reply::Unknown;
+        return Err(Refusal::Unknown);
     }
     if sessions::live(s, a as usize) {
-        return Reply::Taken;
+        return Err(Refusal::Taken);
     }
     if !m.within(policy_seniors::down(p, policy::assigned(p, b as usize))) {
-        return Reply::NotAssigned;
+        return Err(Refusal::NotAssigned);
     }
     let all = sessions::counted_of(s, b).union(m);
     let counted = policy_seniors::down(p, all);
-    if policy_lookups::broken(p, DYNAMIC, counted) {
-        return Reply::Dynamic;
+    if policy_lookups::broken(p, SetKind::Dynamic, counted) {
+        return Err(Refusal::Dynamic);
     }
-    Reply::Granted
+    Ok(())
 }
 
 // Creates subject a for user b with the roles m active, unless a check refuses it.
-pub fn create(p: &[u64], s: &mut [u64], a: u64, b: u64, m: Set) -> Reply
-    requires { (length p.now ≡ policy_words) × ((length s.old ≡ sessions_words) × ((a < 128) × (b < 1024))) }
+pub fn create(p: &PolicyBuffer, s: &mut SessionsBuffer, a: u64, b: u64, m: Set) -> Reply
+    requires { (a < 128) × (b < 1024) }
     ensures { Created p.now s.old s.new a b m.bits result }
 {
-    let r = create_reply(p, s, a, b, m);
-    if !accepted(r) {
-        return r;
-    }
+    create_reply(p, s, a, b, m)?;
     sessions::create(s, a as usize, b, m);
-    r
+    Ok(())
 }
 
 // ---- 41: destroy subject a. The policy does not matter. The upper part has further checks, so it calls `destroy_reply` itself.
 
 // The reply of the lower part's checks.
-pub fn destroy_reply(s: &[u64], a: u64) -> Reply
-    requires { (length s.now ≡ sessions_words) × (a < 128) }
+pub fn destroy_reply(s: &SessionsBuffer, a: u64) -> Reply
+    requires { a < 128 }
     ensures { DestroyJudged s.now a result }
 {
     if !sessions::live(s, a as usize) {
-        return Reply::Unknown;
+        return Err(Refusal::Unknown);
     }
-    Reply::Granted
+    Ok(())
 }
 
 // Destroys subject a, unless a check of the lower part refuses it.
-pub fn destroy(s: &mut [u64], a: u64) -> Reply
-    requires { (length s.old ≡ sessions_words) × (a < 128) }
+pub fn destroy(s: &mut SessionsBuffer, a: u64) -> Reply
+    requires { a < 128 }
     ensures { Destroyed s.old s.new a result }
 {
-    let r = destroy_reply(s, a);
-    if !accepted(r) {
-        return r;
-    }
+    destroy_reply(s, a)?;
     sessions::destroy(s, a as usize);
-    r
+    Ok(())
 }
 
 // ---- 42: activate role b in subject a.
 
-fn activate_reply(p: &[u64], s: &[u64], a: u64, b: u64) -> Reply
-    requires { (length p.now ≡ policy_words) × ((length s.now ≡ sessions_words) × ((a < 128) × (b < 64))) }
+fn activate_reply(p: &PolicyBuffer, s: &SessionsBuffer, a: u64, b: u64) -> Reply
+    requires { (a < 128) × (b < 64) }
     ensures { ActivateJudged p.now s.now a b result }
 {
     if !sessions::live(s, a as usize) | !policy::declared_roles(p).has(b) {
-        return Reply::Unknown;
+        return Err(Refusal::Unknown);
     }
     let here = sessions::active(s, a as usize);
     if here.has(b) {
-        return Reply::Taken;
+        return Err(Refusal::Taken);
     }
     let user = sessions::user(s, a as usize);
     if !policy_seniors::down(p, policy::assigned(p, user as usize)).has(b) {
-        return Reply::NotAssigned;
+        return Err(Refusal::NotAssigned);
     }
     let all = sessions::counted_of(s, user);
-    if policy_lookups::broken(p, DYNAMIC, policy_seniors::down(p, all.with(b))) {
-        return Reply::Dynamic;
+    if policy_lookups::broken(p, SetKind::Dynamic, policy_seniors::down(p, all.with(b))) {
+        return Err(Refusal::Dynamic);
     }
-    Reply::Granted
+    Ok(())
 }
 
 // Activates role b in subject a, unless a check refuses it.
-pub fn activate(p: &[u64], s: &mut [u64], a: u64, b: u64) -> Reply
-    requires { (length p.now ≡ policy_words) × ((length s.old ≡ sessions_words) × ((a < 128) × (b < 64))) }
+pub fn activate(p: &PolicyBuffer, s: &mut SessionsBuffer, a: u64, b: u64) -> Reply
+    requires { (a < 128) × (b < 64) }
     ensures { Activated p.now s.old s.new a b result }
 {
-    let r = activate_reply(p, s, a, b);
-    if !accepted(r) {
-        return r;
-    }
+    activate_reply(p, s, a, b)?;
     let roles = sessions::active(s, a as usize).with(b);
     let had = sessions::had(s, a as usize).with(b);
     sessions::set_roles(s, a as usize, roles, had);
-    r
+    Ok(())
 }
 
 // ---- 43: deactivate role b in subject a.
 
-fn deactivate_reply(p: &[u64], s: &[u64], a: u64, b: u64) -> Reply
-    requires { (length p.now ≡ policy_words) × ((length s.now ≡ sessions_words) × ((a < 128) × (b < 64))) }
+fn deactivate_reply(p: &PolicyBuffer, s: &SessionsBuffer, a: u64, b: u64) -> Reply
+    requires { (a < 128) × (b < 64) }
     ensures { DeactivateJudged p.now s.now a b result }
 {
     if !sessions::live(s, a as usize)
         | !policy::declared_roles(p).has(b)
         | !sessions::active(s, a as usize).has(b)
     {
-        return Reply::Unknown;
+        return Err(Refusal::Unknown);
     }
-    Reply::Granted
+    Ok(())
 }
 
 // Deactivates role b in subject a, unless a check refuses it.
-pub fn deactivate(p: &[u64], s: &mut [u64], a: u64, b: u64) -> Reply
-    requires { (length p.now ≡ policy_words) × ((length s.old ≡ sessions_words) × ((a < 128) × (b < 64))) }
+pub fn deactivate(p: &PolicyBuffer, s: &mut SessionsBuffer, a: u64, b: u64) -> Reply
+    requires { (a < 128) × (b < 64) }
     ensures { Deactivated p.now s.old s.new a b result }
 {
-    let r = deactivate_reply(p, s, a, b);
-    if !accepted(r) {
-        return r;
-    }
+    deactivate_reply(p, s, a, b)?;
     let roles = sessions::active(s, a as usize).without(b);
     let had = sessions::had(s, a as usize);
     sessions::set_roles(s, a as usize, roles, had);
-    r
+    Ok(())
 }
 
 // ---- 56: whether subject a may do the operation on the object. It changes nothing.
 
 // The reply of the checks before WALL.
-fn open_reply(p: &[u64], s: &[u64], a: u64, operation: u64, object: u64) -> Reply
-    requires { (length p.now ≡ policy_words) × ((length s.now ≡ sessions_words) × ((a < 128) × ((operation < 65536) × (object < 65536)))) }
+fn open_reply(p: &PolicyBuffer, s: &SessionsBuffer, a: u64, operation: u64, object: u64) -> Reply
+    requires { (a < 128) × ((operation < 65536) × (object < 65536)) }
     ensures { OpenJudged p.now s.now a operation object result }
 {
     if !sessions::live(s, a as usize) {
-        return Reply::Unknown;
+        return Err(Refusal::Unknown);
     }
     let roles = policy_seniors::down(p, sessions::active(s, a as usize));
     if !policy_permissions::allowed(p, roles, operation, object) {
-        return Reply::Denied;
+        return Err(Refusal::Denied);
     }
-    Reply::Granted
+    Ok(())
 }
 
-// The reply to request 56, if the policy has no walls and the word of the pair lists no group of eight. Otherwise it returns ROOM, which none of the checks
-// gives, and the caller has to use `ask`. It repeats the tests of `open_reply`, because a function with two callers would not be inlined.
-pub fn quick_reply(p: &[u64], s: &[u64], a: u64, operation: u64, object: u64) -> Reply
-    requires { (length p.now ≡ policy_words) × ((length s.now ≡ sessions_words) × ((a < 128) × ((operation < 65536) × (object < 65536)))) }
+// The reply to request 56, if the policy has no walls and the word of the pair lists no group of eight. Otherwise it returns `None`, and
+// the caller has to use `ask`. It repeats the tests of `open_reply`, because a function with two callers would not be inlined.
+pub fn quick_reply(
+    p: &PolicyBuffer,
+    s: &SessionsBuffer,
+    a: u64,
+    operation: u64,
+    object: u64,
+) -> Option<Reply>
+    requires { (a < 128) × ((operation < 65536) × (object < 65536)) }
     ensures { QuickJudged p.now s.now a operation object result }
 {
     if policy::wall_count(p) != 0 {
-        return Reply::Room;
+        return None;
     }
     if !sessions::live(s, a as usize) {
-        return Reply::Unknown;
+        return Some(Err(Refusal::Unknown));
     }
     let w = policy::listing_for(p, operation, object);
     if 4294967295 < w {
-        return Reply::Room;
+        return None;
     }
     let acting = policy_seniors::down(p, sessions::active(s, a as usize));
     if !policy_permissions::allowed_by_two(p, w, acting, operation, object) {
-        return Reply::Denied;
+        return Some(Err(Refusal::Denied));
     }
-    Reply::Granted
+    Some(Ok(()))
 }
 
 // ---- 59: the same checks; if granted, it binds the subject's user to the object's block in every wall that has the object.
 
 // Answers request 56 or 59. One function handles both, so that the object's blocks are looked up once and the code is inlined.
-pub fn ask(p: &[u64], s: &mut [u64], kind: u64, a: u64, operation: u64, object: u64) -> Reply
-    requires { (length p.now ≡ policy_words) × ((length s.old ≡ sessions_words) × ((a < 128) × ((operation < 65536) × (object < 65536)))) }
+pub fn ask(
+    p: &PolicyBuffer,
+    s: &mut SessionsBuffer,
+    kind: u64,
+    a: u64,
+    operation: u64,
+    object: u64,
+) -> Reply
+    requires { (a < 128) × ((operation < 65536) × (object < 65536)) }
     ensures { Asked p.now s.old s.new kind a operation object result }
 {
-    let r = open_reply(p, s, a, operation, object);
-    if !accepted(r) {
-        return r;
-    }
+    open_reply(p, s, a, operation, object)?;
     let user = sessions::user(s, a as usize);
     let own = policy_walls::blocks_of(p, object);
     let bound = sessions::bound_to(s, user as usize);
     if blocks::between(own, bound) {
-        return Reply::Wall;
+        return Err(Refusal::Wall);
     }
     if kind == 56 {
-        return Reply::Granted;
+        return Ok(());
     }
     let all = blocks::over(own, bound);
     sessions::set_bound_to(s, user as usize, all);
-    Reply::Granted
+    Ok(())
 }

@@ -16,6 +16,9 @@ use sets::Set;
 // The length of the buffer in words.
 pub const SESSIONS_WORDS: usize = 2432;
 
+// The sessions buffer: the words that a caller lends for users, roles and subjects.
+pub type SessionsBuffer = [u64; SESSIONS_WORDS];
+
 // The number of subjects. Word a says whether subject a is live, and its user.
 const SUBJECTS: usize = 128;
 
@@ -32,24 +35,24 @@ const WALLS: usize = 384;
 const BLOCKS: usize = 1408;
 
 // Whether subject a is live.
-pub fn live(s: &[u64], a: usize) -> bool
-    requires { (length s.now ≡ sessions_words) × (a < 128) }
+pub fn live(s: &SessionsBuffer, a: usize) -> bool
+    requires { a < 128 }
     ensures { result ≡ (sessions_of s.now).live a }
 {
     s[a] / 1024 % 2 == 1
 }
 
 // The user of subject a.
-pub fn user(s: &[u64], a: usize) -> u64
-    requires { (length s.now ≡ sessions_words) × (a < 128) }
+pub fn user(s: &SessionsBuffer, a: usize) -> u64
+    requires { a < 128 }
     ensures { (result ≡ (sessions_of s.now).user a) × (result < 1024) }
 {
     s[a] % 1024
 }
 
 // The active roles of subject a.
-pub fn active(s: &[u64], a: usize) -> Set
-    requires { (length s.now ≡ sessions_words) × (a < 128) }
+pub fn active(s: &SessionsBuffer, a: usize) -> Set
+    requires { a < 128 }
     ensures { result.bits ≡ (sessions_of s.now).active a }
 {
     Set {
@@ -58,8 +61,8 @@ pub fn active(s: &[u64], a: usize) -> Set
 }
 
 // The roles that subject a has had active. The active roles always belong to them, whatever the word says.
-pub fn had(s: &[u64], a: usize) -> Set
-    requires { (length s.now ≡ sessions_words) × (a < 128) }
+pub fn had(s: &SessionsBuffer, a: usize) -> Set
+    requires { a < 128 }
     ensures { result.bits ≡ (sessions_of s.now).had a }
 {
     let word = Set { bits: s[HAD + a] };
@@ -67,8 +70,8 @@ pub fn had(s: &[u64], a: usize) -> Set
 }
 
 // Whether subject a is live and belongs to user u, by one comparison of its word.
-fn of_user(s: &[u64], u: u64, a: usize) -> bool
-    requires { (length s.now ≡ sessions_words) × ((u < 1024) × (a < 128)) }
+fn of_user(s: &SessionsBuffer, u: u64, a: usize) -> bool
+    requires { (u < 1024) × (a < 128) }
     ensures { result ≡ subject_of (sessions_of s.now) u a }
 {
     s[a] % 2048 == 1024 + u
@@ -76,8 +79,8 @@ fn of_user(s: &[u64], u: u64, a: usize) -> bool
 
 // The same test on the lowest 16 bits of the word, so that one vector instruction
 // compares eight subjects. Callers count hits in a u16, which keeps this width.
-fn quarter_of(s: &[u64], u: u16, a: usize) -> bool
-    requires { (length s.now ≡ sessions_words) × ((u < 1024) × (a < 128)) }
+fn quarter_of(s: &SessionsBuffer, u: u16, a: usize) -> bool
+    requires { (u < 1024) × (a < 128) }
     ensures { result ≡ subject_of (sessions_of s.now) u a }
 {
     let quarter = (s[a] % 2048) as u16;
@@ -93,8 +96,8 @@ fn one_more(hit: bool, n: u16) -> u16
 }
 
 // Makes subject a live, for user u with these roles active.
-pub fn create(s: &mut [u64], a: usize, u: u64, roles: Set)
-    requires { (length s.old ≡ sessions_words) × ((a < 128) × (u < 1024)) }
+pub fn create(s: &mut SessionsBuffer, a: usize, u: u64, roles: Set)
+    requires { (a < 128) × (u < 1024) }
     ensures { sessions_of s.new ≡ create_next (sessions_of s.old) a u roles.bits }
 {
     s[a] = 1024 + u;
@@ -103,8 +106,8 @@ pub fn create(s: &mut [u64], a: usize, u: u64, roles: Set)
 }
 
 // Removes subject a, and what it has had active.
-pub fn destroy(s: &mut [u64], a: usize)
-    requires { (length s.old ≡ sessions_words) × (a < 128) }
+pub fn destroy(s: &mut SessionsBuffer, a: usize)
+    requires { a < 128 }
     ensures { sessions_of s.new ≡ destroy_next (sessions_of s.old) a }
 {
     s[a] = 0;
@@ -113,8 +116,8 @@ pub fn destroy(s: &mut [u64], a: usize)
 }
 
 // Replaces the subject's active roles and those that it has had active.
-pub fn set_roles(s: &mut [u64], a: usize, active: Set, had: Set)
-    requires { (length s.old ≡ sessions_words) × (a < 128) }
+pub fn set_roles(s: &mut SessionsBuffer, a: usize, active: Set, had: Set)
+    requires { a < 128 }
     ensures { sessions_of s.new ≡ roles_anew (sessions_of s.old) a active.bits had.bits }
 {
     s[ACTIVE + a] = active.bits;
@@ -122,8 +125,8 @@ pub fn set_roles(s: &mut [u64], a: usize, active: Set, had: Set)
 }
 
 // The blocks of walls that user u is bound to.
-pub fn bound_to(s: &[u64], u: usize) -> Blocks
-    requires { (length s.now ≡ sessions_words) × (u < 1024) }
+pub fn bound_to(s: &SessionsBuffer, u: usize) -> Blocks
+    requires { u < 1024 }
     ensures { blocks_of result ≡ (sessions_of s.now).bound_to u }
 {
     Blocks {
@@ -133,8 +136,8 @@ pub fn bound_to(s: &[u64], u: usize) -> Blocks
 }
 
 // Replaces the blocks of walls that user u is bound to.
-pub fn set_bound_to(s: &mut [u64], u: usize, to: Blocks)
-    requires { (length s.old ≡ sessions_words) × (u < 1024) }
+pub fn set_bound_to(s: &mut SessionsBuffer, u: usize, to: Blocks)
+    requires { u < 1024 }
     ensures { sessions_of s.new ≡ bound_anew (sessions_of s.old) u (blocks_of to) }
 {
     s[WALLS + u] = to.walls;
@@ -142,24 +145,22 @@ pub fn set_bound_to(s: &mut [u64], u: usize, to: Blocks)
 }
 
 // Whether one of the 64 subjects from `from` on is live and belongs to user u. It has no early exit, so that the compiler can vectorise it.
-fn has_among(s: &[u64], u: u64, from: usize) -> bool
-    requires { (length s.now ≡ sessions_words) × ((u < 1024) × (from ≤ 64)) }
+fn has_among(s: &SessionsBuffer, u: u64, from: usize) -> bool
+    requires { (u < 1024) × (from ≤ 64) }
     ensures { result ≡ some_number_below 64 (λ k. subject_of (sessions_of s.now) u (from + k)) }
 {
-    let mut a = 0;
     let mut hits: u16 = 0;
-    while a < 64 {
+    for a in 0..64 {
         let hit = quarter_of(s, u as u16, from + a);
         hits = one_more(hit, hits);
-        a += 1;
     }
     0 < hits
 }
 
 // Whether user u has a live subject. It tests 64 subjects at a time: a loop over all 128 would use vector registers that a callee has to save, and every
 // request would save them (docs/DECISIONS.md, D225).
-pub fn has_subject(s: &[u64], u: u64) -> bool
-    requires { (length s.now ≡ sessions_words) × (u < 1024) }
+pub fn has_subject(s: &SessionsBuffer, u: u64) -> bool
+    requires { u < 1024 }
     ensures { result ≡ some_number_below 128 (subject_of (sessions_of s.now) u) }
 {
     if has_among(s, u, 0) {
@@ -169,8 +170,8 @@ pub fn has_subject(s: &[u64], u: u64) -> bool
 }
 
 // The active roles of subject a if it is live and belongs to user u, otherwise none. Both words are read before the choice.
-fn active_in(s: &[u64], u: u64, a: usize) -> Set
-    requires { (length s.now ≡ sessions_words) × ((u < 1024) × (a < 128)) }
+fn active_in(s: &SessionsBuffer, u: u64, a: usize) -> Set
+    requires { (u < 1024) × (a < 128) }
     ensures { result.bits ≡ cond (subject_of (sessions_of s.now) u a) ((sessions_of s.now).active a) empty }
 {
     let roles = active(s, a);
@@ -178,23 +179,21 @@ fn active_in(s: &[u64], u: u64, a: usize) -> Set
 }
 
 // The roles that are active in some subject of user u. It keeps only one set and a counter (02, Ask 6).
-pub fn active_of(s: &[u64], u: u64) -> Set
-    requires { (length s.now ≡ sessions_words) × (u < 1024) }
+pub fn active_of(s: &SessionsBuffer, u: u64) -> Set
+    requires { u < 1024 }
     ensures { result.bits ≡ active_of (sessions_of s.now) u }
 {
     let mut all = Set::EMPTY;
-    let mut a = 0;
-    while a < SUBJECTS {
+    for a in 0..SUBJECTS {
         let roles = active_in(s, u, a);
         all = all.union(roles);
-        a += 1;
     }
     all
 }
 
 // The roles that subject a has had active if it is live and belongs to user u, otherwise none.
-fn had_in(s: &[u64], u: u64, a: usize) -> Set
-    requires { (length s.now ≡ sessions_words) × ((u < 1024) × (a < 128)) }
+fn had_in(s: &SessionsBuffer, u: u64, a: usize) -> Set
+    requires { (u < 1024) × (a < 128) }
     ensures { result.bits ≡ cond (subject_of (sessions_of s.now) u a) ((sessions_of s.now).had a) empty }
 {
     let roles = had(s, a);
@@ -202,28 +201,23 @@ fn had_in(s: &[u64], u: u64, a: usize) -> Set
 }
 
 // The roles that some live subject of user u has had active, which are those that a dynamic set counts.
-pub fn counted_of(s: &[u64], u: u64) -> Set
-    requires { (length s.now ≡ sessions_words) × (u < 1024) }
+pub fn counted_of(s: &SessionsBuffer, u: u64) -> Set
+    requires { u < 1024 }
     ensures { result.bits ≡ counted_of (sessions_of s.now) u }
 {
     let mut all = Set::EMPTY;
-    let mut a = 0;
-    while a < SUBJECTS {
+    for a in 0..SUBJECTS {
         let roles = had_in(s, u, a);
         all = all.union(roles);
-        a += 1;
     }
     all
 }
 
 // Empties the buffer: no subject is live, and nobody is bound.
-pub fn clear(s: &mut [u64])
-    requires { length s.old ≡ sessions_words }
+pub fn clear(s: &mut SessionsBuffer)
     ensures { Cleared s.new }
 {
-    let mut i = 0;
-    while i < SESSIONS_WORDS {
+    for i in 0..SESSIONS_WORDS {
         s[i] = 0;
-        i += 1;
     }
 }

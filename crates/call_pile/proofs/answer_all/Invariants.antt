@@ -14,6 +14,3 @@ invariant-loop-i l =
     × ((l.i ≤ l.n) ×
     ((length l.out ≡ length l.initial.out) ×
     ((l.sound ≡ true → sound_of l.orders ≡ true) × Left l.n l.bytes (buffers l.initial.policy l.initial.sessions l.initial.orders) (buffers l.policy l.sessions l.orders) l.i l.at l.initial.out l.out)))
-
-abbrev pub decreases-loop-i : goal.decreases-loop-i
-decreases-loop-i l = l.n - l.i

@@ -8,6 +8,3 @@ use Rattle.call_question.proofs.clear.Given as goal
 
 abbrev pub invariant-loop-k : goal.invariant-loop-k
 invariant-loop-k l = (l.k ≤ 66) × ((length l.answer ≡ answer_words) × (l.answer ≡ replicate l.k 0 ++ drop l.k l.initial.answer))
-
-abbrev pub decreases-loop-k : goal.decreases-loop-k
-decreases-loop-k l = 66 - l.k

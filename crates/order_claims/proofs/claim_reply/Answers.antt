@@ -6,8 +6,8 @@ use mathlib.Core.List.{◌++◌}
 use borrow.Author.Tests.{not-false, eq-eqb, ne_eqb, le-leb, lt-leb}
 use Rattle.paper_lower.specs.Checks.{first}
 use Rattle.paper_upper.specs.Requests.{claim_checks, claim_place}
-use Rattle.replies.specs.Replies.{number_of}
-use Rattle.replies.specs.declared.Reply.TheVariants.{Granted, Unknown, Taken, NoRole, Full}
+use Rattle.replies.specs.Replies.{Reply, number_of}
+use Rattle.replies.specs.declared.Refusal.TheVariants.{Granted, Unknown, Taken, NoRole, Full}
 use Rattle.order_rules.proofs.JudgeLaws.{plainly}
 use Rattle.order_rules.proofs.PlaceLaws.{judged-place, plain-place}
 use Rattle.order_requests.specs.Tables.{engine_tables}
@@ -18,7 +18,6 @@ use Rattle.paper_upper.specs.Orders.{Engine}
 use Rattle.paper_lower.specs.Sets.{meets}
 use Rattle.paper_lower.specs.Policy.{down}
 use Rattle.paper_lower.specs.Lists.Maybe.{just}
-use Rattle.replies.specs.declared.Reply.{Reply}
 use Rattle.order_entries.specs.declared.Instance.{Instance}
 use Rattle.order_entries.specs.declared.Gathered.{Gathered}
 use Rattle.order_entries.specs.Gathering.{gathered_of}

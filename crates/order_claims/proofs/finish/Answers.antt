@@ -3,7 +3,7 @@ use mathlib.Core.Path.{refl, sym, subst, ◌∙◌}
 use mathlib.Core.List.{List}
 use Prim.Native.Nat.{ℕ}
 use Rattle.paper_upper.specs.Requests.{hold_checks, done_next}
-use Rattle.replies.specs.declared.Reply.TheVariants.{NotYours}
+use Rattle.replies.specs.declared.Refusal.TheVariants.{NotYours}
 use Rattle.replies.proofs.DoneLaws.{refused, done}
 use Rattle.order_requests.specs.Tables.{engine_tables}
 use Rattle.order_claims.specs.Promises.{Finished}

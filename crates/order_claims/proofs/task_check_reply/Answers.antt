@@ -9,8 +9,7 @@ use Rattle.order_requests.proofs.Layers.{one_more}
 use Prim.Native.Nat.{ℕ, ◌%◌, ◌/◌}
 use lib.Dec.{eqb}
 use Rattle.paper_upper.specs.Orders.{Engine}
-use Rattle.replies.specs.Replies.{number_of}
-use Rattle.replies.specs.declared.Reply.{Reply}
+use Rattle.replies.specs.Replies.{Reply, number_of}
 use Rattle.order_claims.proofs.task_check_reply.Goals as goal
 
 pub returns-then-not-accepted : goal.returns-then-not-accepted

@@ -8,6 +8,3 @@ use Rattle.order_entries.proofs.any.Given as goal
 abbrev pub invariant-loop-k : goal.invariant-loop-k
 invariant-loop-k l =
     (l.k ≤ l.m) × ((l.hits ≤ l.k) × (ltb 0 l.hits ≡ any_up_to l.o l.k l.mask l.key))
-
-abbrev pub decreases-loop-k : goal.decreases-loop-k
-decreases-loop-k l = l.m - l.k

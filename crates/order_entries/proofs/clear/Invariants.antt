@@ -8,6 +8,3 @@ use Rattle.order_entries.proofs.clear.Given as goal
 
 abbrev pub invariant-loop-k : goal.invariant-loop-k
 invariant-loop-k l = (l.k ≤ 2244) × ((length l.o ≡ orders_words) × (l.o ≡ replicate l.k 0 ++ drop l.k l.initial.o))
-
-abbrev pub decreases-loop-k : goal.decreases-loop-k
-decreases-loop-k l = 2244 - l.k

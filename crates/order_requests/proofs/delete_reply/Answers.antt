@@ -13,8 +13,7 @@ use mathlib.Core.List.{List}
 use Prim.Native.Nat.{ℕ}
 use lib.Dec.{eqb}
 use Rattle.paper_lower.specs.Lists.{some}
-use Rattle.replies.specs.Replies.{number_of}
-use Rattle.replies.specs.declared.Reply.{Reply}
+use Rattle.replies.specs.Replies.{Reply, number_of}
 use Rattle.order_entries.specs.Reading.{orders_of, in_open_order}
 use Rattle.order_requests.proofs.delete_reply.Goals as goal
 

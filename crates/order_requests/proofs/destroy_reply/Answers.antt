@@ -14,8 +14,7 @@ use Rattle.order_requests.proofs.Layers.{one_more}
 use mathlib.Core.Bool.{true}
 use lib.Dec.{eqb}
 use Rattle.paper_lower.specs.Lists.{some}
-use Rattle.replies.specs.Replies.{number_of}
-use Rattle.replies.specs.declared.Reply.{Reply}
+use Rattle.replies.specs.Replies.{Reply, number_of}
 use Rattle.order_entries.specs.Reading.{orders_of}
 use Rattle.paper_upper.specs.Orders.{is_held_by}
 use Rattle.order_requests.proofs.destroy_reply.Goals as goal

@@ -13,6 +13,3 @@ abbrev pub invariant-loop-k : goal.invariant-loop-k
 invariant-loop-k l =
     (l.k ≤ l.count) ×
     (place (missing l.finished.bits l.t) (policy_of l.p).rules.befores ≡ place_from (l.k + 1) (missing l.finished.bits l.t) (rows_from (pair_at 1 l.p) l.k (l.count - l.k)))
-
-abbrev pub decreases-loop-k : goal.decreases-loop-k
-decreases-loop-k l = l.count - l.k

@@ -16,8 +16,5 @@ invariant-loop-k l =
 abbrev pub invariant-search : goal.invariant-search
 invariant-search l = (l.q ≤ 16) × (block (policy_of l.p).rules l.d.bits l.t ≡ first_of l.q (16 - l.q) (block_within (policy_of l.p).rules l.d.bits l.t))
 
-abbrev pub decreases-loop-k : goal.decreases-loop-k
-decreases-loop-k l = l.count - l.k
-
 abbrev pub decreases-search : goal.decreases-search
 decreases-search l = 16 - l.q

@@ -13,6 +13,3 @@ abbrev pub invariant-loop-k : goal.invariant-loop-k
 invariant-loop-k l =
     (l.k ≤ l.count) ×
     (place (tied l.others.bits l.t) (policy_of l.p).rules.bindings ≡ place_from (l.k + 1) (tied l.others.bits l.t) (rows_from (pair_at 0 l.p) l.k (l.count - l.k)))
-
-abbrev pub decreases-loop-k : goal.decreases-loop-k
-decreases-loop-k l = l.count - l.k

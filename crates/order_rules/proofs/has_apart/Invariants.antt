@@ -12,6 +12,3 @@ use Rattle.order_rules.proofs.has_apart.Given as goal
 abbrev pub invariant-loop-k : goal.invariant-loop-k
 invariant-loop-k l =
     (l.k ≤ l.count) × (some (apart l.d.bits l.t) (policy_of l.p).rules.blocks ≡ l.found || some (apart l.d.bits l.t) (rows_from (block_at l.p) l.k (l.count - l.k)))
-
-abbrev pub decreases-loop-k : goal.decreases-loop-k
-decreases-loop-k l = l.count - l.k

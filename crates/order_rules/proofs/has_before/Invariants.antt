@@ -12,6 +12,3 @@ use Rattle.order_rules.proofs.has_before.Given as goal
 abbrev pub invariant-loop-k : goal.invariant-loop-k
 invariant-loop-k l =
     (l.k ≤ l.count) × (some (after l.t) (policy_of l.p).rules.befores ≡ l.found || some (after l.t) (rows_from (pair_at 1 l.p) l.k (l.count - l.k)))
-
-abbrev pub decreases-loop-k : goal.decreases-loop-k
-decreases-loop-k l = l.count - l.k

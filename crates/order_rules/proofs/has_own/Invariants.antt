@@ -10,6 +10,3 @@ use Rattle.order_rules.proofs.has_own.Given as goal
 
 abbrev pub invariant-loop-k : goal.invariant-loop-k
 invariant-loop-k l = (l.k ≤ l.count) × (some (own l.q l.t) (policy_of l.p).rules.blocks ≡ some (own l.q l.t) (rows_from (block_at l.p) l.k (l.count - l.k)))
-
-abbrev pub decreases-loop-k : goal.decreases-loop-k
-decreases-loop-k l = l.count - l.k

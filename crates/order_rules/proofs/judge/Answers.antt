@@ -1,6 +1,6 @@
 -- `judge` meets its contract: at each return the rules before it did not apply, and the laws of Chain give the verdict.
 use mathlib.Core.Path.{refl}
-use Rattle.replies.specs.declared.Reply.TheVariants.{Granted, Before, Separation, Block, Alone, Bound, Count}
+use Rattle.replies.specs.declared.Refusal.TheVariants.{Granted, Before, Separation, Block, Alone, Bound, Count}
 use Rattle.order_rules.proofs.Chain.{by_place, no_place, by-test, not-by-test, by-none}
 use Rattle.paper_upper.specs.Rules.{spent, gathered_checks, rule_place}
 use Rattle.order_rules.proofs.judge.Goals as goal

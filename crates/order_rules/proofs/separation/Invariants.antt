@@ -12,6 +12,3 @@ use Rattle.order_rules.proofs.separation.Given as goal
 abbrev pub invariant-loop-k : goal.invariant-loop-k
 invariant-loop-k l =
     (l.k ≤ l.count) × (place (crowded l.d.bits l.t) (policy_of l.p).rules.task_sets ≡ place_from (l.k + 1) (crowded l.d.bits l.t) (rows_from (limit_at 2 l.p) l.k (l.count - l.k)))
-
-abbrev pub decreases-loop-k : goal.decreases-loop-k
-decreases-loop-k l = l.count - l.k

@@ -8,6 +8,3 @@ use Rattle.order_stuck.proofs.tasks_of.Given as goal
 
 abbrev pub invariant-loop-t : goal.invariant-loop-t
 invariant-loop-t l = (l.t ≤ 64) × (l.all.bits ≡ collect l.t (λ a. is l.j ((policy_of l.p).tasks.template a)))
-
-abbrev pub decreases-loop-t : goal.decreases-loop-t
-decreases-loop-t l = 64 - l.t

@@ -8,6 +8,3 @@ use Rattle.policy.proofs.clear.Given as goal
 
 abbrev pub invariant-loop-i : goal.invariant-loop-i
 invariant-loop-i l = (l.i ≤ policy_words) × ((length l.p ≡ policy_words) × (l.p ≡ replicate l.i 0 ++ drop l.i l.initial.p))
-
-abbrev pub decreases-loop-i : goal.decreases-loop-i
-decreases-loop-i l = policy_words - l.i

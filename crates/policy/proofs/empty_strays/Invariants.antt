@@ -6,6 +6,3 @@ use Rattle.policy.proofs.empty_strays.Given as goal
 
 abbrev pub invariant-loop-b : goal.invariant-loop-b
 invariant-loop-b l = (8 * l.eight ≤ l.b) × ((l.b ≤ 8 * l.eight + 8) × Tidied l.initial.p l.eight l.bucket l.b l.p)
-
-abbrev pub decreases-loop-b : goal.decreases-loop-b
-decreases-loop-b l = 8 * l.eight + 8 - l.b

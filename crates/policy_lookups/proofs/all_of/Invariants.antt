@@ -9,6 +9,3 @@ use Rattle.policy_lookups.proofs.all_of.Given as goal
 
 abbrev pub invariant-loop-t : goal.invariant-loop-t
 invariant-loop-t l = (l.t ≤ 64) × (some_number_below l.t (strays (policy_of l.p).tasks l.m.bits l.j) ≡ false)
-
-abbrev pub decreases-loop-t : goal.decreases-loop-t
-decreases-loop-t l = 64 - l.t

@@ -11,6 +11,3 @@ use Rattle.policy_lookups.proofs.broken.Given as goal
 abbrev pub invariant-loop-k : goal.invariant-loop-k
 invariant-loop-k l =
     (l.k ≤ l.n) × (some (breaks l.m.bits) (limit_rows_of (policy_of l.p).rules l.which) ≡ some (breaks l.m.bits) (rows_from (limit_at l.which l.p) l.k (l.n - l.k)))
-
-abbrev pub decreases-loop-k : goal.decreases-loop-k
-decreases-loop-k l = l.n - l.k

@@ -8,6 +8,3 @@ use Rattle.policy_lookups.proofs.has_task.Given as goal
 
 abbrev pub invariant-loop-t : goal.invariant-loop-t
 invariant-loop-t l = (l.t ≤ 64) × (some_number_below l.t (λ i. is l.j ((policy_of l.p).tasks.template i)) ≡ false)
-
-abbrev pub decreases-loop-t : goal.decreases-loop-t
-decreases-loop-t l = 64 - l.t

@@ -10,6 +10,3 @@ use Rattle.policy_lookups.proofs.one_template.Given as goal
 
 abbrev pub invariant-loop-j : goal.invariant-loop-j
 invariant-loop-j l = (l.j ≤ 16) × (some_number_below l.j (λ b. within l.m.bits (tasks_of (policy_of l.p).tasks b)) ≡ false)
-
-abbrev pub decreases-loop-j : goal.decreases-loop-j
-decreases-loop-j l = 16 - l.j

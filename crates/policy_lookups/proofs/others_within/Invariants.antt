@@ -9,6 +9,3 @@ use Rattle.policy_lookups.proofs.others_within.Given as goal
 
 abbrev pub invariant-loop-i : goal.invariant-loop-i
 invariant-loop-i l = (l.i ≤ 64) × (some_number_below l.i (lacks (policy_of l.p).tasks l.j l.t l.d.bits) ≡ false)
-
-abbrev pub decreases-loop-i : goal.decreases-loop-i
-decreases-loop-i l = 64 - l.i

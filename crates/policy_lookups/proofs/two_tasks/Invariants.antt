@@ -8,6 +8,3 @@ use Rattle.policy_lookups.proofs.two_tasks.Given as goal
 
 abbrev pub invariant-loop-i : goal.invariant-loop-i
 invariant-loop-i l = (l.i ≤ 64) × ((l.n ≤ 1) × (l.n ≡ size (collect l.i (λ t. is l.j ((policy_of l.p).tasks.template t)))))
-
-abbrev pub decreases-loop-i : goal.decreases-loop-i
-decreases-loop-i l = 64 - l.i

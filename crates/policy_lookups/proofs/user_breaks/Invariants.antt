@@ -9,6 +9,3 @@ use Rattle.policy_lookups.proofs.user_breaks.Given as goal
 
 abbrev pub invariant-loop-u : goal.invariant-loop-u
 invariant-loop-u l = (l.u ≤ 1024) × (some_number_below l.u (exceeds (policy_of l.p) l.n l.m.bits) ≡ false)
-
-abbrev pub decreases-loop-u : goal.decreases-loop-u
-decreases-loop-u l = 1024 - l.u

@@ -7,6 +7,3 @@ use Rattle.policy_mending.proofs.copy.Given as goal
 
 abbrev pub invariant-loop-i : goal.invariant-loop-i
 invariant-loop-i l = (l.i ≤ 16) × ((length l.output ≡ length l.initial.output) × (l.output ≡ paste l.initial.output l.to (drop l.at l.input) l.i))
-
-abbrev pub decreases-loop-i : goal.decreases-loop-i
-decreases-loop-i l = 16 - l.i

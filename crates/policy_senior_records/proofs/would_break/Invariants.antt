@@ -9,6 +9,3 @@ use Rattle.policy_senior_records.proofs.would_break.Given as goal
 
 abbrev pub invariant-loop-u : goal.invariant-loop-u
 invariant-loop-u l = (l.u ≤ 1024) × (some_number_below l.u (would_break (policy_of l.p) l.a l.b) ≡ false)
-
-abbrev pub decreases-loop-u : goal.decreases-loop-u
-decreases-loop-u l = 1024 - l.u

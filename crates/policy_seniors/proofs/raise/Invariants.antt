@@ -9,6 +9,3 @@ use Rattle.policy_seniors.proofs.raise.Given as goal
 
 abbrev pub invariant-loop-r : goal.invariant-loop-r
 invariant-loop-r l = (l.r ≤ 64) × ((length l.p ≡ policy_words) × (policy_of l.p ≡ lowered_to (policy_of l.initial.p) l.r l.a l.under.bits))
-
-abbrev pub decreases-loop-r : goal.decreases-loop-r
-decreases-loop-r l = 64 - l.r

@@ -8,6 +8,3 @@ use Rattle.policy_seniors.proofs.raisings.Given as goal
 
 abbrev pub invariant-loop-r : goal.invariant-loop-r
 invariant-loop-r l = (l.r ≤ 64) × ((l.n ≤ 64 * l.r) × (l.n ≡ sum_below l.r (λ k. size ((policy_of l.p).seniority.juniors k))))
-
-abbrev pub decreases-loop-r : goal.decreases-loop-r
-decreases-loop-r l = 64 - l.r

@@ -10,6 +10,3 @@ use Rattle.policy_wall_records.proofs.wall_repeated.Given as goal
 
 abbrev pub invariant-loop-k : goal.invariant-loop-k
 invariant-loop-k l = (l.k ≤ l.count) × (some (same_walled l.a l.b l.c) (policy_of l.p).walls ≡ some (same_walled l.a l.b l.c) (rows_from (walled_at l.p) l.k (l.count - l.k)))
-
-abbrev pub decreases-loop-k : goal.decreases-loop-k
-decreases-loop-k l = l.count - l.k

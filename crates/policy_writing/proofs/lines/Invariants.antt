@@ -10,6 +10,3 @@ use Rattle.policy_writing.proofs.lines.Given as goal
 abbrev pub invariant-loop-a : goal.invariant-loop-a
 invariant-loop-a l =
     (l.a ≤ l.rows) × ((length l.output ≡ length l.initial.output) × Laid (in_turn l.a (row_in l.p l.kind)) (256 * l.a) l.initial.output l.output l.place l.at)
-
-abbrev pub decreases-loop-a : goal.decreases-loop-a
-decreases-loop-a l = l.rows - l.a

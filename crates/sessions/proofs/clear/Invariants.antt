@@ -7,6 +7,3 @@ use Rattle.sessions.proofs.clear.Given as goal
 
 abbrev pub invariant-loop-i : goal.invariant-loop-i
 invariant-loop-i l = (l.i ≤ 2432) × ((length l.s ≡ 2432) × (l.s ≡ replicate l.i 0 ++ drop l.i l.initial.s))
-
-abbrev pub decreases-loop-i : goal.decreases-loop-i
-decreases-loop-i l = 2432 - l.i

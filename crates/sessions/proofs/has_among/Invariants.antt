@@ -10,6 +10,3 @@ use Rattle.sessions.proofs.has_among.Given as goal
 
 abbrev pub invariant-loop-a : goal.invariant-loop-a
 invariant-loop-a l = (l.a ≤ 64) × ((l.hits ≤ l.a) × (ltb 0 l.hits ≡ some_number_below l.a (λ k. subject_of (sessions_of l.s) l.u (l.from + k))))
-
-abbrev pub decreases-loop-a : goal.decreases-loop-a
-decreases-loop-a l = 64 - l.a
