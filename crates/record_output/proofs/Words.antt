@@ -1,4 +1,4 @@
--- Laws of bytes written to an output: a word byte by byte, a record as two words, and the loop that writes a word.
+-- Laws of bytes written to an output: a word byte by byte, a record as two words.
 use mathlib.Core.Path.{◌≡◌, refl, sym, ap, ◌∙◌}
 use mathlib.Core.List.{[], ◌∷◌, ◌++◌, append_assoc}
 use Prim.Native.Nat.{ℕ, zero, suc, ◌+◌, ◌-◌, ◌*◌, ◌/◌, ◌%◌, ◌<◌, ◌≤◌}
@@ -8,13 +8,17 @@ use lib.Seq.{take-suc-set, drop-set-lt, take_at, drop_at, drop-drop, length-take
 use Rattle.paper_lower.specs.Records.{Bytes, bytes, encode, put_at}
 use Rattle.record_output.specs.Output.{laid, two_words, low_word, a_record_of, Fits}
 
--- Storing the lowest byte first, and then the others, writes the whole word.
-pub laid-step : (out : Bytes) (p k x : ℕ) → p < length out → laid (set out p (x % 256)) (suc p) k (x / 256) ≡ laid out p (suc k) x
-unfolding laid bytes
-laid-step out p k x h =
-    let e : suc p + k ≡ p + suc k = omega arith in
-    rw (take-suc-set out p (x % 256) h, drop-set-lt (suc p + k) out p (x % 256) (omega arith), e)
-    (append_assoc (take p out) (x % 256 ∷ []) (bytes k (x / 256) ++ drop (p + suc k) out))
+-- The eight bytes of a word, written out as std's `to_le_bytes` gives them.
+pub word-bytes : (x : ℕ) → bytes 8 x ≡ x % 256 ∷ x / 256 % 256 ∷ x / 65536 % 256 ∷ x / 16777216 % 256 ∷ x / 4294967296 % 256 ∷ x / 1099511627776 % 256 ∷ x / 281474976710656 % 256 ∷ x / 72057594037927936 % 256 ∷ []
+unfolding bytes
+word-bytes x =
+    let b : x / 256 / 256 ≡ x / 65536 = omega arith in
+    let c : x / 65536 / 256 ≡ x / 16777216 = omega arith in
+    let d : x / 16777216 / 256 ≡ x / 4294967296 = omega arith in
+    let e : x / 4294967296 / 256 ≡ x / 1099511627776 = omega arith in
+    let f : x / 1099511627776 / 256 ≡ x / 281474976710656 = omega arith in
+    let g : x / 281474976710656 / 256 ≡ x / 72057594037927936 = omega arith in
+    rw (b, c, d, e, f, g) refl
 
 bytes-length : (k x : ℕ) → length (bytes k x) ≡ k
 unfolding bytes
@@ -86,21 +90,3 @@ pub put_is : (out : Bytes) (place kind n a b c m : ℕ) → Fits out place kind 
 put_is out place kind n a b c m f = words-put out place kind n a b c m f.kind_fits f.n-fits f.a-fits f.b-fits f.c-fits
 
 -- ---- The loop of `write_word`: a turn keeps its invariant, which holds at the start and gives the result at the end.
-
-pub turn : (out out₀ : Bytes) (at i left x v : ℕ) → v ≡ left % 256 → at + i < length out → i < 8 → laid out (at + i) (8 - i) left ≡ laid out₀ at 8 x
-    → laid (set out (at + i) v) (at + (i + 1)) (8 - (i + 1)) (left / 256) ≡ laid out₀ at 8 x
-turn out out₀ at i left x v e h l q =
-    let a : at + (i + 1) ≡ suc (at + i) = omega arith in
-    let b : 8 - i ≡ suc (8 - (i + 1)) = omega arith in
-    rw (e, a) (laid-step out (at + i) (8 - (i + 1)) left h ∙ ap (λ (k : ℕ). laid out (at + i) k left) (sym b) ∙ q)
-
-pub begin : (out : Bytes) (at x : ℕ) → laid out (at + 0) 8 x ≡ laid out at 8 x
-begin out at x = let a : at + 0 ≡ at = omega arith in rw a
-
-pub finish : (out out₀ : Bytes) (at i left x : ℕ) → 8 ≤ i → i ≤ 8 → laid out (at + i) (8 - i) left ≡ laid out₀ at 8 x → out ≡ laid out₀ at 8 x
-unfolding laid bytes
-finish out out₀ at i left x h l q =
-    let a : 8 - i ≡ 0 = omega arith in
-    let b : at + i + 0 ≡ at + i = omega arith in
-    sym (ap (λ (k : ℕ). take (at + i) out ++ (bytes k left ++ drop (at + i + k) out)) a ∙ ap (λ (k : ℕ). take (at + i) out ++ drop k out) b ∙
-    take-append-drop (at + i) out) ∙ q

@@ -5,25 +5,12 @@ ghost use Rattle.std.specs.Prelude.{◌≡◌, ◌+◌, ◌*◌, ◌%◌, ◌≤
 ghost use Rattle.paper_lower.specs.Records.{put_at};
 ghost use Rattle.record_output.specs.Output.{laid, two_words, low_word, a_record_of, Fits};
 
-// The lowest byte of a word.
-fn low(x: u64) -> u8
-    ensures { result ≡ x % 256 }
-{
-    (x % 256) as u8
-}
-
 // Writes a word as eight bytes from index `at` on, the lowest first.
 fn write_word(out: &mut [u8], at: usize, x: u64)
     requires { at + 8 ≤ length out.old }
     ensures { out.new ≡ laid out.old at 8 x }
 {
-    let mut left = x;
-    let mut i = 0;
-    while i < 8 {
-        out[at + i] = low(left);
-        left = left / 256;
-        i += 1;
-    }
+    out[at..at + 8].copy_from_slice(&x.to_le_bytes());
 }
 
 // Writes a record, given as its two words, at index `place`, counted in records from 0.

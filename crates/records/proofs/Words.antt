@@ -7,23 +7,15 @@ use lib.ListN.{get_or}
 use Rattle.paper_lower.specs.Records.{Bytes, number, decode}
 use Rattle.records.specs.Reading.{Decoded}
 
-pub four : (s : Bytes) (at : ℕ) {x₀ x₁ x₂ x₃ : ℕ} → x₀ ≡ get_or s at 0 → x₁ ≡ get_or s (at + 1) 0 → x₂ ≡ get_or s (at + 2) 0 → x₃ ≡ get_or s (at + 3) 0
-    → x₀ + 256 * x₁ + 65536 * x₂ + 16777216 * x₃ ≡ number at 4 s
+-- A number of eight bytes, written out as std's `from_le_bytes` gives it.
+pub eight : (s : Bytes) (at : ℕ) → number at 8 s ≡ get_or s at 0 + get_or s (at + 1) 0 * 256 + get_or s (at + 2) 0 * 65536 + get_or s (at + 3) 0 * 16777216 + get_or s (at + 4) 0 * 4294967296 + get_or s (at + 5) 0 * 1099511627776 + get_or s (at + 6) 0 * 281474976710656 + get_or s (at + 7) 0 * 72057594037927936
 unfolding number
-four s at e₀ e₁ e₂ e₃ = rw (e₀, e₁, e₂, e₃) (simp towards_suc (omega arith))
-
-pub eight : (s : Bytes) (at : ℕ) {low high : ℕ} → low ≡ number at 4 s → high ≡ number (at + 4) 4 s → low + 4294967296 * high ≡ number at 8 s
-unfolding number
-eight s at e f = rw (e, f) (simp towards_suc (omega arith))
+eight s at = simp towards_suc (omega arith)
 
 -- For bytes that are all below 256: the numbers fit their words, and `fields` is the contract of `decode`.
 module _ (s : Bytes) (byte : (i : ℕ) → get_or s i 0 < 256) where
-  pub four-small : (at : ℕ) → number at 4 s < 2 ^ 32
-  unfolding number
-  four-small at = omega (arith, byte at, byte (suc at), byte (suc (suc at)), byte (suc (suc (suc at))))
-
   pub eight-small : (at : ℕ) → number at 8 s < 2 ^ 64
-  eight-small at = omega (arith, eight s at {low = number at 4 s} {high = number (at + 4) 4 s} refl refl, four-small at, four-small (at + 4))
+  eight-small at = omega (arith, eight s at, byte at, byte (at + 1), byte (at + 2), byte (at + 3), byte (at + 4), byte (at + 5), byte (at + 6), byte (at + 7))
 
   pub fields : {x m : ℕ} → x ≡ number 0 8 s → m ≡ number 8 8 s
       → Decoded s (record { kind = x % 256; n = x / 256 % 256; a = x / 65536 % 65536; b = x / 4294967296 % 65536; c = x / 281474976710656; m = m })

@@ -24,7 +24,7 @@ pub struct Record {
     pub m: u64,
 }
 
-// Multipliers: the field n of a record is in its first word from bit 8 on, a from 16, b from 32, c from 48. HIGH is that of a word's upper half.
+// Multipliers: the field n of a record is in its first word from bit 8 on, a from 16, b from 32, c from 48.
 const N: u64 = 256;
 
 const A: u64 = 65536;
@@ -32,8 +32,6 @@ const A: u64 = 65536;
 const B: u64 = 4294967296;
 
 const C: u64 = 281474976710656;
-
-const HIGH: u64 = 4294967296;
 
 // The call that a record is given to: the load, the request of the lower part, or the request of the whole engine.
 #[derive(Clone, Copy)]
@@ -43,33 +41,21 @@ pub enum Call {
     Request,
 }
 
-// A byte as a word, with its bound as part of the contract.
-fn wide(x: u8) -> u64
-    ensures { (result ≡ x) × (result < 256) }
-{
-    x as u64
-}
-
-// The little-endian number in the four bytes from index `at` on.
-fn quad(s: &[u8], at: usize) -> u64
-    requires { at + 3 < length s.now }
-    ensures { result ≡ number at 4 s.now }
-{
-    let b0 = wide(s[at]);
-    let b1 = wide(s[at + 1]);
-    let b2 = wide(s[at + 2]);
-    let b3 = wide(s[at + 3]);
-    b0 + 256 * b1 + 65536 * b2 + 16777216 * b3
-}
-
 // The little-endian number in the eight bytes from index `at` on.
 fn word(s: &[u8], at: usize) -> u64
     requires { at + 7 < length s.now }
     ensures { result ≡ number at 8 s.now }
 {
-    let low = quad(s, at);
-    let high = quad(s, at + 4);
-    low + HIGH * high
+    u64::from_le_bytes([
+        s[at],
+        s[at + 1],
+        s[at + 2],
+        s[at + 3],
+        s[at + 4],
+        s[at + 5],
+        s[at + 6],
+        s[at + 7],
+    ])
 }
 
 // Decodes a record. It reads two words of eight bytes, each of which the compiler turns into one load.
