@@ -1,10 +1,10 @@
 -- A buffer of zeros reads as the empty policy.
-use Prim.Native.Nat.{ℕ, ◌≤◌}
-use mathlib.Core.List.{List, [], ◌++◌, append-nil}
+use Prim.Native.Nat.{ℕ}
+use mathlib.Core.List.{List, []}
 use mathlib.Core.Bool.{Bool, true, false, cond}
 use mathlib.Core.Path.{◌≡◌, refl, ap, ◌∙◌, fun_ext}
 use native.Mathlib.Omega.{arith}
-use lib.ListN.{length, get_or, replicate, drop, drop_of_length-le}
+use lib.ListN.{length, get_or, replicate}
 use Rattle.paper_lower.specs.Sets.{empty, has}
 use Rattle.paper_lower.specs.Lists.{holds}
 use Rattle.paper_lower.specs.Lists.Maybe.{none}
@@ -81,8 +81,6 @@ module _ (n : ℕ) where
         walls = walls-zeros x;
       }
 
--- The result of the loop of `clear`, which stores zeros from the first word on.
-pub cleared : (p p₀ : List ℕ) (n : ℕ) → length p ≡ policy_words → length p₀ ≤ n → p ≡ replicate n 0 ++ drop n p₀ → Cleared p
-cleared p p₀ n room h e =
-    let all : p ≡ replicate n 0 = e ∙ rw (drop_of_length-le p₀ h) (append-nil (replicate n 0)) in
-    record { tables = ap policy_of all ∙ policy-zeros n; words = room; zeros = λ i. ap (λ l. get_or l i 0) all ∙ zeros-at n i }
+-- The result of `clear`, which stores zeros in all words.
+pub cleared : (p : List ℕ) (n : ℕ) → length p ≡ policy_words → p ≡ replicate n 0 → Cleared p
+cleared p n room e = record { tables = ap policy_of e ∙ policy-zeros n; words = room; zeros = λ i. ap (λ l. get_or l i 0) e ∙ zeros-at n i }

@@ -2,11 +2,11 @@
 // row. The layout is defined in specs/Layout.antt and described in docs/STATE.md.
 #![tactic(auto)]
 
-ghost use Rattle.std.specs.Prelude.{◌≡◌, ◌+◌, ◌*◌, ◌<◌, ◌≤◌, min, true, leb, length};
+ghost use Rattle.std.specs.Prelude.{◌≡◌, ◌+◌, ◌*◌, ◌<◌, ◌≤◌, min, true, leb};
 ghost use Rattle.paper_lower.specs.Sets.{has};
 ghost use Rattle.paper_lower.specs.Lists.{holds, there, is};
 ghost use Rattle.paper_lower.specs.Policy.{together};
-ghost use Rattle.policy.specs.Layout.{policy_words, same, seniors_in, flag_of, permission_of, table_in, bucket_table, bucket_of, first_in, second_in, eights_in, first_anew, second_anew, eights_anew, among, listing_for, row_holds, in_bucket, unless_in, unless_stray, limit_count, limit_at, block_count, block_at, pair_count, pair_at, wall_word, wall_count, walled_at, wall_rows, walled_is};
+ghost use Rattle.policy.specs.Layout.{same, seniors_in, flag_of, permission_of, table_in, bucket_table, bucket_of, first_in, second_in, eights_in, first_anew, second_anew, eights_anew, among, listing_for, row_holds, in_bucket, unless_in, unless_stray, limit_count, limit_at, block_count, block_at, pair_count, pair_at, wall_word, wall_count, walled_at, wall_rows, walled_is};
 ghost use Rattle.policy.specs.Kinds.{set_index, pair_index};
 ghost use Rattle.policy.specs.Reading.{policy_of, value_of, Cleared, Ready, Tidied, roles_anew, user_anew, assigned_anew, juniors_anew, below_anew, permission_anew, holders_anew, carriers_anew, template_anew, open_to_anew, banned_anew, most_anew, limit_added, block_added, pair_added, wall_added};
 
@@ -615,9 +615,10 @@ pub fn add_limit(p: &mut PolicyBuffer, which: SetKind, n: u64, members: Set)
     ensures { policy_of p.new ≡ limit_added (policy_of p.old) (set_index which) n members.bits }
 {
     let k = limit_count(p, which);
-    p[LIMITS + 64 * which.index() + k] = n;
-    p[MEMBERS + 64 * which.index() + k] = members.bits;
-    p[LIMIT_COUNTS + which.index()] = k as u64 + 1;
+    let kind = which.index();
+    p[LIMITS + 64 * kind + k] = n;
+    p[MEMBERS + 64 * kind + k] = members.bits;
+    p[LIMIT_COUNTS + kind] = k as u64 + 1;
 }
 
 // The number of blocks.
@@ -685,8 +686,9 @@ pub fn add_pair(p: &mut PolicyBuffer, which: PairKind, a: u64, b: u64)
     ensures { policy_of p.new ≡ pair_added (policy_of p.old) (pair_index which) a b }
 {
     let k = pair_count(p, which);
-    p[PAIRS + 64 * which.index() + k] = a + 64 * b;
-    p[PAIR_COUNTS + which.index()] = k as u64 + 1;
+    let kind = which.index();
+    p[PAIRS + 64 * kind + k] = a + 64 * b;
+    p[PAIR_COUNTS + kind] = k as u64 + 1;
 }
 
 // ---- Walls. Each row has a wall, a block and an object.
@@ -769,7 +771,5 @@ pub fn add_wall(p: &mut PolicyBuffer, wall: u64, block: u64, object: u64)
 pub fn clear(p: &mut PolicyBuffer)
     ensures { Cleared p.new }
 {
-    for i in 0..POLICY_WORDS {
-        p[i] = 0;
-    }
+    p.fill(0);
 }

@@ -2,11 +2,11 @@
 // Policy. The crate uses only the getters of the policy buffer, not its layout.
 #![tactic(auto)]
 
-ghost use Rattle.std.specs.Prelude.{◌≡◌, ◌&&◌, ◌<◌, leb, length};
+ghost use Rattle.std.specs.Prelude.{◌≡◌, ◌&&◌, ◌<◌, leb};
 ghost use Rattle.paper_lower.specs.Sets.{minus, size, within};
 ghost use Rattle.paper_lower.specs.Lists.{some_number_below, some};
 ghost use Rattle.paper_lower.specs.Policy.{down, breaks, declared_tasks, tasks_of, has_task, one_template, same_limit, is_same_block, same_pair, partitioned};
-ghost use Rattle.policy.specs.Layout.{policy_words, limit_at, block_at, pair_at};
+ghost use Rattle.policy.specs.Layout.{limit_at, block_at, pair_at};
 ghost use Rattle.policy.specs.Reading.{policy_of, limit_rows_of, pairs_of};
 ghost use Rattle.policy_lookups.specs.Rows.{strays, lacks, exceeds, joined};
 

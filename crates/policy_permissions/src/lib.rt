@@ -4,12 +4,12 @@
 // could not predict them. The crate uses only the getters of the policy buffer, not its layout.
 #![tactic(auto)]
 
-ghost use Rattle.std.specs.Prelude.{◌≡◌, ◌&&◌, ◌<◌, length};
+ghost use Rattle.std.specs.Prelude.{◌≡◌, ◌&&◌, ◌<◌};
 ghost use Rattle.paper_lower.specs.Sets.{has};
 ghost use Rattle.paper_lower.specs.Lists.{some_number_below, holds};
 ghost use Rattle.paper_lower.specs.Policy.{is_for};
 ghost use Rattle.paper_lower.specs.Sessions.{allowed};
-ghost use Rattle.policy.specs.Layout.{policy_words, listing_for, row_holds};
+ghost use Rattle.policy.specs.Layout.{listing_for, row_holds};
 ghost use Rattle.policy.specs.Reading.{policy_of};
 ghost use Rattle.policy_permissions.specs.Rows.{in_two, in_eight, opens, bears};
 

@@ -2,9 +2,8 @@
 // policy buffer, not its layout.
 #![tactic(auto)]
 
-ghost use Rattle.std.specs.Prelude.{◌≡◌, ◌<◌, length};
+ghost use Rattle.std.specs.Prelude.{◌≡◌, ◌<◌};
 ghost use Rattle.paper_lower.specs.Policy.{down, raised, raisings, raise_next};
-ghost use Rattle.policy.specs.Layout.{policy_words};
 ghost use Rattle.policy.specs.Reading.{policy_of};
 ghost use Rattle.policy_seniors.specs.Rows.{lowered_at};
 

@@ -2,17 +2,13 @@
 use mathlib.Core.Path.{ap, ◌∙◌}
 use Prim.Native.Nat.{◌%◌}
 use native.Mathlib.Omega.{arith}
-use lib.ListN.{length-set}
 use Rattle.paper_lower.specs.Sets.{plus}
 use Rattle.policy.proofs.AddLaws.{wall-added}
 use Rattle.policy.proofs.add_wall.Goals as goal
-
-pub bounds-p-word : goal.bounds-p-word
-bounds-p-word c = rw length-set (omega arith)
 
 pub returns : goal.returns
 returns c =
     let pre = c.requires in
     let wall-count = c.wall_count-k in
-    rw c.wall_word-word.ensures.0 (wall-added _ pre.0 wall-count.result _ _ _ _ pre.1.0 pre.1.1.0 pre.1.1.1.0 (omega arith)
+    rw c.wall_word-word.ensures.0 (wall-added _ c.told-p wall-count.result _ _ _ _ pre.0 pre.1.0 pre.1.1.0 (omega arith)
     wall-count.ensures.0 (c.with-rows.ensures ∙ ap (λ m. plus m (wall-count.result % 64)) c.wall_rows.ensures))

@@ -6,4 +6,4 @@ use Rattle.policy.proofs.assigned.Goals as goal
 
 pub returns : goal.returns
 unfolding policy_of people_in
-returns c = sym (column-at _ _ _ _ _ _ c.requires.1)
+returns c = sym (column-at _ _ _ _ _ _ c.requires)

@@ -8,8 +8,7 @@ returns-then-not-has c = sym (none_below _ _ (rw (← c.seniors.ensures) (sym c.
 
 pub below_senior-requires : goal.below_senior-requires
 below_senior-requires c =
-    let pre = c.requires in
-    (pre.0, (pre.1, rw (← c.seniors.ensures) (sym c.has.ensures ∙ c.if-not-has.false)))
+    (c.requires, rw (← c.seniors.ensures) (sym c.has.ensures ∙ c.if-not-has.false))
 
 pub returns : goal.returns
 returns c = c.below_senior.ensures

@@ -3,4 +3,4 @@ use Rattle.policy.proofs.SeniorLaws.{below_row}
 use Rattle.policy.proofs.below_senior.Goals as goal
 
 pub returns : goal.returns
-returns c = below_row _ _ c.requires.1.0 c.requires.1.1
+returns c = below_row _ _ c.requires.0 c.requires.1

@@ -6,4 +6,4 @@ use Rattle.policy.proofs.block_tasks.Goals as goal
 
 pub returns : goal.returns
 unfolding block_at
-returns c = sym (column-at _ _ _ _ _ _ c.requires.1)
+returns c = sym (column-at _ _ _ _ _ _ c.requires)

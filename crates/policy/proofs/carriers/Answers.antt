@@ -6,4 +6,4 @@ use Rattle.policy.proofs.carriers.Goals as goal
 
 pub returns : goal.returns
 unfolding policy_of permissions_in
-returns c = sym (column-at _ _ _ _ _ _ c.requires.1)
+returns c = sym (column-at _ _ _ _ _ _ c.requires)

@@ -6,7 +6,7 @@ use Rattle.policy.proofs.StoreLaws.{tidied-none, tidied-more}
 use Rattle.policy.proofs.empty_strays.Goals as goal
 
 pub loop-b-init : goal.loop-b-init
-loop-b-init c = (omega arith, (omega arith, tidied-none _ _ _ c.requires.0))
+loop-b-init c = (omega arith, (omega arith, tidied-none _ _ _ c.told-p))
 
 pub loop-b-preserved : goal.loop-b-preserved
 loop-b-preserved c =
@@ -18,7 +18,7 @@ loop-b-preserved c =
         omega arith,
         tidied-more _ _ _ _ loop.b c.among.result _ loop.invariant.1.1
             (c.among.ensures ∙ ap (λ v. among v loop.b) listing-in.ensures)
-            pre.1.0 loop.invariant.0 (omega arith) c.unless_stray.ensures,
+            pre.0 loop.invariant.0 (omega arith) c.unless_stray.ensures,
       ),
     )
 

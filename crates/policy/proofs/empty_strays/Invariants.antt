@@ -1,6 +1,6 @@
 -- `empty_strays` meets its contract: a loop over the rows of the group. Its invariant: the rows
 -- passed so far that the bucket does not list are emptied if they have a pair of the bucket.
-use Prim.Native.Nat.{◌+◌, ◌-◌, ◌*◌, ◌≤◌}
+use Prim.Native.Nat.{◌+◌, ◌*◌, ◌≤◌}
 use Rattle.policy.specs.Reading.{Tidied}
 use Rattle.policy.proofs.empty_strays.Given as goal
 

@@ -6,4 +6,4 @@ use Rattle.policy.proofs.juniors.Goals as goal
 
 pub returns : goal.returns
 unfolding policy_of seniority_in
-returns c = sym (column-at _ _ _ _ _ _ c.requires.1)
+returns c = sym (column-at _ _ _ _ _ _ c.requires)

@@ -6,4 +6,4 @@ use Rattle.policy.proofs.limit_n.Goals as goal
 
 pub returns : goal.returns
 unfolding limit_at
-returns c = sym (column-at _ _ _ _ _ _ c.requires.1.1)
+returns c = rw (← c.index.ensures.0) (sym (column-at _ _ _ _ _ _ c.requires))

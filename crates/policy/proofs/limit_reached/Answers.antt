@@ -8,4 +8,4 @@ use Rattle.policy.proofs.limit_reached.Goals as goal
 
 pub returns : goal.returns
 unfolding policy_of tasks_in
-returns c = most-reached _ _ ∙ sym (ap (holds _) (column-at _ _ _ _ _ _ c.requires.1))
+returns c = most-reached _ _ ∙ sym (ap (holds _) (column-at _ _ _ _ _ _ c.requires))

@@ -4,4 +4,4 @@ use Rattle.replies.proofs.CellLaws.{column-at}
 use Rattle.policy.proofs.listing_in.Goals as goal
 
 pub returns : goal.returns
-returns c = sym (column-at _ _ _ _ _ _ c.requires.1)
+returns c = sym (column-at _ _ _ _ _ _ c.requires)

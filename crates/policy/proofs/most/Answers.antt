@@ -9,4 +9,4 @@ use Rattle.policy.proofs.most.Goals as goal
 
 pub returns : goal.returns
 unfolding policy_of tasks_in
-returns c = (most-value _ ∙ sym (ap (value_of same) (column-at _ _ _ _ _ _ c.requires.1)), omega arith)
+returns c = (most-value _ ∙ sym (ap (value_of same) (column-at _ _ _ _ _ _ c.requires)), omega arith)

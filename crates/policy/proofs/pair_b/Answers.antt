@@ -7,4 +7,4 @@ use Rattle.policy.proofs.pair_b.Goals as goal
 
 pub returns : goal.returns
 unfolding pair_at
-returns c = (sym (column-at _ _ _ _ _ _ c.requires.1.1), omega arith)
+returns c = rw (← c.index.ensures.0) (sym (column-at _ _ _ _ _ _ c.requires), omega arith)

@@ -7,4 +7,4 @@ pub returns : goal.returns
 unfolding policy_of
 returns c =
     let pre = c.requires in
-    declared-there _ _ pre.1 (lists-word _ _ _ c.bucket_of-bucket.ensures.0 c.listing_in.ensures c.among-listed.ensures)
+    declared-there _ _ pre (lists-word _ _ _ c.bucket_of-bucket.ensures.0 c.listing_in.ensures c.among-listed.ensures)

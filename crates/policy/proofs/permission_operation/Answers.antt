@@ -13,4 +13,4 @@ pub returns : goal.returns
 unfolding policy_of
 returns c =
     let pre = c.requires in
-    (declared-value _ _ pre.1 (λ x. x.operation) (sym c.permission_declared.ensures ∙ c.if-not-permission_declared.false), omega arith)
+    (declared-value _ _ pre (λ x. x.operation) (sym c.permission_declared.ensures ∙ c.if-not-permission_declared.false), omega arith)

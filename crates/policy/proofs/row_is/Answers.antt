@@ -3,4 +3,4 @@ use Rattle.policy.proofs.BucketLaws.{row_word}
 use Rattle.policy.proofs.row_is.Goals as goal
 
 pub returns : goal.returns
-returns c = row_word _ _ c.requires.1.0 _ _ c.requires.1.1.0 c.requires.1.1.1
+returns c = row_word _ _ c.requires.0 _ _ c.requires.1.0 c.requires.1.1

@@ -12,4 +12,4 @@ pub returns : goal.returns
 unfolding policy_of tasks_in together
 returns c =
     let pre = c.requires in
-    template-same _ _ ∙ sym (ap₂ (λ (x y : Maybe ℕ). holds (λ j. is j y) x) (column-at _ _ _ _ _ _ pre.1.0) (column-at _ _ _ _ _ _ pre.1.1))
+    template-same _ _ ∙ sym (ap₂ (λ (x y : Maybe ℕ). holds (λ j. is j y) x) (column-at _ _ _ _ _ _ pre.0) (column-at _ _ _ _ _ _ pre.1))

@@ -3,4 +3,4 @@ use Rattle.policy.proofs.StoreLaws.{assigned-set}
 use Rattle.policy.proofs.set_assigned.Goals as goal
 
 pub returns : goal.returns
-returns c = assigned-set _ c.requires.0 _ _ c.requires.1
+returns c = assigned-set _ c.told-p _ _ c.requires

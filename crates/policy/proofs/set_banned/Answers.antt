@@ -3,4 +3,4 @@ use Rattle.policy.proofs.StoreLaws.{banned-set}
 use Rattle.policy.proofs.set_banned.Goals as goal
 
 pub returns : goal.returns
-returns c = banned-set _ c.requires.0 _ c.requires.1
+returns c = banned-set _ c.told-p _ c.requires

@@ -8,4 +8,4 @@ pub returns : goal.returns
 returns c =
     let pre = c.requires in
     let args = c.args in
-    below_set _ pre.0 _ _ pre.1 _ (c.with-more.ensures ∙ ap (λ m. plus m args.r) c.seniors.ensures)
+    below_set _ c.told-p _ _ pre _ (c.with-more.ensures ∙ ap (λ m. plus m args.r) c.seniors.ensures)

@@ -3,4 +3,4 @@ use Rattle.policy.proofs.StoreLaws.{carriers-set}
 use Rattle.policy.proofs.set_carriers.Goals as goal
 
 pub returns : goal.returns
-returns c = carriers-set _ c.requires.0 _ _ c.requires.1
+returns c = carriers-set _ c.told-p _ _ c.requires

@@ -3,4 +3,4 @@ use Rattle.policy.proofs.StoreLaws.{holders-set}
 use Rattle.policy.proofs.set_holders.Goals as goal
 
 pub returns : goal.returns
-returns c = holders-set _ c.requires.0 _ _ c.requires.1
+returns c = holders-set _ c.told-p _ _ c.requires

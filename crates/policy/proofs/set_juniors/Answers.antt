@@ -3,4 +3,4 @@ use Rattle.policy.proofs.StoreLaws.{juniors-set}
 use Rattle.policy.proofs.set_juniors.Goals as goal
 
 pub returns : goal.returns
-returns c = juniors-set _ c.requires.0 _ _ c.requires.1
+returns c = juniors-set _ c.told-p _ _ c.requires

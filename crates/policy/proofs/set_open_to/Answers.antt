@@ -3,4 +3,4 @@ use Rattle.policy.proofs.StoreLaws.{open-to-set}
 use Rattle.policy.proofs.set_open_to.Goals as goal
 
 pub returns : goal.returns
-returns c = open-to-set _ c.requires.0 _ _ c.requires.1
+returns c = open-to-set _ c.told-p _ _ c.requires

@@ -3,4 +3,4 @@ use Rattle.policy.proofs.StoreLaws.{template-set}
 use Rattle.policy.proofs.set_template.Goals as goal
 
 pub returns : goal.returns
-returns c = template-set _ c.requires.0 _ _ c.requires.1.0 c.requires.1.1
+returns c = template-set _ c.told-p _ _ c.requires.0 c.requires.1

@@ -8,4 +8,4 @@ use Rattle.policy.proofs.task_is_of.Goals as goal
 
 pub returns : goal.returns
 unfolding policy_of tasks_in
-returns c = template-is _ _ c.requires.1.1 ∙ sym (ap (is _) (column-at _ _ _ _ _ _ c.requires.1.0))
+returns c = template-is _ _ c.requires.1 ∙ sym (ap (is _) (column-at _ _ _ _ _ _ c.requires.0))

@@ -8,4 +8,4 @@ use Rattle.policy.proofs.task_limited.Goals as goal
 
 pub returns : goal.returns
 unfolding policy_of tasks_in
-returns c = most-there _ ∙ sym (ap there (column-at _ _ _ _ _ _ c.requires.1))
+returns c = most-there _ ∙ sym (ap there (column-at _ _ _ _ _ _ c.requires))

@@ -10,8 +10,8 @@ use Rattle.policy.proofs.template.Goals as goal
 
 pub returns-then-word-eq1 : goal.returns-then-word-eq1
 unfolding policy_of tasks_in
-returns-then-word-eq1 c = (template-value _ (eq-eqb _ _ c.if-word-eq1.true) ∙ sym (ap (value_of same) (column-at _ _ _ _ _ _ c.requires.1)), omega arith)
+returns-then-word-eq1 c = (template-value _ (eq-eqb _ _ c.if-word-eq1.true) ∙ sym (ap (value_of same) (column-at _ _ _ _ _ _ c.requires)), omega arith)
 
 pub returns : goal.returns
 unfolding policy_of tasks_in
-returns c = (template-none _ (ne_eqb _ _ c.if-word-eq1.false) ∙ sym (ap (value_of same) (column-at _ _ _ _ _ _ c.requires.1)), omega arith)
+returns c = (template-none _ (ne_eqb _ _ c.if-word-eq1.false) ∙ sym (ap (value_of same) (column-at _ _ _ _ _ _ c.requires)), omega arith)

@@ -8,4 +8,4 @@ use Rattle.policy.proofs.walled_block.Goals as goal
 
 pub returns : goal.returns
 unfolding walled_at listed_row walled_of
-returns c = (sym (ap (λ (x : Walled). x.block) (column-at _ _ _ _ _ _ c.requires.1)), omega arith)
+returns c = (sym (ap (λ (x : Walled). x.block) (column-at _ _ _ _ _ _ c.requires)), omega arith)

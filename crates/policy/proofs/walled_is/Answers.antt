@@ -8,4 +8,4 @@ use Rattle.policy.proofs.walled_is.Goals as goal
 
 pub returns : goal.returns
 unfolding walled_is walled_of
-returns c = sym (ap (λ (x : Walled). eqb x.object c.args.object) (column-at _ _ _ _ _ _ c.requires.1))
+returns c = sym (ap (λ (x : Walled). eqb x.object c.args.object) (column-at _ _ _ _ _ _ c.requires))

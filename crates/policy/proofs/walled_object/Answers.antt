@@ -8,9 +8,9 @@ use Rattle.policy.proofs.walled_object.Goals as goal
 pub returns-then-not-has : goal.returns-then-not-has
 returns-then-not-has c =
     let pre = c.requires in
-    (object-none _ _ pre.1 c.wall_rows.ensures c.has.ensures (ap not c.if-not-has.true), omega arith)
+    (object-none _ _ pre c.wall_rows.ensures c.has.ensures (ap not c.if-not-has.true), omega arith)
 
 pub returns : goal.returns
 returns c =
     let pre = c.requires in
-    (object-listed _ _ pre.1 c.wall_rows.ensures c.has.ensures (ap not c.if-not-has.false), omega arith)
+    (object-listed _ _ pre c.wall_rows.ensures c.has.ensures (ap not c.if-not-has.false), omega arith)
