@@ -7,7 +7,22 @@ use Rattle.paper_lower.specs.Lists.{many}
 use Rattle.replies.specs.Cells.{rows}
 use Rattle.replies.proofs.RowLaws.{many-rows}
 use Rattle.policy.specs.Layout.{limit_count, limit_at, block_count, block_at, pair_count, pair_at, wall_count, walled_at}
+use Rattle.policy.specs.declared.SetKind.{SetKind}
+use Rattle.policy.specs.declared.SetKind.TheVariants.{Static, Dynamic, Task}
+use Rattle.policy.specs.declared.PairKind.{PairKind}
+use Rattle.policy.specs.declared.PairKind.TheVariants.{Binding, Prerequisite}
+use Rattle.policy.specs.Kinds.{set_index, pair_index}
 use Rattle.policy.specs.Reading.{rules_in, policy_of, limit_rows_of, pairs_of}
+
+-- ---- There are three kinds of sets, and two of pairs.
+pub set-small : (which : SetKind) → set_index which < 3
+set-small Static = omega arith
+set-small Dynamic = omega arith
+set-small Task = omega arith
+
+pub pair-small : (which : PairKind) → pair_index which < 2
+pair-small Binding = omega arith
+pair-small Prerequisite = omega arith
 
 module _ (l : List ℕ) where
   -- ---- The rules of a kind are its rows kept.

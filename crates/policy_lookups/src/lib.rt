@@ -7,6 +7,7 @@ ghost use Rattle.paper_lower.specs.Sets.{minus, size, within};
 ghost use Rattle.paper_lower.specs.Lists.{some_number_below, some};
 ghost use Rattle.paper_lower.specs.Policy.{down, breaks, declared_tasks, tasks_of, has_task, one_template, same_limit, is_same_block, same_pair, partitioned};
 ghost use Rattle.policy.specs.Layout.{limit_at, block_at, pair_at};
+ghost use Rattle.policy.specs.Kinds.{set_index, pair_index};
 ghost use Rattle.policy.specs.Reading.{policy_of, limit_rows_of, pairs_of};
 ghost use Rattle.policy_lookups.specs.Rows.{strays, lacks, exceeds, joined};
 
@@ -215,9 +216,8 @@ pub fn partitioned(p: &PolicyBuffer, a: u64) -> Set
     ensures { result.bits ≡ partitioned a (policy_of p.now).rules.blocks }
 {
     let mut all = Set::EMPTY;
-    let mut k = policy::block_count(p);
-    while 0 < k {
-        k -= 1;
+    let count = policy::block_count(p);
+    for k in (0..count).rev() {
         all = with_block(p, k, a, all);
     }
     all

@@ -9,7 +9,7 @@ use Rattle.policy_lookups.proofs.all_of.Goals as goal
 
 pub loop-t-init : goal.loop-t-init
 unfolding some_number_below
-loop-t-init c = (search rules, refl)
+loop-t-init c = refl
 
 pub returns-then-is_stray : goal.returns-then-is_stray
 returns-then-is_stray c = ap not (sym (below-found _ _ _ (search rules) (sym c.is_stray.ensures ∙ c.if-is_stray.true))) ∙ none-stray _ _ _ (search rules)
@@ -17,7 +17,7 @@ returns-then-is_stray c = ap not (sym (below-found _ _ _ (search rules) (sym c.i
 pub loop-t-preserved : goal.loop-t-preserved
 loop-t-preserved c =
     let loop = c.loop-t in
-    (search rules, below_more _ _ loop.invariant.1 (sym c.is_stray.ensures ∙ c.if-is_stray.false))
+    below_more _ _ loop.invariant (sym c.is_stray.ensures ∙ c.if-is_stray.false)
 
 pub returns : goal.returns
-returns c = let e : 64 ≡ c.loop-t.t = omega arith in ap not (sym (rw (← e) at c.loop-t.invariant.1)) ∙ none-stray _ _ _ (search rules)
+returns c = let e : 64 ≡ c.loop-t.t = omega arith in ap not (sym (rw (← e) at c.loop-t.invariant)) ∙ none-stray _ _ _ (search rules)

@@ -8,4 +8,4 @@ use Rattle.policy_lookups.specs.Rows.{strays}
 use Rattle.policy_lookups.proofs.all_of.Given as goal
 
 abbrev pub invariant-loop-t : goal.invariant-loop-t
-invariant-loop-t l = (l.t ≤ 64) × (some_number_below l.t (strays (policy_of l.p).tasks l.m.bits l.j) ≡ false)
+invariant-loop-t l = some_number_below l.t (strays (policy_of l.p).tasks l.m.bits l.j) ≡ false

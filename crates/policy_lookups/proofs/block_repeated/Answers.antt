@@ -5,17 +5,17 @@ use borrow.Author.Rules.{rules}
 use Rattle.policy_lookups.proofs.block_repeated.Goals as goal
 
 pub loop-k-init : goal.loop-k-init
-loop-k-init c = (search rules, some-start _ (blocks-are _) c.block_count-count.ensures.0 _)
+loop-k-init c = some-start _ (blocks-are _) c.block_count-count.ensures.0 _
 
 pub returns-then-block_is : goal.returns-then-block_is
 returns-then-block_is c =
     let loop = c.loop-k in
-    sym (loop.invariant.1 ∙ some-here _ _ _ _ (search rules) (sym c.block_is.ensures ∙ c.if-block_is.true))
+    sym (loop.invariant ∙ some-here _ _ _ _ (search rules) (sym c.block_is.ensures ∙ c.if-block_is.true))
 
 pub loop-k-preserved : goal.loop-k-preserved
 loop-k-preserved c =
     let loop = c.loop-k in
-    (search rules, loop.invariant.1 ∙ some-later _ _ _ _ (search rules) (sym c.block_is.ensures ∙ c.if-block_is.false))
+    loop.invariant ∙ some-later _ _ _ _ (search rules) (sym c.block_is.ensures ∙ c.if-block_is.false)
 
 pub returns : goal.returns
-returns c = sym (c.loop-k.invariant.1 ∙ some_end _ _ _ _ (search rules))
+returns c = sym (c.loop-k.invariant ∙ some_end _ _ _ _ (search rules))

@@ -10,4 +10,4 @@ use Rattle.policy_lookups.proofs.block_repeated.Given as goal
 
 abbrev pub invariant-loop-k : goal.invariant-loop-k
 invariant-loop-k l =
-    (l.k ≤ l.count) × (some (is_same_block l.a l.m.bits) (policy_of l.p).rules.blocks ≡ some (is_same_block l.a l.m.bits) (rows_from (block_at l.p) l.k (l.count - l.k)))
+    some (is_same_block l.a l.m.bits) (policy_of l.p).rules.blocks ≡ some (is_same_block l.a l.m.bits) (rows_from (block_at l.p) l.k (l.count - l.k))

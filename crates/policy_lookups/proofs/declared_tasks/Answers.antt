@@ -8,13 +8,13 @@ use Rattle.policy_lookups.proofs.declared_tasks.Goals as goal
 
 pub loop-t-init : goal.loop-t-init
 unfolding collect
-loop-t-init c = (search rules, refl)
+loop-t-init c = refl
 
 pub loop-t-preserved : goal.loop-t-preserved
 loop-t-preserved c =
     let loop = c.loop-t in
-    (search rules, c.with_if-all.ensures ∙ rw (c.task_declared.ensures, loop.invariant.1) (sym (collect-more _ _)))
+    c.with_if-all.ensures ∙ rw (c.task_declared.ensures, loop.invariant) (sym (collect-more _ _))
 
 pub returns : goal.returns
 unfolding declared_tasks
-returns c = let e : 64 ≡ c.loop-t.t = omega arith in rw e c.loop-t.invariant.1
+returns c = let e : 64 ≡ c.loop-t.t = omega arith in rw e c.loop-t.invariant

@@ -7,4 +7,4 @@ use Rattle.policy.specs.Reading.{policy_of}
 use Rattle.policy_lookups.proofs.declared_tasks.Given as goal
 
 abbrev pub invariant-loop-t : goal.invariant-loop-t
-invariant-loop-t l = (l.t ≤ 64) × (l.all.bits ≡ collect l.t (λ a. there ((policy_of l.p).tasks.template a)))
+invariant-loop-t l = l.all.bits ≡ collect l.t (λ a. there ((policy_of l.p).tasks.template a))

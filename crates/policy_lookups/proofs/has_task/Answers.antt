@@ -9,7 +9,7 @@ use Rattle.policy_lookups.proofs.has_task.Goals as goal
 
 pub loop-t-init : goal.loop-t-init
 unfolding some_number_below
-loop-t-init c = (search rules, refl)
+loop-t-init c = refl
 
 pub returns-then-task_is_of : goal.returns-then-task_is_of
 unfolding has_task tasks_of
@@ -18,8 +18,8 @@ returns-then-task_is_of c = sym (below-found _ _ _ (search rules) (sym c.task_is
 pub loop-t-preserved : goal.loop-t-preserved
 loop-t-preserved c =
     let loop = c.loop-t in
-    (search rules, below_more _ _ loop.invariant.1 (sym c.task_is_of.ensures ∙ c.if-task_is_of.false))
+    below_more _ _ loop.invariant (sym c.task_is_of.ensures ∙ c.if-task_is_of.false)
 
 pub returns : goal.returns
 unfolding has_task tasks_of
-returns c = let e : 64 ≡ c.loop-t.t = omega arith in sym (rw e c.loop-t.invariant.1) ∙ some-collected 64 _
+returns c = let e : 64 ≡ c.loop-t.t = omega arith in sym (rw e c.loop-t.invariant) ∙ some-collected 64 _

@@ -7,4 +7,4 @@ use Rattle.policy.specs.Reading.{policy_of}
 use Rattle.policy_lookups.proofs.has_task.Given as goal
 
 abbrev pub invariant-loop-t : goal.invariant-loop-t
-invariant-loop-t l = (l.t ≤ 64) × (some_number_below l.t (λ i. is l.j ((policy_of l.p).tasks.template i)) ≡ false)
+invariant-loop-t l = some_number_below l.t (λ i. is l.j ((policy_of l.p).tasks.template i)) ≡ false

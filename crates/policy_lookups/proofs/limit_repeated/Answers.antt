@@ -1,21 +1,21 @@
 use mathlib.Core.Path.{sym, ◌∙◌}
-use Rattle.policy.proofs.RuleLaws.{limits-are}
+use Rattle.policy.proofs.RuleLaws.{set-small, limits-are}
 use Rattle.replies.proofs.SearchLaws.{some-start, some-here, some-later, some_end}
 use borrow.Author.Rules.{rules}
 use Rattle.policy_lookups.proofs.limit_repeated.Goals as goal
 
 pub loop-k-init : goal.loop-k-init
-loop-k-init c = (search rules, some-start _ (limits-are _ _ c.requires.1) c.limit_count-count.ensures.0 _)
+loop-k-init c = some-start _ (limits-are _ _ (set-small c.args.which)) c.limit_count-count.ensures.0 _
 
 pub returns-then-limit_is : goal.returns-then-limit_is
 returns-then-limit_is c =
     let loop = c.loop-k in
-    sym (loop.invariant.1 ∙ some-here _ _ _ _ (search rules) (sym c.limit_is.ensures ∙ c.if-limit_is.true))
+    sym (loop.invariant ∙ some-here _ _ _ _ (search rules) (sym c.limit_is.ensures ∙ c.if-limit_is.true))
 
 pub loop-k-preserved : goal.loop-k-preserved
 loop-k-preserved c =
     let loop = c.loop-k in
-    (search rules, loop.invariant.1 ∙ some-later _ _ _ _ (search rules) (sym c.limit_is.ensures ∙ c.if-limit_is.false))
+    loop.invariant ∙ some-later _ _ _ _ (search rules) (sym c.limit_is.ensures ∙ c.if-limit_is.false)
 
 pub returns : goal.returns
-returns c = sym (c.loop-k.invariant.1 ∙ some_end _ _ _ _ (search rules))
+returns c = sym (c.loop-k.invariant ∙ some_end _ _ _ _ (search rules))

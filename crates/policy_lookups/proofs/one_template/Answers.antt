@@ -8,7 +8,7 @@ use Rattle.policy_lookups.proofs.one_template.Goals as goal
 
 pub loop-j-init : goal.loop-j-init
 unfolding some_number_below
-loop-j-init c = (search rules, refl)
+loop-j-init c = refl
 
 pub returns-then-all_of : goal.returns-then-all_of
 unfolding one_template
@@ -17,8 +17,8 @@ returns-then-all_of c = sym (below-found _ _ _ (search rules) (sym c.all_of.ensu
 pub loop-j-preserved : goal.loop-j-preserved
 loop-j-preserved c =
     let loop = c.loop-j in
-    (search rules, below_more _ _ loop.invariant.1 (sym c.all_of.ensures ∙ c.if-all_of.false))
+    below_more _ _ loop.invariant (sym c.all_of.ensures ∙ c.if-all_of.false)
 
 pub returns : goal.returns
 unfolding one_template
-returns c = let e : 16 ≡ c.loop-j.j = omega arith in sym (rw e c.loop-j.invariant.1)
+returns c = let e : 16 ≡ c.loop-j.j = omega arith in sym (rw e c.loop-j.invariant)

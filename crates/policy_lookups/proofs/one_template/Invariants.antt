@@ -9,4 +9,4 @@ use Rattle.policy.specs.Reading.{policy_of}
 use Rattle.policy_lookups.proofs.one_template.Given as goal
 
 abbrev pub invariant-loop-j : goal.invariant-loop-j
-invariant-loop-j l = (l.j ≤ 16) × (some_number_below l.j (λ b. within l.m.bits (tasks_of (policy_of l.p).tasks b)) ≡ false)
+invariant-loop-j l = some_number_below l.j (λ b. within l.m.bits (tasks_of (policy_of l.p).tasks b)) ≡ false

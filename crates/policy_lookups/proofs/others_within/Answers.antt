@@ -9,7 +9,7 @@ use Rattle.policy_lookups.proofs.others_within.Goals as goal
 
 pub loop-i-init : goal.loop-i-init
 unfolding some_number_below
-loop-i-init c = (search rules, refl)
+loop-i-init c = refl
 
 pub returns-then-is_lacking : goal.returns-then-is_lacking
 returns-then-is_lacking c = ap not (sym (below-found _ _ _ (search rules) (sym c.is_lacking.ensures ∙ c.if-is_lacking.true))) ∙ none-lacking _ _ _ _
@@ -17,7 +17,7 @@ returns-then-is_lacking c = ap not (sym (below-found _ _ _ (search rules) (sym c
 pub loop-i-preserved : goal.loop-i-preserved
 loop-i-preserved c =
     let loop = c.loop-i in
-    (search rules, below_more _ _ loop.invariant.1 (sym c.is_lacking.ensures ∙ c.if-is_lacking.false))
+    below_more _ _ loop.invariant (sym c.is_lacking.ensures ∙ c.if-is_lacking.false)
 
 pub returns : goal.returns
-returns c = let e : 64 ≡ c.loop-i.i = omega arith in ap not (sym (rw (← e) at c.loop-i.invariant.1)) ∙ none-lacking _ _ _ _
+returns c = let e : 64 ≡ c.loop-i.i = omega arith in ap not (sym (rw (← e) at c.loop-i.invariant)) ∙ none-lacking _ _ _ _

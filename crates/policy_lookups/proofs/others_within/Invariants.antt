@@ -8,4 +8,4 @@ use Rattle.policy_lookups.specs.Rows.{lacks}
 use Rattle.policy_lookups.proofs.others_within.Given as goal
 
 abbrev pub invariant-loop-i : goal.invariant-loop-i
-invariant-loop-i l = (l.i ≤ 64) × (some_number_below l.i (lacks (policy_of l.p).tasks l.j l.t l.d.bits) ≡ false)
+invariant-loop-i l = some_number_below l.i (lacks (policy_of l.p).tasks l.j l.t l.d.bits) ≡ false

@@ -7,7 +7,4 @@ use Rattle.replies.specs.Cells.{rows_from}
 use Rattle.policy_lookups.proofs.partitioned.Given as goal
 
 abbrev pub invariant-loop-k : goal.invariant-loop-k
-invariant-loop-k l = (l.k ≤ l.initial.k) × (l.all.bits ≡ partitioned l.a (rows_from (block_at l.p) l.k (l.initial.k - l.k)))
-
-abbrev pub decreases-loop-k : goal.decreases-loop-k
-decreases-loop-k l = l.k
+invariant-loop-k l = l.all.bits ≡ partitioned l.a (rows_from (block_at l.p) l.k (l.count - l.k))

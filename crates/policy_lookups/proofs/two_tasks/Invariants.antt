@@ -7,4 +7,4 @@ use Rattle.policy.specs.Reading.{policy_of}
 use Rattle.policy_lookups.proofs.two_tasks.Given as goal
 
 abbrev pub invariant-loop-i : goal.invariant-loop-i
-invariant-loop-i l = (l.i ≤ 64) × ((l.n ≤ 1) × (l.n ≡ size (collect l.i (λ t. is l.j ((policy_of l.p).tasks.template t)))))
+invariant-loop-i l = (l.n ≤ 1) × (l.n ≡ size (collect l.i (λ t. is l.j ((policy_of l.p).tasks.template t))))

@@ -8,4 +8,4 @@ use Rattle.policy.specs.Reading.{policy_of}
 use Rattle.policy_lookups.proofs.user_breaks.Given as goal
 
 abbrev pub invariant-loop-u : goal.invariant-loop-u
-invariant-loop-u l = (l.u ≤ 1024) × (some_number_below l.u (exceeds (policy_of l.p) l.n l.m.bits) ≡ false)
+invariant-loop-u l = some_number_below l.u (exceeds (policy_of l.p) l.n l.m.bits) ≡ false

@@ -9,7 +9,7 @@ pub returns-then-not-has : goal.returns-then-not-has
 returns-then-not-has c =
     let args = c.args in
     let pre = c.requires in
-    unraised (policy_of args.p.now).seniority _ _ _ pre.1.0 c.down-all.ensures c.has.ensures (ap not c.if-not-has.true)
+    unraised (policy_of args.p.now).seniority _ _ _ pre.0 c.down-all.ensures c.has.ensures (ap not c.if-not-has.true)
 
 pub returns : goal.returns
 returns c =
@@ -18,5 +18,5 @@ returns c =
     let down = c.down-all in
     let has = c.has in
     let if1 = c.if-not-has in
-    raised-too (policy_of args.p.now).seniority _ _ _ pre.1.0 down.ensures has.ensures (ap not if1.false) c.below.ensures
+    raised-too (policy_of args.p.now).seniority _ _ _ pre.0 down.ensures has.ensures (ap not if1.false) c.below.ensures
     c.with.ensures c.union.ensures

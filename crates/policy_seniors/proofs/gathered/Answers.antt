@@ -16,9 +16,8 @@ loop-left-init c =
 
 pub below_senior-requires : goal.below_senior-requires
 below_senior-requires c =
-    let pre = c.requires in
     let loop = c.loop-left in
-    (pre, (c.member-role.ensures.1, within_has _ _ c.member-role.result loop.invariant.1 c.member-role.ensures.0))
+    (c.member-role.ensures.1, within_has _ _ c.member-role.result loop.invariant.1 c.member-role.ensures.0)
 
 pub loop-left-smaller : goal.loop-left-smaller
 loop-left-smaller c = rw c.without-left.ensures (minus-less _ _ c.member-role.ensures.0)

@@ -6,12 +6,10 @@ use borrow.Author.Rules.{rules}
 use Rattle.policy_seniors.proofs.raise.Goals as goal
 
 pub loop-r-init : goal.loop-r-init
-loop-r-init c = (search rules, (search rules, rows_none _ _ _))
+loop-r-init c = rows_none _ _ _
 
 pub loop-r-preserved : goal.loop-r-preserved
-loop-r-preserved c =
-    let loop = c.loop-r in
-    (search rules, (search rules, c.lower.ensures ∙ rows_more _ _ _ _ loop.invariant.1.1))
+loop-r-preserved c = c.lower.ensures ∙ rows_more _ _ _ _ c.loop-r.invariant
 
 pub returns : goal.returns
 returns c =
@@ -23,5 +21,5 @@ returns c =
     let with2 = c.with-named in
     let loop = c.loop-r in
     c.set_juniors.ensures ∙
-    all-rows _ _ _ pre.1.0 (with.ensures ∙ ap (λ k. plus k args.b) below.ensures) (with2.ensures ∙ ap (λ k. plus k args.b) juniors.ensures)
-    {r = loop.r} (omega arith) loop.invariant.1.1
+    all-rows _ _ _ pre.0 (with.ensures ∙ ap (λ k. plus k args.b) below.ensures) (with2.ensures ∙ ap (λ k. plus k args.b) juniors.ensures)
+    {r = loop.r} (omega arith) loop.invariant

@@ -7,4 +7,4 @@ use Rattle.policy.specs.Reading.{policy_of}
 use Rattle.policy_seniors.proofs.raisings.Given as goal
 
 abbrev pub invariant-loop-r : goal.invariant-loop-r
-invariant-loop-r l = (l.r ≤ 64) × ((l.n ≤ 64 * l.r) × (l.n ≡ sum_below l.r (λ k. size ((policy_of l.p).seniority.juniors k))))
+invariant-loop-r l = (l.n ≤ 64 * l.r) × (l.n ≡ sum_below l.r (λ k. size ((policy_of l.p).seniority.juniors k)))
