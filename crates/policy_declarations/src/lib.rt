@@ -2,9 +2,8 @@
 // if the record is accepted. Requests 34 and 36 use those of kinds 4 and 5.
 #![tactic(auto)]
 
-ghost use Rattle.std.specs.Prelude.{◌≡◌, ◌<◌, length};
+ghost use Rattle.std.specs.Prelude.{◌≡◌, ◌<◌};
 ghost use Rattle.paper_lower.specs.Policy.{user_checks, user_next, role_checks, role_next, permission_checks, permission_next, assign_checks, assign_next, give_checks, give_next, task_checks, task_next, open_to_checks, open_to_next, carries_checks, carries_next};
-ghost use Rattle.policy.specs.Layout.{policy_words};
 ghost use Rattle.policy.specs.Promises.{Judged, Recorded};
 
 use policy::{PolicyBuffer, SetKind};
@@ -13,6 +12,7 @@ use sets::Set;
 
 // ---- "1 user a."
 
+#[tactic(auto, unfolding(paper_lower::specs::Policy::user_checks))]
 fn user_reply(p: &PolicyBuffer, a: u64) -> Reply
     requires { a < 1024 }
     ensures { Judged (λ t. user_checks t a) p.now result }
@@ -24,6 +24,7 @@ fn user_reply(p: &PolicyBuffer, a: u64) -> Reply
 }
 
 // Declares user a, unless a check refuses it.
+#[tactic(auto, unfolding(paper_lower::specs::Policy::user_next))]
 pub fn user(p: &mut PolicyBuffer, a: u64) -> Reply
     requires { a < 1024 }
     ensures { Recorded (λ t. user_checks t a) (λ t. user_next t a) p.old p.new result }
@@ -35,6 +36,7 @@ pub fn user(p: &mut PolicyBuffer, a: u64) -> Reply
 
 // ---- "2 role a."
 
+#[tactic(auto, unfolding(paper_lower::specs::Policy::role_checks))]
 fn role_reply(p: &PolicyBuffer, a: u64) -> Reply
     requires { a < 64 }
     ensures { Judged (λ t. role_checks t a) p.now result }
@@ -46,6 +48,7 @@ fn role_reply(p: &PolicyBuffer, a: u64) -> Reply
 }
 
 // Declares role a, unless a check refuses it.
+#[tactic(auto, unfolding(paper_lower::specs::Policy::role_next))]
 pub fn role(p: &mut PolicyBuffer, a: u64) -> Reply
     requires { a < 64 }
     ensures { Recorded (λ t. role_checks t a) (λ t. role_next t a) p.old p.new result }
@@ -58,6 +61,7 @@ pub fn role(p: &mut PolicyBuffer, a: u64) -> Reply
 
 // ---- "3 permission a = operation b on object c."
 
+#[tactic(auto, unfolding(paper_lower::specs::Policy::permission_checks))]
 fn permission_reply(p: &PolicyBuffer, a: u64, b: u64, c: u64) -> Reply
     requires { (a < 256) × ((b < 65536) × (c < 65536)) }
     ensures { Judged (λ t. permission_checks t a b c) p.now result }
@@ -69,6 +73,7 @@ fn permission_reply(p: &PolicyBuffer, a: u64, b: u64, c: u64) -> Reply
 }
 
 // Declares permission a, for operation b on object c, unless a check refuses it.
+#[tactic(auto, unfolding(paper_lower::specs::Policy::permission_next))]
 pub fn permission(p: &mut PolicyBuffer, a: u64, b: u64, c: u64) -> Reply
     requires { (a < 256) × ((b < 65536) × (c < 65536)) }
     ensures { Recorded (λ t. permission_checks t a b c) (λ t. permission_next t a b c) p.old p.new result }
@@ -80,6 +85,7 @@ pub fn permission(p: &mut PolicyBuffer, a: u64, b: u64, c: u64) -> Reply
 
 // ---- "4 user a has role b."
 
+#[tactic(auto, unfolding(paper_lower::specs::Policy::assign_checks))]
 fn assign_reply(p: &PolicyBuffer, a: u64, b: u64) -> Reply
     requires { (a < 1024) × (b < 64) }
     ensures { Judged (λ t. assign_checks t a b) p.now result }
@@ -99,6 +105,7 @@ fn assign_reply(p: &PolicyBuffer, a: u64, b: u64) -> Reply
 }
 
 // Assigns role b to user a, unless a check refuses it.
+#[tactic(auto, unfolding(paper_lower::specs::Policy::assign_next))]
 pub fn assign(p: &mut PolicyBuffer, a: u64, b: u64) -> Reply
     requires { (a < 1024) × (b < 64) }
     ensures { Recorded (λ t. assign_checks t a b) (λ t. assign_next t a b) p.old p.new result }
@@ -111,6 +118,7 @@ pub fn assign(p: &mut PolicyBuffer, a: u64, b: u64) -> Reply
 
 // ---- "5 role a has permission b."
 
+#[tactic(auto, unfolding(paper_lower::specs::Policy::give_checks))]
 fn give_reply(p: &PolicyBuffer, a: u64, b: u64) -> Reply
     requires { (a < 64) × (b < 256) }
     ensures { Judged (λ t. give_checks t a b) p.now result }
@@ -125,6 +133,7 @@ fn give_reply(p: &PolicyBuffer, a: u64, b: u64) -> Reply
 }
 
 // Gives role a permission b, unless a check refuses it.
+#[tactic(auto, unfolding(paper_lower::specs::Policy::give_next))]
 pub fn give(p: &mut PolicyBuffer, a: u64, b: u64) -> Reply
     requires { (a < 64) × (b < 256) }
     ensures { Recorded (λ t. give_checks t a b) (λ t. give_next t a b) p.old p.new result }
@@ -137,6 +146,7 @@ pub fn give(p: &mut PolicyBuffer, a: u64, b: u64) -> Reply
 
 // ---- "6 task a of template b."
 
+#[tactic(auto, unfolding(paper_lower::specs::Policy::task_checks))]
 fn task_reply(p: &PolicyBuffer, a: u64) -> Reply
     requires { a < 64 }
     ensures { Judged (λ t. task_checks t a) p.now result }
@@ -148,6 +158,7 @@ fn task_reply(p: &PolicyBuffer, a: u64) -> Reply
 }
 
 // Declares task a, of template b, unless a check refuses it.
+#[tactic(auto, unfolding(paper_lower::specs::Policy::task_next))]
 pub fn task(p: &mut PolicyBuffer, a: u64, b: u64) -> Reply
     requires { (a < 64) × (b < 16) }
     ensures { Recorded (λ t. task_checks t a) (λ t. task_next t a b) p.old p.new result }
@@ -159,6 +170,7 @@ pub fn task(p: &mut PolicyBuffer, a: u64, b: u64) -> Reply
 
 // ---- "7 task a open to role b."
 
+#[tactic(auto, unfolding(paper_lower::specs::Policy::open_to_checks))]
 fn open_to_reply(p: &PolicyBuffer, a: u64, b: u64) -> Reply
     requires { (a < 64) × (b < 64) }
     ensures { Judged (λ t. open_to_checks t a b) p.now result }
@@ -173,6 +185,7 @@ fn open_to_reply(p: &PolicyBuffer, a: u64, b: u64) -> Reply
 }
 
 // Opens task a to role b, unless a check refuses it.
+#[tactic(auto, unfolding(paper_lower::specs::Policy::open_to_next))]
 pub fn open_to(p: &mut PolicyBuffer, a: u64, b: u64) -> Reply
     requires { (a < 64) × (b < 64) }
     ensures { Recorded (λ t. open_to_checks t a b) (λ t. open_to_next t a b) p.old p.new result }
@@ -185,6 +198,7 @@ pub fn open_to(p: &mut PolicyBuffer, a: u64, b: u64) -> Reply
 
 // ---- "8 task a carries permission b."
 
+#[tactic(auto, unfolding(paper_lower::specs::Policy::carries_checks))]
 fn carries_reply(p: &PolicyBuffer, a: u64, b: u64) -> Reply
     requires { (a < 64) × (b < 256) }
     ensures { Judged (λ t. carries_checks t a b) p.now result }
@@ -199,6 +213,7 @@ fn carries_reply(p: &PolicyBuffer, a: u64, b: u64) -> Reply
 }
 
 // Makes task a carry permission b, unless a check refuses it.
+#[tactic(auto, unfolding(paper_lower::specs::Policy::carries_next))]
 pub fn carries(p: &mut PolicyBuffer, a: u64, b: u64) -> Reply
     requires { (a < 64) × (b < 256) }
     ensures { Recorded (λ t. carries_checks t a b) (λ t. carries_next t a b) p.old p.new result }
