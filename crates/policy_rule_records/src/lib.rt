@@ -1,11 +1,11 @@
 // Policy kinds 9 to 16, the rules of a policy. For each kind, the public function checks a record and adds its rule if the record is accepted.
 #![tactic(auto)]
 
-ghost use Rattle.std.specs.Prelude.{◌≡◌, cond, ◌<◌, leb, length};
+ghost use Rattle.std.specs.Prelude.{◌≡◌, cond, ◌<◌, leb};
 ghost use Rattle.paper_lower.specs.Checks.{FULL, GRANTED};
 ghost use Rattle.paper_lower.specs.Policy.{ill_made, static_checks, static_next, dynamic_checks, dynamic_next, task_set_checks, task_set_next, block_checks, block_next, ban_checks, ban_next, most_checks, most_next, bind_checks, bind_next, before_checks, before_next};
 ghost use Rattle.replies.specs.Replies.{number_of};
-ghost use Rattle.policy.specs.Layout.{policy_words};
+ghost use Rattle.policy.specs.Kinds.{set_index, pair_index};
 ghost use Rattle.policy.specs.Promises.{Judged, Recorded};
 ghost use Rattle.policy.specs.Reading.{limit_added, pair_added};
 ghost use Rattle.policy_rule_records.specs.Shared.{limit_checks, pair_checks};
@@ -27,6 +27,7 @@ fn full_at(most: usize, kept: usize) -> Reply
 // ---- Sets: static sets 0, dynamic sets 1, task sets 2.
 
 // Whether n is 0 or is not below the number of members.
+#[tactic(auto, unfolding(paper_lower::specs::Policy::ill_made))]
 fn ill_made(n: u64, m: Set) -> bool
     ensures { result ≡ ill_made n m.bits }
 {
@@ -35,6 +36,7 @@ fn ill_made(n: u64, m: Set) -> bool
 
 // The reply to a set. `known` are the roles or tasks that may be members; `ill` says
 // that the rule is ill made; `over` that a user already has more than n of the members.
+#[tactic(auto, using(crate::proofs::Room::limits_many), unfolding(crate::specs::Shared::limit_checks))]
 fn limit_reply(
     p: &PolicyBuffer,
     which: SetKind,
@@ -62,6 +64,7 @@ fn limit_reply(
 }
 
 // Checks a set and adds it if it is accepted.
+#[tactic(auto, using(crate::proofs::Room::limit_room))]
 fn limit(
     p: &mut PolicyBuffer,
     which: SetKind,
@@ -81,6 +84,7 @@ fn limit(
 // ---- "9 static set, n, roles m."
 
 // Adds the static set, unless a check refuses it.
+#[tactic(auto, unfolding(paper_lower::specs::Policy::static_checks, paper_lower::specs::Policy::static_next, crate::specs::Shared::limit_checks))]
 pub fn static_set(p: &mut PolicyBuffer, n: u64, m: Set) -> Reply
     ensures { Recorded (λ t. static_checks t n m.bits) (λ t. static_next t n m.bits) p.old p.new result }
 {
@@ -93,6 +97,7 @@ pub fn static_set(p: &mut PolicyBuffer, n: u64, m: Set) -> Reply
 // ---- "10 dynamic set, n, roles m."
 
 // Adds the dynamic set, unless a check refuses it.
+#[tactic(auto, unfolding(paper_lower::specs::Policy::dynamic_checks, paper_lower::specs::Policy::dynamic_next, crate::specs::Shared::limit_checks))]
 pub fn dynamic_set(p: &mut PolicyBuffer, n: u64, m: Set) -> Reply
     ensures { Recorded (λ t. dynamic_checks t n m.bits) (λ t. dynamic_next t n m.bits) p.old p.new result }
 {
@@ -104,6 +109,7 @@ pub fn dynamic_set(p: &mut PolicyBuffer, n: u64, m: Set) -> Reply
 // ---- "11 task set, n, tasks m."
 
 // Adds the task set, unless a check refuses it.
+#[tactic(auto, unfolding(paper_lower::specs::Policy::task_set_checks, paper_lower::specs::Policy::task_set_next, crate::specs::Shared::limit_checks))]
 pub fn task_set(p: &mut PolicyBuffer, n: u64, m: Set) -> Reply
     ensures { Recorded (λ t. task_set_checks t n m.bits) (λ t. task_set_next t n m.bits) p.old p.new result }
 {
@@ -115,6 +121,7 @@ pub fn task_set(p: &mut PolicyBuffer, n: u64, m: Set) -> Reply
 // ---- "12 block of partitioning a, tasks m."
 
 // The reply to a block.
+#[tactic(auto, using(crate::proofs::Room::blocks_many), unfolding(paper_lower::specs::Policy::block_checks))]
 fn block_reply(p: &PolicyBuffer, a: u64, m: Set) -> Reply
     ensures { Judged (λ t. block_checks t a m.bits) p.now result }
 {
@@ -132,6 +139,7 @@ fn block_reply(p: &PolicyBuffer, a: u64, m: Set) -> Reply
 }
 
 // Adds the block, unless a check refuses it.
+#[tactic(auto, using(crate::proofs::Room::block_room), unfolding(paper_lower::specs::Policy::block_next))]
 pub fn block(p: &mut PolicyBuffer, a: u64, m: Set) -> Reply
     requires { a < 16 }
     ensures { Recorded (λ t. block_checks t a m.bits) (λ t. block_next t a m.bits) p.old p.new result }
@@ -144,6 +152,7 @@ pub fn block(p: &mut PolicyBuffer, a: u64, m: Set) -> Reply
 // ---- "13 lone-worker ban on template a."
 
 // The reply to a lone-worker ban.
+#[tactic(auto, unfolding(paper_lower::specs::Policy::ban_checks))]
 fn ban_reply(p: &PolicyBuffer, a: u64) -> Reply
     requires { a < 16 }
     ensures { Judged (λ t. ban_checks t a) p.now result }
@@ -158,6 +167,7 @@ fn ban_reply(p: &PolicyBuffer, a: u64) -> Reply
 }
 
 // Bans template a for lone workers, unless a check refuses it.
+#[tactic(auto, unfolding(paper_lower::specs::Policy::ban_next))]
 pub fn ban(p: &mut PolicyBuffer, a: u64) -> Reply
     requires { a < 16 }
     ensures { Recorded (λ t. ban_checks t a) (λ t. ban_next t a) p.old p.new result }
@@ -170,6 +180,7 @@ pub fn ban(p: &mut PolicyBuffer, a: u64) -> Reply
 // ---- "14 task a at most n times."
 
 // The reply to a count limit.
+#[tactic(auto, unfolding(paper_lower::specs::Policy::most_checks))]
 fn most_reply(p: &PolicyBuffer, n: u64, a: u64) -> Reply
     requires { a < 64 }
     ensures { Judged (λ t. most_checks t n a) p.now result }
@@ -187,6 +198,7 @@ fn most_reply(p: &PolicyBuffer, n: u64, a: u64) -> Reply
 }
 
 // Gives task a the count limit n, unless a check refuses it.
+#[tactic(auto, using(crate::proofs::Room::most_some), unfolding(paper_lower::specs::Policy::most_next))]
 pub fn most(p: &mut PolicyBuffer, n: u64, a: u64) -> Reply
     requires { (a < 64) × (n < 256) }
     ensures { Recorded (λ t. most_checks t n a) (λ t. most_next t n a) p.old p.new result }
@@ -199,6 +211,7 @@ pub fn most(p: &mut PolicyBuffer, n: u64, a: u64) -> Reply
 // ---- Pairs of tasks: bindings 0, prerequisites 1.
 
 // The reply to a pair; `repeated` says that the policy already has it.
+#[tactic(auto, using(crate::proofs::Room::pairs_many), unfolding(crate::specs::Shared::pair_checks))]
 fn pair_reply(p: &PolicyBuffer, which: PairKind, repeated: bool, a: u64, b: u64) -> Reply
     requires { (a < 64) × (b < 64) }
     ensures { Judged (λ t. pair_checks t (pair_index which) repeated a b) p.now result }
@@ -216,6 +229,7 @@ fn pair_reply(p: &PolicyBuffer, which: PairKind, repeated: bool, a: u64, b: u64)
 }
 
 // Checks a pair and adds it if it is accepted.
+#[tactic(auto, using(crate::proofs::Room::pair_room))]
 fn pair(p: &mut PolicyBuffer, which: PairKind, repeated: bool, a: u64, b: u64) -> Reply
     requires { (a < 64) × (b < 64) }
     ensures { Recorded (λ t. pair_checks t (pair_index which) repeated a b) (λ t. pair_added t (pair_index which) a b) p.old p.new result }
@@ -228,6 +242,7 @@ fn pair(p: &mut PolicyBuffer, which: PairKind, repeated: bool, a: u64, b: u64) -
 // ---- "15 task a bound to task b."
 
 // Adds the binding, unless a check refuses it.
+#[tactic(auto, unfolding(paper_lower::specs::Policy::bind_checks, paper_lower::specs::Policy::bind_next, crate::specs::Shared::pair_checks))]
 pub fn bind(p: &mut PolicyBuffer, a: u64, b: u64) -> Reply
     requires { (a < 64) × (b < 64) }
     ensures { Recorded (λ t. bind_checks t a b) (λ t. bind_next t a b) p.old p.new result }
@@ -240,6 +255,7 @@ pub fn bind(p: &mut PolicyBuffer, a: u64, b: u64) -> Reply
 // ---- "16 task a before task b."
 
 // Adds the prerequisite, unless a check refuses it.
+#[tactic(auto, unfolding(paper_lower::specs::Policy::before_checks, paper_lower::specs::Policy::before_next, crate::specs::Shared::pair_checks))]
 pub fn before(p: &mut PolicyBuffer, a: u64, b: u64) -> Reply
     requires { (a < 64) × (b < 64) }
     ensures { Recorded (λ t. before_checks t a b) (λ t. before_next t a b) p.old p.new result }
