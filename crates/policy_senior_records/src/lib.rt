@@ -1,10 +1,9 @@
 // Policy kind 17: puts a role above another (02, Ask 7).
 #![tactic(auto)]
 
-ghost use Rattle.std.specs.Prelude.{◌≡◌, ◌<◌, length};
+ghost use Rattle.std.specs.Prelude.{◌≡◌, ◌<◌};
 ghost use Rattle.paper_lower.specs.Lists.{some_number_below};
 ghost use Rattle.paper_lower.specs.Policy.{raise_checks, raise_next};
-ghost use Rattle.policy.specs.Layout.{policy_words};
 ghost use Rattle.policy.specs.Promises.{Judged, Recorded};
 ghost use Rattle.policy.specs.Reading.{policy_of};
 ghost use Rattle.policy_senior_records.specs.Rows.{would_break};
@@ -40,6 +39,7 @@ fn would_break(p: &PolicyBuffer, a: u64, b: u64) -> bool
 // ---- "kind 17: role a stands above role b"
 
 // The reply to the record.
+#[tactic(auto, unfolding(paper_lower::specs::Policy::raise_checks))]
 fn raise_reply(p: &PolicyBuffer, a: u64, b: u64) -> Reply
     requires { (a < 64) × (b < 64) }
     ensures { Judged (λ t. raise_checks t a b) p.now result }
