@@ -1,13 +1,14 @@
 -- How stores to the sessions buffer change its tables, for each setter of the crate; and the tables of a buffer of zeros.
 use Prim.Native.Nat.{ℕ, ◌+◌, ◌<◌, ◌≤◌, ◌/◌, ◌%◌}
 use mathlib.Core.Bool.{Bool, true, false, cond}
-use mathlib.Core.List.{List, ◌++◌, append-nil}
+use mathlib.Core.List.{List}
 use mathlib.Core.Path.{◌≡◌, refl, sym, ap, ap₂, ◌∙◌}
 use native.Mathlib.Nat.{zero-add}
 use native.Mathlib.Omega.{arith}
 use borrow.Author.Tests.{eqb-true}
 use lib.Dec.{eqb}
-use lib.ListN.{length, set, replicate, drop, length-set, drop_of_length-le}
+use lib.ListN.{length, set, replicate, length-set}
+use Rattle.std.proofs.lemmas.List.{length-replicate}
 use Rattle.paper_lower.specs.Sets.{Set, plus, minus, union}
 use Rattle.paper_lower.specs.Lists.{Maybe, upd}
 use Rattle.paper_lower.specs.Tables.{Sessions, no_sessions, with_active, with_had}
@@ -168,11 +169,10 @@ everywhere m k = m
 abbrev of_all : (ℕ → Maybe ℕ) → ℕ → ℕ → Maybe ℕ
 of_all f u = f
 
--- ---- A buffer of zeros, after the loop of `clear`.
-pub filled : (l l₀ : List ℕ) (n : ℕ) → length l₀ ≤ n → length l ≡ sessions_words → l ≡ replicate n 0 ++ drop n l₀ → Cleared l
+-- ---- A buffer of zeros.
+pub zeros-cleared : (l : List ℕ) (n : ℕ) → n ≡ sessions_words → l ≡ replicate n 0 → Cleared l
 unfolding sessions_of no_sessions
-filled l l₀ n h room e =
-    let z : l ≡ replicate n 0 = e ∙ rw (drop_of_length-le l₀ h) (append-nil (replicate n 0)) in
+zeros-cleared l n room z =
     let active = column-zeros same 128 128 n in
     let had = column-zeros same 256 128 n in
     record {
@@ -183,6 +183,6 @@ filled l l₀ n h room e =
         had = (ap₂ (paired union) had active ∙ ap everywhere (absorbs 0 0 (part-refl 0))) x;
         bound_to = (ap₂ (paired blocks_in) (column-zeros same 384 1024 n) (column-zeros same 1408 1024 n) ∙ ap of_all no_words) x;
       });
-      words = room;
+      words = rw z (length-replicate n 0 ∙ room);
       zeros = λ i. rw z (zeros-at n i);
     }

@@ -2,13 +2,13 @@
 // For each user: the blocks of walls that the user is bound to.
 #![tactic(auto)]
 
-ghost use Rattle.std.specs.Prelude.{◌≡◌, cond, ◌+◌, ◌<◌, ◌≤◌, length};
+ghost use Rattle.std.specs.Prelude.{◌≡◌, cond, ◌+◌, ◌<◌, ◌≤◌};
 ghost use Rattle.paper_lower.specs.Sets.{empty};
 ghost use Rattle.paper_lower.specs.Lists.{some_number_below};
 ghost use Rattle.paper_lower.specs.Roles.{subject_of, active_of, counted_of};
 ghost use Rattle.paper_lower.specs.Sessions.{create_next, destroy_next};
 ghost use Rattle.blocks.specs.Reading.{blocks_of};
-ghost use Rattle.sessions.specs.Reading.{sessions_words, sessions_of, roles_anew, bound_anew, Cleared};
+ghost use Rattle.sessions.specs.Reading.{sessions_of, roles_anew, bound_anew, Cleared};
 
 use blocks::Blocks;
 use sets::Set;
@@ -87,14 +87,6 @@ fn quarter_of(s: &SessionsBuffer, u: u16, a: usize) -> bool
     quarter == 1024 + u
 }
 
-// n, plus 1 if there was a hit.
-fn one_more(hit: bool, n: u16) -> u16
-    requires { n < 4096 }
-    ensures { result ≡ cond hit (n + 1) n }
-{
-    if hit { n + 1 } else { n }
-}
-
 // Makes subject a live, for user u with these roles active.
 pub fn create(s: &mut SessionsBuffer, a: usize, u: u64, roles: Set)
     requires { (a < 128) × (u < 1024) }
@@ -151,8 +143,7 @@ fn has_among(s: &SessionsBuffer, u: u64, from: usize) -> bool
 {
     let mut hits: u16 = 0;
     for a in 0..64 {
-        let hit = quarter_of(s, u as u16, from + a);
-        hits = one_more(hit, hits);
+        hits += u16::from(quarter_of(s, u as u16, from + a));
     }
     0 < hits
 }
@@ -185,8 +176,7 @@ pub fn active_of(s: &SessionsBuffer, u: u64) -> Set
 {
     let mut all = Set::EMPTY;
     for a in 0..SUBJECTS {
-        let roles = active_in(s, u, a);
-        all = all.union(roles);
+        all = all.union(active_in(s, u, a));
     }
     all
 }
@@ -207,8 +197,7 @@ pub fn counted_of(s: &SessionsBuffer, u: u64) -> Set
 {
     let mut all = Set::EMPTY;
     for a in 0..SUBJECTS {
-        let roles = had_in(s, u, a);
-        all = all.union(roles);
+        all = all.union(had_in(s, u, a));
     }
     all
 }
@@ -217,7 +206,5 @@ pub fn counted_of(s: &SessionsBuffer, u: u64) -> Set
 pub fn clear(s: &mut SessionsBuffer)
     ensures { Cleared s.new }
 {
-    for i in 0..SESSIONS_WORDS {
-        s[i] = 0;
-    }
+    s.fill(0);
 }

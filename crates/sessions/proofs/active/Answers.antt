@@ -4,4 +4,4 @@ use Rattle.sessions.proofs.SessionLaws.{active-at}
 use Rattle.sessions.proofs.active.Goals as goal
 
 pub returns : goal.returns
-returns c = sym (active-at c.args.s.now c.args.a c.requires.1)
+returns c = sym (active-at c.args.s.now c.args.a c.requires)

@@ -9,13 +9,13 @@ use Rattle.sessions.proofs.active_of.Goals as goal
 
 pub loop-a-init : goal.loop-a-init
 unfolding union_below
-loop-a-init c = (search rules, refl)
+loop-a-init c = refl
 
 pub loop-a-preserved : goal.loop-a-preserved
 loop-a-preserved c =
     let loop = c.loop-a in
-    (search rules, c.union-all.ensures ∙ ap₂ union loop.invariant.1 c.active_in-roles.ensures ∙ sym (union_more _ _))
+    c.union-all.ensures ∙ ap₂ union loop.invariant c.active_in.ensures ∙ sym (union_more _ _)
 
 pub returns : goal.returns
 unfolding active_of of_subjects
-returns c = let e : 128 ≡ c.loop-a.a = omega arith in rw e c.loop-a.invariant.1
+returns c = let e : 128 ≡ c.loop-a.a = omega arith in rw e c.loop-a.invariant

@@ -6,4 +6,4 @@ use Rattle.sessions.proofs.bound_to.Goals as goal
 pub returns : goal.returns
 returns c =
     let args = c.args in
-    sym (bound_at args.s.now args.u c.requires.1)
+    sym (bound_at args.s.now args.u c.requires)

@@ -8,4 +8,4 @@ use Rattle.sessions.specs.Reading.{sessions_of}
 use Rattle.sessions.proofs.counted_of.Given as goal
 
 abbrev pub invariant-loop-a : goal.invariant-loop-a
-invariant-loop-a l = (l.a ≤ 128) × (l.all.bits ≡ union_below l.a (λ k. cond (subject_of (sessions_of l.s) l.u k) ((sessions_of l.s).had k) empty))
+invariant-loop-a l = l.all.bits ≡ union_below l.a (λ k. cond (subject_of (sessions_of l.s) l.u k) ((sessions_of l.s).had k) empty)

@@ -7,4 +7,4 @@ pub returns : goal.returns
 returns c =
     let args = c.args in
     let pre = c.requires in
-    c.union.ensures ∙ rw (c.active.ensures, active-at args.s.now args.a pre.1) (sym (had-at args.s.now args.a pre.1))
+    c.union.ensures ∙ rw (c.active.ensures, active-at args.s.now args.a pre) (sym (had-at args.s.now args.a pre))

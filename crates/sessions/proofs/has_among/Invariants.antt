@@ -9,4 +9,4 @@ use Rattle.sessions.specs.Reading.{sessions_of}
 use Rattle.sessions.proofs.has_among.Given as goal
 
 abbrev pub invariant-loop-a : goal.invariant-loop-a
-invariant-loop-a l = (l.a ≤ 64) × ((l.hits ≤ l.a) × (ltb 0 l.hits ≡ some_number_below l.a (λ k. subject_of (sessions_of l.s) l.u (l.from + k))))
+invariant-loop-a l = (l.hits ≤ l.a) × (ltb 0 l.hits ≡ some_number_below l.a (λ k. subject_of (sessions_of l.s) l.u (l.from + k)))

@@ -4,4 +4,4 @@ use Rattle.sessions.proofs.SessionLaws.{live_at}
 use Rattle.sessions.proofs.live.Goals as goal
 
 pub returns : goal.returns
-returns c = sym (live_at c.args.s.now c.args.a c.requires.1)
+returns c = sym (live_at c.args.s.now c.args.a c.requires)

@@ -3,4 +3,4 @@ use Rattle.sessions.proofs.SessionLaws.{of-user-at}
 use Rattle.sessions.proofs.quarter_of.Goals as goal
 
 pub returns : goal.returns
-returns c = of-user-at c.args.s.now c.args.a c.requires.1.1 c.args.u c.requires.1.0
+returns c = of-user-at c.args.s.now c.args.a c.requires.1 c.args.u c.requires.0

@@ -5,4 +5,4 @@ use Rattle.sessions.proofs.SessionLaws.{user-at}
 use Rattle.sessions.proofs.user.Goals as goal
 
 pub returns : goal.returns
-returns c = (sym (user-at c.args.s.now c.args.a c.requires.1), omega arith)
+returns c = (sym (user-at c.args.s.now c.args.a c.requires), omega arith)
