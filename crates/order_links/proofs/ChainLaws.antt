@@ -109,10 +109,9 @@ done-step i w es h e = rw (of-instance i w h e, is-done w)
 
 -- ---- The check of one chain: one link, a link that is astray, and the end.
 module _ (l : List ℕ) (i m : ℕ) where
-  pub leads-turn : (h n : ℕ) {all : Bool} → 0 < n → astray l i m h ≡ false → leads l i m h n ≡ all → leads l i m (link_of (word_at l h)) (n - 1) ≡ all
+  pub leads-turn : (h n k : ℕ) {all : Bool} → n ≡ suc k → astray l i m h ≡ false → leads l i m h n ≡ all → leads l i m (link_of (word_at l h)) k ≡ all
   unfolding leads
-  leads-turn h zero p e q = let z : ⊥ = omega arith in absurd z
-  leads-turn h (suc n) p e q = let s : suc n - 1 ≡ n = omega arith in rw s (rw e at q)
+  leads-turn h n k p e q = rw (p, e) at q
 
   leads-end : (h n : ℕ) → n ≡ 0 → leads l i m h n ≡ eqb h 0
   unfolding leads

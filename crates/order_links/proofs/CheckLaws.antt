@@ -91,14 +91,14 @@ here m i rest h = go (eqb (rest % 2) 1) refl
     go true e = sym (bit-has m i (own ∙ eqb-true _ _ e))
     go false e = let d = eqb-false (rest % 2) 1 e in sym (bit-hasnt m i (own ∙ omega arith))
 
-pub below : (m i rest : ℕ) → m < 18446744073709551616 → Left m i rest → 0 < rest → i < 64
-below m i rest small h p = go (ltb i 64) refl
+-- From bit 64 on there is none.
+pub all_met : (m i rest : ℕ) → m < 18446744073709551616 → Left m i rest → 64 ≤ i → rest ≡ 0
+all_met m i rest small h far = go (eqb rest 0) refl
   where
-    go : (b : Bool) → ltb i 64 ≡ b → i < 64
-    go true e = ltb-true i 64 e
+    go : (b : Bool) → eqb rest 0 ≡ b → rest ≡ 0
+    go true e = eqb-true rest 0 e
     go false e =
-        let far = ltb-false i 64 e in
-        let one = some-bit rest (λ z. omega arith) in
+        let one = some-bit rest (eqb-false rest 0 e) in
         let off = bit-above 64 (one.0 + i) m small (omega arith) in
         let on = h one.0 ∙ one.1 in
         let z : ⊥ = omega arith in

@@ -1,6 +1,6 @@
 -- The contracts of the functions on links for any content: what they store keeps
 -- the length, and for sound links it is what the other laws of this crate ask for.
-use Prim.Native.Nat.{ℕ, ◌+◌, ◌*◌, ◌-◌, ◌%◌, ◌≤◌, ◌<◌}
+use Prim.Native.Nat.{ℕ, suc, ◌+◌, ◌*◌, ◌-◌, ◌%◌, ◌≤◌, ◌<◌}
 use mathlib.Core.Path.{◌≡◌, refl, sym, ap, subst, ◌∙◌}
 use mathlib.Core.Bool.{true}
 use mathlib.Core.List.{List}
@@ -135,8 +135,8 @@ pub record Dropping (i : ℕ) (l₀ l : List ℕ) (n : ℕ) : Type 0 where
 pub drop-begins : (i n : ℕ) (l : List ℕ) → n ≡ count_of (chain_word l i) → Woven l → Dropping i l l n
 drop-begins i n l e w = record { still = still-refl i l w; count = e; aside = refl }
 
-pub drops-on : (i : ℕ) (l₀ l l' : List ℕ) (n p : ℕ) → i < 64 → 0 < n → Dropping i l₀ l n → Drops i l l' p → Dropping i l₀ l' (n - 1)
-drops-on i l₀ l l' n p hi some s d =
+pub drops-on : (i : ℕ) (l₀ l l' : List ℕ) (n k p : ℕ) → i < 64 → n ≡ suc k → Dropping i l₀ l n → Drops i l l' p → Dropping i l₀ l' k
+drops-on i l₀ l l' n k p hi some s d =
     let e = s.count in
     let out = d.1 s.still.woven (omega arith) in
     let less = count-step i 64 p p l l' out in

@@ -197,7 +197,7 @@ module _ (i key : ℕ) (l₀ l : List ℕ) (h n : ℕ) (hit : Bool) (hi : i < 64
   two-places a b less le = apart l₀ (Fine l₀ i (mark_of l₀)) (λ x f. f.0) head c a b less (omega arith) (wov.chain i (omega arith))
 
   -- ---- One turn.
-  module _ (k w v : ℕ) (some_left : 0 < n) (first : 0 < k) (same : 0 < h → h ≤ 2048 → k ≡ h) (ew : w ≡ word_at l k) (ev : v ≡ turned_word key w) where
+  module _ (k w v less : ℕ) (some_left : n ≡ suc less) (first : 0 < k) (same : 0 < h → h ≤ 2048 → k ≡ h) (ew : w ≡ word_at l k) (ev : v ≡ turned_word key w) where
     its-fine : Fine l₀ i (mark_of l₀) (at (c - n))
     its-fine = let b = s.within in fine (c - n) (omega arith)
 
@@ -226,8 +226,8 @@ module _ (i key : ℕ) (l₀ l : List ℕ) (h n : ℕ) (hit : Bool) (hi : i < 64
         (let r = s.room in let e = is-here in let b : at (c - n) ≤ mark_of l₀ = its-fine.1.0 in let m = wov.mark in omega arith)
         ∙ ev ∙ ap (turned_word key) its-word
 
-    turned-behind : (a : ℕ) → a < c - (n - 1) → word_at next (at a) ≡ turned_word key (word_at l₀ (at a))
-    turned-behind a less = go (eqb a (c - n)) refl
+    turned-behind : (a : ℕ) → a < c - less → word_at next (at a) ≡ turned_word key (word_at l₀ (at a))
+    turned-behind a under = go (eqb a (c - n)) refl
       where
         go : (b : Bool) → eqb a (c - n) ≡ b → word_at next (at a) ≡ turned_word key (word_at l₀ (at a))
         go true e = let q = eqb-true a (c - n) e in rw q (ap (word_at next) (sym is-here) ∙ this-word)
@@ -236,27 +236,27 @@ module _ (i key : ℕ) (l₀ l : List ℕ) (h n : ℕ) (hit : Bool) (hi : i < 64
             let b = s.within in
             other_word (at a) (λ d. two-places a (c - n) (omega arith) (omega arith) (d ∙ is-here)) ∙ s.behind a (omega arith)
 
-    one_hit : (eqb (payload_of w % 16384) key || hit) || fitting key (stack_of l₀ (link_of w) (n - 1)) ≡ any_fits key l₀ i
+    one_hit : (eqb (payload_of w % 16384) key || hit) || fitting key (stack_of l₀ (link_of w) less) ≡ any_fits key l₀ i
     unfolding some
     one_hit =
-        turn-round (eqb (payload_of w % 16384) key) hit (fitting key (stack_of l₀ (link_of w) (n - 1)))
-        ∙ ap (λ (x : ℕ). hit || (eqb (payload_of x % 16384) key || fitting key (stack_of l₀ (link_of x) (n - 1)))) (its-word ∙ ap (word_at l₀) (sym s.here))
-        ∙ sym (ap (λ (xs : List ℕ). hit || fitting key xs) (stack-turn l₀ h n (n - 1) (omega arith))) ∙ s.hits
+        turn-round (eqb (payload_of w % 16384) key) hit (fitting key (stack_of l₀ (link_of w) less))
+        ∙ ap (λ (x : ℕ). hit || (eqb (payload_of x % 16384) key || fitting key (stack_of l₀ (link_of x) less))) (its-word ∙ ap (word_at l₀) (sym s.here))
+        ∙ sym (ap (λ (xs : List ℕ). hit || fitting key xs) (stack-turn l₀ h n less (omega arith))) ∙ s.hits
       where
         turn-round : (a b d : Bool) → (a || b) || d ≡ b || (a || d)
         turn-round true true d = refl
         turn-round true false d = refl
         turn-round false b d = refl
 
-    pub turns-on : Turning i key l₀ next (link_of w) (n - 1) (eqb (payload_of w % 16384) key || hit)
+    pub turns-on : Turning i key l₀ next (link_of w) less (eqb (payload_of w % 16384) key || hit)
     turns-on =
         let b = s.within in
         record {
           room = length-set l (195 + k) v ∙ s.room;
           within = omega arith;
-          here = let e : c - (n - 1) ≡ suc (c - n) = omega arith in ap link_of its-word ∙ sym (ap at e ∙ step-next l₀ head (c - n) (at (c - n)) refl);
-          cells = λ m less. get_or-set_other l (195 + k) m v 0 (λ q. omega arith) ∙ s.cells m less;
-          ahead = λ a le less. other_word (at a) (λ d. two-places (c - n) a (omega arith) less (sym (d ∙ is-here))) ∙ s.ahead a (omega arith) less;
+          here = let e : c - less ≡ suc (c - n) = omega arith in ap link_of its-word ∙ sym (ap at e ∙ step-next l₀ head (c - n) (at (c - n)) refl);
+          cells = λ m under. get_or-set_other l (195 + k) m v 0 (λ q. omega arith) ∙ s.cells m under;
+          ahead = λ a le under. other_word (at a) (λ d. two-places (c - n) a (omega arith) under (sym (d ∙ is-here))) ∙ s.ahead a (omega arith) under;
           behind = turned-behind;
           others = λ e p d. other_word e (λ q. d (ap (λ (x : ℕ). owner_of (word_at l₀ x)) (q ∙ is-here) ∙ its-fine.1.1)) ∙ s.others e p d;
           hits = one_hit;

@@ -159,13 +159,13 @@ pub fn template(o: &OrdersBuffer, i: u64) -> u64
     o[TEMPLATES + i as usize] % 16
 }
 
-// The done tasks of instance i, as a set; none if it is closed.
-pub fn done(o: &OrdersBuffer, i: u64) -> u64
+// The done tasks of instance i; none if it is closed.
+pub fn done(o: &OrdersBuffer, i: u64) -> Set
     requires { i < 64 }
-    ensures { result ≡ done_word o.now i }
+    ensures { result.bits ≡ done_word o.now i }
 {
     let open = is_open(o, i);
-    pick(open, o[DONE + i as usize], 0)
+    set_of(pick(open, o[DONE + i as usize], 0))
 }
 
 // The mark: the number of entries that were ever in use. It is capped at the most there can be.
@@ -239,14 +239,14 @@ fn is_astray(o: &OrdersBuffer, i: u64, m: u64, h: u64) -> bool
 }
 
 // Whether the kept figures of chain i are right; d is the set of its done tasks and n its number of entries.
-fn figures_fit(o: &OrdersBuffer, i: u64, n: u64, d: u64) -> bool
+fn figures_fit(o: &OrdersBuffer, i: u64, n: u64, d: Set) -> bool
     requires { (i ≤ 65) × ((is_read_as o.now i ≡ true) × (n ≡ count_of (chain_word o.now i))) }
-    ensures { result ≡ figures o.now i d }
+    ensures { result ≡ figures o.now i d.bits }
 {
     if FREE <= i {
         return (i == FREE) | (n == 0);
     }
-    o[DONE + i as usize] == d
+    o[DONE + i as usize] == d.bits
 }
 
 // Whether chain i is sound: its links end after as many entries as its word x says, all of them its own, and its figures are right.
@@ -254,19 +254,18 @@ fn chain_sound(o: &OrdersBuffer, m: u64, i: u64, x: u64) -> bool
     requires { (m ≤ 2048) × ((i ≤ 65) × ((is_read_as o.now i ≡ true) × (x ≡ chain_word o.now i))) }
     ensures { result ≡ chain_sound o.now m i }
 {
+    let n = x / NUMBERS % NUMBERS;
     let mut h = x % NUMBERS;
-    let mut n = x / NUMBERS % NUMBERS;
     let mut d = Set::EMPTY;
-    while 0 < n {
+    for _passed in 0..n {
         if is_astray(o, i, m, h) {
             return false;
         }
         let w = o[BEFORE + h as usize];
         d = d.with_if(w / PAYLOAD % 2 == 1, w / WORD_TASK % TASKS);
         h = w / LINK % NUMBERS;
-        n -= 1;
     }
-    let fit = figures_fit(o, i, x / NUMBERS % NUMBERS, d.bits);
+    let fit = figures_fit(o, i, n, d);
     (h == 0) & fit
 }
 
@@ -294,15 +293,16 @@ fn orders_sound(o: &OrdersBuffer, m: u64, s: u64, opened: u64) -> bool
     ensures { result ≡ (eqb (s + sum_to (λ i. count_of (chain_word o.now i)) 64) m && not (some_number_below 64 (λ i. not (chain_sound o.now m i)))) }
 {
     let mut rest = opened;
-    let mut i = 0;
     let mut n = s;
-    while 0 < rest {
+    for i in 0..64 {
+        if rest == 0 {
+            break;
+        }
         n = counted(o, m, i, n, rest % 2 == 1);
         if m < n {
             return false;
         }
         rest = rest / 2;
-        i += 1;
     }
     n == m
 }
@@ -483,17 +483,16 @@ fn turn(o: &mut OrdersBuffer, i: u64, key: u64) -> bool
     ensures { Turns i key o.old o.new result }
 {
     let x = chain(o, i);
+    let n = x / NUMBERS % NUMBERS;
     let mut h = x % NUMBERS;
-    let mut n = x / NUMBERS % NUMBERS;
     let mut hit = false;
-    while 0 < n {
+    for _passed in 0..n {
         let k = in_reach(h);
         let w = word(o, k);
         let v = turned_word(w, key);
         o[BEFORE + k as usize] = v;
         hit = (w / PAYLOAD % PAYLOADS % USER == key) | hit;
         h = w / LINK % NUMBERS;
-        n -= 1;
     }
     hit
 }
@@ -529,10 +528,9 @@ fn drop_all(o: &mut OrdersBuffer, i: u64)
     requires { i < 64 }
     ensures { Empties i o.old o.new }
 {
-    let mut n = count(o, i);
-    while 0 < n {
+    let n = count(o, i);
+    for _dropped in 0..n {
         drop_one(o, i);
-        n -= 1;
     }
 }
 

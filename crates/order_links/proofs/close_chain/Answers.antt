@@ -21,5 +21,5 @@ returns c =
       λ s.
           let w = whole l s in
           subst (λ (x : ℕ). Leaves i none [] l (set l₁ 1 x)) (sym (c.without-fewer.ensures ∙ ap (λ (m : ℕ). minus m i) c.set_of.ensures))
-          (closed l l₁ i pre.0 w pre.1 (drop_all.ensures.1 w.woven)),
+          (closed l l₁ i c.told-o w pre (drop_all.ensures.1 w.woven)),
     )

@@ -11,14 +11,14 @@ pub returns-then-not-reads : goal.returns-then-not-reads
 returns-then-not-reads c =
     let args = c.args in
     let pre = c.requires in
-    not-read args.o.now args.m args.i args.n pre.1.1.1.0 pre.1.1.0 (sym pre.1.1.1.1 ∙ c.if-not-reads.true)
+    not-read args.o.now args.m args.i args.n pre.1.1.0 pre.1.0 (sym pre.1.1.1 ∙ c.if-not-reads.true)
 
 pub returns-then-m-all : goal.returns-then-m-all
 returns-then-m-all c =
     let args = c.args in
     let pre = c.requires in
     too_many args.o.now args.m args.i args.n _
-    (let e = chain-read args.o.now args.i (sym pre.1.1.1.1 ∙ c.if-not-reads.false) in omega arith) c.if-m-all.true
+    (let e = chain-read args.o.now args.i (sym pre.1.1.1 ∙ c.if-not-reads.false) in omega arith) c.if-m-all.true
 
 pub chain_sound-sound-requires : goal.chain_sound-sound-requires
 chain_sound-sound-requires c =
@@ -27,13 +27,10 @@ chain_sound-sound-requires c =
     let if1 = c.if-not-reads in (
       pre.0,
       (
-        pre.1.0,
+        pre.1.1.0,
         (
-          pre.1.1.1.0,
-          (
-            (sym pre.1.1.1.1 ∙ if1.false),
-            sym (chain-read args.o.now args.i (sym pre.1.1.1.1 ∙ if1.false)),
-          ),
+          sym pre.1.1.1 ∙ if1.false,
+          sym (chain-read args.o.now args.i (sym pre.1.1.1 ∙ if1.false)),
         ),
       ),
     )
@@ -44,5 +41,5 @@ returns c =
     let pre = c.requires in
     let if1 = c.if-not-reads in
     subst (λ (r : ℕ). Counted args.o.now args.m args.i args.n r) (sym c.pick.ensures) (walked args.o.now args.m args.i args.n _
-    c.chain_sound-sound.result pre.1.0 (omega arith)
-    (let e = chain-read args.o.now args.i (sym pre.1.1.1.1 ∙ if1.false) in omega arith) c.chain_sound-sound.ensures)
+    c.chain_sound-sound.result pre.0 (omega arith)
+    (let e = chain-read args.o.now args.i (sym pre.1.1.1 ∙ if1.false) in omega arith) c.chain_sound-sound.ensures)

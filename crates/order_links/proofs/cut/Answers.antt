@@ -9,15 +9,10 @@ pub returns-then-kept-eq0 : goal.returns-then-kept-eq0
 returns-then-kept-eq0 c =
     let args = c.args in
     let pre = c.requires in
-    any-newest args.o.now pre.0 args.i (omega arith) args.kept args.q args.k c.if-kept-eq0.true
-
-pub bounds-o-i-2 : goal.bounds-o-i-2
-bounds-o-i-2 c =
-    let args = c.args in
-    rw (length-set args.o.now (195 + args.q) _) (omega arith)
+    any-newest args.o.now c.told-o args.i (omega arith) args.kept args.q args.k c.if-kept-eq0.true
 
 pub returns : goal.returns
 returns c =
     let args = c.args in
     let pre = c.requires in
-    any-later args.o.now pre.0 args.i (omega arith) args.kept args.q args.k c.if-kept-eq0.false
+    any-later args.o.now c.told-o args.i (omega arith) args.kept args.q args.k c.if-kept-eq0.false

@@ -9,5 +9,5 @@ use Rattle.order_links.proofs.done.Goals as goal
 pub returns : goal.returns
 returns c =
     let args = c.args in
-    c.pick.ensures ∙ ap (λ (b : Bool). cond b (get_or args.o.now (132 + args.i) 0) 0) c.is_open-open.ensures ∙
+    c.set_of.ensures ∙ c.pick.ensures ∙ ap (λ (b : Bool). cond b (get_or args.o.now (132 + args.i) 0) 0) c.is_open-open.ensures ∙
     done-is args.o.now args.i

@@ -1,39 +1,27 @@
+use Prim.Native.Nat.{◌+◌, ◌-◌}
+use mathlib.Core.Path.{◌≡◌, sym, ◌∙◌}
 use native.Mathlib.Omega.{arith}
-use mathlib.Core.Path.{sym, ◌∙◌}
 use Rattle.order_links.proofs.CarryLaws.{emptied}
 use Rattle.order_links.proofs.TotalLaws.{drop-begins, drops-on}
 use Rattle.order_links.proofs.drop_all.Goals as goal
 
-pub count-n-requires : goal.count-n-requires
-count-n-requires c = (c.requires.0, omega arith)
+pub loop-dropped-init : goal.loop-dropped-init
+loop-dropped-init c =
+    let all : c.count-n.result - 0 ≡ c.count-n.result = omega arith in
+    (c.told-o, rw all (drop-begins c.args.i c.count-n.result c.args.o.now c.count-n.ensures))
 
-pub loop-n-init : goal.loop-n-init
-loop-n-init c =
-    let pre = c.requires in
-    let args = c.args in
-    (pre.0, drop-begins args.i c.count-n.result args.o.now c.count-n.ensures)
-
-pub drop_one-requires : goal.drop_one-requires
-drop_one-requires c = (c.loop-n.invariant.0, c.requires.1)
-
-pub loop-n-preserved : goal.loop-n-preserved
-loop-n-preserved c =
-    let args = c.args in
-    let pre = c.requires in
-    let drop-one = c.drop_one in
-    let v = c.loop-n in (
-      drop-one.ensures.0 ∙ v.invariant.0,
-      λ w. drops-on args.i args.o.now v.o _ v.n drop-one.result pre.1 (omega arith) (v.invariant.1 w) drop-one.ensures,
+pub loop-dropped-preserved : goal.loop-dropped-preserved
+loop-dropped-preserved c =
+    let v = c.loop-dropped in (
+      c.drop_one.ensures.0 ∙ v.invariant.0,
+      λ w.
+          drops-on c.args.i c.args.o.now v.o _ (c.count-n.result - v._dropped) (c.count-n.result - (v._dropped + 1)) c.drop_one.result c.requires (omega arith)
+          (v.invariant.1 w) c.drop_one.ensures,
     )
-
-pub shape_of-o : goal.shape_of-o
-shape_of-o c = c.loop-n.invariant.0 ∙ sym c.requires.0
 
 pub returns : goal.returns
 returns c =
-    let pre = c.requires in
-    let args = c.args in
-    let v = c.loop-n in (
-      v.invariant.0 ∙ sym pre.0,
-      λ w. let s = v.invariant.1 w in let e = s.count in emptied args.i args.o.now v.o s.still s.aside (omega arith),
+    let v = c.loop-dropped in (
+      v.invariant.0 ∙ sym c.told-o,
+      λ w. let s = v.invariant.1 w in let e = s.count in emptied c.args.i c.args.o.now v.o s.still s.aside (omega arith),
     )

@@ -8,4 +8,4 @@ returns c =
     let pre = c.requires in
     let pop = c.pop-k in
     let payload = c.payload-p in
-    any-dropped args.o.now _ _ args.i pop.result payload.result pre.1 pop.ensures payload.ensures.0 c.push.ensures
+    any-dropped args.o.now _ _ args.i pop.result payload.result pre pop.ensures payload.ensures.0 c.push.ensures

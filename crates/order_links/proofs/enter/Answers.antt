@@ -15,6 +15,6 @@ returns c =
       λ s opens fits.
           let w = whole l s in
           let taken = take-free.ensures.1 w.woven fits in
-          entered l _ _ take-free.result z.i z.u z.t z.a pre.0 w pre.1.0 pre.1.1.0 pre.1.1.1.0 pre.1.1.1.1 taken
+          entered l _ _ take-free.result z.i z.u z.t z.a c.told-o w pre.0 pre.1.0 pre.1.1.0 pre.1.1.1 taken
           (push.ensures.1 taken.loose (read_same l _ z.i taken.beside.opens ∙ read-open l z.i opens)),
     )

@@ -7,7 +7,7 @@ use Rattle.order_links.proofs.figures_fit.Goals as goal
 
 pub returns-then-i-ge-FREE : goal.returns-then-i-ge-FREE
 unfolding figures
-returns-then-i-ge-FREE c = rw (le-ltb _ _ c.if-i-ge-FREE.true, c.requires.1.1.1)
+returns-then-i-ge-FREE c = rw (le-ltb _ _ c.if-i-ge-FREE.true, c.requires.1.1)
 
 pub returns : goal.returns
 unfolding figures
@@ -15,5 +15,5 @@ returns c =
     let args = c.args in
     rw (
       lt-ltb _ _ c.if-i-ge-FREE.false,
-      done-read args.o.now args.i (sym (read-closed args.o.now args.i c.if-i-ge-FREE.false) ∙ c.requires.1.1.0),
+      done-read args.o.now args.i (sym (read-closed args.o.now args.i c.if-i-ge-FREE.false) ∙ c.requires.1.0),
     )

@@ -14,23 +14,14 @@ use Rattle.order_links.proofs.ActLaws.{whole, unchanged, finished}
 use Rattle.order_links.proofs.TurnLaws.{held_fits, none-turned}
 use Rattle.order_links.proofs.finish.Goals as goal
 
-pub turn-requires : goal.turn-requires
-turn-requires c =
-    let pre = c.requires in
-    (pre.0, (pre.1.0, omega arith))
-
-pub shape_of-o-then-not-turn : goal.shape_of-o-then-not-turn
-shape_of-o-then-not-turn c = c.turn.ensures.room
-
 pub returns-then-not-turn : goal.returns-then-not-turn
 returns-then-not-turn c =
-    let pre = c.requires in
     let turn = c.turn in
     let z = c.args in
     let l = z.o.now in
-    let hi = c.requires.1.0 in
-    let ht = c.requires.1.1.0 in
-    let ha = c.requires.1.1.1 in
+    let hi = c.requires.0 in
+    let ht = c.requires.1.0 in
+    let ha = c.requires.1.1 in
     let f = c.if-not-turn.true in
     let k = turn.ensures.kept f in
     let es = each (turned z.i z.t z.a) (entries_in l z.i) in
@@ -42,21 +33,20 @@ returns-then-not-turn c =
           let e = sym ((turn.ensures.sound w.woven).1 ∙ held_fits l w.woven z.i z.t z.a hi ht ha) ∙ f in (
             sym e,
             subst (λ (x : List ℕ). Leaves z.i (template_at l z.i) es l x) (sym k)
-                (unchanged l z.i es pre.0 s (sym (none-turned z.i z.t z.a (entries_in l z.i) e))),
+                (unchanged l z.i es c.told-o s (sym (none-turned z.i z.t z.a (entries_in l z.i) e))),
           );
     }
 
 pub returns : goal.returns
 returns c =
-    let pre = c.requires in
     let turn = c.turn in
     let if1 = c.if-not-turn in
     let z = c.args in
     let l = z.o.now in
     let l₁ = c.turn.new.o in
-    let hi = c.requires.1.0 in
-    let ht = c.requires.1.1.0 in
-    let ha = c.requires.1.1.1 in
+    let hi = c.requires.0 in
+    let ht = c.requires.1.0 in
+    let ha = c.requires.1.1 in
     let t = if1.false in
     record {
       room = length-set l₁ (132 + z.i) _ ∙ turn.ensures.room;
@@ -66,7 +56,7 @@ returns c =
           let out = turn.ensures.sound w.woven in
           let e = sym (out.1 ∙ held_fits l w.woven z.i z.t z.a hi ht ha) ∙ t in (
             sym e,
-            finished l l₁ z.i z.t z.a _ pre.0 w hi ht ha opens out.0 e
+            finished l l₁ z.i z.t z.a _ c.told-o w hi ht ha opens out.0 e
                 (c.with-more.ensures ∙ ap (λ (m : ℕ). plus m z.t) c.set_of.ensures),
           );
     }

@@ -8,4 +8,4 @@ returns c =
     let pre = c.requires in
     let cut = c.cut in
     let payload = c.payload-p in
-    any-freed args.o.now _ _ args.i args.kept args.q args.k payload.result pre.1.0 cut.ensures c.push.ensures
+    any-freed args.o.now _ _ args.i args.kept args.q args.k payload.result pre.0 cut.ensures c.push.ensures

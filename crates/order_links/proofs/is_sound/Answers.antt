@@ -14,9 +14,8 @@ returns-then-m-gt-MOST c = rw (lt-ltb _ _ c.if-m-gt-MOST.true)
 
 pub counted-free-requires : goal.counted-free-requires
 counted-free-requires c =
-    let pre = c.requires in
     let args = c.args in
-    (pre, (c.if-m-gt-MOST.false, (omega arith, (omega arith, sym (read_past args.o.now 64 (omega arith))))))
+    (c.if-m-gt-MOST.false, (omega arith, (omega arith, sym (read_past args.o.now 64 (omega arith)))))
 
 pub returns-then-m-free : goal.returns-then-m-free
 returns-then-m-free c =
@@ -26,9 +25,8 @@ returns-then-m-free c =
 
 pub counted-beside-requires : goal.counted-beside-requires
 counted-beside-requires c =
-    let pre = c.requires in
     let args = c.args in
-    (pre, (c.if-m-gt-MOST.false, (c.if-m-free.false, (omega arith, sym (read_past args.o.now 65 (omega arith))))))
+    (c.if-m-gt-MOST.false, (c.if-m-free.false, (omega arith, sym (read_past args.o.now 65 (omega arith)))))
 
 pub returns-then-m-beside : goal.returns-then-m-beside
 returns-then-m-beside c =

@@ -11,17 +11,6 @@ use Rattle.order_links.proofs.ActLaws.{whole, newly-opened}
 use borrow.Author.Rules.{rules}
 use Rattle.order_links.proofs.open_chain.Goals as goal
 
-pub bounds-o-i-2 : goal.bounds-o-i-2
-bounds-o-i-2 c =
-    let args = c.args in
-    rw (length-set args.o.now (2 + args.i) args.j) (omega arith)
-
-pub bounds-o-i-3 : goal.bounds-o-i-3
-bounds-o-i-3 c =
-    let z = c.args in
-    let l = z.o.now in
-    rw (length-set (set l (2 + z.i) z.j) (66 + z.i) 0, length-set l (2 + z.i) z.j) (omega arith)
-
 pub returns : goal.returns
 returns c =
     let pre = c.requires in
@@ -33,5 +22,5 @@ returns c =
       search rules,
       λ s was.
           subst (λ (x : ℕ). Leaves i (just j) [] l (set ready 1 x)) (sym (c.with-more.ensures ∙ ap (λ (m : ℕ). plus m i) c.set_of.ensures))
-          (newly-opened l i j pre.0 (whole l s) pre.1.0 pre.1.1 was),
+          (newly-opened l i j c.told-o (whole l s) pre.0 pre.1 was),
     )

@@ -5,8 +5,5 @@ use Rattle.order_links.specs.Chains.{open_of}
 use Rattle.order_links.proofs.CheckLaws.{Left, SoFar}
 use Rattle.order_links.proofs.orders_sound.Given as goal
 
-abbrev pub invariant-loop-rest : goal.invariant-loop-rest
-invariant-loop-rest l = (l.i ≤ 64) × ((l.n ≤ l.m) × (SoFar l.o l.m l.s l.i l.n × ((open_of l.o < 18446744073709551616) × Left (open_of l.o) l.i l.rest)))
-
-abbrev pub decreases-loop-rest : goal.decreases-loop-rest
-decreases-loop-rest l = l.rest
+abbrev pub invariant-loop-i : goal.invariant-loop-i
+invariant-loop-i l = (l.n ≤ l.m) × (SoFar l.o l.m l.s l.i l.n × Left (open_of l.o) l.i l.rest)

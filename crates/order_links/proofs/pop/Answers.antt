@@ -6,5 +6,5 @@ pub returns : goal.returns
 returns c =
     let args = c.args in
     let pre = c.requires in
-    any-popped args.o.now pre.0 args.i pre.1 c.in_reach-k.result c.in_reach-k.ensures.1.0
+    any-popped args.o.now c.told-o args.i pre c.in_reach-k.result c.in_reach-k.ensures.1.0
     c.in_reach-k.ensures.1.1

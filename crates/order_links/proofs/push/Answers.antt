@@ -5,10 +5,6 @@ use lib.ListN.{length-set}
 use Rattle.order_links.proofs.TotalLaws.{any-pushed}
 use Rattle.order_links.proofs.push.Goals as goal
 
-pub bounds-o-i-2 : goal.bounds-o-i-2
-bounds-o-i-2 c = rw (length-set c.args.o.now (195 + c.args.k) _) (omega arith)
-
 pub returns : goal.returns
 returns c =
-    any-pushed c.args.o.now c.requires.0 c.args.i c.requires.1.1.0 c.args.k c.args.p
-    c.requires.1.0 c.requires.1.1.1
+    any-pushed c.args.o.now c.told-o c.args.i c.requires.1.0 c.args.k c.args.p c.requires.0 c.requires.1.1
