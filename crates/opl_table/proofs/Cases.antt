@@ -1,4 +1,4 @@
--- Laws about tables of numbers: the last case of a match, a number past the end of a table, and two tables that agree at every number.
+-- Laws about tables: a word past the end of a packed list, two tables that agree at every number, and the lengths of the lists.
 use mathlib.Core.Path.{◌≡◌, refl, sym, subst}
 use mathlib.Core.List.{List, [], ◌∷◌}
 use mathlib.Core.Bool.{Bool, true, false}
@@ -11,20 +11,7 @@ use Rattle.paper_lower.specs.Lists.{each}
 use Rattle.paper_opl.specs.Elements.{elements}
 use Rattle.opl_table.specs.Numbers.{names, stages, joined, lefts, lists, packed, word_at}
 
--- k is none of the numbers 0 to n - 1.
-abbrev pub Beside : ℕ → ℕ → Type 0
-Beside zero k = Unit {0}
-Beside (suc n) k = Beside n k × (k ≡ n → ⊥)
-
-pub apart : (n k : ℕ) → Beside n k → n ≤ k
-apart zero k b = omega arith
-apart (suc n) k b = let h = apart n k b.0 in let m = b.1 in omega arith
-
--- If k is below n + 1 and none of 0 to n - 1, it is n.
-pub last : (n k : ℕ) → k < suc n → Beside n k → k ≡ n
-last n k h b = let l = apart n k b in omega arith
-
--- A word past the end of the table is 0.
+-- A word past the end of a packed list is 0.
 pub past : (ns : List ℕ) (j : ℕ) → length ns ≤ 8 * j → 0 ≡ word_at ns j
 unfolding word_at packed
 past ns j h = let e : drop (8 * j) ns ≡ [] = drop_of_length-le ns h in rw e

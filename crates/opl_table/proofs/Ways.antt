@@ -13,10 +13,11 @@ use Rattle.paper_opl.specs.Elements.{Attribute, Child, elements, needed, follow,
 use Rattle.paper_opl.specs.Tree.{find, without}
 use Rattle.paper_opl.proofs.Conforms.{same_true}
 use Rattle.opl_text.proofs.Same.{same-swap}
-use Rattle.opl_table.specs.declared.Found.TheVariants.{Known, Unknown}
-use Rattle.opl_table.specs.declared.Place.{Place}
-use Rattle.opl_table.specs.declared.Place.TheVariants.{Here, Nowhere}
-use Rattle.opl_table.specs.Numbers.{names, name_of, stages, joined, lefts, left_of, lists, list_of, class_of, state_from, list_from, place_name, place_then, packed, word_at, number_at}
+use Rattle.std.specs.Prelude.{Option, Some, None}
+use Rattle.std.proofs.lemmas.Option.{none-some}
+use Rattle.opl_table.specs.declared.Known.{Known}
+use Rattle.opl_table.specs.declared.TheConstants.{STATE_FROM, LIST_FROM, PLACE_NAME, PLACE_THEN}
+use Rattle.opl_table.specs.Numbers.{names, name_of, stages, joined, lefts, left_of, lists, list_of, class_of}
 use Rattle.opl_table.specs.Found.{place_of, Follows, Allows}
 use Rattle.opl_table.proofs.Cases.{values_to, agree, lefts-length, lists_length}
 
@@ -31,42 +32,49 @@ range : {A : Type 0} → (ℕ → A) → ℕ → ℕ → List A
 range f k zero = []
 range f k (suc n) = f k ∷ range f (k + 1) n
 
-module _ {A : Type 0} (name : A → Text) (f : ℕ → A) (named : (k : ℕ) → name (f k) ≡ name_of (number_at place_name k)) (v : Text) where
-  taken : (k n j : ℕ) → place_of v k n ≡ Here j → (first_by name (range f k n) v ≡ just (f j)) × (v ≡ name (f j))
+number_in : Option Known → ℕ
+number_in (Some known) = known.number
+number_in None = 0
+
+after_in : Option Known → ℕ
+after_in (Some known) = known.after
+after_in None = 0
+
+module _ {A : Type 0} (name : A → Text) (f : ℕ → A) (named : (k : ℕ) → name (f k) ≡ name_of (get_or PLACE_NAME k 0)) (v : Text) where
+  taken : (k n j : ℕ) → place_of v k n ≡ Some j → (first_by name (range f k n) v ≡ just (f j)) × (v ≡ name (f j))
   unfolding place_of range first_by
-  taken k zero j e = absurd (let z : ◌≡◌ {A = ℕ} 0 1 = cc in omega arith)
-  taken k (suc n) j e = go (same v (name (f k))) refl (ap (λ x. cond (same v x) (Here k) (place_of v (k + 1) n)) (named k) ∙ e) (taken (k + 1) n j)
+  taken k zero j e = absurd (none-some j e)
+  taken k (suc n) j e = go (same v (name (f k))) refl (ap (λ x. cond (same v x) (Some k) (place_of v (k + 1) n)) (named k) ∙ e) (taken (k + 1) n j)
     where
-      go : (b : Bool) → same v (name (f k)) ≡ b → cond b (Here k) (place_of v (k + 1) n) ≡ Here j
-          → (place_of v (k + 1) n ≡ Here j → (first_by name (range f (k + 1) n) v ≡ just (f j)) × (v ≡ name (f j)))
+      go : (b : Bool) → same v (name (f k)) ≡ b → cond b (Some k) (place_of v (k + 1) n) ≡ Some j
+          → (place_of v (k + 1) n ≡ Some j → (first_by name (range f (k + 1) n) v ≡ just (f j)) × (v ≡ name (f j)))
           → (cond b (just (f k)) (first_by name (range f (k + 1) n) v) ≡ just (f j)) × (v ≡ name (f j))
       go true s e h = let q : k ≡ j = cc in (rw q, same_true v (name (f k)) s ∙ rw q)
       go false s e h = h e
 
-  not_taken : (k n : ℕ) → place_of v k n ≡ Nowhere → first_by name (range f k n) v ≡ none
+  not_taken : (k n : ℕ) → place_of v k n ≡ None → first_by name (range f k n) v ≡ none
   unfolding place_of range first_by
   not_taken k zero e = refl
-  not_taken k (suc n) e = go (same v (name (f k))) (ap (λ x. cond (same v x) (Here k) (place_of v (k + 1) n)) (named k) ∙ e) (not_taken (k + 1) n)
+  not_taken k (suc n) e = go (same v (name (f k))) (ap (λ x. cond (same v x) (Some k) (place_of v (k + 1) n)) (named k) ∙ e) (not_taken (k + 1) n)
     where
-      go : (b : Bool) → cond b (Here k) (place_of v (k + 1) n) ≡ Nowhere → (place_of v (k + 1) n ≡ Nowhere → first_by name (range f (k + 1) n) v ≡ none)
+      go : (b : Bool) → cond b (Some k) (place_of v (k + 1) n) ≡ None → (place_of v (k + 1) n ≡ None → first_by name (range f (k + 1) n) v ≡ none)
           → cond b (just (f k)) (first_by name (range f (k + 1) n) v) ≡ none
-      go true e h = absurd (let z : ◌≡◌ {A = ℕ} 0 1 = cc in omega arith)
+      go true e h = absurd (none-some k (sym e))
       go false e h = h e
 
 -- The search, place by place.
 module _ (v : Text) (k end : ℕ) where
-  pub no_place : end ≤ k → Nowhere ≡ place_of v k (end - k)
+  pub no_place : end ≤ k → place_of v k (end - k) ≡ None
   unfolding place_of
   no_place h = let e : end - k ≡ 0 = omega arith in rw e
 
-  module _ (h : k < end) (id : ℕ) (i : id ≡ number_at place_name k) (b : Bool) (s : b ≡ same v (name_of id)) where
-    pub place_here : b ≡ true → Here k ≡ place_of v k (end - k)
-    unfolding place_of
-    place_here t = let e : end - k ≡ suc (end - (k + 1)) = omega arith in rw (e, sym i, sym s, t)
+  pub place_here : k < end → true ≡ same v (name_of (get_or PLACE_NAME k 0)) → place_of v k (end - k) ≡ Some k
+  unfolding place_of
+  place_here h s = let e : end - k ≡ suc (end - (k + 1)) = omega arith in rw (e, sym s)
 
-    pub place-more : b ≡ false → place_of v k (end - k) ≡ place_of v (k + 1) (end - (k + 1))
-    unfolding place_of
-    place-more t = let e : end - k ≡ suc (end - (k + 1)) = omega arith in rw (e, sym i, sym s, t)
+  pub place_more : k < end → false ≡ same v (name_of (get_or PLACE_NAME k 0)) → place_of v k (end - k) ≡ place_of v (k + 1) (end - (k + 1))
+  unfolding place_of
+  place_more h s = let e : end - k ≡ suc (end - (k + 1)) = omega arith in rw (e, sym s)
 
 -- ---- Children: the names that may occur in a state, each with the children that may follow it.
 
@@ -116,9 +124,9 @@ next-ways (c ∷ cs) v =
 
 -- The way at place k of the code's numbers.
 way_at : ℕ → Way
-way_at k = record { name = name_of (number_at place_name k); left = left_of (number_at place_then k) }
+way_at k = record { name = name_of (get_or PLACE_NAME k 0); left = left_of (get_or PLACE_THEN k 0) }
 
-way-named : (k : ℕ) → name_in (way_at k) ≡ name_of (number_at place_name k)
+way-named : (k : ℕ) → name_in (way_at k) ≡ name_of (get_or PLACE_NAME k 0)
 unfolding name_in way_at
 way-named k = refl
 
@@ -127,39 +135,40 @@ ways_from : ℕ → List Way
 ways_from left = ways (left_of left)
 
 coded_ways : ℕ → List Way
-coded_ways left = range way_at (number_at state_from left) (number_at state_from (left + 1) - number_at state_from left)
+coded_ways left = range way_at (get_or STATE_FROM left 0) (get_or STATE_FROM (left + 1) 0 - get_or STATE_FROM left 0)
 
 all_coded : values_to ways_from 60 ≡ values_to coded_ways 60
-unfolding ways_from coded_ways ways ways_of range way_at left_of lefts stages joined each elements text name_of names number_at word_at packed state_from place_name place_then
+unfolding ways_from coded_ways ways ways_of range way_at left_of lefts stages joined each elements text name_of names
 all_coded = refl
 
-module _ (v : Text) (left from end : ℕ) (h : left < 60) (f : from ≡ number_at state_from left) (g : end ≡ number_at state_from (left + 1)) (p : Place) (e : p ≡ place_of v from (end - from)) where
+module _ (v : Text) (left from end : ℕ) (h : left < 60) (f : from ≡ get_or STATE_FROM left 0) (g : end ≡ get_or STATE_FROM (left + 1) 0) (p : Option ℕ) (e : p ≡ place_of v from (end - from)) where
   here : next (left_of left) v ≡ left_in (first_by name_in (range way_at from (end - from)) v)
   unfolding ways_from coded_ways
   here = next-ways (left_of left) v ∙ rw (f, g) (ap (λ x. left_in (first_by name_in x v)) (agree ways_from coded_ways 60 all_coded left h))
 
-  pub child-known : (k id more : ℕ) → p ≡ Here k → id ≡ number_at place_name k → more ≡ number_at place_then k → Follows v (left_of left) (Known id more)
-  unfolding left_in way_at name_in
+  pub child-known : (k id more : ℕ) → p ≡ Some k → id ≡ get_or PLACE_NAME k 0 → more ≡ get_or PLACE_THEN k 0
+      → Follows v (left_of left) (Some (record { number = id; after = more }))
+  unfolding left_in way_at name_in number_in
   child-known k id more q i m =
       let t = taken name_in way_at way-named v from (end - from) k (sym e ∙ q) in
       record {
         moved = here ∙ ap left_in t.0 ∙ rw m;
-        named = λ x y z. let j : id ≡ x = cc in t.1 ∙ rw (sym i, j);
+        named = λ known z. let j : id ≡ known.number = ap number_in z in t.1 ∙ rw (sym i, j);
       }
 
-  pub child-unknown : p ≡ Nowhere → Follows v (left_of left) Unknown
+  pub child-unknown : p ≡ None → Follows v (left_of left) None
   unfolding left_in
   child-unknown q = record {
     moved = here ∙ ap left_in (not_taken name_in way_at way-named v from (end - from) (sym e ∙ q));
-    named = λ x y z. absurd (let j : ◌≡◌ {A = ℕ} 0 1 = cc in omega arith);
+    named = λ known z. absurd (none-some known z);
   }
 
-pub child-past : (v : Text) (left : ℕ) → 60 ≤ left → Follows v (left_of left) Unknown
+pub child-past : (v : Text) (left : ℕ) → 60 ≤ left → Follows v (left_of left) None
 unfolding next left_of
 child-past v left h =
     let n : length lefts ≤ left = omega (arith, lefts-length) in
     let e : get_or lefts left [] ≡ [] = get_or-eq_default lefts [] n in
-    record { moved = rw e; named = λ x y z. absurd (let j : ◌≡◌ {A = ℕ} 0 1 = cc in omega arith) }
+    record { moved = rw e; named = λ known z. absurd (none-some known z) }
 
 -- ---- Attributes: those that may be given, each with those that may be given after it.
 
@@ -205,11 +214,11 @@ part-rest whole (a ∷ us) v p e = go (same v a.name) e (part-rest whole us v p)
 -- The attribute at place k of the code's numbers.
 part_at : ℕ → Part
 part_at k = record {
-  attribute = record { name = name_of (number_at place_name k); class = class_of (number_at place_then k / 64) };
-  rest = list_of (number_at place_then k % 64);
+  attribute = record { name = name_of (get_or PLACE_NAME k 0); class = class_of (get_or PLACE_THEN k 0 / 64) };
+  rest = list_of (get_or PLACE_THEN k 0 % 64);
 }
 
-part-named : (k : ℕ) → name_on (part_at k) ≡ name_of (number_at place_name k)
+part-named : (k : ℕ) → name_on (part_at k) ≡ name_of (get_or PLACE_NAME k 0)
 unfolding name_on part_at
 part-named k = refl
 
@@ -218,13 +227,13 @@ parts_from : ℕ → List Part
 parts_from list = parts (list_of list) (list_of list)
 
 coded_parts : ℕ → List Part
-coded_parts list = range part_at (number_at list_from list) (number_at list_from (list + 1) - number_at list_from list)
+coded_parts list = range part_at (get_or LIST_FROM list 0) (get_or LIST_FROM (list + 1) 0 - get_or LIST_FROM list 0)
 
 all_listed : values_to parts_from 33 ≡ values_to coded_parts 33
-unfolding parts_from coded_parts parts keep same range part_at list_of lists each elements text name_of names number_at word_at packed list_from place_name place_then
+unfolding parts_from coded_parts parts keep same range part_at list_of lists each elements text name_of names
 all_listed = refl
 
-module _ (v : Text) (list from end : ℕ) (h : list < 33) (f : from ≡ number_at list_from list) (g : end ≡ number_at list_from (list + 1)) (p : Place) (e : p ≡ place_of v from (end - from)) where
+module _ (v : Text) (list from end : ℕ) (h : list < 33) (f : from ≡ get_or LIST_FROM list 0) (g : end ≡ get_or LIST_FROM (list + 1) 0) (p : Option ℕ) (e : p ≡ place_of v from (end - from)) where
   these : parts (list_of list) (list_of list) ≡ range part_at from (end - from)
   unfolding parts_from coded_parts
   these = rw (f, g) (agree parts_from coded_parts 33 all_listed list h)
@@ -232,28 +241,29 @@ module _ (v : Text) (list from end : ℕ) (h : list < 33) (f : from ≡ number_a
   looked : find (list_of list) v ≡ attribute_in (first_by name_on (range part_at from (end - from)) v)
   looked = find-parts (list_of list) (list_of list) v ∙ ap (λ x. attribute_in (first_by name_on x v)) these
 
-  pub attribute-known : (k n : ℕ) → p ≡ Here k → n ≡ number_at place_then k → Allows v (list_of list) (Known (n / 64) (n % 64))
-  unfolding attribute_in part_at name_on
+  pub attribute-known : (k n : ℕ) → p ≡ Some k → n ≡ get_or PLACE_THEN k 0
+      → Allows v (list_of list) (Some (record { number = n / 64; after = n % 64 }))
+  unfolding attribute_in part_at name_on after_in
   attribute-known k n q m =
       let t = taken name_on part_at part-named v from (end - from) k (sym e ∙ q) in
       record {
         found = looked ∙ ap attribute_in t.0 ∙ rw (m, t.1);
-        behind = λ x y z.
-            let j : n % 64 ≡ y = cc in
+        behind = λ known z.
+            let j : n % 64 ≡ known.after = ap after_in z in
             let r = part-rest (list_of list) (list_of list) v (part_at k) (ap (λ x. first_by name_on x v) these ∙ t.0) in
             ap (λ x. without x (list_of list)) t.1 ∙ sym r ∙ rw (sym m, j);
       }
 
-  pub attribute-unknown : p ≡ Nowhere → Allows v (list_of list) Unknown
+  pub attribute-unknown : p ≡ None → Allows v (list_of list) None
   unfolding attribute_in
   attribute-unknown q = record {
     found = looked ∙ ap attribute_in (not_taken name_on part_at part-named v from (end - from) (sym e ∙ q));
-    behind = λ x y z. absurd (let j : ◌≡◌ {A = ℕ} 0 1 = cc in omega arith);
+    behind = λ known z. absurd (none-some known z);
   }
 
-pub attribute-past : (v : Text) (list : ℕ) → 33 ≤ list → Allows v (list_of list) Unknown
+pub attribute-past : (v : Text) (list : ℕ) → 33 ≤ list → Allows v (list_of list) None
 unfolding find list_of
 attribute-past v list h =
     let n : length lists ≤ list = omega (arith, lists_length) in
     let e : get_or lists list [] ≡ [] = get_or-eq_default lists [] n in
-    record { found = rw e; behind = λ x y z. absurd (let j : ◌≡◌ {A = ℕ} 0 1 = cc in omega arith) }
+    record { found = rw e; behind = λ known z. absurd (none-some known z) }

@@ -1,11 +1,7 @@
 -- `pick` meets its contract: the search goes from place to place.
+use Rattle.std.proofs.Common.{◌≡◌, ◌-◌}
 use Rattle.opl_table.specs.Found.{place_of}
-use Prim.Native.Nat.{◌-◌}
-use mathlib.Core.Path.{◌≡◌}
 use Rattle.opl_table.proofs.pick.Given as goal
 
 abbrev pub invariant-loop-k : goal.invariant-loop-k
 invariant-loop-k l = place_of l.v l.from (l.end - l.from) ≡ place_of l.v l.k (l.end - l.k)
-
-abbrev pub decreases-loop-k : goal.decreases-loop-k
-decreases-loop-k l = l.end - l.k
