@@ -30,27 +30,13 @@ fn low(x: u64) -> u8
 pub fn bytes(r: Fields) -> [u8; 16]
     ensures { result ≡ bytes_of r }
 {
-    let a = r.a;
-    let b = r.b;
-    let c = r.c;
-    let m = r.m;
+    let a = r.a.to_le_bytes();
+    let b = r.b.to_le_bytes();
+    let c = r.c.to_le_bytes();
+    let m = r.m.to_le_bytes();
     [
-        r.kind,
-        r.n,
-        low(a),
-        low(a / 256),
-        low(b),
-        low(b / 256),
-        low(c),
-        low(c / 256),
-        low(m),
-        low(m / 256),
-        low(m / 65536),
-        low(m / 16777216),
-        low(m / 4294967296),
-        low(m / 1099511627776),
-        low(m / 281474976710656),
-        low(m / 72057594037927936),
+        r.kind, r.n, a[0], a[1], b[0], b[1], c[0], c[1], m[0], m[1], m[2], m[3], m[4], m[5], m[6],
+        m[7],
     ]
 }
 
@@ -65,12 +51,7 @@ fn put(to: &mut [u8], at: usize, r: Fields) -> usize
     if end > to.len() {
         return at;
     }
-    let from = bytes(r);
-    let mut i = 0;
-    while i < 16 {
-        to[at + i] = from[i];
-        i += 1;
-    }
+    to[at..end].copy_from_slice(&bytes(r));
     end
 }
 
@@ -79,14 +60,12 @@ pub fn line_end(text: &[u8], at: usize) -> usize
     requires { at ≤ length text.now }
     ensures { LineEnd text.now at result }
 {
-    let mut i = at;
-    while i < text.len() {
+    for i in at..text.len() {
         if text[i] == b'\n' {
             return i;
         }
-        i += 1;
     }
-    i
+    text.len()
 }
 
 // A number with one more digit, if the byte is a digit and the number stays below 2^64.
@@ -112,12 +91,9 @@ pub fn number(line: &[u8], k: u64) -> u64
 {
     let mut spaces = 0;
     let mut x = 0;
-    let mut i = 0;
-    while i < line.len() {
-        let b = line[i];
+    for &b in line {
         spaces = spaces_with(spaces, b);
         x = if_word(spaces == k, x, b);
-        i += 1;
     }
     x
 }
@@ -155,12 +131,12 @@ fn record_of(line: &[u8], k: u64) -> Fields
     let c = number(line, k + 4);
     let m = number(line, k + 5);
     Fields {
-        kind: kind,
-        n: n,
-        a: a,
-        b: b,
-        c: c,
-        m: m,
+        kind,
+        n,
+        a,
+        b,
+        c,
+        m,
     }
 }
 
@@ -168,29 +144,17 @@ fn record_of(line: &[u8], k: u64) -> Fields
 pub fn same(x: &[u64], y: &[u64]) -> bool
     ensures { (result ≡ true → x.now ≡ y.now) × (x.now ≡ y.now → result ≡ true) }
 {
-    if x.len() != y.len() {
-        return false;
-    }
-    let mut i = 0;
-    while i < x.len() {
-        if x[i] != y[i] {
-            return false;
-        }
-        i += 1;
-    }
-    true
+    x == y
 }
 
 // Whether every word is zero.
 fn zeros(x: &[u64]) -> bool
     ensures { (result ≡ true → ((i : ℕ) → get_or x.now i 0 ≡ 0)) × (((i : ℕ) → get_or x.now i 0 ≡ 0) → result ≡ true) }
 {
-    let mut i = 0;
-    while i < x.len() {
-        if x[i] != 0 {
+    for word in x {
+        if *word != 0 {
             return false;
         }
-        i += 1;
     }
     true
 }
@@ -200,11 +164,9 @@ fn garble(words: &mut [u64], seed: u64)
     ensures { (i : ℕ) → i < length words.old → get_or words.new i 0 ≡ garbled (drawn seed (i + 1)) }
 {
     let mut x = seed;
-    let mut i = 0;
-    while i < words.len() {
+    for word in words.iter_mut() {
         x = (x % 2147483648 * 1103515245 + 12345) % 2147483648;
-        words[i] = x % 2147483648 * 8589934591;
-        i += 1;
+        *word = x % 2147483648 * 8589934591;
     }
 }
 
@@ -231,19 +193,18 @@ pub fn zeros_in(x: &[u64], n: usize) -> bool
 pub fn so_many(words: &[u64], n: u64) -> usize
     ensures { result ≤ length words.now }
 {
-    let k = n as usize;
-    if k < words.len() { k } else { words.len() }
+    words.len().min(n as usize)
 }
 
 // The first n bytes, or all of them if there are fewer.
 pub fn front(bytes: &[u8], n: usize) -> &[u8]
     ensures { result.now ≡ take n bytes.now }
 {
-    if n < bytes.len() { &bytes[0..n] } else { bytes }
+    &bytes[..bytes.len().min(n)]
 }
 
 // The bytes that are passed to a call: the first `len` of these.
-#[derive(Drop)]
+#[derive(Clone, Copy)]
 pub struct Handed {
     pub bytes: [u8; 8192],
     pub len: usize,
@@ -259,26 +220,13 @@ pub fn nothing() -> Handed
     }
 }
 
-// The same bytes once more.
-fn copied(h: &Handed) -> Handed
-    ensures { result ≡ h.now }
-{
-    Handed {
-        bytes: h.bytes,
-        len: h.len,
-    }
-}
-
 // The same bytes with one more record after them, if there is room.
 fn with_record(h: Handed, r: Fields) -> Handed
     ensures { Put h.len r h.bytes result.bytes result.len }
 {
     let mut bytes = h.bytes;
     let len = put(&mut bytes, h.len, r);
-    Handed {
-        bytes: bytes,
-        len: len,
-    }
+    Handed { bytes, len }
 }
 
 // The same bytes with another length.
@@ -286,22 +234,12 @@ fn of_length(h: Handed, len: usize) -> Handed
     ensures { (result.bytes ≡ h.bytes) × (result.len ≡ len) }
 {
     let bytes = h.bytes;
-    Handed {
-        bytes: bytes,
-        len: len,
-    }
+    Handed { bytes, len }
 }
 
 // The bytes of one request.
 fn request_of(r: Fields) -> Handed {
     with_record(nothing(), r)
-}
-
-// The difference, or 0 if y is larger.
-fn less(x: usize, y: usize) -> usize
-    ensures { result ≡ x - y }
-{
-    if x < y { 0 } else { x - y }
 }
 
 // The first byte of a line. For an empty line it is a newline, with which no line begins.
@@ -335,9 +273,9 @@ pub fn handed_by(line: &[u8], policy: &Handed, buffers: u64) -> Handed
     ensures of_length { letter_of line.now ≡ 99 → result.len ≡ number_of line.now 1 }
 {
     match letter(line) {
-        b'w' => with_record(copied(policy), record_of(line, 1)),
-        b'l' => of_length(copied(policy), less(policy.len, number(line, 1) as usize)),
-        b'r' => copied(policy),
+        b'w' => with_record(*policy, record_of(line, 1)),
+        b'l' => of_length(*policy, policy.len.saturating_sub(number(line, 1) as usize)),
+        b'r' => *policy,
         b'i' => request_of(record_of(line, buffers + 1)),
         b'c' => of_length(request_of(record_of(line, 2)), number(line, 1) as usize),
         _ => request_of(record_of(line, 1)),

@@ -16,16 +16,15 @@ drawn_more : (seed i : ℕ) {x : ℕ} → x ≡ drawn seed i → (x % 2147483648
 unfolding drawn
 drawn_more seed i e = rw (add-one i, e)
 
-pub loop-i-init : goal.loop-i-init
+pub loop-word-init : goal.loop-word-init
 unfolding drawn
-loop-i-init c = record { within = omega arith; last = refl; filled = below_none _ }
+loop-word-init c = record { last = refl; filled = below_none _ }
 
-pub loop-i-preserved : goal.loop-i-preserved
-loop-i-preserved c =
-    let x = c.loop-i in
-    let next = drawn_more c.args.seed x.i x.invariant.last in
+pub loop-word-preserved : goal.loop-word-preserved
+loop-word-preserved c =
+    let x = c.loop-word in
+    let next = drawn_more c.args.seed x.word-index x.invariant.last in
     record {
-      within = search rules;
       last = next;
-      filled = one_more c.args.seed x.words x.i _ c.loop-i-test.true next x.invariant.filled;
+      filled = one_more c.args.seed x.words x.word-index _ (omega arith) next x.invariant.filled;
     }

@@ -13,16 +13,15 @@ number_more k line i e f g h =
     let m = g ∙ ap (λ (y : ℕ). space_more y (get_or line i 0)) e in
     rw (add-one i) (h ∙ (λ z. cond (nat_eq (m z) k) (digit_more (f z) (get_or line i 0)) (f z)))
 
-pub loop-i-init : goal.loop-i-init
+pub loop-b-init : goal.loop-b-init
 unfolding spaces_in number_in
-loop-i-init c = record { within = omega arith; counted = refl; value = refl }
+loop-b-init c = record { counted = refl; value = refl }
 
-pub loop-i-preserved : goal.loop-i-preserved
-loop-i-preserved c =
+pub loop-b-preserved : goal.loop-b-preserved
+loop-b-preserved c =
     let line = c.args.line.now in
-    let x = c.loop-i in
+    let x = c.loop-b in
     record {
-      within = omega arith;
-      counted = spaces_more line x.i x.invariant.counted c.spaces_with-spaces.ensures;
-      value = number_more c.args.k line x.i x.invariant.counted x.invariant.value c.spaces_with-spaces.ensures c.if_word-x.ensures;
+      counted = spaces_more line x.b-index x.invariant.counted c.spaces_with-spaces.ensures;
+      value = number_more c.args.k line x.b-index x.invariant.counted x.invariant.value c.spaces_with-spaces.ensures c.if_word-x.ensures;
     }

@@ -1,31 +1,54 @@
-use Rattle.std.proofs.Common.{ℕ, ◌+◌, ◌<◌, ◌≤◌, ◌≡◌, ◌∙◌, List, length, get_or, slice_set, arith, rules, get_or-set_same, get_or-set_other, below_more}
+-- `put` meets its contract: after the copy, the bytes from `at` on are the record's, and those before and after are as they were.
+use Rattle.std.proofs.Common.{ℕ, ◌+◌, ◌-◌, ◌<◌, ◌≤◌, ◌≡◌, ◌∙◌, ◌⊎◌, inl, inr, List, ◌++◌, length, get_or, ap, sym, refl, rules, arith}
+use Rattle.std.proofs.Math.ListN.{take, drop}
+use Rattle.std.proofs.lemmas.Bool.{cases_lt}
+use Rattle.std.proofs.lemmas.List.{get_or_append_left, get_or-append-add, get_or-take, get_or-drop, length-take-le}
+use Rattle.scripts.specs.Lines.{bytes_of}
+use Rattle.scripts.specs.declared.Fields.{Fields}
 use Rattle.scripts.proofs.put.Goals as goal
 
-abbrev Written : ℕ → List ℕ → List ℕ → ℕ → Type 0
-Written at from to i = (k : ℕ) → k < i → get_or to (at + k) 0 ≡ get_or from k 0
+-- The list with sixteen items of its own after the first `at`.
+abbrev with_items : ℕ → List ℕ → List ℕ → List ℕ
+with_items at xs ys = take at xs ++ (ys ++ drop 16 (drop at xs))
 
-abbrev Others : ℕ → List ℕ → List ℕ → ℕ → Type 0
-Others at to₀ to i = (k : ℕ) → (at ≤ k → k < at + i → ⊥) → get_or to k 0 ≡ get_or to₀ k 0
+module _ (at : ℕ) (xs ys : List ℕ) (room : at ≤ length xs) (items : length ys ≡ 16) where
+  front : length (take at xs) ≡ at
+  front = length-take-le at xs room
 
-one_more : (at : ℕ) (from to : List ℕ) (i : ℕ) → at + i < length to → Written at from to i → Written at from (slice_set to (at + i) (get_or from i 0)) (i + 1)
-one_more at from to i l h =
-    below_more (λ k. get_or (slice_set to (at + i) (get_or from i 0)) (at + k) 0 ≡ get_or from k 0) i
-    (λ k u. get_or-set_other to (at + i) (at + k) (get_or from i 0) 0 (λ e. omega arith) ∙ h k u)
-    (get_or-set_same to (at + i) (get_or from i 0) 0 l)
+  shifted : (k : ℕ) → get_or (with_items at xs ys) (at + k) 0 ≡ get_or (ys ++ drop 16 (drop at xs)) k 0
+  shifted k =
+      ap (λ (n : ℕ). get_or (with_items at xs ys) (n + k) 0) (sym front) ∙ get_or-append-add (take at xs) (ys ++ drop 16 (drop at xs)) k 0
 
-others_still : (at : ℕ) (to₀ to : List ℕ) (i v : ℕ) → Others at to₀ to i → Others at to₀ (slice_set to (at + i) v) (i + 1)
-others_still at to₀ to i v h k out =
-    get_or-set_other to (at + i) k v 0 (λ e. out (omega arith) (omega arith)) ∙ h k (λ a b. out a (omega arith))
+  written : (k : ℕ) → k < 16 → get_or (with_items at xs ys) (at + k) 0 ≡ get_or ys k 0
+  written k h = shifted k ∙ get_or_append_left ys (drop 16 (drop at xs)) 0 k (omega arith)
 
-pub loop-i-preserved : goal.loop-i-preserved
-loop-i-preserved c =
-    let x = c.loop-i in
-    let at = c.args.at in
-    let from = c.bytes-from.result in
-    let within : at + x.i < length x.to = omega (arith, x.invariant.room, c.loop-i-test.true) in
-    record {
-      copied = omega arith;
-      room = search rules;
-      written = one_more at from x.to x.i within x.invariant.written;
-      others = others_still at c.args.to.now x.to x.i (get_or from x.i 0) x.invariant.others;
-    }
+  before : (k : ℕ) → k < at → get_or (with_items at xs ys) k 0 ≡ get_or xs k 0
+  before k h = get_or_append_left (take at xs) (ys ++ drop 16 (drop at xs)) 0 k (omega (arith, front)) ∙ get_or-take at xs k 0 h
+
+  behind : (j : ℕ) → get_or (with_items at xs ys) (at + (16 + j)) 0 ≡ get_or xs (at + (16 + j)) 0
+  behind j =
+      shifted (16 + j) ∙ ap (λ (n : ℕ). get_or (ys ++ drop 16 (drop at xs)) (n + j) 0) (sym items) ∙ get_or-append-add ys (drop 16 (drop at xs)) j 0
+      ∙ get_or-drop 16 (drop at xs) j 0 ∙ get_or-drop at xs (16 + j) 0
+
+  others : (k : ℕ) → (at ≤ k → k < at + 16 → ⊥) → get_or (with_items at xs ys) k 0 ≡ get_or xs k 0
+  others k out = split (cases_lt k at)
+    where
+      split : (k < at) ⊎ (at ≤ k) → get_or (with_items at xs ys) k 0 ≡ get_or xs k 0
+      split (inl h) = before k h
+      split (inr h) = further (cases_lt k (at + 16))
+        where
+          further : (k < at + 16) ⊎ (at + 16 ≤ k) → get_or (with_items at xs ys) k 0 ≡ get_or xs k 0
+          further (inl l) = absurd (out h l)
+          further (inr l) = let e : k ≡ at + (16 + (k - (at + 16))) = omega arith in rw e (behind (k - (at + 16)))
+
+pub returns : goal.returns
+returns c =
+    let args = c.args in
+    let n : args.at + 16 - args.at ≡ 16 = omega arith in
+    let room : args.at ≤ length args.to.now = omega arith in
+    let copied = c.copy_from_slice.ensures.after ∙ c.bytes.ensures in
+    rw (n, copied) (record {
+      ends = search rules;
+      written = λ k h. written args.at args.to.now (bytes_of args.r) room refl k (omega arith);
+      others = λ k h. others args.at args.to.now (bytes_of args.r) room refl k h;
+    })
