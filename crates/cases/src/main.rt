@@ -17,15 +17,14 @@
 ghost use Rattle.std.specs.Prelude.{◌<◌, ◌≤◌, length};
 
 use order_links::ORDERS_WORDS;
-use order_rules::Judged;
 use policy::POLICY_WORDS;
-use policy_loading::Loaded;
+use replies::Outcome;
 use scripts::{Fields, Handed};
 use sessions::SESSIONS_WORDS;
 use std::io;
 
 // The three buffers, each one word longer than the engine requires.
-#[derive(Drop)]
+#[derive(Clone, Copy)]
 struct Words {
     p: [u64; POLICY_WORDS + 1],
     s: [u64; SESSIONS_WORDS + 1],
@@ -48,7 +47,7 @@ struct Answer {
 }
 
 // The answer of a call, and the buffers after it.
-#[derive(Drop)]
+#[derive(Clone, Copy)]
 struct Came {
     answer: Answer,
     words: Words,
@@ -84,21 +83,11 @@ fn room_of(line: &[u8]) -> Each {
     }
 }
 
-// The answer of a load.
-fn of_load(l: Loaded) -> Answer {
-    let reply = l.reply;
+// What a call returned, as numbers.
+fn answer_of(outcome: Outcome) -> Answer {
     Answer {
-        reply: replies::number(reply),
-        place: l.place,
-    }
-}
-
-// The answer of a request.
-fn of_request(j: Judged) -> Answer {
-    let reply = j.reply;
-    Answer {
-        reply: replies::number(reply),
-        place: j.place,
+        reply: replies::number(replies::reply(outcome)),
+        place: replies::place(outcome),
     }
 }
 
@@ -115,15 +104,10 @@ fn of_turn(line: &[u8], turn: u64) -> [u8; 16] {
 }
 
 // 1 if the turn was a granted claim, and 0 otherwise.
-fn claims_granted(turn: u64, j: Judged) -> u64
+fn claims_granted(turn: u64, outcome: Outcome) -> u64
     ensures { result ≤ 1 }
 {
-    let reply = j.reply;
-    if (turn % 2 == 0) & replies::accepted(reply) {
-        1
-    } else {
-        0
-    }
+    u64::from((turn % 2 == 0) & outcome.is_ok())
 }
 
 // A line `fill` asks for fewer claims than this: twice their number fits a u64.
@@ -133,11 +117,9 @@ const MOST_CLAIMS: u64 = 4294967296;
 fn filled(line: &[u8], p: &mut [u64], s: &mut [u64], o: &mut [u64]) -> u64 {
     let turns = scripts::number(line, 1) % MOST_CLAIMS * 2;
     let mut granted = 0;
-    let mut turn = 0;
-    while turn < turns {
+    for turn in 0..turns {
         let bytes = of_turn(line, turn);
         granted += claims_granted(turn, engine::request(&bytes, p, s, o));
-        turn += 1;
     }
     granted
 }
@@ -145,12 +127,12 @@ fn filled(line: &[u8], p: &mut [u64], s: &mut [u64], o: &mut [u64]) -> u64 {
 // Makes the calls of a line that loads, fills or asks. For one that fills, the reply is the number of granted claims.
 fn answered(line: &[u8], bytes: &[u8], p: &mut [u64], s: &mut [u64], o: &mut [u64]) -> Answer {
     match scripts::letter(line) {
-        b'w' | b'l' | b'r' => of_load(engine::load(bytes, p, s, o)),
+        b'w' | b'l' | b'r' => answer_of(engine::load(bytes, p, s, o)),
         b'f' => Answer {
             reply: filled(line, p, s, o),
             place: 0,
         },
-        _ => of_request(engine::request(bytes, p, s, o)),
+        _ => answer_of(engine::request(bytes, p, s, o)),
     }
 }
 
@@ -173,7 +155,7 @@ fn called(line: &[u8], h: Handed, w: Words) -> Came {
     );
     Came {
         answer: a,
-        words: Words { p: p, s: s, o: o },
+        words: Words { p, s, o },
     }
 }
 
@@ -185,16 +167,7 @@ fn garbled(w: Words, seeds: Each) -> Words {
     scripts::garble_by(&mut p, seeds.p);
     scripts::garble_by(&mut s, seeds.s);
     scripts::garble_by(&mut o, seeds.o);
-    Words { p: p, s: s, o: o }
-}
-
-// The same buffers once more.
-fn copied(w: &Words) -> Words {
-    Words {
-        p: w.p,
-        s: w.s,
-        o: w.o,
-    }
+    Words { p, s, o }
 }
 
 // Whether the buffers have the same words.
@@ -212,7 +185,7 @@ fn zeros(w: &Words, room: Each) -> bool {
 // Runs a line that loads. The buffers are filled with meaningless numbers first, because a load must not depend on them.
 fn load(out: &impl Print, line: &[u8], h: Handed, w: Words) -> io::Result<Words> {
     let before = garbled(w, Each { p: 1, s: 2, o: 3 });
-    let c = called(line, h, copied(&before));
+    let c = called(line, h, before);
     let a = c.answer;
     let v = c.words;
     scripts::say_reply(out, line, a.reply)?;
@@ -238,7 +211,7 @@ fn say_asked(out: &impl Print, line: &[u8], a: Answer) -> io::Result<()> {
 
 // Runs a line that asks.
 fn ask(out: &impl Print, line: &[u8], h: Handed, w: Words) -> io::Result<Words> {
-    let c = called(line, h, copied(&w));
+    let c = called(line, h, w);
     let a = c.answer;
     let v = c.words;
     say_asked(out, line, a)?;

@@ -9,8 +9,7 @@ ghost use Rattle.engine.specs.Settling.{Settling};
 use itoa::Buffer;
 use order_links::ORDERS_WORDS;
 use policy::POLICY_WORDS;
-use policy_loading::Loaded;
-use replies::Reply;
+use replies::{Outcome, Refusal};
 use sessions::SESSIONS_WORDS;
 use std::fs::File;
 use std::io;
@@ -59,7 +58,7 @@ struct State {
 // The answer of the load, and the state after it.
 #[derive(Drop)]
 struct Begun {
-    loaded: Loaded,
+    loaded: Outcome,
     state: State,
 }
 
@@ -140,21 +139,16 @@ fn answer(
     requires { (length block.now ≤ 4096) × ((first < 1152921504606846976) × Settling (buffers policy.old sessions.old orders.old)) }
     ensures { (result ≤ 16384) × Settling (buffers policy.new sessions.new orders.new) }
 {
-    let mut i = 0;
     let mut to = 0;
-    while i * 16 < block.len() {
-        let at = i * 16;
-        let end = record_end(at, block.len());
-        let answer = engine::settled_request(&block[at..end], policy, sessions, orders);
-        let reply = answer.reply;
+    for (i, record) in block.chunks(16).enumerate() {
+        let outcome = engine::settled_request(record, policy, sessions, orders);
         to = put_answer(
             out,
             to,
             first + i as u64,
-            replies::number(reply),
-            answer.place,
+            replies::number(replies::reply(outcome)),
+            replies::place(outcome),
         );
-        i += 1;
     }
     to
 }
@@ -219,11 +213,7 @@ fn keep_rest(buffer: &mut [u8; 4096], from: usize, to: usize)
     requires from_le_to { from ≤ to }
     requires to_bound { to ≤ 4096 }
 {
-    let mut i = 0;
-    while i < to - from {
-        buffer[i] = buffer[from + i];
-        i += 1;
-    }
+    buffer.copy_within(from..to, 0);
 }
 
 // How many bytes of the input have been read, and the state after them.
@@ -289,7 +279,7 @@ fn write_load(out: &impl Print, reply: u64, place: u64) -> bool {
 
 // The answer if the policy file is missing, too large or cannot be read.
 fn refuse(out: &impl Print) {
-    write_load(out, replies::number(Reply::Room), 0);
+    write_load(out, u64::from(Refusal::Room), 0);
 }
 
 // Loads the policy and answers the requests.
@@ -297,9 +287,8 @@ fn run(input: &mut impl Read, out: &impl Print, policy_file: &[u8]) {
     let begun = load_bytes(policy_file);
     let loaded = begun.loaded;
     let state = begun.state;
-    let reply = loaded.reply;
-    let number = replies::number(reply);
-    if write_load(out, number, loaded.place) && number == 0 {
+    let number = replies::number(replies::reply(loaded));
+    if write_load(out, number, replies::place(loaded)) && loaded.is_ok() {
         serve(input, out, state);
     }
 }

@@ -16,13 +16,13 @@
 ghost use Rattle.std.specs.Prelude.{◌<◌, ◌≤◌, length};
 
 use policy::POLICY_WORDS;
-use policy_loading::Loaded;
+use replies::Outcome;
 use scripts::Handed;
 use sessions::SESSIONS_WORDS;
 use std::io;
 
 // Both buffers, each one word longer than the lower part requires.
-#[derive(Drop)]
+#[derive(Clone, Copy)]
 struct Words {
     p: [u64; POLICY_WORDS + 1],
     s: [u64; SESSIONS_WORDS + 1],
@@ -43,7 +43,7 @@ struct Answer {
 }
 
 // The answer of a call, and the buffers after it.
-#[derive(Drop)]
+#[derive(Clone, Copy)]
 struct Came {
     answer: Answer,
     words: Words,
@@ -76,19 +76,18 @@ fn room_of(line: &[u8]) -> Each {
     }
 }
 
-// The answer of a load.
-fn of_load(l: Loaded) -> Answer {
-    let reply = l.reply;
+// What a load returned, as numbers.
+fn answer_of(outcome: Outcome) -> Answer {
     Answer {
-        reply: replies::number(reply),
-        place: l.place,
+        reply: replies::number(replies::reply(outcome)),
+        place: replies::place(outcome),
     }
 }
 
 // Makes the call of a line that loads or asks.
 fn answered(line: &[u8], bytes: &[u8], p: &mut [u64], s: &mut [u64]) -> Answer {
     match scripts::letter(line) {
-        b'w' | b'l' | b'r' => of_load(lower::load(bytes, p, s)),
+        b'w' | b'l' | b'r' => answer_of(lower::load(bytes, p, s)),
         _ => Answer {
             reply: replies::number(lower::request(bytes, p, s)),
             place: 0,
@@ -112,7 +111,7 @@ fn called(line: &[u8], h: Handed, w: Words) -> Came {
     );
     Came {
         answer: a,
-        words: Words { p: p, s: s },
+        words: Words { p, s },
     }
 }
 
@@ -122,12 +121,7 @@ fn garbled(w: Words, seeds: Each) -> Words {
     let mut s = w.s;
     scripts::garble_by(&mut p, seeds.p);
     scripts::garble_by(&mut s, seeds.s);
-    Words { p: p, s: s }
-}
-
-// The same buffers once more.
-fn copied(w: &Words) -> Words {
-    Words { p: w.p, s: w.s }
+    Words { p, s }
 }
 
 // Whether two pairs of buffers have the same words.
@@ -143,7 +137,7 @@ fn zeros(w: &Words, room: Each) -> bool {
 // Runs a line that loads. The buffers are filled with meaningless numbers first, because a load must not depend on them.
 fn load(out: &impl Print, line: &[u8], h: Handed, w: Words) -> io::Result<Words> {
     let before = garbled(w, Each { p: 1, s: 2 });
-    let c = called(line, h, copied(&before));
+    let c = called(line, h, before);
     let a = c.answer;
     let v = c.words;
     scripts::say_reply(out, line, a.reply)?;
@@ -166,7 +160,7 @@ fn say_asked(out: &impl Print, line: &[u8], reply: u64) -> io::Result<()> {
 
 // Runs a line that asks.
 fn ask(out: &impl Print, line: &[u8], h: Handed, w: Words) -> io::Result<Words> {
-    let c = called(line, h, copied(&w));
+    let c = called(line, h, w);
     let a = c.answer;
     let v = c.words;
     say_asked(out, line, a.reply)?;

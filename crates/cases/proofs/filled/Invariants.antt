@@ -1,9 +1,6 @@
-use Rattle.std.proofs.Common.{◌-◌, ◌≤◌}
+use Rattle.std.proofs.Common.{◌≤◌}
 use Rattle.cases.proofs.filled.Given as goal
 
 -- the count of granted claims is at most the number of turns
 abbrev pub invariant-loop-turn : goal.invariant-loop-turn
-invariant-loop-turn l = record { within : l.turn ≤ l.turns; granted : l.granted ≤ l.turn }
-
-abbrev pub decreases-loop-turn : goal.decreases-loop-turn
-decreases-loop-turn l = l.turns - l.turn
+invariant-loop-turn l = l.granted ≤ l.turn
