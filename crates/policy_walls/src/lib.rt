@@ -2,10 +2,10 @@
 // It rests on the rows of walls in the policy buffer and on blocks of walls.
 #![tactic(auto)]
 
-ghost use Rattle.std.specs.Prelude.{◌≡◌, ◌+◌, ◌<◌, length};
+ghost use Rattle.std.specs.Prelude.{◌≡◌, ◌+◌, ◌<◌};
 ghost use Rattle.paper_lower.specs.Policy.{block_of};
 ghost use Rattle.blocks.specs.Reading.{blocks_of, over};
-ghost use Rattle.policy.specs.Layout.{policy_words, wall_count};
+ghost use Rattle.policy.specs.Layout.{wall_count};
 ghost use Rattle.policy.specs.Reading.{policy_of};
 ghost use Rattle.policy_walls.specs.Found.{blocks_from, rows_block};
 
@@ -45,10 +45,8 @@ pub fn blocks_of(p: &PolicyBuffer, object: u64) -> Blocks
 {
     let count = policy::wall_count(p);
     let mut all = blocks::none();
-    let mut part = 0;
-    while 64 * part < count {
+    for part in 0..count.div_ceil(64) {
         all = with_part(p, object, part, count, all);
-        part += 1;
     }
     all
 }

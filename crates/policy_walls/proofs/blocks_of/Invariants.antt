@@ -1,12 +1,8 @@
 -- Over the parts that have kept rows; behind them nothing is left to find.
-use Prim.Native.Nat.{◌-◌, ◌≤◌}
 use mathlib.Core.Path.{◌≡◌}
 use Rattle.blocks.specs.Reading.{blocks_of, over}
 use Rattle.policy_walls.specs.Found.{blocks_from}
 use Rattle.policy_walls.proofs.blocks_of.Given as goal
 
 abbrev pub invariant-loop-part : goal.invariant-loop-part
-invariant-loop-part l = (l.part ≤ 4) × (over (blocks_of l.all) (blocks_from l.p l.object l.part) ≡ blocks_from l.p l.object 0)
-
-abbrev pub decreases-loop-part : goal.decreases-loop-part
-decreases-loop-part l = 4 - l.part
+invariant-loop-part l = over (blocks_of l.all) (blocks_from l.p l.object l.part) ≡ blocks_from l.p l.object 0
