@@ -10,9 +10,6 @@ loop-part-init c =
     let args = c.args in
     ap (λ f. over f (blocks_from args.p.now args.object 0)) c.none-all.ensures ∙ none_over _
 
-pub loop-part-preserved : goal.loop-part-preserved
-loop-part-preserved c = c.with_part-all.ensures ∙ c.loop-part.invariant
-
 pub returns : goal.returns
 returns c =
     sym (over_none _)
