@@ -5,7 +5,7 @@ use mathlib.Core.List.{List}
 use mathlib.Core.Path.{◌≡◌, refl, sym, ap, ◌∙◌}
 use native.Mathlib.Omega.{arith}
 use lib.Dec.{eqb}
-use borrow.Author.Tests.{eq-eqb, ne_eqb, eqb-true, eqb-false, leb-false, not-true, not-false}
+use borrow.Author.Tests.{eq-eqb, ne_eqb, eqb-true, eqb-false, leb-false}
 use Rattle.paper_lower.specs.Sets.{has}
 use Rattle.paper_lower.specs.Lists.{Maybe, some_number_below, holds, or_else, many}
 use Rattle.paper_lower.specs.Lists.Maybe.{none, just}
@@ -13,8 +13,6 @@ use Rattle.paper_lower.specs.Checks.{first}
 use Rattle.paper_lower.specs.Policy.{another, same_walled, wall_checks}
 use Rattle.paper_lower.proofs.ListLaws.{and-false, some_below, below_none}
 use Rattle.paper_lower.proofs.CheckLaws.{passed}
-use Rattle.replies.specs.Replies.{Reply, number_of}
-use Rattle.replies.proofs.ReplyLaws.{is_zero}
 use Rattle.blocks.specs.Reading.{nowhere, only, over, apart}
 use Rattle.policy.specs.Layout.{wall_rows, walled_is, wall_count, walled_at}
 use Rattle.policy.specs.Reading.{policy_of}
@@ -22,12 +20,12 @@ use Rattle.policy.proofs.RuleLaws.{walls-many}
 use Rattle.policy.proofs.WallLaws.{walled-for}
 
 -- A row that is not about object c is not the same as the record.
-pub says-not : (l : List ℕ) (k a b c : ℕ) → c < 65536 → {t : Bool} → t ≡ walled_is l c k → not t ≡ true → false ≡ same_walled a b c (walled_at l k)
+pub says-not : (l : List ℕ) (k a b c : ℕ) → c < 65536 → {t : Bool} → t ≡ walled_is l c k → t ≡ false → false ≡ same_walled a b c (walled_at l k)
 unfolding same_walled
 says-not l k a b c small {t} e f =
     let x = walled_at l k in
     let no : eqb x.object c ≡ false =
-    walled-for l c k small ∙ ap (◌&&◌ (has (wall_rows l c (k / 64)) (k % 64))) (sym e ∙ not-true t f) ∙ and-false (has (wall_rows l c (k / 64)) (k % 64)) in
+    walled-for l c k small ∙ ap (◌&&◌ (has (wall_rows l c (k / 64)) (k % 64))) (sym e ∙ f) ∙ and-false (has (wall_rows l c (k / 64)) (k % 64)) in
     sym (ap (◌&&◌ (eqb x.wall a && eqb x.block b)) no ∙ and-false (eqb x.wall a && eqb x.block b))
 
 -- ---- The blocks f differ from block b of wall a alone exactly if f has another block of wall a.
@@ -63,11 +61,14 @@ module _ (f : ℕ → Maybe ℕ) (a b : ℕ) (small : a < 16) where
       go true e = some_below 16 (apart f (over nowhere (only a b))) a small (at-wall ∙ e)
       go false e = below_none 16 (apart f (over nowhere (only a b))) (λ w h. every e w (eqb w a) refl)
 
--- If no check refuses the record, there is room for one more row. r is the reply, and t what `accepted` returned for it.
-pub wall-room : (l : List ℕ) (r : Reply) {t : Bool} → t ≡ eqb (number_of r) 0 → not t ≡ false → (a b c : ℕ) →
-    number_of r ≡ first (wall_checks (policy_of l) a b c) → wall_count l < 256
+-- The rows are as many as their number says.
+pub rows_many : (l : List ℕ) → many (policy_of l).walls ≡ wall_count l
+rows_many l = walls-many l
+
+-- If no check refuses the record, there is room for one more row.
+pub wall_room : (l : List ℕ) (a b c : ℕ) → 0 ≡ first (wall_checks (policy_of l) a b c) → wall_count l < 256
 unfolding wall_checks
-wall-room l r {t} is n a b c e =
-    let free = passed (wall_checks (policy_of l) a b c) (tt, (tt, (tt, tt))) (sym e ∙ is_zero r is (not-false t n)) in
+wall_room l a b c e =
+    let free = passed (wall_checks (policy_of l) a b c) (tt, (tt, (tt, tt))) (sym e) in
     let kept = walls-many l in
     omega (arith, leb-false 256 (many (policy_of l).walls) free.1.1.0)

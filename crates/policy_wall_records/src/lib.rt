@@ -1,10 +1,10 @@
 // Policy kind 18: puts an object into a block of a wall (02, Ask 11).
 #![tactic(auto)]
 
-ghost use Rattle.std.specs.Prelude.{◌≡◌, ◌<◌, length};
+ghost use Rattle.std.specs.Prelude.{◌≡◌, ◌<◌};
 ghost use Rattle.paper_lower.specs.Lists.{some};
 ghost use Rattle.paper_lower.specs.Policy.{another, block_of, same_walled, wall_checks, wall_next};
-ghost use Rattle.policy.specs.Layout.{policy_words, walled_at};
+ghost use Rattle.policy.specs.Layout.{walled_at};
 ghost use Rattle.policy.specs.Promises.{Judged, Recorded};
 ghost use Rattle.policy.specs.Reading.{policy_of};
 
@@ -50,6 +50,7 @@ fn elsewhere(p: &PolicyBuffer, a: u64, b: u64, c: u64) -> bool
 // ---- "policy kind 18, wall a, block b, object c"
 
 // The reply to the record.
+#[tactic(auto, using(crate::proofs::Laws::rows_many), unfolding(paper_lower::specs::Policy::wall_checks))]
 fn wall_reply(p: &PolicyBuffer, a: u64, b: u64, c: u64) -> Reply
     requires { (a < 16) × ((b < 16) × (c < 65536)) }
     ensures { Judged (λ t. wall_checks t a b c) p.now result }
@@ -67,6 +68,7 @@ fn wall_reply(p: &PolicyBuffer, a: u64, b: u64, c: u64) -> Reply
 }
 
 // Checks the record and, if it is accepted, adds its row.
+#[tactic(auto, using(crate::proofs::Laws::wall_room), unfolding(paper_lower::specs::Policy::wall_next))]
 pub fn wall(p: &mut PolicyBuffer, a: u64, b: u64, c: u64) -> Reply
     requires { (a < 16) × ((b < 16) × (c < 65536)) }
     ensures { Recorded (λ t. wall_checks t a b c) (λ t. wall_next t a b c) p.old p.new result }

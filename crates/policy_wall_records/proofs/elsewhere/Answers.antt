@@ -13,4 +13,4 @@ returns c =
     c.between.ensures
     ∙ (λ x. some_number_below 16
     (apart (c.blocks_of.ensures x) ((c.with-here.ensures ∙ ap (λ f. over f (only args.a args.b)) none.ensures) x)))
-    ∙ apart-one _ _ _ pre.1.0
+    ∙ apart-one _ _ _ pre.0
