@@ -12,6 +12,7 @@ use policy::PolicyBuffer;
 use replies::{Refusal, Reply};
 
 // Whether row k puts object c into block b of wall a.
+#[tactic(auto, unfolding(paper_lower::specs::Policy::same_walled))]
 fn row_says(p: &PolicyBuffer, k: usize, a: u64, b: u64, c: u64) -> bool
     requires { (k < 256) × (c < 65536) }
     ensures { result ≡ same_walled a b c (walled_at p.now k) }
