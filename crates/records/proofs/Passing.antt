@@ -7,7 +7,7 @@ use Prim.Native.Nat.{ℕ, ◌-◌, ◌^◌, ◌<◌, ◌≤◌}
 use native.Mathlib.Omega.{arith}
 use lib.Dec.{T, eqb, ltb, ltb→lt}
 use lib.ListN.{length}
-use borrow.Author.Tests.{eqb-true, leb-false, ltb-false, not-true, not-false}
+use borrow.Author.Tests.{eqb-true, leb-false, ltb-false, not-false}
 use Rattle.paper_lower.specs.Lists.{Maybe, holds, there}
 use Rattle.paper_lower.specs.Lists.Maybe.{none, just}
 use Rattle.paper_lower.specs.Checks.{first, granted, GRANTED, SHAPE, RANGE}
@@ -15,8 +15,9 @@ use Rattle.paper_lower.specs.Records.{Bytes, decode}
 use Rattle.paper_lower.specs.Forms.{Field, Form, form_of, misplaced, above, misshapen, out_of_range, form_checks}
 use Rattle.paper_lower.specs.Forms.Field.{·, to, any, pair}
 use Rattle.paper_lower.specs.Kinds.{Kind, chosen, reply_to, answer}
-use Rattle.replies.specs.Replies.{Reply, number_of}
-use Rattle.replies.proofs.ReplyLaws.{is_zero, not-zero}
+use Rattle.replies.specs.Replies.{refusal_number}
+use Rattle.replies.specs.declared.Refusal.{Refusal}
+use Rattle.replies.proofs.ReplyLaws.{not-granted}
 use Rattle.replies.proofs.DoneLaws.{granted-old}
 use Rattle.records.specs.Reading.{paper_of, Small, Decoded}
 use Rattle.records.specs.Table.{limit}
@@ -44,20 +45,19 @@ goes_on true b more e = absurd (omega arith)
 goes_on false true more e = absurd (omega arith)
 goes_on false false more e = refl
 
--- r is the reply of `judge`, and b what `accepted` returned for it: r is a refusal.
-module _ (fs : List Form) (s : Bytes) {T : Type 0} (ks : List (Kind T)) (t : T) (r : Reply) {b : Bool} (judged : number_of r ≡ first (form_checks fs s))
-    (accepts : b ≡ eqb (number_of r) 0) (n : not b ≡ true) where
-  refused-reply : reply_to fs ks t s ≡ number_of r
+-- e is the refusal of `judge`.
+module _ (fs : List Form) (s : Bytes) {T : Type 0} (ks : List (Kind T)) (t : T) (e : Refusal) (judged : refusal_number e ≡ first (form_checks fs s)) where
+  refused-reply : reply_to fs ks t s ≡ refusal_number e
   unfolding reply_to form_checks
   refused-reply =
-      stops (shape_fails fs s) (range_fails fs s) (first ((chosen ks (decode s).kind).checks t (decode s))) (sym judged) (not-zero r accepts (not-true b n))
+      stops (shape_fails fs s) (range_fails fs s) (first ((chosen ks (decode s).kind).checks t (decode s))) (sym judged) (not-granted e)
 
-  pub refused-answer : answer fs ks t s ≡ record { reply = number_of r; tables = granted (number_of r) t t }
+  pub refused-answer : answer fs ks t s ≡ record { reply = refusal_number e; tables = granted (refusal_number e) t t }
   unfolding answer
   refused-answer =
-      let refused = not-zero r accepts (not-true b n) in
       rw refused-reply
-      (ap (λ (x : T). record { reply = number_of r; tables = x }) (sym (granted-old _ t (number_of r) refused) ∙ granted-old t t (number_of r) refused))
+      (ap (λ (x : T). record { reply = refusal_number e; tables = x })
+      (sym (granted-old _ t (refusal_number e) (not-granted e)) ∙ granted-old t t (refusal_number e) (not-granted e)))
 
 -- ---- A record that passed.
 
@@ -97,11 +97,10 @@ limits_of (just f) r h e o =
       within (2 ^ 64 - 1) f.m (omega (arith, h.m)) es.4 os.4,
     )
 
--- r is the reply of `judge`, b what `accepted` returned for it, and d the decoded record: r is GRANTED.
-module _ (fs : List Form) (s : Bytes) (r : Reply) {b : Bool} (judged : number_of r ≡ first (form_checks fs s)) (accepts : b ≡ eqb (number_of r) 0)
-    (n : not b ≡ false) where
+-- `judge` granted the record, and d is the decoded record.
+module _ (fs : List Form) (s : Bytes) (judged : 0 ≡ first (form_checks fs s)) where
   no-refusal : first (form_checks fs s) ≡ GRANTED
-  no-refusal = sym judged ∙ is_zero r accepts (not-false b n)
+  no-refusal = sym judged
 
   pub sized : length s ≡ 16
   unfolding form_checks
