@@ -1,10 +1,8 @@
-use Prim.Native.Nat.{◌-◌}
 use mathlib.Core.Path.{◌≡◌, refl, sym, ap₂, ◌∙◌}
 use native.Mathlib.Omega.{arith}
 use Rattle.paper_lower.specs.Roles.{of_subjects, active_of}
 use Rattle.paper_lower.specs.Sets.{union, union_below}
 use Rattle.replies.proofs.SearchLaws.{union_more}
-use borrow.Author.Rules.{rules}
 use Rattle.sessions.proofs.active_of.Goals as goal
 
 pub loop-a-init : goal.loop-a-init

@@ -1,5 +1,4 @@
 -- `active_of` meets its contract. The invariant of the loop: the set is the union of the active roles of user u's subjects below a.
-use Prim.Native.Nat.{◌≤◌, ◌-◌}
 use mathlib.Core.Bool.{cond}
 use mathlib.Core.Path.{◌≡◌}
 use Rattle.paper_lower.specs.Roles.{subject_of}

@@ -1,6 +1,4 @@
 -- `create` meets its contract: its three stores replace the row of the subject.
-use native.Mathlib.Omega.{arith}
-use lib.ListN.{length-set}
 use Rattle.sessions.proofs.StoreLaws.{create-set}
 use Rattle.sessions.proofs.create.Goals as goal
 

@@ -1,6 +1,4 @@
 -- `destroy` meets its contract: its three stores empty the row of the subject.
-use native.Mathlib.Omega.{arith}
-use lib.ListN.{length-set}
 use Rattle.sessions.proofs.StoreLaws.{destroy-set}
 use Rattle.sessions.proofs.destroy.Goals as goal
 

@@ -9,7 +9,6 @@ use mir.Val.{bool_byte}
 use Rattle.paper_lower.specs.Lists.{some_number_below}
 use Rattle.paper_lower.specs.Roles.{subject_of}
 use Rattle.sessions.specs.Reading.{sessions_of}
-use borrow.Author.Rules.{rules}
 use Rattle.sessions.proofs.has_among.Goals as goal
 
 below_up : (f : ℕ → Bool) (k : ℕ) → some_number_below (k + 1) f ≡ f k || some_number_below k f

@@ -1,6 +1,6 @@
 -- `has_among` meets its contract. The invariant of the loop: there were hits exactly
 -- if one of the first a subjects from `from` on is live and belongs to user u.
-use Prim.Native.Nat.{◌+◌, ◌≤◌, ◌-◌}
+use Prim.Native.Nat.{◌+◌, ◌≤◌}
 use mathlib.Core.Path.{◌≡◌}
 use lib.Dec.{ltb}
 use Rattle.paper_lower.specs.Lists.{some_number_below}

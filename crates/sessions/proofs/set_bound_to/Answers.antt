@@ -1,6 +1,4 @@
 -- `set_bound_to` meets its contract: its two stores replace the blocks of the user.
-use native.Mathlib.Omega.{arith}
-use lib.ListN.{length-set}
 use Rattle.sessions.proofs.StoreLaws.{bound-set}
 use Rattle.sessions.proofs.set_bound_to.Goals as goal
 

@@ -1,6 +1,4 @@
 -- `set_roles` meets its contract: its two stores replace the rows of the subject in the two tables of roles.
-use native.Mathlib.Omega.{arith}
-use lib.ListN.{length-set}
 use Rattle.sessions.proofs.StoreLaws.{roles-set}
 use Rattle.sessions.proofs.set_roles.Goals as goal
 
