@@ -1,12 +1,10 @@
--- Laws for requests 56 and 59: without walls WALL does not apply, the test and the store of
--- a commit are those of the definition, the checks before WALL, and a check stores nothing.
+-- Laws for requests 56 and 59: without walls WALL does not apply, the test and the store
+-- of a commit are those of the definition, and the checks before WALL.
 use Prim.Native.Nat.{ℕ}
 use mathlib.Core.Bool.{Bool, true, false, not, cond}
 use mathlib.Core.List.{List, []}
 use mathlib.Core.Path.{◌≡◌, refl, sym, ap, ap₂, ◌∙◌}
 use native.Mathlib.Omega.{arith}
-use borrow.Author.Tests.{ne_eqb, not-true, not-false}
-use lib.Dec.{eqb}
 use lib.ListN.{take}
 use Rattle.paper_lower.specs.Checks.{first, UNKNOWN, DENIED, WALL}
 use Rattle.paper_lower.specs.Lists.{Maybe, some_number_below, holds}
@@ -14,10 +12,9 @@ use Rattle.paper_lower.specs.Tables.{Walled, Sessions, Lower}
 use Rattle.paper_lower.specs.Policy.{block_of, down}
 use Rattle.paper_lower.specs.Sessions.{allowed, wall_between, check_checks, commit_next}
 use Rattle.replies.specs.Cells.{rows, rows_from}
-use Rattle.replies.specs.Replies.{Reply, number_of}
-use Rattle.replies.specs.declared.Refusal.TheVariants.{Granted, Wall}
-use Rattle.replies.specs.Done.{Done}
-use Rattle.replies.proofs.ReplyLaws.{is_zero, not-zero}
+use Rattle.replies.specs.Replies.{refusal_number}
+use Rattle.replies.specs.declared.Refusal.{Refusal}
+use Rattle.replies.proofs.ReplyLaws.{not-granted}
 use Rattle.policy.specs.Layout.{wall_count, walled_at}
 use Rattle.policy.specs.Reading.{policy_of}
 use Rattle.policy.proofs.RuleLaws.{walls-are}
@@ -29,17 +26,18 @@ nobody : (f : ℕ → Maybe ℕ) (object : ℕ) → some_number_below 16 (apart 
 unfolding some_number_below holds block_of
 nobody f object = refl
 
-pub no-walls : (p s : List ℕ) (u object : ℕ) → wall_count p ≡ 0 → wall_between (lower_tables p s) u object ≡ false
+pub no_walls : (p s : List ℕ) (u object : ℕ) → wall_count p ≡ 0 → wall_between (lower_tables p s) u object ≡ false
 unfolding wall_between rows_from
-no-walls p s u object e =
+no_walls p s u object e =
     let none : (policy_of p).walls ≡ [] = walls-are p ∙ ap (λ (n : ℕ). rows (walled_at p) n) e in
     ap (λ (x : List Walled). some_number_below 16 (apart (block_of x object) ((lower_tables p s).sessions.bound_to u))) none ∙
     nobody ((lower_tables p s).sessions.bound_to u) object
 
-pub walls-between : (t : Lower) (u object : ℕ) (f g : ℕ → Maybe ℕ) → f ≡ block_of t.policy.walls object → g ≡ t.sessions.bound_to u
-    → some_number_below 16 (apart f g) ≡ wall_between t u object
+pub walls-between : (t : Lower) (a object u : ℕ) (f g : ℕ → Maybe ℕ) → u ≡ t.sessions.user a → f ≡ block_of t.policy.walls object → g ≡ t.sessions.bound_to u
+    → some_number_below 16 (apart f g) ≡ wall_between t (t.sessions.user a) object
 unfolding wall_between
-walls-between t u object f g d e = ap₂ (λ (x y : ℕ → Maybe ℕ). some_number_below 16 (apart x y)) d e
+walls-between t a object u f g e d k =
+    ap₂ (λ (x y : ℕ → Maybe ℕ). some_number_below 16 (apart x y)) d k ∙ ap (λ (n : ℕ). wall_between t n object) e
 
 pub committed : (t : Lower) (a object u : ℕ) (f g h : ℕ → Maybe ℕ) → u ≡ t.sessions.user a → f ≡ block_of t.policy.walls object →
     g ≡ t.sessions.bound_to u → h ≡ over f g
@@ -53,36 +51,24 @@ committed t a object u f g h e d k m =
 abbrev shut : Lower → ℕ → ℕ → ℕ → Bool
 shut t a operation object = not (allowed t.policy.permissions (down t.policy.seniority (t.sessions.active a)) operation object)
 
--- ---- The checks before WALL. r is their reply, and b what `accepted` returned for it.
+-- ---- The checks before WALL: the reply to all checks if one of them refuses, and if they are passed.
 module _ (t : Lower) (a operation object : ℕ) where
-  module _ (r : Reply) {b : Bool} (e : number_of r ≡ first (take 2 (check_checks t a operation object))) (is : b ≡ eqb (number_of r) 0) where
-    pub stopped : not b ≡ true → number_of r ≡ first (check_checks t a operation object)
-    unfolding check_checks
-    stopped n = e ∙ go (not (t.sessions.live a)) (shut t a operation object) (λ z. not-zero r is (not-true b n) (e ∙ z))
-      where
-        go : (x y : Bool) → (cond x UNKNOWN (cond y DENIED 0) ≡ 0 → ⊥)
-            → cond x UNKNOWN (cond y DENIED 0) ≡ cond x UNKNOWN (cond y DENIED (cond (wall_between t (t.sessions.user a) object) WALL 0))
-        go true y h = refl
-        go false true h = refl
-        go false false h = absurd (h refl)
+  pub stopped : (e : Refusal) → refusal_number e ≡ first (take 2 (check_checks t a operation object)) → refusal_number e ≡ first (check_checks t a operation object)
+  unfolding check_checks
+  stopped e q = q ∙ go (not (t.sessions.live a)) (shut t a operation object) (λ z. not-granted e (q ∙ z))
+    where
+      go : (x y : Bool) → (cond x UNKNOWN (cond y DENIED 0) ≡ 0 → ⊥)
+          → cond x UNKNOWN (cond y DENIED 0) ≡ cond x UNKNOWN (cond y DENIED (cond (wall_between t (t.sessions.user a) object) WALL 0))
+      go true y h = refl
+      go false true h = refl
+      go false false h = absurd (h refl)
 
-    pub walled : {wall : Bool} → not b ≡ false → wall ≡ wall_between t (t.sessions.user a) object → first (check_checks t a operation object) ≡ cond wall WALL 0
-    unfolding check_checks
-    walled {wall} n w = rw (← w) (go (not (t.sessions.live a)) (shut t a operation object) (sym e ∙ is_zero r is (not-false b n)))
-      where
-        go : (x y : Bool) → cond x UNKNOWN (cond y DENIED 0) ≡ 0 → cond x UNKNOWN (cond y DENIED (cond wall WALL 0)) ≡ cond wall WALL 0
-        go true y h = absurd (omega arith)
-        go false true h = absurd (omega arith)
-        go false false h = refl
-
--- ---- The returns of `ask`: refused with WALL, granted to a check, and granted to a commit, which binds the user.
-module _ {reply : ℕ} (kind : ℕ) (l : List ℕ) (next : Sessions) where
-  pub refused-wall : reply ≡ WALL → Done sessions_of reply next l l Wall
-  refused-wall e = record { replies = sym e; tables = rw e; kept = λ _. refl }
-
-  pub asked : reply ≡ 0 → kind ≡ 56 → Done sessions_of reply (cond (eqb kind 56) (sessions_of l) next) l l Granted
-  asked e k = record { replies = sym e; tables = rw (e, k); kept = λ _. refl }
-
-  pub committed-all : {l' : List ℕ} → reply ≡ 0 → (kind ≡ 56 → ⊥) → sessions_of l' ≡ next
-      → Done sessions_of reply (cond (eqb kind 56) (sessions_of l) next) l l' Granted
-  committed-all e k t = record { replies = sym e; tables = rw (e, ne_eqb kind 56 k) t; kept = λ h. absurd (h refl) }
+  pub walled : {wall : Bool} → 0 ≡ first (take 2 (check_checks t a operation object)) → wall ≡ wall_between t (t.sessions.user a) object
+      → first (check_checks t a operation object) ≡ cond wall WALL 0
+  unfolding check_checks
+  walled {wall} q w = rw (← w) (go (not (t.sessions.live a)) (shut t a operation object) (sym q))
+    where
+      go : (x y : Bool) → cond x UNKNOWN (cond y DENIED 0) ≡ 0 → cond x UNKNOWN (cond y DENIED (cond wall WALL 0)) ≡ cond wall WALL 0
+      go true y h = absurd (omega arith)
+      go false true h = absurd (omega arith)
+      go false false h = refl

@@ -2,9 +2,7 @@
 // anything, and the function of the request also carries it out if it is granted. The contracts are in specs/Promises.
 #![tactic(auto)]
 
-ghost use Rattle.std.specs.Prelude.{◌≡◌, ◌<◌, length};
-ghost use Rattle.policy.specs.Layout.{policy_words};
-ghost use Rattle.sessions.specs.Reading.{sessions_words};
+ghost use Rattle.std.specs.Prelude.{◌<◌};
 ghost use Rattle.session_subjects.specs.Promises.{CreateJudged, Created, DestroyJudged, Destroyed, ActivateJudged, Activated, DeactivateJudged, Deactivated, OpenJudged, QuickJudged, Asked};
 
 use policy::{PolicyBuffer, SetKind};
@@ -14,6 +12,7 @@ use sets::Set;
 
 // ---- 40: create subject a for user b with active roles m.
 
+#[tactic(auto, unfolding(paper_lower::specs::Sessions::create_checks))]
 fn create_reply(p: &PolicyBuffer, s: &SessionsBuffer, a: u64, b: u64, m: Set) -> Reply
     requires { (a < 128) × (b < 1024) }
     ensures { CreateJudged p.now s.now a b m.bits result }
@@ -48,6 +47,7 @@ pub fn create(p: &PolicyBuffer, s: &mut SessionsBuffer, a: u64, b: u64, m: Set) 
 // ---- 41: destroy subject a. The policy does not matter. The upper part has further checks, so it calls `destroy_reply` itself.
 
 // The reply of the lower part's checks.
+#[tactic(auto, unfolding(paper_lower::specs::Sessions::destroy_checks))]
 pub fn destroy_reply(s: &SessionsBuffer, a: u64) -> Reply
     requires { a < 128 }
     ensures { DestroyJudged s.now a result }
@@ -70,6 +70,7 @@ pub fn destroy(s: &mut SessionsBuffer, a: u64) -> Reply
 
 // ---- 42: activate role b in subject a.
 
+#[tactic(auto, unfolding(paper_lower::specs::Sessions::activate_checks))]
 fn activate_reply(p: &PolicyBuffer, s: &SessionsBuffer, a: u64, b: u64) -> Reply
     requires { (a < 128) × (b < 64) }
     ensures { ActivateJudged p.now s.now a b result }
@@ -106,6 +107,7 @@ pub fn activate(p: &PolicyBuffer, s: &mut SessionsBuffer, a: u64, b: u64) -> Rep
 
 // ---- 43: deactivate role b in subject a.
 
+#[tactic(auto, unfolding(paper_lower::specs::Sessions::deactivate_checks))]
 fn deactivate_reply(p: &PolicyBuffer, s: &SessionsBuffer, a: u64, b: u64) -> Reply
     requires { (a < 128) × (b < 64) }
     ensures { DeactivateJudged p.now s.now a b result }
@@ -134,6 +136,7 @@ pub fn deactivate(p: &PolicyBuffer, s: &mut SessionsBuffer, a: u64, b: u64) -> R
 // ---- 56: whether subject a may do the operation on the object. It changes nothing.
 
 // The reply of the checks before WALL.
+#[tactic(auto, unfolding(paper_lower::specs::Sessions::check_checks))]
 fn open_reply(p: &PolicyBuffer, s: &SessionsBuffer, a: u64, operation: u64, object: u64) -> Reply
     requires { (a < 128) × ((operation < 65536) × (object < 65536)) }
     ensures { OpenJudged p.now s.now a operation object result }
@@ -150,6 +153,7 @@ fn open_reply(p: &PolicyBuffer, s: &SessionsBuffer, a: u64, operation: u64, obje
 
 // The reply to request 56, if the policy has no walls and the word of the pair lists no group of eight. Otherwise it returns `None`, and
 // the caller has to use `ask`. It repeats the tests of `open_reply`, because a function with two callers would not be inlined.
+#[tactic(auto, using(crate::proofs::WallLaws::no_walls), unfolding(paper_lower::specs::Sessions::check_checks))]
 pub fn quick_reply(
     p: &PolicyBuffer,
     s: &SessionsBuffer,
