@@ -3,11 +3,9 @@
 // 34 and 36 use policy kinds 4 and 5.
 #![tactic(auto)]
 
-ghost use Rattle.std.specs.Prelude.{◌≡◌, ◌<◌, length};
+ghost use Rattle.std.specs.Prelude.{◌≡◌, ◌<◌};
 ghost use Rattle.paper_lower.specs.Roles.{user_gone, lost_by};
-ghost use Rattle.policy.specs.Layout.{policy_words};
 ghost use Rattle.policy.specs.Reading.{policy_of};
-ghost use Rattle.sessions.specs.Reading.{sessions_words};
 ghost use Rattle.sessions.specs.Lower.{lower_tables};
 ghost use Rattle.session_roles.specs.Promises.{JoinJudged, Joined, DeleteJudged, Deleted, TakeBackJudged, TakenBack, WithdrawJudged, Withdrawn};
 
@@ -18,6 +16,7 @@ use sets::Set;
 
 // ---- 32: add user a with roles m.
 
+#[tactic(auto, unfolding(paper_lower::specs::Roles::join_checks))]
 fn join_reply(p: &PolicyBuffer, a: u64, m: Set) -> Reply
     requires { a < 1024 }
     ensures { JoinJudged p.now a m.bits result }
@@ -35,6 +34,7 @@ fn join_reply(p: &PolicyBuffer, a: u64, m: Set) -> Reply
 }
 
 // Adds user a with the roles m, unless a check refuses it.
+#[tactic(auto, unfolding(paper_lower::specs::Roles::join_next))]
 pub fn join(p: &mut PolicyBuffer, a: u64, m: Set) -> Reply
     requires { a < 1024 }
     ensures { Joined p.old p.new a m.bits result }
@@ -47,6 +47,7 @@ pub fn join(p: &mut PolicyBuffer, a: u64, m: Set) -> Reply
 // ---- 33: delete user a. The upper part has further checks, so it calls `delete_reply` and `remove` itself.
 
 // The reply of the lower part's checks.
+#[tactic(auto, unfolding(paper_lower::specs::Roles::delete_checks))]
 pub fn delete_reply(p: &PolicyBuffer, s: &SessionsBuffer, a: u64) -> Reply
     requires { a < 1024 }
     ensures { DeleteJudged p.now s.now a result }
@@ -59,6 +60,7 @@ pub fn delete_reply(p: &PolicyBuffer, s: &SessionsBuffer, a: u64) -> Reply
 }
 
 // Removes the declaration of the user, the user's roles, and the blocks that the user is bound to. The caller has checked the request.
+#[tactic(auto, unfolding(paper_lower::specs::Roles::user_gone, paper_lower::specs::Roles::delete_next, paper_lower::specs::Roles::forget_next))]
 pub fn remove(p: &mut PolicyBuffer, s: &mut SessionsBuffer, a: u64)
     requires { a < 1024 }
     ensures { lower_tables p.new s.new ≡ user_gone (lower_tables p.old s.old) a }
@@ -81,6 +83,7 @@ pub fn delete(p: &mut PolicyBuffer, s: &mut SessionsBuffer, a: u64) -> Reply
 // ---- 35: take role b from user a.
 
 // The roles that user a would no longer have without role b, counting the roles below those assigned.
+#[tactic(auto, unfolding(paper_lower::specs::Roles::lost_by))]
 fn lost_by(p: &PolicyBuffer, a: u64, b: u64) -> Set
     requires { (a < 1024) × (b < 64) }
     ensures { result.bits ≡ lost_by (policy_of p.now) a b }
@@ -92,6 +95,7 @@ fn lost_by(p: &PolicyBuffer, a: u64, b: u64) -> Set
     before.beyond(after)
 }
 
+#[tactic(auto, unfolding(paper_lower::specs::Roles::take_back_checks))]
 fn take_back_reply(p: &PolicyBuffer, s: &SessionsBuffer, a: u64, b: u64) -> Reply
     requires { (a < 1024) × (b < 64) }
     ensures { TakeBackJudged p.now s.now a b result }
@@ -110,6 +114,7 @@ fn take_back_reply(p: &PolicyBuffer, s: &SessionsBuffer, a: u64, b: u64) -> Repl
 }
 
 // Takes role b from user a, unless a check refuses it.
+#[tactic(auto, unfolding(paper_lower::specs::Roles::take_back_next))]
 pub fn take_back(p: &mut PolicyBuffer, s: &SessionsBuffer, a: u64, b: u64) -> Reply
     requires { (a < 1024) × (b < 64) }
     ensures { TakenBack p.old p.new s.now a b result }
@@ -122,6 +127,7 @@ pub fn take_back(p: &mut PolicyBuffer, s: &SessionsBuffer, a: u64, b: u64) -> Re
 
 // ---- 37: take permission b from role a.
 
+#[tactic(auto, unfolding(paper_lower::specs::Roles::withdraw_checks))]
 fn withdraw_reply(p: &PolicyBuffer, a: u64, b: u64) -> Reply
     requires { (a < 64) × (b < 256) }
     ensures { WithdrawJudged p.now a b result }
@@ -136,6 +142,7 @@ fn withdraw_reply(p: &PolicyBuffer, a: u64, b: u64) -> Reply
 }
 
 // Takes permission b from role a, unless a check refuses it.
+#[tactic(auto, unfolding(paper_lower::specs::Roles::withdraw_next))]
 pub fn withdraw(p: &mut PolicyBuffer, a: u64, b: u64) -> Reply
     requires { (a < 64) × (b < 256) }
     ensures { Withdrawn p.old p.new a b result }
