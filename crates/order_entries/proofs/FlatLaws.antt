@@ -7,6 +7,7 @@ use native.Mathlib.Numerals.{add-one}
 use native.Mathlib.Omega.{arith}
 use borrow.Author.Tests.{lt-ltb, eq-eqb, ne_eqb, eqb-true}
 use lib.Dec.{ltb, eqb}
+use mir.Val.{bool_byte}
 use Rattle.paper_lower.specs.Lists.{some_number_below, some, Every}
 use Rattle.paper_lower.proofs.ListLaws.{both, none_below, below_none, every_map, some-none, none-some}
 use Rattle.paper_upper.specs.Orders.{Entry}
@@ -32,19 +33,26 @@ below_up : (f : ℕ → Bool) (k : ℕ) → some_number_below (k + 1) f ≡ f k 
 unfolding some_number_below
 below_up f k = rw add-one
 
+-- A Boolean added as a number.
+pub counted : (b : Bool) (n : ℕ) → n + bool_byte b ≡ cond b (n + 1) n
+counted true n = refl
+counted false n = omega arith
+
 -- Counting hits: there were hits exactly if their number is not 0.
 more-some : (hit : Bool) (n : ℕ) → ltb 0 (cond hit (n + 1) n) ≡ hit || ltb 0 n
 more-some true n = lt-ltb 0 (n + 1) (omega arith)
 more-some false n = refl
 
-pub more-le : (hit : Bool) (n k : ℕ) → n ≤ k → cond hit (n + 1) n ≤ k + 1
+more-le : (hit : Bool) (n k : ℕ) → n ≤ k → cond hit (n + 1) n ≤ k + 1
 more-le true n k h = omega arith
 more-le false n k h = omega arith
 
-pub up_more : (l : List ℕ) (k mask key w n n' : ℕ) (hit : Bool) → w ≡ word_at l (k + 1) → hit ≡ fits mask key w → n' ≡ cond hit (n + 1) n →
-    ltb 0 n ≡ any_up_to l k mask key → ltb 0 n' ≡ any_up_to l (k + 1) mask key
-up_more l k mask key w n n' hit ew eh en e =
-    ap (ltb 0) en ∙ more-some hit n ∙ ap₂ ◌||◌ (eh ∙ ap (fits mask key) ew) e ∙ sym (below_up (λ k. fits mask key (word_at l (k + 1))) k)
+pub up_more : (l : List ℕ) (k mask key w n d : ℕ) (hit : Bool) → w ≡ word_at l (k + 1) → hit ≡ fits mask key w → d ≡ bool_byte hit →
+    n ≤ k → ltb 0 n ≡ any_up_to l k mask key → (n + d ≤ k + 1) × (ltb 0 (n + d) ≡ any_up_to l (k + 1) mask key)
+up_more l k mask key w n d hit ew eh ed le e = rw (ed, counted hit n) (
+  more-le hit n k le,
+  more-some hit n ∙ ap₂ ◌||◌ (eh ∙ ap (fits mask key) ew) e ∙ sym (below_up (λ k. fits mask key (word_at l (k + 1))) k),
+)
 
 -- ---- A search along a chain, by the numbers of its entries.
 module _ (l : List ℕ) (p : Entry → Bool) where

@@ -1,4 +1,4 @@
--- A buffer of zeros reads as no orders; and the result of the loop of `clear`.
+-- A buffer of zeros reads as no orders.
 use Prim.Native.Nat.{ℕ, zero, suc, ◌≤◌}
 use mathlib.Core.List.{List, [], ◌++◌, append-nil}
 use mathlib.Core.Path.{◌≡◌, refl, ◌∙◌, fun_ext}
@@ -21,16 +21,11 @@ unfolding orders_of no_orders rev_onto
 no-orders l zeros =
     λ x. record { opened = fun_ext (zeros-template l zeros) x; entries = rev_onto (none-joined (entries_in l) 64 (zeros-entries l zeros) x) [] }
 
-pub cleared : (l : List ℕ) (n : ℕ) {l' : List ℕ} → length l ≡ orders_words → n ≡ orders_words → l' ≡ replicate n 0 ++ drop n l → Cleared l'
-cleared l n {l'} room full e =
-    rw (e ∙ tail) (record {
+pub cleared : (l : List ℕ) (n : ℕ) → n ≡ orders_words → l ≡ replicate n 0 → Cleared l
+cleared l n full e =
+    rw e (record {
       tables = no-orders (replicate n 0) (zeros-at n);
       room = length-replicate n 0 ∙ full;
       sound = zeros-sound (replicate n 0) (zeros-at n);
       zeros = zeros-at n;
     })
-  where
-    tail : replicate n 0 ++ drop n l ≡ replicate n 0
-    tail =
-        let h : length l ≤ n = omega arith in
-        rw (drop_of_length-le l h) (append-nil (replicate n 0))

@@ -14,10 +14,10 @@ ghost use Rattle.order_entries.specs.Acts.{InLimits, after_enter, after_release,
 ghost use Rattle.order_entries.specs.Gathering.{gathered_of, taken_within, kept};
 
 use order_links::{
-    FREE, HAS_USER, HELD_BY, HOLDER, LINK, NUMBERS, ORDER_HELD, ORDERS_WORDS, OrdersBuffer,
+    EntryWord, FREE, HAS_USER, HELD_BY, HOLDER, LINK, NUMBERS, ORDER_HELD, OrdersBuffer,
     WORD_SUBJECT, WORD_TASK, WORD_USER,
 };
-use sets::{Set, pick, set_of};
+use sets::{Set, pick};
 
 // An instance: whether it is open, and its template.
 #[derive(Clone, Copy)]
@@ -48,8 +48,7 @@ pub fn set_opened(o: &mut OrdersBuffer, i: u64, j: u64)
 pub fn in_use(o: &OrdersBuffer) -> usize
     ensures { sound_of o.now ≡ true → result ≡ many (orders_of o.now).entries }
 {
-    let free = order_links::chain(o, FREE);
-    let spare = order_links::count_of(free);
+    let spare = order_links::chain(o, FREE).count();
     let m = order_links::mark(o);
     ((m + NUMBERS - spare) % NUMBERS) as usize
 }
@@ -67,27 +66,19 @@ pub struct Gathered {
     pub held: u64,
 }
 
-// n, plus 1 if c holds.
-fn more_if(c: bool, n: u64) -> u64
-    requires { n < 4096 }
-    ensures { result ≡ cond c (n + 1) n }
-{
-    if c { n + 1 } else { n }
-}
-
 // Adds one entry of the instance, without a branch. The done tasks are not changed: they are read from the kept set.
-fn take_in(g: Gathered, w: u64, u: u64, t: u64) -> Gathered
+fn take_in(g: Gathered, w: EntryWord, u: u64, t: u64) -> Gathered
     requires { g.times < 4096 }
-    ensures { result ≡ taken_within u t (user_of w) (task_of w) (done_bit w) g }
+    ensures { result ≡ taken_within u t (user_of w.bits) (task_of w.bits) (done_bit w.bits) g }
 {
-    let task = order_links::task_of(w);
-    let own = order_links::user_of(w) == u;
+    let task = w.task();
+    let own = w.user() == u;
     let this = task == t;
-    let finished = order_links::is_done(w);
+    let finished = w.is_done();
     let mine = g.mine.with_if(own, task);
     let done = g.done;
     let others = g.others.with_if(!own, task);
-    let times = more_if(this, g.times);
+    let times = g.times + u64::from(this);
     let held = pick(this & !finished, 1, g.held);
     Gathered {
         mine,
@@ -105,20 +96,19 @@ pub fn gather(o: &OrdersBuffer, i: u64, u: u64, t: u64) -> Gathered
 {
     let x = order_links::chain(o, i);
     let done = order_links::done(o, i);
-    let mut h = order_links::head_of(x);
-    let mut n = order_links::count_of(x);
+    let n = x.count();
+    let mut h = x.head();
     let mut g = Gathered {
         mine: Set::EMPTY,
-        done: set_of(done),
+        done,
         others: Set::EMPTY,
         times: 0,
         held: 0,
     };
-    while 0 < n {
+    for _passed in 0..n {
         let w = order_links::linked(o, h);
         g = take_in(g, w, u, t);
-        h = order_links::link_of(w);
-        n -= 1;
+        h = w.link();
     }
     g
 }
@@ -131,33 +121,24 @@ fn any_in(o: &OrdersBuffer, i: u64, mask: u64, key: u64) -> bool
     ensures { sound_of o.now ≡ true → result ≡ any_in o.now i mask key }
 {
     let x = order_links::chain(o, i);
-    let mut h = order_links::head_of(x);
-    let mut n = order_links::count_of(x);
+    let n = x.count();
+    let mut h = x.head();
     let mut found = false;
-    while 0 < n {
+    for _passed in 0..n {
         let w = order_links::linked(o, h);
-        found = (w & mask == key) | found;
-        h = order_links::link_of(w);
-        n -= 1;
+        found = (w.bits & mask == key) | found;
+        h = w.link();
     }
     found
 }
 
 // Whether the lower half of a word equals the key under the mask. On halves, one vector instruction compares four words; callers count hits in a u32, which
 // keeps this width.
-fn half_fits(w: u64, mask: u32, key: u32) -> bool
-    ensures { result ≡ fits mask key w }
+fn half_fits(w: EntryWord, mask: u32, key: u32) -> bool
+    ensures { result ≡ fits mask key w.bits }
 {
-    let half = (w % LINK) as u32;
+    let half = (w.bits % LINK) as u32;
     half & mask == key
-}
-
-// n, plus 1 if there was a hit.
-fn one_more(hit: bool, n: u32) -> u32
-    requires { n < 4096 }
-    ensures { result ≡ cond hit (n + 1) n }
-{
-    if hit { n + 1 } else { n }
 }
 
 // Whether some entry up to the mark has a word that equals the key under the mask. It goes through the words in order and not along the links, without an
@@ -170,7 +151,7 @@ fn any(o: &OrdersBuffer, mask: u32, key: u32) -> bool
     for k in 0..m {
         let w = order_links::word(o, k + 1);
         let hit = half_fits(w, mask, key);
-        hits = one_more(hit, hits);
+        hits += u32::from(hit);
     }
     0 < hits
 }
@@ -230,20 +211,16 @@ pub fn figures_of(o: &OrdersBuffer, i: u64) -> Figures
     requires { i < 64 }
     ensures { sound_of o.now ≡ true → result ≡ kept (figures_of i (orders_of o.now).entries) }
 {
-    let x = order_links::chain(o, i);
-    let entries = order_links::count_of(x);
-    let d = order_links::done(o, i);
-    Figures {
-        entries,
-        done: set_of(d),
-    }
+    let entries = order_links::chain(o, i).count();
+    let done = order_links::done(o, i);
+    Figures { entries, done }
 }
 
 // ---- Changes.
 
 // Adds an entry: instance i, user u, task t, held by subject a.
 pub fn enter(o: &mut OrdersBuffer, i: u64, u: u64, t: u64, a: u64)
-    requires { (u < 1024) × (InLimits i t a) }
+    requires { (u < 1024) × InLimits i t a }
     ensures { (length o.new ≡ length o.old) × (sound_of o.old ≡ true → there ((orders_of o.old).opened i) ≡ true → many (orders_of o.old).entries < 2048 → Enters (after_enter (orders_of o.old) i u t a) o.new) }
 {
     order_links::enter(o, i, u, t, a);
@@ -277,7 +254,5 @@ pub fn end_order(o: &mut OrdersBuffer, i: u64)
 pub fn clear(o: &mut OrdersBuffer)
     ensures { Cleared o.new }
 {
-    for k in 0..ORDERS_WORDS {
-        o[k] = 0;
-    }
+    o.fill(0);
 }

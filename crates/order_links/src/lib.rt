@@ -4,14 +4,14 @@
 // sound links (specs/Acts, specs/Total).
 #![tactic(auto)]
 
-ghost use Rattle.std.specs.Prelude.{◌≡◌, ◌+◌, ◌/◌, ◌%◌, ◌<◌, ◌≤◌, length, true, false, not, ◌&&◌, [], eqb};
+ghost use Rattle.std.specs.Prelude.{◌≡◌, ◌+◌, ◌/◌, ◌%◌, ◌<◌, ◌≤◌, length, true, false, not, ◌&&◌, [], eqb, get_or};
 ghost use Rattle.paper_lower.specs.Sets.{has};
 ghost use Rattle.paper_lower.specs.Lists.{some_number_below, some, add, keep, each};
 ghost use Rattle.paper_lower.specs.Lists.Maybe.{none, just};
 ghost use Rattle.paper_upper.specs.Orders.{entry, held_of};
 ghost use Rattle.paper_upper.specs.Orders.Standing.{held};
 ghost use Rattle.paper_upper.specs.Requests.{turned};
-ghost use Rattle.order_links.specs.Chains.{orders_words, Counted, mark_of, open_of, template_in, template_at, done_word, is_read_as, chain_word, head_of, count_of, link_of, user_of, task_of, done_bit, word_at, entries_in, astray, figures, chain_sound, sum_to, sound_of};
+ghost use Rattle.order_links.specs.Chains.{orders_words, Counted, mark_of, open_of, template_in, template_at, done_word, is_read_as, chain_word, head_of, count_of, owner_of, link_of, user_of, task_of, done_bit, word_at, entries_in, astray, figures, chain_sound, sum_to, sound_of};
 ghost use Rattle.order_links.specs.Stacks.{payload_of, Woven, Loose, Popped, Pushed, Taken, turned_word};
 ghost use Rattle.order_links.specs.Acts.{Leaves, Acted};
 ghost use Rattle.order_links.specs.Total.{Safe, Cuts, Frees, Sifts, Drops, Empties, Turns};
@@ -97,48 +97,99 @@ pub const HOLDER: u32 = 1074782272;
 // HAS_USER has the user and the bit of free entries.
 pub const HAS_USER: u32 = 2146435072;
 
-// ---- The parts of a word, for crates that use this one.
+// ---- The parts of a word.
 
-// The newest entry of a chain's word.
-pub fn head_of(x: u64) -> u64
-    ensures { result ≡ head_of x }
-{
-    x % NUMBERS
+// The word of a chain.
+#[derive(Clone, Copy)]
+pub struct ChainWord {
+    pub bits: u64,
 }
 
-// The number of entries of a chain's word.
-pub fn count_of(x: u64) -> u64
-    ensures { result ≡ count_of x }
-{
-    x / NUMBERS % NUMBERS
+impl ChainWord {
+    // The newest entry, or 0.
+    pub fn head(self) -> u64
+        ensures { result ≡ head_of self.bits }
+    {
+        self.bits % NUMBERS
+    }
+
+    // The number of entries.
+    pub fn count(self) -> u64
+        ensures { result ≡ count_of self.bits }
+    {
+        self.bits / NUMBERS % NUMBERS
+    }
 }
 
-// The link of an entry's word: the entry of the chain before it, or 0.
-pub fn link_of(w: u64) -> u64
-    ensures { result ≡ link_of w }
-{
-    w / LINK % NUMBERS
+// The word of an entry.
+#[derive(Clone, Copy)]
+pub struct EntryWord {
+    pub bits: u64,
 }
 
-// The user of an entry's word.
-pub fn user_of(w: u64) -> u64
-    ensures { result ≡ user_of w }
-{
-    w / WORD_USER % USERS
-}
+impl EntryWord {
+    // The entry of the chain before this one, or 0.
+    pub fn link(self) -> u64
+        ensures { result ≡ link_of self.bits }
+    {
+        self.bits / LINK % NUMBERS
+    }
 
-// The task of an entry's word.
-pub fn task_of(w: u64) -> u64
-    ensures { result ≡ task_of w }
-{
-    w / WORD_TASK % TASKS
-}
+    // The user.
+    pub fn user(self) -> u64
+        ensures { result ≡ user_of self.bits }
+    {
+        self.bits / WORD_USER % USERS
+    }
 
-// Whether the entry of a word is done.
-pub fn is_done(w: u64) -> bool
-    ensures { result ≡ done_bit w }
-{
-    w / PAYLOAD % 2 == 1
+    // The task.
+    pub fn task(self) -> u64
+        ensures { result ≡ task_of self.bits }
+    {
+        self.bits / WORD_TASK % TASKS
+    }
+
+    // Whether the entry is done.
+    pub fn is_done(self) -> bool
+        ensures { result ≡ done_bit self.bits }
+    {
+        self.bits / PAYLOAD % 2 == 1
+    }
+
+    // The chain that the entry belongs to.
+    fn owner(self) -> u64
+        ensures { result ≡ owner_of self.bits }
+    {
+        self.bits % INSTANCES + self.bits / BESIDE % 2 * INSTANCES
+    }
+
+    // What the word says beside the chain and the link.
+    fn payload(self) -> u64
+        ensures { (result ≡ payload_of self.bits) × (result < 16777216) }
+    {
+        self.bits / PAYLOAD % PAYLOADS
+    }
+
+    // Whether the payload fits the key: a task and the subject that holds it, as in a payload.
+    fn fits(self, key: u64) -> bool
+        ensures { result ≡ eqb (payload_of self.bits % 16384) key }
+    {
+        self.payload() % USER == key
+    }
+
+    // The word, marked as done if it fits the key. The key is even because a held entry has 0 in the lowest bit of its payload.
+    fn turned(self, key: u64) -> EntryWord
+        requires { key % 2 ≡ 0 }
+        ensures { result.bits ≡ turned_word key self.bits }
+    {
+        if self.fits(key) {
+            EntryWord {
+                bits: self.bits + PAYLOAD,
+            }
+        } else {
+            self
+        }
+    }
 }
 
 // ---- Getters.
@@ -176,25 +227,39 @@ pub fn mark(o: &OrdersBuffer) -> u64
     if MOST < m { MOST } else { m }
 }
 
-// The word of chain i, or 0 if i is a closed instance.
-pub fn chain(o: &OrdersBuffer, i: u64) -> u64
+// The word of chain i as it stands.
+fn chain_at(o: &OrdersBuffer, i: u64) -> ChainWord
     requires { i ≤ 65 }
-    ensures { result ≡ chain_word o.now i }
+    ensures { result.bits ≡ get_or o.now (66 + i) 0 }
 {
-    let x = o[CHAINS + i as usize];
+    ChainWord {
+        bits: o[CHAINS + i as usize],
+    }
+}
+
+// The word of chain i, or 0 if i is a closed instance.
+pub fn chain(o: &OrdersBuffer, i: u64) -> ChainWord
+    requires { i ≤ 65 }
+    ensures { result.bits ≡ chain_word o.now i }
+{
+    let x = chain_at(o, i);
     if 63 < i {
         return x;
     }
     let open = is_open(o, i);
-    pick(open, x, 0)
+    ChainWord {
+        bits: pick(open, x.bits, 0),
+    }
 }
 
 // The word of entry k.
-pub fn word(o: &OrdersBuffer, k: u64) -> u64
+pub fn word(o: &OrdersBuffer, k: u64) -> EntryWord
     requires { k ≤ 2048 }
-    ensures { result ≡ word_at o.now k }
+    ensures { result.bits ≡ word_at o.now k }
 {
-    o[BEFORE + k as usize]
+    EntryWord {
+        bits: o[BEFORE + k as usize],
+    }
 }
 
 // A number from 1 to 2,048 for any link; a link that names an entry is not changed (docs/DECISIONS.md, D121).
@@ -205,11 +270,10 @@ fn in_reach(k: u64) -> u64
 }
 
 // The word of the entry that a link names.
-pub fn linked(o: &OrdersBuffer, h: u64) -> u64
-    ensures { 0 < h → h ≤ 2048 → result ≡ word_at o.now h }
+pub fn linked(o: &OrdersBuffer, h: u64) -> EntryWord
+    ensures { 0 < h → h ≤ 2048 → result.bits ≡ word_at o.now h }
 {
-    let k = in_reach(h);
-    o[BEFORE + k as usize]
+    word(o, in_reach(h))
 }
 
 // The number of entries of chain i.
@@ -217,8 +281,7 @@ fn count(o: &OrdersBuffer, i: u64) -> u64
     requires { i ≤ 65 }
     ensures { result ≡ count_of (chain_word o.now i) }
 {
-    let x = chain(o, i);
-    x / NUMBERS % NUMBERS
+    chain(o, i).count()
 }
 
 // ---- Soundness: whether the links and the kept figures of any content agree (docs/STATE.md, "The orders buffer").
@@ -228,14 +291,10 @@ fn is_astray(o: &OrdersBuffer, i: u64, m: u64, h: u64) -> bool
     requires { m ≤ 2048 }
     ensures { result ≡ astray o.now i m h }
 {
-    if h == 0 {
+    if h == 0 || m < h {
         return true;
     }
-    if m < h {
-        return true;
-    }
-    let w = o[BEFORE + h as usize];
-    w % INSTANCES + w / BESIDE % 2 * INSTANCES != i
+    word(o, h).owner() != i
 }
 
 // Whether the kept figures of chain i are right; d is the set of its done tasks and n its number of entries.
@@ -250,20 +309,20 @@ fn figures_fit(o: &OrdersBuffer, i: u64, n: u64, d: Set) -> bool
 }
 
 // Whether chain i is sound: its links end after as many entries as its word x says, all of them its own, and its figures are right.
-fn chain_sound(o: &OrdersBuffer, m: u64, i: u64, x: u64) -> bool
-    requires { (m ≤ 2048) × ((i ≤ 65) × ((is_read_as o.now i ≡ true) × (x ≡ chain_word o.now i))) }
+fn chain_sound(o: &OrdersBuffer, m: u64, i: u64, x: ChainWord) -> bool
+    requires { (m ≤ 2048) × ((i ≤ 65) × ((is_read_as o.now i ≡ true) × (x.bits ≡ chain_word o.now i))) }
     ensures { result ≡ chain_sound o.now m i }
 {
-    let n = x / NUMBERS % NUMBERS;
-    let mut h = x % NUMBERS;
+    let n = x.count();
+    let mut h = x.head();
     let mut d = Set::EMPTY;
     for _passed in 0..n {
         if is_astray(o, i, m, h) {
             return false;
         }
-        let w = o[BEFORE + h as usize];
-        d = d.with_if(w / PAYLOAD % 2 == 1, w / WORD_TASK % TASKS);
-        h = w / LINK % NUMBERS;
+        let w = word(o, h);
+        d = d.with_if(w.is_done(), w.task());
+        h = w.link();
     }
     let fit = figures_fit(o, i, n, d);
     (h == 0) & fit
@@ -278,8 +337,8 @@ fn counted(o: &OrdersBuffer, m: u64, i: u64, n: u64, reads: bool) -> u64
     if !reads {
         return n;
     }
-    let x = o[CHAINS + i as usize];
-    let all = n + x / NUMBERS % NUMBERS;
+    let x = chain_at(o, i);
+    let all = n + x.count();
     if m < all {
         return all;
     }
@@ -328,24 +387,15 @@ pub fn is_sound(o: &OrdersBuffer) -> bool
 
 // ---- Chains as stacks.
 
-// The payload of entry k.
-fn payload(o: &OrdersBuffer, k: u64) -> u64
-    requires { k ≤ 2048 }
-    ensures { (result ≡ payload_of (word_at o.now k)) × (result < 16777216) }
-{
-    o[BEFORE + k as usize] / PAYLOAD % PAYLOADS
-}
-
 // Takes the newest entry from chain i and returns its number.
 fn pop(o: &mut OrdersBuffer, i: u64) -> u64
     requires { i ≤ 65 }
     ensures { Safe o.old o.new result × (Woven o.old → 0 < count_of (chain_word o.old i) → Popped o.old o.new i result) }
 {
-    let x = o[CHAINS + i as usize];
-    let k = in_reach(x % NUMBERS);
-    let w = o[BEFORE + k as usize];
-    o[CHAINS + i as usize] = w / LINK % NUMBERS
-        + NUMBERS * ((x / NUMBERS % NUMBERS + LESS) % NUMBERS);
+    let x = chain_at(o, i);
+    let k = in_reach(x.head());
+    let w = word(o, k);
+    o[CHAINS + i as usize] = w.link() + NUMBERS * ((x.count() + LESS) % NUMBERS);
     k
 }
 
@@ -354,12 +404,9 @@ fn push(o: &mut OrdersBuffer, i: u64, k: u64, p: u64)
     requires { (k ≤ 2048) × ((i ≤ 65) × (p < 16777216)) }
     ensures { Safe o.old o.new k × (Loose o.old k → is_read_as o.old i ≡ true → Pushed o.old o.new i p) }
 {
-    let x = o[CHAINS + i as usize];
-    o[BEFORE + k as usize] = i % INSTANCES
-        + i / INSTANCES * BESIDE
-        + PAYLOAD * p
-        + LINK * (x % NUMBERS);
-    o[CHAINS + i as usize] = k + NUMBERS * (x / NUMBERS % NUMBERS + 1);
+    let x = chain_at(o, i);
+    o[BEFORE + k as usize] = i % INSTANCES + i / INSTANCES * BESIDE + PAYLOAD * p + LINK * x.head();
+    o[CHAINS + i as usize] = k + NUMBERS * (x.count() + 1);
 }
 
 // Takes a free entry: from the free chain, or the next one that was never in use.
@@ -405,17 +452,16 @@ fn cut(o: &mut OrdersBuffer, i: u64, kept: u64, q: u64, k: u64)
     requires { (i < 64) × ((q ≤ 2048) × (k ≤ 2048)) }
     ensures { Cuts o.old o.new i kept q k }
 {
-    let x = o[CHAINS + i as usize];
-    let w = o[BEFORE + k as usize];
-    let next = w / LINK % NUMBERS;
-    let fewer = (x / NUMBERS % NUMBERS + LESS) % NUMBERS;
+    let x = chain_at(o, i);
+    let next = word(o, k).link();
+    let fewer = (x.count() + LESS) % NUMBERS;
     if kept == 0 {
         o[CHAINS + i as usize] = next + NUMBERS * fewer;
         return;
     }
-    let v = o[BEFORE + q as usize];
-    o[BEFORE + q as usize] = v % LINK + LINK * next;
-    o[CHAINS + i as usize] = x % NUMBERS + NUMBERS * fewer;
+    let v = word(o, q);
+    o[BEFORE + q as usize] = v.bits % LINK + LINK * next;
+    o[CHAINS + i as usize] = x.head() + NUMBERS * fewer;
 }
 
 // The same, and makes the entry free.
@@ -424,35 +470,34 @@ fn free(o: &mut OrdersBuffer, i: u64, kept: u64, q: u64, k: u64)
     ensures { Frees o.old o.new i kept q k }
 {
     cut(o, i, kept, q, k);
-    let p = payload(o, k);
+    let p = word(o, k).payload();
     push(o, FREE, k, p);
 }
 
-// Makes all entries of instance i that fit the key free, in one pass. Returns whether
-// there was one. A key is a task and the subject that holds it, as in a payload.
+// Makes all entries of instance i that fit the key free, in one pass. Returns whether there was one.
 fn sift(o: &mut OrdersBuffer, i: u64, key: u64) -> bool
     requires { i < 64 }
     ensures { Sifts i key o.old o.new result }
 {
     let x = chain(o, i);
-    let mut h = x % NUMBERS;
-    let mut n = x / NUMBERS % NUMBERS;
+    let mut h = x.head();
+    let all = x.count();
+    let mut n = all;
     let mut kept = 0;
     let mut q = 0;
     while kept < n {
         let k = in_reach(h);
         let w = word(o, k);
-        if w / PAYLOAD % PAYLOADS % USER == key {
+        h = w.link();
+        if w.fits(key) {
             free(o, i, kept, q, k);
-            h = w / LINK % NUMBERS;
             n -= 1;
             continue;
         }
         q = k;
-        h = w / LINK % NUMBERS;
         kept += 1;
     }
-    n < x / NUMBERS % NUMBERS
+    n < all
 }
 
 // Subject a releases task t of instance i. Returns whether it held the task.
@@ -465,34 +510,22 @@ pub fn release(o: &mut OrdersBuffer, i: u64, t: u64, a: u64) -> bool
 
 // ---- Marking an entry as done, in its place.
 
-// An entry's word, marked as done if it fits the key. The key is even because a held entry has 0 in the lowest bit of its payload.
-fn turned_word(w: u64, key: u64) -> u64
-    requires { key % 2 ≡ 0 }
-    ensures { result ≡ turned_word key w }
-{
-    if w / PAYLOAD % PAYLOADS % USER == key {
-        w + PAYLOAD
-    } else {
-        w
-    }
-}
-
 // Marks all entries of instance i that fit the key as done, in one pass. Returns whether there was one.
 fn turn(o: &mut OrdersBuffer, i: u64, key: u64) -> bool
     requires { (i < 64) × (key % 2 ≡ 0) }
     ensures { Turns i key o.old o.new result }
 {
     let x = chain(o, i);
-    let n = x / NUMBERS % NUMBERS;
-    let mut h = x % NUMBERS;
+    let n = x.count();
+    let mut h = x.head();
     let mut hit = false;
     for _passed in 0..n {
         let k = in_reach(h);
         let w = word(o, k);
-        let v = turned_word(w, key);
-        o[BEFORE + k as usize] = v;
-        hit = (w / PAYLOAD % PAYLOADS % USER == key) | hit;
-        h = w / LINK % NUMBERS;
+        let v = w.turned(key);
+        o[BEFORE + k as usize] = v.bits;
+        hit = w.fits(key) | hit;
+        h = w.link();
     }
     hit
 }
@@ -518,7 +551,7 @@ fn drop_one(o: &mut OrdersBuffer, i: u64) -> u64
     ensures { Drops i o.old o.new result }
 {
     let k = pop(o, i);
-    let p = payload(o, k);
+    let p = word(o, k).payload();
     push(o, FREE, k, p);
     p
 }

@@ -5,8 +5,7 @@ use Rattle.order_entries.proofs.end_order.Goals as goal
 
 pub returns : goal.returns
 returns c =
-    let pre = c.requires in
     let close-chain = c.close_chain in
     let z = c.args in
     let l = z.o.now in
-    (close-chain.ensures.0, λ s. ends z.i pre.1 l _ (whole l s).woven (close-chain.ensures.1 s))
+    (close-chain.ensures.0, λ s. ends z.i c.requires l _ (whole l s).woven (close-chain.ensures.1 s))

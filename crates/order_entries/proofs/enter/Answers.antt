@@ -14,6 +14,6 @@ returns c =
       enter.ensures.0,
       λ s live fits.
           let w = whole l s in
-          enters z.i pre.1.1.0 l _ w.woven z.u z.t z.a
-          (enter.ensures.1 s (opened-there l z.i true pre.1.1.0 live) (room-left l w fits)),
+          enters z.i pre.1.0 l _ w.woven z.u z.t z.a
+          (enter.ensures.1 s (opened-there l z.i true pre.1.0 live) (room-left l w fits)),
     )

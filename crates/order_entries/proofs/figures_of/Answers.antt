@@ -8,10 +8,7 @@ use Rattle.order_entries.proofs.figures_of.Goals as goal
 
 pub returns : goal.returns
 returns c =
-    let chain = c.chain-x in
     let args = c.args in
-    let pre = c.requires in
     λ s.
-    (λ y. record
-    { entries = (c.count_of-entries.ensures ∙ ap count_of chain.ensures) y; done = set_of ((c.set_of.ensures ∙ c.done-d.ensures) y) })
-    ∙ kept-figures args.o.now (whole args.o.now s) args.i pre.1
+    (λ y. record { entries = (c.count-entries.ensures ∙ ap count_of c.chain.ensures) y; done = set_of (c.done-done.ensures y) })
+    ∙ kept-figures args.o.now (whole args.o.now s) args.i c.requires

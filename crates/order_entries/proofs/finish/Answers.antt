@@ -6,9 +6,6 @@ use Rattle.order_entries.proofs.SearchLaws.{held-own}
 use Rattle.order_entries.proofs.ActLaws.{opened-there, finishes}
 use Rattle.order_entries.proofs.finish.Goals as goal
 
-pub shape_of-o : goal.shape_of-o
-shape_of-o c = c.finish.ensures.room
-
 pub returns : goal.returns
 returns c =
     let pre = c.requires in
@@ -20,6 +17,6 @@ returns c =
       kept = e.kept;
       sound = λ s live.
           let w = (whole l s).woven in
-          let did = e.sound s (opened-there l z.i true pre.1.0 live) in
-          (did.0 ∙ held-own l w z.i z.t z.a pre.1.0, finishes z.i pre.1.0 l _ w z.t z.a did.1);
+          let did = e.sound s (opened-there l z.i true pre.0 live) in
+          (did.0 ∙ held-own l w z.i z.t z.a pre.0, finishes z.i pre.0 l _ w z.t z.a did.1);
     }

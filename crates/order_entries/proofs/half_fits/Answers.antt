@@ -4,4 +4,4 @@ use borrow.Author.Rules.{rules}
 use Rattle.order_entries.proofs.half_fits.Goals as goal
 
 pub returns : goal.returns
-returns c = half-word c.args.w c.args.mask c.args.key (search rules)
+returns c = half-word c.args.w.bits c.args.mask c.args.key (search rules)

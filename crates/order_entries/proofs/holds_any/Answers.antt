@@ -7,4 +7,4 @@ use Rattle.order_entries.proofs.holds_any.Goals as goal
 pub returns : goal.returns
 returns c =
     let args = c.args in
-    λ s. c.any.ensures s ∙ any_held args.o.now (sound args.o.now s) args.a c.requires.1
+    λ s. c.any.ensures s ∙ any_held args.o.now (sound args.o.now s) args.a c.requires

@@ -13,4 +13,4 @@ returns c =
     let z = args in
     let l = z.o.now in
     c.any_in.ensures s ∙ ap (any_in l z.i 1048575) c.key_of-key.ensures ∙
-    task-held l (whole l s).woven z.i z.t z.a pre.1.0 pre.1.1.0
+    task-held l (whole l s).woven z.i z.t z.a pre.0 pre.1.0

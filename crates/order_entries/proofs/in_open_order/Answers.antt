@@ -7,4 +7,4 @@ use Rattle.order_entries.proofs.in_open_order.Goals as goal
 pub returns : goal.returns
 returns c =
     let args = c.args in
-    λ s. c.any.ensures s ∙ any_open args.o.now (sound args.o.now s) args.u c.requires.1
+    λ s. c.any.ensures s ∙ any_open args.o.now (sound args.o.now s) args.u c.requires

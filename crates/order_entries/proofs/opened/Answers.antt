@@ -16,6 +16,6 @@ returns c =
     let args = c.args in
     let pre = c.requires in (
       ap (λ (b : Bool). cond b (just c.template-template.result) none) c.is_open-open.ensures ∙
-          ap (λ (j : ℕ). cond (has (open_of args.o.now) args.i) (just j) none) c.template-template.ensures ∙ template-is args.o.now args.i pre.1,
+          ap (λ (j : ℕ). cond (has (open_of args.o.now) args.i) (just j) none) c.template-template.ensures ∙ template-is args.o.now args.i pre,
       (let e = c.template-template.ensures in omega arith),
     )

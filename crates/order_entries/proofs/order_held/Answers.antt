@@ -7,4 +7,4 @@ use Rattle.order_entries.proofs.order_held.Goals as goal
 pub returns : goal.returns
 returns c =
     let args = c.args in
-    λ s. c.any_in.ensures s ∙ one-held args.o.now (whole args.o.now s).woven args.i c.requires.1
+    λ s. c.any_in.ensures s ∙ one-held args.o.now (whole args.o.now s).woven args.i c.requires

@@ -13,6 +13,6 @@ returns c =
     let l = z.o.now in (
       open-chain.ensures.0,
       λ s shut.
-          let was = opened-there l z.i false pre.1.0 shut in
-          opens z.i pre.1.0 l _ (whole l s).woven z.j (closed_none l z.i pre.1.0 was) (open-chain.ensures.1 s was),
+          let was = opened-there l z.i false pre.0 shut in
+          opens z.i pre.0 l _ (whole l s).woven z.j (closed_none l z.i pre.0 was) (open-chain.ensures.1 s was),
     )

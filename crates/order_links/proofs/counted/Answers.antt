@@ -30,7 +30,7 @@ chain_sound-sound-requires c =
         pre.1.1.0,
         (
           sym pre.1.1.1 ∙ if1.false,
-          sym (chain-read args.o.now args.i (sym pre.1.1.1 ∙ if1.false)),
+          c.chain_at-x.ensures ∙ sym (chain-read args.o.now args.i (sym pre.1.1.1 ∙ if1.false)),
         ),
       ),
     )

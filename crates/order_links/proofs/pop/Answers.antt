@@ -6,5 +6,6 @@ pub returns : goal.returns
 returns c =
     let args = c.args in
     let pre = c.requires in
-    any-popped args.o.now c.told-o args.i pre c.in_reach-k.result c.in_reach-k.ensures.1.0
-    c.in_reach-k.ensures.1.1
+    let same = rw (c.head.ensures, c.chain_at-x.ensures) at c.in_reach-k.ensures.1.1 in
+    rw (c.link.ensures, c.word-w.ensures, c.count.ensures, c.chain_at-x.ensures)
+    (any-popped args.o.now c.told-o args.i pre c.in_reach-k.result c.in_reach-k.ensures.1.0 same)

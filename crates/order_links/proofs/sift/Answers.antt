@@ -1,4 +1,4 @@
-use borrow.Author.Tests.{ltb-false}
+use borrow.Author.Tests.{eqb-true, eqb-false, ltb-false}
 use mathlib.Core.Path.{refl, ◌∙◌, sym}
 use native.Mathlib.Omega.{arith}
 use Rattle.order_links.proofs.CutLaws.{begun, ends, any_gone}
@@ -8,10 +8,10 @@ use Rattle.order_links.proofs.sift.Goals as goal
 pub loop-kept-init : goal.loop-kept-init
 loop-kept-init c =
     let z = c.args in
-    (c.told-o, (omega arith, (omega arith, (λ _. refl, λ w. begun z.i z.key z.o.now c.chain-x.result w c.chain-x.ensures))))
+    (c.told-o, (omega arith, (omega arith, (λ _. refl, rw (c.head-h.ensures, c.count-all.ensures) (λ w. begun z.i z.key z.o.now c.chain-x.result.bits w c.chain-x.ensures)))))
 
-pub loop-kept-preserved-then-w-key : goal.loop-kept-preserved-then-w-key
-loop-kept-preserved-then-w-key c =
+pub loop-kept-preserved-then-fits : goal.loop-kept-preserved-then-fits
+loop-kept-preserved-then-fits c =
     let z = c.args in
     let v = c.loop-kept in
     let b = v.invariant.1.1.0 in
@@ -23,8 +23,8 @@ loop-kept-preserved-then-w-key c =
           omega arith,
           (
             λ h. let n : ⊥ = omega arith in absurd n,
-            any-takes z.i z.key z.o.now v.o v.h v.n v.kept v.q c.in_reach-k.result c.word-w.result c.requires (omega arith) c.in_reach-k.ensures.1.1
-                c.word-w.ensures v.invariant.1.1.1.1 _ c.if-w-key.true c.free.ensures,
+            rw c.link-h.ensures (any-takes z.i z.key z.o.now v.o v.h v.n v.kept v.q c.in_reach-k.result c.word-w.result.bits c.requires (omega arith) c.in_reach-k.ensures.1.1
+                c.word-w.ensures v.invariant.1.1.1.1 _ (eqb-true _ _ (sym c.fits.ensures ∙ c.if-fits.true)) c.free.ensures),
           ),
         ),
       ),
@@ -41,8 +41,8 @@ loop-kept-preserved c =
           v.invariant.1.1.0,
           (
             v.invariant.1.1.1.0,
-            any-goes z.i z.key z.o.now v.o v.h v.n v.kept v.q c.in_reach-k.result c.word-w.result c.requires (omega arith) c.in_reach-k.ensures.1.1
-                c.word-w.ensures v.invariant.1.1.1.1 c.if-w-key.false,
+            rw c.link-h.ensures (any-goes z.i z.key z.o.now v.o v.h v.n v.kept v.q c.in_reach-k.result c.word-w.result.bits c.requires (omega arith) c.in_reach-k.ensures.1.1
+                c.word-w.ensures v.invariant.1.1.1.1 (eqb-false _ _ (sym c.fits.ensures ∙ c.if-fits.false))),
           ),
         ),
       ),
@@ -58,6 +58,6 @@ returns c =
       sound = λ w.
           let s = v.invariant.1.1.1.1 w in (
             ends z.i z.key z.o.now v.o v.h v.n v.kept v.q c.requires s (omega arith),
-            any_gone z.i z.key z.o.now v.o v.h v.n v.kept v.q c.requires s (omega arith) c.chain-x.result c.chain-x.ensures,
+            rw c.count-all.ensures (any_gone z.i z.key z.o.now v.o v.h v.n v.kept v.q c.requires s (omega arith) c.chain-x.result.bits c.chain-x.ensures),
           );
     }
