@@ -1,10 +1,10 @@
 -- The task lines read one by one, as the code does.
-use Rattle.std.specs.Prelude.{ℕ, ◌+◌, ◌-◌, ◌≤◌, ◌<◌, ◌≡◌, List, [], ◌∷◌, length, take, drop}
+use Rattle.std.specs.Prelude.{ℕ, ◌+◌, ◌-◌, ◌≤◌, ◌<◌, ◌≡◌, List, [], ◌∷◌, length, take, drop, Result, Ok, Err}
 use Rattle.paper_opl.specs.Reading.{Text, Read, after, expect, word}
 use Rattle.paper_opl.specs.Reading.Read.{got, bad}
 use Rattle.paper_opl.specs.Naming.{Line, in_line, line_end, lines}
-use Rattle.opl_lines.specs.declared.Ends.{Ends}
-use Rattle.opl_lines.specs.declared.Ends.TheVariants.{Line as ends, Bad}
+use Rattle.opl_text.specs.declared.BadByte.{BadByte}
+use Rattle.opl_lines.specs.declared.Line.{Line as Ends}
 
 -- Reads one line with its end.
 unfoldable pub line : Text → Read Line
@@ -27,9 +27,10 @@ unfoldable pub lines_in : Text → List Line
 lines_in s = lines_read (lines (length s) s)
 
 -- The meaning of the code's result for the line at an index: where its two names end, and where the next line begins.
-abbrev pub line_of : Text → ℕ → Ends → Read Line
-line_of t at (ends e f n) = got (record { task = take (e - at) (drop at t); template = take (f - (e + 1)) (drop (e + 1) t) }) (drop n t)
-line_of t at (Bad i) = bad (drop i t)
+abbrev pub line_of : Text → ℕ → Result Ends BadByte → Read Line
+line_of t at (Ok l) =
+    got (record { task = take (l.task - at) (drop at t); template = take (l.template - (l.task + 1)) (drop (l.task + 1) t) }) (drop l.next t)
+line_of t at (Err e) = bad (drop e.at t)
 
 -- The indices of a line rise and are not past the end.
 pub record Apart (t : Text) (at e f n : ℕ) : Type 0 where
@@ -39,11 +40,11 @@ pub record Apart (t : Text) (at e f n : ℕ) : Type 0 where
   pub inside : n ≤ length t
 
 -- The same for the code's result.
-abbrev pub Stands : Text → ℕ → Ends → Type 0
-Stands t at (ends e f n) = Apart t at e f n
-Stands t at (Bad i) = i ≤ length t
+abbrev pub Stands : Text → ℕ → Result Ends BadByte → Type 0
+Stands t at (Ok l) = Apart t at l.task l.template l.next
+Stands t at (Err e) = e.at ≤ length t
 
 -- The contract of `read_line`.
-pub record ReadsLine (t : Text) (at : ℕ) (r : Ends) : Type 0 where
+pub record ReadsLine (t : Text) (at : ℕ) (r : Result Ends BadByte) : Type 0 where
   pub read_is : line_of t at r ≡ line (drop at t)
   pub stands : Stands t at r

@@ -7,17 +7,14 @@ ghost use Rattle.paper_opl.specs.Naming.{in_line, line_end, lines};
 ghost use Rattle.opl_text.specs.Steps.{From, Reads, step_of};
 ghost use Rattle.opl_lines.specs.Lines.{forget, ReadsLine};
 
-use opl_text::{Step, expect, is_at};
+use opl_text::{BadByte, Step, expect, first_not, is_at};
 
-// Where the two names of a line end and the next line begins; or the index of the byte that is not allowed.
-#[derive(Clone, Copy)]
-pub enum Ends {
-    Line {
-        task: usize,
-        template: usize,
-        next: usize,
-    },
-    Bad(usize),
+// Where the two names of a line end, and where the next line begins.
+#[derive(Clone, Copy, PartialEq, Eq)]
+pub struct Line {
+    pub task: usize,
+    pub template: usize,
+    pub next: usize,
 }
 
 // The index after the name that begins at `at`.
@@ -25,14 +22,7 @@ fn name_end(t: &[u8], at: usize) -> usize
     requires { at ≤ length t.now }
     ensures { From t.now (behind in_line (drop at t.now)) result }
 {
-    let mut i = at;
-    while i < t.len() {
-        if t[i] <= 32 {
-            return i;
-        }
-        i += 1;
-    }
-    i
+    first_not(t, at, |b| 32 < b)
 }
 
 // Reads the end of a line: a line feed, with or without a carriage return before it, or the end of the text.
@@ -41,7 +31,7 @@ fn line_end(t: &[u8], at: usize) -> Step
     ensures { Reads t.now (step_of t.now) (line_end (drop at t.now)) result }
 {
     if t.len() <= at {
-        return Step::Next(at);
+        return Ok(at);
     }
     if is_at(t, at, 13) {
         return expect(t, at, b"\r\n");
@@ -50,52 +40,37 @@ fn line_end(t: &[u8], at: usize) -> Step
 }
 
 // Reads the line that begins at `at`.
-pub fn read_line(t: &[u8], at: usize) -> Ends
+pub fn read_line(t: &[u8], at: usize) -> Result<Line, BadByte>
     requires { at ≤ length t.now }
     ensures { ReadsLine t.now at result }
 {
     let task = name_end(t, at);
     if task == at {
-        return Ends::Bad(task);
+        return Err(BadByte { at: task });
     }
     if !is_at(t, task, 32) {
-        return Ends::Bad(task);
+        return Err(BadByte { at: task });
     }
     let from = task + 1;
     let template = name_end(t, from);
     if template == from {
-        return Ends::Bad(template);
+        return Err(BadByte { at: template });
     }
-    let e = line_end(t, template);
-    match e {
-        Step::Bad(i) => Ends::Bad(i),
-        Step::Next(next) => Ends::Line {
-            task,
-            template,
-            next,
-        },
-    }
+    let next = line_end(t, template)?;
+    Ok(Line {
+        task,
+        template,
+        next,
+    })
 }
 
-// Judges all lines. `Next` holds the length of the text.
+// Judges all lines. `Ok` holds the length of the text.
 pub fn judge(t: &[u8]) -> Step
     ensures { Reads t.now (step_of t.now) (forget (lines (length t.now) t.now)) result }
 {
     let mut at = 0;
     while at < t.len() {
-        let r = read_line(t, at);
-        match r {
-            Ends::Line {
-                task: _,
-                template: _,
-                next,
-            } => {
-                at = next;
-            }
-            Ends::Bad(i) => {
-                return Step::Bad(i);
-            }
-        }
+        at = read_line(t, at)?.next;
     }
-    Step::Next(at)
+    Ok(at)
 }

@@ -1,15 +1,13 @@
 -- A hash table of names in words: the number of names kept, and then three words for each k below its capacity n. They are the newest number in bucket k plus
 -- one; the place of name k in the text; and a word that packs the rest of name k. No word needs clearing: names from the kept number on are not read, and the
 -- word of a bucket counts only if it is a kept number of that bucket.
-use Rattle.std.specs.Prelude.{ℕ, zero, suc, ◌+◌, ◌*◌, ◌-◌, ◌/◌, ◌%◌, ◌≤◌, ◌<◌, Bool, cond, List, [], ◌∷◌, ◌≡◌, eqb, ltb, length, get_or, set, take, drop}
+use Rattle.std.specs.Prelude.{ℕ, zero, suc, ◌+◌, ◌*◌, ◌-◌, ◌/◌, ◌%◌, ◌≤◌, ◌<◌, Bool, cond, List, [], ◌∷◌, ◌≡◌, eqb, ltb, length, get_or, set, take, drop, Option, Some, None}
 use Rattle.paper_lower.specs.Lists.{Maybe, add, some}
 use Rattle.paper_lower.specs.Lists.Maybe.{none, just}
 use Rattle.replies.specs.Cells.{rows}
 use Rattle.paper_opl.specs.Reading.{Text, same}
 use Rattle.paper_opl.specs.Tree.{if-found}
 use Rattle.paper_opl.specs.Naming.{place_of}
-use Rattle.opl_names.specs.declared.Found.{Found}
-use Rattle.opl_names.specs.declared.Found.TheVariants.{At, Nowhere}
 
 -- ---- The mark of a name is a hash of 40 bits, computed from four bytes at a time and then the rest. Its bucket among n is taken from the high bits, which
 -- depend on all bytes.
@@ -122,9 +120,9 @@ pub record Sound (s : Text) (n : ℕ) (l : List ℕ) : Type 0 where
 -- ---- Results.
 
 -- The result of a lookup.
-abbrev pub found_of : Found → Maybe ℕ
-found_of (At k) = just k
-found_of Nowhere = none
+abbrev pub found_of : Option ℕ → Maybe ℕ
+found_of (Some k) = just k
+found_of None = none
 
 -- The names, with this one at their end if it is not among them.
 unfoldable pub added : Text → List Text → List Text
@@ -140,7 +138,7 @@ pub record Emptied (n : ℕ) (l : List ℕ) : Type 0 where
   pub empty : (s : Text) → names_in s l ≡ []
 
 -- The contract of `declare`: the name's number, if the table has room for it, and the names afterwards.
-pub record Declares (s : Text) (n : ℕ) (w : Text) (l l' : List ℕ) (r : Found) : Type 0 where
+pub record Declares (s : Text) (n : ℕ) (w : Text) (l l' : List ℕ) (r : Option ℕ) : Type 0 where
   pub sound : Sound s n l'
   pub number : found_of r ≡ below n (place_of 0 w (added w (names_in s l)))
   pub names : names_in s l' ≡ if-found (found_of r) (names_in s l) (λ _. added w (names_in s l))

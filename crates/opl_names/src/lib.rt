@@ -9,21 +9,7 @@ ghost use Rattle.opl_names.specs.Table.{quad_at, turned, rest_from, mark_of, buc
 
 use opl_text::same_by_eights;
 
-// The number of a name, or `Nowhere` if it has none.
-#[derive(Clone, Copy)]
-pub enum Found {
-    At(usize),
-    Nowhere,
-}
-
 // ---- A name's hash, called its mark, and its bucket.
-
-// A byte as a wider number, with its bound for the proofs.
-fn wide(b: u8) -> u64
-    ensures { (result ≡ b) × (result ≤ 255) }
-{
-    b as u64
-}
 
 // Four bytes make a number below this.
 const QUADS: u64 = 4294967296;
@@ -33,10 +19,10 @@ fn quad(name: &[u8], i: usize) -> u64
     requires { i + 4 ≤ length name.now }
     ensures { (result ≡ quad_at name.now i) × (result < 4294967296) }
 {
-    16777216 * wide(name[i])
-        + 65536 * wide(name[i + 1])
-        + 256 * wide(name[i + 2])
-        + wide(name[i + 3])
+    16777216 * u64::from(name[i])
+        + 65536 * u64::from(name[i + 1])
+        + 256 * u64::from(name[i + 2])
+        + u64::from(name[i + 3])
 }
 
 // One round of the hash.
@@ -53,10 +39,8 @@ fn rest(name: &[u8], from: usize) -> u64
     ensures { (result ≡ rest_from 0 (drop from name.now)) × (result < 4294967296) }
 {
     let mut x = 0;
-    let mut i = from;
-    while i < name.len() {
-        x = (256 * x + wide(name[i])) % QUADS;
-        i += 1;
+    for i in from..name.len() {
+        x = (256 * x + u64::from(name[i])) % QUADS;
     }
     x
 }
@@ -67,10 +51,8 @@ fn mark(name: &[u8]) -> u64
 {
     let n = name.len() / 4;
     let mut h = 0;
-    let mut k = 0;
-    while k < n {
+    for k in 0..n {
         h = turn(h, quad(name, 4 * k));
-        k += 1;
     }
     turn(h, rest(name, 4 * n))
 }
@@ -125,8 +107,8 @@ fn is_name(s: &[u8], t: &[u64], k: usize, m: u64, name: &[u8]) -> bool
     same_by_eights(&s[at..end], name)
 }
 
-// The number of a name whose mark is m.
-fn find_marked(s: &[u8], t: &[u64], n: usize, name: &[u8], m: u64) -> Found
+// The number of a name whose mark is m, if the table has it.
+fn find_marked(s: &[u8], t: &[u64], n: usize, name: &[u8], m: u64) -> Option<usize>
     requires { Sound s.now n t.now × (m ≡ mark_of name.now) }
     ensures { found_of result ≡ place_of 0 name.now (names_in s.now t.now) }
 {
@@ -134,11 +116,11 @@ fn find_marked(s: &[u8], t: &[u64], n: usize, name: &[u8], m: u64) -> Found
     while 0 < next {
         let k = next - 1;
         if is_name(s, t, k, m, name) {
-            return Found::At(k);
+            return Some(k);
         }
         next = link(t, k);
     }
-    Found::Nowhere
+    None
 }
 
 // ---- The table.
@@ -151,8 +133,8 @@ pub fn empty(t: &mut [u64], n: usize)
     t[0] = 0;
 }
 
-// The number of a name, in a table for n names.
-pub fn find(s: &[u8], t: &[u64], n: usize, name: &[u8]) -> Found
+// The number of a name, in a table for n names, if the table has it.
+pub fn find(s: &[u8], t: &[u64], n: usize, name: &[u8]) -> Option<usize>
     requires { Sound s.now n t.now }
     ensures { found_of result ≡ place_of 0 name.now (names_in s.now t.now) }
 {
@@ -174,20 +156,20 @@ fn append(t: &mut [u64], n: usize, at: usize, size: usize, m: u64)
 }
 
 // The number of the name at a place of the text. A new name gets the next number, or none if the table is full.
-pub fn declare(s: &[u8], t: &mut [u64], n: usize, at: usize, size: usize) -> Found
+pub fn declare(s: &[u8], t: &mut [u64], n: usize, at: usize, size: usize) -> Option<usize>
     requires { Sound s.now n t.old × ((at + size ≤ length s.now) × (size ≤ 64)) }
     ensures { Declares s.now n (take size (drop at s.now)) t.old t.new result }
 {
     let end = at + size;
     let m = mark(&s[at..end]);
-    let r = find_marked(s, t, n, &s[at..end], m);
-    let Found::Nowhere = r else {
-        return r;
-    };
+    let known = find_marked(s, t, n, &s[at..end], m);
+    if known.is_some() {
+        return known;
+    }
     let k = t[0] as usize;
     if n <= k {
-        return r;
+        return None;
     }
     append(t, n, at, size, m);
-    Found::At(k)
+    Some(k)
 }

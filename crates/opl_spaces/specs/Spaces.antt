@@ -1,11 +1,10 @@
 -- The seven tables of names, one after another in the caller's scratch buffer: users, roles, permissions, operations, objects, tasks, templates.
-use Rattle.std.specs.Prelude.{ℕ, ◌+◌, ◌*◌, ◌<◌, ◌≡◌, cond, List, [], ◌∷◌, leb, length, get_or, take, drop}
+use Rattle.std.specs.Prelude.{ℕ, ◌+◌, ◌*◌, ◌<◌, ◌≡◌, cond, List, [], ◌∷◌, leb, length, get_or, take, drop, Option}
 use Rattle.paper_lower.specs.Lists.{Maybe}
 use Rattle.paper_lower.specs.Lists.Maybe.{none}
 use Rattle.paper_opl.specs.Reading.{Text}
 use Rattle.paper_opl.specs.Naming.{place_of}
 use Rattle.opl_names.specs.Table.{names_in, Emptied, Declares}
-use Rattle.opl_names.specs.declared.Found.{Found}
 
 -- The numbers of the spaces.
 abbrev pub USERS : ℕ
@@ -85,6 +84,6 @@ pub record Empties (i : ℕ) (l l' : List ℕ) : Type 0 where
   pub apart : Apart i l l'
 
 -- The contract of `declare`.
-pub record DeclaresIn (s : Text) (i : ℕ) (w : Text) (l l' : List ℕ) (r : Found) : Type 0 where
+pub record DeclaresIn (s : Text) (i : ℕ) (w : Text) (l l' : List ℕ) (r : Option ℕ) : Type 0 where
   pub declares : Declares s (limit_of i) w (table_of i l) (table_of i l') r
   pub apart : Apart i l l'

@@ -6,8 +6,6 @@ ghost use Rattle.std.specs.Prelude.{◌≡◌, ◌+◌, ◌*◌, ◌≤◌, ◌<
 ghost use Rattle.opl_names.specs.Table.{Sound, found_of};
 ghost use Rattle.opl_spaces.specs.Spaces.{limit_of, base_of, scratch_words, table_of, numbered, Empties, DeclaresIn};
 
-use opl_names::Found;
-
 // The numbers of the spaces.
 pub const USERS: usize = 0;
 
@@ -93,7 +91,7 @@ pub fn empty(w: &mut [u64], i: usize)
 }
 
 // Declares the name at a place of the text in a space.
-pub fn declare(s: &[u8], w: &mut [u64], i: usize, at: usize, size: usize) -> Found
+pub fn declare(s: &[u8], w: &mut [u64], i: usize, at: usize, size: usize) -> Option<usize>
     requires { ((length w.old ≡ scratch_words) × (i < 7)) × (Sound s.now (limit_of i) (table_of i w.old) × ((at + size ≤ length s.now) × (size ≤ 64))) }
     ensures { DeclaresIn s.now i (take size (drop at s.now)) w.old w.new result }
 {
@@ -104,12 +102,12 @@ pub fn declare(s: &[u8], w: &mut [u64], i: usize, at: usize, size: usize) -> Fou
 }
 
 // The number of a name in a space; none if the name is too long.
-pub fn number(s: &[u8], w: &[u64], i: usize, name: &[u8]) -> Found
+pub fn number(s: &[u8], w: &[u64], i: usize, name: &[u8]) -> Option<usize>
     requires { ((length w.now ≡ scratch_words) × (i < 7)) × Sound s.now (limit_of i) (table_of i w.now) }
     ensures { found_of result ≡ numbered s.now i w.now name.now }
 {
     if LONGEST_NAME < name.len() {
-        return Found::Nowhere;
+        return None;
     }
     let n = limit(i);
     let from = base(i);
@@ -117,7 +115,7 @@ pub fn number(s: &[u8], w: &[u64], i: usize, name: &[u8]) -> Found
     // This match copies the result part by part. Returning r itself would copy it as a whole, which waits for both parts (4 to 5 % of the time of the call).
     let r = opl_names::find(s, &w[from..to], n, name);
     match r {
-        Found::At(k) => Found::At(k),
-        Found::Nowhere => Found::Nowhere,
+        Some(k) => Some(k),
+        None => None,
     }
 }

@@ -1,6 +1,6 @@
 -- What the results of the readers of attributes and tags mean in paper_opl's pass from left to right. If the text cannot be read, they give no index, because
 -- the text has been judged before.
-use Rattle.std.specs.Prelude.{ℕ, zero, suc, ◌+◌, ◌-◌, ◌≤◌, ◌<◌, ◌≡◌, Bool, not, cond, ◌||◌, List, [], ◌∷◌, eqb, length, take, drop}
+use Rattle.std.specs.Prelude.{ℕ, zero, suc, ◌+◌, ◌-◌, ◌≤◌, ◌<◌, ◌≡◌, Bool, not, cond, ◌||◌, List, [], ◌∷◌, eqb, length, take, drop, Option, Some, None}
 use Rattle.paper_lower.specs.Lists.{Maybe}
 use Rattle.paper_lower.specs.Lists.Maybe.{none, just}
 use Rattle.paper_opl.specs.Reading.{Text, text, Read, after, starts, expect, behind, skip, space, misc, name}
@@ -11,7 +11,7 @@ use Rattle.opl_tags.specs.declared.Attribute.{Attribute}
 use Rattle.opl_tags.specs.declared.Attribute.TheVariants.{Pair, Done, Stop}
 use Rattle.opl_tags.specs.declared.Part.{Part}
 use Rattle.opl_tags.specs.declared.Tag.{Tag}
-use Rattle.opl_tags.specs.declared.Tag.TheVariants.{Start, End, Halt}
+use Rattle.opl_tags.specs.declared.Tag.TheVariants.{Start, End}
 
 -- A result without the place of its refusal.
 abbrev pub placeless : {A : Type 0} → Read A → Read A
@@ -96,11 +96,11 @@ next_tags (suc n) s = onward (next_tag s) (λ r. next_tags n r)
 abbrev pub walk_at : Text → ℕ → List Tagged
 walk_at s at = next_tags (length (drop at s)) (drop at s)
 
--- The meaning of a `Tag`.
-abbrev pub tag_of : Text → Tag → Read (List Tagged)
-tag_of s (Start name end) = got (record { name = take (end - name) (drop name s); given = given_at s end } ∷ []) (drop end s)
-tag_of s (End next) = got [] (drop next s)
-tag_of s Halt = bad []
+-- The meaning of the code's result.
+abbrev pub tag_of : Text → Option Tag → Read (List Tagged)
+tag_of s (Some (Start name end)) = got (record { name = take (end - name) (drop name s); given = given_at s end } ∷ []) (drop end s)
+tag_of s (Some (End next)) = got [] (drop next s)
+tag_of s None = bad []
 
 -- The indices of a start tag rise and are not past the end.
 pub record Opens (s : Text) (name end : ℕ) : Type 0 where
@@ -108,12 +108,12 @@ pub record Opens (s : Text) (name end : ℕ) : Type 0 where
   pub inside : end ≤ length s
 
 -- The same for the code's result.
-abbrev pub TagStands : Text → Tag → Type 0
-TagStands s (Start name end) = Opens s name end
-TagStands s (End next) = next ≤ length s
-TagStands s Halt = Unit {0}
+abbrev pub TagStands : Text → Option Tag → Type 0
+TagStands s (Some (Start name end)) = Opens s name end
+TagStands s (Some (End next)) = next ≤ length s
+TagStands s None = Unit {0}
 
 -- The contract of `read_tag`.
-pub record ReadsTag (s : Text) (read : Read (List Tagged)) (r : Tag) : Type 0 where
+pub record ReadsTag (s : Text) (read : Read (List Tagged)) (r : Option Tag) : Type 0 where
   pub read_is : tag_of s r ≡ placeless read
   pub stands : TagStands s r

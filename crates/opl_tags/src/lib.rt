@@ -8,12 +8,12 @@ ghost use Rattle.paper_opl.specs.Reading.{after, behind};
 ghost use Rattle.paper_opl.specs.Reading.Read.{got};
 ghost use Rattle.paper_opl.specs.Naming.{value_of};
 ghost use Rattle.paper_opl.specs.Walk.{plain as plain_of};
-ghost use Rattle.opl_text.specs.Steps.{From, Runs};
+ghost use Rattle.opl_text.specs.Steps.{From};
 ghost use Rattle.opl_table.specs.Numbers.{name_of};
 ghost use Rattle.opl_tags.specs.Tags.{given as given_of, given_at, ReadsAttribute, Valued, shut as shutOf, next_tag, ReadsTag};
 
 use opl_table::is_name;
-use opl_text::{Step, equals, is_at, read_name, read_value, skip_misc, skip_space};
+use opl_text::{equals, first_not_by_eights, is_at, read_name, read_value, skip_misc, skip_space};
 
 // An attribute, with its name from `from` to `end` and its value from `value` to the closing quote at `close`; or `Done`, the end of the start tag at its "/"
 // or ">"; or `Stop`, if the text cannot be read.
@@ -36,12 +36,11 @@ pub struct Part {
     pub to: usize,
 }
 
-// A start tag, with its name from `name` to `end`; or an end tag, with the index of its "/"; or `Halt`, if there is no further tag.
+// A start tag, with its name from `name` to `end`; or an end tag, with the index of its "/".
 #[derive(Clone, Copy)]
 pub enum Tag {
     Start { name: usize, end: usize },
     End(usize),
-    Halt,
 }
 
 // Reads an attribute without judging it.
@@ -49,16 +48,13 @@ fn plain(s: &[u8], at: usize) -> Attribute
     requires { at ≤ length s.now }
     ensures { ReadsAttribute s.now at (after (plain_of (drop at s.now)) (λ g u. got (just g) u)) result }
 {
-    let n = read_name(s, at);
-    let Step::Next(end) = n else {
+    let Ok(end) = read_name(s, at) else {
         return Attribute::Stop;
     };
-    let q = equals(s, end);
-    let Step::Next(quote) = q else {
+    let Ok(quote) = equals(s, end) else {
         return Attribute::Stop;
     };
-    let v = read_value(s, quote);
-    let Step::Next(close) = v else {
+    let Ok(close) = read_value(s, quote) else {
         return Attribute::Stop;
     };
     Attribute::Pair {
@@ -139,71 +135,28 @@ fn shut(b: u8) -> bool
     b != 60
 }
 
-// Whether none of the eight bytes from i on begins a tag.
-fn shut_run(s: &[u8], i: usize) -> bool
-    requires { i + 8 ≤ length s.now }
-    ensures { Runs shutOf s.now i result }
-{
-    shut(s[i])
-        & shut(s[i + 1])
-        & shut(s[i + 2])
-        & shut(s[i + 3])
-        & shut(s[i + 4])
-        & shut(s[i + 5])
-        & shut(s[i + 6])
-        & shut(s[i + 7])
-}
-
-// `open_at`, byte by byte.
-fn open_rest(s: &[u8], at: usize) -> usize
-    requires { at ≤ length s.now }
-    ensures { From s.now (behind shutOf (drop at s.now)) result }
-{
-    let mut i = at;
-    while i < s.len() {
-        if !shut(s[i]) {
-            return i;
-        }
-        i += 1;
-    }
-    i
-}
-
 // The index of the first "<" from `at` on, eight bytes at a time; the length of the text if there is none.
 fn open_at(s: &[u8], at: usize) -> usize
     requires { at ≤ length s.now }
     ensures { From s.now (behind shutOf (drop at s.now)) result }
 {
-    let mut i = at;
-    while 8 <= s.len() - i {
-        if !shut_run(s, i) {
-            return open_rest(s, i);
-        }
-        i += 8;
-    }
-    open_rest(s, i)
+    first_not_by_eights(s, at, shut, shut)
 }
 
-// Reads the next tag from `at` on, up to the end of its name.
-pub fn read_tag(s: &[u8], at: usize) -> Tag
+// Reads the next tag from `at` on, up to the end of its name; `None` if there is no further tag.
+pub fn read_tag(s: &[u8], at: usize) -> Option<Tag>
     requires { at ≤ length s.now }
     ensures { ReadsTag s.now (next_tag (drop at s.now)) result }
 {
     let o = open_at(s, at);
-    let m = skip_misc(s, o);
-    let Step::Next(i) = m else {
-        return Tag::Halt;
-    };
+    let i = skip_misc(s, o).ok()?;
     if !is_at(s, i, 60) {
-        return Tag::Halt;
+        return None;
     }
     let name = i + 1;
     if is_at(s, name, 47) {
-        return Tag::End(name);
+        return Some(Tag::End(name));
     }
-    let n = read_name(s, name);
-    let Step::Next(end) = n else {
-        return Tag::Halt;
-    };
-    Tag::Start { name, end }
+    let end = read_name(s, name).ok()?;
+    Some(Tag::Start { name, end })
 }

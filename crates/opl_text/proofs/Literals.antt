@@ -11,9 +11,10 @@ use borrow.Author.Tests.{not-true, not-false}
 use Rattle.paper_opl.specs.Reading.{Text, text, Read, after, starts, expect, white, in_value, run, behind, up_to, value, equals}
 use Rattle.paper_opl.specs.Reading.Read.{got, bad}
 use Rattle.paper_opl.proofs.Inversion.{bad≢got}
-use Rattle.opl_text.specs.declared.Step.{Step}
-use Rattle.opl_text.specs.declared.Step.TheVariants.{Next, Bad}
-use Rattle.opl_text.specs.Steps.{step_of, value_of, Reads}
+use Rattle.std.specs.Prelude.{Ok, Err}
+use Rattle.opl_text.specs.declared.BadByte.{BadByte}
+
+use Rattle.opl_text.specs.Steps.{Step, step_of, value_of, Reads}
 use Rattle.opl_text.proofs.Laws.{drop_here, one-not, one-yes}
 
 -- To read a literal is to read its first byte and then the others.
@@ -61,13 +62,13 @@ starts_is (c ∷ w) (b ∷ t) P f g = go (eqb c b) (starts_is w t P f g)
     go false h = g (b ∷ t)
 
 module _ (s w : Text) (at : ℕ) (r : Step) (q : Reads s (step_of s) (expect w (drop at s)) r) where
-  pub starts-yes : (i : ℕ) → r ≡ Next i → true ≡ starts w (drop at s)
+  pub starts-yes : (i : ℕ) → r ≡ Ok i → true ≡ starts w (drop at s)
   starts-yes i v =
       starts_is w (drop at s) (λ b x. x ≡ got tt (drop i s) → true ≡ b) (λ u e. refl) (λ u e. absurd (bad≢got e)) (sym q.read_is ∙ rw v)
 
-  pub starts-not : (i : ℕ) → r ≡ Bad i → false ≡ starts w (drop at s)
-  starts-not i v =
-      starts_is w (drop at s) (λ b x. x ≡ bad (drop i s) → false ≡ b) (λ u e. absurd (bad≢got (sym e))) (λ u e. refl) (sym q.read_is ∙ rw v)
+  pub starts-not : (e : BadByte) → r ≡ Err e → false ≡ starts w (drop at s)
+  starts-not e v =
+      starts_is w (drop at s) (λ b x. x ≡ bad (drop e.at s) → false ≡ b) (λ u e. absurd (bad≢got (sym e))) (λ u e. refl) (sym q.read_is ∙ rw v)
 
 -- ---- A value with its two quotes fills the text up to the index after it.
 
@@ -108,7 +109,7 @@ value-whole (b ∷ t) = go (eqb b 34 || eqb b 39)
     go true = up-to-whole b t
     go false = tt
 
-pub value_room : (s : Text) (at : ℕ) (r : Step) → Reads s (value_of s (at + 1)) (value (drop at s)) r → (e : ℕ) → r ≡ Next e → at ≤ length s →
+pub value_room : (s : Text) (at : ℕ) (r : Step) → Reads s (value_of s (at + 1)) (value (drop at s)) r → (e : ℕ) → r ≡ Ok e → at ≤ length s →
     (at + 1 ≤ e) × (e + 1 ≤ length s)
 unfolding whole
 value_room s at r q e v h =

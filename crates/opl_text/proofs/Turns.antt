@@ -7,13 +7,11 @@ use lib.ListN.{length, drop, length-drop}
 use Rattle.paper_opl.specs.Reading.{Text, text, starts, white, behind, comment, misc}
 use Rattle.paper_opl.specs.Reading.Read.{got}
 use Rattle.paper_opl.proofs.Counts.{misc-enough}
-use Rattle.opl_text.specs.declared.Step.{Step}
-use Rattle.opl_text.specs.declared.Step.TheVariants.{Next, Bad}
-use Rattle.opl_text.specs.Steps.{step_of, place_of, Reads}
-use Rattle.opl_text.proofs.Laws.{skip-skip, misc-skip, misc-stop, misc-bad, misc-on, comment-le, opening-le, onward}
+use Rattle.std.specs.Prelude.{Ok, Err}
+use Rattle.opl_text.specs.declared.BadByte.{BadByte}
 
-pub next≢bad : {i p : ℕ} → Next i ≡ Bad p → ⊥
-next≢bad e = let z : ◌≡◌ {A = ℕ} 0 1 = cc in absurd (omega arith)
+use Rattle.opl_text.specs.Steps.{Step, step_of, place_of, Reads}
+use Rattle.opl_text.proofs.Laws.{skip-skip, misc-skip, misc-stop, misc-bad, misc-on, comment-le, opening-le, onward}
 
 -- There is no white space at index i, and reading white space and comments from `at` on gives the same as from i on.
 pub record Clear (s : Text) (at i : ℕ) : Type 0 where
@@ -34,15 +32,15 @@ module _ (s : Text) (at i : ℕ) (c : Clear s at i) (inside : i ≤ length s) wh
   misc-done b e f = sym (c.goes_on ∙ misc-stop s i c.clear (length s) (sym e ∙ f))
 
   module _ (b : Bool) (e : b ≡ starts (text "<!--") (drop i s)) (t : b ≡ true) (r : Step) (q : Reads s (step_of s) (comment (drop (i + 4) s)) r) where
-    refuses : (x : Step) (p : ℕ) → step_of s x ≡ comment (drop (i + 4) s) → x ≡ Bad p → step_of s x ≡ misc (length (drop at s)) (drop at s)
-    refuses (Next k) p u v = absurd (next≢bad v)
-    refuses (Bad k) p u v = sym (c.goes_on ∙ misc-bad s i c.clear (length s) (drop k s) (drop_le s i) (sym e ∙ t) (sym u))
+    refuses : (x : Step) (p : BadByte) → step_of s x ≡ comment (drop (i + 4) s) → x ≡ Err p → step_of s x ≡ misc (length (drop at s)) (drop at s)
+    refuses (Ok k) p u v = cc
+    refuses (Err k) p u v = sym (c.goes_on ∙ misc-bad s i c.clear (length s) (drop k.at s) (drop_le s i) (sym e ∙ t) (sym u))
 
-    pub misc-refused : (p : ℕ) → r ≡ Bad p → Reads s (step_of s) (misc (length (drop at s)) (drop at s)) r
+    pub misc-refused : (p : BadByte) → r ≡ Err p → Reads s (step_of s) (misc (length (drop at s)) (drop at s)) r
     misc-refused p v = record { read_is = refuses r p q.read_is v; inside = q.inside }
 
-    module _ (k : ℕ) (v : r ≡ Next k) where
-      passed : (x : Step) → step_of s x ≡ comment (drop (i + 4) s) → x ≡ Next k → comment (drop (i + 4) s) ≡ got tt (drop k s)
+    module _ (k : ℕ) (v : r ≡ Ok k) where
+      passed : (x : Step) → step_of s x ≡ comment (drop (i + 4) s) → x ≡ Ok k → comment (drop (i + 4) s) ≡ got tt (drop k s)
       passed x u w = sym u ∙ rw w
 
       pub within : k ≤ length s

@@ -2,16 +2,18 @@
 // part of the text between its quotes. They are proved against paper_opl's definitions of the same names (specs/Reading).
 #![tactic(auto)]
 
-ghost use Rattle.std.specs.Prelude.{◌≡◌, [], ◌∷◌, ◌+◌, ◌-◌, ◌≤◌, length, take, drop};
+ghost use Rattle.std.specs.Prelude.{◌≡◌, ℕ, Bool, [], ◌∷◌, ◌+◌, ◌-◌, ◌≤◌, length, take, drop};
 ghost use Rattle.paper_opl.specs.Reading.{text, white as whiteOf, control as controlOf, in_name, in_value, same, starts, expect as expect_of, behind, name as name_of, value as value_in, equals as equalsOf, comment, misc};
-ghost use Rattle.opl_text.specs.Steps.{From, Reads, step_of, word_of, value_of, Surely, Runs, RunsSame};
+ghost use Rattle.opl_text.specs.Steps.{From, Reads, step_of, word_of, value_of, Surely, Runs, RunsSame, Decides, Implies};
 
-// Where a reader stopped: after what it read, or at the byte that is not allowed there.
-#[derive(Clone, Copy)]
-pub enum Step {
-    Next(usize),
-    Bad(usize),
+// The index of the byte that is not allowed where it stands.
+#[derive(Clone, Copy, PartialEq, Eq)]
+pub struct BadByte {
+    pub at: usize,
 }
+
+// Where a reader stopped: after what it read, or at the byte that is not allowed.
+pub type Step = Result<usize, BadByte>;
 
 // Whether a byte is white space.
 pub fn white(b: u8) -> bool
@@ -57,22 +59,70 @@ pub fn is_at(s: &[u8], at: usize, b: u8) -> bool
     b == s[at]
 }
 
+// ---- Searches. A test of bytes is a parameter; the contracts hold for every property of bytes that the test decides.
+
+// The index of the first byte from `at` on that does not pass; the length of the text if all pass.
+pub fn first_not<F: Fn(u8) -> bool>(s: &[u8], at: usize, passes: F) -> usize
+    requires inside { at ≤ length s.now }
+    requires callable { F.IsAlwaysCallable passes }
+    ensures { (p : ℕ → Bool) → Decides (F.post passes) p → From s.now (behind p (drop at s.now)) result }
+{
+    for i in at..s.len() {
+        if !passes(s[i]) {
+            return i;
+        }
+    }
+    s.len()
+}
+
+// Whether the eight bytes from i on pass.
+fn all_eight<F: Fn(u8) -> bool>(s: &[u8], i: usize, passes: F) -> bool
+    requires inside { i + 8 ≤ length s.now }
+    requires callable { F.IsAlwaysCallable passes }
+    ensures { (p : ℕ → Bool) → Implies (F.post passes) p → Runs p s.now i result }
+{
+    passes(s[i])
+        & passes(s[i + 1])
+        & passes(s[i + 2])
+        & passes(s[i + 3])
+        & passes(s[i + 4])
+        & passes(s[i + 5])
+        & passes(s[i + 6])
+        & passes(s[i + 7])
+}
+
+// The same index as `first_not`, eight bytes at a time while all eight pass a quick test, which may be false for bytes that pass, and then byte by byte.
+pub fn first_not_by_eights<Q: Fn(u8) -> bool, F: Fn(u8) -> bool>(s: &[u8], at: usize, quick: Q, passes: F) -> usize
+    requires inside { at ≤ length s.now }
+    requires quick_callable { Q.IsAlwaysCallable quick }
+    requires callable { F.IsAlwaysCallable passes }
+    ensures { (p : ℕ → Bool) → Implies (Q.post quick) p → Decides (F.post passes) p → From s.now (behind p (drop at s.now)) result }
+{
+    let mut i = at;
+    while 8 <= s.len() - i {
+        if !all_eight(s, i, &quick) {
+            return first_not(s, i, passes);
+        }
+        i += 8;
+    }
+    first_not(s, i, passes)
+}
+
 // The index after the white space that begins at `at`.
 pub fn skip_space(s: &[u8], at: usize) -> usize
     requires { at ≤ length s.now }
     ensures { From s.now (behind whiteOf (drop at s.now)) result }
 {
-    let mut i = at;
-    while i < s.len() {
-        if !white(s[i]) {
-            return i;
-        }
-        i += 1;
-    }
-    i
+    first_not(s, at, white)
 }
 
-// ---- Values are read eight bytes at a time while all eight pass a quick test, and then byte by byte.
+// The index after the name that begins at `at`.
+pub fn name_end(s: &[u8], at: usize) -> usize
+    requires { at ≤ length s.now }
+    ensures { From s.now (behind in_name (drop at s.now)) result }
+{
+    first_not(s, at, in_name)
+}
 
 // A quick test that a byte may occur in a value; it is false for some bytes that may.
 fn often_in_value(q: u8, b: u8) -> bool
@@ -81,64 +131,12 @@ fn often_in_value(q: u8, b: u8) -> bool
     (b != q) & (b != 60) & (40 <= b)
 }
 
-// Whether the eight bytes from i on pass that test.
-fn value_run(s: &[u8], i: usize, q: u8) -> bool
-    requires { i + 8 ≤ length s.now }
-    ensures { Runs (in_value q) s.now i result }
-{
-    often_in_value(q, s[i])
-        & often_in_value(q, s[i + 1])
-        & often_in_value(q, s[i + 2])
-        & often_in_value(q, s[i + 3])
-        & often_in_value(q, s[i + 4])
-        & often_in_value(q, s[i + 5])
-        & often_in_value(q, s[i + 6])
-        & often_in_value(q, s[i + 7])
-}
-
-// `value_end`, byte by byte.
-fn value_rest(s: &[u8], at: usize, q: u8) -> usize
-    requires { at ≤ length s.now }
-    ensures { From s.now (behind (in_value q) (drop at s.now)) result }
-{
-    let mut i = at;
-    while i < s.len() {
-        if !in_value(q, s[i]) {
-            return i;
-        }
-        i += 1;
-    }
-    i
-}
-
-// The index after the name that begins at `at`.
-pub fn name_end(s: &[u8], at: usize) -> usize
-    requires { at ≤ length s.now }
-    ensures { From s.now (behind in_name (drop at s.now)) result }
-{
-    let mut i = at;
-    while i < s.len() {
-        if !in_name(s[i]) {
-            return i;
-        }
-        i += 1;
-    }
-    i
-}
-
 // The index of the first byte from `at` on that may not occur between quotes q.
 pub fn value_end(s: &[u8], at: usize, q: u8) -> usize
     requires { at ≤ length s.now }
     ensures { From s.now (behind (in_value q) (drop at s.now)) result }
 {
-    let mut i = at;
-    while 8 <= s.len() - i {
-        if !value_run(s, i, q) {
-            return value_rest(s, i, q);
-        }
-        i += 8;
-    }
-    value_rest(s, i, q)
+    first_not_by_eights(s, at, |b| often_in_value(q, b), |b| in_value(q, b))
 }
 
 // Reads "=" with any white space around it.
@@ -148,10 +146,10 @@ pub fn equals(s: &[u8], at: usize) -> Step
 {
     let i = skip_space(s, at);
     if !is_at(s, i, 61) {
-        return Step::Bad(i);
+        return Err(BadByte { at: i });
     }
     let j = skip_space(s, i + 1);
-    Step::Next(j)
+    Ok(j)
 }
 
 // Reads a name of at least one byte.
@@ -161,28 +159,28 @@ pub fn read_name(s: &[u8], at: usize) -> Step
 {
     let e = name_end(s, at);
     if e == at {
-        return Step::Bad(at);
+        return Err(BadByte { at });
     }
-    Step::Next(e)
+    Ok(e)
 }
 
-// Reads a quoted value. `Next` holds the index of its closing quote, so the value lies between at + 1 and there.
+// Reads a quoted value. `Ok` holds the index of its closing quote, so the value lies between at + 1 and there.
 pub fn read_value(s: &[u8], at: usize) -> Step
     requires { at ≤ length s.now }
     ensures { Reads s.now (value_of s.now (at + 1)) (value_in (drop at s.now)) result }
 {
     if s.len() <= at {
-        return Step::Bad(at);
+        return Err(BadByte { at });
     }
     let q = s[at];
     if !((q == 34) | (q == 39)) {
-        return Step::Bad(at);
+        return Err(BadByte { at });
     }
     let e = value_end(s, at + 1, q);
     if !is_at(s, e, q) {
-        return Step::Bad(e);
+        return Err(BadByte { at: e });
     }
-    Step::Next(e)
+    Ok(e)
 }
 
 // Reads the rest of a comment, from the end of its "<!--" on.
@@ -190,23 +188,21 @@ pub fn comment_end(s: &[u8], at: usize) -> Step
     requires { at ≤ length s.now }
     ensures { Reads s.now (step_of s.now) (comment (drop at s.now)) result }
 {
-    let mut i = at;
-    while i < s.len() {
+    for i in at..s.len() {
         if is_at(s, i, 45) & is_at(s, i + 1, 45) {
             if s.len() <= i + 2 {
-                return Step::Bad(s.len());
+                return Err(BadByte { at: s.len() });
             }
             if s[i + 2] == 62 {
-                return Step::Next(i + 3);
+                return Ok(i + 3);
             }
-            return Step::Bad(i);
+            return Err(BadByte { at: i });
         }
         if control(s[i]) {
-            return Step::Bad(i);
+            return Err(BadByte { at: i });
         }
-        i += 1;
     }
-    Step::Bad(i)
+    Err(BadByte { at: s.len() })
 }
 
 // Whether a comment begins at `at`.
@@ -224,13 +220,10 @@ pub fn skip_misc(s: &[u8], at: usize) -> Step
 {
     let mut i = skip_space(s, at);
     while opens_comment(s, i) {
-        let r = comment_end(s, i + 4);
-        let Step::Next(e) = r else {
-            return r;
-        };
-        i = skip_space(s, e);
+        let end = comment_end(s, i + 4)?;
+        i = skip_space(s, end);
     }
-    Step::Next(i)
+    Ok(i)
 }
 
 // Whether eight bytes of both from i on are equal.
@@ -253,12 +246,10 @@ fn same_rest(v: &[u8], w: &[u8], from: usize) -> bool
     requires { (from ≤ length v.now) × (length v.now ≡ length w.now) }
     ensures { result ≡ same (drop from v.now) (drop from w.now) }
 {
-    let mut i = from;
-    while i < v.len() {
+    for i in from..v.len() {
         if v[i] != w[i] {
             return false;
         }
-        i += 1;
     }
     true
 }
@@ -270,12 +261,10 @@ pub fn same_bytes(v: &[u8], w: &[u8]) -> bool
     if v.len() != w.len() {
         return false;
     }
-    let mut i = 0;
-    while i < v.len() {
+    for i in 0..v.len() {
         if v[i] != w[i] {
             return false;
         }
-        i += 1;
     }
     true
 }
@@ -302,14 +291,12 @@ pub fn expect(s: &[u8], at: usize, w: &[u8]) -> Step
     requires { at ≤ length s.now }
     ensures { Reads s.now (step_of s.now) (expect_of w.now (drop at s.now)) result }
 {
-    let mut i = 0;
-    while i < w.len() {
+    for i in 0..w.len() {
         if !is_at(s, at + i, w[i]) {
-            return Step::Bad(at + i);
+            return Err(BadByte { at: at + i });
         }
-        i += 1;
     }
-    Step::Next(at + i)
+    Ok(at + w.len())
 }
 
 // Whether the text has the bytes of w at `at`.
@@ -317,11 +304,7 @@ pub fn starts_with(s: &[u8], at: usize, w: &[u8]) -> bool
     requires { at ≤ length s.now }
     ensures { result ≡ starts w.now (drop at s.now) }
 {
-    let r = expect(s, at, w);
-    match r {
-        Step::Next(_) => true,
-        Step::Bad(_) => false,
-    }
+    expect(s, at, w).is_ok()
 }
 
 // The part of the text from `at` up to `end`.
