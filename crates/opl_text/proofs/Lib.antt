@@ -2,5 +2,4 @@ pub mod Laws
 pub mod Turns
 pub mod Literals
 pub mod Same
-pub mod Bytes
 pub mod Eights

@@ -10,10 +10,7 @@ use lib.Seq.{drop-drop}
 use borrow.Author.Tests.{not-true, not-false}
 use Rattle.paper_opl.specs.Reading.{Text, text, Read, after, starts, expect, white, in_value, run, behind, up_to, value, equals}
 use Rattle.paper_opl.specs.Reading.Read.{got, bad}
-use Rattle.paper_opl.proofs.Inversion.{bad≢got}
-use Rattle.std.specs.Prelude.{Ok, Err}
-use Rattle.opl_text.specs.declared.BadByte.{BadByte}
-
+use Rattle.std.specs.Prelude.{Ok, Err, is_ok}
 use Rattle.opl_text.specs.Steps.{Step, step_of, value_of, Reads}
 use Rattle.opl_text.proofs.Laws.{drop_here, one-not, one-yes}
 
@@ -61,14 +58,9 @@ starts_is (c ∷ w) (b ∷ t) P f g = go (eqb c b) (starts_is w t P f g)
     go true h = h
     go false h = g (b ∷ t)
 
-module _ (s w : Text) (at : ℕ) (r : Step) (q : Reads s (step_of s) (expect w (drop at s)) r) where
-  pub starts-yes : (i : ℕ) → r ≡ Ok i → true ≡ starts w (drop at s)
-  starts-yes i v =
-      starts_is w (drop at s) (λ b x. x ≡ got tt (drop i s) → true ≡ b) (λ u e. refl) (λ u e. absurd (bad≢got e)) (sym q.read_is ∙ rw v)
-
-  pub starts-not : (e : BadByte) → r ≡ Err e → false ≡ starts w (drop at s)
-  starts-not e v =
-      starts_is w (drop at s) (λ b x. x ≡ bad (drop e.at s) → false ≡ b) (λ u e. absurd (bad≢got (sym e))) (λ u e. refl) (sym q.read_is ∙ rw v)
+pub starts-ok : (s w : Text) (at : ℕ) (r : Step) → step_of s r ≡ expect w (drop at s) → is_ok r ≡ starts w (drop at s)
+starts-ok s w at (Ok i) v = starts_is w (drop at s) (λ b x. got tt (drop i s) ≡ x → true ≡ b) (λ u e. refl) (λ u e. cc) v
+starts-ok s w at (Err e) v = starts_is w (drop at s) (λ b x. bad (drop e.at s) ≡ x → false ≡ b) (λ u e. cc) (λ u e. refl) v
 
 -- ---- A value with its two quotes fills the text up to the index after it.
 

@@ -92,7 +92,12 @@ fn all_eight<F: Fn(u8) -> bool>(s: &[u8], i: usize, passes: F) -> bool
 }
 
 // The same index as `first_not`, eight bytes at a time while all eight pass a quick test, which may be false for bytes that pass, and then byte by byte.
-pub fn first_not_by_eights<Q: Fn(u8) -> bool, F: Fn(u8) -> bool>(s: &[u8], at: usize, quick: Q, passes: F) -> usize
+pub fn first_not_by_eights<Q: Fn(u8) -> bool, F: Fn(u8) -> bool>(
+    s: &[u8],
+    at: usize,
+    quick: Q,
+    passes: F,
+) -> usize
     requires inside { at ≤ length s.now }
     requires quick_callable { Q.IsAlwaysCallable quick }
     requires callable { F.IsAlwaysCallable passes }

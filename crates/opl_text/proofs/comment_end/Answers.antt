@@ -1,12 +1,9 @@
 use Prim.Native.Nat.{◌+◌}
 use Rattle.opl_text.proofs.Laws.{comment-end, comment-hit, comment-bad, comment-more, closing_end, closing-yes, closing-not}
 use native.Mathlib.Omega.{arith}
-use mathlib.Core.Path.{refl, sym, ◌∙◌}
-use lib.ListN.{drop}
+use mathlib.Core.Path.{◌≡◌, sym, ◌∙◌}
+use lib.ListN.{length, drop}
 use Rattle.opl_text.proofs.comment_end.Goals as goal
-
-pub loop-i-init : goal.loop-i-init
-loop-i-init c = (c.requires, refl)
 
 pub returns-then-s-i : goal.returns-then-s-i
 returns-then-s-i c =
@@ -20,7 +17,7 @@ returns-then-s-i c =
           closing_end args.s.now (loop.i + 2) (drop loop.i args.s.now) c.if-s-i.true ∙
           sym
           (comment-hit args.s.now loop.i loop-test.true is_at.result is-at2.result is_at.ensures is-at2.ensures c.if-is_at.true)
-          ∙ sym loop.invariant.1;
+          ∙ sym loop.invariant;
       inside = omega arith;
     }
 
@@ -36,7 +33,7 @@ returns-then-s-i-eq62 c =
       read_is =
           closing-yes args.s.now (loop.i + 2) (drop loop.i args.s.now) (loop.i + 3) (omega arith) c.if-s-i.false c.if-s-i-eq62.true
           ∙ sym (comment-hit args.s.now loop.i loop-test.true is_at.result is-at2.result is_at.ensures is-at2.ensures if1.true) ∙
-          sym loop.invariant.1;
+          sym loop.invariant;
       inside = omega arith;
     }
 
@@ -52,7 +49,7 @@ returns-then-is_at c =
       read_is =
           closing-not args.s.now (loop.i + 2) (drop loop.i args.s.now) c.if-s-i.false c.if-s-i-eq62.false ∙
           sym (comment-hit args.s.now loop.i loop-test.true is_at.result is-at2.result is_at.ensures is-at2.ensures if1.true) ∙
-          sym loop.invariant.1;
+          sym loop.invariant;
       inside = omega arith;
     }
 
@@ -67,7 +64,7 @@ returns-then-control c =
     record {
       read_is =
           comment-bad args.s.now loop.i loop-test.true is_at.result is-at2.result is_at.ensures is-at2.ensures if1.false
-          c.control.result c.control.ensures c.if-control.true ∙ sym loop.invariant.1;
+          c.control.result c.control.ensures c.if-control.true ∙ sym loop.invariant;
       inside = omega arith;
     }
 
@@ -78,14 +75,13 @@ loop-i-preserved c =
     let loop-test = c.loop-i-test in
     let is_at = c.is_at in
     let is-at2 = c.is_at-in-loop-i in
-    let if1 = c.if-is_at in (
-      omega arith,
-      loop.invariant.1 ∙
-          comment-more args.s.now loop.i loop-test.true is_at.result is-at2.result is_at.ensures is-at2.ensures if1.false
-          c.control.result c.control.ensures c.if-control.false,
-    )
+    let if1 = c.if-is_at in
+    loop.invariant ∙
+    comment-more args.s.now loop.i loop-test.true is_at.result is-at2.result is_at.ensures is-at2.ensures if1.false
+    c.control.result c.control.ensures c.if-control.false
 
 pub returns : goal.returns
 returns c =
     let args = c.args in
-    record { read_is = comment-end args.s.now c.loop-i.i c.loop-i-test.false ∙ sym c.loop-i.invariant.1; inside = c.loop-i.invariant.0 }
+    let e : c.loop-i.i ≡ length args.s.now = omega arith in
+    record { read_is = rw (← e) (comment-end args.s.now c.loop-i.i c.loop-i-test.false ∙ sym c.loop-i.invariant); inside = omega arith }

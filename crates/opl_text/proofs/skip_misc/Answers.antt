@@ -1,73 +1,54 @@
-use Rattle.opl_text.proofs.Turns.{opening-room}
+use Rattle.opl_text.proofs.Turns.{opening-room, misc-first, misc-done, misc-refused, misc-again, misc-past}
 use Prim.Native.Nat.{◌<◌}
-use Rattle.opl_text.proofs.Turns.{misc-first, misc-done, misc-refused, misc-again, misc-past, within}
 use native.Mathlib.Omega.{arith}
+use Rattle.std.proofs.lemmas.Result.{err_from_is_err_and}
 use Rattle.opl_text.proofs.skip_misc.Goals as goal
 
-pub loop-r-init : goal.loop-r-init
-loop-r-init c =
-    let args = c.args in
-    (c.skip_space-i.ensures.inside, misc-first args.s.now args.at c.skip_space-i.result c.skip_space-i.ensures.rest)
+pub loop-i-init : goal.loop-i-init
+loop-i-init c = (c.skip_space-i.ensures.inside, misc-first c.args.s.now c.args.at c.skip_space-i.result c.skip_space-i.ensures.rest)
 
-pub comment_end-r-requires : goal.comment_end-r-requires
-comment_end-r-requires c =
-    let args = c.args in
-    opening-room args.s.now c.loop-r.i c.opens_comment.result c.opens_comment.ensures c.loop-r-test.true
+pub comment_end-requires : goal.comment_end-requires
+comment_end-requires c = opening-room c.args.s.now c.loop-i.i c.opens_comment.result c.opens_comment.ensures c.loop-i-test.true
 
-pub returns-in_default : goal.returns-in_default
-returns-in_default c =
-    let args = c.args in
-    let loop = c.loop-r in
-    let opens-comment = c.opens_comment in
-    let if1 = c.loop-r-test in
-    let comment-end = c.comment_end-r in
-    misc-refused args.s.now args.at loop.i loop.invariant.1 loop.invariant.0 opens-comment.result opens-comment.ensures if1.true
-    comment-end.result comment-end.ensures _ c.in_default.is
+pub returns-in_err-end : goal.returns-in_err-end
+returns-in_err-end c =
+    let loop = c.loop-i in
+    let opens = c.opens_comment in
+    let refused = err_from_is_err_and c.from_residual.result c.from_residual.ensures.1 in
+    rw (refused.1, refused.2)
+    (record {
+      read_is =
+          misc-refused c.args.s.now c.args.at loop.i loop.invariant.1 loop.invariant.0 opens.result opens.ensures c.loop-i-test.true
+          c.in_err-end.field-0.0.at c.in_err-end.ensures.read_is;
+      inside = c.in_err-end.ensures.inside;
+    })
 
-pub skip_space-i-requires-in-loop-r : goal.skip_space-i-requires-in-loop-r
-skip_space-i-requires-in-loop-r c =
-    let args = c.args in
-    let loop = c.loop-r in
-    let opens-comment = c.opens_comment in
-    let if1 = c.loop-r-test in
-    let comment-end = c.comment_end-r in
-    within args.s.now args.at loop.i loop.invariant.1 loop.invariant.0 opens-comment.result opens-comment.ensures if1.true
-    comment-end.result comment-end.ensures c.in-Next.e c.in-Next.is
+pub loop-i-smaller : goal.loop-i-smaller
+loop-i-smaller c =
+    let loop = c.loop-i in
+    let opens = c.opens_comment in
+    let next = c.skip_space-i-in-loop-i.ensures in
+    let past : loop.i < c.skip_space-i-in-loop-i.result =
+    misc-past c.args.s.now c.args.at loop.i loop.invariant.1 loop.invariant.0 opens.result opens.ensures c.loop-i-test.true c.in_ok-end.end
+    c.in_ok-end.ensures.read_is c.in_ok-end.ensures.inside c.skip_space-i-in-loop-i.result next.rest next.inside in
+    omega (arith, next.inside)
 
-pub loop-r-smaller : goal.loop-r-smaller
-loop-r-smaller c =
-    let args = c.args in
-    let loop = c.loop-r in
-    let opens-comment = c.opens_comment in
-    let if1 = c.loop-r-test in
-    let comment-end = c.comment_end-r in
-    let p : loop.i < c.skip_space-i-in-loop-r.result =
-    misc-past args.s.now args.at loop.i loop.invariant.1 loop.invariant.0 opens-comment.result opens-comment.ensures if1.true
-    comment-end.result comment-end.ensures c.in-Next.e c.in-Next.is c.skip_space-i-in-loop-r.result c.skip_space-i-in-loop-r.ensures.rest
-    c.skip_space-i-in-loop-r.ensures.inside in
-    let q = c.skip_space-i-in-loop-r.ensures.inside in
-    omega arith
-
-pub loop-r-preserved : goal.loop-r-preserved
-loop-r-preserved c =
-    let args = c.args in
-    let loop = c.loop-r in
-    let opens-comment = c.opens_comment in
-    let if1 = c.loop-r-test in
-    let comment-end = c.comment_end-r in (
-      c.skip_space-i-in-loop-r.ensures.inside,
-      misc-again args.s.now args.at loop.i loop.invariant.1 loop.invariant.0 opens-comment.result opens-comment.ensures if1.true
-          comment-end.result comment-end.ensures c.in-Next.e c.in-Next.is c.skip_space-i-in-loop-r.result c.skip_space-i-in-loop-r.ensures.rest
-          c.skip_space-i-in-loop-r.ensures.inside,
+pub loop-i-preserved : goal.loop-i-preserved
+loop-i-preserved c =
+    let loop = c.loop-i in
+    let opens = c.opens_comment in
+    let next = c.skip_space-i-in-loop-i.ensures in (
+      next.inside,
+      misc-again c.args.s.now c.args.at loop.i loop.invariant.1 loop.invariant.0 opens.result opens.ensures c.loop-i-test.true c.in_ok-end.end
+          c.in_ok-end.ensures.read_is c.in_ok-end.ensures.inside c.skip_space-i-in-loop-i.result next.rest next.inside,
     )
 
 pub returns : goal.returns
 returns c =
-    let args = c.args in
-    let loop = c.loop-r in
+    let loop = c.loop-i in
     record {
       read_is =
-          misc-done args.s.now args.at loop.i loop.invariant.1 loop.invariant.0 c.opens_comment.result c.opens_comment.ensures
-          c.loop-r-test.false;
+          misc-done c.args.s.now c.args.at loop.i loop.invariant.1 loop.invariant.0 c.opens_comment.result c.opens_comment.ensures
+          c.loop-i-test.false;
       inside = loop.invariant.0;
     }

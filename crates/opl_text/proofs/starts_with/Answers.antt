@@ -1,15 +1,7 @@
 -- `starts_with` meets its contract: the text begins with the literal if and only if `expect` reads it.
-use Rattle.opl_text.proofs.Literals.{starts-yes, starts-not}
+use mathlib.Core.Path.{◌∙◌}
+use Rattle.opl_text.proofs.Literals.{starts-ok}
 use Rattle.opl_text.proofs.starts_with.Goals as goal
 
-pub returns-in-Next : goal.returns-in-Next
-returns-in-Next c =
-    let args = c.args in
-    let expect = c.expect-r in
-    starts-yes args.s.now args.w.now args.at expect.result expect.ensures _ c.in-Next.is
-
-pub returns-in-Bad : goal.returns-in-Bad
-returns-in-Bad c =
-    let args = c.args in
-    let expect = c.expect-r in
-    starts-not args.s.now args.w.now args.at expect.result expect.ensures _ c.in-Bad.is
+pub returns : goal.returns
+returns c = c.is_ok.ensures.value ∙ starts-ok c.args.s.now c.args.w.now c.args.at c.expect.result c.expect.ensures.read_is
