@@ -12,13 +12,12 @@ use Rattle.paper_opl.specs.Reading.Read.{got, bad}
 use Rattle.paper_opl.specs.Naming.{Line, in_line, line_end, lines}
 use Rattle.paper_opl.proofs.Inversion.{on, bad≢got}
 use Rattle.paper_opl.proofs.Counts.{below_of, line-end-below, lines-enough}
-use Rattle.opl_text.specs.declared.Step.{Step}
-use Rattle.opl_text.specs.declared.Step.TheVariants.{Next, Bad as Stop}
-use Rattle.opl_text.specs.Steps.{Reads, step_of}
+use Rattle.std.specs.Prelude.{Ok, Err}
+use Rattle.opl_text.specs.declared.BadByte.{BadByte}
+use Rattle.opl_text.specs.Steps.{Step, Reads, step_of}
 use Rattle.opl_text.proofs.Laws.{no_word, a_word, one-not, one-yes}
-use Rattle.opl_lines.specs.Lines.{line, forget, lines_read, Apart, ReadsLine}
-use Rattle.opl_lines.specs.declared.Ends.{Ends}
-use Rattle.opl_lines.specs.declared.Ends.TheVariants.{Line as ends, Bad}
+use Rattle.opl_lines.specs.Lines.{line, forget, lines_read, ReadsLine}
+use Rattle.opl_lines.specs.declared.Line.{Line as Ends}
 
 -- ---- The end of a line.
 module _ (t : Text) (f : ℕ) where
@@ -38,9 +37,6 @@ module _ (t : Text) (f : ℕ) where
     pub ends-once : c ≡ false → (r : Step) → Reads t (step_of t) (expect (10 ∷ []) (drop f t)) r → Reads t (step_of t) (line_end (drop f t)) r
     unfolding line_end
     ends-once q r a = record { read_is = a.read_is ∙ rw (goes_on, ← is, q); inside = a.inside }
-
-pub line-stop : (t : Text) (y : Step) (x : Read (Unit {0})) → Reads t (step_of t) x y → (i : ℕ) → y ≡ Stop i → i ≤ length t
-line-stop t y x reads i q = rw q at reads.inside
 
 -- ---- The line at index `at`: the name of its task ends at e, that of its template at f.
 module _ (t : Text) (at e : ℕ) (room : at ≤ length t) (ends : drop e t ≡ behind in_line (drop at t)) (inside : e ≤ length t) where
@@ -75,21 +71,18 @@ module _ (t : Text) (at e : ℕ) (room : at ≤ length t) (ends : drop e t ≡ b
           two-names =
               rw (← a_word in_line t at e room ends inside task, spaced.0, drop-drop 1 e t, ← a_word in_line t (e + 1) f line-past ends₂ inside₂ template)
 
-          module _ (y : Step) (reads : Reads t (step_of t) (line_end (drop f t)) y) where
-            pub line-unended : (i : ℕ) → y ≡ Stop i → bad (drop i t) ≡ line (drop at t)
-            line-unended i q = rw (two-names, ← reads.read_is, q)
+          pub line-unended : (i : ℕ) → bad (drop i t) ≡ line_end (drop f t) → bad (drop i t) ≡ line (drop at t)
+          line-unended i q = rw (two-names, ← q)
 
-            pub line-whole : (n : ℕ) → y ≡ Next n
-                → got (record { task = take (e - at) (drop at t); template = take (f - (e + 1)) (drop (e + 1) t) }) (drop n t) ≡ line (drop at t)
-            line-whole n q = rw (two-names, ← reads.read_is, q)
+          module _ (n : ℕ) (ended : got tt (drop n t) ≡ line_end (drop f t)) (inside₃ : n ≤ length t) where
+            pub line-whole : got (record { task = take (e - at) (drop at t); template = take (f - (e + 1)) (drop (e + 1) t) }) (drop n t) ≡ line (drop at t)
+            line-whole = rw (two-names, ← ended)
 
             -- The next line does not begin before the end of the template's name.
-            pub line-onward : (n : ℕ) → y ≡ Next n → (f ≤ n) × (n ≤ length t)
-            line-onward n q =
-                let z : step_of t (Next n) ≡ line_end (drop f t) = rw q at reads.read_is in
-                let i : n ≤ length t = rw q at reads.inside in
-                let b = below_of (sym z) (line-end-below (drop f t)) in
-                (omega (arith, b, length-drop f t, length-drop n t), i)
+            pub line-onward : f ≤ n
+            line-onward =
+                let b = below_of (sym ended) (line-end-below (drop f t)) in
+                omega (arith, b, length-drop f t, length-drop n t)
 
 -- ---- All lines are read one by one.
 by-line : (n : ℕ) (s : Text) → lines (suc n) s ≡ cond (same s []) (got [] s) (after (line s) (λ l y. after (lines n y) (λ ls x. got (l ∷ ls) x)))
@@ -135,35 +128,31 @@ module _ (t : Text) (at : ℕ) (h : at < length t) where
   fits : length (drop at t) ≤ length t
   fits = omega (arith, length-drop at t)
 
-  module _ (r : Ends) (reads : ReadsLine t at r) where
-    pub judge-bad : (i : ℕ) → r ≡ Bad i → (bad (drop i t) ≡ forget (lines (length t) (drop at t))) × (i ≤ length t)
-    judge-bad i q =
-        (sym (ap forget (lines-bad (drop at t) longer (length t) (drop i t) fits (sym (rw q at reads.read_is)))), rw q at reads.stands)
+  pub judge-bad : (e : BadByte) → ReadsLine t at (Err e) → bad (drop e.at t) ≡ forget (lines (length t) (drop at t))
+  judge-bad e reads = sym (ap forget (lines-bad (drop at t) longer (length t) (drop e.at t) fits (sym reads.read_is)))
 
-    module _ (e f n : ℕ) (q : r ≡ ends e f n) where
-      apart : Apart t at e f n
-      apart = rw q at reads.stands
+  pub lines-never : (e : BadByte) (z : Text) → ReadsLine t at (Err e) → forget (lines (length t) (drop at t)) ≡ got tt z → ⊥
+  lines-never e z reads u = bad≢got (judge-bad e reads ∙ u)
 
-      pub judge-past : (at < n) × (n ≤ length t)
-      judge-past = (omega (arith, apart.task, apart.template, apart.next), apart.inside)
+  module _ (l : Ends) (reads : ReadsLine t at (Ok l)) where
+    pub judge-past : (at < l.next) × (l.next ≤ length t)
+    judge-past = let apart = reads.stands in (omega (arith, apart.task, apart.template, apart.next), apart.inside)
 
-      pub judge-on : forget (lines (length t) (drop at t)) ≡ forget (lines (length t) (drop n t))
-      judge-on =
-          ap forget (lines-on (drop at t) longer (length t) _ (drop n t) fits (omega (arith, length-drop at t, length-drop n t, judge-past.0, judge-past.1))
-          (sym (rw q at reads.read_is)))
-          ∙ forget-on (lines (length t) (drop n t)) _
+    pub judge-on : forget (lines (length t) (drop at t)) ≡ forget (lines (length t) (drop l.next t))
+    judge-on =
+        ap forget (lines-on (drop at t) longer (length t) _ (drop l.next t) fits (omega (arith, length-drop at t, length-drop l.next t, judge-past.0, judge-past.1))
+        (sym reads.read_is))
+        ∙ forget-on (lines (length t) (drop l.next t)) _
 
-      -- The lines of an accepted text are this line and those after it.
-      pub lines_step : (z : Text) → forget (lines (length t) (drop at t)) ≡ got tt z →
-          lines_read (lines (length t) (drop at t)) ≡
-          record { task = take (e - at) (drop at t); template = take (f - (e + 1)) (drop (e + 1) t) } ∷ lines_read (lines (length t) (drop n t))
-      lines_step z u =
-          ap lines_read (lines-on (drop at t) longer (length t) _ (drop n t) fits
-          (omega (arith, length-drop at t, length-drop n t, judge-past.0, judge-past.1)) (sym (rw q at reads.read_is)))
-          ∙ read-on (lines (length t) (drop n t)) _ z (sym judge-on ∙ u)
-
-    pub lines-never : (i : ℕ) (z : Text) → r ≡ Bad i → forget (lines (length t) (drop at t)) ≡ got tt z → ⊥
-    lines-never i z q u = bad≢got ((judge-bad i q).0 ∙ u)
+    -- The lines of an accepted text are this line and those after it.
+    pub lines_step : (z : Text) → forget (lines (length t) (drop at t)) ≡ got tt z →
+        lines_read (lines (length t) (drop at t)) ≡
+        record { task = take (l.task - at) (drop at t); template = take (l.template - (l.task + 1)) (drop (l.task + 1) t) }
+        ∷ lines_read (lines (length t) (drop l.next t))
+    lines_step z u =
+        ap lines_read (lines-on (drop at t) longer (length t) _ (drop l.next t) fits
+        (omega (arith, length-drop at t, length-drop l.next t, judge-past.0, judge-past.1)) (sym reads.read_is))
+        ∙ read-on (lines (length t) (drop l.next t)) _ z (sym judge-on ∙ u)
 
 pub judge-end : (t : Text) (at : ℕ) → length t ≤ at → got tt (drop at t) ≡ forget (lines (length t) (drop at t))
 judge-end t at h = sym (ap forget (lines_none (length t) (drop at t) (omega (arith, length-drop at t))))

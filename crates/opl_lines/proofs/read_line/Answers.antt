@@ -3,10 +3,10 @@ use mathlib.Core.Bool.{not}
 use mathlib.Core.Path.{ap}
 use Prim.Native.Nat.{◌+◌}
 use native.Mathlib.Omega.{arith}
-use lib.ListN.{drop}
-use Rattle.paper_opl.specs.Naming.{in_line, line_end}
+use Rattle.std.proofs.lemmas.Result.{err_from_is_err_and}
+use Rattle.paper_opl.specs.Naming.{in_line}
 use Rattle.opl_text.proofs.Laws.{onward}
-use Rattle.opl_lines.proofs.LineLaws.{line-empty, line-unspaced, line-past, line-one, line-unended, line-whole, line-onward, line-stop}
+use Rattle.opl_lines.proofs.LineLaws.{line-empty, line-unspaced, line-past, line-one, line-unended, line-whole, line-onward}
 use Rattle.opl_lines.proofs.read_line.Goals as goal
 
 pub returns-then-task-at : goal.returns-then-task-at
@@ -55,58 +55,47 @@ returns-then-template-from c =
       stands = c.name_end-template.ensures.inside;
     }
 
-pub returns-in-Bad : goal.returns-in-Bad
-returns-in-Bad c =
-    let args = c.args in
-    let pre = c.requires in
-    let name-end = c.name_end-task in
-    let if1 = c.if-task-at in
-    let is_at = c.is_at in
-    let if2 = c.if-not-is_at in
-    let name-end2 = c.name_end-template in
-    let if3 = c.if-template-from in
-    let line-end = c.line_end-e in
-    record {
+pub returns-in_err-next : goal.returns-in_err-next
+returns-in_err-next c =
+    let t = c.args.t.now in
+    let task = c.name_end-task in
+    let template = c.name_end-template in
+    let refused = err_from_is_err_and c.from_residual.result c.from_residual.ensures.1 in
+    rw (refused.1, refused.2)
+    (record {
       read_is =
-          line-unended args.t.now args.at name-end.result pre name-end.ensures.rest name-end.ensures.inside if1.false is_at.result
-          is_at.ensures (ap not if2.false) name-end2.result name-end2.ensures.rest name-end2.ensures.inside if3.false line-end.result
-          line-end.ensures c.in-Bad.i c.in-Bad.is;
-      stands = line-stop args.t.now line-end.result (line_end (drop name-end2.result args.t.now)) line-end.ensures _ c.in-Bad.is;
-    }
+          line-unended t c.args.at task.result c.requires task.ensures.rest task.ensures.inside c.if-task-at.false c.is_at.result
+          c.is_at.ensures (ap not c.if-not-is_at.false) template.result template.ensures.rest template.ensures.inside c.if-template-from.false
+          c.in_err-next.field-0.0.at c.in_err-next.ensures.read_is;
+      stands = c.in_err-next.ensures.inside;
+    })
 
-pub returns-in-Next : goal.returns-in-Next
-returns-in-Next c =
-    let args = c.args in
-    let pre = c.requires in
-    let name-end = c.name_end-task in
-    let if1 = c.if-task-at in
-    let is_at = c.is_at in
-    let if2 = c.if-not-is_at in
-    let name-end2 = c.name_end-template in
-    let if3 = c.if-template-from in
-    let line-end = c.line_end-e in
-    let o =
-    line-onward args.t.now args.at name-end.result pre name-end.ensures.rest name-end.ensures.inside if1.false is_at.result
-    is_at.ensures (ap not if2.false) name-end2.result name-end2.ensures.rest name-end2.ensures.inside if3.false line-end.result line-end.ensures
-    c.in-Next.next c.in-Next.is in
+pub returns : goal.returns
+returns c =
+    let t = c.args.t.now in
+    let task = c.name_end-task in
+    let template = c.name_end-template in
+    let spaced = ap not c.if-not-is_at.false in
+    let read = c.in_ok-next.ensures in
     record {
       read_is =
-          line-whole args.t.now args.at name-end.result pre name-end.ensures.rest name-end.ensures.inside if1.false is_at.result
-          is_at.ensures (ap not if2.false) name-end2.result name-end2.ensures.rest name-end2.ensures.inside if3.false line-end.result
-          line-end.ensures c.in-Next.next c.in-Next.is;
+          line-whole t c.args.at task.result c.requires task.ensures.rest task.ensures.inside c.if-task-at.false c.is_at.result
+          c.is_at.ensures spaced template.result template.ensures.rest template.ensures.inside c.if-template-from.false c.in_ok-next.next
+          read.read_is read.inside;
       stands =
           record {
-            task =
-                omega (arith, onward in_line args.t.now args.at name-end.result pre name-end.ensures.rest name-end.ensures.inside, if1.false);
+            task = omega (arith, onward in_line t c.args.at task.result c.requires task.ensures.rest task.ensures.inside, c.if-task-at.false);
             template =
                 omega (
                   arith,
-                  onward in_line args.t.now (name-end.result + 1) name-end2.result (line-past args.t.now args.at name-end.result pre
-                      name-end.ensures.rest name-end.ensures.inside if1.false is_at.result is_at.ensures (ap not if2.false)) name-end2.ensures.rest
-                      name-end2.ensures.inside,
-                  if3.false,
+                  onward in_line t (task.result + 1) template.result (line-past t c.args.at task.result c.requires task.ensures.rest
+                      task.ensures.inside c.if-task-at.false c.is_at.result c.is_at.ensures spaced) template.ensures.rest template.ensures.inside,
+                  c.if-template-from.false,
                 );
-            next = o.0;
-            inside = o.1;
+            next =
+                line-onward t c.args.at task.result c.requires task.ensures.rest task.ensures.inside c.if-task-at.false c.is_at.result
+                c.is_at.ensures spaced template.result template.ensures.rest template.ensures.inside c.if-template-from.false c.in_ok-next.next
+                read.read_is read.inside;
+            inside = read.inside;
           };
     }
