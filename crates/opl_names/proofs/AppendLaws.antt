@@ -17,9 +17,8 @@ use Rattle.replies.specs.Cells.{rows_from, rows}
 use Rattle.replies.proofs.RowLaws.{many-rows, rows_same, rows_more}
 use Rattle.paper_opl.specs.Reading.{Text}
 use Rattle.paper_opl.specs.Naming.{place_of}
-use Rattle.opl_names.specs.Table.{mark_of, bucket_of, kept, head_word, place_at, word_at, size_within, link_in, mark_in, packed, name_at, names_in, bucket_at, in_bucket, last_below, start_of, Sound, found_of, Emptied, Declares, with_name}
-use Rattle.opl_names.specs.declared.Found.{Found}
-use Rattle.opl_names.specs.declared.Found.TheVariants.{At, Nowhere}
+use Rattle.opl_names.specs.Table.{mark_of, bucket_of, kept, head_word, place_at, word_at, size_within, link_in, mark_in, packed, name_at, names_in, bucket_at, in_bucket, last_below, start_of, Sound, Emptied, Declares, with_name}
+use Rattle.std.specs.Prelude.{Some, None}
 use Rattle.opl_names.proofs.NameLaws.{place_kept, place-new, place-small, added-there, added_new}
 use Rattle.opl_names.proofs.TableLaws.{last-le, last-same}
 
@@ -210,23 +209,23 @@ module _ (s : Text) (n : ℕ) (l l' : List ℕ) (at size m : ℕ) (name : Text) 
 
 -- ---- The results of `declare`: the name is there, the table is full, or the name is added.
 module _ (s : Text) (n : ℕ) (l : List ℕ) (w : Text) (sound : Sound s n l) where
-  pub declared-there : (r : Found) (k : ℕ) → r ≡ At k → found_of r ≡ place_of 0 w (names_in s l) → Declares s n w l l r
-  declared-there r k e f =
-      let h : place_of 0 w (names_in s l) ≡ just k = sym f ∙ ap found_of e in
+  pub declared-there : (k : ℕ) → just k ≡ place_of 0 w (names_in s l) → Declares s n w l l (Some k)
+  declared-there k f =
+      let h : place_of 0 w (names_in s l) ≡ just k = sym f in
       let small = place-small w 0 k (names_in s l) h in
       record {
         sound = sound;
-        number = ap found_of e ∙ sym (rw (added-there w (names_in s l) h, h, lt-ltb k n (omega (arith, names-many s l, sound.within))));
-        names = rw (e, added-there w (names_in s l) h);
+        number = sym (rw (added-there w (names_in s l) h, h, lt-ltb k n (omega (arith, names-many s l, sound.within))));
+        names = rw (added-there w (names_in s l) h);
       }
 
-  pub declared-full : (r : Found) → r ≡ Nowhere → found_of r ≡ place_of 0 w (names_in s l) → n ≤ kept l → Declares s n w l l r
-  declared-full r e f full =
-      let h : place_of 0 w (names_in s l) ≡ none = sym f ∙ ap found_of e in
+  pub declared-full : none ≡ place_of 0 w (names_in s l) → n ≤ kept l → Declares s n w l l None
+  declared-full f full =
+      let h : place_of 0 w (names_in s l) ≡ none = sym f in
       record {
         sound = sound;
-        number = ap found_of e ∙ sym (rw (added_new w (names_in s l) h, place-new w 0 (names_in s l) h, names-many s l, le-ltb (kept l) n full));
-        names = rw e;
+        number = sym (rw (added_new w (names_in s l) h, place-new w 0 (names_in s l) h, names-many s l, le-ltb (kept l) n full));
+        names = refl;
       }
 
   module _ (at size m : ℕ) (h : place_of 0 w (names_in s l) ≡ none) (room : kept l < n) (fits : at + size ≤ length s) (short : size ≤ 64)
@@ -235,7 +234,7 @@ module _ (s : Text) (n : ℕ) (l : List ℕ) (w : Text) (sound : Sound s n l) wh
     unfolding bucket_of
     lower = mod-lt (m / 16777216) sound.some
 
-    pub declared-new : (l' : List ℕ) → l' ≡ with_name l (bucket_of n m) at (packed size (start_of n l (bucket_of n m)) m) → Declares s n w l l' (At (kept l))
+    pub declared-new : (l' : List ℕ) → l' ≡ with_name l (bucket_of n m) at (packed size (start_of n l (bucket_of n m)) m) → Declares s n w l l' (Some (kept l))
     declared-new l' e =
         let g : Grown l l' (bucket_of n m) at (packed size (start_of n l (bucket_of n m)) m) =
         rw e (grown n l (bucket_of n m) at (packed size (start_of n l (bucket_of n m)) m) sound.room room lower) in

@@ -15,6 +15,7 @@ use opl_text::same_by_eights;
 const QUADS: u64 = 4294967296;
 
 // Four bytes from i on, as one number.
+#[tactic(auto, unfolding(crate::specs::Table::quad_at))]
 fn quad(name: &[u8], i: usize) -> u64
     requires { i + 4 ≤ length name.now }
     ensures { (result ≡ quad_at name.now i) × (result < 4294967296) }
@@ -26,6 +27,7 @@ fn quad(name: &[u8], i: usize) -> u64
 }
 
 // One round of the hash.
+#[tactic(auto, unfolding(crate::specs::Table::turned))]
 fn turn(h: u64, x: u64) -> u64
     requires { (h < 1099511627776) × (x < 4294967296) }
     ensures { (result ≡ turned h x) × (result < 1099511627776) }
@@ -46,6 +48,7 @@ fn rest(name: &[u8], from: usize) -> u64
 }
 
 // The mark of a name: 40 bits, four bytes at a time and then the rest.
+#[tactic(auto, unfolding(crate::specs::Table::mark_to))]
 fn mark(name: &[u8]) -> u64
     ensures { (result ≡ mark_of name.now) × (result < 1099511627776) }
 {
@@ -58,6 +61,7 @@ fn mark(name: &[u8]) -> u64
 }
 
 // The bucket of a mark, of n buckets.
+#[tactic(auto, unfolding(crate::specs::Table::bucket_of))]
 fn bucket(m: u64, n: usize) -> usize
     requires { 0 < n }
     ensures { (result ≡ bucket_of n m) × (result < n) }
@@ -68,6 +72,7 @@ fn bucket(m: u64, n: usize) -> usize
 // ---- Searching a bucket.
 
 // The newest number in bucket h plus one, or 0 if the bucket is empty. A word of an earlier use does not count, so the table needs no clearing.
+#[tactic(auto, unfolding(crate::specs::Table::start_of))]
 fn start(t: &[u64], n: usize, h: usize) -> usize
     requires { (0 < n) × ((length t.now ≡ 1 + 3 * n) × ((kept t.now ≤ n) × (h < n))) }
     ensures { (result ≡ start_of n t.now h) × (result ≤ n) }
@@ -162,9 +167,8 @@ pub fn declare(s: &[u8], t: &mut [u64], n: usize, at: usize, size: usize) -> Opt
 {
     let end = at + size;
     let m = mark(&s[at..end]);
-    let known = find_marked(s, t, n, &s[at..end], m);
-    if known.is_some() {
-        return known;
+    if let Some(k) = find_marked(s, t, n, &s[at..end], m) {
+        return Some(k);
     }
     let k = t[0] as usize;
     if n <= k {

@@ -1,17 +1,8 @@
-use Prim.Native.Nat.{◌-◌}
 use mathlib.Core.Path.{refl, sym, ◌∙◌}
 use native.Mathlib.Omega.{arith}
 use Rattle.opl_names.specs.Table.{bucket_of}
 use Rattle.opl_names.proofs.TableLaws.{walk_start, walk-found, walk-less, walk-on, walk_end}
 use Rattle.opl_names.proofs.find_marked.Goals as goal
-
-pub bucket-requires : goal.bucket-requires
-bucket-requires c = c.requires.0.some
-
-pub start-next-requires : goal.start-next-requires
-start-next-requires c =
-    let pre = c.requires in
-    (pre.0.some, (pre.0.room, (pre.0.within, c.bucket.ensures.1)))
 
 pub loop-next-init : goal.loop-next-init
 loop-next-init c =
@@ -20,13 +11,6 @@ loop-next-init c =
     walk_start args.s.now args.n args.t.now args.name.now args.m (bucket_of args.n args.m) pre.0 pre.1 refl c.start-next.result
     (rw c.bucket.ensures.0 at c.bucket.ensures.1) (rw c.bucket.ensures.0 at c.start-next.ensures.0)
 
-pub is_name-requires : goal.is_name-requires
-is_name-requires c =
-    let pre = c.requires in (
-      omega (arith, c.loop-next.invariant.within, pre.0.room, pre.0.within),
-      pre.0.inside (c.loop-next.next - 1) (omega (arith, c.loop-next.invariant.within)),
-    )
-
 pub returns-then-is_name : goal.returns-then-is_name
 returns-then-is_name c =
     let args = c.args in
@@ -34,12 +18,6 @@ returns-then-is_name c =
     let loop = c.loop-next in
     walk-found args.s.now args.n args.t.now args.name.now args.m (bucket_of args.n args.m) pre.0 pre.1 refl loop.next
     (omega (arith, c.loop-next-test.true)) loop.invariant (sym c.if-is_name.true ∙ c.is_name.ensures)
-
-pub link-next-requires : goal.link-next-requires
-link-next-requires c =
-    let pre = c.requires in
-    let loop = c.loop-next in
-    omega (arith, loop.invariant.within, pre.0.room, pre.0.within)
 
 pub loop-next-smaller : goal.loop-next-smaller
 loop-next-smaller c =
