@@ -11,7 +11,7 @@ use borrow.Author.Tests.{eqb-true, eqb-false, ltb-true, ltb-false}
 use Rattle.opl_spaces.specs.Spaces.{limit_of, base_of, size_of, table_words, list_place, scratch_words, table_of, list_of, Apart, Empties, DeclaresIn}
 use Rattle.paper_opl.specs.Reading.{Text}
 use Rattle.opl_names.specs.Table.{Emptied, Declares}
-use Rattle.opl_names.specs.declared.Found.{Found}
+use Rattle.std.specs.Prelude.{Option}
 
 -- The table of space i has room for 1 to 65,536 names, and lies before the kept records.
 pub record Bounds (i : ℕ) : Type 0 where
@@ -172,7 +172,7 @@ module _ (i : ℕ) (h : i < 7) (l : List ℕ) (n from : ℕ) (limit : n ≡ limi
       let size = (e.sound []).room in
       record { emptied = rw (lent-here p size, ← limit) e; apart = lent-apart p size }
 
-  pub declares-in : (s w : Text) (p : List ℕ) (r : Found) → Declares s n w (take (from + 1 + 3 * n - from) (drop from l)) p r →
+  pub declares-in : (s w : Text) (p : List ℕ) (r : Option ℕ) → Declares s n w (take (from + 1 + 3 * n - from) (drop from l)) p r →
       DeclaresIn s i w l (take from l ++ (p ++ drop (from + 1 + 3 * n - from) (drop from l))) r
   declares-in s w p r e =
       let size = e.sound.room in

@@ -46,6 +46,7 @@ pub const LIST: usize = 659639;
 pub const LISTED: usize = 262144;
 
 // The number of names that a space can hold. This and `base` are matches, because an array would be built on the stack at each use.
+#[tactic(auto, unfolding(crate::specs::Spaces::limit_of))]
 fn limit(i: usize) -> usize
     requires { i < 7 }
     ensures { result ≡ limit_of i }
@@ -63,6 +64,7 @@ fn limit(i: usize) -> usize
 }
 
 // Where the table of a space begins.
+#[tactic(auto, unfolding(crate::specs::Spaces::base_of))]
 fn base(i: usize) -> usize
     requires { i < 7 }
     ensures { result ≡ base_of i }
@@ -80,6 +82,7 @@ fn base(i: usize) -> usize
 }
 
 // Empties a space, whatever its words were.
+#[tactic(auto, using(crate::proofs::SpaceLaws::lent_fits))]
 pub fn empty(w: &mut [u64], i: usize)
     requires { (length w.old ≡ scratch_words) × (i < 7) }
     ensures { Empties i w.old w.new }
@@ -91,6 +94,7 @@ pub fn empty(w: &mut [u64], i: usize)
 }
 
 // Declares the name at a place of the text in a space.
+#[tactic(auto, using(crate::proofs::SpaceLaws::lent_fits))]
 pub fn declare(s: &[u8], w: &mut [u64], i: usize, at: usize, size: usize) -> Option<usize>
     requires { ((length w.old ≡ scratch_words) × (i < 7)) × (Sound s.now (limit_of i) (table_of i w.old) × ((at + size ≤ length s.now) × (size ≤ 64))) }
     ensures { DeclaresIn s.now i (take size (drop at s.now)) w.old w.new result }
@@ -102,6 +106,7 @@ pub fn declare(s: &[u8], w: &mut [u64], i: usize, at: usize, size: usize) -> Opt
 }
 
 // The number of a name in a space; none if the name is too long.
+#[tactic(auto, using(crate::proofs::SpaceLaws::lent_fits))]
 pub fn number(s: &[u8], w: &[u64], i: usize, name: &[u8]) -> Option<usize>
     requires { ((length w.now ≡ scratch_words) × (i < 7)) × Sound s.now (limit_of i) (table_of i w.now) }
     ensures { found_of result ≡ numbered s.now i w.now name.now }

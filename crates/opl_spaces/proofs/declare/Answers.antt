@@ -1,43 +1,6 @@
 -- `declare` meets its contract: it lends the words of one table, so no other table changes.
-use native.Mathlib.Omega.{arith}
-use Rattle.opl_spaces.proofs.SpaceLaws.{lent_fits, lent_is, declares-in}
-use borrow.Author.Rules.{rules}
+use Rattle.opl_spaces.proofs.SpaceLaws.{lent_is, declares-in}
 use Rattle.opl_spaces.proofs.declare.Goals as goal
-
-pub overflow_add-to : goal.overflow_add-to
-overflow_add-to c =
-    let args = c.args in
-    let pre = c.requires in
-    omega (
-      arith,
-      lent_fits args.i pre.0.1 args.w.now c.limit-n.result c.base-from.result c.limit-n.ensures c.base-from.ensures pre.0.0,
-    )
-
-pub overflow_add-to-2 : goal.overflow_add-to-2
-overflow_add-to-2 c =
-    let args = c.args in
-    let pre = c.requires in
-    omega (
-      arith,
-      lent_fits args.i pre.0.1 args.w.now c.limit-n.result c.base-from.result c.limit-n.ensures c.base-from.ensures pre.0.0,
-    )
-
-pub offset_bounds-w-from : goal.offset_bounds-w-from
-offset_bounds-w-from c =
-    let args = c.args in
-    let pre = c.requires in
-    omega (
-      arith,
-      lent_fits args.i pre.0.1 args.w.now c.limit-n.result c.base-from.result c.limit-n.ensures c.base-from.ensures pre.0.0,
-    )
-
-pub slice_bounds-declare-end : goal.slice_bounds-declare-end
-slice_bounds-declare-end c =
-    let args = c.args in
-    let pre = c.requires in
-    let h =
-    lent_fits args.i pre.0.1 args.w.now c.limit-n.result c.base-from.result c.limit-n.ensures c.base-from.ensures pre.0.0 in
-    search rules
 
 pub declare-requires : goal.declare-requires
 declare-requires c =
