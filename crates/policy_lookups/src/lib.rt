@@ -32,12 +32,7 @@ pub fn has_task(p: &PolicyBuffer, j: u64) -> bool
     requires { j < 16 }
     ensures { result ≡ has_task (policy_of p.now).tasks j }
 {
-    for t in 0..64 {
-        if policy::task_is_of(p, t, j) {
-            return true;
-        }
-    }
-    false
+    (0..64).any(|t| policy::task_is_of(p, t, j))
 }
 
 // Whether t is in m but is not a task of template j.
@@ -53,24 +48,14 @@ fn all_of(p: &PolicyBuffer, m: Set, j: u64) -> bool
     requires { j < 16 }
     ensures { result ≡ within m.bits (tasks_of (policy_of p.now).tasks j) }
 {
-    for t in 0..64 {
-        if is_stray(p, t, m, j) {
-            return false;
-        }
-    }
-    true
+    !(0..64).any(|t| is_stray(p, t, m, j))
 }
 
 // Whether the tasks m are all of one template.
 pub fn one_template(p: &PolicyBuffer, m: Set) -> bool
     ensures { result ≡ one_template (policy_of p.now).tasks m.bits }
 {
-    for j in 0..16 {
-        if all_of(p, m, j) {
-            return true;
-        }
-    }
-    false
+    (0..16).any(|j| all_of(p, m, j))
 }
 
 // Whether i is a task of template j other than t that is not in d.
@@ -86,12 +71,7 @@ pub fn others_within(p: &PolicyBuffer, j: u64, t: u64, d: Set) -> bool
     requires { j < 16 }
     ensures { result ≡ within (minus (tasks_of (policy_of p.now).tasks j) t) d.bits }
 {
-    for i in 0..64 {
-        if is_lacking(p, i, j, t, d) {
-            return false;
-        }
-    }
-    true
+    !(0..64).any(|i| is_lacking(p, i, j, t, d))
 }
 
 // Whether template j has two or more tasks. It stops at the second: the compiler would vectorise a count of all 64, and every request would then have to save
@@ -126,13 +106,7 @@ fn limit_breaks(p: &PolicyBuffer, which: SetKind, k: usize, m: Set) -> bool
 pub fn broken(p: &PolicyBuffer, which: SetKind, m: Set) -> bool
     ensures { result ≡ some (breaks m.bits) (limit_rows_of (policy_of p.now).rules (set_index which)) }
 {
-    let n = policy::limit_count(p, which);
-    for k in 0..n {
-        if limit_breaks(p, which, k, m) {
-            return true;
-        }
-    }
-    false
+    (0..policy::limit_count(p, which)).any(|k| limit_breaks(p, which, k, m))
 }
 
 // Whether set k has this n and these members.
@@ -147,13 +121,7 @@ fn limit_is(p: &PolicyBuffer, which: SetKind, k: usize, n: u64, m: Set) -> bool
 pub fn limit_repeated(p: &PolicyBuffer, which: SetKind, n: u64, m: Set) -> bool
     ensures { result ≡ some (same_limit n m.bits) (limit_rows_of (policy_of p.now).rules (set_index which)) }
 {
-    let count = policy::limit_count(p, which);
-    for k in 0..count {
-        if limit_is(p, which, k, n, m) {
-            return true;
-        }
-    }
-    false
+    (0..policy::limit_count(p, which)).any(|k| limit_is(p, which, k, n, m))
 }
 
 // Whether user u is declared and has more than n of the roles m, counting the roles below those assigned.
@@ -168,12 +136,7 @@ fn user_exceeds(p: &PolicyBuffer, u: usize, n: u64, m: Set) -> bool
 pub fn user_breaks(p: &PolicyBuffer, n: u64, m: Set) -> bool
     ensures { result ≡ some_number_below 1024 (λ u. (policy_of p.now).people.users u && breaks (down (policy_of p.now).seniority ((policy_of p.now).people.assigned u)) (record { n = n; members = m.bits })) }
 {
-    for u in 0..1024 {
-        if user_exceeds(p, u, n, m) {
-            return true;
-        }
-    }
-    false
+    (0..1024).any(|u| user_exceeds(p, u, n, m))
 }
 
 // ---- Blocks.
@@ -190,13 +153,7 @@ fn block_is(p: &PolicyBuffer, k: usize, a: u64, m: Set) -> bool
 pub fn block_repeated(p: &PolicyBuffer, a: u64, m: Set) -> bool
     ensures { result ≡ some (is_same_block a m.bits) (policy_of p.now).rules.blocks }
 {
-    let count = policy::block_count(p);
-    for k in 0..count {
-        if block_is(p, k, a, m) {
-            return true;
-        }
-    }
-    false
+    (0..policy::block_count(p)).any(|k| block_is(p, k, a, m))
 }
 
 // The tasks of block k, if it is of partitioning a, together with those collected from later blocks.
@@ -237,11 +194,5 @@ fn pair_is(p: &PolicyBuffer, which: PairKind, k: usize, a: u64, b: u64) -> bool
 pub fn pair_repeated(p: &PolicyBuffer, which: PairKind, a: u64, b: u64) -> bool
     ensures { result ≡ some (same_pair a b) (pairs_of (policy_of p.now).rules (pair_index which)) }
 {
-    let count = policy::pair_count(p, which);
-    for k in 0..count {
-        if pair_is(p, which, k, a, b) {
-            return true;
-        }
-    }
-    false
+    (0..policy::pair_count(p, which)).any(|k| pair_is(p, which, k, a, b))
 }

@@ -1,23 +1,19 @@
-use mathlib.Core.Path.{◌≡◌, refl, sym, ap, ◌∙◌}
+-- `all_of` meets its contract: no number below 64 is in m without being a task of template j.
 use mathlib.Core.Bool.{not}
-use native.Mathlib.Omega.{arith}
-use Rattle.paper_lower.specs.Lists.{some_number_below}
-use Rattle.replies.proofs.SearchLaws.{below_more, below-found}
-use Rattle.policy_lookups.proofs.Tasks.{none-stray}
+use mathlib.Core.Path.{refl, ap, ◌∙◌}
 use borrow.Author.Rules.{rules}
+use borrow.Author.Tests.{tests}
+use Rattle.std.proofs.lemmas.Iterator.{YieldsList-from_range}
+use Rattle.std.proofs.lemmas.Iterator.Search.{any_from_yields_List}
+use Rattle.policy.specs.Reading.{policy_of}
+use Rattle.policy_lookups.specs.Rows.{strays}
+use Rattle.policy_lookups.proofs.Tasks.{none-stray}
+use Rattle.policy_lookups.proofs.Searches.{any-below}
 use Rattle.policy_lookups.proofs.all_of.Goals as goal
 
-pub loop-t-init : goal.loop-t-init
-unfolding some_number_below
-loop-t-init c = refl
-
-pub returns-then-is_stray : goal.returns-then-is_stray
-returns-then-is_stray c = ap not (sym (below-found _ _ _ (search rules) (sym c.is_stray.ensures ∙ c.if-is_stray.true))) ∙ none-stray _ _ _ (search rules)
-
-pub loop-t-preserved : goal.loop-t-preserved
-loop-t-preserved c =
-    let loop = c.loop-t in
-    below_more _ _ loop.invariant (sym c.is_stray.ensures ∙ c.if-is_stray.false)
-
 pub returns : goal.returns
-returns c = let e : 64 ≡ c.loop-t.t = omega arith in ap not (sym (rw (← e) at c.loop-t.invariant)) ∙ none-stray _ _ _ (search rules)
+returns c =
+    let found =
+        any_from_yields_List (strays (policy_of c.args.p.now).tasks c.args.m.bits c.args.j) _ _ _ c.any.ensures.ran (YieldsList-from_range 0 64 64 refl refl) (λ x b q k. search (rules, tests))
+        ∙ any-below _ 64 in
+    ap not found ∙ none-stray _ _ _ (search rules)

@@ -1,21 +1,16 @@
-use mathlib.Core.Path.{sym, ◌∙◌}
-use Rattle.policy.proofs.RuleLaws.{blocks-are}
-use Rattle.replies.proofs.SearchLaws.{some-start, some-here, some-later, some_end}
+-- `block_repeated` meets its contract: it asks for such a block among the rows kept.
+use mathlib.Core.Path.{refl, ◌∙◌}
 use borrow.Author.Rules.{rules}
+use borrow.Author.Tests.{tests}
+use Rattle.std.proofs.lemmas.Iterator.{YieldsList-from_range}
+use Rattle.std.proofs.lemmas.Iterator.Search.{any_from_yields_List}
+use Rattle.paper_lower.specs.Policy.{is_same_block}
+use Rattle.policy.specs.Layout.{block_at}
+use Rattle.policy.proofs.RuleLaws.{blocks-are}
+use Rattle.policy_lookups.proofs.Searches.{any-rows}
 use Rattle.policy_lookups.proofs.block_repeated.Goals as goal
 
-pub loop-k-init : goal.loop-k-init
-loop-k-init c = some-start _ (blocks-are _) c.block_count-count.ensures.0 _
-
-pub returns-then-block_is : goal.returns-then-block_is
-returns-then-block_is c =
-    let loop = c.loop-k in
-    sym (loop.invariant ∙ some-here _ _ _ _ (search rules) (sym c.block_is.ensures ∙ c.if-block_is.true))
-
-pub loop-k-preserved : goal.loop-k-preserved
-loop-k-preserved c =
-    let loop = c.loop-k in
-    loop.invariant ∙ some-later _ _ _ _ (search rules) (sym c.block_is.ensures ∙ c.if-block_is.false)
-
 pub returns : goal.returns
-returns c = sym (c.loop-k.invariant ∙ some_end _ _ _ _ (search rules))
+returns c =
+    any_from_yields_List (λ k. is_same_block c.args.a c.args.m.bits (block_at c.args.p.now k)) _ _ _ c.any.ensures.ran (YieldsList-from_range 0 _ _ refl refl) (λ x b q k. search (rules, tests))
+    ∙ any-rows _ _ (blocks-are _) c.block_count.ensures.0

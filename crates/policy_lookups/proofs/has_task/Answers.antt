@@ -1,25 +1,19 @@
-use mathlib.Core.Path.{◌≡◌, refl, sym, ◌∙◌}
-use native.Mathlib.Omega.{arith}
-use Rattle.paper_lower.specs.Lists.{some_number_below}
+-- `has_task` meets its contract: it asks for a task of the template among the numbers below 64.
+use mathlib.Core.Path.{refl, ◌∙◌}
+use borrow.Author.Rules.{rules}
+use borrow.Author.Tests.{tests}
+use Rattle.std.proofs.lemmas.Iterator.{YieldsList-from_range}
+use Rattle.std.proofs.lemmas.Iterator.Search.{any_from_yields_List}
+use Rattle.paper_lower.specs.Lists.{is}
 use Rattle.paper_lower.specs.Policy.{tasks_of, has_task}
 use Rattle.sets.proofs.SetLaws.{some-collected}
-use Rattle.replies.proofs.SearchLaws.{below_more, below-found}
-use borrow.Author.Rules.{rules}
+use Rattle.policy.specs.Reading.{policy_of}
+use Rattle.policy_lookups.proofs.Searches.{any-below}
 use Rattle.policy_lookups.proofs.has_task.Goals as goal
-
-pub loop-t-init : goal.loop-t-init
-unfolding some_number_below
-loop-t-init c = refl
-
-pub returns-then-task_is_of : goal.returns-then-task_is_of
-unfolding has_task tasks_of
-returns-then-task_is_of c = sym (below-found _ _ _ (search rules) (sym c.task_is_of.ensures ∙ c.if-task_is_of.true)) ∙ some-collected 64 _
-
-pub loop-t-preserved : goal.loop-t-preserved
-loop-t-preserved c =
-    let loop = c.loop-t in
-    below_more _ _ loop.invariant (sym c.task_is_of.ensures ∙ c.if-task_is_of.false)
 
 pub returns : goal.returns
 unfolding has_task tasks_of
-returns c = let e : 64 ≡ c.loop-t.t = omega arith in sym (rw e c.loop-t.invariant) ∙ some-collected 64 _
+returns c =
+    any_from_yields_List (λ t. is c.args.j ((policy_of c.args.p.now).tasks.template t)) _ _ _ c.any.ensures.ran (YieldsList-from_range 0 64 64 refl refl)
+    (λ x b q k. search (rules, tests))
+    ∙ any-below _ 64 ∙ some-collected 64 _

@@ -1,24 +1,17 @@
-use mathlib.Core.Path.{◌≡◌, refl, sym, ◌∙◌}
-use native.Mathlib.Omega.{arith}
-use Rattle.paper_lower.specs.Lists.{some_number_below}
-use Rattle.paper_lower.specs.Policy.{one_template}
-use Rattle.replies.proofs.SearchLaws.{below_more, below-found}
+-- `one_template` meets its contract: it asks for a template that has all tasks of m among the numbers below 16.
+use mathlib.Core.Path.{refl, ◌∙◌}
 use borrow.Author.Rules.{rules}
+use borrow.Author.Tests.{tests}
+use Rattle.std.proofs.lemmas.Iterator.{YieldsList-from_range}
+use Rattle.std.proofs.lemmas.Iterator.Search.{any_from_yields_List}
+use Rattle.paper_lower.specs.Sets.{within}
+use Rattle.paper_lower.specs.Policy.{tasks_of, one_template}
+use Rattle.policy.specs.Reading.{policy_of}
+use Rattle.policy_lookups.proofs.Searches.{any-below}
 use Rattle.policy_lookups.proofs.one_template.Goals as goal
-
-pub loop-j-init : goal.loop-j-init
-unfolding some_number_below
-loop-j-init c = refl
-
-pub returns-then-all_of : goal.returns-then-all_of
-unfolding one_template
-returns-then-all_of c = sym (below-found _ _ _ (search rules) (sym c.all_of.ensures ∙ c.if-all_of.true))
-
-pub loop-j-preserved : goal.loop-j-preserved
-loop-j-preserved c =
-    let loop = c.loop-j in
-    below_more _ _ loop.invariant (sym c.all_of.ensures ∙ c.if-all_of.false)
 
 pub returns : goal.returns
 unfolding one_template
-returns c = let e : 16 ≡ c.loop-j.j = omega arith in sym (rw e c.loop-j.invariant)
+returns c =
+    any_from_yields_List (λ j. within c.args.m.bits (tasks_of (policy_of c.args.p.now).tasks j)) _ _ _ c.any.ensures.ran (YieldsList-from_range 0 16 16 refl refl) (λ x b q k. search (rules, tests))
+    ∙ any-below _ 16

@@ -1,21 +1,15 @@
-use mathlib.Core.Path.{◌≡◌, refl, sym, ◌∙◌}
-use native.Mathlib.Omega.{arith}
-use Rattle.paper_lower.specs.Lists.{some_number_below}
-use Rattle.replies.proofs.SearchLaws.{below_more, below-found}
+-- `user_breaks` meets its contract: it asks for such a user among the numbers below 1024.
+use mathlib.Core.Path.{refl, ◌∙◌}
 use borrow.Author.Rules.{rules}
+use borrow.Author.Tests.{tests}
+use Rattle.std.proofs.lemmas.Iterator.{YieldsList-from_range}
+use Rattle.std.proofs.lemmas.Iterator.Search.{any_from_yields_List}
+use Rattle.policy.specs.Reading.{policy_of}
+use Rattle.policy_lookups.specs.Rows.{exceeds}
+use Rattle.policy_lookups.proofs.Searches.{any-below}
 use Rattle.policy_lookups.proofs.user_breaks.Goals as goal
 
-pub loop-u-init : goal.loop-u-init
-unfolding some_number_below
-loop-u-init c = refl
-
-pub returns-then-user_exceeds : goal.returns-then-user_exceeds
-returns-then-user_exceeds c = sym (below-found _ _ _ (search rules) (sym c.user_exceeds.ensures ∙ c.if-user_exceeds.true))
-
-pub loop-u-preserved : goal.loop-u-preserved
-loop-u-preserved c =
-    let loop = c.loop-u in
-    below_more _ _ loop.invariant (sym c.user_exceeds.ensures ∙ c.if-user_exceeds.false)
-
 pub returns : goal.returns
-returns c = let e : 1024 ≡ c.loop-u.u = omega arith in sym (rw e c.loop-u.invariant)
+returns c =
+    any_from_yields_List (exceeds (policy_of c.args.p.now) c.args.n c.args.m.bits) _ _ _ c.any.ensures.ran (YieldsList-from_range 0 1024 1024 refl refl) (λ x b q k. search (rules, tests))
+    ∙ any-below _ 1024
