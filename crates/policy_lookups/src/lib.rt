@@ -1,4 +1,4 @@
-// Questions about the tasks, users and rules of a policy, answered by loops over the rows of the policy buffer. Each equals its definition in paper_lower,
+// Questions about the tasks, users and rules of a policy, answered by going through the rows of the policy buffer. Each equals its definition in paper_lower,
 // Policy. The crate uses only the getters of the policy buffer, not its layout.
 #![tactic(auto)]
 
@@ -92,7 +92,7 @@ pub fn two_tasks(p: &PolicyBuffer, j: u64) -> bool
     false
 }
 
-// ---- Sets: static sets 0, dynamic sets 1, task sets 2.
+// ---- Sets of roles or tasks of which no one may have more than n members.
 
 // Whether m has more members of set k than the set allows.
 fn limit_breaks(p: &PolicyBuffer, which: SetKind, k: usize, m: Set) -> bool
@@ -180,7 +180,7 @@ pub fn partitioned(p: &PolicyBuffer, a: u64) -> Set
     all
 }
 
-// ---- Pairs of tasks: bindings 0, prerequisites 1.
+// ---- Pairs of tasks.
 
 // Whether pair k is (a, b).
 fn pair_is(p: &PolicyBuffer, which: PairKind, k: usize, a: u64, b: u64) -> bool

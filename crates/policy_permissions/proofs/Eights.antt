@@ -15,7 +15,7 @@ use Rattle.sets.proofs.SetLaws.{has-empty, has_kept}
 use Rattle.policy.specs.Layout.{first_in, second_in, eights_in, among, listing_for, row_holds}
 use Rattle.policy.specs.Reading.{policy_of}
 use Rattle.policy.proofs.BucketLaws.{among-splits, declared-for}
-use Rattle.policy_permissions.specs.Rows.{in_two, in_eight}
+use Rattle.policy_permissions.specs.Rows.{in_two, in_eight, in_eights}
 
 -- ---- The rows of a group of eight.
 pub in-eight : (row : ℕ → Bool) (t : ℕ) {a b c d e f g h : Bool} → h ≡ row (8 * t + 7) → g ≡ row (8 * t + 6) → f ≡ row (8 * t + 5) → e ≡ row (8 * t + 4) →
@@ -27,9 +27,6 @@ in-eight row t s r q p o n m l =
     λ z. s z || (r z || (q z || (p z || (o z || (n z || (m z || (l ∙ ap row first ∙ sym (or-false (row (8 * t + 0)))) z))))))
 
 -- ---- Some row of a set of groups.
-abbrev pub in_eights : Set → (ℕ → Bool) → Bool
-in_eights w row = some_number_below 32 (λ t. has w t && in_eight row t)
-
 module _ (w : Set) (row : ℕ → Bool) where
   gather : (o a b c d e f g h rest : Bool) →
       (o && h) || ((o && g) || ((o && f) || ((o && e) || ((o && d) || ((o && c) || ((o && b) || ((o && a) || rest))))))) ≡

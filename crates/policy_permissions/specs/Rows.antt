@@ -1,5 +1,5 @@
 -- Tests on one row of the permissions, and on the rows that are tested together.
-use Rattle.std.specs.Prelude.{ℕ, ◌+◌, ◌*◌, Bool, ◌&&◌, ◌||◌, List}
+use Rattle.std.specs.Prelude.{ℕ, ◌+◌, ◌*◌, ◌<◌, ◌≡◌, Bool, ◌&&◌, ◌||◌, List}
 use Rattle.paper_lower.specs.Sets.{Set, has, meets}
 use Rattle.paper_lower.specs.Lists.{some_number_below}
 use Rattle.policy.specs.Layout.{first_in, second_in, row_holds}
@@ -20,3 +20,14 @@ in_two row w = row (first_in w) || row (second_in w)
 -- Whether the test holds for a row of group t, which is rows 8 t to 8 t + 7.
 unfoldable pub in_eight : (ℕ → Bool) → ℕ → Bool
 in_eight row t = some_number_below 8 (λ j. row (8 * t + j))
+
+-- Whether the test holds for a row of a set of groups.
+abbrev pub in_eights : Set → (ℕ → Bool) → Bool
+in_eights w row = some_number_below 32 (λ t. has w t && in_eight row t)
+
+-- ---- A test that is handed over as a closure: it may be asked of any permission, and it computes `row`.
+abbrev pub Asks : (ℕ → Type 0) → Type 0
+Asks may = (b : ℕ) → b < 256 → may b
+
+abbrev pub Computes : (ℕ → Bool → Type 0) → (ℕ → Bool) → Type 0
+Computes gives row = (b : ℕ) (x : Bool) → b < 256 → gives b x → x ≡ row b

@@ -14,6 +14,6 @@ use Rattle.policy_lookups.proofs.all_of.Goals as goal
 pub returns : goal.returns
 returns c =
     let found =
-        any_from_yields_List (strays (policy_of c.args.p.now).tasks c.args.m.bits c.args.j) _ _ _ c.any.ensures.ran (YieldsList-from_range 0 64 64 refl refl) (λ x b q k. search (rules, tests))
-        ∙ any-below _ 64 in
+    any_from_yields_List (strays (policy_of c.args.p.now).tasks c.args.m.bits c.args.j) _ _ _ c.any.ensures.ran (YieldsList-from_range 0 64 64 refl refl) (λ x b q k. search (rules, tests))
+    ∙ any-below _ 64 in
     ap not found ∙ none-stray _ _ _ (search rules)

@@ -3,7 +3,6 @@ use native.Mathlib.Omega.{arith}
 use Rattle.paper_lower.specs.Sets.{collect}
 use Rattle.paper_lower.specs.Policy.{declared_tasks}
 use Rattle.replies.proofs.SearchLaws.{collect-more}
-use borrow.Author.Rules.{rules}
 use Rattle.policy_lookups.proofs.declared_tasks.Goals as goal
 
 pub loop-t-init : goal.loop-t-init

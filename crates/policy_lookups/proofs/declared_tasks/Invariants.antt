@@ -1,6 +1,5 @@
 -- `declared_tasks` meets its contract: a loop over the numbers below 64. Its invariant: the set has the declared tasks below t.
 use mathlib.Core.Path.{◌≡◌}
-use Prim.Native.Nat.{◌-◌, ◌≤◌}
 use Rattle.paper_lower.specs.Sets.{collect}
 use Rattle.paper_lower.specs.Lists.{there}
 use Rattle.policy.specs.Reading.{policy_of}

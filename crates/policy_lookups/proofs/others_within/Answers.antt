@@ -14,6 +14,6 @@ use Rattle.policy_lookups.proofs.others_within.Goals as goal
 pub returns : goal.returns
 returns c =
     let found =
-        any_from_yields_List (lacks (policy_of c.args.p.now).tasks c.args.j c.args.t c.args.d.bits) _ _ _ c.any.ensures.ran (YieldsList-from_range 0 64 64 refl refl) (λ x b q k. search (rules, tests))
-        ∙ any-below _ 64 in
+    any_from_yields_List (lacks (policy_of c.args.p.now).tasks c.args.j c.args.t c.args.d.bits) _ _ _ c.any.ensures.ran (YieldsList-from_range 0 64 64 refl refl) (λ x b q k. search (rules, tests))
+    ∙ any-below _ 64 in
     ap not found ∙ none-lacking _ _ _ _

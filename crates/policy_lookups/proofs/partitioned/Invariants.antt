@@ -1,6 +1,6 @@
 -- `partitioned` meets its contract: a loop from the last block to the first. Its invariant: the set has the tasks of the partitioning's blocks from k on.
 use mathlib.Core.Path.{◌≡◌}
-use Prim.Native.Nat.{◌-◌, ◌≤◌}
+use Prim.Native.Nat.{◌-◌}
 use Rattle.paper_lower.specs.Policy.{partitioned}
 use Rattle.policy.specs.Layout.{block_at}
 use Rattle.replies.specs.Cells.{rows_from}

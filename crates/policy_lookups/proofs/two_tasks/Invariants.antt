@@ -1,5 +1,5 @@
 -- `two_tasks` meets its contract: a loop over the numbers below 64 that stops at the second task. Its invariant: n is the number of tasks below i, at most 1.
-use Prim.Native.Nat.{◌-◌, ◌≤◌}
+use Prim.Native.Nat.{◌≤◌}
 use mathlib.Core.Path.{◌≡◌}
 use Rattle.paper_lower.specs.Sets.{size, collect}
 use Rattle.paper_lower.specs.Lists.{is}

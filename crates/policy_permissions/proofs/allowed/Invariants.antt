@@ -4,13 +4,13 @@ use mathlib.Core.Bool.{◌||◌}
 use mathlib.Core.Path.{◌≡◌}
 use Rattle.paper_lower.specs.Sessions.{allowed}
 use Rattle.policy.specs.Reading.{policy_of}
-use Rattle.policy_permissions.specs.Rows.{opens}
-use Rattle.policy_permissions.proofs.Eights.{in_eights}
+use Rattle.policy_permissions.specs.Rows.{opens, in_eights}
 use Rattle.policy_permissions.proofs.allowed.Given as goal
 
 abbrev pub invariant-loop-left : goal.invariant-loop-left
 invariant-loop-left l =
-    (allowed (policy_of l.p).permissions l.m.bits l.operation l.object ≡ l.found || in_eights l.left.bits (opens l.p l.m.bits l.operation l.object)) ×
+    (allowed (policy_of l.p).permissions l.fn.m.bits l.fn.operation l.fn.object ≡
+    l.found || in_eights l.left.bits (opens l.p l.fn.m.bits l.fn.operation l.fn.object)) ×
     (l.left.bits < 4294967296)
 
 abbrev pub decreases-loop-left : goal.decreases-loop-left

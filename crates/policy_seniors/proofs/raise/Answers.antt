@@ -2,7 +2,6 @@ use mathlib.Core.Path.{ap, ◌∙◌}
 use native.Mathlib.Omega.{arith}
 use Rattle.paper_lower.specs.Sets.{plus}
 use Rattle.policy_seniors.proofs.Raising.{rows_none, rows_more, all-rows}
-use borrow.Author.Rules.{rules}
 use Rattle.policy_seniors.proofs.raise.Goals as goal
 
 pub loop-r-init : goal.loop-r-init

@@ -1,6 +1,5 @@
 -- `raise` meets its contract. The invariant of the loop: the rows before r are those of the result. Then the pair of the record is stored.
 use mathlib.Core.Path.{◌≡◌}
-use Prim.Native.Nat.{◌-◌, ◌≤◌}
 use Rattle.policy.specs.Reading.{policy_of}
 use Rattle.policy_seniors.specs.Rows.{lowered_to}
 use Rattle.policy_seniors.proofs.raise.Given as goal

@@ -1,6 +1,6 @@
 -- `raisings` meets its contract. The invariant of the loop: n is the sum over the rows before r. Each row adds at most 64, so that the sum does not wrap.
 use mathlib.Core.Path.{◌≡◌}
-use Prim.Native.Nat.{◌-◌, ◌*◌, ◌≤◌}
+use Prim.Native.Nat.{◌*◌, ◌≤◌}
 use Rattle.paper_lower.specs.Sets.{size}
 use Rattle.paper_lower.specs.Lists.{sum_below}
 use Rattle.policy.specs.Reading.{policy_of}
