@@ -54,9 +54,7 @@ fn clear(answer: &mut [u64])
     requires { length answer.old ≡ answer_words }
     ensures { answer.new ≡ replicate answer_words 0 }
 {
-    for k in 0..ANSWER_WORDS {
-        answer[k] = 0;
-    }
+    answer.fill(0);
 }
 
 // Kind 58: the number of entries of instance a, and the set of its done tasks.
@@ -108,12 +106,8 @@ pub fn question(
     ensures { Questioned bytes.now answer.old answer.new (buffers policy.now sessions.now orders.now) (number_of result) }
 {
     judge(bytes, answer, policy, sessions, orders)?;
-    let (Some(p), Some(o)) = (
-        policy.as_array::<POLICY_WORDS>(),
-        orders.as_array::<ORDERS_WORDS>(),
-    ) else {
-        return Err(Refusal::Room);
-    };
+    let p = policy.as_array::<POLICY_WORDS>().ok_or(Refusal::Room)?;
+    let o = orders.as_array::<ORDERS_WORDS>().ok_or(Refusal::Room)?;
     if !order_links::is_sound(o) {
         return Err(Refusal::Unknown);
     }

@@ -19,9 +19,7 @@ pub fn write(
     if !engine::fit(policy.len(), sessions.len(), orders.len()) {
         return Err(Refusal::Room);
     }
-    let Some(o) = orders.as_array::<ORDERS_WORDS>() else {
-        return Err(Refusal::Room);
-    };
+    let o = orders.as_array::<ORDERS_WORDS>().ok_or(Refusal::Room)?;
     if !order_links::is_sound(o) {
         return Ok(0);
     }

@@ -89,14 +89,10 @@ pub fn request(
 ) -> Outcome
     ensures { Requested bytes.now (buffers policy.old sessions.old orders.old) (buffers policy.new sessions.new orders.new) result }
 {
-    let (Some(p), Some(s), Some(o)) = (
-        policy.as_mut_array::<POLICY_WORDS>(),
-        sessions.as_mut_array::<SESSIONS_WORDS>(),
-        orders.as_mut_array::<ORDERS_WORDS>(),
-    ) else {
-        return Err(Refused::from(Refusal::Room));
-    };
-    records::judge(Call::Request, bytes).map_err(Refused::from)?;
+    let p = policy.as_mut_array::<POLICY_WORDS>().ok_or(Refusal::Room)?;
+    let s = sessions.as_mut_array::<SESSIONS_WORDS>().ok_or(Refusal::Room)?;
+    let o = orders.as_mut_array::<ORDERS_WORDS>().ok_or(Refusal::Room)?;
+    records::judge(Call::Request, bytes)?;
     act(records::decode(bytes), p, s, o)
 }
 
@@ -104,13 +100,9 @@ pub fn request(
 pub fn settle(policy: &mut [u64], sessions: &mut [u64], orders: &mut [u64]) -> Reply
     ensures { Settled (buffers policy.old sessions.old orders.old) (buffers policy.new sessions.new orders.new) result }
 {
-    let (Some(p), Some(s), Some(o)) = (
-        policy.as_mut_array::<POLICY_WORDS>(),
-        sessions.as_mut_array::<SESSIONS_WORDS>(),
-        orders.as_mut_array::<ORDERS_WORDS>(),
-    ) else {
-        return Err(Refusal::Room);
-    };
+    let p = policy.as_mut_array::<POLICY_WORDS>().ok_or(Refusal::Room)?;
+    let s = sessions.as_mut_array::<SESSIONS_WORDS>().ok_or(Refusal::Room)?;
+    let o = orders.as_mut_array::<ORDERS_WORDS>().ok_or(Refusal::Room)?;
     if order_links::is_sound(o) {
         return Ok(());
     }
@@ -130,14 +122,10 @@ pub fn settled_request(
 ) -> Outcome
     ensures { SettledRequest bytes.now (buffers policy.old sessions.old orders.old) (buffers policy.new sessions.new orders.new) result }
 {
-    let (Some(p), Some(s), Some(o)) = (
-        policy.as_mut_array::<POLICY_WORDS>(),
-        sessions.as_mut_array::<SESSIONS_WORDS>(),
-        orders.as_mut_array::<ORDERS_WORDS>(),
-    ) else {
-        return Err(Refused::from(Refusal::Room));
-    };
-    records::judge(Call::Request, bytes).map_err(Refused::from)?;
+    let p = policy.as_mut_array::<POLICY_WORDS>().ok_or(Refusal::Room)?;
+    let s = sessions.as_mut_array::<SESSIONS_WORDS>().ok_or(Refusal::Room)?;
+    let o = orders.as_mut_array::<ORDERS_WORDS>().ok_or(Refusal::Room)?;
+    records::judge(Call::Request, bytes)?;
     step(records::decode(bytes), p, s, o)
 }
 
@@ -146,12 +134,8 @@ pub fn settled_request(
 pub fn quick(bytes: &[u8], policy: &[u64], sessions: &[u64], orders: &[u64]) -> Option<Reply>
     ensures { QuickRequest bytes.now (buffers policy.now sessions.now orders.now) result }
 {
-    let (Some(p), Some(s)) = (
-        policy.as_array::<POLICY_WORDS>(),
-        sessions.as_array::<SESSIONS_WORDS>(),
-    ) else {
-        return None;
-    };
+    let p = policy.as_array::<POLICY_WORDS>()?;
+    let s = sessions.as_array::<SESSIONS_WORDS>()?;
     if (orders.len() != ORDERS_WORDS) | !records::is_check(bytes) {
         return None;
     }
@@ -166,9 +150,7 @@ pub fn load(bytes: &[u8], policy: &mut [u64], sessions: &mut [u64], orders: &mut
     if !fit(policy.len(), sessions.len(), orders.len()) {
         return Err(Refused::from(Refusal::Room));
     }
-    let Some(o) = orders.as_mut_array::<ORDERS_WORDS>() else {
-        return Err(Refused::from(Refusal::Room));
-    };
+    let o = orders.as_mut_array::<ORDERS_WORDS>().ok_or(Refusal::Room)?;
     order_entries::clear(o);
     lower::load(bytes, policy, sessions)
 }
@@ -227,20 +209,12 @@ const READER_WORDS: u64 = 921784;
 pub extern "C" fn mishantral_words(group: u64) -> u64
     ensures { result ≡ words_of group }
 {
-    if group == 0 {
-        return POLICY_WORDS as u64;
+    match group {
+        0 => POLICY_WORDS as u64,
+        1 => SESSIONS_WORDS as u64,
+        2 => ORDERS_WORDS as u64,
+        3 => ANSWER_WORDS as u64,
+        4 => READER_WORDS,
+        _ => 0,
     }
-    if group == 1 {
-        return SESSIONS_WORDS as u64;
-    }
-    if group == 2 {
-        return ORDERS_WORDS as u64;
-    }
-    if group == 3 {
-        return ANSWER_WORDS as u64;
-    }
-    if group == 4 {
-        return READER_WORDS;
-    }
-    0
 }

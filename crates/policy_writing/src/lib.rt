@@ -282,9 +282,7 @@ fn count(p: &PolicyBuffer) -> usize
 pub fn write(output: &mut [u8], policy: &[u64]) -> Result<usize, Refusal>
     ensures { Wrote policy.now output.old output.new result }
 {
-    let Some(p) = policy.as_array::<POLICY_WORDS>() else {
-        return Err(Refusal::Room);
-    };
+    let p = policy.as_array::<POLICY_WORDS>().ok_or(Refusal::Room)?;
     let records = count(p);
     if output.len() < 16 * records {
         return Err(Refusal::Room);
