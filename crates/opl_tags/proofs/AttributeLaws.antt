@@ -1,6 +1,6 @@
 -- Laws about the attributes of a start tag: how one is read, how all of them are read one by one, and how a value is found among them.
 use Prim.Native.Nat.{ℕ, zero, suc, ◌+◌, ◌-◌, ◌≤◌, ◌<◌}
-use mathlib.Core.Path.{◌≡◌, refl, sym, ap, ◌∙◌, subst}
+use mathlib.Core.Path.{◌≡◌, refl, sym, ap, ◌∙◌}
 use mathlib.Core.Bool.{Bool, true, false, ◌||◌}
 use mathlib.Core.List.{List, [], ◌∷◌}
 use native.Mathlib.Omega.{arith}
@@ -15,62 +15,50 @@ use Rattle.paper_opl.specs.Walk.{plain, givens}
 use Rattle.paper_opl.proofs.Inversion.{on, on_test, bad≢got, got-rest, got-value}
 use Rattle.paper_opl.proofs.Counts.{below_of, word-strict, space-strict, equals-below}
 use Rattle.paper_opl.proofs.Tags.{plain-below}
-use Rattle.opl_text.specs.declared.Step.{Step}
-use Rattle.opl_text.specs.declared.Step.TheVariants.{Next, Bad}
-use Rattle.opl_text.specs.Steps.{Reads, step_of, word_of, value_of, place_of}
+use Rattle.std.specs.Prelude.{Ok, Err}
+use Rattle.opl_text.specs.declared.BadByte.{BadByte}
+use Rattle.opl_text.specs.Steps.{Reads, step_of, word_of, value_of}
 use Rattle.opl_text.proofs.Laws.{onward, no_word, a_word}
 use Rattle.opl_text.proofs.Literals.{value_room}
-use Rattle.opl_tags.specs.Tags.{placeless, given, Within, Stands, ReadsAttribute, collected_on, collected, given_at, Valued}
+use Rattle.opl_tags.specs.Tags.{placeless, given, Stands, ReadsAttribute, collected_on, collected, given_at, Valued}
 use Rattle.opl_tags.specs.declared.Attribute.{Attribute}
 use Rattle.opl_tags.specs.declared.Attribute.TheVariants.{Pair, Done, Stop}
 
 -- ---- One attribute: its name, "=" and its value.
-module _ (s : Text) (at : ℕ) (n : Step) (reads : Reads s (word_of s at) (name (drop at s)) n) where
-  pub plain-unnamed : (p : ℕ) → n ≡ Bad p → ReadsAttribute s at (after (plain (drop at s)) (λ g u. got (just g) u)) Stop
+module _ (s : Text) (at : ℕ) where
+  pub plain-unnamed : (e : BadByte) → Reads s (word_of s at) (name (drop at s)) (Err e) → ReadsAttribute s at (after (plain (drop at s)) (λ g u. got (just g) u)) Stop
   unfolding plain
-  plain-unnamed p e = record { read_is = rw (← reads.read_is, e); stands = tt }
+  plain-unnamed e reads = record { read_is = rw (← reads.read_is); stands = tt }
 
-  module _ (end : ℕ) (named : n ≡ Next end) where
-    name-is : name (drop at s) ≡ got (take (end - at) (drop at s)) (drop end s)
-    name-is = sym reads.read_is ∙ rw named
-
+  module _ (end : ℕ) (named : Reads s (word_of s at) (name (drop at s)) (Ok end)) where
     pub name-past : at < end
-    name-past = omega (arith, below_of name-is (word-strict in_name (drop at s)), length-drop at s, length-drop end s)
+    name-past = omega (arith, below_of (sym named.read_is) (word-strict in_name (drop at s)), length-drop at s, length-drop end s)
 
-    pub name-inside : end ≤ length s
-    name-inside = subst (λ (k : Step). place_of k ≤ length s) named reads.inside
+    pub plain-unequal : (e : BadByte) → Reads s (step_of s) (equals (drop end s)) (Err e) → ReadsAttribute s at (after (plain (drop at s)) (λ g u. got (just g) u)) Stop
+    unfolding plain
+    plain-unequal e reads = record { read_is = rw (← named.read_is, ← reads.read_is); stands = tt }
 
-    module _ (q : Step) (reads₂ : Reads s (step_of s) (equals (drop end s)) q) where
-      pub plain-unequal : (p : ℕ) → q ≡ Bad p → ReadsAttribute s at (after (plain (drop at s)) (λ g u. got (just g) u)) Stop
+    module _ (quote : ℕ) (sign : Reads s (step_of s) (equals (drop end s)) (Ok quote)) where
+      quote-past : end ≤ quote
+      quote-past =
+          omega (arith, below_of (sym sign.read_is) (equals-below (drop end s)), length-drop end s, length-drop quote s, sign.inside, named.inside)
+
+      pub plain-unvalued : (e : BadByte) → Reads s (value_of s (quote + 1)) (value (drop quote s)) (Err e) →
+          ReadsAttribute s at (after (plain (drop at s)) (λ g u. got (just g) u)) Stop
       unfolding plain
-      plain-unequal p e = record { read_is = rw (name-is, ← reads₂.read_is, e); stands = tt }
+      plain-unvalued e reads = record { read_is = rw (← named.read_is, ← sign.read_is, ← reads.read_is); stands = tt }
 
-      module _ (quote : ℕ) (sign : q ≡ Next quote) where
-        equals-is : equals (drop end s) ≡ got tt (drop quote s)
-        equals-is = sym reads₂.read_is ∙ rw sign
+      module _ (close : ℕ) (closes : Reads s (value_of s (quote + 1)) (value (drop quote s)) (Ok close)) where
+        pub pair-room : (quote + 1 ≤ close) × (close + 1 ≤ length s)
+        pair-room = value_room s quote (Ok close) closes close refl sign.inside
 
-        pub quote-inside : quote ≤ length s
-        quote-inside = subst (λ (k : Step). place_of k ≤ length s) sign reads₂.inside
-
-        quote-past : end ≤ quote
-        quote-past = omega (arith, below_of equals-is (equals-below (drop end s)), length-drop end s, length-drop quote s, quote-inside, name-inside)
-
-        module _ (v : Step) (reads₃ : Reads s (value_of s (quote + 1)) (value (drop quote s)) v) where
-          pub plain-unvalued : (p : ℕ) → v ≡ Bad p → ReadsAttribute s at (after (plain (drop at s)) (λ g u. got (just g) u)) Stop
-          unfolding plain
-          plain-unvalued p e = record { read_is = rw (name-is, equals-is, ← reads₃.read_is, e); stands = tt }
-
-          module _ (close : ℕ) (closes : v ≡ Next close) where
-            pub pair-room : (quote + 1 ≤ close) × (close + 1 ≤ length s)
-            pair-room = value_room s quote v reads₃ close closes quote-inside
-
-            pub plain-pair : ReadsAttribute s at (after (plain (drop at s)) (λ g u. got (just g) u)) (Pair at end (quote + 1) close)
-            unfolding plain
-            plain-pair =
-                record {
-                  read_is = rw (name-is, equals-is, ← reads₃.read_is, closes);
-                  stands = record { behind = omega arith; name = name-past; apart = omega (arith, quote-past); order = pair-room.0; inside = pair-room.1 };
-                }
+        pub plain-pair : ReadsAttribute s at (after (plain (drop at s)) (λ g u. got (just g) u)) (Pair at end (quote + 1) close)
+        unfolding plain
+        plain-pair =
+            record {
+              read_is = rw (← named.read_is, ← sign.read_is, ← closes.read_is);
+              stands = record { behind = omega arith; name = name-past; apart = omega (arith, quote-past); order = pair-room.0; inside = pair-room.1 };
+            }
 
 -- ---- The next attribute of a start tag, after white space up to index i.
 earlier : (s : Text) (at i : ℕ) → at ≤ i → (r : Attribute) → Stands s i r → Stands s at r
@@ -139,36 +127,39 @@ placed (got y u) g r e = sym e
 placed (bad u) g r e = absurd (bad≢got (sym e))
 
 -- The attributes from an index on, with a count that is always enough.
-module _ (s : Text) (i : ℕ) (r : Attribute) (reads : ReadsAttribute s i (given (drop i s)) r) where
-  pub collected-done : (n j : ℕ) → r ≡ Done j → collected n (drop i s) ≡ []
+module _ (s : Text) (i : ℕ) where
+  collected-done : (n j : ℕ) → ReadsAttribute s i (given (drop i s)) (Done j) → collected n (drop i s) ≡ []
   unfolding collected
-  collected-done zero j e = refl
-  collected-done (suc n) j e = let q = placed (given (drop i s)) none (drop j s) (rw e at reads.read_is) in rw q
+  collected-done zero j reads = refl
+  collected-done (suc n) j reads = let q = placed (given (drop i s)) none (drop j s) reads.read_is in rw q
 
-  pub collected-stop : (n : ℕ) → r ≡ Stop → collected n (drop i s) ≡ []
+  collected-stop : (n : ℕ) → ReadsAttribute s i (given (drop i s)) Stop → collected n (drop i s) ≡ []
   unfolding collected
-  collected-stop zero e = refl
-  collected-stop (suc n) e = go (given (drop i s)) (rw e at reads.read_is)
+  collected-stop zero reads = refl
+  collected-stop (suc n) reads = go (given (drop i s)) reads.read_is
     where
       go : (x : Read (Maybe Given)) → bad [] ≡ placeless x → collected_on x (λ z. collected n z) ≡ []
       go (got g z) q = absurd (bad≢got q)
       go (bad z) q = refl
 
-  module _ (from end value close : ℕ) (pair : r ≡ Pair from end value close) where
-    pub within : Within s i from end value close
-    within = rw pair at reads.stands
+  pub collected-none : (n : ℕ) (r : Attribute) → ReadsAttribute s i (given (drop i s)) r →
+      ((from end value close : ℕ) → r ≡ Pair from end value close → ⊥) → collected n (drop i s) ≡ []
+  collected-none n (Pair from end value close) reads h = absurd (h from end value close refl)
+  collected-none n (Done j) reads h = collected-done n j reads
+  collected-none n Stop reads h = collected-stop n reads
 
+  module _ (from end value close : ℕ) (reads : ReadsAttribute s i (given (drop i s)) (Pair from end value close)) where
     given-is-pair : given (drop i s) ≡
         got (just (record { name = take (end - from) (drop from s); value = take (close - value) (drop value s) })) (drop (close + 1) s)
-    given-is-pair = placed (given (drop i s)) _ _ (rw pair at reads.read_is)
+    given-is-pair = placed (given (drop i s)) _ _ reads.read_is
 
     pub collected-pair : (n : ℕ) → length s ≤ n →
         collected n (drop i s) ≡
         record { name = take (end - from) (drop from s); value = take (close - value) (drop value s) } ∷ collected n (drop (close + 1) s)
     unfolding collected
-    collected-pair zero h = let w = within in absurd (omega (arith, w.inside))
+    collected-pair zero h = let w = reads.stands in absurd (omega (arith, w.inside))
     collected-pair (suc n) h =
-        let w = within in
+        let w = reads.stands in
         rw (
           given-is-pair,
           collected-enough n (suc n) (drop (close + 1) s) (omega (arith, length-drop (close + 1) s, w.inside))
@@ -189,21 +180,21 @@ module _ (s : Text) (at i : ℕ) (w : Text) (left : value_in w (given_at s at) �
       go zero = refl
       go (suc n) = rw none-given
 
-  module _ (r : Attribute) (reads : ReadsAttribute s i (given (drop i s)) r) (from end value close : ℕ) (pair : r ≡ Pair from end value close) (b : Bool)
+  module _ (from end value close : ℕ) (reads : ReadsAttribute s i (given (drop i s)) (Pair from end value close)) (b : Bool)
       (is : b ≡ same (take (end - from) (drop from s)) w) where
     pub value-here : b ≡ true → Valued s (value_in w (given_at s at)) (record { from = value; to = close })
     unfolding value_in
     value-here q =
-        let z = within s i r reads from end value close pair in
+        let z = reads.stands in
         record {
-          value = sym (left ∙ rw (collected-pair s i r reads from end value close pair (length s) (omega arith), ← is, q));
+          value = sym (left ∙ rw (collected-pair s i from end value close reads (length s) (omega arith), ← is, q));
           order = z.order;
           inside = omega (arith, z.inside);
         }
 
     pub value-later : b ≡ false → value_in w (given_at s at) ≡ value_in w (collected (length s) (drop (close + 1) s))
     unfolding value_in
-    value-later q = left ∙ rw (collected-pair s i r reads from end value close pair (length s) (omega arith), ← is, q)
+    value-later q = left ∙ rw (collected-pair s i from end value close reads (length s) (omega arith), ← is, q)
 
 -- ---- The attributes that are collected without judging are those that paper_opl's `givens` reads.
 by-given : (n : ℕ) (s : Text) → givens (suc n) s ≡ after (given s) (λ m u. if-found m (got [] u) (λ g. after (givens n u) (λ gs z. got (g ∷ gs) z)))

@@ -87,29 +87,22 @@ pub fn value_place(s: &[u8], at: usize, id: u64) -> Part
 {
     let mut i = at;
     while i < s.len() {
-        let g = given(s, i);
-        match g {
-            Attribute::Done(_) => {
-                return Part { from: 0, to: 0 };
-            }
-            Attribute::Stop => {
-                return Part { from: 0, to: 0 };
-            }
-            Attribute::Pair {
-                from,
-                end,
-                value,
-                close,
-            } => {
-                if is_name(&s[from..end], id) {
-                    return Part {
-                        from: value,
-                        to: close,
-                    };
-                }
-                i = close + 1;
-            }
+        let Attribute::Pair {
+            from,
+            end,
+            value,
+            close,
+        } = given(s, i)
+        else {
+            return Part { from: 0, to: 0 };
+        };
+        if is_name(&s[from..end], id) {
+            return Part {
+                from: value,
+                to: close,
+            };
         }
+        i = close + 1;
     }
     Part { from: 0, to: 0 }
 }
