@@ -1,5 +1,6 @@
 -- What the empty engine answers: it grants kind 32, a new user, when the record names no roles. To every other request its reply is UNKNOWN.
-use Rattle.replies.specs.Replies.{Outcome, outcome_number, outcome_place}
+use Rattle.std.specs.Prelude.{Err}
+use Rattle.replies.specs.Replies.{Outcome, outcome_number, outcome_place, placeless}
 use Prim.Native.Nat.{ℕ, zero, suc}
 use mathlib.Core.Bool.{Bool, true, false, not, cond, ◌||◌, false≢true}
 use mathlib.Core.List.{List, [], ◌∷◌}
@@ -115,10 +116,10 @@ all-unknown r t h = go (eqb r.kind 32) refl
         (λ e. false≢true (sym q ∙ ap (λ (n : ℕ). eqb n 32) e))
 
 -- ---- A step on links that are not sound, which read as the empty engine.
-pub unknown-step : (r : Decoded) (x : Buffers) {j : Outcome} → j ≡ record { reply = Unknown; place = 0 } → sound_of x.orders ≡ false
-    → first ((chosen request_kinds r.kind).checks no_engine (paper_of r)) ≡ UNKNOWN → SettlingStep no_engine r x x j
-unknown-step r x is broken e =
-    rw is (
+pub unknown-step : (r : Decoded) (x : Buffers) → sound_of x.orders ≡ false
+    → first ((chosen request_kinds r.kind).checks no_engine (paper_of r)) ≡ UNKNOWN → SettlingStep no_engine r x x (Err (placeless Unknown))
+unknown-step r x broken e =
+    (
       record { replies = sym e; places = no_place no_engine (paper_of r) e; tables = rw e (alike (tables-broken x broken)); kept = λ _. refl },
       λ z. let n : ⊥ = omega arith in absurd n,
     )

@@ -13,8 +13,7 @@ use Rattle.paper_lower.specs.Sessions.{check_checks, session_kinds, lower_kinds}
 use Rattle.paper_upper.specs.Orders.{Engine}
 use Rattle.paper_upper.specs.Requests.{upper_kinds}
 use Rattle.paper_upper.specs.Engine.{widened, shared_kinds, request_kinds, request, place_of}
-use Rattle.replies.specs.Replies.{Reply, number_of}
-use Rattle.replies.specs.declared.Refusal.TheVariants.{Granted}
+use Rattle.replies.specs.Replies.{Reply, number_of, plain}
 use Rattle.records.specs.Reading.{paper_of, Decoded}
 use Rattle.records.specs.Calls.{settled}
 use Rattle.records.specs.Check.{is_check}
@@ -24,7 +23,7 @@ use Rattle.records.proofs.Checking.{check-fields, check-passes}
 use Rattle.sessions.specs.Lower.{lower_tables}
 use Rattle.engine.specs.Buffers.{Buffers, product_of, tables_of, fit as fitting}
 use Rattle.engine.specs.Step.{Step, StepOf, AnyStep}
-use Rattle.engine.specs.Settling.{SettledRequest, placeless}
+use Rattle.engine.specs.Settling.{SettledRequest}
 use Rattle.engine.proofs.Lifts.{any_step, of_none}
 use Rattle.engine.proofs.PlaceLaws.{no-claim}
 use Rattle.engine.proofs.EmptyLaws.{sound-step}
@@ -42,27 +41,27 @@ row_next t r = refl
 
 module _ (x : Buffers) (d : Record) (r : Reply) (kind : d.kind ≡ 56)
     (told : number_of r ≡ first (check_checks (lower_tables x.policy x.sessions) d.a d.b d.c)) where
-  checks-step : StepOf (product_of x) (product_of x) d x x (placeless r)
+  checks-step : StepOf (product_of x) (product_of x) d x x (plain r)
   checks-step =
       let t = product_of x in
       let p = paper_of d in
       let reply = first ((chosen request_kinds d.kind).checks t p) in
       let e : number_of r ≡ reply = told ∙ sym (row-checks t p) ∙ ap (λ (k : ℕ). first ((chosen request_kinds k).checks t p)) (sym kind) in
       let n : t ≡ (chosen request_kinds d.kind).next t p = sym (row_next t p) ∙ ap (λ (k : ℕ). (chosen request_kinds k).next t p) (sym kind) in
-      subst (λ (u : Engine). Step t t reply (place_of t p reply) u x x (placeless r)) n
+      subst (λ (u : Engine). Step t t reply (place_of t p reply) u x x (plain r)) n
       (of_none refl (no-claim t p reply (λ q. let z : ⊥ = omega arith in z)) e)
 
-  quick-step : AnyStep d x x (placeless r)
+  quick-step : AnyStep d x x (plain r)
   quick-step = any_step refl (λ _. refl) (λ s. (checks-step, s))
 
 -- If r is the reply that the rules define for the decoded check, then r without a place is the result of a settled request that changes nothing.
 pub quick-request : (bytes : Bytes) (x : Buffers) (d : Record) (r : Reply) → fitting x ≡ true → is_check bytes ≡ true → Decoded bytes d
-    → number_of r ≡ first (check_checks (lower_tables x.policy x.sessions) d.a d.b d.c) → SettledRequest bytes x x (placeless r)
+    → number_of r ≡ first (check_checks (lower_tables x.policy x.sessions) d.a d.b d.c) → SettledRequest bytes x x (plain r)
 unfolding request settled
 quick-request bytes x d r fit check is told =
     let kind : d.kind ≡ 56 = ap (λ (y : PaperRecord). y.kind) is.reads ∙ (check-fields bytes check).0.0 in
     let l = same-lengths refl refl refl in
     settled-step bytes x x d fit l (quick-step x d r kind told)
     (λ g s.
-    answered fit (passed-answer request_forms bytes Granted {b = true} (check-passes bytes check) refl refl is request_kinds (tables_of x)) is.reads
+    answered fit (passed-answer request_forms bytes (check-passes bytes check) is request_kinds (tables_of x)) is.reads
     (sound-step d x x s g) (λ _. g.1) l)

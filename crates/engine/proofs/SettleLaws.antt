@@ -5,9 +5,10 @@ use mathlib.Core.List.{List}
 use mathlib.Core.Path.{◌≡◌, refl, sym, ap, ◌∙◌}
 use native.Mathlib.Omega.{arith}
 use Rattle.paper_lower.specs.Records.{Bytes}
-use Rattle.replies.specs.Replies.{number_of, Outcome, outcome_number, outcome_place}
+use Rattle.replies.specs.Replies.{Outcome, outcome_number, outcome_place, placeless}
 use Rattle.records.specs.declared.Record.{Record}
-use Rattle.replies.specs.declared.Refusal.TheVariants.{Granted, Room}
+use Rattle.std.specs.Prelude.{Ok, Err}
+use Rattle.replies.specs.declared.Refusal.TheVariants.{Room}
 use Rattle.policy.specs.Reading.{Cleared as ClearedPolicy}
 use Rattle.sessions.specs.Reading.{Cleared as ClearedSessions}
 use Rattle.order_links.specs.Chains.{sound_of}
@@ -20,25 +21,25 @@ use Rattle.engine.proofs.Ways.{same-lengths, fit-lengths, no_room, tables-sound,
 use Rattle.engine.proofs.EmptyLaws.{emptied}
 
 -- ---- `settle` on buffers of a wrong length, and on sound links: it changes nothing.
-pub no-settle : (x : Buffers) → fit x ≡ false → Settled x x Room
+pub no-settle : (x : Buffers) → fit x ≡ false → Settled x x (Err Room)
 no-settle x f =
     record
     { replies = rw f; tables = refl; lengths = same-lengths refl refl refl; settles = λ e. absurd (true≢false (sym e ∙ f)); kept = λ _. refl; room = λ _. refl }
 
-pub settled-sound : (x : Buffers) → fit x ≡ true → sound_of x.orders ≡ true → Settled x x Granted
+pub settled-sound : (x : Buffers) → fit x ≡ true → sound_of x.orders ≡ true → Settled x x (Ok tt)
 settled-sound x f s =
     let l = fit-lengths x f in
     record
     { replies = rw f; tables = refl; lengths = same-lengths refl refl refl; settles = λ _. (l.0, (l.1.0, (l.1.1, s))); kept = λ _. refl; room = λ _. refl }
 
 -- ---- `settled_request`, which does not check the links.
-pub no-settled-room : (bytes : Bytes) (x : Buffers) {j : Outcome} → j ≡ record { reply = Room; place = 0 } → fit x ≡ false → SettledRequest bytes x x j
-no-settled-room bytes x {j} is h =
-    let d = no_room x bytes is h in
+pub no-settled-room : (bytes : Bytes) (x : Buffers) → fit x ≡ false → SettledRequest bytes x x (Err (placeless Room))
+no-settled-room bytes x h =
+    let d = no_room x bytes h in
     record {
       lengths = same-lengths refl refl refl;
-      room = λ _. (ap (λ (y : Outcome). outcome_number y) is, (ap (λ (y : Outcome). y.place) is, refl));
-      small = rw is (omega arith);
+      room = λ _. (refl, (refl, refl));
+      small = omega arith;
       kept = λ _. refl;
       sound = λ s. (d, s);
     }
@@ -74,7 +75,7 @@ settled_on s d =
     (r.0, (l.policy ∙ s.0, (l.sessions ∙ s.1.0, (l.orders ∙ s.1.1.0, r.1))))
 
 pub settled-broken : (p s o p' s' o' : List ℕ) → fit (buffers p s o) ≡ true → sound_of o ≡ false → ClearedPolicy p' → ClearedSessions s' → Cleared o'
-    → Settled (buffers p s o) (buffers p' s' o') Granted
+    → Settled (buffers p s o) (buffers p' s' o') (Ok tt)
 settled-broken p s o p' s' o' f b a c d =
     let x = buffers p s o in
     let l = fit-lengths x f in

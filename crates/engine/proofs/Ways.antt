@@ -15,9 +15,9 @@ use Rattle.paper_upper.specs.Orders.{Engine, SameTables}
 use Rattle.paper_lower.specs.Load.{load}
 use Rattle.paper_lower.specs.Sessions.{lower_of}
 use Rattle.paper_upper.specs.Engine.{request, place_of, place_to, engine_of}
-use Rattle.replies.specs.Replies.{Reply, number_of, Outcome, outcome_number, outcome_place}
+use Rattle.std.specs.Prelude.{Err}
+use Rattle.replies.specs.Replies.{Reply, number_of, Outcome, outcome_number, outcome_place, placeless}
 use Rattle.replies.specs.declared.Refusal.TheVariants.{Room}
-use Rattle.replies.proofs.ReplyLaws.{not-zero}
 use Rattle.policy.specs.Layout.{policy_words}
 use Rattle.sessions.specs.Reading.{sessions_words}
 use Rattle.sessions.specs.Lower.{lower_tables}
@@ -58,10 +58,10 @@ module _ (x : Buffers) where
       let d = both (eqb (length x.policy) policy_words) (eqb (length x.sessions) sessions_words) e.0 in
       (eqb-true _ _ d.0, (eqb-true _ _ d.1, eqb-true _ _ e.1))
 
-  pub no_room : (bytes : Bytes) {j : Outcome} → j ≡ record { reply = Room; place = 0 } → fit x ≡ false → Requested bytes x x j
+  pub no_room : (bytes : Bytes) → fit x ≡ false → Requested bytes x x (Err (placeless Room))
   unfolding request_answer
-  no_room bytes is f =
-      rw is (record {
+  no_room bytes f =
+      (record {
         replies = rw f;
         places = rw f;
         tables = rw f (tables-refl (tables_of x));
@@ -88,13 +88,8 @@ answered {bytes} {x} {x'} {r} {reply} {next} {j} f e is d w l =
       settles = w;
     }
 
--- A record that is refused for its form is not granted.
-pub not-granted : {r : Reply} {j : Outcome} {b : Bool} {A : Type 0} → j ≡ record { reply = r; place = 0 } → b ≡ eqb (number_of r) 0 → not b ≡ true →
-    outcome_number j ≡ 0 → A
-not-granted {r} {j} {b} is a n z = absurd (not-zero r a (not-true b n) (sym (ap (λ (y : Outcome). outcome_number y) is) ∙ z))
-
 -- ---- The load.
-pub no-load : (bytes : Bytes) (x : Buffers) → fit x ≡ false → LoadDone bytes x x Room 0
+pub no-load : (bytes : Bytes) (x : Buffers) → fit x ≡ false → LoadDone bytes x x (Err Room) 0
 unfolding load_answer
 no-load bytes x f =
     record {

@@ -6,7 +6,7 @@ use native.Mathlib.Omega.{arith}
 use borrow.Author.Tests.{eqb-true, eqb-false}
 use lib.Dec.{eqb}
 use Rattle.std.specs.Prelude.{Ok, Err}
-use Rattle.replies.specs.Replies.{Reply, Outcome, number_of, refusal_number, outcome_number}
+use Rattle.replies.specs.Replies.{Reply, number_of, refusal_number, outcome_number, outcome_place, plain}
 use Rattle.replies.specs.declared.Refusal.{Refusal}
 use Rattle.replies.specs.declared.Refusal.TheVariants.{Room, Shape, Range, Unknown, Taken, InUse, Rule, NotAssigned, Static, Dynamic, NoRole, NotYours, Denied, Before, Separation, Block, Alone, Bound, Count, Full, Loop, Wall}
 
@@ -99,3 +99,12 @@ one-reply (Ok u) (Ok v) e = refl
 one-reply (Ok u) (Err f) e = absurd (not-granted f (sym e))
 one-reply (Err e') (Ok u) e = absurd (not-granted e' e)
 one-reply (Err e') (Err f) e = ap Err (sym (named-number e') ∙ ap named e ∙ named-number f)
+
+-- ---- A reply as an outcome: it has the reply's number and no place.
+pub plain_number : (r : Reply) → outcome_number (plain r) ≡ number_of r
+plain_number (Ok u) = refl
+plain_number (Err e) = refl
+
+pub plain_place : (r : Reply) → outcome_place (plain r) ≡ 0
+plain_place (Ok u) = refl
+plain_place (Err e) = refl

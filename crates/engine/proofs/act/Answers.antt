@@ -9,7 +9,7 @@ as_empty-requires c =
     let pre = c.requires in
     let is-sound = c.is_sound in
     let if1 = c.if-not-is_sound in
-    (pre.0, (pre.1, sym is-sound.ensures ∙ if1.true))
+    (pre, sym is-sound.ensures ∙ if1.true)
 
 pub returns-then-not-is_sound : goal.returns-then-not-is_sound
 returns-then-not-is_sound c =

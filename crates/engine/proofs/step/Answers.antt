@@ -1,5 +1,7 @@
 -- `step` meets its contract: each kind of the upper part is a step of the three buffers; every other kind is a step of the lower part.
-use Prim.Native.Nat.{ℕ, ◌<◌}
+use Prim.Native.Nat.{ℕ}
+use mathlib.Core.List.{List}
+use lib.ListN.{length}
 use mathlib.Core.Path.{◌≡◌, refl}
 use lib.Dec.{T, ltb}
 use Rattle.paper_lower.specs.Forms.{request_forms}
@@ -12,6 +14,7 @@ use Rattle.policy.specs.Layout.{policy_words}
 use Rattle.sessions.specs.Reading.{sessions_words}
 use Rattle.order_links.specs.Chains.{orders_words}
 use Rattle.records.proofs.Passing.{below}
+use Rattle.order_claims.specs.Promises.{InLimits}
 use Rattle.engine.specs.Buffers.{buffers}
 use Rattle.engine.proofs.Lifts.{any_step, of-both, of-sessions, of-orders, of-claim, of_none, of-lower}
 use Rattle.engine.proofs.PlaceLaws.{no-claim}
@@ -19,18 +22,18 @@ use Rattle.engine.proofs.LowerKinds.{lower-row, lower-limits, no-claim-number}
 use Rattle.engine.proofs.step.Goals as goal
 
 -- ---- Kinds 50, 51, 52 and 57: the lengths hold, and subject, order and task are within their limits.
-of-subject : {p s o k : ℕ} {r : Record} → ((p ≡ policy_words) × ((s ≡ sessions_words) × (o ≡ orders_words))) × Limits request_forms r → r.kind ≡ k
-    → T (ltb (limit_a request_forms k) 128) → T (ltb (limit_b request_forms k) 64) → T (ltb (limit_c request_forms k) 64)
-    → (p ≡ policy_words) × ((s ≡ sessions_words) × ((o ≡ orders_words) × ((r.a < 128) × ((r.b < 64) × (r.c < 64)))))
-of-subject pre key a b c = (
-  pre.0.0,
+of-subject : {p s o : List ℕ} {k : ℕ} {r : Record} → length p ≡ policy_words → length s ≡ sessions_words → length o ≡ orders_words → Limits request_forms r
+    → r.kind ≡ k → T (ltb (limit_a request_forms k) 128) → T (ltb (limit_b request_forms k) 64) → T (ltb (limit_c request_forms k) 64)
+    → InLimits p s o r.a r.b r.c
+of-subject p s o l key a b c = (
+  p,
   (
-    pre.0.1.0,
+    s,
     (
-      pre.0.1.1,
+      o,
       (
-        below (limit_a request_forms) pre.1.a key 128 a,
-        (below (limit_b request_forms) pre.1.b key 64 b, below (limit_c request_forms) pre.1.c key 64 c),
+        below (limit_a request_forms) l.a key 128 a,
+        (below (limit_b request_forms) l.b key 64 b, below (limit_c request_forms) l.c key 64 c),
       ),
     ),
   ),
@@ -41,71 +44,71 @@ unfolding limits_open
 delete-requires c =
     let pre = c.requires in
     let match = c.in-33 in
-    (pre.0.0, (pre.0.1.0, (pre.0.1.1, below (limit_a request_forms) pre.1.a match.is 1024 tt)))
+    below (limit_a request_forms) pre.a match.is 1024 tt
 
 pub destroy-requires : goal.destroy-requires
 unfolding limits_open
 destroy-requires c =
     let pre = c.requires in
-    (pre.0.1.0, (pre.0.1.1, below (limit_a request_forms) pre.1.a c.in-41.is 128 tt))
+    below (limit_a request_forms) pre.a c.in-41.is 128 tt
 
 pub open_order-requires : goal.open_order-requires
 unfolding limits_open
 open_order-requires c =
     let pre = c.requires in
     let match = c.in-48 in
-    (pre.0.0, (pre.0.1.1, (below (limit_a request_forms) pre.1.a match.is 64 tt, below (limit_b request_forms) pre.1.b match.is 16 tt)))
+    (below (limit_a request_forms) pre.a match.is 64 tt, below (limit_b request_forms) pre.b match.is 16 tt)
 
 pub end_order-requires : goal.end_order-requires
 unfolding limits_open
 end_order-requires c =
     let pre = c.requires in
-    (pre.0.1.1, below (limit_a request_forms) pre.1.a c.in-49.is 64 tt)
+    below (limit_a request_forms) pre.a c.in-49.is 64 tt
 
 pub claim-requires : goal.claim-requires
 unfolding limits_open
 claim-requires c =
     let pre = c.requires in
     let match = c.in-50 in
-    of-subject pre match.is tt tt tt
+    of-subject c.told-p c.told-s c.told-o pre match.is tt tt tt
 
 pub release-requires : goal.release-requires
 unfolding limits_open
 release-requires c =
     let pre = c.requires in
     let match = c.in-51 in
-    of-subject pre match.is tt tt tt
+    of-subject c.told-p c.told-s c.told-o pre match.is tt tt tt
 
 pub finish-requires : goal.finish-requires
 unfolding limits_open
 finish-requires c =
     let pre = c.requires in
     let match = c.in-52 in
-    of-subject pre match.is tt tt tt
+    of-subject c.told-p c.told-s c.told-o pre match.is tt tt tt
 
 pub task_check_reply-requires : goal.task_check_reply-requires
 unfolding limits_open
 task_check_reply-requires c =
     let pre = c.requires in
     let match = c.in-57 in
-    (of-subject pre match.is tt tt tt, below (limit_m request_forms) pre.1.m match.is 4294967296 tt)
+    (of-subject c.told-p c.told-s c.told-o pre match.is tt tt tt, below (limit_m request_forms) pre.m match.is 4294967296 tt)
 
 pub figures_reply-requires : goal.figures_reply-requires
 unfolding limits_open
 figures_reply-requires c =
     let pre = c.requires in
-    (pre.0.1.1, below (limit_a request_forms) pre.1.a c.in-58.is 64 tt)
+    below (limit_a request_forms) pre.a c.in-58.is 64 tt
 
 pub judge-requires : goal.judge-requires
 unfolding limits_open
 judge-requires c =
     let pre = c.requires in
-    (pre.0.0, below (limit_a request_forms) pre.1.a c.in-60.is 16 tt)
+    below (limit_a request_forms) pre.a c.in-60.is 16 tt
 
 pub step-requires : goal.step-requires
 step-requires c =
     let pre = c.requires in
-    (pre.0.0, (pre.0.1.0, lower-limits c.in_default.in_default-own.rest pre.1))
+    lower-limits c.in_default.in_default-own.rest pre
 
 pub returns-in-33 : goal.returns-in-33
 unfolding chosen request_kinds upper_kinds place_of
