@@ -12,8 +12,9 @@ use Rattle.paper_lower.specs.Records.{Bytes}
 use Rattle.paper_lower.specs.Tables.{Policy}
 use Rattle.paper_lower.specs.Sessions.{lower_of}
 use Rattle.paper_upper.specs.Engine.{engine_of}
-use Rattle.replies.specs.Replies.{Reply, number_of}
-use Rattle.replies.proofs.ReplyLaws.{is_zero, not-zero}
+use Rattle.replies.specs.Replies.{refusal_number}
+use Rattle.replies.specs.declared.Refusal.{Refusal}
+use Rattle.replies.proofs.ReplyLaws.{not-granted}
 use Rattle.policy.specs.Layout.{policy_words}
 use Rattle.policy.specs.Reading as policy
 use Rattle.policy.specs.Reading.{policy_of}
@@ -111,29 +112,30 @@ emptied s o c d p =
     tables-sound (buffers p s o) d.sound ∙ (λ i. record { lower = record { policy = policy_of p; sessions = c.tables i }; orders = d.tables i })
 
 -- ---- The ways in which a step returns: refused, as the first step on emptied buffers, or as a later step.
-module _ (s out : Bytes) (room place k : ℕ) (x : Buffers) (r : Reply) {b : Bool} (e : number_of r ≡ checked s out room x) (a : b ≡ eqb (number_of r) 0) where
-  pub no-turn : {n : ℕ} → b ≡ false → n ≡ number_of r → Turned room place k s out x out x (record { place = n; reply = 0 })
-  no-turn {n} f m =
-      let z : checked s out room x ≡ 0 → ⊥ = λ h. not-zero r a f (e ∙ h) in
+pub no-turn : (s out : Bytes) (room place k : ℕ) (x : Buffers) {e : Refusal} {n : ℕ} → refusal_number e ≡ checked s out room x → n ≡ refusal_number e
+    → Turned room place k s out x out x (record { place = n; reply = 0 })
+no-turn s out room place k x {e} {n} q m =
+      let z : checked s out room x ≡ 0 → ⊥ = λ h. not-granted e (q ∙ h) in
       record {
-        refused = λ _. (ap (λ (i : ℕ). record { place = i; reply = 0 }) (m ∙ e), (refl, refl));
+        refused = λ _. (ap (λ (i : ℕ). record { place = i; reply = 0 }) (m ∙ q), (refl, refl));
         told = λ h. absurd (z h);
         further = λ h. absurd (z h);
         alone = λ h. absurd (z h);
       }
 
-  none : b ≡ true → checked s out room x ≡ 0
-  none f = sym e ∙ is_zero r a f
+module _ (s out : Bytes) (room place k : ℕ) (x : Buffers) (judged : 0 ≡ checked s out room x) where
+  none : checked s out room x ≡ 0
+  none = sym judged
 
-  pub roomed : b ≡ true → Room s out room x
-  roomed f = there-is s out room x (none f)
+  pub roomed : Room s out room x
+  roomed = there-is s out room x none
 
-  turned : (out' : Bytes) (p₁ p' s' o' : List ℕ) (d₀ d : Dropped) → b ≡ true → policy_of p₁ ≡ tables_at k x.policy
+  turned : (out' : Bytes) (p₁ p' s' o' : List ℕ) (d₀ d : Dropped) → policy_of p₁ ≡ tables_at k x.policy
       → Found place k s out (policy_of p₁) out' (policy_of p') d₀ → d ≡ numbered d₀ → ((0 < k → Alone x) → Alone (buffers p' s' o')) →
       Turned room place k s out x out' (buffers p' s' o') d
-  turned out' p₁ p' s' o' d₀ d f at found is only =
+  turned out' p₁ p' s' o' d₀ d at found is only =
       record {
-        refused = λ h. absurd (h (none f));
+        refused = λ h. absurd (h none);
         told =
             λ _. ap (told_of k s out' (policy_of p')) is ∙ in-the-end k s out' (policy_of p') d₀.place d₀.reply ∙ ap ending found.rest ∙
             ap (λ (t : Policy). ending (rest_from place k s out t)) at;

@@ -82,6 +82,7 @@ pub fn step(
         policy::clear(p);
         sessions::clear(s);
         order_entries::clear(o);
+        return ended(policy_mending::next(input, place, dropped, output, p));
     }
     ended(policy_mending::next(input, place, dropped, output, p))
 }

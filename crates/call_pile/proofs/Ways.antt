@@ -14,8 +14,9 @@ use Rattle.paper_lower.specs.Checks.{first}
 use Rattle.paper_lower.specs.Records.{Bytes}
 use Rattle.paper_upper.specs.Orders.{Engine}
 use Rattle.paper_upper.specs.Engine.{request, placed_run}
-use Rattle.replies.specs.Replies.{Reply, number_of}
-use Rattle.replies.proofs.ReplyLaws.{is_zero, not-zero}
+use Rattle.replies.specs.Replies.{refusal_number}
+use Rattle.replies.specs.declared.Refusal.{Refusal}
+use Rattle.replies.proofs.ReplyLaws.{not-granted}
 use Rattle.engine.specs.Buffers.{Buffers, tables_of, fit}
 use Rattle.paper_lower.proofs.ListLaws.{both}
 use Rattle.policy.specs.Layout.{policy_words}
@@ -40,9 +41,8 @@ module _ (s answers : Bytes) (at : ℕ) (x : Buffers) where
     settles = inr refl;
   }
 
-  pub refused : (r : Reply) {b : Bool} → number_of r ≡ first (pile_checks (fit x) s answers at) → b ≡ eqb (number_of r) 0 → b ≡ false →
-      PileDone s answers at answers x x (number_of r)
-  refused r {b} e a n = kept_back (number_of r) (not-zero r a n) (sym e)
+  pub refused : (e : Refusal) → refusal_number e ≡ first (pile_checks (fit x) s answers at) → PileDone s answers at answers x x (refusal_number e)
+  refused e q = kept_back (refusal_number e) (not-granted e) (sym q)
 
   -- ---- Accepted: no check applies, so all lengths are right.
   pub record Taken : Type 0 where
@@ -57,10 +57,10 @@ module _ (s answers : Bytes) (at : ℕ) (x : Buffers) where
   none_of false false true d e h = absurd (omega arith)
   none_of false false false d e h = (refl, refl, refl)
 
-  pub taken : (r : Reply) {b : Bool} → number_of r ≡ first (pile_checks (fit x) s answers at) → b ≡ eqb (number_of r) 0 → b ≡ true → Taken
+  pub taken : 0 ≡ first (pile_checks (fit x) s answers at) → Taken
   unfolding pile_checks
-  taken r {b} e a n =
-      let z : first (pile_checks (fit x) s answers at) ≡ 0 = sym e ∙ is_zero r a n in
+  taken q =
+      let z : first (pile_checks (fit x) s answers at) ≡ 0 = sym q in
       let h = none_of (not (fit x)) (ltb (length answers) at) (ltb (length answers) (at + count s)) (ltb MOST (count s)) (not (eqb (length s % 16) 0)) z in
       record { none-applies = z; fits = not-false (fit x) h.0; inside = ltb-false _ _ h.1; room = ltb-false _ _ h.2 }
 

@@ -17,9 +17,11 @@ use Rattle.paper_upper.specs.Stuck.{stuck_of}
 use Rattle.paper_upper.specs.Requests.{stuck_checks, upper_kinds}
 use Rattle.paper_upper.specs.Questions.{figures_of, figure_words, answer_words, padded, question_numbers, asks, answered, answer_to}
 use Rattle.paper_upper.specs.Engine.{request_kinds, request}
-use Rattle.replies.specs.Replies.{Reply, number_of}
+use Rattle.std.specs.Prelude.{Ok, Err}
+use Rattle.replies.specs.Replies.{Reply, number_of, refusal_number}
+use Rattle.replies.specs.declared.Refusal.{Refusal}
 use Rattle.replies.specs.declared.Refusal.TheVariants.{Unknown}
-use Rattle.replies.proofs.ReplyLaws.{is_zero, not-zero}
+use Rattle.replies.proofs.ReplyLaws.{not-granted}
 use Rattle.replies.proofs.DoneLaws.{granted-old}
 use Rattle.records.specs.Reading.{paper_of, Decoded}
 use Rattle.records.specs.Calls.{settled}
@@ -66,24 +68,26 @@ unfolding asks
 no-other-question k h r = true≢false (sym h ∙ no_other question_numbers k (others question_numbers k r))
 
 -- ---- Kind 58, the figures of an order.
-module _ {o : List ℕ} {a : ℕ} {old : List ℕ} {r : Reply} {b : Bool} (judged : FiguresJudged o a r) (accepts : b ≡ eqb (number_of r) 0) where
-  pub not-figured : not b ≡ true → FiguresAnswered o a old old r
-  not-figured n = record { replies = judged; written = granted-old _ old _ (not-zero r accepts (not-true b n)) }
+module _ {o : List ℕ} {a : ℕ} {old : List ℕ} where
+  pub not-figured : {e : Refusal} → FiguresJudged o a (Err e) → FiguresAnswered o a old old (Err e)
+  not-figured {e} judged = record { replies = judged; written = granted-old _ old _ (not-granted e) }
 
-  pub figured : not b ≡ false → (new : List ℕ) → new ≡ padded (figure_words (figures_of a (orders_of o).entries)) → FiguresAnswered o a old new r
-  figured n new w = record { replies = judged; written = rw (is_zero r accepts (not-false b n)) w }
+  pub figured : {u : Unit {0}} → FiguresJudged o a (Ok u) → (new : List ℕ) → new ≡ padded (figure_words (figures_of a (orders_of o).entries))
+      → FiguresAnswered o a old new (Ok u)
+  figured judged new w = record { replies = judged; written = w }
 
 pub of-figures : (p o : List ℕ) (r : Record) {old new : List ℕ} {y : Reply} → r.kind ≡ 58 → FiguresAnswered o r.a old new y → Answered p o r old new y
 unfolding chosen request_kinds upper_kinds answer_to answered
 of-figures p o r k d = record { replies = λ s. rw k (d.replies p s); written = λ s. rw k d.written }
 
 -- ---- Kind 60, the stuck tasks of a template.
-module _ {p : List ℕ} {a : ℕ} {old : List ℕ} {r : Reply} {b : Bool} (judged : Judged (λ k. stuck_checks k.tasks a) p r) (accepts : b ≡ eqb (number_of r) 0) where
-  pub not-told : not b ≡ true → StuckAnswered p a old old r
-  not-told n = record { replies = judged; written = granted-old _ old _ (not-zero r accepts (not-true b n)) }
+module _ {p : List ℕ} {a : ℕ} {old : List ℕ} where
+  pub not-told : {e : Refusal} → Judged (λ k. stuck_checks k.tasks a) p (Err e) → StuckAnswered p a old old (Err e)
+  not-told {e} judged = record { replies = judged; written = granted-old _ old _ (not-granted e) }
 
-  pub told : not b ≡ false → {l : List ℕ} → l ≡ padded (stuck_of (policy_of p).tasks (policy_of p).rules a) → StuckAnswered p a old l r
-  told n e = record { replies = judged; written = rw (is_zero r accepts (not-false b n)) e }
+  pub told : {u : Unit {0}} → Judged (λ k. stuck_checks k.tasks a) p (Ok u) → {l : List ℕ} → l ≡ padded (stuck_of (policy_of p).tasks (policy_of p).rules a)
+      → StuckAnswered p a old l (Ok u)
+  told judged e = record { replies = judged; written = e }
 
 pub of-stuck : (p o : List ℕ) (r : Record) {old new : List ℕ} {y : Reply} → r.kind ≡ 60 → StuckAnswered p r.a old new y → Answered p o r old new y
 unfolding chosen request_kinds upper_kinds answer_to answered
@@ -139,67 +143,66 @@ module _ (bytes : Bytes) (old : List ℕ) (x : Buffers) where
             rw (f, eq-eqb (length old) answer_words l, k)
 
   -- ---- What follows from the reply of `judge`.
-  module _ (r : Reply) {b : Bool} (judged : number_of r ≡ first (before ++ formed)) (accepts : b ≡ eqb (number_of r) 0) where
-    pub refused : not b ≡ true → Questioned bytes old old x (number_of r)
-    unfolding question_of
-    refused n =
-        let z = not-zero r accepts (not-true b n) in
-        let e : number_of r ≡ question_reply (fit x) (tables_of x) bytes old
-        = judged ∙ sym (first_stops (before ++ formed) (behind (tables_of x)) (λ q. z (judged ∙ q))) ∙ sym (reply-is (tables_of x)) in
-        record { replies = e; written = granted-old _ old _ (λ q. z (e ∙ q)) }
+  pub refused : (e : Refusal) → refusal_number e ≡ first (before ++ formed) → Questioned bytes old old x (refusal_number e)
+  unfolding question_of
+  refused e judged =
+      let z = not-granted e in
+      let q : refusal_number e ≡ question_reply (fit x) (tables_of x) bytes old
+      = judged ∙ sym (first_stops (before ++ formed) (behind (tables_of x)) (λ y. z (judged ∙ y))) ∙ sym (reply-is (tables_of x)) in
+      record { replies = q; written = granted-old _ old _ (λ y. z (q ∙ y)) }
 
-    module _ (n : not b ≡ false) where
-      none : (not (fit x) ≡ false) × ((not (eqb (length old) answer_words) ≡ false) × ((not (asks (decode bytes).kind) ≡ false) × (first formed ≡ 0)))
-      unfolding question_checks form_checks
-      none =
-          let p = passed (before ++ formed) (tt, (tt, (tt, (tt, (tt, tt))))) (sym judged ∙ is_zero r accepts (not-false b n)) in
-          (p.0, (p.1.0, (p.1.1.0, none-applies formed p.1.1.1)))
+  module _ (judged : 0 ≡ first (before ++ formed)) where
+    none : (not (fit x) ≡ false) × ((not (eqb (length old) answer_words) ≡ false) × ((not (asks (decode bytes).kind) ≡ false) × (first formed ≡ 0)))
+    unfolding question_checks form_checks
+    none =
+        let p = passed (before ++ formed) (tt, (tt, (tt, (tt, (tt, tt))))) (sym judged) in
+        (p.0, (p.1.0, (p.1.1.0, none-applies formed p.1.1.1)))
 
-      fitting : fit x ≡ true
-      fitting = not-false _ none.0
+    fitting : fit x ≡ true
+    fitting = not-false _ none.0
 
-      pub words : length x.orders ≡ orders_words
-      words = (fit-lengths x fitting).1.1
+    pub words : (length x.policy ≡ policy_words) × (length x.orders ≡ orders_words)
+    words = ((fit-lengths x fitting).0, (fit-lengths x fitting).1.1)
 
-      room : length old ≡ answer_words
-      room = eqb-true _ _ (not-false _ none.1.0)
+    room : length old ≡ answer_words
+    room = eqb-true _ _ (not-false _ none.1.0)
 
-      asked : asks (decode bytes).kind ≡ true
-      asked = not-false _ none.1.1.0
+    asked : asks (decode bytes).kind ≡ true
+    asked = not-false _ none.1.1.0
 
-      well-formed : number_of r ≡ first formed
-      well-formed = is_zero r accepts (not-false b n) ∙ sym none.1.1.1
+    well-formed : 0 ≡ first formed
+    well-formed = sym none.1.1.1
 
-      pub sixteen : length bytes ≡ 16
-      sixteen = sized request_forms bytes r well-formed accepts n
+    pub sixteen : length bytes ≡ 16
+    sixteen = sized request_forms bytes well-formed
 
-      module _ {d : Record} (is : Decoded bytes d) where
-        asked-kind : asks d.kind ≡ true
-        asked-kind = ap (λ (p : PaperRecord). asks p.kind) is.reads ∙ asked
+    module _ {d : Record} (is : Decoded bytes d) where
+      asked-kind : asks d.kind ≡ true
+      asked-kind = ap (λ (p : PaperRecord). asks p.kind) is.reads ∙ asked
 
-        pub ready : sound_of x.orders ≡ true
-            → ((length old ≡ answer_words) × ((length x.policy ≡ policy_words) × Ready x.orders)) × (Limits request_forms d × (asks d.kind ≡ true))
-        ready h = ((room, ((fit-lengths x fitting).0, (words, h))), (within-limits request_forms bytes r well-formed accepts n is, asked-kind))
+      pub ready : sound_of x.orders ≡ true
+          → ((length old ≡ answer_words) × Ready x.orders) × (Limits request_forms d × (asks d.kind ≡ true))
+      ready h = ((room, (words.1, h)), (within-limits request_forms bytes well-formed is, asked-kind))
 
-        by_kind : (t : Engine) → question_reply (fit x) t bytes old ≡ first ((chosen request_kinds d.kind).checks t (paper_of d))
-        unfolding question_reply question_checks request settled
-        by_kind t =
-            rw (fitting, eq-eqb _ _ room, asked)
-            (ap (λ (y : Answer Engine). y.reply) (passed-answer request_forms bytes r well-formed accepts n is request_kinds t))
+      by_kind : (t : Engine) → question_reply (fit x) t bytes old ≡ first ((chosen request_kinds d.kind).checks t (paper_of d))
+      unfolding question_reply question_checks request settled
+      by_kind t =
+          rw (fitting, eq-eqb _ _ room, asked)
+          (ap (λ (y : Answer Engine). y.reply) (passed-answer request_forms bytes well-formed is request_kinds t))
 
-        pub to_none : sound_of x.orders ≡ false → Questioned bytes old old x (number_of Unknown)
-        unfolding question_of
-        to_none h =
-            let e : question_reply (fit x) (tables_of x) bytes old ≡ UNKNOWN
-            = by_kind (tables_of x) ∙ ap (λ (t : Engine). first ((chosen request_kinds d.kind).checks t (paper_of d))) (tables-broken x h)
-            ∙ all-unknown (paper_of d) (within-limits request_forms bytes r well-formed accepts n is).known (λ k m. asks-no-user d.kind asked-kind k) in
-            record { replies = sym e; written = rw e }
+      pub to_none : sound_of x.orders ≡ false → Questioned bytes old old x (refusal_number Unknown)
+      unfolding question_of
+      to_none h =
+          let e : question_reply (fit x) (tables_of x) bytes old ≡ UNKNOWN
+          = by_kind (tables_of x) ∙ ap (λ (t : Engine). first ((chosen request_kinds d.kind).checks t (paper_of d))) (tables-broken x h)
+          ∙ all-unknown (paper_of d) (within-limits request_forms bytes well-formed is).known (λ k m. asks-no-user d.kind asked-kind k) in
+          record { replies = sym e; written = rw e }
 
-        pub by-its-kind : {answer' : List ℕ} {y : Reply} → sound_of x.orders ≡ true → Answered x.policy x.orders d old answer' y →
-            Questioned bytes old answer' x (number_of y)
-        unfolding question_of
-        by-its-kind {answer'} {y} h a =
-            let t = tables-sound x h in
-            let e : number_of y ≡ question_reply (fit x) (tables_of x) bytes old
-            = a.replies x.sessions ∙ sym (by_kind (tables_of x) ∙ ap (λ (t : Engine). first ((chosen request_kinds d.kind).checks t (paper_of d))) t) in
-            record { replies = e; written = a.written x.sessions ∙ rw (e, t, is.reads) }
+      pub by-its-kind : {answer' : List ℕ} {y : Reply} → sound_of x.orders ≡ true → Answered x.policy x.orders d old answer' y →
+          Questioned bytes old answer' x (number_of y)
+      unfolding question_of
+      by-its-kind {answer'} {y} h a =
+          let t = tables-sound x h in
+          let e : number_of y ≡ question_reply (fit x) (tables_of x) bytes old
+          = a.replies x.sessions ∙ sym (by_kind (tables_of x) ∙ ap (λ (t : Engine). first ((chosen request_kinds d.kind).checks t (paper_of d))) t) in
+          record { replies = e; written = a.written x.sessions ∙ rw (e, t, is.reads) }

@@ -21,8 +21,9 @@ use Rattle.paper_lower.specs.Load.{Loaded, load, records_of}
 use Rattle.paper_lower.specs.Sessions.{lower_of}
 use Rattle.paper_upper.specs.Orders.{Entry, Engine, SameTables, with_lower, are_in_order, of_order}
 use Rattle.paper_upper.specs.Engine.{request_kinds, request, place_to, Placed, placed_run, engine_of}
-use Rattle.replies.specs.Replies.{Reply, number_of, Outcome, outcome_number, outcome_place}
-use Rattle.replies.specs.declared.Refusal.TheVariants.{Granted, Room, Shape, Range, Unknown, Taken, InUse, Rule, NotAssigned, Static, Dynamic, NoRole, NotYours, Denied, Before, Separation, Block, Alone, Bound, Count, Full, Loop, Wall}
+use Rattle.replies.specs.Replies.{Reply, number_of, Outcome, outcome_number, outcome_place, outcome_reply}
+use Rattle.std.specs.Prelude.{Ok, Err}
+use Rattle.replies.specs.declared.Refusal.TheVariants.{Room, Shape, Range, Unknown, Taken, InUse, Rule, NotAssigned, Static, Dynamic, NoRole, NotYours, Denied, Before, Separation, Block, Alone, Bound, Count, Full, Loop, Wall}
 use Rattle.replies.proofs.ReplyLaws.{one-reply}
 use Rattle.lower.specs.Exports.{inside_one}
 use Rattle.order_links.specs.Chains.{entries_in, sound_of}
@@ -97,34 +98,34 @@ no_number f d = d.answers ∙ rw f
 -- Every reply is in the table.
 listed-reply : (r : Reply) → in_table (number_of r) ≡ true
 unfolding in_table
-listed-reply Granted = refl
-listed-reply Room = refl
-listed-reply Shape = refl
-listed-reply Range = refl
-listed-reply Unknown = refl
-listed-reply Taken = refl
-listed-reply InUse = refl
-listed-reply Rule = refl
-listed-reply NotAssigned = refl
-listed-reply Static = refl
-listed-reply Dynamic = refl
-listed-reply NoRole = refl
-listed-reply NotYours = refl
-listed-reply Denied = refl
-listed-reply Before = refl
-listed-reply Separation = refl
-listed-reply Block = refl
-listed-reply Alone = refl
-listed-reply Bound = refl
-listed-reply Count = refl
-listed-reply Full = refl
-listed-reply Loop = refl
-listed-reply Wall = refl
+listed-reply (Ok u) = refl
+listed-reply (Err Room) = refl
+listed-reply (Err Shape) = refl
+listed-reply (Err Range) = refl
+listed-reply (Err Unknown) = refl
+listed-reply (Err Taken) = refl
+listed-reply (Err InUse) = refl
+listed-reply (Err Rule) = refl
+listed-reply (Err NotAssigned) = refl
+listed-reply (Err Static) = refl
+listed-reply (Err Dynamic) = refl
+listed-reply (Err NoRole) = refl
+listed-reply (Err NotYours) = refl
+listed-reply (Err Denied) = refl
+listed-reply (Err Before) = refl
+listed-reply (Err Separation) = refl
+listed-reply (Err Block) = refl
+listed-reply (Err Alone) = refl
+listed-reply (Err Bound) = refl
+listed-reply (Err Count) = refl
+listed-reply (Err Full) = refl
+listed-reply (Err Loop) = refl
+listed-reply (Err Wall) = refl
 
 unlooked : {bytes : Bytes} {x y : Buffers} {j : Outcome} → SettledRequest bytes x y j → Unlooked x y (outcome_number j) (outcome_place j)
 unlooked {j = j} d =
     record {
-      answers = listed-reply j.reply;
+      answers = listed-reply (outcome_reply j);
       small = d.small;
       lengths = d.lengths;
       refused = d.kept;
