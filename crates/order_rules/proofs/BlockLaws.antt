@@ -1,4 +1,4 @@
--- Laws of the rule BLOCK: the search within one partitioning, and the case that no block is apart from the claimed task.
+-- The rule BLOCK, where no block is apart from the claimed task.
 use Prim.Native.Nat.{ℕ}
 use mathlib.Core.Bool.{Bool, true, false, not, cond, ◌&&◌}
 use mathlib.Core.Path.{◌≡◌, refl, ap, sym, ◌∙◌}
@@ -20,14 +20,6 @@ cond_same true x = refl
 cond_same false x = refl
 
 module _ (k : Rules) (d t : ℕ) where
-  pub in-own : (q : ℕ) {w : Bool} → w ≡ some (own q t) k.blocks → w ≡ true → block_within k d t q ≡ place (strange q d t) k.blocks
-  unfolding block_within
-  in-own q e h = rw (sym e ∙ h)
-
-  pub in-none : (q : ℕ) {w : Bool} → w ≡ some (own q t) k.blocks → w ≡ false → block_within k d t q ≡ 0
-  unfolding block_within
-  in-none q e h = rw (sym e ∙ h)
-
   -- If no block is apart from t, no partitioning refuses t.
   pub none_apart : {w : Bool} → w ≡ some (apart d t) k.blocks → not w ≡ true → 0 ≡ block k d t
   unfolding block block_within strange apart

@@ -1,5 +1,6 @@
 mod Looks
 mod BlockLaws
+mod Places
 mod Chain
 pub mod JudgeLaws
 pub mod PlaceLaws

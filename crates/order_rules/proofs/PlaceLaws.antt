@@ -10,7 +10,9 @@ use Rattle.paper_lower.specs.Lists.{some, many, place_from, place, first_of}
 use Rattle.paper_lower.specs.Checks.{Check, BEFORE, SEPARATION, BLOCK, BOUND}
 use Rattle.paper_lower.specs.Tables.{Rules}
 use Rattle.paper_upper.specs.Rules.{before, separation, own, strange, block_within, block, bound, rule_place}
-use Rattle.replies.specs.Replies.{Reply, Outcome, outcome_number, outcome_place}
+use Rattle.replies.specs.Replies.{Outcome, outcome_place, placeless}
+use Rattle.replies.specs.declared.Refusal.{Refusal}
+use Rattle.replies.specs.declared.Refused.{Refused}
 use Rattle.policy.specs.Layout.{limit_count, block_count, pair_count}
 use Rattle.policy.specs.Reading.{policy_of}
 use Rattle.policy.proofs.RuleLaws.{limits-many, blocks-many, pairs-many}
@@ -62,5 +64,5 @@ pub judged-place : (p : List ℕ) {cs : List Check} (d finished others : Set) (t
     Verdict cs (rule_place (policy_of p).rules d finished others t) j → outcome_place j ≤ 64
 judged-place p d finished others t v = rw v.places (policy-place p d finished others t _)
 
-pub plain-place : {r : Reply} {j : Outcome} → j ≡ record { reply = r; place = 0 } → outcome_place j ≤ 64
-plain-place e = rw e (omega arith)
+pub plain-place : {e : Refusal} {x : Refused} → x ≡ placeless e → x.place ≤ 64
+plain-place is = rw is (omega arith)

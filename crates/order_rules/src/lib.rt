@@ -1,16 +1,16 @@
 // The claim rules on the policy buffer. Each function equals its definition (paper_upper, Rules; docs/RULES.md, "The ledger and the claim rules"). Those for
-// BEFORE, SEPARATION, BLOCK and BOUND return the place of the first rule broken, counted from 1 in policy order, or 0. Here d are the tasks of the claiming
+// BEFORE, SEPARATION, BLOCK and BOUND return the place of the first rule broken, counted from 1 in policy order, or None. Here d are the tasks of the claiming
 // user, called D in the rules.
 #![tactic(auto)]
 
 ghost use Rattle.std.specs.Prelude.{◌≡◌, ◌<◌, length};
 ghost use Rattle.paper_lower.specs.Lists.{some};
 ghost use Rattle.paper_lower.specs.Lists.Maybe.{just};
-ghost use Rattle.paper_upper.specs.Rules.{missing, before, crowded, separation, own, strange, block, alone, tied, bound};
+ghost use Rattle.paper_upper.specs.Rules.{missing, before, crowded, separation, own, strange, block_within, block, alone, tied, bound};
 ghost use Rattle.policy.specs.Layout.{policy_words, limit_at, block_at, pair_at};
 ghost use Rattle.policy.specs.Reading.{policy_of};
 ghost use Rattle.order_rules.specs.Blocks.{after, apart};
-ghost use Rattle.order_rules.specs.Judging.{Judging};
+ghost use Rattle.order_rules.specs.Judging.{place_if_any, Judging};
 
 use policy::{PairKind, PolicyBuffer, SetKind};
 use replies::{Outcome, Refusal, Refused};
@@ -42,19 +42,15 @@ fn has_before(p: &PolicyBuffer, t: u64) -> bool
 }
 
 // The place of the first prerequisite that refuses t.
-fn before(p: &PolicyBuffer, finished: Set, t: u64) -> u64
-    ensures { result ≡ before (policy_of p.now).rules finished.bits t }
+fn before(p: &PolicyBuffer, finished: Set, t: u64) -> Option<u64>
+    ensures { result ≡ place_if_any (before (policy_of p.now).rules finished.bits t) }
 {
     if !has_before(p, t) {
-        return 0;
+        return None;
     }
     let count = policy::pair_count(p, PairKind::Prerequisite);
-    for k in 0..count {
-        if is_missing(p, k, finished, t) {
-            return k as u64 + 1;
-        }
-    }
-    0
+    let missing = (0..count).position(|k| is_missing(p, k, finished, t));
+    missing.map(|k| k as u64 + 1)
 }
 
 // ---- SEPARATION.
@@ -74,17 +70,13 @@ fn is_crowded(p: &PolicyBuffer, k: usize, d: Set, t: u64) -> bool
 }
 
 // The place of the first task set that refuses t.
-fn separation(p: &PolicyBuffer, d: Set, t: u64) -> u64
+fn separation(p: &PolicyBuffer, d: Set, t: u64) -> Option<u64>
     requires { t < 64 }
-    ensures { result ≡ separation (policy_of p.now).rules d.bits t }
+    ensures { result ≡ place_if_any (separation (policy_of p.now).rules d.bits t) }
 {
     let count = policy::limit_count(p, SetKind::Task);
-    for k in 0..count {
-        if is_crowded(p, k, d, t) {
-            return k as u64 + 1;
-        }
-    }
-    0
+    let crowded = (0..count).position(|k| is_crowded(p, k, d, t));
+    crowded.map(|k| k as u64 + 1)
 }
 
 // ---- BLOCK.
@@ -104,12 +96,7 @@ fn has_own(p: &PolicyBuffer, q: u64, t: u64) -> bool
     ensures { result ≡ some (own q t) (policy_of p.now).rules.blocks }
 {
     let count = policy::block_count(p);
-    for k in 0..count {
-        if is_own(p, k, q, t) {
-            return true;
-        }
-    }
-    false
+    (0..count).any(|k| is_own(p, k, q, t))
 }
 
 // Whether block k is of partitioning q, does not have t, and has a task of d.
@@ -147,30 +134,28 @@ fn has_apart(p: &PolicyBuffer, d: Set, t: u64) -> bool
     found
 }
 
-// The place of the block that refuses t: the first block with a task of d, but without t, in the first partitioning that also has t in a block.
-fn block(p: &PolicyBuffer, d: Set, t: u64) -> u64
+// The place of the first block of partitioning q with a task of d, but without t, if t is in a block of that partitioning.
+fn block_within(p: &PolicyBuffer, q: u64, d: Set, t: u64) -> Option<u64>
     requires { t < 64 }
-    ensures { result ≡ block (policy_of p.now).rules d.bits t }
+    ensures { result ≡ place_if_any (block_within (policy_of p.now).rules d.bits t q) }
 {
-    if !has_apart(p, d, t) {
-        return 0;
+    if !has_own(p, q, t) {
+        return None;
     }
     let count = policy::block_count(p);
-    let mut q: u64 = 0;
-    let place = 'search: loop {
-        if q == 16 {
-            break 'search 0;
-        }
-        if has_own(p, q, t) {
-            for k in 0..count {
-                if is_strange(p, k, q, d, t) {
-                    break 'search k as u64 + 1;
-                }
-            }
-        }
-        q += 1;
-    };
-    place
+    let strange = (0..count).position(|k| is_strange(p, k, q, d, t));
+    strange.map(|k| k as u64 + 1)
+}
+
+// The place of the block that refuses t, in the first partitioning that has one.
+fn block(p: &PolicyBuffer, d: Set, t: u64) -> Option<u64>
+    requires { t < 64 }
+    ensures { result ≡ place_if_any (block (policy_of p.now).rules d.bits t) }
+{
+    if !has_apart(p, d, t) {
+        return None;
+    }
+    (0..16).find_map(|q| block_within(p, q, d, t))
 }
 
 // ---- ALONE.
@@ -205,19 +190,15 @@ fn is_tied(p: &PolicyBuffer, k: usize, others: Set, t: u64) -> bool
 }
 
 // The place of the first binding that refuses t.
-fn bound(p: &PolicyBuffer, others: Set, t: u64) -> u64
-    ensures { result ≡ bound (policy_of p.now).rules others.bits t }
+fn bound(p: &PolicyBuffer, others: Set, t: u64) -> Option<u64>
+    ensures { result ≡ place_if_any (bound (policy_of p.now).rules others.bits t) }
 {
     if others.is_empty() {
-        return 0;
+        return None;
     }
     let count = policy::pair_count(p, PairKind::Binding);
-    for k in 0..count {
-        if is_tied(p, k, others, t) {
-            return k as u64 + 1;
-        }
-    }
-    0
+    let tied = (0..count).position(|k| is_tied(p, k, others, t));
+    tied.map(|k| k as u64 + 1)
 }
 
 // ---- All rules.
@@ -235,35 +216,31 @@ pub fn judge(
     requires { (template < 16) × (t < 64) }
     ensures { Judging (policy_of p.now).tasks (policy_of p.now).rules (just template) mine.bits done.bits others.bits times t result }
 {
-    let missing = before(p, done, t);
-    if missing != 0 {
+    if let Some(place) = before(p, done, t) {
         return Err(Refused {
             refusal: Refusal::Before,
-            place: missing,
+            place,
         });
     }
-    let crowded = separation(p, mine, t);
-    if crowded != 0 {
+    if let Some(place) = separation(p, mine, t) {
         return Err(Refused {
             refusal: Refusal::Separation,
-            place: crowded,
+            place,
         });
     }
-    let strange = block(p, mine, t);
-    if strange != 0 {
+    if let Some(place) = block(p, mine, t) {
         return Err(Refused {
             refusal: Refusal::Block,
-            place: strange,
+            place,
         });
     }
     if alone(p, template, mine, t) {
         return Err(Refused::from(Refusal::Alone));
     }
-    let tied = bound(p, others, t);
-    if tied != 0 {
+    if let Some(place) = bound(p, others, t) {
         return Err(Refused {
             refusal: Refusal::Bound,
-            place: tied,
+            place,
         });
     }
     if policy::limit_reached(p, t as usize, times) {

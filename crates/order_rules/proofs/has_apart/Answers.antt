@@ -14,17 +14,14 @@ returns-then-is_empty c =
     none-met (policy_of args.p.now).rules _ _ (sym c.is_empty.ensures ∙ c.if-is_empty.true)
 
 pub loop-k-init : goal.loop-k-init
-loop-k-init c = (search rules, some-start _ (blocks-are _) c.block_count-count.ensures.0 _)
+loop-k-init c = some-start _ (blocks-are _) c.block_count-count.ensures.0 _
 
 pub loop-k-preserved : goal.loop-k-preserved
 loop-k-preserved c =
     let args = c.args in
     let block-count = c.block_count-count in
-    let loop = c.loop-k in (
-      search rules,
-      rw c.is_apart-found.ensures
-          (loop.invariant.1 ∙ look-on (apart args.d.bits args.t) (block_at args.p.now) block-count.result loop.k loop.found (search rules)),
-    )
+    let loop = c.loop-k in
+    rw c.is_apart-found.ensures (loop.invariant ∙ look-on (apart args.d.bits args.t) (block_at args.p.now) block-count.result loop.k loop.found (search rules))
 
 pub returns : goal.returns
-returns c = sym (c.loop-k.invariant.1 ∙ look-end _ _ _ _ _ (search rules))
+returns c = sym (c.loop-k.invariant ∙ look-end _ _ _ _ _ (search rules))

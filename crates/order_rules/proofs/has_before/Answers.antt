@@ -9,10 +9,10 @@ use borrow.Author.Rules.{rules}
 use Rattle.order_rules.proofs.has_before.Goals as goal
 
 pub loop-k-init : goal.loop-k-init
-loop-k-init c = (search rules, some-start _ (pairs-are _ 1 (omega arith)) c.pair_count-count.ensures.0 _)
+loop-k-init c = some-start _ (pairs-are _ 1 (omega arith)) c.pair_count-count.ensures.0 _
 
 pub loop-k-preserved : goal.loop-k-preserved
-loop-k-preserved c = (search rules, rw c.pair_b-b.ensures.0 (c.loop-k.invariant.1 ∙ look-on (after _) (pair_at 1 _) _ _ _ (search rules)))
+loop-k-preserved c = rw c.pair_b-b.ensures.0 (c.loop-k.invariant ∙ look-on (after _) (pair_at 1 _) _ _ _ (search rules))
 
 pub returns : goal.returns
-returns c = sym (c.loop-k.invariant.1 ∙ look-end (after _) (pair_at 1 _) _ _ _ (search rules))
+returns c = sym (c.loop-k.invariant ∙ look-end (after _) (pair_at 1 _) _ _ _ (search rules))

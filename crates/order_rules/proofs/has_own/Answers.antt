@@ -1,21 +1,12 @@
-use mathlib.Core.Path.{sym, ◌∙◌}
-use Rattle.policy.proofs.RuleLaws.{blocks-are}
-use Rattle.replies.proofs.SearchLaws.{some-start, some-here, some-later, some_end}
+use mathlib.Core.Path.{refl}
 use borrow.Author.Rules.{rules}
+use borrow.Author.Tests.{tests}
+use Rattle.policy.specs.Layout.{block_at}
+use Rattle.policy.proofs.RuleLaws.{blocks-are}
+use Rattle.paper_upper.specs.Rules.{own}
+use Rattle.order_rules.proofs.Places.{some-found}
 use Rattle.order_rules.proofs.has_own.Goals as goal
 
-pub loop-k-init : goal.loop-k-init
-loop-k-init c = (search rules, some-start _ (blocks-are _) c.block_count-count.ensures.0 _)
-
-pub returns-then-is_own : goal.returns-then-is_own
-returns-then-is_own c =
-    let loop = c.loop-k in
-    sym (loop.invariant.1 ∙ some-here _ _ _ _ (search rules) (sym c.is_own.ensures ∙ c.if-is_own.true))
-
-pub loop-k-preserved : goal.loop-k-preserved
-loop-k-preserved c =
-    let loop = c.loop-k in
-    (search rules, loop.invariant.1 ∙ some-later _ _ _ _ (search rules) (sym c.is_own.ensures ∙ c.if-is_own.false))
-
 pub returns : goal.returns
-returns c = sym (c.loop-k.invariant.1 ∙ some_end _ _ _ _ (search rules))
+returns c =
+    some-found (own _ _) (block_at _) (blocks-are _) c.block_count-count.ensures.0 refl _ _ _ c.any.ensures.ran (λ x b q k. search (rules, tests))
