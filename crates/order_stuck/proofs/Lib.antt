@@ -1,4 +1,4 @@
 mod WaitLaws
-mod Zeros
+mod LowestLaws
 mod Walk
 mod Words

@@ -6,20 +6,21 @@ use mathlib.Core.Path.{◌≡◌, refl, sym, ap, ◌∙◌}
 use native.Mathlib.Omega.{arith}
 use lib.ListN.{set}
 use lib.Seq.{sets}
+use Rattle.std.specs.Prelude.{Option, Some, None}
 use Rattle.paper_lower.specs.Sets.{Set, empty, has, plus, union, collect}
 use Rattle.paper_lower.specs.Lists.{many}
 use Rattle.paper_lower.specs.Tables.{Pair}
 use Rattle.paper_upper.specs.Stuck.{may, lowest_from, go_on, free_from, free_tasks}
-use Rattle.order_stuck.specs.Listing.{or_else, waiting, having, Listed}
+use Rattle.order_stuck.specs.Listing.{optional, waiting, having, Listed}
 use Rattle.order_stuck.proofs.WaitLaws.{others-may}
-use Rattle.order_stuck.proofs.Zeros.{lowest-same, is_found, none_found}
+use Rattle.order_stuck.proofs.LowestLaws.{lowest-same, is_found, none_found}
 
 -- The lowest of the tasks of m that are neither in `had` nor waiting is the lowest that may come next.
-pub next-is : (m : Set) (befores : List Pair) (had : Set) {w u o : Set} {r : ℕ} → w ≡ waiting had befores → u ≡ union had w →
+pub next-is : (m : Set) (befores : List Pair) (had : Set) {w u o : Set} {r : Option ℕ} → w ≡ waiting had befores → u ≡ union had w →
     o ≡ collect 64 (λ t. has m t && not (has u t))
-    → r ≡ or_else 64 (lowest_from 0 64 (has o)) → r ≡ or_else 64 (lowest_from 0 64 (may m befores had))
+    → r ≡ optional (lowest_from 0 64 (has o)) → r ≡ optional (lowest_from 0 64 (may m befores had))
 next-is m befores had p q e h =
-    h ∙ ap (or_else 64) (lowest-same 0 64 _ _ (λ i a l. ap (λ (s : Set). has s i) e
+    h ∙ ap optional (lowest-same 0 64 _ _ (λ i a l. ap (λ (s : Set). has s i) e
     ∙ ap (λ (s : Set). has (collect 64 (λ t. has m t && not (has s t))) i) (q ∙ ap (union had) p)
     ∙ others-may m befores had i (omega arith)))
 
@@ -36,29 +37,29 @@ module _ (m : Set) (befores : List Pair) where
   begin l = record { words = refl; taken = refl; counted = omega arith }
 
   -- ---- The part of the list that is still to be written.
-  left_one : (had : Set) (n t : ℕ) → n < 64 → t ≡ or_else 64 (lowest_from 0 64 (may m befores had)) → (t ≡ 64 → ⊥)
+  left_one : (had : Set) (n t : ℕ) → n < 64 → Some t ≡ optional (lowest_from 0 64 (may m befores had))
       → free_from m befores (64 - n) had ≡ t ∷ free_from m befores (64 - (n + 1)) (plus had t)
   unfolding free_from go_on
-  left_one had n t l e d =
+  left_one had n t l e =
       let a : 64 - n ≡ suc (64 - (n + 1)) = omega arith in
-      rw (a, is_found 64 (lowest_from 0 64 (may m befores had)) t e d)
+      rw (a, is_found (lowest_from 0 64 (may m befores had)) t e)
 
-  left-none : (had : Set) (n : ℕ) → n < 64 → 64 ≡ or_else 64 (lowest_from 0 64 (may m befores had)) → free_from m befores (64 - n) had ≡ []
+  left-none : (had : Set) (n : ℕ) → n < 64 → None ≡ optional (lowest_from 0 64 (may m befores had)) → free_from m befores (64 - n) had ≡ []
   unfolding free_from go_on
   left-none had n l e =
       let a : 64 - n ≡ suc (64 - (n + 1)) = omega arith in
-      rw (a, none_found 64 (may m befores had) e)
+      rw (a, none_found (lowest_from 0 64 (may m befores had)) e)
 
   left-past : (had : Set) (n : ℕ) → 64 ≤ n → free_from m befores (64 - n) had ≡ []
   unfolding free_from
   left-past had n l = let a : 64 - n ≡ 0 = omega arith in rw a
 
   -- ---- One turn, and the two ends of the loop.
-  pub turn : (l₀ l : List ℕ) (had : Set) (n t : ℕ) → n < 64 → t ≡ or_else 64 (lowest_from 0 64 (may m befores had)) → (t ≡ 64 → ⊥)
+  pub turn : (l₀ l : List ℕ) (had : Set) (n t : ℕ) → n < 64 → Some t ≡ optional (lowest_from 0 64 (may m befores had))
       → Going l₀ l had n → Going l₀ (set l (n + 2) t) (plus had t) (n + 1)
   unfolding having many
-  turn l₀ l had n t h e d g =
-      let o = left_one had n t h e d in
+  turn l₀ l had n t h e g =
+      let o = left_one had n t h e in
       let p : n + 1 + 2 ≡ suc (n + 2) = omega arith in
       let c = ap (λ (ts : List ℕ). n + many ts) o in
       record {
@@ -75,7 +76,7 @@ module _ (m : Set) (befores : List Pair) where
       let w : l ≡ sets l₀ 2 (free_tasks m befores) = ap (sets l (n + 2)) (sym o) ∙ g.words in
       record { words = rw (← k, ← w); taken = ap (having had) (sym o) ∙ g.taken }
 
-  pub none_left : (l₀ l : List ℕ) (had : Set) (n : ℕ) → n < 64 → 64 ≡ or_else 64 (lowest_from 0 64 (may m befores had)) → Going l₀ l had n →
+  pub none_left : (l₀ l : List ℕ) (had : Set) (n : ℕ) → n < 64 → None ≡ optional (lowest_from 0 64 (may m befores had)) → Going l₀ l had n →
       Listed m befores l₀ (set l 1 n) had
   none_left l₀ l had n h e g = ended l₀ l had n (left-none had n h e) g
 

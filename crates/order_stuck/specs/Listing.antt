@@ -1,5 +1,5 @@
--- How the code finds the list: the tasks that wait, a number for an optional task, and what the loop over the list leaves.
-use Rattle.std.specs.Prelude.{ℕ, cond, ◌≡◌, List, [], ◌∷◌, set}
+-- How the code finds the list: the tasks that wait, a task that may be absent, and what the loop over the list leaves.
+use Rattle.std.specs.Prelude.{ℕ, cond, ◌≡◌, List, [], ◌∷◌, set, Option, Some, None}
 use Rattle.std.proofs.lemmas.List.Edits.{sets}
 use Rattle.paper_lower.specs.Sets.{Set, empty, has, plus}
 use Rattle.paper_lower.specs.Lists.{Maybe, many}
@@ -16,10 +16,10 @@ unfoldable pub waiting : Set → List Pair → Set
 waiting had [] = empty
 waiting had (x ∷ xs) = waits had x (waiting had xs)
 
--- The value if it is present, otherwise n.
-unfoldable pub or_else : ℕ → Maybe ℕ → ℕ
-or_else n none = n
-or_else n (just t) = t
+-- A number that may be absent, as the code has it.
+abbrev pub optional : Maybe ℕ → Option ℕ
+optional none = None
+optional (just t) = Some t
 
 -- The set `had` with the tasks of a list added.
 unfoldable pub having : Set → List ℕ → Set

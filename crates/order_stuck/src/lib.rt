@@ -2,20 +2,26 @@
 // set. The only state is `had`, the set of the tasks listed so far; prerequisites are found by a loop over the policy buffer.
 #![tactic(auto)]
 
-ghost use Rattle.std.specs.Prelude.{◌≡◌, not, ◌&&◌, ◌<◌, length, replicate};
+ghost use Rattle.std.specs.Prelude.{◌≡◌, not, ◌&&◌, ◌<◌, replicate};
 ghost use Rattle.paper_lower.specs.Sets.{has, collect};
 ghost use Rattle.paper_lower.specs.Policy.{tasks_of};
 ghost use Rattle.paper_upper.specs.Stuck.{may, lowest_from, stuck_of};
 ghost use Rattle.paper_upper.specs.Requests.{stuck_checks};
 ghost use Rattle.paper_upper.specs.Questions.{answer_words, padded};
-ghost use Rattle.policy.specs.Layout.{policy_words, pair_at};
+ghost use Rattle.policy.specs.Layout.{pair_at};
 ghost use Rattle.policy.specs.Reading.{policy_of};
 ghost use Rattle.policy.specs.Promises.{Judged};
-ghost use Rattle.order_stuck.specs.Listing.{waits, waiting, or_else, Listed};
+ghost use Rattle.order_stuck.specs.Listing.{waits, waiting, optional, Listed};
 
 use policy::{PairKind, PolicyBuffer};
 use replies::{Refusal, Reply};
 use sets::Set;
+
+// The length of an answer, which mishantral_words(3) tells.
+pub const ANSWER_WORDS: usize = 66;
+
+// The answer to a question.
+pub type AnswerBuffer = [u64; ANSWER_WORDS];
 
 // ---- The reply.
 
@@ -47,10 +53,9 @@ fn with_pair(p: &PolicyBuffer, k: usize, had: Set, rest: Set) -> Set
 fn waiting(p: &PolicyBuffer, had: Set) -> Set
     ensures { result.bits ≡ waiting had.bits (policy_of p.now).rules.befores }
 {
+    let count = policy::pair_count(p, PairKind::Prerequisite);
     let mut all = Set::EMPTY;
-    let mut k = policy::pair_count(p, PairKind::Prerequisite);
-    while 0 < k {
-        k -= 1;
+    for k in (0..count).rev() {
         all = with_pair(p, k, had, all);
     }
     all
@@ -65,16 +70,19 @@ fn others(m: Set, k: Set) -> Set
     }
 }
 
-// The lowest task of m, or 64 if there is none.
-fn lowest(m: Set) -> u64
-    ensures { result ≡ or_else 64 (lowest_from 0 64 (has m.bits)) }
+// The lowest task of m.
+fn lowest(m: Set) -> Option<u64>
+    ensures { result ≡ optional (lowest_from 0 64 (has m.bits)) }
 {
-    u64::trailing_zeros(m.bits) as u64
+    if m.is_empty() {
+        return None;
+    }
+    Some(u64::from(m.bits.trailing_zeros()))
 }
 
-// The lowest task of m that may follow the tasks in `had`, or 64 if there is none.
-fn next(p: &PolicyBuffer, m: Set, had: Set) -> u64
-    ensures { result ≡ or_else 64 (lowest_from 0 64 (may m.bits (policy_of p.now).rules.befores had.bits)) }
+// The lowest task of m that may follow the tasks in `had`.
+fn next(p: &PolicyBuffer, m: Set, had: Set) -> Option<u64>
+    ensures { result ≡ optional (lowest_from 0 64 (may m.bits (policy_of p.now).rules.befores had.bits)) }
 {
     let wait = waiting(p, had);
     lowest(others(m, had.union(wait)))
@@ -83,22 +91,20 @@ fn next(p: &PolicyBuffer, m: Set, had: Set) -> u64
 // ---- The list.
 
 // Writes the free tasks of m from word 2 on and their number to word 1, and returns them as a set.
-fn list(p: &PolicyBuffer, m: Set, out: &mut [u64]) -> Set
-    requires { length out.old ≡ answer_words }
+fn list(p: &PolicyBuffer, m: Set, out: &mut AnswerBuffer) -> Set
     ensures { Listed m.bits (policy_of p.now).rules.befores out.old out.new result.bits }
 {
     let mut had = Set::EMPTY;
-    let mut n = 0;
-    while n < 64 {
-        let t = next(p, m, had);
-        if t == 64 {
+    let mut count = 0u64;
+    for n in 0..64 {
+        let Some(t) = next(p, m, had) else {
             break;
-        }
+        };
         out[n + 2] = t;
         had = had.with(t);
-        n += 1;
+        count += 1;
     }
-    out[1] = n as u64;
+    out[1] = count;
     had
 }
 
@@ -119,7 +125,7 @@ fn tasks_of(p: &PolicyBuffer, j: u64) -> Set
 }
 
 // Writes the answer about template j, into words that are 0: the set of its stuck tasks, the number of free ones, and the free ones in their order.
-pub fn answer(p: &PolicyBuffer, j: u64, out: &mut [u64])
+pub fn answer(p: &PolicyBuffer, j: u64, out: &mut AnswerBuffer)
     requires { (j < 16) × (out.old ≡ replicate answer_words 0) }
     ensures { out.new ≡ padded (stuck_of (policy_of p.now).tasks (policy_of p.now).rules j) }
 {
