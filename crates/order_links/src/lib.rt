@@ -489,13 +489,14 @@ fn sift(o: &mut OrdersBuffer, i: u64, key: u64) -> bool
         let k = in_reach(h);
         let w = word(o, k);
         h = w.link();
-        if w.fits(key) {
+        let goes = w.fits(key);
+        if goes {
             free(o, i, kept, q, k);
             n -= 1;
-            continue;
+        } else {
+            q = k;
+            kept += 1;
         }
-        q = k;
-        kept += 1;
     }
     n < all
 }

@@ -10,8 +10,8 @@ loop-kept-init c =
     let z = c.args in
     (c.told-o, (omega arith, (omega arith, (λ _. refl, rw (c.head-h.ensures, c.count-all.ensures) (λ w. begun z.i z.key z.o.now c.chain-x.result.bits w c.chain-x.ensures)))))
 
-pub loop-kept-preserved-then-fits : goal.loop-kept-preserved-then-fits
-loop-kept-preserved-then-fits c =
+pub loop-kept-preserved-then-goes : goal.loop-kept-preserved-then-goes
+loop-kept-preserved-then-goes c =
     let z = c.args in
     let v = c.loop-kept in
     let b = v.invariant.1.1.0 in
@@ -24,7 +24,7 @@ loop-kept-preserved-then-fits c =
           (
             λ h. let n : ⊥ = omega arith in absurd n,
             rw c.link-h.ensures (any-takes z.i z.key z.o.now v.o v.h v.n v.kept v.q c.in_reach-k.result c.word-w.result.bits c.requires (omega arith) c.in_reach-k.ensures.1.1
-                c.word-w.ensures v.invariant.1.1.1.1 _ (eqb-true _ _ (sym c.fits.ensures ∙ c.if-fits.true)) c.free.ensures),
+                c.word-w.ensures v.invariant.1.1.1.1 _ (eqb-true _ _ (sym c.fits-goes.ensures ∙ c.if-goes.true)) c.free.ensures),
           ),
         ),
       ),
@@ -42,7 +42,7 @@ loop-kept-preserved c =
           (
             v.invariant.1.1.1.0,
             rw c.link-h.ensures (any-goes z.i z.key z.o.now v.o v.h v.n v.kept v.q c.in_reach-k.result c.word-w.result.bits c.requires (omega arith) c.in_reach-k.ensures.1.1
-                c.word-w.ensures v.invariant.1.1.1.1 (eqb-false _ _ (sym c.fits.ensures ∙ c.if-fits.false))),
+                c.word-w.ensures v.invariant.1.1.1.1 (eqb-false _ _ (sym c.fits-goes.ensures ∙ c.if-goes.false))),
           ),
         ),
       ),
