@@ -115,13 +115,13 @@ emptied s o c d p =
 pub no-turn : (s out : Bytes) (room place k : ℕ) (x : Buffers) {e : Refusal} {n : ℕ} → refusal_number e ≡ checked s out room x → n ≡ refusal_number e
     → Turned room place k s out x out x (record { place = n; reply = 0 })
 no-turn s out room place k x {e} {n} q m =
-      let z : checked s out room x ≡ 0 → ⊥ = λ h. not-granted e (q ∙ h) in
-      record {
-        refused = λ _. (ap (λ (i : ℕ). record { place = i; reply = 0 }) (m ∙ q), (refl, refl));
-        told = λ h. absurd (z h);
-        further = λ h. absurd (z h);
-        alone = λ h. absurd (z h);
-      }
+    let z : checked s out room x ≡ 0 → ⊥ = λ h. not-granted e (q ∙ h) in
+    record {
+      refused = λ _. (ap (λ (i : ℕ). record { place = i; reply = 0 }) (m ∙ q), (refl, refl));
+      told = λ h. absurd (z h);
+      further = λ h. absurd (z h);
+      alone = λ h. absurd (z h);
+    }
 
 module _ (s out : Bytes) (room place k : ℕ) (x : Buffers) (judged : 0 ≡ checked s out room x) where
   none : checked s out room x ≡ 0

@@ -181,8 +181,8 @@ module _ (bytes : Bytes) (old : List ℕ) (x : Buffers) where
       asked-kind = ap (λ (p : PaperRecord). asks p.kind) is.reads ∙ asked
 
       pub ready : sound_of x.orders ≡ true
-          → ((length old ≡ answer_words) × Ready x.orders) × (Limits request_forms d × (asks d.kind ≡ true))
-      ready h = ((room, (words.1, h)), (within-limits request_forms bytes well-formed is, asked-kind))
+          → Ready x.orders × (Limits request_forms d × (asks d.kind ≡ true))
+      ready h = ((words.1, h), (within-limits request_forms bytes well-formed is, asked-kind))
 
       by_kind : (t : Engine) → question_reply (fit x) t bytes old ≡ first ((chosen request_kinds d.kind).checks t (paper_of d))
       unfolding question_reply question_checks request settled

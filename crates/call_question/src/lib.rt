@@ -15,12 +15,10 @@ ghost use Rattle.call_question.specs.Question.{question_checks};
 ghost use Rattle.call_question.specs.Promises.{FiguresAnswered, StuckAnswered, Answered, Questioned};
 
 use order_links::{ORDERS_WORDS, OrdersBuffer};
+use order_stuck::{ANSWER_WORDS, AnswerBuffer};
 use policy::{POLICY_WORDS, PolicyBuffer};
 use records::{Call, Record};
 use replies::{Refusal, Reply};
-
-// The length of an answer, which mishantral_words(3) tells.
-pub const ANSWER_WORDS: usize = 66;
 
 // Whether a kind is a question: 58 or 60.
 fn is_question(kind: u64) -> bool
@@ -50,16 +48,15 @@ fn judge(bytes: &[u8], answer: &[u64], policy: &[u64], sessions: &[u64], orders:
 }
 
 // Sets every word of the answer to 0.
-fn clear(answer: &mut [u64])
-    requires { length answer.old ≡ answer_words }
+fn clear(answer: &mut AnswerBuffer)
     ensures { answer.new ≡ replicate answer_words 0 }
 {
     answer.fill(0);
 }
 
 // Kind 58: the number of entries of instance a, and the set of its done tasks.
-fn figures(answer: &mut [u64], o: &OrdersBuffer, a: u64) -> Reply
-    requires { (length answer.old ≡ answer_words) × (Ready o.now × (a < 64)) }
+fn figures(answer: &mut AnswerBuffer, o: &OrdersBuffer, a: u64) -> Reply
+    requires { Ready o.now × (a < 64) }
     ensures { FiguresAnswered o.now a answer.old answer.new result }
 {
     order_requests::figures_reply(o, a)?;
@@ -72,8 +69,8 @@ fn figures(answer: &mut [u64], o: &OrdersBuffer, a: u64) -> Reply
 }
 
 // Kind 60: the stuck tasks of template a, and the list of its free tasks.
-fn stuck_tasks(answer: &mut [u64], p: &PolicyBuffer, a: u64) -> Reply
-    requires { (length answer.old ≡ answer_words) × (a < 16) }
+fn stuck_tasks(answer: &mut AnswerBuffer, p: &PolicyBuffer, a: u64) -> Reply
+    requires { a < 16 }
     ensures { StuckAnswered p.now a answer.old answer.new result }
 {
     order_stuck::judge(p, a)?;
@@ -83,8 +80,8 @@ fn stuck_tasks(answer: &mut [u64], p: &PolicyBuffer, a: u64) -> Reply
 }
 
 // Answers a question by its kind; `judge` has refused all other kinds before.
-fn answer_to(r: Record, answer: &mut [u64], p: &PolicyBuffer, o: &OrdersBuffer) -> Reply
-    requires { (length answer.old ≡ answer_words) × ((Ready o.now) × ((Limits request_forms r) × (asks r.kind ≡ true))) }
+fn answer_to(r: Record, answer: &mut AnswerBuffer, p: &PolicyBuffer, o: &OrdersBuffer) -> Reply
+    requires { Ready o.now × (Limits request_forms r × (asks r.kind ≡ true)) }
     ensures { Answered p.now o.now r answer.old answer.new result }
 {
     let kind = r.kind;
@@ -106,6 +103,7 @@ pub fn question(
     ensures { Questioned bytes.now answer.old answer.new (buffers policy.now sessions.now orders.now) (number_of result) }
 {
     judge(bytes, answer, policy, sessions, orders)?;
+    let answer = answer.as_mut_array::<ANSWER_WORDS>().ok_or(Refusal::Room)?;
     let p = policy.as_array::<POLICY_WORDS>().ok_or(Refusal::Room)?;
     let o = orders.as_array::<ORDERS_WORDS>().ok_or(Refusal::Room)?;
     if !order_links::is_sound(o) {

@@ -118,11 +118,10 @@ all-unknown r t h = go (eqb r.kind 32) refl
 -- ---- A step on links that are not sound, which read as the empty engine.
 pub unknown-step : (r : Decoded) (x : Buffers) → sound_of x.orders ≡ false
     → first ((chosen request_kinds r.kind).checks no_engine (paper_of r)) ≡ UNKNOWN → SettlingStep no_engine r x x (Err (placeless Unknown))
-unknown-step r x broken e =
-    (
-      record { replies = sym e; places = no_place no_engine (paper_of r) e; tables = rw e (alike (tables-broken x broken)); kept = λ _. refl },
-      λ z. let n : ⊥ = omega arith in absurd n,
-    )
+unknown-step r x broken e = (
+  record { replies = sym e; places = no_place no_engine (paper_of r) e; tables = rw e (alike (tables-broken x broken)); kept = λ _. refl },
+  λ z. let n : ⊥ = omega arith in absurd n,
+)
 
 pub joined_step : (r : Decoded) (x z x' : Buffers) {j : Outcome} → product_of z ≡ no_engine → sound_of x'.orders ≡ true
     → first ((chosen request_kinds r.kind).checks no_engine (paper_of r)) ≡ 0 → StepOf (product_of z) (product_of x') r z x' j → SettlingStep no_engine r x x' j

@@ -16,6 +16,7 @@ ghost use Rattle.engine.specs.Settling.{Settled, SettledAs, SettledRequest, Quic
 ghost use Rattle.engine.specs.Exports.{LoadExported, RequestExported, words_of};
 
 use order_links::{ORDERS_WORDS, OrdersBuffer};
+use order_stuck::ANSWER_WORDS;
 use policy::{POLICY_WORDS, PolicyBuffer};
 use records::{Call, Record};
 use replies::{Outcome, Refusal, Refused, Reply, plain};
@@ -50,7 +51,7 @@ fn as_empty(
     s: &mut SessionsBuffer,
     o: &mut OrdersBuffer,
 ) -> Outcome
-    requires { (Limits request_forms r) × (sound_of o.old ≡ false) }
+    requires { Limits request_forms r × (sound_of o.old ≡ false) }
     ensures { SettlingStep no_engine r (buffers p.old s.old o.old) (buffers p.new s.new o.new) result }
 {
     if (r.kind != 32) | (r.m != 0) {
@@ -90,7 +91,9 @@ pub fn request(
     ensures { Requested bytes.now (buffers policy.old sessions.old orders.old) (buffers policy.new sessions.new orders.new) result }
 {
     let p = policy.as_mut_array::<POLICY_WORDS>().ok_or(Refusal::Room)?;
-    let s = sessions.as_mut_array::<SESSIONS_WORDS>().ok_or(Refusal::Room)?;
+    let s = sessions
+        .as_mut_array::<SESSIONS_WORDS>()
+        .ok_or(Refusal::Room)?;
     let o = orders.as_mut_array::<ORDERS_WORDS>().ok_or(Refusal::Room)?;
     records::judge(Call::Request, bytes)?;
     act(records::decode(bytes), p, s, o)
@@ -101,7 +104,9 @@ pub fn settle(policy: &mut [u64], sessions: &mut [u64], orders: &mut [u64]) -> R
     ensures { Settled (buffers policy.old sessions.old orders.old) (buffers policy.new sessions.new orders.new) result }
 {
     let p = policy.as_mut_array::<POLICY_WORDS>().ok_or(Refusal::Room)?;
-    let s = sessions.as_mut_array::<SESSIONS_WORDS>().ok_or(Refusal::Room)?;
+    let s = sessions
+        .as_mut_array::<SESSIONS_WORDS>()
+        .ok_or(Refusal::Room)?;
     let o = orders.as_mut_array::<ORDERS_WORDS>().ok_or(Refusal::Room)?;
     if order_links::is_sound(o) {
         return Ok(());
@@ -123,7 +128,9 @@ pub fn settled_request(
     ensures { SettledRequest bytes.now (buffers policy.old sessions.old orders.old) (buffers policy.new sessions.new orders.new) result }
 {
     let p = policy.as_mut_array::<POLICY_WORDS>().ok_or(Refusal::Room)?;
-    let s = sessions.as_mut_array::<SESSIONS_WORDS>().ok_or(Refusal::Room)?;
+    let s = sessions
+        .as_mut_array::<SESSIONS_WORDS>()
+        .ok_or(Refusal::Room)?;
     let o = orders.as_mut_array::<ORDERS_WORDS>().ok_or(Refusal::Room)?;
     records::judge(Call::Request, bytes)?;
     step(records::decode(bytes), p, s, o)
@@ -197,9 +204,6 @@ pub extern "C" fn mishantral_settle(
     let r = settle(policy, sessions, orders);
     replies::number(r)
 }
-
-// The length of a question's answer in words (crate call_question).
-pub const ANSWER_WORDS: usize = 66;
 
 // The length in words of the scratch buffer for reading OPL/XML (crate opl).
 const READER_WORDS: u64 = 921784;

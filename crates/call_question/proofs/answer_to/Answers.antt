@@ -9,13 +9,13 @@ pub figures-requires : goal.figures-requires
 unfolding limits_open
 figures-requires c =
     let pre = c.requires in
-    (pre.0.0, (pre.0.1.1, below (limit_a request_forms) pre.1.0.a c.in-58.is 64 tt))
+    (pre.0, below (limit_a request_forms) pre.1.0.a c.in-58.is 64 tt)
 
 pub stuck_tasks-requires : goal.stuck_tasks-requires
 unfolding limits_open
 stuck_tasks-requires c =
     let pre = c.requires in
-    (pre.0.0, (pre.0.1.0, below (limit_a request_forms) pre.1.0.a c.in-60.is 16 tt))
+    below (limit_a request_forms) pre.1.0.a c.in-60.is 16 tt
 
 pub returns-in-58 : goal.returns-in-58
 returns-in-58 c =
