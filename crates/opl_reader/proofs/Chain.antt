@@ -1,21 +1,22 @@
 -- Readers in sequence: the first that refuses refuses the whole, and after one that accepts the next goes on.
-use mathlib.Core.Path.{◌≡◌, refl, sym, ap, ◌∙◌, subst}
-use Prim.Native.Nat.{ℕ, ◌-◌, ◌<◌, ◌≤◌}
+use mathlib.Core.Path.{◌≡◌, refl, sym, ap, ◌∙◌}
+use mathlib.Core.List.{[], ◌∷◌}
+use mathlib.Core.Bool.{true, false}
+use Prim.Native.Nat.{ℕ, ◌+◌, ◌<◌, ◌≤◌}
 use native.Mathlib.Omega.{arith}
-use lib.ListN.{length, take, drop, length-drop}
-use Rattle.paper_opl.specs.Reading.{Text, Read, after, in_name, name, white, behind, space}
+use lib.ListN.{length, drop, length-drop}
+use lib.Seq.{drop-drop}
+use Rattle.paper_opl.specs.Reading.{Text, Read, after, starts, expect, in_name, name, value, white, behind, space}
 use Rattle.paper_opl.specs.Reading.Read.{got, bad}
 use Rattle.paper_opl.proofs.Inversion.{bad≢got, got-rest}
 use Rattle.paper_opl.proofs.Counts.{below_of, word-strict}
-use Rattle.opl_text.proofs.Laws.{bad-same, no_word, a_word}
-use Rattle.opl_text.specs.declared.Step.{Step}
-use Rattle.opl_text.specs.declared.Step.TheVariants.{Next, Bad}
-use Rattle.opl_text.specs.Steps.{Reads, step_of, word_of, place_of}
+use Rattle.opl_text.proofs.Laws.{bad-same, no_word, a_word, one-not, one-yes}
+use Rattle.std.specs.Prelude.{Ok, IsErrAnd}
+use Rattle.std.proofs.lemmas.Result.{err_from_is_err_and}
+use Rattle.opl_text.specs.declared.BadByte.{BadByte}
+use Rattle.opl_text.specs.Steps.{Step, Reads, step_of, word_of, value_of}
+use Rattle.opl_text.proofs.Literals.{value_room}
 use Rattle.opl_reader.specs.Grammar.{forget}
-
--- A result for one reading is a result for an equal reading.
-pub moved : {A : Type 0} {s : Text} {w : Step → Read A} {x y : Read A} {r : Step} → y ≡ x → Reads s w x r → Reads s w y r
-moved e a = record { read_is = a.read_is ∙ sym e; inside = a.inside }
 
 pub after-after : {A B C : Type 0} (x : Read A) (f : A → Text → Read B) (g : B → Text → Read C) → after (after x f) g ≡ after x (λ v r. after (f v r) g)
 after-after (got v r) f g = refl
@@ -25,43 +26,44 @@ pub after-each : {A B : Type 0} (x : Read A) (f g : A → Text → Read B) → (
 after-each (got v r) f g h = h v r
 after-each (bad r) f g h = refl
 
-module _ {A : Type 0} (s : Text) (whole : Step → Read A) (x : Read A) (r : Step) (q : Reads s whole x r) where
-  pub within : (i : ℕ) → r ≡ Next i → i ≤ length s
-  within i v = subst (λ (k : Step). place_of k ≤ length s) v q.inside
-
-  pub stopped-at : (p : ℕ) → r ≡ Bad p → p ≤ length s
-  stopped-at p v = subst (λ (k : Step). place_of k ≤ length s) v q.inside
-
-  pub is_read : (k : Step) → r ≡ k → x ≡ whole k
-  is_read k v = sym q.read_is ∙ rw v
-
-  pub goes_on : {B : Type 0} (k : Step) → r ≡ k → (f : A → Text → Read B) → after x f ≡ after (whole k) f
-  goes_on k v f = ap (λ y. after y f) (is_read k v)
-
-  -- A refusal stays the same, whatever value a reader would have returned.
-  pub halted : (p : ℕ) → r ≡ Bad p → whole (Bad p) ≡ bad (drop p s) → (f : A → Text → Read (Unit {0})) → Reads s (step_of s) (after x f) r
-  halted p v w f = record {
-    read_is = ap (λ (k : Step). step_of s k) v ∙ sym (goes_on (Bad p) v f ∙ ap (λ y. after y f) w);
-    inside = q.inside;
-  }
+-- A refusal that `?` hands on.
+pub handed_on : (s : Text) (x : Read (Unit {0})) (r : Step) (e : BadByte) → IsErrAnd r (λ y. y ≡ e) → e.at ≤ length s → x ≡ bad (drop e.at s) → Reads s (step_of s) x r
+handed_on s x r e h i q = let p = err_from_is_err_and r h in rw (p.1, p.2) (record { read_is = sym q; inside = i })
 
 -- A name has at least one byte.
-pub name-room : (s : Text) (at : ℕ) (n : Step) → Reads s (word_of s at) (name (drop at s)) n → (k : ℕ) → n ≡ Next k → at < k
-name-room s at n q k v =
-    let e : name (drop at s) ≡ got (take (k - at) (drop at s)) (drop k s) = is_read s (word_of s at) (name (drop at s)) n q (Next k) v in
-    let h = below_of e (word-strict in_name (drop at s)) in
+pub name_room : (s : Text) (at k : ℕ) → Reads s (word_of s at) (name (drop at s)) (Ok k) → at < k
+name_room s at k q =
+    let h = below_of (sym q.read_is) (word-strict in_name (drop at s)) in
     let a = length-drop at s in
     let b = length-drop k s in
     omega arith
 
+-- A value has a quote at its beginning and one at its end.
+pub value_inside : (s : Text) (at end : ℕ) → at ≤ length s → Reads s (value_of s (at + 1)) (value (drop at s)) (Ok end) → (at + 1 ≤ end) × (end + 1 ≤ length s)
+value_inside s at end h q = value_room s at (Ok end) q end refl h
+
+pub drop_one : (at : ℕ) (s : Text) → drop 1 (drop at s) ≡ drop (at + 1) s
+drop_one at s = drop-drop 1 at s
+
+-- ---- One byte.
+
+pub one_bad : (q i : ℕ) (s : Text) → starts (q ∷ []) (drop i s) ≡ false → expect (q ∷ []) (drop i s) ≡ bad (drop i s)
+one_bad q i s e = one-not q (drop i s) e
+
+pub one_got : (q i : ℕ) (s : Text) → starts (q ∷ []) (drop i s) ≡ true → expect (q ∷ []) (drop i s) ≡ got tt (drop (i + 1) s)
+one_got q i s e = (one-yes q (drop i s) e).0 ∙ rw (drop-drop 1 i s)
+
+pub one_room : (q i : ℕ) (s : Text) → starts (q ∷ []) (drop i s) ≡ true → i + 1 ≤ length s
+one_room q i s e = let h = (one-yes q (drop i s) e).1 in let d = length-drop i s in omega arith
+
 -- ---- Required white space.
 
 module _ (s : Text) (at i : ℕ) (h : at ≤ length s) (from : drop i s ≡ behind white (drop at s)) (inside : i ≤ length s) where
-  pub space-not : i ≡ at → bad (drop at s) ≡ space (drop at s)
-  space-not e = rw (sym (no_word white s at i h from inside e))
+  pub space_not : i ≡ at → bad (drop at s) ≡ space (drop at s)
+  space_not e = rw (sym (no_word white s at i h from inside e))
 
-  pub space-yes : (i ≡ at → ⊥) → got tt (drop i s) ≡ space (drop at s)
-  space-yes n = rw (sym (a_word white s at i h from inside n))
+  pub space_yes : (i ≡ at → ⊥) → got tt (drop i s) ≡ space (drop at s)
+  space_yes n = rw (sym (a_word white s at i h from inside n))
 
 -- ---- Readings without their values (`forget`).
 
@@ -78,10 +80,6 @@ pub forget-on : {A B : Type 0} (x : Read A) (f : A → B) → forget (after x (�
 forget-on (got v r) f = refl
 forget-on (bad r) f = refl
 
-pub judged-bad : {A B : Type 0} (x : Read A) (r : Text) → forget x ≡ bad r → (f : A → Text → Read B) → after x f ≡ bad r
-judged-bad (got v u) r e f = absurd (bad≢got (sym e))
-judged-bad (bad u) r e f = ap bad (bad-same e)
-
-pub judged-got : {A B : Type 0} (x : Read A) (r : Text) (c : B) → forget x ≡ got tt r → after x (λ _ z. got c z) ≡ got c r
-judged-got (got v u) r c e = ap (λ (z : Text). got c z) (got-rest e)
-judged-got (bad u) r c e = absurd (bad≢got e)
+pub judged : {A B : Type 0} (x : Read A) (c : B) → after x (λ _ r. got c r) ≡ after (forget x) (λ _ r. got c r)
+judged (got v r) c = refl
+judged (bad r) c = refl

@@ -2,12 +2,12 @@
 -- what is in the table of elements.
 use mathlib.Core.Path.{◌≡◌, refl, sym, ap, ◌∙◌, subst}
 use mathlib.Core.List.{List, [], ◌∷◌}
-use mathlib.Core.Bool.{Bool, true, false, not, cond, false≢true, ◌&&◌}
+use mathlib.Core.Bool.{Bool, true, false, cond, false≢true, ◌&&◌}
 use Prim.Native.Nat.{ℕ, zero, suc, ◌+◌, ◌-◌, ◌/◌, ◌%◌, ◌<◌, ◌≤◌}
 use native.Mathlib.Omega.{arith}
 use lib.ListN.{length, drop, length-drop, drop_of_length-le}
 use lib.Seq.{drop-drop}
-use borrow.Author.Tests.{not-true, not-false}
+use Rattle.std.specs.Prelude.{Ok, Err}
 use Rattle.paper_opl.specs.Reading.{Text, Read, after, text, starts, expect, misc}
 use Rattle.paper_opl.specs.Reading.Read.{got, bad}
 use Rattle.paper_opl.specs.Elements.{elements_of, Child, Element, row_in, may_end}
@@ -16,15 +16,13 @@ use Rattle.paper_opl.specs.Tree.Elements.{nothing, node}
 use Rattle.paper_opl.proofs.Inversion.{bad≢got, got-rest, got-value}
 use Rattle.paper_opl.proofs.Conforms.{row-name}
 use Rattle.paper_opl.proofs.Counts.{below, attributes-below, misc-below, opening-below, element-below, content-enough, ready, attributes-ready}
-use Rattle.opl_text.specs.declared.Step.{Step}
-use Rattle.opl_text.specs.declared.Step.TheVariants.{Next, Bad}
-use Rattle.opl_text.specs.Steps.{Reads, step_of, place_of}
-use Rattle.opl_text.proofs.Laws.{bad-same, one-not, one-yes, starts-next}
-use Rattle.opl_reader.specs.declared.Start.{Start}
-use Rattle.opl_reader.specs.declared.Start.TheVariants.{Inner, Stop}
+use Rattle.opl_text.specs.declared.BadByte.{BadByte}
+use Rattle.opl_text.specs.Steps.{Reads, step_of}
+use Rattle.opl_text.proofs.Laws.{bad-same, starts-next}
 use Rattle.opl_table.specs.Numbers.{name_of, left_of}
-use Rattle.opl_reader.specs.Grammar.{forget, start_at, Opens, tagged, start_in, element_in, content_in, wider_by, deep_by}
-use Rattle.opl_reader.proofs.Chain.{moved, on-got, on-bad, forget-on}
+use Rattle.opl_reader.specs.declared.Start.{Start}
+use Rattle.opl_reader.specs.Grammar.{forget, Opens, tagged, start_in, element_in, content_in, wider_by, deep_by}
+use Rattle.opl_reader.proofs.Chain.{on-got, on-bad, forget-on, one_bad, one_got, one_room}
 
 -- ---- Readings without their values (`forget`).
 
@@ -67,8 +65,8 @@ body-forgets inner row gs s = go (starts (text ">") s)
 
 -- ---- The number that the code passes for depth and call, one element further in.
 
-pub inner-reads : (n id : ℕ) (s : Text) → 0 < deep_by n → element_in (wider_by (n - 2)) (deep_by (n - 2)) id s ≡ element_in (wider_by n) (deep_by n - 1) id s
-inner-reads n id s h =
+pub inner_reads : (n id : ℕ) (s : Text) → 0 < deep_by n → element_in (wider_by (n - 2)) (deep_by (n - 2)) id s ≡ element_in (wider_by n) (deep_by n - 1) id s
+inner_reads n id s h =
     let a : (n - 2) % 2 ≡ n % 2 = omega arith in
     let b : (n - 2) / 2 ≡ n / 2 - 1 = omega arith in
     rw (a, b)
@@ -150,218 +148,189 @@ module _ (all : Bool) where
       go (got b u) o e = at_once d b u o e
       go (bad u) o e = absurd (bad≢got e)
 
-  pub start-ready : (d : ℕ) (left : List Child) (t : Text) (c : Opened) (z : Text) → start_in all d left t ≡ got c z → 0 < length z
-  start-ready d left t c z e = (begun d left t c z e).ready-is
+  pub start_ready : (d : ℕ) (left : List Child) (t : Text) (c : Opened) (z : Text) → start_in all d left t ≡ got c z → 0 < length z
+  start_ready d left t c z e = (begun d left t c z e).ready-is
 
-  -- ---- Content.
+-- ---- Content. n is the code's number for depth and call.
 
-  -- An element at index k, in content that is read from i on: some depth is left, and k is past i and before the end of the text.
-  pub record Falls (s : Text) (d i k : ℕ) : Type 0 where
-    pub deep : 0 < d
-    pub room : k + 1 ≤ length s
-    pub past : i < k
+-- An element at index k, in content that is read from i on: some depth is left, and k is past i and before the end of the text.
+pub record Falls (s : Text) (n i k : ℕ) : Type 0 where
+  pub deep : 2 ≤ n
+  pub room : k + 1 ≤ length s
+  pub past : i < k
 
-  -- Content that is read on from n, after such an element.
-  pub record Onward (s : Text) (d id l i more n : ℕ) : Type 0 where
-    pub inside : n ≤ length s
-    pub past : i < n
-    pub rest : content_in all d id l (drop i s) ≡ content_in all d id more (drop n s)
+-- Content that is read on from k, after such an element.
+pub record Onward (s : Text) (n id l i more k : ℕ) : Type 0 where
+  pub inside : k ≤ length s
+  pub past : i < k
+  pub rest : content_in (wider_by n) (deep_by n) id l (drop i s) ≡ content_in (wider_by n) (deep_by n) id more (drop k s)
 
-  -- What a turn reads after white space and comments.
-  turn : ℕ → ℕ → ℕ → ℕ → Text → Read Elements
-  turn d id l n r =
-      cond (starts (text "</") r) (ending (name_of id) (left_of l) r)
-      (after (opening (left_of l) r) (λ c u. after (element (elements_of all) d c.name u) (λ e z.
-      after (content (element (elements_of all) d) n (name_of id) c.left z) (λ es y. got (node c.name e.given e.elements es) y))))
+-- What a turn reads after white space and comments.
+turn : Bool → ℕ → ℕ → ℕ → ℕ → Text → Read Elements
+turn all d id l n r =
+    cond (starts (text "</") r) (ending (name_of id) (left_of l) r)
+    (after (opening (left_of l) r) (λ c u. after (element (elements_of all) d c.name u) (λ e z.
+    after (content (element (elements_of all) d) n (name_of id) c.left z) (λ es y. got (node c.name e.given e.elements es) y))))
 
-  module _ (s : Text) (d id l i : ℕ) where
-    turns : content_in all d id l (drop i s) ≡ forget (after (misc (length (drop i s)) (drop i s)) (λ _ r. turn d id l (length (drop i s)) r))
-    unfolding content_in content turn
-    turns = refl
+pub end_room : (s : Text) (j : ℕ) → starts (60 ∷ []) (drop j s) && starts (47 ∷ []) (drop (j + 1) s) ≡ true → j + 2 ≤ length s
+end_room s j e =
+    let h = one_room 47 (j + 1) s (both (starts (60 ∷ []) (drop j s)) (starts (47 ∷ []) (drop (j + 1) s)) e).1 in
+    omega arith
 
-    pub at-end : length s ≤ i → bad (drop i s) ≡ content_in all d id l (drop i s)
-    unfolding content_in content misc opening expect starts text
-    at-end h = let e : drop i s ≡ [] = drop_of_length-le s h in rw e
+module _ (s : Text) (n id l i : ℕ) where
+  turns : content_in (wider_by n) (deep_by n) id l (drop i s) ≡
+      forget (after (misc (length (drop i s)) (drop i s)) (λ _ r. turn (wider_by n) (deep_by n) id l (length (drop i s)) r))
+  unfolding content_in content turn
+  turns = refl
 
-    module _ (m : Step) (q : Reads s (step_of s) (misc (length (drop i s)) (drop i s)) m) where
-      pub misc-refused : (p : ℕ) → m ≡ Bad p → Reads s (step_of s) (content_in all d id l (drop i s)) m
-      misc-refused p v = record { read_is = sym (turns ∙ rw (sym q.read_is, v)); inside = q.inside }
+  pub at_end : length s ≤ i → content_in (wider_by n) (deep_by n) id l (drop i s) ≡ bad (drop i s)
+  unfolding content_in content misc opening expect starts text
+  at_end h = let e : drop i s ≡ [] = drop_of_length-le s h in rw e
 
-      module _ (j : ℕ) (v : m ≡ Next j) where
-        passed : misc (length (drop i s)) (drop i s) ≡ got tt (drop j s)
-        passed = sym q.read_is ∙ rw v
+  pub misc_refused : (e : BadByte) → Reads s (step_of s) (misc (length (drop i s)) (drop i s)) (Err e) →
+      content_in (wider_by n) (deep_by n) id l (drop i s) ≡ bad (drop e.at s)
+  misc_refused e q = turns ∙ rw (sym q.read_is)
 
-        pub misc-inside : j ≤ length s
-        misc-inside = subst (λ (k : Step). place_of k ≤ length s) v q.inside
+  module _ (j : ℕ) (q : Reads s (step_of s) (misc (length (drop i s)) (drop i s)) (Ok j)) where
+    here : content_in (wider_by n) (deep_by n) id l (drop i s) ≡ forget (turn (wider_by n) (deep_by n) id l (length (drop i s)) (drop j s))
+    here = turns ∙ rw (sym q.read_is)
 
-        here : content_in all d id l (drop i s) ≡ forget (turn d id l (length (drop i s)) (drop j s))
-        here = turns ∙ rw passed
+    tag : starts (text "</") (drop j s) ≡ starts (60 ∷ []) (drop j s) && starts (47 ∷ []) (drop (j + 1) s)
+    unfolding text
+    tag = starts-next 60 (47 ∷ []) s j
 
-        module _ (x y : Bool) (p : x ≡ starts (60 ∷ []) (drop j s)) (w : y ≡ starts (47 ∷ []) (drop (j + 1) s)) where
-          tag : starts (text "</") (drop j s) ≡ x && y
-          unfolding text
-          tag = starts-next 60 (47 ∷ []) s j ∙ rw (sym p, sym w)
+    pub at_end_tag : starts (60 ∷ []) (drop j s) && starts (47 ∷ []) (drop (j + 1) s) ≡ true →
+        content_in (wider_by n) (deep_by n) id l (drop i s) ≡ forget (ending (name_of id) (left_of l) (drop j s))
+    unfolding turn
+    at_end_tag e = here ∙ rw (tag, e)
 
-          pub end-room : x && y ≡ true → j + 2 ≤ length s
-          end-room e =
-              let a = (one-yes 60 (drop j s) (sym p ∙ (both x y e).0)).1 in
-              let b = (one-yes 47 (drop (j + 1) s) (sym w ∙ (both x y e).1)).1 in
-              let c = length-drop (j + 1) s in
+    module _ (e : starts (60 ∷ []) (drop j s) && starts (47 ∷ []) (drop (j + 1) s) ≡ false) where
+      opened : content_in (wider_by n) (deep_by n) id l (drop i s) ≡
+          forget (after (opening (left_of l) (drop j s)) (λ c u. after (element (elements_of (wider_by n)) (deep_by n) c.name u) (λ e z.
+          after (content (element (elements_of (wider_by n)) (deep_by n)) (length (drop i s)) (name_of id) c.left z)
+          (λ es y. got (node c.name e.given e.elements es) y))))
+      unfolding turn
+      opened = here ∙ rw (tag, e)
+
+      pub stopped : (b : BadByte) → Opens s (start_in (wider_by n) (deep_by n) (left_of l) (drop j s)) (Err b) →
+          content_in (wider_by n) (deep_by n) id l (drop i s) ≡ bad (drop b.at s)
+      stopped b a =
+          opened ∙ start-bad (wider_by n) (deep_by n) (left_of l) (drop j s) (drop b.at s) (sym a.read_is) (λ c e z.
+          after (content (element (elements_of (wider_by n)) (deep_by n)) (length (drop i s)) (name_of id) c.left z)
+          (λ es y. got (node c.name e.given e.elements es) y))
+
+      module _ (start : Start) (a : Opens s (start_in (wider_by n) (deep_by n) (left_of l) (drop j s)) (Ok start)) where
+        tag_read : Begun (wider_by n) (deep_by n) (left_of l) (drop j s) (record { name = name_of start.id; left = left_of start.left }) (drop start.end s)
+        tag_read =
+            begun (wider_by n) (deep_by n) (left_of l) (drop j s) (record { name = name_of start.id; left = left_of start.left }) (drop start.end s)
+            (sym a.read_is)
+
+        -- The text behind the name of the tag is shorter than that at i.
+        behind-shorter : suc (length tag_read.behind) ≤ length (drop i s)
+        behind-shorter =
+            let f =
+            below-got (misc (length (drop i s)) (drop i s)) tt (drop j s) (suc (length (drop i s))) (misc-below (length (drop i s)) (drop i s))
+            (sym q.read_is) in
+            let g =
+            below-got (opening (left_of l) (drop j s)) (record { name = name_of start.id; left = left_of start.left }) tag_read.behind (length (drop j s))
+            (opening-below (left_of l) (drop j s)) tag_read.opened-is in
+            omega arith
+
+        -- The element in the content is read with less depth and less text left.
+        pub falls : Falls s n i start.end
+        falls =
+            let d = tag_read.deep in
+            let h = tag_read.ready-is in
+            let k = tag_read.shorter-is in
+            let r = behind-shorter in
+            let u = length-drop start.end s in
+            let v = length-drop i s in
+            record { deep = omega arith; room = omega arith; past = omega arith }
+
+        inner : content_in (wider_by n) (deep_by n) id l (drop i s) ≡
+            forget (after (element (elements_of (wider_by n)) (deep_by n) (name_of start.id) tag_read.behind) (λ e z.
+            after (content (element (elements_of (wider_by n)) (deep_by n)) (length (drop i s)) (name_of id) (left_of start.left) z)
+            (λ es y. got (node (name_of start.id) e.given e.elements es) y)))
+        inner = opened ∙ rw tag_read.opened-is
+
+        judged : forget (element (elements_of (wider_by n)) (deep_by n) (name_of start.id) tag_read.behind) ≡
+            element_in (wider_by (n - 2)) (deep_by (n - 2)) start.id (drop start.end s)
+        unfolding element_in
+        judged = tag_read.body_is ∙ sym (inner_reads n start.id (drop start.end s) tag_read.deep)
+
+        pub refused : (b : BadByte) → Reads s (step_of s) (element_in (wider_by (n - 2)) (deep_by (n - 2)) start.id (drop start.end s)) (Err b) →
+            content_in (wider_by n) (deep_by n) id l (drop i s) ≡ bad (drop b.at s)
+        refused b r =
+            inner ∙
+            on-bad (element (elements_of (wider_by n)) (deep_by n) (name_of start.id) tag_read.behind) (drop b.at s) (judged ∙ sym r.read_is) (λ e z.
+            after (content (element (elements_of (wider_by n)) (deep_by n)) (length (drop i s)) (name_of id) (left_of start.left) z)
+            (λ es y. got (node (name_of start.id) e.given e.elements es) y))
+
+        module _ (k : ℕ) (r : Reads s (step_of s) (element_in (wider_by (n - 2)) (deep_by (n - 2)) start.id (drop start.end s)) (Ok k)) where
+          read : forget (element (elements_of (wider_by n)) (deep_by n) (name_of start.id) tag_read.behind) ≡ got tt (drop k s)
+          read = judged ∙ sym r.read_is
+
+          -- The text after the element is shorter.
+          shorter : length (drop k s) < length (drop i s)
+          shorter =
+              let f = behind-shorter in
+              let h =
+              below-forget (element (elements_of (wider_by n)) (deep_by n) (name_of start.id) tag_read.behind) (drop k s) (suc (length tag_read.behind))
+              (element-below (elements_of (wider_by n)) (deep_by n) (name_of start.id) tag_read.behind) read in
               omega arith
 
-          pub at-end-tag : x && y ≡ true → (r : Step) → Reads s (step_of s) (forget (ending (name_of id) (left_of l) (drop j s))) r →
-              Reads s (step_of s) (content_in all d id l (drop i s)) r
-          unfolding turn
-          at-end-tag e r a = record { read_is = a.read_is ∙ sym (here ∙ rw (tag, e)); inside = a.inside }
+          goes_on : content_in (wider_by n) (deep_by n) id l (drop i s) ≡ content_in (wider_by n) (deep_by n) id start.left (drop k s)
+          unfolding content_in
+          goes_on =
+              inner ∙ on-got (element (elements_of (wider_by n)) (deep_by n) (name_of start.id) tag_read.behind) (drop k s) read (λ e z.
+              after (content (element (elements_of (wider_by n)) (deep_by n)) (length (drop i s)) (name_of id) (left_of start.left) z)
+              (λ es y. got (node (name_of start.id) e.given e.elements es) y))
+              (forget (content (element (elements_of (wider_by n)) (deep_by n)) (suc (length (drop k s))) (name_of id) (left_of start.left) (drop k s)))
+              (λ e _. forget-on (content (element (elements_of (wider_by n)) (deep_by n)) (length (drop i s)) (name_of id) (left_of start.left) (drop k s))
+              (λ es. node (name_of start.id) e.given e.elements es)
+              ∙ ap (λ x. forget x) (content-enough (element (elements_of (wider_by n)) (deep_by n)) (element-below (elements_of (wider_by n)) (deep_by n))
+              (length (drop i s)) (suc (length (drop k s))) (name_of id) (left_of start.left) (drop k s) shorter (omega arith)))
 
-          module _ (e : x && y ≡ false) (o : Start) (a : Opens s (start_in all d (left_of l) (drop j s)) o) where
-            opened : forget (turn d id l (length (drop i s)) (drop j s)) ≡
-                forget (after (opening (left_of l) (drop j s)) (λ c u. after (element (elements_of all) d c.name u) (λ e z.
-                after (content (element (elements_of all) d) (length (drop i s)) (name_of id) c.left z)
-                (λ es y. got (node c.name e.given e.elements es) y))))
-            unfolding turn
-            opened = rw (tag, e)
+          pub onward : Onward s n id l i start.left k
+          onward =
+              let f = shorter in
+              let u = length-drop k s in
+              let v = length-drop i s in
+              let inside : k ≤ length s = r.inside in
+              record { inside = inside; past = omega arith; rest = goes_on }
 
-            pub stopped : (k : ℕ) → o ≡ Stop k → Reads s (step_of s) (content_in all d id l (drop i s)) (Bad k)
-            stopped k z = record {
-              read_is = sym (here ∙ opened ∙ start-bad d (left_of l) (drop j s) (drop k s) (sym a.read_is ∙ rw z) (λ c e z.
-                  after (content (element (elements_of all) d) (length (drop i s)) (name_of id) c.left z)
-                  (λ es y. got (node c.name e.given e.elements es) y)));
-              inside = subst (λ (k : Start). start_at k ≤ length s) z a.inside;
-            }
+-- ---- An element, from the end of its start tag on.
 
-            module _ (k child more : ℕ) (z : o ≡ Inner k child more) where
-              start : Begun d (left_of l) (drop j s) (record { name = name_of child; left = left_of more }) (drop k s)
-              start = begun d (left_of l) (drop j s) (record { name = name_of child; left = left_of more }) (drop k s) (sym a.read_is ∙ rw z)
+module _ (all : Bool) (s : Text) (at d id left : ℕ) (c : left_of left ≡ (row_in (elements_of all) (name_of id)).children) where
+  pub with_content : at + 1 ≤ length s → starts (62 ∷ []) (drop at s) ≡ true → element_in all d id (drop at s) ≡ content_in all d id left (drop (at + 1) s)
+  unfolding content_in element_in text
+  with_content room e =
+      let l = length-drop at s in
+      let m = length-drop (at + 1) s in
+      let n : length (drop at s) ≡ suc (length (drop (at + 1) s)) = omega arith in
+      rw e
+      (forget-on (content (element (elements_of all) d) (length (drop at s)) (row_in (elements_of all) (name_of id)).name
+      (row_in (elements_of all) (name_of id)).children (drop 1 (drop at s)))
+      (λ es. record { given = []; elements = es })
+      ∙ rw (n, row-name (elements_of all) (name_of id), sym c, drop-drop 1 at s))
 
-              start-room : k + 1 ≤ length s
-              start-room = let h = start.ready-is in let u = length-drop k s in omega arith
+  module _ (e : starts (62 ∷ []) (drop at s) ≡ false) where
+    pub slash_cut : starts (62 ∷ []) (drop (at + 1) s) ≡ false → element_in all d id (drop at s) ≡ bad (drop (at + 1) s)
+    unfolding text element_in
+    slash_cut h = rw (e, drop-drop 1 at s, one_bad 62 (at + 1) s h)
 
-              start-past : i < k
-              start-past =
-                  let f =
-                  below-got (misc (length (drop i s)) (drop i s)) tt (drop j s) (suc (length (drop i s))) (misc-below (length (drop i s)) (drop i s)) passed in
-                  let g =
-                  below-got (opening (left_of l) (drop j s)) (record { name = name_of child; left = left_of more }) start.behind (length (drop j s))
-                  (opening-below (left_of l) (drop j s)) start.opened-is in
-                  let h = start.shorter-is in
-                  let r = start-room in
-                  let u = length-drop k s in
-                  let v = length-drop i s in
-                  omega arith
-
-              -- The element in the content is read with less depth and less text left.
-              pub falls : Falls s d i k
-              falls = record { deep = start.deep; room = start-room; past = start-past }
-
-              inner : content_in all d id l (drop i s) ≡ forget (after (element (elements_of all) d (name_of child) start.behind) (λ e z.
-                  after (content (element (elements_of all) d) (length (drop i s)) (name_of id) (left_of more) z)
-                  (λ es y. got (node (name_of child) e.given e.elements es) y)))
-              inner = here ∙ opened ∙ rw start.opened-is
-
-              module _ (r : Step) (m₀ : ℕ) (w₀ : wider_by m₀ ≡ all) (d₀ : deep_by m₀ ≡ d)
-                  (b₀ : Reads s (step_of s) (element_in (wider_by (m₀ - 2)) (deep_by (m₀ - 2)) child (drop k s)) r) where
-                b : Reads s (step_of s) (element_in all (d - 1) child (drop k s)) r
-                b =
-                    let h = start.deep in
-                    let e : element_in (wider_by (m₀ - 2)) (deep_by (m₀ - 2)) child (drop k s) ≡ element_in all (d - 1) child (drop k s) =
-                    inner-reads m₀ child (drop k s) (omega arith) ∙ rw (w₀, d₀) in
-                    moved (sym e) b₀
-
-                judged : forget (element (elements_of all) d (name_of child) start.behind) ≡ step_of s r
-                unfolding element_in
-                judged = start.body_is ∙ sym b.read_is
-
-                pub refused : (n : ℕ) → r ≡ Bad n → Reads s (step_of s) (content_in all d id l (drop i s)) r
-                refused n c = record {
-                  read_is =
-                      ap (λ (x : Step). step_of s x) c ∙ sym (inner ∙
-                      on-bad (element (elements_of all) d (name_of child) start.behind) (drop n s) (judged ∙ rw c) (λ e z.
-                      after (content (element (elements_of all) d) (length (drop i s)) (name_of id) (left_of more) z)
-                      (λ es y. got (node (name_of child) e.given e.elements es) y)));
-                  inside = b.inside;
-                }
-
-                module _ (n : ℕ) (c : r ≡ Next n) where
-                  read : forget (element (elements_of all) d (name_of child) start.behind) ≡ got tt (drop n s)
-                  read = judged ∙ rw c
-
-                  on-inside : n ≤ length s
-                  on-inside = subst (λ (k : Step). place_of k ≤ length s) c b.inside
-
-                  -- The text after the element is shorter.
-                  shorter : length (drop n s) < length (drop i s)
-                  shorter =
-                      let f =
-                      below-got (misc (length (drop i s)) (drop i s)) tt (drop j s) (suc (length (drop i s))) (misc-below (length (drop i s)) (drop i s))
-                      passed in
-                      let g =
-                      below-got (opening (left_of l) (drop j s)) (record { name = name_of child; left = left_of more }) start.behind (length (drop j s))
-                      (opening-below (left_of l) (drop j s)) start.opened-is in
-                      let h =
-                      below-forget (element (elements_of all) d (name_of child) start.behind) (drop n s) (suc (length start.behind))
-                      (element-below (elements_of all) d (name_of child) start.behind) read in
-                      omega arith
-
-                  past : i < n
-                  past = let h = shorter in let u = length-drop n s in let v = length-drop i s in let o = on-inside in omega arith
-
-                  goes_on : content_in all d id l (drop i s) ≡ content_in all d id more (drop n s)
-                  unfolding content_in
-                  goes_on =
-                      inner ∙ on-got (element (elements_of all) d (name_of child) start.behind) (drop n s) read (λ e z.
-                      after (content (element (elements_of all) d) (length (drop i s)) (name_of id) (left_of more) z)
-                      (λ es y. got (node (name_of child) e.given e.elements es) y))
-                      (forget (content (element (elements_of all) d) (suc (length (drop n s))) (name_of id) (left_of more) (drop n s)))
-                      (λ e _. forget-on (content (element (elements_of all) d) (length (drop i s)) (name_of id) (left_of more) (drop n s))
-                      (λ es. node (name_of child) e.given e.elements es)
-                      ∙ ap (λ x. forget x) (content-enough (element (elements_of all) d) (element-below (elements_of all) d) (length (drop i s))
-                      (suc (length (drop n s))) (name_of id)
-                      (left_of more) (drop n s) shorter (omega arith)))
-
-                  pub onward : Onward s d id l i more n
-                  onward = record { inside = on-inside; past = past; rest = goes_on }
-
-  -- ---- An element, from the end of its start tag on.
-
-  module _ (s : Text) (at d id : ℕ) (room : at + 1 ≤ length s) (left : ℕ) (c : left_of left ≡ (row_in (elements_of all) (name_of id)).children) (x : Bool)
-      (p : x ≡ starts (62 ∷ []) (drop at s)) where
-    opens : starts (text ">") (drop at s) ≡ x
-    unfolding text
-    opens = sym p
-
-    pub with-content : x ≡ true → (r : Step) → Reads s (step_of s) (content_in all d id left (drop (at + 1) s)) r →
-        Reads s (step_of s) (element_in all d id (drop at s)) r
-    unfolding content_in element_in
-    with-content e r a =
-        let l = length-drop at s in
-        let m = length-drop (at + 1) s in
-        let n : length (drop at s) ≡ suc (length (drop (at + 1) s)) = omega arith in
-        record {
-          read_is = a.read_is ∙ sym (rw (opens, e)
-              (forget-on (content (element (elements_of all) d) (length (drop at s)) (row_in (elements_of all) (name_of id)).name
-              (row_in (elements_of all) (name_of id)).children (drop 1 (drop at s)))
-              (λ es. record { given = []; elements = es })
-              ∙ rw (n, row-name (elements_of all) (name_of id), sym c, drop-drop 1 at s)));
-          inside = a.inside;
-        }
-
-    module _ (e : x ≡ false) (y : Bool) (w : y ≡ starts (62 ∷ []) (drop (at + 1) s)) where
-      pub slash-cut : not y ≡ true → bad (drop (at + 1) s) ≡ element_in all d id (drop at s)
+    module _ (h : starts (62 ∷ []) (drop (at + 1) s) ≡ true) where
+      pub slash_early : may_end (left_of left) ≡ false → element_in all d id (drop at s) ≡ bad (drop at s)
       unfolding text element_in
-      slash-cut h = sym (rw (sym p, e, drop-drop 1 at s, one-not 62 (drop (at + 1) s) (sym w ∙ not-true y h)))
+      slash_early k = rw (e, drop-drop 1 at s, one_got 62 (at + 1) s h, sym c, k)
 
-      module _ (h : not y ≡ false) (b : Bool) (z : b ≡ may_end (left_of left)) where
-        pub slash-early : not b ≡ true → bad (drop at s) ≡ element_in all d id (drop at s)
-        unfolding text element_in
-        slash-early k = sym (rw (sym p, e, drop-drop 1 at s, (one-yes 62 (drop (at + 1) s) (sym w ∙ not-false y h)).0, sym c, sym z, not-true b k))
+      pub slash_done : may_end (left_of left) ≡ true → element_in all d id (drop at s) ≡ got tt (drop (at + 2) s)
+      unfolding text element_in
+      slash_done k =
+          let j : at + 1 + 1 ≡ at + 2 = omega arith in
+          rw (e, drop-drop 1 at s, one_got 62 (at + 1) s h, sym c, k, j)
 
-        pub slash-done : not b ≡ false → got tt (drop (at + 2) s) ≡ element_in all d id (drop at s)
-        unfolding text element_in
-        slash-done k =
-            let j : at + 1 + 1 ≡ at + 2 = omega arith in
-            sym
-            (rw (sym p, e, drop-drop 1 at s, (one-yes 62 (drop (at + 1) s) (sym w ∙ not-false y h)).0, sym c, sym z, not-false b k, drop-drop 1 (at + 1) s, j))
+-- What `content` and `element` need.
+pub ruleset content_steps = (at_end, misc_refused, at_end_tag, end_room, stopped, falls, refused, onward)
 
-        pub slash-room : at + 2 ≤ length s
-        slash-room = let o = (one-yes 62 (drop (at + 1) s) (sym w ∙ not-false y h)).1 in let l = length-drop (at + 1) s in omega arith
+pub ruleset element_steps = (with_content, slash_cut, slash_early, slash_done, one_room)

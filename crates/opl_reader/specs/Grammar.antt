@@ -1,14 +1,15 @@
 -- What the results of the readers of attributes, tags, elements and contents mean in paper_opl's definitions. The code only judges; it keeps nothing.
-use Rattle.std.specs.Prelude.{ℕ, zero, suc, ◌-◌, ◌/◌, ◌%◌, ◌≤◌, ◌≡◌, Bool, cond, List, [], eqb, length, drop}
+use Rattle.std.specs.Prelude.{ℕ, zero, suc, ◌-◌, ◌/◌, ◌%◌, ◌≤◌, ◌≡◌, Bool, cond, List, [], eqb, length, drop, Result, Ok, Err}
 use Rattle.paper_opl.specs.Reading.{Text, text, Read, after, same, starts, expect, space, misc, equals, value}
 use Rattle.paper_opl.specs.Reading.Read.{got, bad}
 use Rattle.paper_opl.specs.Elements.{Class, Attribute, Child, elements_of, row_in}
 use Rattle.paper_opl.specs.Tree.{Opened, fits, without, attribute, attributes, opening, content, body, element, is_version, is_encoding, is_standalone, doctype}
 use Rattle.opl_table.specs.Numbers.{name_of, left_of, list_of}
+use Rattle.opl_text.specs.declared.BadByte.{BadByte}
 use Rattle.opl_reader.specs.declared.Taken.{Taken}
-use Rattle.opl_reader.specs.declared.Taken.TheVariants.{Behind, Refused}
 use Rattle.opl_reader.specs.declared.Start.{Start}
-use Rattle.opl_reader.specs.declared.Start.TheVariants.{Inner, Stop}
+use Rattle.opl_reader.specs.declared.Part.{Part}
+use Rattle.opl_reader.specs.declared.Part.TheVariants.{Version, Encoding, Standalone}
 
 -- A result without the value that was read.
 abbrev pub forget : {A : Type 0} → Read A → Read (Unit {0})
@@ -37,35 +38,35 @@ strange t s = after (equals s) (λ _ u. after (value u) (λ _ _. bad t))
 unfoldable pub attributes_read : List Attribute → Text → Read (Unit {0})
 attributes_read left s = forget (attributes (length s) left s)
 
--- The meaning of a `Taken`.
-abbrev pub taken_of : Text → Taken → Read (List Attribute)
-taken_of s (Behind i more) = got (list_of more) (drop i s)
-taken_of s (Refused i) = bad (drop i s)
+-- The meaning of a result with a `Taken`.
+abbrev pub taken_of : Text → Result Taken BadByte → Read (List Attribute)
+taken_of s (Ok taken) = got (list_of taken.list) (drop taken.next s)
+taken_of s (Err e) = bad (drop e.at s)
 
--- The index in a `Taken`.
-abbrev pub taken_at : Taken → ℕ
-taken_at (Behind i more) = i
-taken_at (Refused i) = i
+-- The index in it.
+abbrev pub taken_at : Result Taken BadByte → ℕ
+taken_at (Ok taken) = taken.next
+taken_at (Err e) = e.at
 
 -- The code's result means what the definition reads, and its index is not past the end.
-pub record Takes (s : Text) (read : Read (List Attribute)) (r : Taken) : Type 0 where
+pub record Takes (s : Text) (read : Read (List Attribute)) (r : Result Taken BadByte) : Type 0 where
   pub read_is : taken_of s r ≡ read
   pub inside : taken_at r ≤ length s
 
 -- ---- The start of an element.
 
--- The meaning of a `Start`.
-abbrev pub opened_of : Text → Start → Read Opened
-opened_of s (Inner i id left) = got (record { name = name_of id; left = left_of left }) (drop i s)
-opened_of s (Stop i) = bad (drop i s)
+-- The meaning of a result with a `Start`.
+abbrev pub opened_of : Text → Result Start BadByte → Read Opened
+opened_of s (Ok start) = got (record { name = name_of start.id; left = left_of start.left }) (drop start.end s)
+opened_of s (Err e) = bad (drop e.at s)
 
--- The index in a `Start`.
-abbrev pub start_at : Start → ℕ
-start_at (Inner i id left) = i
-start_at (Stop i) = i
+-- The index in it.
+abbrev pub start_at : Result Start BadByte → ℕ
+start_at (Ok start) = start.end
+start_at (Err e) = e.at
 
 -- The code's result means what the definition reads, and its index is not past the end.
-pub record Opens (s : Text) (read : Read Opened) (r : Start) : Type 0 where
+pub record Opens (s : Text) (read : Read Opened) (r : Result Start BadByte) : Type 0 where
   pub read_is : opened_of s r ≡ read
   pub inside : start_at r ≤ length s
 
@@ -129,11 +130,11 @@ content_read n id left s = content_in (wider_by n) (deep_by n) id left s
 unfoldable pub spaced_read : Text → Text → Read (Unit {0})
 spaced_read w s = after (space s) (λ _ r. expect w r)
 
--- Whether a value is allowed in the XML declaration: 0 as the version, 1 as the encoding, 2 as `standalone`.
-abbrev pub may_stand : ℕ → Text → Bool
-may_stand zero = is_version
-may_stand (suc zero) = is_encoding
-may_stand (suc (suc n)) = is_standalone
+-- Whether a value is allowed in this part of the XML declaration.
+abbrev pub may_stand : Part → Text → Bool
+may_stand Version = is_version
+may_stand Encoding = is_encoding
+may_stand Standalone = is_standalone
 
 -- Reads an optional DOCTYPE, and the white space and comments after it.
 unfoldable pub typed_read : Text → Read (Unit {0})

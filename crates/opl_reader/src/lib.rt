@@ -11,38 +11,40 @@ ghost use Rattle.opl_text.specs.Steps.{From, Reads, step_of};
 ghost use Rattle.opl_table.specs.Numbers.{name_of, left_of, list_of, class_of};
 ghost use Rattle.opl_reader.specs.Grammar.{forget, classed, valued, remaining, attributes_read, Takes, Opens, Deepest, tagged_read, start_read, element_read, content_read, spaced_read, may_stand, typed_read, root_read, strange};
 
-use opl_table::Found;
-use opl_text::Step;
+use opl_text::{BadByte, Step};
 
-// After an attribute: the index, and the list of attributes that may still be given; or the index of a refusal.
-#[derive(Clone, Copy)]
-pub enum Taken {
-    Behind(usize, u64),
-    Refused(usize),
+// What follows an attribute: the index of the next byte, and the list of attributes that may still be given.
+#[derive(Clone, Copy, PartialEq, Eq)]
+pub struct Taken {
+    pub next: usize,
+    pub list: u64,
 }
 
-// After the start of an element: the index, the element's number, and the state after it; or the index of a refusal.
-#[derive(Clone, Copy)]
-pub enum Start {
-    Inner(usize, u64, u64),
-    Stop(usize),
+// The start of an element: the index where it ends, the element's number, and the state after the element.
+#[derive(Clone, Copy, PartialEq, Eq)]
+pub struct Start {
+    pub end: usize,
+    pub id: u64,
+    pub left: u64,
 }
 
-// A byte as a wider number, with its bound for the proofs.
-fn wide(b: u8) -> u64
-    ensures { (result ≡ b) × (result ≤ 255) }
-{
-    b as u64
+// A part of the XML declaration that has a value.
+#[derive(Clone, Copy, PartialEq, Eq)]
+enum Part {
+    Version,
+    Encoding,
+    Standalone,
 }
 
 // Whether a byte is a decimal digit.
-fn digit(b: u64) -> bool
+fn digit(b: u8) -> bool
     ensures { result ≡ digitOf b }
 {
     (48 <= b) & (b <= 57)
 }
 
 // Whether a value is a number up to 255.
+#[tactic(auto, using(crate::proofs::Numbers::number_steps))]
 fn is_number(v: &[u8]) -> bool
     ensures { result ≡ fits_of number v.now }
 {
@@ -50,22 +52,20 @@ fn is_number(v: &[u8]) -> bool
         return false;
     }
     let mut n: u64 = 0;
-    let mut i = 0;
-    while i < v.len() {
-        let b = wide(v[i]);
-        if !digit(b) {
+    for b in v {
+        if !digit(*b) {
             return false;
         }
-        n = 10 * n + (b - 48);
+        n = 10 * n + u64::from(*b - 48);
         if 255 < n {
             return false;
         }
-        i += 1;
     }
     true
 }
 
 // Whether a value fits the class of its attribute.
+#[tactic(auto, using(crate::proofs::Numbers::empty_is, crate::proofs::Numbers::fits_any))]
 fn of_class(class: u64, v: &[u8]) -> bool
     ensures { result ≡ fits_of (class_of class) v.now }
 {
@@ -77,83 +77,70 @@ fn of_class(class: u64, v: &[u8]) -> bool
 }
 
 // Reads white space of at least one byte.
+#[tactic(auto, using(crate::proofs::Chain::space_not, crate::proofs::Chain::space_yes))]
 pub fn space(s: &[u8], at: usize) -> Step
     requires { at ≤ length s.now }
     ensures { Reads s.now (step_of s.now) (space_of (drop at s.now)) result }
 {
     let i = opl_text::skip_space(s, at);
     if i == at {
-        return Step::Bad(at);
+        return Err(BadByte { at });
     }
-    Step::Next(i)
+    Ok(i)
 }
 
 // Reads a value and judges it by its class; `more` is the attribute list after it.
-fn class_value(s: &[u8], at: usize, class: u64, more: u64) -> Taken
+#[tactic(auto, using(crate::proofs::Chain::value_inside, crate::proofs::Chain::drop_one), unfolding(crate::specs::Grammar::classed))]
+fn class_value(s: &[u8], at: usize, class: u64, more: u64) -> Result<Taken, BadByte>
     requires { at ≤ length s.now }
     ensures { Takes s.now (classed (class_of class) (list_of more) (drop at s.now)) result }
 {
-    let e = opl_text::read_value(s, at);
-    match e {
-        Step::Bad(p) => Taken::Refused(p),
-        Step::Next(end) => {
-            if !of_class(class, opl_text::quoted(s, at, end)) {
-                return Taken::Refused(at + 1);
-            }
-            Taken::Behind(end + 1, more)
-        }
+    let end = opl_text::read_value(s, at)?;
+    if !of_class(class, opl_text::quoted(s, at, end)) {
+        return Err(BadByte { at: at + 1 });
     }
+    Ok(Taken {
+        next: end + 1,
+        list: more,
+    })
 }
 
 // The same with the "=" before the value.
-fn attribute_value(s: &[u8], at: usize, class: u64, more: u64) -> Taken
+#[tactic(auto, unfolding(crate::specs::Grammar::valued))]
+fn attribute_value(s: &[u8], at: usize, class: u64, more: u64) -> Result<Taken, BadByte>
     requires { at ≤ length s.now }
     ensures { Takes s.now (valued (class_of class) (list_of more) (drop at s.now)) result }
 {
-    let q = opl_text::equals(s, at);
-    match q {
-        Step::Bad(p) => Taken::Refused(p),
-        Step::Next(u) => class_value(s, u, class, more),
-    }
+    let value = opl_text::equals(s, at)?;
+    class_value(s, value, class, more)
 }
 
 // Reads "=" and the value of an attribute that is not allowed, whose name is at `name`. It is refused there, after its whole value has been read.
-fn strange_value(s: &[u8], at: usize, name: usize) -> Taken
+#[tactic(auto, unfolding(crate::specs::Grammar::strange))]
+fn strange_value(s: &[u8], at: usize, name: usize) -> Result<Taken, BadByte>
     requires { (at ≤ length s.now) × (name ≤ length s.now) }
     ensures { Takes s.now (strange (drop name s.now) (drop at s.now)) result }
 {
-    let q = opl_text::equals(s, at);
-    match q {
-        Step::Bad(p) => Taken::Refused(p),
-        Step::Next(u) => {
-            let v = opl_text::read_value(s, u);
-            match v {
-                Step::Bad(p) => Taken::Refused(p),
-                Step::Next(_end) => Taken::Refused(name),
-            }
-        }
-    }
+    let value = opl_text::equals(s, at)?;
+    opl_text::read_value(s, value)?;
+    Err(BadByte { at: name })
 }
 
 // Reads an attribute, of those that `list` allows.
-pub fn attribute(s: &[u8], at: usize, list: u64) -> Taken
+#[tactic(auto, using(crate::proofs::Attributes::remains, crate::proofs::Chain::name_room))]
+pub fn attribute(s: &[u8], at: usize, list: u64) -> Result<Taken, BadByte>
     requires { at ≤ length s.now }
     ensures { Takes s.now (remaining (list_of list) (drop at s.now)) result }
 {
-    let n = opl_text::read_name(s, at);
-    match n {
-        Step::Bad(p) => Taken::Refused(p),
-        Step::Next(e) => {
-            let found = opl_table::attribute(opl_text::part(s, at, e), list);
-            match found {
-                Found::Unknown => strange_value(s, e, at),
-                Found::Known(class, more) => attribute_value(s, e, class, more),
-            }
-        }
+    let end = opl_text::read_name(s, at)?;
+    match opl_table::attribute(opl_text::part(s, at, end), list) {
+        Some(known) => attribute_value(s, end, known.number, known.after),
+        None => strange_value(s, end, at),
     }
 }
 
 // Reads attributes up to the "/" or ">" that ends the start tag. There no required attribute may be missing.
+#[tactic(auto, using(crate::proofs::Attributes::tag_steps))]
 fn attributes_end(s: &[u8], at: usize, list: u64) -> Step
     requires { at ≤ length s.now }
     ensures { Reads s.now (step_of s.now) (attributes_read (list_of list) (drop at s.now)) result }
@@ -164,25 +151,18 @@ fn attributes_end(s: &[u8], at: usize, list: u64) -> Step
         let j = opl_text::skip_space(s, i);
         if opl_text::is_at(s, j, 62) | opl_text::is_at(s, j, 47) {
             if opl_table::missing(l) {
-                return Step::Bad(j);
+                return Err(BadByte { at: j });
             }
-            return Step::Next(j);
+            return Ok(j);
         }
         if j == i {
-            return Step::Bad(i);
+            return Err(BadByte { at: i });
         }
-        let a = attribute(s, j, l);
-        match a {
-            Taken::Refused(p) => {
-                return Step::Bad(p);
-            }
-            Taken::Behind(k, more) => {
-                i = k;
-                l = more;
-            }
-        }
+        let taken = attribute(s, j, l)?;
+        i = taken.next;
+        l = taken.list;
     }
-    Step::Bad(i)
+    Err(BadByte { at: i })
 }
 
 // Reads the attributes of an element, in the table of the call.
@@ -205,77 +185,75 @@ fn deepest(all: bool) -> usize
 }
 
 // Reads the "<" and name of an element at `at`, of those that the state `left` allows.
-fn named(s: &[u8], at: usize, left: u64) -> Start
+#[tactic(auto, using(crate::proofs::Tags::named_steps))]
+fn named(s: &[u8], at: usize, left: u64) -> Result<Start, BadByte>
     requires { at ≤ length s.now }
     ensures { Opens s.now (openingOf (left_of left) (drop at s.now)) result }
 {
     if !opl_text::is_at(s, at, 60) {
-        return Start::Stop(at);
+        return Err(BadByte { at });
     }
     if opl_text::is_at(s, at + 1, 33) | opl_text::is_at(s, at + 1, 63) {
-        return Start::Stop(at);
+        return Err(BadByte { at });
     }
-    let n = opl_text::read_name(s, at + 1);
-    match n {
-        Step::Bad(p) => Start::Stop(p),
-        Step::Next(e) => {
-            let found = opl_table::next(opl_text::part(s, at + 1, e), left);
-            match found {
-                Found::Unknown => Start::Stop(at),
-                Found::Known(id, more) => Start::Inner(e, id, more),
-            }
-        }
+    let end = opl_text::read_name(s, at + 1)?;
+    match opl_table::next(opl_text::part(s, at + 1, end), left) {
+        Some(known) => Ok(Start {
+            end,
+            id: known.number,
+            left: known.after,
+        }),
+        None => Err(BadByte { at }),
     }
 }
 
 // Reads the rest of a start tag after its name, up to the "/" or ">" that ends it.
-fn tagged(s: &[u8], at: usize, d: usize, id: u64, more: u64) -> Start
+#[tactic(auto, using(crate::proofs::Tags::tag_deep, crate::proofs::Tags::tag_is))]
+fn tagged(s: &[u8], at: usize, d: usize, id: u64, more: u64) -> Result<Start, BadByte>
     requires { at ≤ length s.now }
     ensures { Opens s.now (tagged_read d id more (drop at s.now)) result }
 {
     if d < 2 {
-        return Start::Stop(at);
+        return Err(BadByte { at });
     }
-    let t = tag_end(s, at, id, d % 2 == 1);
-    match t {
-        Step::Bad(p) => Start::Stop(p),
-        Step::Next(i) => Start::Inner(i, id, more),
-    }
+    let end = tag_end(s, at, id, d % 2 == 1)?;
+    Ok(Start {
+        end,
+        id,
+        left: more,
+    })
 }
 
 // Reads a start tag, up to the "/" or ">" that ends it.
-pub fn opening(s: &[u8], at: usize, d: usize, left: u64) -> Start
+#[tactic(auto, unfolding(crate::specs::Grammar::start_in, crate::specs::Grammar::tagged_in))]
+pub fn opening(s: &[u8], at: usize, d: usize, left: u64) -> Result<Start, BadByte>
     requires { at ≤ length s.now }
     ensures { Opens s.now (start_read d (left_of left) (drop at s.now)) result }
 {
-    let n = named(s, at, left);
-    match n {
-        Start::Stop(p) => Start::Stop(p),
-        Start::Inner(i, id, more) => tagged(s, i, d, id, more),
-    }
+    let name = named(s, at, left)?;
+    tagged(s, name.end, d, name.id, name.left)
 }
 
 // Reads the end tag of the element `id`, whose content is in state `left`.
+#[tactic(auto, using(crate::proofs::Tags::ending_steps))]
 pub fn ending(s: &[u8], at: usize, id: u64, left: u64) -> Step
     requires { at + 2 ≤ length s.now }
     ensures { Reads s.now (step_of s.now) (forget (endingOf (name_of id) (left_of left) (drop at s.now))) result }
 {
-    let n = opl_text::read_name(s, at + 2);
-    let Step::Next(e) = n else {
-        return n;
-    };
-    if !(opl_table::is_name(opl_text::part(s, at + 2, e), id) & opl_table::may_end(left)) {
-        return Step::Bad(at);
+    let end = opl_text::read_name(s, at + 2)?;
+    if !(opl_table::is_name(opl_text::part(s, at + 2, end), id) & opl_table::may_end(left)) {
+        return Err(BadByte { at });
     }
-    let i = opl_text::skip_space(s, e);
+    let i = opl_text::skip_space(s, end);
     if !opl_text::is_at(s, i, 62) {
-        return Step::Bad(i);
+        return Err(BadByte { at: i });
     }
-    Step::Next(i + 1)
+    Ok(i + 1)
 }
 
 // Reads an element from the "/" or ">" of its start tag on. It and `content` call each other.
 #[cycle(content_element)]
+#[tactic(auto, using(crate::proofs::Cycle::element_steps))]
 pub fn element(s: &[u8], at: usize, d: usize, id: u64) -> Step
     requires { at + 1 ≤ length s.now }
     ensures { Reads s.now (step_of s.now) (element_read d id (drop at s.now)) result }
@@ -285,16 +263,17 @@ pub fn element(s: &[u8], at: usize, d: usize, id: u64) -> Step
         return content(s, at + 1, d, id, left);
     }
     if !opl_text::is_at(s, at + 1, 62) {
-        return Step::Bad(at + 1);
+        return Err(BadByte { at: at + 1 });
     }
     if !opl_table::may_end(left) {
-        return Step::Bad(at);
+        return Err(BadByte { at });
     }
-    Step::Next(at + 2)
+    Ok(at + 2)
 }
 
 // Reads the content of an element, including its end tag.
 #[cycle(content_element)]
+#[tactic(auto, using(crate::proofs::Cycle::content_steps))]
 pub fn content(s: &[u8], at: usize, d: usize, id: u64, left: u64) -> Step
     requires { at ≤ length s.now }
     ensures { Reads s.now (step_of s.now) (content_read d id left (drop at s.now)) result }
@@ -302,43 +281,29 @@ pub fn content(s: &[u8], at: usize, d: usize, id: u64, left: u64) -> Step
     let mut i = at;
     let mut l = left;
     while i < s.len() {
-        let m = opl_text::skip_misc(s, i);
-        let Step::Next(j) = m else {
-            return m;
-        };
+        let j = opl_text::skip_misc(s, i)?;
         if opl_text::is_at(s, j, 60) & opl_text::is_at(s, j + 1, 47) {
             return ending(s, j, id, l);
         }
-        let o = opening(s, j, d, l);
-        match o {
-            Start::Stop(p) => {
-                return Step::Bad(p);
-            }
-            Start::Inner(k, child, more) => {
-                let r = element(s, k, d - 2, child);
-                let Step::Next(e) = r else {
-                    return r;
-                };
-                i = e;
-                l = more;
-            }
-        }
+        let start = opening(s, j, d, l)?;
+        i = element(s, start.end, d - 2, start.id)?;
+        l = start.left;
     }
-    Step::Bad(i)
+    Err(BadByte { at: i })
 }
 
 // An ASCII letter as a capital.
-fn capital(b: u8) -> u64
+fn capital(b: u8) -> u8
     ensures { result ≡ capitalOf b }
 {
-    let n = wide(b);
-    if (97 <= n) & (n <= 122) {
-        return n - 32;
+    if (97 <= b) & (b <= 122) {
+        return b - 32;
     }
-    n
+    b
 }
 
 // Whether a value is "UTF-8", in any mixture of capitals and small letters.
+#[tactic(auto, using(crate::proofs::Encoding::encoding_not, crate::proofs::Encoding::encoding_is))]
 fn is_encoding(v: &[u8]) -> bool
     ensures { result ≡ is_encoding v.now }
 {
@@ -349,115 +314,86 @@ fn is_encoding(v: &[u8]) -> bool
     letters & (capital(v[3]) == 45) & (capital(v[4]) == 56)
 }
 
-// Whether a value is allowed in the XML declaration: 0 as the version, 1 as the encoding, 2 as `standalone`.
-fn may_stand(which: u64, v: &[u8]) -> bool
-    ensures { result ≡ may_stand which v.now }
+// Whether a value is allowed in this part of the XML declaration.
+#[tactic(auto, unfolding(paper_opl::specs::Reading::text))]
+fn may_stand(part: Part, v: &[u8]) -> bool
+    ensures { result ≡ may_stand part v.now }
 {
-    match which {
-        0 => opl_text::same_bytes(v, b"1.0"),
-        1 => is_encoding(v),
-        _ => opl_text::same_bytes(v, b"yes") | opl_text::same_bytes(v, b"no"),
+    match part {
+        Part::Version => opl_text::same_bytes(v, b"1.0"),
+        Part::Encoding => is_encoding(v),
+        Part::Standalone => opl_text::same_bytes(v, b"yes") | opl_text::same_bytes(v, b"no"),
     }
 }
 
 // Reads the literal w, "=", and a value that is allowed for it.
-fn pseudo(s: &[u8], at: usize, w: &[u8], which: u64) -> Step
+#[tactic(auto, using(crate::proofs::Chain::value_inside, crate::proofs::Chain::drop_one))]
+fn pseudo(s: &[u8], at: usize, w: &[u8], part: Part) -> Step
     requires { at ≤ length s.now }
-    ensures { Reads s.now (step_of s.now) (pseudoOf w.now (may_stand which) (drop at s.now)) result }
+    ensures { Reads s.now (step_of s.now) (pseudoOf w.now (may_stand part) (drop at s.now)) result }
 {
-    let x = opl_text::expect(s, at, w);
-    let Step::Next(i) = x else {
-        return x;
-    };
-    let q = opl_text::equals(s, i);
-    let Step::Next(u) = q else {
-        return q;
-    };
-    let e = opl_text::read_value(s, u);
-    let Step::Next(end) = e else {
-        return e;
-    };
-    if !may_stand(which, opl_text::quoted(s, u, end)) {
-        return Step::Bad(u + 1);
+    let i = opl_text::expect(s, at, w)?;
+    let u = opl_text::equals(s, i)?;
+    let end = opl_text::read_value(s, u)?;
+    if !may_stand(part, opl_text::quoted(s, u, end)) {
+        return Err(BadByte { at: u + 1 });
     }
-    Step::Next(end + 1)
+    Ok(end + 1)
 }
 
 // The same after white space, if the first letter of the literal follows there; otherwise reads nothing.
-fn optional(s: &[u8], at: usize, letter: u8, w: &[u8], which: u64) -> Step
+#[tactic(auto, using(crate::proofs::Prologue::same_place), unfolding(paper_opl::specs::Tree::optional))]
+fn optional(s: &[u8], at: usize, letter: u8, w: &[u8], part: Part) -> Step
     requires { at ≤ length s.now }
-    ensures { Reads s.now (step_of s.now) (optionalOf (letter ∷ []) w.now (may_stand which) (drop at s.now)) result }
+    ensures { Reads s.now (step_of s.now) (optionalOf (letter ∷ []) w.now (may_stand part) (drop at s.now)) result }
 {
     let j = opl_text::skip_space(s, at);
     if !(opl_text::is_at(s, j, letter) & (j != at)) {
-        return Step::Next(at);
+        return Ok(at);
     }
-    pseudo(s, j, w, which)
+    pseudo(s, j, w, part)
 }
 
 // Reads the XML declaration after "<?xml".
+#[tactic(auto, unfolding(paper_opl::specs::Tree::declaration, paper_opl::specs::Reading::text))]
 fn declaration(s: &[u8], at: usize) -> Step
     requires { at ≤ length s.now }
     ensures { Reads s.now (step_of s.now) (declarationOf (drop at s.now)) result }
 {
-    let b = space(s, at);
-    let Step::Next(i) = b else {
-        return b;
-    };
-    let version = pseudo(s, i, b"version", 0);
-    let Step::Next(u) = version else {
-        return version;
-    };
-    let encoding = optional(s, u, 101, b"encoding", 1);
-    let Step::Next(z) = encoding else {
-        return encoding;
-    };
-    let standalone = optional(s, z, 115, b"standalone", 2);
-    let Step::Next(y) = standalone else {
-        return standalone;
-    };
-    let end = opl_text::skip_space(s, y);
+    let i = space(s, at)?;
+    let version = pseudo(s, i, b"version", Part::Version)?;
+    let encoding = optional(s, version, 101, b"encoding", Part::Encoding)?;
+    let standalone = optional(s, encoding, 115, b"standalone", Part::Standalone)?;
+    let end = opl_text::skip_space(s, standalone);
     opl_text::expect(s, end, b"?>")
 }
 
 // Reads white space and a literal.
+#[tactic(auto, unfolding(crate::specs::Grammar::spaced_read))]
 fn spaced(s: &[u8], at: usize, w: &[u8]) -> Step
     requires { at ≤ length s.now }
     ensures { Reads s.now (step_of s.now) (spaced_read w.now (drop at s.now)) result }
 {
-    let b = space(s, at);
-    let Step::Next(i) = b else {
-        return b;
-    };
+    let i = space(s, at)?;
     opl_text::expect(s, i, w)
 }
 
 // Reads the DOCTYPE after "<!DOCTYPE".
+#[tactic(auto, using(crate::proofs::Chain::value_inside))]
 fn doctype(s: &[u8], at: usize) -> Step
     requires { at ≤ length s.now }
     ensures { Reads s.now (step_of s.now) (doctypeOf (drop at s.now)) result }
 {
-    let root = spaced(s, at, b"policy_object");
-    let Step::Next(i) = root else {
-        return root;
-    };
-    let system = spaced(s, i, b"SYSTEM");
-    let Step::Next(j) = system else {
-        return system;
-    };
-    let b = space(s, j);
-    let Step::Next(u) = b else {
-        return b;
-    };
-    let e = opl_text::read_value(s, u);
-    let Step::Next(end) = e else {
-        return e;
-    };
+    let root = spaced(s, at, b"policy_object")?;
+    let system = spaced(s, root, b"SYSTEM")?;
+    let u = space(s, system)?;
+    let end = opl_text::read_value(s, u)?;
     let k = opl_text::skip_space(s, end + 1);
     opl_text::expect(s, k, b">")
 }
 
 // The index after the byte order mark, or 0 if there is none.
+#[tactic(auto, using(crate::proofs::Prologue::mark_room), unfolding(paper_opl::specs::Tree::behind_mark))]
 pub fn behind_mark(s: &[u8]) -> usize
     ensures { From s.now (behindMarkOf s.now) result }
 {
@@ -468,83 +404,67 @@ pub fn behind_mark(s: &[u8]) -> usize
 }
 
 // Reads the XML declaration, if it begins at `at`.
+#[tactic(auto, using(crate::proofs::Prologue::declared_steps), unfolding(paper_opl::specs::Tree::declared, paper_opl::specs::Reading::text))]
 fn declared(s: &[u8], at: usize) -> Step
     requires { at ≤ length s.now }
     ensures { Reads s.now (step_of s.now) (declared_of (drop at s.now)) result }
 {
     if !opl_text::starts_with(s, at, b"<?xml") {
-        return Step::Next(at);
+        return Ok(at);
     }
     let from = at + 5;
     let i = opl_text::skip_space(s, from);
     if i == from {
-        return Step::Next(at);
+        return Ok(at);
     }
     declaration(s, from)
 }
 
 // Reads the DOCTYPE, if it begins at `at`, and the white space and comments after it.
+#[tactic(auto, using(crate::proofs::Prologue::typed_steps), unfolding(crate::specs::Grammar::typed_read, paper_opl::specs::Reading::text))]
 fn typed(s: &[u8], at: usize) -> Step
     requires { at ≤ length s.now }
     ensures { Reads s.now (step_of s.now) (typed_read (drop at s.now)) result }
 {
     if !opl_text::starts_with(s, at, b"<!DOCTYPE") {
-        return Step::Next(at);
+        return Ok(at);
     }
-    let d = doctype(s, at + 9);
-    let Step::Next(i) = d else {
-        return d;
-    };
+    let i = doctype(s, at + 9)?;
     opl_text::skip_misc(s, i)
 }
 
 // Reads everything before the policy object.
+#[tactic(auto, unfolding(paper_opl::specs::Tree::prolog, crate::specs::Grammar::typed_read))]
 pub fn prolog(s: &[u8]) -> Step
     ensures { Reads s.now (step_of s.now) (prologOf s.now) result }
 {
-    let d = declared(s, behind_mark(s));
-    let Step::Next(i) = d else {
-        return d;
-    };
-    let m = opl_text::skip_misc(s, i);
-    let Step::Next(u) = m else {
-        return m;
-    };
+    let i = declared(s, behind_mark(s))?;
+    let u = opl_text::skip_misc(s, i)?;
     typed(s, u)
 }
 
 // Reads the policy object from the end of its start tag on, and the end of the text after it.
+#[tactic(auto, using(crate::proofs::Prologue::some_left, crate::proofs::Prologue::none_left), unfolding(crate::specs::Grammar::root_in))]
 fn root(s: &[u8], at: usize, d: usize, id: u64) -> Step
     requires { at + 1 ≤ length s.now }
     ensures { Reads s.now (step_of s.now) (root_read d id (drop at s.now)) result }
 {
-    let e = element(s, at, d, id);
-    let Step::Next(i) = e else {
-        return e;
-    };
-    let m = opl_text::skip_misc(s, i);
-    let Step::Next(j) = m else {
-        return m;
-    };
+    let i = element(s, at, d, id)?;
+    let j = opl_text::skip_misc(s, i)?;
     if j < s.len() {
-        return Step::Bad(j);
+        return Err(BadByte { at: j });
     }
-    Step::Next(j)
+    Ok(j)
 }
 
-// Judges a whole policy text with the table of the call. `Next` holds its length if it is accepted; `Bad` holds the index, from 0, of the byte that is not
+// Judges a whole policy text with the table of the call. `Ok` holds its length if it is accepted; `Err` holds the index, from 0, of the byte that is not
 // allowed.
+#[tactic(auto, using(crate::proofs::Prologue::document_steps))]
 pub fn document(s: &[u8], all: bool) -> Step
     ensures { Reads s.now (step_of s.now) (forget (document_in all s.now)) result }
 {
-    let p = prolog(s);
-    let Step::Next(i) = p else {
-        return p;
-    };
+    let i = prolog(s)?;
     let d = deepest(all);
-    let o = opening(s, i, d, 1);
-    match o {
-        Start::Stop(at) => Step::Bad(at),
-        Start::Inner(k, id, _) => root(s, k, d - 2, id),
-    }
+    let start = opening(s, i, d, 1)?;
+    root(s, start.end, d - 2, start.id)
 }

@@ -1,121 +1,52 @@
 -- `doctype` meets its contract: it is a sequence of readers (Prologue.antt).
-use lib.ListN.{drop}
-use Rattle.opl_text.specs.Steps.{step_of}
-use Rattle.paper_opl.specs.Reading.{text, space}
-use Rattle.opl_reader.specs.Grammar.{spaced_read}
-use Rattle.opl_reader.proofs.Chain.{within}
-use Rattle.opl_text.proofs.Literals.{value_room}
-use Rattle.opl_reader.proofs.Prologue.{doctype-root, doctype-system, doctype-space, doctype-value, doctype-end}
-use borrow.Author.Rules.{rules}
+use Rattle.std.proofs.Common.{sym, ◌∙◌, drop}
+use Rattle.paper_opl.specs.Reading.{text}
+use Rattle.opl_reader.proofs.Chain.{handed_on}
+use Rattle.opl_reader.proofs.Prologue.{doctype_is}
 use Rattle.opl_reader.proofs.doctype.Goals as goal
 
-pub returns-in_default : goal.returns-in_default
+pub returns-in_err-root : goal.returns-in_err-root
 unfolding text
-returns-in_default c =
-    let args = c.args in
-    let spaced = c.spaced-root in
-    doctype-root args.s.now args.at spaced.result spaced.ensures _ c.in_default.is
+returns-in_err-root c =
+    let q = c.in_err-root.ensures in
+    handed_on c.args.s.now _ _ _ c.from_residual.ensures.1 q.inside (doctype_is (drop c.args.at c.args.s.now) ∙ rw (sym q.read_is))
 
-pub spaced-system-requires : goal.spaced-system-requires
+pub returns-in_err-system : goal.returns-in_err-system
 unfolding text
-spaced-system-requires c =
-    let args = c.args in
-    let spaced = c.spaced-root in
-    let root = c.in-Next in
-    within args.s.now (step_of args.s.now) (spaced_read (text "policy_object") (drop args.at args.s.now)) spaced.result spaced.ensures
-    root.i root.is
+returns-in_err-system c =
+    let q = c.in_err-system.ensures in
+    handed_on c.args.s.now _ _ _ c.from_residual-in_err-system.ensures.1 q.inside
+    (doctype_is (drop c.args.at c.args.s.now) ∙ rw (sym c.in_ok-root.ensures.read_is, sym q.read_is))
 
-pub returns-in_default-system : goal.returns-in_default-system
+pub returns-in_err-u : goal.returns-in_err-u
 unfolding text
-returns-in_default-system c =
-    let args = c.args in
-    let spaced = c.spaced-root in
-    let root = c.in-Next in
-    let spaced2 = c.spaced-system in
-    doctype-system args.s.now args.at spaced.result spaced.ensures root.i root.is spaced2.result spaced2.ensures _
-    c.in_default-system.is
+returns-in_err-u c =
+    let q = c.in_err-u.ensures in
+    handed_on c.args.s.now _ _ _ c.from_residual-in_err-u.ensures.1 q.inside
+    (doctype_is (drop c.args.at c.args.s.now) ∙ rw (sym c.in_ok-root.ensures.read_is, sym c.in_ok-system.ensures.read_is, sym q.read_is))
 
-pub space-b-requires : goal.space-b-requires
+pub returns-in_err-end : goal.returns-in_err-end
 unfolding text
-space-b-requires c =
-    let args = c.args in
-    let root = c.in-Next in
-    let spaced2 = c.spaced-system in
-    within args.s.now (step_of args.s.now) (spaced_read (text "SYSTEM") (drop root.i args.s.now)) spaced2.result spaced2.ensures
-    c.in-Next-system.j c.in-Next-system.is
-
-pub returns-in_default-b : goal.returns-in_default-b
-unfolding text
-returns-in_default-b c =
-    let args = c.args in
-    let spaced = c.spaced-root in
-    let root = c.in-Next in
-    let spaced2 = c.spaced-system in
-    let system = c.in-Next-system in
-    let space = c.space-b in
-    doctype-space args.s.now args.at spaced.result spaced.ensures root.i root.is spaced2.result spaced2.ensures
-    system.j system.is space.result space.ensures _ c.in_default-b.is
-
-pub read_value-e-requires : goal.read_value-e-requires
-read_value-e-requires c =
-    let args = c.args in
-    let system = c.in-Next-system in
-    let space' = c.space-b in
-    within args.s.now (step_of args.s.now) (space (drop system.j args.s.now)) space'.result space'.ensures
-    c.in-Next-b.u c.in-Next-b.is
-
-pub returns-in_default-e : goal.returns-in_default-e
-unfolding text
-returns-in_default-e c =
-    let args = c.args in
-    let spaced = c.spaced-root in
-    let root = c.in-Next in
-    let spaced2 = c.spaced-system in
-    let system = c.in-Next-system in
-    let space = c.space-b in
-    let b = c.in-Next-b in
-    let read-value = c.read_value-e in
-    doctype-value args.s.now args.at spaced.result spaced.ensures root.i root.is spaced2.result spaced2.ensures
-    system.j system.is space.result space.ensures b.u b.is read-value.result read-value.ensures _
-    c.in_default-e.is
-
-pub overflow_add-end : goal.overflow_add-end
-overflow_add-end c =
-    let h =
-    let args = c.args in
-    let system = c.in-Next-system in
-    let space' = c.space-b in
-    let b = c.in-Next-b in
-    let read-value = c.read_value-e in
-    value_room args.s.now b.u read-value.result read-value.ensures c.in-Next-e.end c.in-Next-e.is
-    (within args.s.now (step_of args.s.now) (space (drop system.j args.s.now)) space'.result space'.ensures b.u
-    b.is) in
-    search rules
-
-pub skip_space-k-requires : goal.skip_space-k-requires
-skip_space-k-requires c =
-    let args = c.args in
-    let system = c.in-Next-system in
-    let space' = c.space-b in
-    let b = c.in-Next-b in
-    let read-value = c.read_value-e in
-    (value_room args.s.now b.u read-value.result read-value.ensures c.in-Next-e.end c.in-Next-e.is
-    (within args.s.now (step_of args.s.now) (space (drop system.j args.s.now)) space'.result space'.ensures b.u
-    b.is)).1
+returns-in_err-end c =
+    let q = c.in_err-end.ensures in
+    handed_on c.args.s.now _ _ _ c.from_residual-in_err-end.ensures.1 q.inside
+    (doctype_is (drop c.args.at c.args.s.now) ∙
+    rw (sym c.in_ok-root.ensures.read_is, sym c.in_ok-system.ensures.read_is, sym c.in_ok-u.ensures.read_is, sym q.read_is))
 
 pub returns : goal.returns
 unfolding text
 returns c =
-    let args = c.args in
-    let spaced = c.spaced-root in
-    let root = c.in-Next in
-    let spaced2 = c.spaced-system in
-    let system = c.in-Next-system in
-    let space = c.space-b in
-    let b = c.in-Next-b in
-    let read-value = c.read_value-e in
-    let e = c.in-Next-e in
-    let skip-space = c.skip_space-k in
-    doctype-end args.s.now args.at spaced.result spaced.ensures root.i root.is spaced2.result spaced2.ensures
-    system.j system.is space.result space.ensures b.u b.is read-value.result read-value.ensures
-    e.end e.is skip-space.result skip-space.ensures.rest c.expect.result c.expect.ensures
+    let q = c.expect.ensures in
+    record {
+      read_is =
+          q.read_is ∙
+          sym (doctype_is (drop c.args.at c.args.s.now) ∙
+          rw (
+            sym c.in_ok-root.ensures.read_is,
+            sym c.in_ok-system.ensures.read_is,
+            sym c.in_ok-u.ensures.read_is,
+            sym c.in_ok-end.ensures.read_is,
+            sym c.skip_space-k.ensures.rest,
+          ));
+      inside = q.inside;
+    }
