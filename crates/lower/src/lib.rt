@@ -1,7 +1,7 @@
 // The lower part alone: policy, roles and sessions, as dealers build it. Its calls take any bytes and any buffers.
 #![tactic(auto)]
 
-ghost use Rattle.std.specs.Prelude.{◌≡◌, length};
+ghost use Rattle.std.specs.Prelude.{◌≡◌};
 ghost use Rattle.paper_lower.specs.Checks.{first};
 ghost use Rattle.paper_lower.specs.Forms.{lower_forms};
 ghost use Rattle.paper_lower.specs.Kinds.{chosen};
@@ -9,8 +9,6 @@ ghost use Rattle.paper_lower.specs.Sessions.{lower_kinds};
 ghost use Rattle.replies.specs.Replies.{outcome_reply, outcome_place};
 ghost use Rattle.records.specs.Reading.{paper_of};
 ghost use Rattle.records.specs.Limits.{Limits};
-ghost use Rattle.policy.specs.Layout.{policy_words};
-ghost use Rattle.sessions.specs.Reading.{sessions_words};
 ghost use Rattle.sessions.specs.Lower.{lower_tables};
 ghost use Rattle.lower.specs.Stepped.{Stepped};
 ghost use Rattle.lower.specs.Answers.{Requested, Loads};
@@ -48,10 +46,10 @@ pub fn step(r: Record, p: &mut PolicyBuffer, s: &mut SessionsBuffer) -> Reply
 pub fn request(bytes: &[u8], policy: &mut [u64], sessions: &mut [u64]) -> Reply
     ensures { Requested bytes.now policy.old sessions.old policy.new sessions.new result }
 {
-    let (Some(p), Some(s)) = (
-        policy.as_mut_array::<POLICY_WORDS>(),
-        sessions.as_mut_array::<SESSIONS_WORDS>(),
-    ) else {
+    let Some(p) = policy.as_mut_array::<POLICY_WORDS>() else {
+        return Err(Refusal::Room);
+    };
+    let Some(s) = sessions.as_mut_array::<SESSIONS_WORDS>() else {
         return Err(Refusal::Room);
     };
     records::judge(Call::Lower, bytes)?;
@@ -62,14 +60,14 @@ pub fn request(bytes: &[u8], policy: &mut [u64], sessions: &mut [u64]) -> Reply
 pub fn load(bytes: &[u8], policy: &mut [u64], sessions: &mut [u64]) -> Outcome
     ensures { Loads bytes.now policy.old sessions.old policy.new sessions.new (outcome_reply result) (outcome_place result) }
 {
-    if policy.len() != POLICY_WORDS {
+    let Some(p) = policy.as_mut_array::<POLICY_WORDS>() else {
         return Err(Refused::from(Refusal::Room));
-    }
+    };
     let Some(s) = sessions.as_mut_array::<SESSIONS_WORDS>() else {
         return Err(Refused::from(Refusal::Room));
     };
     sessions::clear(s);
-    policy_loading::load(bytes, policy)
+    policy_loading::load(bytes, p)
 }
 
 // ---- For C and Rust. The answer is one number: the reply plus 256 times the place.

@@ -8,7 +8,7 @@ use native.Mathlib.Omega.{arith}
 use lib.ListN.{take}
 use Rattle.paper_lower.specs.Checks.{first, UNKNOWN, DENIED, WALL}
 use Rattle.paper_lower.specs.Lists.{Maybe, some_number_below, holds}
-use Rattle.paper_lower.specs.Tables.{Walled, Sessions, Lower}
+use Rattle.paper_lower.specs.Tables.{Walled, Lower}
 use Rattle.paper_lower.specs.Policy.{block_of, down}
 use Rattle.paper_lower.specs.Sessions.{allowed, wall_between, check_checks, commit_next}
 use Rattle.replies.specs.Cells.{rows, rows_from}
@@ -19,7 +19,7 @@ use Rattle.policy.specs.Layout.{wall_count, walled_at}
 use Rattle.policy.specs.Reading.{policy_of}
 use Rattle.policy.proofs.RuleLaws.{walls-are}
 use Rattle.blocks.specs.Reading.{over, apart}
-use Rattle.sessions.specs.Reading.{sessions_of, bound_anew}
+use Rattle.sessions.specs.Reading.{bound_anew}
 use Rattle.sessions.specs.Lower.{lower_tables}
 
 nobody : (f : ℕ → Maybe ℕ) (object : ℕ) → some_number_below 16 (apart (block_of [] object) f) ≡ false

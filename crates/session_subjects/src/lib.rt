@@ -181,6 +181,9 @@ pub fn quick_reply(
     Some(Ok(()))
 }
 
+// The kind of the request that only checks.
+const CHECK: u64 = 56;
+
 // ---- 59: the same checks; if granted, it binds the subject's user to the object's block in every wall that has the object.
 
 // Answers request 56 or 59. One function handles both, so that the object's blocks are looked up once and the code is inlined.
@@ -202,7 +205,7 @@ pub fn ask(
     if blocks::between(own, bound) {
         return Err(Refusal::Wall);
     }
-    if kind == 56 {
+    if kind == CHECK {
         return Ok(());
     }
     let all = blocks::over(own, bound);

@@ -13,7 +13,6 @@ use Rattle.records.specs.Limits.{limit_a, limit_b, limit_c, limits_open}
 use Rattle.records.proofs.Passing.{below}
 use Rattle.records.proofs.Span.{no_other, one_each}
 use Rattle.lower.proofs.Lifts.{of-policy, of-sessions}
-use borrow.Author.Rules.{rules}
 use Rattle.lower.proofs.step.Goals as goal
 
 -- The keys of the arms.
@@ -22,91 +21,52 @@ kinds = 32 ∷ 33 ∷ 34 ∷ 35 ∷ 36 ∷ 37 ∷ 40 ∷ 41 ∷ 42 ∷ 43 ∷ []
 
 pub join-requires : goal.join-requires
 unfolding limits_open
-join-requires c =
-    let pre = c.requires in
-    (search rules, below (limit_a lower_forms) pre.1.1.a c.in-32.is 1024 tt)
+join-requires c = below (limit_a lower_forms) c.requires.a c.in-32.is 1024 tt
 
 pub delete-requires : goal.delete-requires
 unfolding limits_open
-delete-requires c =
-    let pre = c.requires in
-    (pre.0, (pre.1.0, below (limit_a lower_forms) pre.1.1.a c.in-33.is 1024 tt))
+delete-requires c = below (limit_a lower_forms) c.requires.a c.in-33.is 1024 tt
 
 pub assign-requires : goal.assign-requires
 unfolding limits_open
-assign-requires c =
-    let pre = c.requires in (
-      pre.0,
-      (below (limit_a lower_forms) pre.1.1.a c.in-34.is 1024 tt, below (limit_b lower_forms) pre.1.1.b c.in-34.is 64 tt),
-    )
+assign-requires c = (below (limit_a lower_forms) c.requires.a c.in-34.is 1024 tt, below (limit_b lower_forms) c.requires.b c.in-34.is 64 tt)
 
 pub take_back-requires : goal.take_back-requires
 unfolding limits_open
-take_back-requires c =
-    let pre = c.requires in
-    let match = c.in-35 in
-    (pre.0, (pre.1.0, (below (limit_a lower_forms) pre.1.1.a match.is 1024 tt, below (limit_b lower_forms) pre.1.1.b match.is 64 tt)))
+take_back-requires c = (below (limit_a lower_forms) c.requires.a c.in-35.is 1024 tt, below (limit_b lower_forms) c.requires.b c.in-35.is 64 tt)
 
 pub give-requires : goal.give-requires
 unfolding limits_open
-give-requires c =
-    let pre = c.requires in (
-      pre.0,
-      (below (limit_a lower_forms) pre.1.1.a c.in-36.is 64 tt, below (limit_b lower_forms) pre.1.1.b c.in-36.is 256 tt),
-    )
+give-requires c = (below (limit_a lower_forms) c.requires.a c.in-36.is 64 tt, below (limit_b lower_forms) c.requires.b c.in-36.is 256 tt)
 
 pub withdraw-requires : goal.withdraw-requires
 unfolding limits_open
-withdraw-requires c =
-    let pre = c.requires in (
-      pre.0,
-      (below (limit_a lower_forms) pre.1.1.a c.in-37.is 64 tt, below (limit_b lower_forms) pre.1.1.b c.in-37.is 256 tt),
-    )
+withdraw-requires c = (below (limit_a lower_forms) c.requires.a c.in-37.is 64 tt, below (limit_b lower_forms) c.requires.b c.in-37.is 256 tt)
 
 pub create-requires : goal.create-requires
 unfolding limits_open
-create-requires c =
-    let pre = c.requires in
-    let match = c.in-40 in
-    (pre.0, (pre.1.0, (below (limit_a lower_forms) pre.1.1.a match.is 128 tt, below (limit_b lower_forms) pre.1.1.b match.is 1024 tt)))
+create-requires c = (below (limit_a lower_forms) c.requires.a c.in-40.is 128 tt, below (limit_b lower_forms) c.requires.b c.in-40.is 1024 tt)
 
 pub destroy-requires : goal.destroy-requires
 unfolding limits_open
-destroy-requires c =
-    let pre = c.requires in
-    (pre.1.0, below (limit_a lower_forms) pre.1.1.a c.in-41.is 128 tt)
+destroy-requires c = below (limit_a lower_forms) c.requires.a c.in-41.is 128 tt
 
 pub activate-requires : goal.activate-requires
 unfolding limits_open
-activate-requires c =
-    let pre = c.requires in
-    let match = c.in-42 in
-    (pre.0, (pre.1.0, (below (limit_a lower_forms) pre.1.1.a match.is 128 tt, below (limit_b lower_forms) pre.1.1.b match.is 64 tt)))
+activate-requires c = (below (limit_a lower_forms) c.requires.a c.in-42.is 128 tt, below (limit_b lower_forms) c.requires.b c.in-42.is 64 tt)
 
 pub deactivate-requires : goal.deactivate-requires
 unfolding limits_open
-deactivate-requires c =
-    let pre = c.requires in
-    let match = c.in-43 in
-    (pre.0, (pre.1.0, (below (limit_a lower_forms) pre.1.1.a match.is 128 tt, below (limit_b lower_forms) pre.1.1.b match.is 64 tt)))
+deactivate-requires c = (below (limit_a lower_forms) c.requires.a c.in-43.is 128 tt, below (limit_b lower_forms) c.requires.b c.in-43.is 64 tt)
 
 pub ask-requires : goal.ask-requires
 unfolding limits_open
 ask-requires c =
-    let pre = c.requires in
-    let match = c.in-56 in (
-      pre.0,
+    let is = c.in-56.is in (
+      ⊎_elim (λ k. below (limit_a lower_forms) c.requires.a k 128 tt) (λ k. below (limit_a lower_forms) c.requires.a k 128 tt) is,
       (
-        pre.1.0,
-        (
-          ⊎_elim (λ k. below (limit_a lower_forms) pre.1.1.a k 128 tt) (λ k. below (limit_a lower_forms) pre.1.1.a k 128 tt) match.is,
-          (
-            ⊎_elim (λ k. below (limit_b lower_forms) pre.1.1.b k 65536 tt) (λ k. below (limit_b lower_forms) pre.1.1.b k 65536 tt)
-                match.is,
-            ⊎_elim (λ k. below (limit_c lower_forms) pre.1.1.c k 65536 tt) (λ k. below (limit_c lower_forms) pre.1.1.c k 65536 tt)
-                match.is,
-          ),
-        ),
+        ⊎_elim (λ k. below (limit_b lower_forms) c.requires.b k 65536 tt) (λ k. below (limit_b lower_forms) c.requires.b k 65536 tt) is,
+        ⊎_elim (λ k. below (limit_c lower_forms) c.requires.c k 65536 tt) (λ k. below (limit_c lower_forms) c.requires.c k 65536 tt) is,
       ),
     )
 
@@ -175,6 +135,5 @@ pub returns-in_default : goal.returns-in_default
 unfolding limits_open
 returns-in_default c =
     let args = c.args in
-    let pre = c.requires in
-    absurd (no_other (λ k. there (form_of lower_forms k)) (λ k. k) ((56 ∷ 59 ∷ []) ∷ one_each kinds) 256 tt args.r.kind pre.1.1.small.kind
-    pre.1.1.known c.in_default.in_default-own.rest)
+    absurd (no_other (λ k. there (form_of lower_forms k)) (λ k. k) ((56 ∷ 59 ∷ []) ∷ one_each kinds) 256 tt args.r.kind c.requires.small.kind
+    c.requires.known c.in_default.in_default-own.rest)

@@ -20,12 +20,12 @@ returns-then-between c =
     let w = c.between.ensures ∙ walls-between t z.a z.object _ _ _ c.user-user.ensures.0 c.blocks_of-own.ensures c.bound_to-bound.ensures in
     refused (sym (walled t z.a z.operation z.object c.in_ok-open_reply.ensures w ∙ rw c.if-between.true))
 
-pub returns-then-kind-eq56 : goal.returns-then-kind-eq56
-returns-then-kind-eq56 c =
+pub returns-then-kind-eq-CHECK : goal.returns-then-kind-eq-CHECK
+returns-then-kind-eq-CHECK c =
     let z = c.args in
     let t = lower_tables z.p.now z.s.now in
     let w = c.between.ensures ∙ walls-between t z.a z.object _ _ _ c.user-user.ensures.0 c.blocks_of-own.ensures c.bound_to-bound.ensures in
-    done (sym (walled t z.a z.operation z.object c.in_ok-open_reply.ensures w ∙ rw c.if-between.false)) (rw c.if-kind-eq56.true)
+    done (sym (walled t z.a z.operation z.object c.in_ok-open_reply.ensures w ∙ rw c.if-between.false)) (rw c.if-kind-eq-CHECK.true)
 
 pub returns : goal.returns
 returns c =
@@ -33,6 +33,6 @@ returns c =
     let t = lower_tables z.p.now z.s.now in
     let w = c.between.ensures ∙ walls-between t z.a z.object _ _ _ c.user-user.ensures.0 c.blocks_of-own.ensures c.bound_to-bound.ensures in
     done (sym (walled t z.a z.operation z.object c.in_ok-open_reply.ensures w ∙ rw c.if-between.false))
-    (rw (ne_eqb z.kind 56 c.if-kind-eq56.false)
+    (rw (ne_eqb z.kind 56 c.if-kind-eq-CHECK.false)
     (c.set_bound_to.ensures ∙
     committed t z.a z.object c.user-user.result _ _ _ c.user-user.ensures.0 c.blocks_of-own.ensures c.bound_to-bound.ensures c.over-all.ensures))
