@@ -45,12 +45,10 @@ fn some_listed<F: Fn(usize) -> bool>(w: u64, test: &F) -> bool
         return true;
     }
     let mut left = policy::eights_in(w);
-    while left.bits != 0 {
-        let eight = left.member();
+    while let Some(eight) = left.take_least() {
         if in_eight(eight as usize, test) {
             return true;
         }
-        left = left.without(eight);
     }
     false
 }
@@ -82,10 +80,8 @@ pub fn allowed(p: &PolicyBuffer, m: Set, operation: u64, object: u64) -> bool
     let test = |b| row_opens(p, b, m, operation, object);
     let mut found = in_two(w, &test);
     let mut left = policy::eights_in(w);
-    while left.bits != 0 {
-        let eight = left.member();
+    while let Some(eight) = left.take_least() {
         found = in_eight(eight as usize, &test) | found;
-        left = left.without(eight);
     }
     found
 }

@@ -18,10 +18,8 @@ fn gathered(p: &PolicyBuffer, m: Set) -> Set
     let mut all = m;
     let lowest = m.beyond(policy::seniors(p));
     let mut left = m.beyond(lowest);
-    while left.bits != 0 {
-        let role = left.member();
+    while let Some(role) = left.take_least() {
         all = all.union(policy::below_senior(p, role as usize));
-        left = left.without(role);
     }
     all
 }

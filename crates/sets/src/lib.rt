@@ -3,6 +3,7 @@
 #![tactic(auto)]
 
 ghost use Rattle.std.specs.Prelude.{◌≡◌, true, false, cond, ℕ, ◌<◌, eqb};
+ghost use Rattle.std.specs.Option.{MatchOption};
 ghost use Rattle.paper_lower.specs.Sets.{empty, has, plus, minus, union, cut, size, overlap, meets, within, without};
 
 // A set of numbers below 64.
@@ -109,20 +110,24 @@ impl Set {
         u64::count_ones(self.bits) as u64
     }
 
-    // Some member of a set that is not empty. Callers that need no particular member use this.
-    pub fn member(self) -> u64
-        requires { 0 < self.bits }
-        ensures { (has self.bits result ≡ true) × (result < 64) }
-    {
-        self.least()
-    }
-
     // The lowest member of a set that is not empty.
     pub fn least(self) -> u64
         requires { 0 < self.bits }
         ensures { (has self.bits result ≡ true) × ((result < 64) × ((i : ℕ) → i < result → has self.bits i ≡ false)) }
     {
         u64::trailing_zeros(self.bits) as u64
+    }
+
+    // Takes the lowest member out of the set, which is how a loop walks over its members.
+    pub fn take_least(&mut self) -> Option<u64>
+        ensures { MatchOption result (self.old.bits ≡ 0) (λ i. (has self.old.bits i ≡ true) × ((i < 64) × (((j : ℕ) → j < i → has self.old.bits j ≡ false) × (self.new.bits ≡ minus self.old.bits i)))) }
+    {
+        if self.is_empty() {
+            return None;
+        }
+        let i = self.least();
+        *self = self.without(i);
+        Some(i)
     }
 
     // Whether the set has no member.

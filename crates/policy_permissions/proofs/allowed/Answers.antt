@@ -11,32 +11,32 @@ use borrow.Author.Rules.{rules}
 use borrow.Author.Tests.{tests}
 use Rattle.policy_permissions.proofs.allowed.Goals as goal
 
-pub loop-left-init : goal.loop-left-init
+pub loop-eight-init : goal.loop-eight-init
 unfolding allowed
-loop-left-init c =
+loop-eight-init c =
     let args = c.args in
     let left = c.eights_in-left.ensures in
     let two = c.in_two-found.ensures (opens args.p.now args.m.bits args.operation args.object) (λ b x h k. search (rules, tests)) in
     (more-by-word _ _ _ c.listing_for-w.ensures (λ b. meets ((policy_of args.p.now).permissions.holders b) args.m.bits) two left.0, left.1)
 
 pub in_eight-found-requires : goal.in_eight-found-requires
-in_eight-found-requires c = (member_below 32 _ _ c.loop-left.invariant.1 c.member-eight.ensures.0, search rules)
+in_eight-found-requires c = (member_below 32 _ _ c.loop-eight.invariant.1 c.in-Some.ensures.0, search rules)
 
-pub loop-left-smaller : goal.loop-left-smaller
-loop-left-smaller c = rw c.without-left.ensures (minus-less _ _ c.member-eight.ensures.0)
+pub loop-eight-smaller : goal.loop-eight-smaller
+loop-eight-smaller c = let taken = c.in-Some.ensures in rw taken.1.1.1 (minus-less _ _ taken.0)
 
-pub loop-left-preserved : goal.loop-left-preserved
-loop-left-preserved c =
+pub loop-eight-preserved : goal.loop-eight-preserved
+loop-eight-preserved c =
     let args = c.args in
-    let loop = c.loop-left in
-    let member = c.member-eight in
+    let loop = c.loop-eight in
+    let taken = c.in-Some.ensures in
     let eight = c.in_eight-found.ensures (opens args.p.now args.m.bits args.operation args.object) (λ b x h k. search (rules, tests)) in (
-      rw (c.without-left.ensures, eight)
-          (loop.invariant.0 ∙ eight-taken _ _ member.result (member_below 32 _ _ loop.invariant.1 member.ensures.0) member.ensures.0 loop.found),
-      rw c.without-left.ensures (minus-lt 32 _ _ loop.invariant.1),
+      rw (taken.1.1.1, eight)
+          (loop.invariant.0 ∙ eight-taken _ _ c.in-Some.eight (member_below 32 _ _ loop.invariant.1 taken.0) taken.0 loop.found),
+      rw taken.1.1.1 (minus-lt 32 _ _ loop.invariant.1),
     )
 
 pub returns : goal.returns
 returns c =
-    let loop = c.loop-left in
-    let z : loop.left.bits ≡ 0 = omega arith in sym (loop.invariant.0 ∙ ap (λ b. loop.found || b) (no-eights _ _ z) ∙ or-false loop.found)
+    let loop = c.loop-eight in
+    sym (loop.invariant.0 ∙ ap (λ b. loop.found || b) (no-eights _ _ c.in_default.ensures) ∙ or-false loop.found)

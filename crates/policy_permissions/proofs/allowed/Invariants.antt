@@ -7,11 +7,11 @@ use Rattle.policy.specs.Reading.{policy_of}
 use Rattle.policy_permissions.specs.Rows.{opens, in_eights}
 use Rattle.policy_permissions.proofs.allowed.Given as goal
 
-abbrev pub invariant-loop-left : goal.invariant-loop-left
-invariant-loop-left l =
+abbrev pub invariant-loop-eight : goal.invariant-loop-eight
+invariant-loop-eight l =
     (allowed (policy_of l.p).permissions l.fn.m.bits l.fn.operation l.fn.object ≡
     l.found || in_eights l.left.bits (opens l.p l.fn.m.bits l.fn.operation l.fn.object)) ×
     (l.left.bits < 4294967296)
 
-abbrev pub decreases-loop-left : goal.decreases-loop-left
-decreases-loop-left l = l.left.bits
+abbrev pub decreases-loop-eight : goal.decreases-loop-eight
+decreases-loop-eight l = l.left.bits

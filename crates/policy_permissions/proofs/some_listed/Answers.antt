@@ -11,8 +11,8 @@ pub returns-then-in_two : goal.returns-then-in_two
 returns-then-in_two g c row is =
     sym (ap (λ t. t || in_eights (eights_in c.args.w) row) (sym (c.in_two.ensures row is) ∙ c.if-in_two.true))
 
-pub loop-left-init : goal.loop-left-init
-loop-left-init g c =
+pub loop-eight-init : goal.loop-eight-init
+loop-eight-init g c =
     let left = c.eights_in-left.ensures in (
       λ row is.
           ap (λ t. t || in_eights (eights_in c.args.w) row) (sym (c.in_two.ensures row is) ∙ c.if-in_two.false)
@@ -21,25 +21,25 @@ loop-left-init g c =
     )
 
 pub in_eight-requires : goal.in_eight-requires
-in_eight-requires g c = (member_below 32 _ _ c.loop-left.invariant.1 c.member-eight.ensures.0, c.requires)
+in_eight-requires g c = (member_below 32 _ _ c.loop-eight.invariant.1 c.in-Some.ensures.0, c.requires)
 
 pub returns-then-in_eight : goal.returns-then-in_eight
 returns-then-in_eight g c row is =
-    let loop = c.loop-left in
-    let member = c.member-eight in
-    sym (loop.invariant.0 row is ∙ eight-found _ row member.result (member_below 32 _ _ loop.invariant.1 member.ensures.0) member.ensures.0
+    let loop = c.loop-eight in
+    let taken = c.in-Some.ensures in
+    sym (loop.invariant.0 row is ∙ eight-found _ row c.in-Some.eight (member_below 32 _ _ loop.invariant.1 taken.0) taken.0
     (sym (c.in_eight.ensures row is) ∙ c.if-in_eight.true))
 
-pub loop-left-smaller : goal.loop-left-smaller
-loop-left-smaller g c = rw c.without-left.ensures (minus-less _ _ c.member-eight.ensures.0)
+pub loop-eight-smaller : goal.loop-eight-smaller
+loop-eight-smaller g c = let taken = c.in-Some.ensures in rw taken.1.1.1 (minus-less _ _ taken.0)
 
-pub loop-left-preserved : goal.loop-left-preserved
-loop-left-preserved g c =
-    let loop = c.loop-left in
-    let out = c.without-left.ensures in (
-      λ row is. rw out (loop.invariant.0 row is ∙ eight-past _ row c.member-eight.result (sym (c.in_eight.ensures row is) ∙ c.if-in_eight.false)),
-      rw out (minus-lt 32 _ _ loop.invariant.1),
+pub loop-eight-preserved : goal.loop-eight-preserved
+loop-eight-preserved g c =
+    let loop = c.loop-eight in
+    let taken = c.in-Some.ensures in (
+      λ row is. rw taken.1.1.1 (loop.invariant.0 row is ∙ eight-past _ row c.in-Some.eight (sym (c.in_eight.ensures row is) ∙ c.if-in_eight.false)),
+      rw taken.1.1.1 (minus-lt 32 _ _ loop.invariant.1),
     )
 
 pub returns : goal.returns
-returns g c row is = sym (c.loop-left.invariant.0 row is ∙ no-eights _ row (omega arith))
+returns g c row is = sym (c.loop-eight.invariant.0 row is ∙ no-eights _ row c.in_default.ensures)

@@ -8,10 +8,10 @@ use Rattle.policy.specs.Reading.{policy_of}
 use Rattle.sets.proofs.DownLaws.{below_all}
 use Rattle.policy_seniors.proofs.gathered.Given as goal
 
-abbrev pub invariant-loop-left : goal.invariant-loop-left
-invariant-loop-left l =
+abbrev pub invariant-loop-role : goal.invariant-loop-role
+invariant-loop-role l =
     (down (policy_of l.p).seniority l.initial.all.bits ≡ union l.all.bits (below_all (policy_of l.p).seniority l.left.bits)) ×
     (within l.left.bits (seniors_in l.p) ≡ true)
 
-abbrev pub decreases-loop-left : goal.decreases-loop-left
-decreases-loop-left l = l.left.bits
+abbrev pub decreases-loop-role : goal.decreases-loop-role
+decreases-loop-role l = l.left.bits
