@@ -249,8 +249,8 @@ in-declared l j v h = λ x.
 
 -- ---- `empty_strays`: the rows of group t that bucket h does not list are emptied if they have a pair of that bucket.
 module _ (l : List ℕ) (t h : ℕ) where
-  pub tidied-none : length l ≡ policy_words → Tidied l t h (8 * t) l
-  tidied-none room = record { words = room; tables = refl; buckets = refl; strays = λ k a z out. let no : ⊥ = omega arith in absurd no }
+  pub tidied-none : Tidied l t h (8 * t) l
+  tidied-none = record { tables = refl; buckets = refl; strays = λ k a z out. let no : ⊥ = omega arith in absurd no }
 
   module _ (p : List ℕ) (b : ℕ) (found : Bool) where
     module _ (v : ℕ) (high : b < 256) (is : permission_of v ≡ unless_stray h found (permission_of (get_or p (permission_table.first + b) 0)))
@@ -283,16 +283,15 @@ module _ (l : List ℕ) (t h : ℕ) where
               let other = eqb-false k b e in
               ap (in_bucket h) (upd_other (table_in permission_table p) b k (unless_stray h found (table_in permission_table p b)) other) ∙ below (omega arith)
 
-    pub tidied-more : (v : ℕ) → Tidied l t h b p → found ≡ among (table_in bucket_table l h) b → t < 32 → 8 * t ≤ b → b < 8 * t + 8 →
+    pub tidied-more : (v : ℕ) → length p ≡ policy_words → Tidied l t h b p → found ≡ among (table_in bucket_table l h) b → t < 32 → 8 * t ≤ b → b < 8 * t + 8 →
         permission_of v ≡ unless_stray h found (permission_of (get_or p (permission_table.first + b) 0)) →
         Tidied l t h (b + 1) (set p (permission_table.first + b) v)
-    tidied-more v r here room low high is =
+    tidied-more v room r here small low high is =
         record {
-          words = rw length-set r.words;
-          tables = kept v (omega arith) is r.words (here ∙ ap (λ f. among (f h) b) (sym r.buckets)) ∙ r.tables;
+          tables = kept v (omega arith) is room (here ∙ ap (λ f. among (f h) b) (sym r.buckets)) ∙ r.tables;
           buckets = table-off bucket_table p (permission_table.first + b) v (omega arith) ∙ r.buckets;
           strays = λ k a z out.
-              stray v (omega arith) is r.words k z (λ one. here ∙ ap (among (table_in bucket_table l h)) (sym one) ∙ out) (λ less. r.strays k a less out);
+              stray v (omega arith) is room k z (λ one. here ∙ ap (among (table_in bucket_table l h)) (sym one) ∙ out) (λ less. r.strays k a less out);
         }
 
 -- ---- `listing_with`: the word of a bucket that lists permission a.

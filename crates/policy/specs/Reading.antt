@@ -47,7 +47,6 @@ pub record Ready (l : List ℕ) (a h : ℕ) (after : List ℕ) (w : ℕ) : Type 
 
 -- The buffer after those rows from 8 t to e - 1 were emptied whose pair has bucket h and which the bucket does not list. It still reads as l did.
 pub record Tidied (l : List ℕ) (t h e : ℕ) (after : List ℕ) : Type 0 where
-  pub words : length after ≡ policy_words
   pub tables : policy_of after ≡ policy_of l
   pub buckets : table_in bucket_table after ≡ table_in bucket_table l
   pub strays : (b : ℕ) → 8 * t ≤ b → b < e → among (table_in bucket_table l h) b ≡ false → in_bucket h (table_in permission_table after b) ≡ false

@@ -2,7 +2,7 @@
 // row. The layout is defined in specs/Layout.antt and described in docs/STATE.md.
 #![tactic(auto)]
 
-ghost use Rattle.std.specs.Prelude.{◌≡◌, ◌+◌, ◌*◌, ◌<◌, ◌≤◌, min, true, leb};
+ghost use Rattle.std.specs.Prelude.{◌≡◌, ◌+◌, ◌*◌, ◌/◌, ◌%◌, ◌<◌, ◌≤◌, min, true, leb};
 ghost use Rattle.paper_lower.specs.Sets.{has};
 ghost use Rattle.paper_lower.specs.Lists.{holds, there, is};
 ghost use Rattle.paper_lower.specs.Policy.{together};
@@ -287,15 +287,24 @@ pub fn permission_declared(p: &PolicyBuffer, b: usize) -> bool
     (word / DECLARED == 1) & listed
 }
 
+// The row of permission b, or 0 if b is not declared.
+fn declared_row(p: &PolicyBuffer, b: usize) -> u64
+    requires { b < 256 }
+    ensures { (result % 65536 ≡ value_of (λ x. x.operation) ((policy_of p.now).permissions.declared b)) × (result / 65536 % 65536 ≡ value_of (λ x. x.object) ((policy_of p.now).permissions.declared b)) }
+{
+    if permission_declared(p, b) {
+        p[PERMISSIONS + b]
+    } else {
+        0
+    }
+}
+
 // The operation of permission b, or 0 if b is not declared.
 pub fn permission_operation(p: &PolicyBuffer, b: usize) -> u64
     requires { b < 256 }
     ensures { (result ≡ value_of (λ x. x.operation) ((policy_of p.now).permissions.declared b)) × (result < 65536) }
 {
-    if !permission_declared(p, b) {
-        return 0;
-    }
-    p[PERMISSIONS + b] % 65536
+    declared_row(p, b) % 65536
 }
 
 // The object of permission b, or 0 if b is not declared.
@@ -303,10 +312,7 @@ pub fn permission_object(p: &PolicyBuffer, b: usize) -> u64
     requires { b < 256 }
     ensures { (result ≡ value_of (λ x. x.object) ((policy_of p.now).permissions.declared b)) × (result < 65536) }
 {
-    if !permission_declared(p, b) {
-        return 0;
-    }
-    p[PERMISSIONS + b] / 65536 % 65536
+    declared_row(p, b) / 65536 % 65536
 }
 
 // The word that lists every permission for this operation on this object, and possibly others.
