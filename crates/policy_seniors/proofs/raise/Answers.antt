@@ -1,11 +1,8 @@
 use mathlib.Core.Path.{ap, ◌∙◌}
 use native.Mathlib.Omega.{arith}
 use Rattle.paper_lower.specs.Sets.{plus}
-use Rattle.policy_seniors.proofs.Raising.{rows_none, rows_more, all-rows}
+use Rattle.policy_seniors.proofs.Raising.{rows_more, all-rows}
 use Rattle.policy_seniors.proofs.raise.Goals as goal
-
-pub loop-r-init : goal.loop-r-init
-loop-r-init c = rows_none _ _ _
 
 pub loop-r-preserved : goal.loop-r-preserved
 loop-r-preserved c = c.lower.ensures ∙ rows_more _ _ _ _ c.loop-r.invariant
