@@ -10,7 +10,6 @@ ghost use Rattle.replies.specs.Done.{Done};
 ghost use Rattle.replies.specs.Replies.{outcome_reply, outcome_place};
 ghost use Rattle.records.specs.Reading.{paper_of};
 ghost use Rattle.records.specs.Limits.{Limits};
-ghost use Rattle.policy.specs.Layout.{policy_words};
 ghost use Rattle.policy.specs.Promises.{Recorded};
 ghost use Rattle.policy.specs.Reading.{policy_of};
 ghost use Rattle.policy_loading.specs.LoadDone.{LoadDone, leaves};
@@ -20,6 +19,7 @@ use records::{Call, Record};
 use replies::{Outcome, Refusal, Refused, Reply};
 
 // Carries out one record that passed SHAPE and RANGE.
+#[tactic(auto, using(records::proofs::Passing::below), unfolding(crate::proofs::Turns::step_open))]
 fn step(r: Record, p: &mut PolicyBuffer) -> Reply
     requires { Limits policy_forms r }
     ensures { Recorded (λ t. (chosen policy_kinds r.kind).checks t (paper_of r)) (λ t. (chosen policy_kinds r.kind).next t (paper_of r)) p.old p.new result }
@@ -65,22 +65,18 @@ pub fn record(bytes: &[u8], p: &mut PolicyBuffer) -> Reply
 fn run(bytes: &[u8], p: &mut PolicyBuffer) -> Outcome
     ensures { leaves (outcome_reply result) (outcome_place result) (policy_of p.new) ≡ load_on (length bytes.now / 16) 1 bytes.now (policy_of p.old) }
 {
-    let mut left = bytes.len() / 16;
-    let mut at = 0;
-    let mut place = 1;
-    while 0 < left {
-        let end = at + 16;
-        if let Err(refusal) = record(&bytes[at..end], p) {
-            return Err(Refused { refusal, place });
+    for (passed, chunk) in bytes.chunks_exact(16).enumerate() {
+        if let Err(refusal) = record(chunk, p) {
+            return Err(Refused {
+                refusal,
+                place: passed as u64 + 1,
+            });
         }
-        at = end;
-        place += 1;
-        left -= 1;
     }
-    if at < bytes.len() {
+    if !bytes.len().is_multiple_of(16) {
         return Err(Refused {
             refusal: Refusal::Shape,
-            place,
+            place: (bytes.len() / 16) as u64 + 1,
         });
     }
     Ok(())

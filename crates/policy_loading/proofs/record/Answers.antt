@@ -1,7 +1,6 @@
 -- `record` meets its contract: it returns the refusal of `judge`, or carries out the record that passed by `step`.
-use mathlib.Core.Bool.{not}
-use mathlib.Core.Path.{ap}
 use mathlib.Core.Path.{refl}
+use Rattle.std.proofs.lemmas.Result.{err_from_is_err_and}
 use Rattle.paper_lower.specs.Forms.{policy_forms}
 use Rattle.paper_lower.specs.Policy.{policy_kinds}
 use Rattle.paper_lower.specs.Load.{policy_answer}
@@ -12,39 +11,20 @@ use Rattle.replies.proofs.DoneLaws.{refused}
 use Rattle.policy_loading.proofs.Turns.{settles}
 use Rattle.policy_loading.proofs.record.Goals as goal
 
-pub returns-then-not-accepted : goal.returns-then-not-accepted
+pub returns-in_err-judge : goal.returns-in_err-judge
 unfolding policy_answer
-returns-then-not-accepted c =
-    let args = c.args in
-    let judge = c.judge-r in
-    rw (refused-answer policy_forms args.bytes.now policy_kinds (policy_of args.p.now) judge.result judge.ensures c.accepted.ensures
-    (ap not c.if-not-accepted.true))
-    (refused refl c.accepted.ensures (ap not c.if-not-accepted.true))
+returns-in_err-judge c =
+    let p = err_from_is_err_and c.from_residual.result c.from_residual.ensures.1 in
+    rw (p.1, p.2)
+    (rw (refused-answer policy_forms c.args.bytes.now policy_kinds (policy_of c.args.p.now) _ c.in_err-judge.ensures) (refused refl))
 
 pub decode-requires : goal.decode-requires
-decode-requires c =
-    let args = c.args in
-    let judge = c.judge-r in
-    sized policy_forms args.bytes.now judge.result judge.ensures c.accepted.ensures (ap not c.if-not-accepted.false)
+decode-requires c = sized policy_forms _ c.in_ok-judge.ensures
 
 pub step-requires : goal.step-requires
-step-requires c =
-    let pre = c.requires in
-    let args = c.args in
-    let judge = c.judge-r in
-    let accepted = c.accepted in (
-      pre,
-      passed policy_forms args.bytes.now judge.result judge.ensures accepted.ensures (ap not c.if-not-accepted.false) c.decode.ensures,
-    )
+step-requires c = passed policy_forms _ c.in_ok-judge.ensures c.decode.ensures
 
 pub returns : goal.returns
 unfolding policy_answer settled
 returns c =
-    let args = c.args in
-    let judge = c.judge-r in
-    let accepted = c.accepted in
-    let if1 = c.if-not-accepted in
-    let decode = c.decode in
-    rw (passed-answer policy_forms args.bytes.now judge.result judge.ensures accepted.ensures (ap not if1.false) decode.ensures policy_kinds
-    (policy_of args.p.now))
-    (settles c.step.ensures)
+    rw (passed-answer policy_forms c.args.bytes.now c.in_ok-judge.ensures c.decode.ensures policy_kinds (policy_of c.args.p.now)) (settles c.step.ensures)
