@@ -104,10 +104,7 @@ pub fn first_not_by_eights<Q: Fn(u8) -> bool, F: Fn(u8) -> bool>(
     ensures { (p : ℕ → Bool) → Implies (Q.post quick) p → Decides (F.post passes) p → From s.now (behind p (drop at s.now)) result }
 {
     let mut i = at;
-    while 8 <= s.len() - i {
-        if !all_eight(s, i, &quick) {
-            return first_not(s, i, passes);
-        }
+    while 8 <= s.len() - i && all_eight(s, i, &quick) {
         i += 8;
     }
     first_not(s, i, passes)
@@ -260,21 +257,18 @@ fn same_rest(v: &[u8], w: &[u8], from: usize) -> bool
 }
 
 // Whether two byte strings are equal. This one is for comparing with a fixed word of the grammar: the compiler turns the loop into direct comparisons.
+#[tactic(auto, using(crate::proofs::Same::other_length))]
 pub fn same_bytes(v: &[u8], w: &[u8]) -> bool
     ensures { result ≡ same v.now w.now }
 {
     if v.len() != w.len() {
         return false;
     }
-    for i in 0..v.len() {
-        if v[i] != w[i] {
-            return false;
-        }
-    }
-    true
+    same_rest(v, w, 0)
 }
 
 // The same, eight bytes at a time, for comparing two parts of texts.
+#[tactic(auto, using(crate::proofs::Same::other_length))]
 pub fn same_by_eights(v: &[u8], w: &[u8]) -> bool
     ensures { result ≡ same v.now w.now }
 {
@@ -282,10 +276,7 @@ pub fn same_by_eights(v: &[u8], w: &[u8]) -> bool
         return false;
     }
     let mut i = 0;
-    while 8 <= v.len() - i {
-        if !same_run(v, w, i) {
-            return same_rest(v, w, i);
-        }
+    while 8 <= v.len() - i && same_run(v, w, i) {
         i += 8;
     }
     same_rest(v, w, i)
