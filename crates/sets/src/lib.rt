@@ -120,7 +120,7 @@ impl Set {
 
     // Takes the lowest member out of the set, which is how a loop walks over its members.
     pub fn take_least(&mut self) -> Option<u64>
-        ensures { MatchOption result (self.old.bits ≡ 0) (λ i. (has self.old.bits i ≡ true) × ((i < 64) × (((j : ℕ) → j < i → has self.old.bits j ≡ false) × (self.new.bits ≡ minus self.old.bits i)))) }
+        ensures { MatchOption result ((self.old.bits ≡ 0) × (self.new.bits ≡ 0)) (λ i. (has self.old.bits i ≡ true) × ((i < 64) × (((j : ℕ) → j < i → has self.old.bits j ≡ false) × (self.new.bits ≡ minus self.old.bits i)))) }
     {
         if self.is_empty() {
             return None;
