@@ -38,4 +38,4 @@ loop-eight-preserved c =
 pub returns : goal.returns
 returns c =
     let loop = c.loop-eight in
-    sym (loop.invariant.0 ∙ ap (λ b. loop.found || b) (no-eights _ _ c.in_default.ensures) ∙ or-false loop.found)
+    sym (loop.invariant.0 ∙ ap (λ b. loop.found || b) (no-eights _ _ c.in_default.ensures.0) ∙ or-false loop.found)

@@ -25,4 +25,4 @@ loop-eight-preserved g c =
     )
 
 pub returns : goal.returns
-returns g c row is = sym (c.loop-eight.invariant.0 row is ∙ no-eights _ row c.in_default.ensures)
+returns g c row is = sym (c.loop-eight.invariant.0 row is ∙ no-eights _ row c.in_default.ensures.0)

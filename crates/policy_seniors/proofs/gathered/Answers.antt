@@ -32,4 +32,4 @@ loop-role-preserved c =
     )
 
 pub returns : goal.returns
-returns c = sym (c.loop-role.invariant.0 ∙ walk_end (policy_of c.args.p.now).seniority _ _ c.in_default.ensures)
+returns c = sym (c.loop-role.invariant.0 ∙ walk_end (policy_of c.args.p.now).seniority _ _ c.in_default.ensures.0)
