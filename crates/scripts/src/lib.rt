@@ -326,3 +326,26 @@ pub fn say_reply(out: &impl Print, line: &[u8], reply: u64) -> io::Result<()> {
 pub fn say_place(out: &impl Print, place: u64) -> io::Result<()> {
     print!(out; " at {place}")
 }
+
+// A machine for scripts: its buffers, and what a line of a script does to them.
+pub trait Machine {
+    // Runs a line of the script, prints what comes of it, and returns the machine after it. `policy` are the records that are being collected.
+    fn run<P: Print>(self, out: &P, line: &[u8], policy: &Handed) -> io::Result<Self>;
+}
+
+// Runs all lines of a script on a machine.
+pub fn run_lines<M: Machine + Drop, P: Print>(out: &P, text: &[u8], first: M) -> io::Result<()>
+    requires { length text.now ≤ 65536 }
+{
+    let mut policy = nothing();
+    let mut machine = first;
+    let mut at = 0;
+    while at < text.len() {
+        let end = line_end(text, at);
+        let line = &text[at..end];
+        policy = policy_behind(line, policy);
+        machine = machine.run(out, line, &policy)?;
+        at = end + 1;
+    }
+    Ok(())
+}
