@@ -111,9 +111,9 @@ and-true true = refl
 and-true false = refl
 
 module _ (s : Text) (i b : ℕ) where
-  pub at-end : length s ≤ i → false ≡ starts (b ∷ []) (drop i s)
+  pub at_end : length s ≤ i → false ≡ starts (b ∷ []) (drop i s)
   unfolding starts
-  at-end h = let e : drop i s ≡ [] = drop_of_length-le s h in rw e
+  at_end h = let e : drop i s ≡ [] = drop_of_length-le s h in rw e
 
   pub at_here : i < length s → eqb b (get_or s i 0) ≡ starts (b ∷ []) (drop i s)
   unfolding starts

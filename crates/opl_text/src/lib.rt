@@ -50,6 +50,7 @@ pub fn in_value(q: u8, b: u8) -> bool
 }
 
 // Whether the byte at `at` is b.
+#[tactic(auto, using(crate::proofs::Laws::at_end, crate::proofs::Laws::at_here))]
 pub fn is_at(s: &[u8], at: usize, b: u8) -> bool
     ensures { result ≡ starts (b ∷ []) (drop at s.now) }
 {
@@ -155,6 +156,7 @@ pub fn equals(s: &[u8], at: usize) -> Step
 }
 
 // Reads a name of at least one byte.
+#[tactic(auto, using(crate::proofs::Laws::no_word, crate::proofs::Laws::a_word))]
 pub fn read_name(s: &[u8], at: usize) -> Step
     requires { at ≤ length s.now }
     ensures { Reads s.now (word_of s.now at) (name_of (drop at s.now)) result }
@@ -244,6 +246,7 @@ fn same_run(v: &[u8], w: &[u8], i: usize) -> bool
 }
 
 // Whether two byte strings of one length are equal from `from` on, byte by byte.
+#[tactic(auto, using(crate::proofs::Same::same_more, crate::proofs::Same::same_not, crate::proofs::Same::same_end))]
 fn same_rest(v: &[u8], w: &[u8], from: usize) -> bool
     requires { (from ≤ length v.now) × (length v.now ≡ length w.now) }
     ensures { result ≡ same (drop from v.now) (drop from w.now) }
