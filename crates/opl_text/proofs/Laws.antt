@@ -140,9 +140,9 @@ one-yes q (b ∷ t) e = (go (eqb q b) e, omega arith)
 -- ---- A value between quotes.
 
 module _ (s : Text) (at : ℕ) where
-  pub value-end : length s ≤ at → bad (drop at s) ≡ value (drop at s)
+  pub value_end : length s ≤ at → bad (drop at s) ≡ value (drop at s)
   unfolding value
-  value-end h = let e : drop at s ≡ [] = drop_of_length-le s h in rw e
+  value_end h = let e : drop at s ≡ [] = drop_of_length-le s h in rw e
 
   pub value_not : at < length s → not (eqb (get_or s at 0) 34 || eqb (get_or s at 0) 39) ≡ true → bad (drop at s) ≡ value (drop at s)
   unfolding value
@@ -164,16 +164,16 @@ module _ (s : Text) (at : ℕ) where
   module _ (h : at < length s) (open-quote : not (eqb (get_or s at 0) 34 || eqb (get_or s at 0) 39) ≡ false) (e : ℕ)
       (from : drop e s ≡ behind (in_value (get_or s at 0)) (drop (at + 1) s)) (inside : e ≤ length s)
     where
-      pub value-cut : (b : Bool) → b ≡ starts (get_or s at 0 ∷ []) (drop e s) → not b ≡ true → bad (drop e s) ≡ value (drop at s)
+      pub value_cut : (b : Bool) → b ≡ starts (get_or s at 0 ∷ []) (drop e s) → not b ≡ true → bad (drop e s) ≡ value (drop at s)
       unfolding up_to
-      value-cut true q n = absurd (false≢true n)
-      value-cut false q n = sym (value-open h open-quote ∙ rw (sym from, one-not (get_or s at 0) (drop e s) (sym q)))
+      value_cut true q n = absurd (false≢true n)
+      value_cut false q n = sym (value-open h open-quote ∙ rw (sym from, one-not (get_or s at 0) (drop e s) (sym q)))
 
-      pub value-got : (b : Bool) → b ≡ starts (get_or s at 0 ∷ []) (drop e s) → not b ≡ false
+      pub value_got : (b : Bool) → b ≡ starts (get_or s at 0 ∷ []) (drop e s) → not b ≡ false
           → got (take (e - (at + 1)) (drop (at + 1) s)) (drop (e + 1) s) ≡ value (drop at s)
       unfolding up_to
-      value-got false q n = absurd (true≢false n)
-      value-got true q n =
+      value_got false q n = absurd (true≢false n)
+      value_got true q n =
           let y : expect (get_or s at 0 ∷ []) (drop e s) ≡ got tt (drop 1 (drop e s)) = (one-yes (get_or s at 0) (drop e s) (sym q)).0 in
           let d : drop 1 (drop e s) ≡ drop (e + 1) s = drop-drop 1 e s in
           let r : run (in_value (get_or s at 0)) (drop (at + 1) s) ≡ take (e - (at + 1)) (drop (at + 1) s) =
@@ -197,9 +197,9 @@ unfolding text
 hyphens s i x y p q = starts-next 45 (45 ∷ []) s i ∙ rw (sym p, sym q)
 
 module _ (s : Text) (i : ℕ) where
-  pub comment-end : length s ≤ i → bad (drop i s) ≡ comment (drop i s)
+  pub comment_end : length s ≤ i → bad (drop i s) ≡ comment (drop i s)
   unfolding comment
-  comment-end h = let e : drop i s ≡ [] = drop_of_length-le s h in rw e
+  comment_end h = let e : drop i s ≡ [] = drop_of_length-le s h in rw e
 
   module _ (h : i < length s) (x y : Bool) (p : x ≡ starts (45 ∷ []) (drop i s)) (q : y ≡ starts (45 ∷ []) (drop (i + 1) s)) where
     here : comment (drop i s) ≡
@@ -207,14 +207,14 @@ module _ (s : Text) (i : ℕ) where
     unfolding comment
     here = rw (sym (hyphens s i x y p q)) (rw (drop_here s i h))
 
-    pub comment-hit : x && y ≡ true → comment (drop i s) ≡ closing (drop i s) (drop (i + 2) s)
-    comment-hit e = let k : i + 1 + 1 ≡ i + 2 = omega arith in here ∙ rw (e, drop-drop 1 (i + 1) s, k)
+    pub comment_hit : x && y ≡ true → comment (drop i s) ≡ closing (drop i s) (drop (i + 2) s)
+    comment_hit e = let k : i + 1 + 1 ≡ i + 2 = omega arith in here ∙ rw (e, drop-drop 1 (i + 1) s, k)
 
-    pub comment-bad : x && y ≡ false → (b : Bool) → b ≡ control (get_or s i 0) → b ≡ true → bad (drop i s) ≡ comment (drop i s)
-    comment-bad e b f t = sym (here ∙ rw (e, sym f, t))
+    pub comment_bad : x && y ≡ false → (b : Bool) → b ≡ control (get_or s i 0) → b ≡ true → bad (drop i s) ≡ comment (drop i s)
+    comment_bad e b f t = sym (here ∙ rw (e, sym f, t))
 
-    pub comment-more : x && y ≡ false → (b : Bool) → b ≡ control (get_or s i 0) → b ≡ false → comment (drop i s) ≡ comment (drop (i + 1) s)
-    comment-more e b f t = here ∙ rw (e, sym f, t)
+    pub comment_more : x && y ≡ false → (b : Bool) → b ≡ control (get_or s i 0) → b ≡ false → comment (drop i s) ≡ comment (drop (i + 1) s)
+    comment_more e b f t = here ∙ rw (e, sym f, t)
 
   pub closing_end : (w : Text) → length s ≤ i → bad (drop (length s) s) ≡ closing w (drop i s)
   closing_end w h =
@@ -223,11 +223,11 @@ module _ (s : Text) (i : ℕ) where
       let f : drop (length s) s ≡ [] = drop_of_length-le s l in
       rw (e, f)
 
-  pub closing-yes : (w : Text) (j : ℕ) → i + 1 ≡ j → i < length s → get_or s i 0 ≡ 62 → got tt (drop j s) ≡ closing w (drop i s)
-  closing-yes w j k h e = rw (drop_here s i h, eq-eqb _ _ e, k)
+  pub closing_yes : (w : Text) (j : ℕ) → i + 1 ≡ j → i < length s → get_or s i 0 ≡ 62 → got tt (drop j s) ≡ closing w (drop i s)
+  closing_yes w j k h e = rw (drop_here s i h, eq-eqb _ _ e, k)
 
-  pub closing-not : (w : Text) → i < length s → (get_or s i 0 ≡ 62 → ⊥) → bad w ≡ closing w (drop i s)
-  closing-not w h n = rw (drop_here s i h, ne_eqb _ _ n)
+  pub closing_not : (w : Text) → i < length s → (get_or s i 0 ≡ 62 → ⊥) → bad w ≡ closing w (drop i s)
+  closing_not w h n = rw (drop_here s i h, ne_eqb _ _ n)
 
 -- The text after a comment is not longer than the text from the comment on.
 pub comment-le : (t r : Text) → comment t ≡ got tt r → length r ≤ length t

@@ -25,25 +25,25 @@ first_then c w (b ∷ t) = go (eqb c b)
     go false = refl
 
 module _ (s w : Text) (at i : ℕ) where
-  pub literal-end : length w ≤ i → got tt (drop (at + i) s) ≡ expect (drop i w) (drop (at + i) s)
+  pub literal_end : length w ≤ i → got tt (drop (at + i) s) ≡ expect (drop i w) (drop (at + i) s)
   unfolding expect
-  literal-end h = let e : drop i w ≡ [] = drop_of_length-le w h in rw e
+  literal_end h = let e : drop i w ≡ [] = drop_of_length-le w h in rw e
 
   module _ (h : i < length w) (b : Bool) (e : b ≡ starts (get_or w i 0 ∷ []) (drop (at + i) s)) where
     here : expect (drop i w) (drop (at + i) s) ≡ after (expect (get_or w i 0 ∷ []) (drop (at + i) s)) (λ _ r. expect (drop (i + 1) w) r)
     here = rw (drop_here w i h) (first_then (get_or w i 0) (drop (i + 1) w) (drop (at + i) s))
 
-    pub literal-cut : not b ≡ true → bad (drop (at + i) s) ≡ expect (drop i w) (drop (at + i) s)
-    literal-cut n = sym (here ∙ rw (one-not (get_or w i 0) (drop (at + i) s) (sym e ∙ not-true b n)))
+    pub literal_cut : not b ≡ true → bad (drop (at + i) s) ≡ expect (drop i w) (drop (at + i) s)
+    literal_cut n = sym (here ∙ rw (one-not (get_or w i 0) (drop (at + i) s) (sym e ∙ not-true b n)))
 
-    pub literal-room : not b ≡ false → at + (i + 1) ≤ length s
-    literal-room n =
+    pub literal_room : not b ≡ false → at + (i + 1) ≤ length s
+    literal_room n =
         let o = (one-yes (get_or w i 0) (drop (at + i) s) (sym e ∙ not-false b n)).1 in
         let l = length-drop (at + i) s in
         omega arith
 
-    pub literal-more : not b ≡ false → expect (drop i w) (drop (at + i) s) ≡ expect (drop (i + 1) w) (drop (at + (i + 1)) s)
-    literal-more n =
+    pub literal_more : not b ≡ false → expect (drop i w) (drop (at + i) s) ≡ expect (drop (i + 1) w) (drop (at + (i + 1)) s)
+    literal_more n =
         let k : at + i + 1 ≡ at + (i + 1) = omega arith in
         here ∙ rw ((one-yes (get_or w i 0) (drop (at + i) s) (sym e ∙ not-false b n)).0, drop-drop 1 (at + i) s, k)
 
@@ -116,13 +116,13 @@ value_room s at r q e v h =
 
 -- ---- White space, "=", white space.
 module _ (s : Text) (at i : ℕ) (from : drop i s ≡ behind white (drop at s)) (b : Bool) (p : b ≡ starts (61 ∷ []) (drop i s)) where
-  pub equals-not : not b ≡ true → bad (drop i s) ≡ equals (drop at s)
+  pub equals_not : not b ≡ true → bad (drop i s) ≡ equals (drop at s)
   unfolding equals text
-  equals-not n = sym (rw (sym from, one-not 61 (drop i s) (sym p ∙ not-true b n)))
+  equals_not n = sym (rw (sym from, one-not 61 (drop i s) (sym p ∙ not-true b n)))
 
-  pub equals-room : not b ≡ false → i + 1 ≤ length s
-  equals-room n = let o = (one-yes 61 (drop i s) (sym p ∙ not-false b n)).1 in let l = length-drop i s in omega arith
+  pub equals_room : not b ≡ false → i + 1 ≤ length s
+  equals_room n = let o = (one-yes 61 (drop i s) (sym p ∙ not-false b n)).1 in let l = length-drop i s in omega arith
 
-  pub equals-yes : not b ≡ false → (j : ℕ) → drop j s ≡ behind white (drop (i + 1) s) → got tt (drop j s) ≡ equals (drop at s)
+  pub equals_yes : not b ≡ false → (j : ℕ) → drop j s ≡ behind white (drop (i + 1) s) → got tt (drop j s) ≡ equals (drop at s)
   unfolding equals text
-  equals-yes n j f = sym (rw (sym from, (one-yes 61 (drop i s) (sym p ∙ not-false b n)).0, drop-drop 1 i s, sym f))
+  equals_yes n j f = sym (rw (sym from, (one-yes 61 (drop i s) (sym p ∙ not-false b n)).0, drop-drop 1 i s, sym f))

@@ -143,6 +143,7 @@ pub fn value_end(s: &[u8], at: usize, q: u8) -> usize
 }
 
 // Reads "=" with any white space around it.
+#[tactic(auto, using(crate::proofs::Literals::equals_not, crate::proofs::Literals::equals_room, crate::proofs::Literals::equals_yes))]
 pub fn equals(s: &[u8], at: usize) -> Step
     requires { at ≤ length s.now }
     ensures { Reads s.now (step_of s.now) (equalsOf (drop at s.now)) result }
@@ -169,6 +170,7 @@ pub fn read_name(s: &[u8], at: usize) -> Step
 }
 
 // Reads a quoted value. `Ok` holds the index of its closing quote, so the value lies between at + 1 and there.
+#[tactic(auto, using(crate::proofs::Laws::value_end, crate::proofs::Laws::value_not, crate::proofs::Laws::value_cut, crate::proofs::Laws::value_got))]
 pub fn read_value(s: &[u8], at: usize) -> Step
     requires { at ≤ length s.now }
     ensures { Reads s.now (value_of s.now (at + 1)) (value_in (drop at s.now)) result }
@@ -188,6 +190,7 @@ pub fn read_value(s: &[u8], at: usize) -> Step
 }
 
 // Reads the rest of a comment, from the end of its "<!--" on.
+#[tactic(auto, using(crate::proofs::Laws::comment_end, crate::proofs::Laws::comment_hit, crate::proofs::Laws::comment_bad, crate::proofs::Laws::comment_more, crate::proofs::Laws::closing_end, crate::proofs::Laws::closing_yes, crate::proofs::Laws::closing_not))]
 pub fn comment_end(s: &[u8], at: usize) -> Step
     requires { at ≤ length s.now }
     ensures { Reads s.now (step_of s.now) (comment (drop at s.now)) result }
@@ -286,6 +289,7 @@ pub fn same_by_eights(v: &[u8], w: &[u8]) -> bool
 }
 
 // Reads exactly the bytes of w.
+#[tactic(auto, using(crate::proofs::Literals::literal_end, crate::proofs::Literals::literal_cut, crate::proofs::Literals::literal_room, crate::proofs::Literals::literal_more))]
 pub fn expect(s: &[u8], at: usize, w: &[u8]) -> Step
     requires { at ≤ length s.now }
     ensures { Reads s.now (step_of s.now) (expect_of w.now (drop at s.now)) result }
