@@ -5,11 +5,11 @@ use mathlib.Core.List.{List, [], ◌∷◌}
 use mathlib.Core.Bool.{Bool, true, false, not, ◌&&◌, false≢true}
 use Prim.Native.Nat.{ℕ, ◌/◌, ◌%◌, ◌^◌, ◌<◌, ◌≤◌}
 use native.Mathlib.Omega.{arith}
-use lib.Dec.{eqb, leb, eqb-suc-zero}
+use lib.Dec.{eqb, leb}
 use lib.ListN.{length, get_or, get_or-eq_default}
 use borrow.Author.Tests.{ne_eqb, le-leb}
 use Rattle.paper_lower.specs.Lists.{some, every, each}
-use Rattle.paper_opl.specs.Reading.{Text, text, same}
+use Rattle.paper_opl.specs.Reading.{text, same}
 use Rattle.paper_opl.specs.Elements.{Attribute, Child, elements, elements_of, row_in, one, may_end}
 use Rattle.paper_opl.specs.Tree.{required}
 use Rattle.opl_table.specs.declared.TheConstants.{FIRST_STATE, FIRST_LIST}
@@ -19,11 +19,6 @@ use Rattle.opl_table.proofs.Cases.{values_to, agree, agree-everywhere, lefts-len
 nothing-named : (id : ℕ) → 76 ≤ id → name_of id ≡ []
 unfolding name_of
 nothing-named id h = let n : length names ≤ id = omega (arith, names-length) in get_or-eq_default names [] n
-
-pub no_name : (v : Text) (id : ℕ) → 76 ≤ id → eqb (length v) 0 ≡ same v (name_of id)
-unfolding same
-no_name [] id h = rw (nothing-named id h)
-no_name (b ∷ v) id h = rw (nothing-named id h, eqb-suc-zero (length v))
 
 -- The children of an element at first, by the code's numbers and by the definition.
 abbrev coded-children : Bool → ℕ → List Child
