@@ -17,7 +17,7 @@ ghost use Rattle.std.specs.Prelude.{◌<◌, ◌≤◌, length};
 
 use policy::POLICY_WORDS;
 use replies::Outcome;
-use scripts::Handed;
+use scripts::{Handed, Machine};
 use sessions::SESSIONS_WORDS;
 use std::io;
 
@@ -169,42 +169,26 @@ fn ask(out: &impl Print, line: &[u8], h: Handed, w: Words) -> io::Result<Words> 
     Ok(v)
 }
 
-// Runs a line of the script and returns the buffers after it.
-fn run(out: &impl Print, line: &[u8], policy: &Handed, w: Words) -> io::Result<Words> {
-    match scripts::letter(line) {
-        b'\n' | b'+' | b'n' => Ok(w),
-        b'w' | b'l' | b'r' => load(out, line, scripts::handed_by(line, policy, 2), w),
-        b'a' | b'i' | b'c' | b't' => ask(out, line, scripts::handed_by(line, policy, 2), w),
-        b'g' => {
-            scripts::say_line(out, line)?;
-            Ok(garbled(w, first_two(line)))
-        }
-        _ => {
-            scripts::say_line(out, line)?;
-            Ok(w)
+impl Machine for Words {
+    fn run<P: Print>(self, out: &P, line: &[u8], policy: &Handed) -> io::Result<Words> {
+        match scripts::letter(line) {
+            b'\n' | b'+' | b'n' => Ok(self),
+            b'w' | b'l' | b'r' => load(out, line, scripts::handed_by(line, policy, 2), self),
+            b'a' | b'i' | b'c' | b't' => ask(out, line, scripts::handed_by(line, policy, 2), self),
+            b'g' => {
+                scripts::say_line(out, line)?;
+                Ok(garbled(self, first_two(line)))
+            }
+            _ => {
+                scripts::say_line(out, line)?;
+                Ok(self)
+            }
         }
     }
-}
-
-// Runs all lines of the script.
-fn run_lines(out: &impl Print, text: &[u8]) -> io::Result<()>
-    requires { length text.now ≤ 65536 }
-{
-    let mut policy = scripts::nothing();
-    let mut words = no_words();
-    let mut at = 0;
-    while at < text.len() {
-        let end = scripts::line_end(text, at);
-        let line = &text[at..end];
-        policy = scripts::policy_behind(line, policy);
-        words = run(out, line, &policy, words)?;
-        at = end + 1;
-    }
-    Ok(())
 }
 
 fn main(rt: HostRuntime) -> io::Result<()> {
     let mut text = [0u8; 65536];
     let n = scripts::read_script(&mut rt.stdin(), &mut text)?;
-    run_lines(&rt, &text[0..n])
+    scripts::run_lines(&rt, &text[0..n], no_words())
 }
