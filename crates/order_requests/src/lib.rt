@@ -2,10 +2,8 @@
 // without changing anything, and the function of the request also carries it out if it is granted. The contracts are in specs/Promises.
 #![tactic(auto)]
 
-ghost use Rattle.std.specs.Prelude.{◌≡◌, true, ◌<◌, length};
-ghost use Rattle.policy.specs.Layout.{policy_words};
-ghost use Rattle.sessions.specs.Reading.{sessions_words};
-ghost use Rattle.order_links.specs.Chains.{orders_words, sound_of};
+ghost use Rattle.std.specs.Prelude.{◌≡◌, true, ◌<◌};
+ghost use Rattle.order_links.specs.Chains.{sound_of};
 ghost use Rattle.order_requests.specs.Promises.{AnyContent, DeleteJudged, Deleted, DestroyJudged, Destroyed, OpenJudged, Opened, EndJudged, Ended, FiguresJudged};
 
 use order_links::OrdersBuffer;
